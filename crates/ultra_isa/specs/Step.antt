@@ -1,0 +1,80 @@
+-- one step of a processing element, and a reply that comes to it; this project's profile
+use Rattle.std.specs.Prelude.{ℕ, ◌+◌, List, [], ◌∷◌, ◌++◌, Bool, true, false, ◌==◌, nat_lt, length, Option, Some, None, slice_set, slice_get, replicate}
+use Rattle.std.specs.List.{list_any}
+use Rattle.ultra_msg.specs.declared.Request.{Request}
+use Rattle.ultra_msg.specs.declared.Reply.{Reply}
+use Rattle.ultra_msg.specs.declared.Reply.TheVariants as reply
+use Rattle.ultra_pni.specs.declared.Issue.{Issue}
+use Rattle.ultra_pni.specs.declared.Issue.TheVariants.{Sent, CellOpen, Full}
+use Rattle.ultra_pni.specs.Interface.{Interface, is_awaited, issue_of, after_issue}
+use Rattle.ultra_isa.specs.declared.Instr.{Instr}
+use Rattle.ultra_isa.specs.declared.MachineFault.{MachineFault}
+use Rattle.ultra_isa.specs.declared.MachineFault.TheVariants.{AddressOutOfRange, PastEnd}
+use Rattle.ultra_isa.specs.declared.Activity.{Activity}
+use Rattle.ultra_isa.specs.declared.Activity.TheVariants as activity
+use Rattle.ultra_isa.specs.declared.Step.{Step}
+use Rattle.ultra_isa.specs.declared.Step.TheVariants as step
+use Rattle.ultra_isa.specs.Instruction.{Site, names, Effect, sets, goes_on_at, refers, waits, halts, effect}
+
+-- the registers, the place in the program, and what the processing element is doing
+pub record Core : Type 0 where
+  pub registers : List ℕ
+  pub place : ℕ
+  pub activity : Activity
+
+-- at first all registers are 0 and the place is 0
+abbrev pub fresh_core : Core
+fresh_core = record { registers = replicate 16 0; place = 0; activity = activity.Running }
+
+-- what a step gives: the processor and its interface after it, the request that it issued, and what it was
+pub record Stepped : Type 0 where
+  pub core : Core
+  pub interface : Interface
+  pub sent : Option Request
+  pub was : Step
+
+abbrev pub stays : Step → Core → Interface → Stepped
+stays was c i = record { core = c; interface = i; sent = None; was = was }
+
+abbrev pub faults : MachineFault → Core → Interface → Stepped
+faults f c i = record { core = record c { activity = activity.Faulted f }; interface = i; sent = None; was = step.Fault f }
+
+-- a reference, after what has become of its request
+abbrev pub refers_as : Core → Interface → Request → Option ℕ → Issue → Stepped
+refers_as c i r target Sent = record { core = record c { place = c.place + 1 }; interface = after_issue i r target Sent; sent = Some r; was = step.Issued }
+refers_as c i r target CellOpen = stays step.Stalled c i
+refers_as c i r target Full = stays step.Stalled c i
+
+-- the processing element, and the most cells that it may hold open
+module _ (s : Site) (most_open : ℕ) where
+  abbrev pub does : Core → Interface → Effect → Stepped
+  does c i (sets d v) = stays step.Done record c { registers = slice_set c.registers d v; place = c.place + 1 } i
+  does c i (goes_on_at place) = stays step.Done record c { place = place } i
+  does c i (refers a o target) =
+      elim (nat_lt a s.all_cells) [
+        | false ↦ faults AddressOutOfRange c i
+        | true ↦ let r : Request = record { pe = s.pe; cell = a; op = o } in refers_as c i r target (issue_of most_open i r)
+      ]
+  does c i waits = elim (length i.opened == 0) [ true ↦ stays step.Done record c { place = c.place + 1 } i | false ↦ stays step.Stalled c i ]
+  does c i halts = stays step.Done record c { activity = activity.Halted } i
+
+  -- it stalls where the instruction names an awaited register
+  abbrev pub runs : Core → Interface → Option Instr → Stepped
+  runs c i None = faults PastEnd c i
+  runs c i (Some n) = elim (list_any (λ r. is_awaited r i.opened) (names n)) [ true ↦ stays step.Stalled c i | false ↦ does c i (effect s c.registers c.place n) ]
+
+  -- what has halted or faulted stays
+  abbrev pub runs_as : Activity → Core → Interface → Option Instr → Stepped
+  runs_as activity.Running c i n = runs c i n
+  runs_as activity.Halted c i n = stays step.Halted c i
+  runs_as (activity.Faulted f) c i n = stays step.Halted c i
+
+  -- one step
+  abbrev pub step_of : List Instr → Core → Interface → Stepped
+  step_of program c i = runs_as c.activity c i (slice_get program c.place)
+
+-- a reply's value comes to the register that awaits it
+abbrev pub received : List ℕ → Option ℕ → Reply → List ℕ
+received r None v = r
+received r (Some d) (reply.Value v) = slice_set r d v
+received r (Some d) reply.Ack = r

@@ -1,0 +1,44 @@
+-- what one memory module does. That the module adds is the 1983 paper's; its two registers are this project's profile
+use Rattle.std.specs.Prelude.{ℕ, List, [], Option, Some, None, slice_index, slice_set}
+use Rattle.ultra_msg.specs.declared.ReplyMessage.{ReplyMessage}
+use Rattle.ultra_msg.specs.Act.{act}
+use Rattle.ultra_mem.specs.declared.Placed.{Placed}
+use Rattle.ultra_mem.specs.declared.Served.{Served}
+
+-- its cells by offset, the request that waits for it, and the reply that waits to leave
+pub record Bank : Type 0 where
+  pub cells : List ℕ
+  pub inp : Option Placed
+  pub out : Option ReplyMessage
+
+abbrev pub empty_bank : Bank
+empty_bank = record { cells = []; inp = None; out = None }
+
+-- the request that is served now: the one that waits, if no reply is in its way
+abbrev pub to_serve : Bank → Option Placed
+to_serve b = elim b.out [ None ↦ b.inp | Some r ↦ None ]
+
+-- the value of the request's cell
+abbrev pub value_at : Bank → Placed → ℕ
+value_at b p = slice_index b.cells p.offset
+
+-- the module acts: the cell and the reply are those of the operation, and no request waits any more
+abbrev pub after_serving : Bank → Option Placed → Bank
+after_serving b None = b
+after_serving b (Some p) = record {
+  cells = slice_set b.cells p.offset (act p.request.op (value_at b p)).0;
+  inp = None;
+  out = Some record { pe = p.request.pe; cell = p.request.cell; reply = (act p.request.op (value_at b p)).1 };
+}
+
+-- the module after it has served what it serves now
+abbrev pub serve : Bank → Bank
+serve b = after_serving b (to_serve b)
+
+abbrev pub act_of : Bank → Option Placed → Option Served
+act_of b None = None
+act_of b (Some p) = Some record { request = p.request; reply = (act p.request.op (value_at b p)).1; now = (act p.request.op (value_at b p)).0 }
+
+-- what it does now
+abbrev pub served : Bank → Option Served
+served b = act_of b (to_serve b)

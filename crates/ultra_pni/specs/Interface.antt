@@ -1,0 +1,45 @@
+-- a processing element's interface to the network. At most one outstanding reference to a cell is the 1983 paper's; the rest is this project's profile
+use Rattle.std.specs.Prelude.{ℕ, List, [], ◌∷◌, ◌++◌, Bool, true, false, ◌==◌, nat_lt, length, Option, Some, None, if◌then◌else◌}
+use Rattle.std.specs.List.{list_any}
+use Rattle.ultra_msg.specs.declared.Request.{Request}
+use Rattle.ultra_pni.specs.declared.OpenCell.{OpenCell}
+use Rattle.ultra_pni.specs.declared.Issue.{Issue}
+use Rattle.ultra_pni.specs.declared.Issue.TheVariants.{Sent, CellOpen, Full}
+
+-- the open cells in the order of their issues, and the requests that are not yet in the network, the first to leave first
+pub record Interface : Type 0 where
+  pub opened : List OpenCell
+  pub pending : List Request
+
+abbrev pub empty_interface : Interface
+empty_interface = record { opened = []; pending = [] }
+
+abbrev pub is_open : ℕ → List OpenCell → Bool
+is_open a os = list_any (λ o. o.cell == a) os
+
+-- whether a register is where a reply goes, and whether one of the open cells' replies goes there
+abbrev pub goes_to : ℕ → Option ℕ → Bool
+goes_to r None = false
+goes_to r (Some t) = r == t
+
+abbrev pub is_awaited : ℕ → List OpenCell → Bool
+is_awaited r os = list_any (λ o. goes_to r o.target) os
+
+-- what becomes of a request, of at most so many open cells
+abbrev pub issue_of : ℕ → Interface → Request → Issue
+issue_of most_open i r = if is_open r.cell i.opened then CellOpen else if nat_lt (length i.opened) most_open then Sent else Full
+
+abbrev pub after_issue : Interface → Request → Option ℕ → Issue → Interface
+after_issue i r target Sent = record { opened = i.opened ++ record { cell = r.cell; target = target } ∷ []; pending = i.pending ++ r ∷ [] }
+after_issue i r target CellOpen = i
+after_issue i r target Full = i
+
+-- the register that the reply for a cell goes to
+abbrev pub target_of : ℕ → List OpenCell → Option ℕ
+target_of a [] = None
+target_of a (o ∷ os) = elim (o.cell == a) [ true ↦ o.target | false ↦ target_of a os ]
+
+-- the open cells without this one
+abbrev pub closed : ℕ → List OpenCell → List OpenCell
+closed a [] = []
+closed a (o ∷ os) = elim (o.cell == a) [ true ↦ os | false ↦ o ∷ closed a os ]

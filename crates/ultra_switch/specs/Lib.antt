@@ -1,0 +1,2 @@
+pub mod Arrive
+pub mod Split
