@@ -1,5 +1,5 @@
 -- the whole machine between two cycles. Its parts are those of the 1983 paper's enhanced Omega network; their registers and limits are this project's profile
-use Rattle.std.specs.Prelude.{ℕ, ◌+◌, ◌-◌, ◌*◌, ◌%◌, ◌/◌, ◌^◌, List, [], ◌∷◌, Bool, true, false, ◌&&◌, ◌==◌, Option, Some, None, slice_index_or}
+use Rattle.std.specs.Prelude.{ℕ, ◌+◌, ◌-◌, ◌*◌, ◌%◌, ◌^◌, List, [], ◌∷◌, Bool, true, false, ◌&&◌, ◌==◌, Option, Some, None, slice_index_or}
 use Rattle.std.specs.List.{list_all}
 use Rattle.ultra_msg.specs.declared.Request.{Request}
 use Rattle.ultra_msg.specs.declared.ReplyMessage.{ReplyMessage}
@@ -8,11 +8,9 @@ use Rattle.ultra_route.specs.Route.{with_lowest, bit_of}
 use Rattle.ultra_switch.specs.Arrive.{Lane, empty_lane}
 use Rattle.ultra_mem.specs.Serve.{Bank, empty_bank}
 use Rattle.ultra_pni.specs.Interface.{Interface, empty_interface}
-use Rattle.ultra_isa.specs.declared.Activity.{Activity}
-use Rattle.ultra_isa.specs.declared.Activity.TheVariants.{Running, Halted, Faulted}
-use Rattle.ultra_isa.specs.declared.MachineFault.{MachineFault}
 use Rattle.ultra_isa.specs.Instruction.{Site}
-use Rattle.ultra_isa.specs.Step.{Core, fresh_core}
+use Rattle.ultra_isa.specs.Step.{Core, fresh_core, has_stopped}
+use Rattle.ultra_block.specs.declared.Stop.{Stop}
 use Rattle.ultra_block.specs.Places.{places, table, in_table}
 
 -- the settings: the stages of the network, the places of each queue toward memory, of each queue toward the processing elements and of each wait buffer, the most open cells of a processing element, the cells of a module, the most cycles, and the cells that are not 0 at first, with their values
@@ -34,11 +32,6 @@ pub record Element : Type 0 where
 
 abbrev pub fresh_element : Element
 fresh_element = record { core = fresh_core; interface = empty_interface; issued = 0 }
-
--- a processing element that faulted in the last cycle, and why
-pub record Stop : Type 0 where
-  pub pe : ℕ
-  pub fault : MachineFault
 
 -- the machine: the queue toward memory with its wait buffer for each stage and memory-side position, the queue toward the processing elements for each stage and PE-side position, the modules, the processing elements, the count of cycles, and what happened in the last cycle
 pub record Machine : Type 0 where
@@ -106,11 +99,6 @@ is_empty (x ∷ xs) = false
 abbrev pub is_nothing : {X : Type 0} → Option X → Bool
 is_nothing None = true
 is_nothing (Some x) = false
-
-abbrev pub has_stopped : Activity → Bool
-has_stopped Running = false
-has_stopped Halted = true
-has_stopped (Faulted f) = true
 
 abbrev pub is_quiet : Machine → Bool
 is_quiet m =

@@ -10,17 +10,18 @@ use Rattle.ultra_route.specs.Route.{shuffled, unshuffled}
 use Rattle.ultra_switch.specs.declared.Entry.{Entry}
 use Rattle.ultra_switch.specs.declared.WaitRecord.{WaitRecord}
 use Rattle.ultra_switch.specs.Arrive.{Lane, Combination, combine_within, arrive}
+use Rattle.ultra_switch.specs.Queues.{request_of}
 use Rattle.ultra_switch.specs.Split.{records_after, replies_of}
-use Rattle.ultra_mem.specs.declared.Placed.{Placed}
 use Rattle.ultra_mem.specs.declared.Served.{Served as Act}
 use Rattle.ultra_mem.specs.Serve.{Bank, serve, served}
-use Rattle.ultra_pni.specs.Interface.{Interface, target_of, closed}
+use Rattle.ultra_pni.specs.Interface.{target_of, closed}
 use Rattle.ultra_isa.specs.declared.Instr.{Instr}
 use Rattle.ultra_isa.specs.declared.Step.{Step}
 use Rattle.ultra_isa.specs.declared.Step.TheVariants as step
 use Rattle.ultra_isa.specs.Step.{Stepped, step_of, received}
+use Rattle.ultra_block.specs.declared.Stop.{Stop}
 use Rattle.ultra_block.specs.Places.{places, table, after_leaving, present, joined}
-use Rattle.ultra_block.specs.Machine.{Settings, Machine, Element, Stop, size, last_stage, site, request_exit, reply_exit, lane_at, replies_at, bank_at, element_at, start}
+use Rattle.ultra_block.specs.Machine.{Settings, Machine, Element, size, last_stage, site, request_exit, reply_exit, lane_at, replies_at, bank_at, element_at, start}
 
 -- ---- what a phase does to one unit
 abbrev pub delivery : Option ReplyMessage → Option Event
@@ -51,10 +52,6 @@ abbrev pub serving : ℕ → Option Act → Option Event
 serving k None = None
 serving k (Some a) = Some (Served k a.request a.reply a.now)
 
-abbrev pub request_of : Option Entry → Option Request
-request_of None = None
-request_of (Some e) = Some e.request
-
 abbrev pub without_pending : Element → Option Request → Element
 without_pending e o = record e { interface = record e.interface { pending = after_leaving o e.interface.pending } }
 
@@ -72,11 +69,12 @@ abbrev pub combinations : ℕ → ℕ → ℕ → Lane → List Request → List
 combinations wait_places s x l [] = []
 combinations wait_places s x l (r ∷ rs) = combination s x r (combine_within wait_places l r) ++ combinations wait_places s x (arrive wait_places l r) rs
 
+abbrev pub issues_after : ℕ → Option Request → ℕ
+issues_after n None = n
+issues_after n (Some r) = n + 1
+
 abbrev pub stepped : Element → Stepped → Element
-stepped e t = elim t.sent [
-  | None ↦ record e { core = t.core; interface = t.interface }
-  | Some r ↦ record { core = t.core; interface = t.interface; issued = e.issued + 1 }
-]
+stepped e t = record { core = t.core; interface = t.interface; issued = issues_after e.issued t.sent }
 
 abbrev pub issue_event : Element → Option Request → Option Event
 issue_event e None = None

@@ -1,5 +1,5 @@
 -- what an instruction names and what it does; this project's profile
-use Rattle.std.specs.Prelude.{ℕ, ◌+◌, ◌-◌, ◌/◌, ◌%◌, ◌^◌, List, [], ◌∷◌, Bool, true, false, not, ◌==◌, nat_lt, Option, Some, None, slice_index, bit_and, if◌then◌else◌}
+use Rattle.std.specs.Prelude.{ℕ, ◌+◌, ◌-◌, ◌/◌, ◌%◌, ◌^◌, List, [], ◌∷◌, ◌==◌, nat_lt, Option, Some, None, slice_index, bit_and, if◌then◌else◌}
 use Rattle.ultra_msg.specs.declared.Op.{Op}
 use Rattle.ultra_msg.specs.declared.Op.TheVariants as op
 use Rattle.ultra_msg.specs.Act.{plus}

@@ -1,2 +1,4 @@
 pub mod Instruction
+pub mod Program
 pub mod Step
+pub mod Meaning

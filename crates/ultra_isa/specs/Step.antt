@@ -1,5 +1,5 @@
 -- one step of a processing element, and a reply that comes to it; this project's profile
-use Rattle.std.specs.Prelude.{ℕ, ◌+◌, List, [], ◌∷◌, ◌++◌, Bool, true, false, ◌==◌, nat_lt, length, Option, Some, None, slice_set, slice_get, replicate}
+use Rattle.std.specs.Prelude.{◌≡◌, ℕ, ◌+◌, ◌≤◌, List, Bool, true, false, ◌==◌, nat_lt, length, Option, Some, None, slice_set, slice_get, replicate}
 use Rattle.std.specs.List.{list_any}
 use Rattle.ultra_msg.specs.declared.Request.{Request}
 use Rattle.ultra_msg.specs.declared.Reply.{Reply}
@@ -22,6 +22,22 @@ pub record Core : Type 0 where
   pub place : ℕ
   pub activity : Activity
 
+-- whether a processing element has halted or faulted
+abbrev pub has_stopped : Activity → Bool
+has_stopped activity.Running = false
+has_stopped activity.Halted = true
+has_stopped (activity.Faulted f) = true
+
+-- what is true of every processor: it has 16 registers, and its place is at most the length of the longest program
+pub record IsPlaced (c : Core) : Type 0 where
+  pub registers : length c.registers ≡ 16
+  pub place : c.place ≤ 4096
+
+-- a processor: which one it is, and its state
+pub record Located : Type 0 where
+  pub site : Site
+  pub core : Core
+
 -- at first all registers are 0 and the place is 0
 abbrev pub fresh_core : Core
 fresh_core = record { registers = replicate 16 0; place = 0; activity = activity.Running }
@@ -39,29 +55,44 @@ stays was c i = record { core = c; interface = i; sent = None; was = was }
 abbrev pub faults : MachineFault → Core → Interface → Stepped
 faults f c i = record { core = record c { activity = activity.Faulted f }; interface = i; sent = None; was = step.Fault f }
 
+-- whether an instruction names an awaited register
+abbrev pub names_awaited : Instr → Interface → Bool
+names_awaited n i = list_any (λ r. is_awaited r i.opened) (names n)
+
 -- a reference, after what has become of its request
 abbrev pub refers_as : Core → Interface → Request → Option ℕ → Issue → Stepped
 refers_as c i r target Sent = record { core = record c { place = c.place + 1 }; interface = after_issue i r target Sent; sent = Some r; was = step.Issued }
 refers_as c i r target CellOpen = stays step.Stalled c i
 refers_as c i r target Full = stays step.Stalled c i
 
+-- a fence, where no cell is open and where one is
+abbrev pub waits_where : Bool → Core → Interface → Stepped
+waits_where true c i = stays step.Done record c { place = c.place + 1 } i
+waits_where false c i = stays step.Stalled c i
+
 -- the processing element, and the most cells that it may hold open
 module _ (s : Site) (most_open : ℕ) where
+  -- a reference, where the memory has the cell and where it hasn't
+  abbrev pub refers_where : Bool → Core → Interface → Request → Option ℕ → Stepped
+  refers_where true c i r target = refers_as c i r target (issue_of most_open i r)
+  refers_where false c i r target = faults AddressOutOfRange c i
+
   abbrev pub does : Core → Interface → Effect → Stepped
   does c i (sets d v) = stays step.Done record c { registers = slice_set c.registers d v; place = c.place + 1 } i
   does c i (goes_on_at place) = stays step.Done record c { place = place } i
-  does c i (refers a o target) =
-      elim (nat_lt a s.all_cells) [
-        | false ↦ faults AddressOutOfRange c i
-        | true ↦ let r : Request = record { pe = s.pe; cell = a; op = o } in refers_as c i r target (issue_of most_open i r)
-      ]
-  does c i waits = elim (length i.opened == 0) [ true ↦ stays step.Done record c { place = c.place + 1 } i | false ↦ stays step.Stalled c i ]
+  does c i (refers a o target) = refers_where (nat_lt a s.all_cells) c i record { pe = s.pe; cell = a; op = o } target
+  does c i waits = waits_where (length i.opened == 0) c i
   does c i halts = stays step.Done record c { activity = activity.Halted } i
+
+  -- an instruction, where it names an awaited register and where it doesn't
+  abbrev pub runs_where : Bool → Core → Interface → Instr → Stepped
+  runs_where true c i n = stays step.Stalled c i
+  runs_where false c i n = does c i (effect s c.registers c.place n)
 
   -- it stalls where the instruction names an awaited register
   abbrev pub runs : Core → Interface → Option Instr → Stepped
   runs c i None = faults PastEnd c i
-  runs c i (Some n) = elim (list_any (λ r. is_awaited r i.opened) (names n)) [ true ↦ stays step.Stalled c i | false ↦ does c i (effect s c.registers c.place n) ]
+  runs c i (Some n) = runs_where (names_awaited n i) c i n
 
   -- what has halted or faulted stays
   abbrev pub runs_as : Activity → Core → Interface → Option Instr → Stepped

@@ -1,5 +1,5 @@
 -- what one memory module does. That the module adds is the 1983 paper's; its two registers are this project's profile
-use Rattle.std.specs.Prelude.{ℕ, List, [], Option, Some, None, slice_index, slice_set}
+use Rattle.std.specs.Prelude.{◌≡◌, ℕ, List, [], Option, Some, None, replicate, slice_index, slice_set}
 use Rattle.ultra_msg.specs.declared.ReplyMessage.{ReplyMessage}
 use Rattle.ultra_msg.specs.Act.{act}
 use Rattle.ultra_mem.specs.declared.Placed.{Placed}
@@ -11,8 +11,18 @@ pub record Bank : Type 0 where
   pub inp : Option Placed
   pub out : Option ReplyMessage
 
+-- no module: it has no cell and nothing waits
 abbrev pub empty_bank : Bank
 empty_bank = record { cells = []; inp = None; out = None }
+
+-- a module of n cells at the start: each holds 0, and nothing waits
+abbrev pub new_bank : ℕ → Bank
+new_bank n = record { cells = replicate n 0; inp = None; out = None }
+
+-- no request waits to be served, and no reply waits to leave
+pub record IsIdle (b : Bank) : Type 0 where
+  pub no_request : b.inp ≡ None
+  pub no_reply : b.out ≡ None
 
 -- the request that is served now: the one that waits, if no reply is in its way
 abbrev pub to_serve : Bank → Option Placed
@@ -35,6 +45,7 @@ after_serving b (Some p) = record {
 abbrev pub serve : Bank → Bank
 serve b = after_serving b (to_serve b)
 
+-- what is told of an act: the request, its reply and the cell's new value
 abbrev pub act_of : Bank → Option Placed → Option Served
 act_of b None = None
 act_of b (Some p) = Some record { request = p.request; reply = (act p.request.op (value_at b p)).1; now = (act p.request.op (value_at b p)).0 }

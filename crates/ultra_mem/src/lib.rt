@@ -1,19 +1,251 @@
 //! A memory module: some cells, a register for the request that comes and one for the reply that leaves, and an adder beside the memory.
 #![tactic(auto)]
 
-use ultra_msg::{Reply, Request, Word};
+ghost use Rattle.std.specs.Prelude.{◌≡◌, ◌<◌, ◌≤◌, ◌⊎◌, ◌↔◌, length, IfOk, OnOk, IsTrue, IsErrOf, slice_get, slice_set, option_map};
+ghost use Rattle.ultra_msg.specs.Act.{act as act_of_op};
+ghost use Rattle.ultra_mem.specs.Serve.{new_bank, serve, served, IsIdle};
+
+use std::alloc::{AllocError, Global};
+use std::marker::Model;
+use ultra_msg::{Op, Reply, ReplyMessage, Request, Word};
+
+/// The most cells that a module can have.
+pub const MOST_CELLS: u32 = 4096;
 
 /// A request that waits for a module, with the offset of its cell there.
 #[derive(Clone, Copy, PartialEq, Eq, Debug, Drop)]
 pub struct Placed {
+    /// The request.
     pub request: Request,
+    /// Which of the module's cells it is for, from 0.
     pub offset: u32,
 }
 
 /// One act of a module: the request, its reply, and the cell's value afterwards.
 #[derive(Clone, Copy, PartialEq, Eq, Debug, Drop)]
 pub struct Served {
+    /// The request that was served.
     pub request: Request,
+    /// What it is answered.
     pub reply: Reply,
+    /// The cell's value after the act.
     pub now: Word,
+}
+
+/// Why there is no such module.
+#[derive(Clone, Copy, PartialEq, Eq, Debug, Drop)]
+pub enum ModuleFault {
+    /// The memory for the cells was refused.
+    NoMemory,
+    /// The number of cells isn't from 1 to 4096.
+    CellsOutOfRange,
+}
+
+impl From<AllocError> for ModuleFault {
+    ghost use Rattle.ultra_mem.specs.declared.ModuleFault.TheVariants.{NoMemory};
+
+    ghost from_gives = { λ _ fault. fault ≡ NoMemory };
+
+    fn from(_: AllocError) -> ModuleFault {
+        ModuleFault::NoMemory
+    }
+}
+
+/// A memory module of 1 to 4096 cells, one word each. It serves at most one request a cycle.
+///
+/// That an adder beside the memory does the fetch-and-add is the 1983 paper's; the two registers and when the module acts are this project's profile.
+#[derive(Drop)]
+pub struct Module {
+    cells: Vec<Word>,
+    inp: Option<Placed>,
+    out: Option<ReplyMessage>,
+}
+
+impl Model for Module {
+    ghost use Rattle.std.specs.Prelude.{◌<◌, ◌≤◌, length, IfSome};
+    ghost use Rattle.ultra_mem.specs.Serve.{Bank};
+    ghost use Rattle.ultra_mem.specs.declared.TheConstants.{MOST_CELLS};
+
+    ghost Value = { Bank };
+
+    ghost view = { λ m. record { cells = m.cells.items; inp = m.inp; out = m.out } };
+
+    ghost invariant = { λ m. (1 ≤ length m.cells.items) × (length m.cells.items ≤ MOST_CELLS) × IfSome m.inp (λ p. p.offset < length m.cells.items) };
+}
+
+/// What the operation makes of a cell with this value, and its reply: the cell's value afterwards comes first.
+fn act(op: Op, value: Word) -> (Word, Reply)
+    ensures { result ≡ act_of_op op value }
+{
+    match op {
+        Op::Load => (value, Reply::Value(value)),
+        Op::Store(word) => (word, Reply::Ack),
+        Op::Faa(addend) => (value.wrapping_add(addend), Reply::Value(value)),
+        Op::Swap(word) => (word, Reply::Value(value)),
+    }
+}
+
+impl Module {
+    /// A module with this many cells, all 0, and both registers empty.
+    ///
+    /// `CellsOutOfRange` is found before memory is asked for. `NoMemory` comes only where the memory for the cells was refused.
+    pub fn new(alloc: Global, cells: u32) -> Result<Module, ModuleFault>
+        ensures ok { IfOk result (λ m. m ≡ new_bank cells) }
+        ensures in_range { OnOk result ((1 ≤ cells) × (cells ≤ MOST_CELLS)) }
+        ensures out_of_range { IsErrOf result ModuleFault.CellsOutOfRange ↔ ((cells < 1) ⊎ (MOST_CELLS < cells)) }
+    {
+        if cells < 1 || cells > MOST_CELLS {
+            return Err(ModuleFault::CellsOutOfRange);
+        }
+        Ok(Module {
+            cells: vec![in alloc; 0; cells as usize]?,
+            inp: None,
+            out: None,
+        })
+    }
+
+    /// The number of cells, from 1 to 4096.
+    pub fn cell_count(&self) -> u32
+        ensures value { result ≡ length self.now.cells }
+        ensures some { 1 ≤ result }
+        ensures small { result ≤ MOST_CELLS }
+    {
+        self.cells.len() as u32
+    }
+
+    /// The word in the cell at this offset, or `None` where the module has no such cell.
+    pub fn peek(&self, offset: u32) -> Option<Word>
+        ensures { result ≡ slice_get self.now.cells offset }
+    {
+        self.cells.get(offset as usize).copied()
+    }
+
+    /// The request that waits to be served, or `None` where none does.
+    pub fn request(&self) -> Option<Request>
+        ensures { result ≡ option_map (λ p. p.request) self.now.inp }
+    {
+        self.inp.map(|placed| placed.request)
+    }
+
+    /// The reply that waits to leave, or `None` where none does.
+    pub fn reply(&self) -> Option<ReplyMessage>
+        ensures { result ≡ self.now.out }
+    {
+        self.out
+    }
+
+    /// Whether no request waits to be served and no reply waits to leave.
+    pub fn is_idle(&self) -> bool
+        ensures { IsTrue result ↔ IsIdle self.now }
+    {
+        self.inp.is_none() && self.out.is_none()
+    }
+
+    /// Sets the cell at this offset, which the module must have.
+    pub fn set(&mut self, offset: u32, word: Word)
+        requires { offset < length self.old.cells }
+        ensures state { self.new ≡ record self.old { cells = slice_set self.old.cells offset word } }
+        ensures count { length self.new.cells ≡ length self.old.cells }
+    {
+        self.cells[offset as usize] = word;
+    }
+
+    /// Takes a request for the cell at this offset, which the module must have, into the register for requests, which must be empty.
+    pub fn put(&mut self, request: Request, offset: u32)
+        requires cell { offset < length self.old.cells }
+        requires empty { self.old.inp ≡ None }
+        ensures { self.new ≡ record self.old { inp = Some record { request = request; offset = offset } } }
+    {
+        self.inp = Some(Placed { request, offset });
+    }
+
+    /// Serves the request that waits, and says what was done. Does nothing and gives `None` where no request waits, or where the last reply hasn't left.
+    pub fn serve(&mut self) -> Option<Served>
+        ensures state { self.new ≡ serve self.old }
+        ensures act { result ≡ served self.old }
+        ensures count { length self.new.cells ≡ length self.old.cells }
+    {
+        if self.out.is_some() {
+            return None;
+        }
+        let Placed { request, offset } = self.inp.take()?;
+        let cell = &mut self.cells[offset as usize];
+        let (now, reply) = act(request.op, *cell);
+        *cell = now;
+        self.out = Some(ReplyMessage {
+            pe: request.pe,
+            cell: request.cell,
+            reply,
+        });
+        Some(Served {
+            request,
+            reply,
+            now,
+        })
+    }
+
+    /// Takes the reply out of its register, or gives `None` where there is none. The register is empty afterwards.
+    pub fn take_reply(&mut self) -> Option<ReplyMessage>
+        ensures reply { result ≡ self.old.out }
+        ensures taken { self.new ≡ record self.old { out = None } }
+    {
+        self.out.take()
+    }
+}
+
+#[cfg(test)]
+mod tests {
+    use super::*;
+    use std::test::Fail;
+
+    /// The module's side of the run `combined_pair`: the combined fetch-and-add of 2 finds 0 and leaves 2.
+    #[test]
+    fn combined_pair(rt: HostRuntime) -> Result<(), Fail> {
+        let request = Request {
+            pe: 1,
+            cell: 0,
+            op: Op::Faa(2),
+        };
+        let reply = Reply::Value(0);
+        let message = ReplyMessage {
+            pe: 1,
+            cell: 0,
+            reply,
+        };
+
+        let mut module = Module::new(rt.alloc(), 16)?;
+        assert_eq!(rt; module.cell_count(), 16);
+        assert_eq!(rt; module.serve(), None);
+        assert!(rt; module.is_idle());
+
+        module.put(request, 0);
+        assert_eq!(rt; module.request(), Some(request));
+        assert!(rt; !module.is_idle());
+
+        let served = Served {
+            request,
+            reply,
+            now: 2,
+        };
+        assert_eq!(rt; module.serve(), Some(served));
+        assert_eq!(rt; module.peek(0), Some(2));
+        assert_eq!(rt; module.reply(), Some(message));
+        assert_eq!(rt; module.take_reply(), Some(message));
+        assert!(rt; module.is_idle());
+        Ok(())
+    }
+
+    #[test]
+    fn cells_out_of_range(rt: HostRuntime) -> Result<(), Fail> {
+        for cells in [0, 4097] {
+            let fault = Module::new(rt.alloc(), cells).err();
+            assert_eq!(rt; fault, Some(ModuleFault::CellsOutOfRange), "at {cells}");
+        }
+        let mut module = Module::new(rt.alloc(), 4096)?;
+        assert_eq!(rt; module.cell_count(), 4096);
+        module.set(4095, 7);
+        assert_eq!(rt; module.peek(4095), Some(7));
+        assert_eq!(rt; module.peek(4096), None);
+        Ok(())
+    }
 }

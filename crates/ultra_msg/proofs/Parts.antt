@@ -1,5 +1,5 @@
 -- one more part of the bytes was taken
-use Rattle.std.proofs.Common.{◌≡◌, ℕ, ◌+◌, ◌-◌, ◌<◌, ◌≤◌, List, ◌++◌, take, drop, length, arith, ◌∙◌, sym, ap, append_assoc, length-drop, length-take, refl}
+use Rattle.std.proofs.Common.{◌≡◌, ℕ, ◌+◌, ◌-◌, ◌≤◌, List, ◌++◌, take, drop, length, arith, ◌∙◌, ap, append_assoc, length-drop}
 use Rattle.std.proofs.Math.Seq.{take-length, take-add}
 use Rattle.std.proofs.lemmas.List.{take-append-drop}
 use Rattle.std.specs.Prelude.{Result, OnErr, Ok, Err}

@@ -1,15 +1,16 @@
 //! The messages of the machine: requests to cells of the shared memory, their replies, and how two requests for one cell are combined into one.
 #![tactic(auto)]
 
-ghost use Rattle.std.specs.Prelude.{◌≡◌, ℕ, ◌+◌, ◌%◌, ◌^◌, ◌<◌, ◌≤◌, IfSome, IfNone, Bool};
-ghost use Rattle.ultra_msg.specs.Act.{act, reply_given};
-ghost use Rattle.ultra_msg.specs.Pair.{pair_of, KeepsBoth};
+ghost use Rattle.std.specs.Prelude.{◌≡◌, ℕ, ◌^◌, ◌<◌, ◌≤◌, IfSome, IfNone, not};
+ghost use Rattle.ultra_msg.specs.Act.{reply_given};
+ghost use Rattle.ultra_msg.specs.Pair.{pair_of, is_fixed, KeepsBoth};
 
 mod sink;
-
-use std::marker::Model;
+#[cfg(test)]
+mod tests;
 
 pub use sink::{Sink, SinkFault, write_all};
+use std::marker::Model;
 
 /// A word of the machine: a number below `2^32`. Sums and differences of words are modulo `2^32`.
 pub type Word = u32;
@@ -114,18 +115,21 @@ pub enum Op {
     Swap(Word),
 }
 
-/// A reference of a processing element to a cell.
+/// A reference of a processing element to a cell. The element and the cell are its identity in the network.
 #[derive(Clone, Copy, PartialEq, Eq, Debug, Default, Drop)]
 pub struct Request {
+    /// The element that issued it.
     pub pe: Pe,
+    /// The cell that it is for.
     pub cell: Cell,
+    /// What it does to the cell.
     pub op: Op,
 }
 
-/// What a request is answered.
+/// What a request is answered. That a store is acknowledged is this project's profile.
 #[derive(Clone, Copy, PartialEq, Eq, Debug, Drop)]
 pub enum Reply {
-    /// The value that the cell had.
+    /// The value that the cell had before the request.
     Value(Word),
     /// A store was done.
     Ack,
@@ -134,12 +138,15 @@ pub enum Reply {
 /// A reply on its way to a processing element. The element and the cell are its identity in the network.
 #[derive(Clone, Copy, PartialEq, Eq, Debug, Drop)]
 pub struct ReplyMessage {
+    /// The element that it goes to.
     pub pe: Pe,
+    /// The cell that the request was for.
     pub cell: Cell,
+    /// What the request is answered.
     pub reply: Reply,
 }
 
-/// How one request of a combined pair is answered from the reply to what was sent for both.
+/// How one request of a combined pair is answered from the reply to what was sent for both; this project's profile.
 #[derive(Clone, Copy, PartialEq, Eq, Debug, Default, Drop)]
 pub enum Give {
     /// That reply itself.
@@ -158,27 +165,42 @@ pub enum Give {
 pub enum Event {
     /// A reply came to its processing element.
     Delivered(ReplyMessage),
-    /// A memory module served a request; `now` is the cell's value afterwards.
+    /// A memory module served a request.
     Served {
+        /// The module, from 0.
         module: u32,
+        /// What it served.
         request: Request,
+        /// What it answered.
         reply: Reply,
+        /// The cell's value afterwards.
         now: Word,
     },
-    /// The request of `new` combined with that of `old`, in the queue toward memory at this memory-side position of the stage.
+    /// A request combined with one that stood in a queue toward memory.
     Combined {
+        /// The stage, from 0 at the elements' side.
         stage: u32,
+        /// The queue's memory-side position in the stage, from 0.
         position: u32,
+        /// The cell that both are for.
         cell: Cell,
+        /// The element whose request stood in the queue.
         old: Pe,
+        /// The element whose request came to it.
         new: Pe,
+        /// Whether the one that stood in the queue comes first in the serial order.
         old_first: bool,
     },
-    /// A processing element issued a request; its issues are numbered from 0.
-    Issued { request: Request, number: u32 },
+    /// A processing element issued a request.
+    Issued {
+        /// What it issued.
+        request: Request,
+        /// How many it had issued before.
+        number: u32,
+    },
 }
 
-/// Two requests for one cell, combined into one.
+/// Two requests for one cell, combined into one; this project's profile.
 #[derive(Clone, Copy, PartialEq, Eq, Debug, Drop)]
 pub struct Paired {
     /// What is sent for both.
@@ -191,45 +213,33 @@ pub struct Paired {
     pub old_first: bool,
 }
 
-/// What is sent for two requests for one cell, `old` having stood in the queue when `new` came, and how both are answered.
+/// What is sent for two requests to one cell, `old` having stood in the queue when `new` came, and how both are answered.
 ///
 /// Which pairs combine and how is this project's profile; that the pair acts as its two requests one after the other is the serialization principle of the 1983 paper.
 pub fn pair(old: Op, new: Op) -> Paired
     ensures table { result ≡ pair_of old new }
     ensures keeps_both { (v : ℕ) → v < 2 ^ 32 → KeepsBoth old new result v }
 {
+    use Give::{Ack, Fixed, Plus, Same};
+    use Op::{Faa, Load, Store, Swap};
+
     let (sent, give_old, give_new, old_first) = match (old, new) {
-        (Op::Load, Op::Load) => (Op::Load, Give::Same, Give::Same, true),
-        (Op::Load, Op::Faa(e)) => (Op::Faa(e), Give::Same, Give::Same, true),
-        (Op::Load, Op::Store(f)) => (Op::Store(f), Give::Fixed(f), Give::Ack, false),
-        (Op::Load, Op::Swap(f)) => (Op::Swap(f), Give::Same, Give::Same, true),
-        (Op::Faa(e), Op::Load) => (Op::Faa(e), Give::Same, Give::Plus(e), true),
-        (Op::Faa(e), Op::Faa(f)) => (Op::Faa(e.wrapping_add(f)), Give::Same, Give::Plus(e), true),
-        (Op::Faa(e), Op::Store(f)) => (
-            Op::Store(e.wrapping_add(f)),
-            Give::Fixed(f),
-            Give::Ack,
-            false,
-        ),
-        (Op::Faa(e), Op::Swap(f)) => (Op::Swap(f), Give::Same, Give::Plus(e), true),
-        (Op::Store(f), Op::Load) => (Op::Store(f), Give::Ack, Give::Fixed(f), true),
-        (Op::Store(f), Op::Faa(e)) => (
-            Op::Store(e.wrapping_add(f)),
-            Give::Ack,
-            Give::Fixed(f),
-            true,
-        ),
-        (Op::Store(_), Op::Store(g)) => (Op::Store(g), Give::Ack, Give::Ack, true),
-        (Op::Store(f), Op::Swap(g)) => (Op::Store(g), Give::Ack, Give::Fixed(f), true),
-        (Op::Swap(f), Op::Load) => (Op::Swap(f), Give::Same, Give::Fixed(f), true),
-        (Op::Swap(f), Op::Faa(e)) => (
-            Op::Swap(f.wrapping_add(e)),
-            Give::Same,
-            Give::Fixed(f),
-            true,
-        ),
-        (Op::Swap(_), Op::Store(g)) => (Op::Swap(g), Give::Same, Give::Ack, true),
-        (Op::Swap(f), Op::Swap(g)) => (Op::Swap(g), Give::Same, Give::Fixed(f), true),
+        (Load, Load) => (Load, Same, Same, true),
+        (Load, Faa(e)) => (Faa(e), Same, Same, true),
+        (Load, Store(f)) => (Store(f), Fixed(f), Ack, false),
+        (Load, Swap(f)) => (Swap(f), Same, Same, true),
+        (Faa(e), Load) => (Faa(e), Same, Plus(e), true),
+        (Faa(e), Faa(f)) => (Faa(e.wrapping_add(f)), Same, Plus(e), true),
+        (Faa(e), Store(f)) => (Store(e.wrapping_add(f)), Fixed(f), Ack, false),
+        (Faa(e), Swap(f)) => (Swap(f), Same, Plus(e), true),
+        (Store(f), Load) => (Store(f), Ack, Fixed(f), true),
+        (Store(f), Faa(e)) => (Store(e.wrapping_add(f)), Ack, Fixed(f), true),
+        (Store(_), Store(g)) => (Store(g), Ack, Ack, true),
+        (Store(f), Swap(g)) => (Store(g), Ack, Fixed(f), true),
+        (Swap(f), Load) => (Swap(f), Same, Fixed(f), true),
+        (Swap(f), Faa(e)) => (Swap(f.wrapping_add(e)), Same, Fixed(f), true),
+        (Swap(_), Store(g)) => (Swap(g), Same, Ack, true),
+        (Swap(f), Swap(g)) => (Swap(g), Same, Fixed(f), true),
     };
     Paired {
         sent,
@@ -240,7 +250,9 @@ pub fn pair(old: Op, new: Op) -> Paired
 }
 
 impl Give {
-    /// The answer that this makes from the reply to what was sent.
+    ghost use Rattle.ultra_msg.specs.declared.Op.{Op};
+
+    /// The reply that this makes of the reply to what was sent for both: `Plus` adds its word to a value and leaves an acknowledgement as it is, `Fixed` gives its word and `Ack` an acknowledgement in any case.
     pub fn of(self, reply: Reply) -> Reply
         ensures { result ≡ reply_given self reply }
     {
@@ -251,5 +263,15 @@ impl Give {
             (Give::Fixed(w), _) => Reply::Value(w),
             (Give::Ack, _) => Reply::Ack,
         }
+    }
+
+    /// Whether the old request of a pair that is answered in this way comes first in the serial order.
+    ///
+    /// Only a store that came to a load or a fetch-and-add goes before what stood in the queue, and only these are answered with a word that was known when the pair was made; this project's profile.
+    pub fn old_goes_first(self) -> bool
+        ensures fixed { result ≡ not (is_fixed self) }
+        ensures in_pair { (old new : Op) → self ≡ (pair_of old new).give_old → result ≡ (pair_of old new).old_first }
+    {
+        !matches!(self, Give::Fixed(_))
     }
 }

@@ -1,6 +1,6 @@
 -- a processing element's interface to the network. At most one outstanding reference to a cell is the 1983 paper's; the rest is this project's profile
-use Rattle.std.specs.Prelude.{ℕ, List, [], ◌∷◌, ◌++◌, Bool, true, false, ◌==◌, nat_lt, length, Option, Some, None, if◌then◌else◌}
-use Rattle.std.specs.List.{list_any}
+use Rattle.std.specs.Prelude.{◌≢◌, ℕ, ◌≤◌, List, [], ◌∷◌, ◌++◌, Bool, true, false, ◌==◌, nat_lt, length, Option, Some, None, if◌then◌else◌}
+use Rattle.std.specs.List.{list_any, AllPairs}
 use Rattle.ultra_msg.specs.declared.Request.{Request}
 use Rattle.ultra_pni.specs.declared.OpenCell.{OpenCell}
 use Rattle.ultra_pni.specs.declared.Issue.{Issue}
@@ -13,6 +13,18 @@ pub record Interface : Type 0 where
 
 abbrev pub empty_interface : Interface
 empty_interface = record { opened = []; pending = [] }
+
+-- an interface, and the most cells that it may hold open
+pub record SizedInterface : Type 0 where
+  pub interface : Interface
+  pub most_open : ℕ
+
+-- what is true of every interface: no cell is open twice, at most `most_open` cells are open, and each pending request is that of an open cell
+pub record IsWithin (i : Interface) (most_open : ℕ) : Type 0 where
+  pub small : most_open ≤ 8
+  pub opened : length i.opened ≤ most_open
+  pub pending : length i.pending ≤ length i.opened
+  pub different : AllPairs (λ o p. o.cell ≢ p.cell) i.opened
 
 abbrev pub is_open : ℕ → List OpenCell → Bool
 is_open a os = list_any (λ o. o.cell == a) os

@@ -1,7 +1,13 @@
 //! A processing element's network interface: its requests that are not yet in the network, and its open cells.
 #![tactic(auto)]
 
-use ultra_msg::{Cell, Register};
+ghost use Rattle.std.specs.Prelude.{◌≡◌, ℕ, ◌-◌, ◌<◌, ◌≤◌, ◌==◌, ◌&&◌, [], length, drop, slice_get};
+ghost use Rattle.std.specs.List.{position};
+ghost use Rattle.ultra_pni.specs.Interface.{empty_interface, is_open, goes_to, is_awaited, issue_of, after_issue, target_of, closed, IsWithin};
+
+use arrayvec::ArrayVec;
+use std::marker::Model;
+use ultra_msg::{Cell, Register, ReplyMessage, Request};
 
 /// The most cells that an interface can hold open.
 pub const MOST_OPEN: usize = 8;
@@ -13,6 +19,18 @@ pub struct OpenCell {
     pub target: Option<Register>,
 }
 
+impl OpenCell {
+    /// Whether the reply for this cell goes to the register.
+    fn reaches(&self, register: Register) -> bool
+        ensures { result ≡ goes_to register self.now.target }
+    {
+        match self.target {
+            Some(target) => register == target,
+            None => false,
+        }
+    }
+}
+
 /// What became of a request that a processing element would issue.
 #[derive(Clone, Copy, PartialEq, Eq, Debug, Drop)]
 pub enum Issue {
@@ -22,4 +40,145 @@ pub enum Issue {
     CellOpen,
     /// As many cells are open as may be; nothing has changed.
     Full,
+}
+
+/// The network interface of one processing element (this project's profile).
+///
+/// It holds the requests that the element has issued and that are not yet in the network, in the order of their issues, and the cells that are open: those with a reference that hasn't been answered. No cell is open twice, as in the 1983 paper.
+#[derive(Debug, Drop)]
+pub struct Pni {
+    opened: ArrayVec<OpenCell, MOST_OPEN>,
+    pending: ArrayVec<Request, MOST_OPEN>,
+    most_open: usize,
+}
+
+impl Model for Pni {
+    ghost use Rattle.ultra_pni.specs.Interface.{SizedInterface, IsWithin};
+
+    ghost Value = { SizedInterface };
+
+    ghost view = { λ p. record { interface = record { opened = p.opened.items; pending = p.pending.items }; most_open = p.most_open } };
+
+    ghost invariant = { λ p. IsWithin record { opened = p.opened.items; pending = p.pending.items } p.most_open };
+}
+
+/// The place of a cell among the open ones, or `None` where it isn't open.
+fn place_of(opened: &[OpenCell], cell: Cell) -> Option<usize>
+    ensures { result ≡ position (λ o. o.cell == cell) opened.now }
+{
+    opened.iter().position(|open| open.cell == cell)
+}
+
+impl Pni {
+    /// An interface with nothing open and nothing pending, which can hold so many cells open: at most 8.
+    pub fn new(most_open: usize) -> Pni
+        requires { most_open ≤ 8 }
+        ensures { result ≡ record { interface = empty_interface; most_open = most_open } }
+    {
+        Pni {
+            opened: ArrayVec::new(),
+            pending: ArrayVec::new(),
+            most_open,
+        }
+    }
+
+    /// Takes a request, whose value is to go to the register `target`, if it is to go to one.
+    ///
+    /// `Sent` says that the request is now the last of the list and that its cell is open. `CellOpen` says that its cell was open already, and else `Full` that as many cells were open as may be; both leave the interface as it was.
+    pub fn issue(&mut self, request: Request, target: Option<Register>) -> Issue
+        ensures answer { result ≡ issue_of self.old.most_open self.old.interface request }
+        ensures interface { self.new ≡ record self.old { interface = after_issue self.old.interface request target result } }
+    {
+        if self.is_open(request.cell) {
+            return Issue::CellOpen;
+        }
+        if self.opened.len() >= self.most_open {
+            return Issue::Full;
+        }
+        self.opened.push(OpenCell {
+            cell: request.cell,
+            target,
+        });
+        self.pending.push(request);
+        Issue::Sent
+    }
+
+    /// The request that leaves next, or `None` where none is pending.
+    pub fn head(&self) -> Option<Request>
+        ensures { result ≡ slice_get self.now.interface.pending 0 }
+    {
+        self.pending.as_slice().first().copied()
+    }
+
+    /// Takes the request that leaves next out of the list; its cell stays open. `None` says that none was pending.
+    pub fn leave(&mut self) -> Option<Request>
+        ensures request { result ≡ slice_get self.old.interface.pending 0 }
+        ensures interface { self.new ≡ record self.old { interface = record self.old.interface { pending = drop 1 self.old.interface.pending } } }
+    {
+        self.pending.pop_at(0)
+    }
+
+    /// A reply has come: its cell is no longer open. Gives the register that the reply's value goes to, or `None` where it goes to none.
+    ///
+    /// A reply for a cell that isn't open changes nothing and gives `None`. The condition: a request has left whose reply hasn't come.
+    pub fn deliver(&mut self, reply: ReplyMessage) -> Option<Register>
+        requires { length self.old.interface.pending < length self.old.interface.opened }
+        ensures target { result ≡ target_of reply.cell self.old.interface.opened }
+        ensures interface { self.new ≡ record self.old { interface = record self.old.interface { opened = closed reply.cell self.old.interface.opened } } }
+    {
+        let place = place_of(self.opened.as_slice(), reply.cell)?;
+        self.opened.remove(place).target
+    }
+
+    /// Whether the cell is open: a reference to it hasn't been answered.
+    pub fn is_open(&self, cell: Cell) -> bool
+        ensures { result ≡ is_open cell self.now.interface.opened }
+    {
+        self.opened.iter().any(|open| open.cell == cell)
+    }
+
+    /// Whether the register is awaited: the reply for an open cell goes to it.
+    pub fn awaits(&self, register: Register) -> bool
+        ensures { result ≡ is_awaited register self.now.interface.opened }
+    {
+        self.opened.iter().any(|open| open.reaches(register))
+    }
+
+    /// How many cells are open.
+    pub fn open_count(&self) -> usize
+        ensures count { result ≡ length self.now.interface.opened }
+        ensures within { IsWithin self.now.interface self.now.most_open }
+    {
+        self.opened.len()
+    }
+
+    /// How many requests are not yet in the network.
+    pub fn pending_count(&self) -> usize
+        ensures count { result ≡ length self.now.interface.pending }
+        ensures within { IsWithin self.now.interface self.now.most_open }
+    {
+        self.pending.len()
+    }
+
+    /// Whether no cell is open and no request is pending.
+    pub fn is_idle(&self) -> bool
+        ensures { result ≡ (length self.now.interface.opened == 0 && length self.now.interface.pending == 0) }
+    {
+        self.opened.is_empty() && self.pending.is_empty()
+    }
+
+    /// The request at a place of the list, the first to leave being at 0.
+    pub fn pending(&self, index: usize) -> Request
+        requires { index < length self.now.interface.pending }
+        ensures { slice_get self.now.interface.pending index ≡ Some result }
+    {
+        self.pending.as_slice()[index]
+    }
+
+    /// The request that was issued last of those that are pending, or `None` where none is.
+    pub fn newest(&self) -> Option<Request>
+        ensures { result ≡ slice_get self.now.interface.pending (length self.now.interface.pending - 1) }
+    {
+        self.pending.as_slice().last().copied()
+    }
 }

@@ -1,2 +1,3 @@
 pub mod Arrive
 pub mod Split
+pub mod Queues

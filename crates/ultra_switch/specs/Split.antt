@@ -1,8 +1,10 @@
 -- a reply comes back to a switch. That a combined request is answered from what the wait buffer keeps is the 1983 paper's
-use Rattle.std.specs.Prelude.{ℕ, List, [], ◌∷◌, Bool, true, false, ◌&&◌, ◌==◌}
+use Rattle.std.specs.Prelude.{List, [], ◌∷◌, Bool, true, false, ◌&&◌, ◌==◌}
 use Rattle.ultra_msg.specs.declared.ReplyMessage.{ReplyMessage}
 use Rattle.ultra_msg.specs.Act.{reply_given}
 use Rattle.ultra_switch.specs.declared.WaitRecord.{WaitRecord}
+use Rattle.ultra_switch.specs.declared.Split.{Split}
+use Rattle.ultra_switch.specs.declared.Split.TheVariants.{One, Two}
 
 -- whether a record has the identity of a reply: the processing element and the cell
 abbrev pub is_of : ReplyMessage → WaitRecord → Bool
@@ -23,3 +25,8 @@ new_reply m w = record { pe = w.partner; cell = m.cell; reply = reply_given w.gi
 abbrev pub replies_of : ReplyMessage → List WaitRecord → List ReplyMessage
 replies_of m [] = m ∷ []
 replies_of m (w ∷ ws) = elim (is_of m w) [ true ↦ old_reply m w ∷ new_reply m w ∷ [] | false ↦ replies_of m ws ]
+
+-- the replies that a split tells
+abbrev pub replies_in : Split → List ReplyMessage
+replies_in (One m) = m ∷ []
+replies_in (Two old new) = old ∷ new ∷ []

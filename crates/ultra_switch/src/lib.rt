@@ -1,23 +1,40 @@
 //! The enhanced switch of the Omega network: queues toward memory, in which requests for one cell are combined, wait buffers that keep what is needed to answer them, and queues toward the processing elements.
+//!
+//! Queues, wait buffers and pairwise combining are the 1983 paper's. Which entry combines and when, the places of the queues and their room rules are this project's profile.
 #![tactic(auto)]
 
-use ultra_msg::{Cell, Give, Pe, Request};
+ghost use Rattle.std.specs.Prelude.{◌≡◌, ℕ, ◌≤◌, IfOk};
+ghost use Rattle.ultra_switch.specs.Queues.{empty_requests, empty_replies};
+
+mod reply_queue;
+mod request_queue;
+
+pub use reply_queue::ToPe;
+pub use request_queue::ToMm;
+use std::alloc::{AllocError, Global};
+use ultra_msg::{Cell, Give, Pe, ReplyMessage, Request};
 
 /// A request in a queue toward memory.
 #[derive(Clone, Copy, PartialEq, Eq, Debug, Default, Drop)]
 pub struct Entry {
+    /// What is sent to memory: the request that arrived, or what stands for it and the one that it combined with.
     pub request: Request,
     /// Whether it has combined in this queue.
     pub combined: bool,
 }
 
-/// What is kept of a combined pair, to answer its two requests from the one reply: the identity of the old one, which is also that of what was sent, how it is answered, the processing element of the new one, and how that is answered. The new one's cell is the same.
+/// What is kept of a combined pair, to answer its two requests from the one reply. The old request stood in the queue when the new one came; what was sent for both has the identity of the old one.
 #[derive(Clone, Copy, PartialEq, Eq, Debug, Default, Drop)]
 pub struct WaitRecord {
+    /// The processing element of the old request.
     pub pe: Pe,
+    /// The cell of both requests.
     pub cell: Cell,
+    /// How the old request is answered.
     pub give_old: Give,
+    /// The processing element of the new request.
     pub partner: Pe,
+    /// How the new request is answered.
     pub give_new: Give,
 }
 
@@ -28,4 +45,121 @@ pub enum Arrived {
     Appended,
     /// It combined with the request of this processing element.
     CombinedWith(Pe),
+}
+
+/// What came of a reply at a switch.
+#[derive(Clone, Copy, PartialEq, Eq, Debug, Drop)]
+pub enum Split {
+    /// The reply itself: its request had not combined here.
+    One(ReplyMessage),
+    /// The replies to the two requests of a combined pair: that to the one that stood in the queue, then that to the one that came to it.
+    Two(ReplyMessage, ReplyMessage),
+}
+
+/// Why a switch could not be made.
+#[derive(Clone, Copy, PartialEq, Eq, Debug, Drop)]
+pub enum SwitchFault {
+    /// The memory for a queue was refused.
+    NoMemory,
+}
+
+/// What there is at each of the two ports of a switch, port 0 and port 1.
+#[derive(Clone, Copy, PartialEq, Eq, Debug, Drop)]
+pub struct Ports<T> {
+    pub zero: T,
+    pub one: T,
+}
+
+/// A switch of two by two: for each memory-side port a queue toward memory with its wait buffer, and for each PE-side port a queue toward the processing elements.
+#[derive(Drop)]
+pub struct Switch {
+    /// The queues toward memory, by the memory-side port.
+    pub to_mm: Ports<ToMm>,
+    /// The queues toward the processing elements, by the PE-side port.
+    pub to_pe: Ports<ToPe>,
+}
+
+impl Switch {
+    /// A switch whose queues and wait buffers are empty. `request_places` is the size of each queue toward memory, `reply_places` that of each queue toward the processing elements, and `wait_places` that of each wait buffer, at most 16.
+    ///
+    /// `NoMemory` means that the memory for a queue was refused.
+    pub fn new(
+        alloc: Global,
+        request_places: usize,
+        reply_places: usize,
+        wait_places: usize,
+    ) -> Result<Switch, SwitchFault>
+        requires { wait_places ≤ 16 }
+        ensures to_mm { IfOk result (λ s. let q = empty_requests request_places wait_places in (s.to_mm.zero ≡ q) × (s.to_mm.one ≡ q)) }
+        ensures to_pe { IfOk result (λ s. let q = empty_replies reply_places in (s.to_pe.zero ≡ q) × (s.to_pe.one ≡ q)) }
+    {
+        let to_mm = Ports {
+            zero: ToMm::new(alloc, request_places, wait_places)?,
+            one: ToMm::new(alloc, request_places, wait_places)?,
+        };
+        let to_pe = Ports {
+            zero: ToPe::new(alloc, reply_places)?,
+            one: ToPe::new(alloc, reply_places)?,
+        };
+        Ok(Switch { to_mm, to_pe })
+    }
+}
+
+impl From<AllocError> for SwitchFault {
+    fn from(_: AllocError) -> SwitchFault {
+        SwitchFault::NoMemory
+    }
+}
+
+#[cfg(test)]
+mod tests {
+    use super::*;
+    use std::test::Fail;
+    use ultra_msg::{Op, Reply};
+
+    fn add_one(pe: Pe) -> Request {
+        Request {
+            pe,
+            cell: 0,
+            op: Op::Faa(1),
+        }
+    }
+
+    fn value(pe: Pe, word: u32) -> ReplyMessage {
+        ReplyMessage {
+            pe,
+            cell: 0,
+            reply: Reply::Value(word),
+        }
+    }
+
+    #[test]
+    fn pair_combines_and_splits(rt: HostRuntime) -> Result<(), Fail> {
+        let mut switch = Switch::new(rt.alloc(), 4, 8, 1)?;
+        let requests = &mut switch.to_mm.zero;
+        assert!(rt; requests.has_room());
+        assert_eq!(rt; requests.arrive(add_one(1)), Arrived::Appended);
+        assert!(rt; requests.has_room());
+        assert_eq!(rt; requests.arrive(add_one(0)), Arrived::CombinedWith(1));
+        let sent = requests.leave().ok_or("nothing was sent")?;
+        assert_eq!(rt; sent.op, Op::Faa(2));
+        assert_eq!(rt;
+            requests.split(value(1, 0)),
+            Split::Two(value(1, 0), value(0, 1))
+        );
+        assert!(rt; requests.is_idle());
+        Ok(())
+    }
+
+    #[test]
+    fn reply_waits_and_leaves(rt: HostRuntime) -> Result<(), Fail> {
+        let mut switch = Switch::new(rt.alloc(), 4, 8, 1)?;
+        let replies = &mut switch.to_pe.one;
+        assert!(rt; replies.has_room());
+        replies.put(value(0, 7));
+        assert_eq!(rt; replies.head(), Some(value(0, 7)));
+        assert_eq!(rt; replies.leave(), Some(value(0, 7)));
+        assert!(rt; replies.is_empty());
+        Ok(())
+    }
 }

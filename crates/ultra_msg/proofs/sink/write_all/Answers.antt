@@ -1,4 +1,4 @@
-use Rattle.std.proofs.Common.{arith, ◌∙◌}
+use Rattle.std.proofs.Common.{◌∙◌}
 use Rattle.ultra_msg.proofs.Parts.{taken_more, taken_so_far, at_error}
 use Rattle.ultra_msg.proofs.sink.write_all.Goals as goal
 

@@ -1,0 +1,20 @@
+-- what the code's word for an instruction's effect means
+use Rattle.std.specs.Prelude.{◌≤◌}
+use Rattle.ultra_isa.specs.declared.processor.Effect.{Effect as Found}
+use Rattle.ultra_isa.specs.declared.processor.Effect.TheVariants.{Sets, GoesOnAt, Refers, Waits, Halts}
+use Rattle.ultra_isa.specs.Instruction.{Effect, sets, goes_on_at, refers, waits, halts}
+
+abbrev pub meaning : Found → Effect
+meaning (Sets d v) = sets d v
+meaning (GoesOnAt place) = goes_on_at place
+meaning (Refers a o target) = refers a o target
+meaning Waits = waits
+meaning Halts = halts
+
+-- where an effect goes on at a place, that is at most the length of the longest program
+abbrev pub StaysWithin : Effect → Type 0
+StaysWithin (sets d v) = Unit {0}
+StaysWithin (goes_on_at place) = place ≤ 4096
+StaysWithin (refers a o target) = Unit {0}
+StaysWithin waits = Unit {0}
+StaysWithin halts = Unit {0}

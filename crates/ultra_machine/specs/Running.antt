@@ -1,0 +1,9 @@
+-- a machine with its settings and its program
+use Rattle.std.specs.Prelude.{ℕ, List}
+use Rattle.ultra_isa.specs.declared.Instr.{Instr}
+use Rattle.ultra_block.specs.Machine.{Settings, Machine}
+
+pub record Running : Type 0 where
+  pub settings : Settings
+  pub program : List Instr
+  pub state : Machine

@@ -1,0 +1,104 @@
+//! The pairs of the runs written out in the documents, and the greatest numbers.
+
+use super::*;
+
+/// A pair of the runs written out in the documents: what each was answered there, from the reply to what was sent.
+struct Meeting {
+    run: &'static str,
+    old: Op,
+    new: Op,
+    sent: Op,
+    reply: Reply,
+    to_old: Reply,
+    to_new: Reply,
+    old_first: bool,
+}
+
+const MEETINGS: [Meeting; 5] = [
+    Meeting {
+        run: "combined_pair",
+        old: Op::Faa(1),
+        new: Op::Faa(1),
+        sent: Op::Faa(2),
+        reply: Reply::Value(0),
+        to_old: Reply::Value(0),
+        to_new: Reply::Value(1),
+        old_first: true,
+    },
+    Meeting {
+        run: "load_then_store",
+        old: Op::Load,
+        new: Op::Store(7),
+        sent: Op::Store(7),
+        reply: Reply::Ack,
+        to_old: Reply::Value(7),
+        to_new: Reply::Ack,
+        old_first: false,
+    },
+    Meeting {
+        run: "store_then_faa",
+        old: Op::Store(10),
+        new: Op::Faa(3),
+        sent: Op::Store(13),
+        reply: Reply::Ack,
+        to_old: Reply::Ack,
+        to_new: Reply::Value(10),
+        old_first: true,
+    },
+    Meeting {
+        run: "wraparound",
+        old: Op::Faa(4294967295),
+        new: Op::Faa(4294967295),
+        sent: Op::Faa(4294967294),
+        reply: Reply::Value(1),
+        to_old: Reply::Value(1),
+        to_new: Reply::Value(0),
+        old_first: true,
+    },
+    Meeting {
+        run: "faa_then_store",
+        old: Op::Faa(3),
+        new: Op::Store(10),
+        sent: Op::Store(13),
+        reply: Reply::Ack,
+        to_old: Reply::Value(10),
+        to_new: Reply::Ack,
+        old_first: false,
+    },
+];
+
+#[test]
+fn pairs_of_the_runs(rt: HostRuntime) {
+    for meeting in &MEETINGS {
+        let run = meeting.run;
+        let paired = pair(meeting.old, meeting.new);
+        assert_eq!(rt; paired.sent, meeting.sent, "sent in {run}");
+        assert_eq!(rt;
+            paired.give_old.of(meeting.reply),
+            meeting.to_old,
+            "to old in {run}"
+        );
+        assert_eq!(rt;
+            paired.give_new.of(meeting.reply),
+            meeting.to_new,
+            "to new in {run}"
+        );
+        assert_eq!(rt; paired.old_first, meeting.old_first, "first in {run}");
+        assert_eq!(rt;
+            paired.give_old.old_goes_first(),
+            meeting.old_first,
+            "first in {run}"
+        );
+    }
+}
+
+#[test]
+fn greatest_numbers(rt: HostRuntime) {
+    assert_eq!(rt;
+        Register::new(15).map(|register| register.index()),
+        Some(15)
+    );
+    assert_eq!(rt; Register::new(16), None);
+    assert_eq!(rt; Shift::new(31).map(|shift| shift.bits()), Some(31));
+    assert_eq!(rt; Shift::new(32), None);
+}

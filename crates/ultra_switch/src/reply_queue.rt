@@ -1,0 +1,90 @@
+//! Queues toward the processing elements.
+
+ghost use Rattle.std.specs.Prelude.{◌≡◌, ℕ, ◌+◌, ◌<◌, ◌≤◌, ◌==◌, ◌++◌, ◌∷◌, [], length, drop, slice_get, nat_le, Some, IfOk};
+ghost use Rattle.ultra_switch.specs.Queues.{empty_replies};
+
+use circular_buffer::HeapCircularBuffer;
+use std::alloc::{AllocError, Global};
+use std::marker::Model;
+use ultra_msg::ReplyMessage;
+
+/// A queue toward the processing elements, of one PE-side port of a switch.
+#[derive(Drop)]
+pub struct ToPe {
+    queue: HeapCircularBuffer<ReplyMessage>,
+}
+
+impl Model for ToPe {
+    ghost use Rattle.std.specs.Prelude.{◌≤◌, length};
+    ghost use Rattle.ultra_switch.specs.Queues.{SizedReplies};
+
+    ghost Value = { SizedReplies };
+
+    ghost view = { λ q. record { replies = q.queue.items; places = q.queue.capacity } };
+
+    ghost invariant = { λ q. length q.queue.items ≤ q.queue.capacity };
+}
+
+impl ToPe {
+    /// An empty queue of this many places.
+    pub(crate) fn new(alloc: Global, places: usize) -> Result<ToPe, AllocError>
+        ensures { IfOk result (λ q. q ≡ empty_replies places) }
+    {
+        Ok(ToPe {
+            queue: HeapCircularBuffer::with_capacity(alloc, places)?,
+        })
+    }
+
+    /// Whether at least 4 places of the queue are free: two replies may come by each memory-side port.
+    pub fn has_room(&self) -> bool
+        ensures { result ≡ nat_le (length self.now.replies + 4) self.now.places }
+    {
+        self.queue.len() + 4 <= self.queue.capacity()
+    }
+
+    /// How many replies stand in the queue.
+    pub fn len(&self) -> usize
+        ensures value { result ≡ length self.now.replies }
+        ensures within { result ≤ self.now.places }
+    {
+        self.queue.len()
+    }
+
+    /// Whether the queue is empty.
+    pub fn is_empty(&self) -> bool
+        ensures { result ≡ (length self.now.replies == 0) }
+    {
+        self.queue.is_empty()
+    }
+
+    /// The reply at this place of the queue, counted from 0 at the front.
+    pub fn reply(&self, index: usize) -> ReplyMessage
+        requires { index < length self.now.replies }
+        ensures { slice_get self.now.replies index ≡ Some result }
+    {
+        *self.queue.get(index).unwrap()
+    }
+
+    /// The reply at the front, or `None` where the queue is empty.
+    pub fn head(&self) -> Option<ReplyMessage>
+        ensures { result ≡ slice_get self.now.replies 0 }
+    {
+        self.queue.front().copied()
+    }
+
+    /// A reply comes to the end of the queue.
+    pub fn put(&mut self, reply: ReplyMessage)
+        requires { length self.old.replies < self.old.places }
+        ensures { self.new ≡ record self.old { replies = self.old.replies ++ reply ∷ [] } }
+    {
+        self.queue.push_back(reply);
+    }
+
+    /// Takes the reply at the front out of the queue, or answers `None` where the queue is empty.
+    pub fn leave(&mut self) -> Option<ReplyMessage>
+        ensures value { result ≡ slice_get self.old.replies 0 }
+        ensures queue { self.new ≡ record self.old { replies = drop 1 self.old.replies } }
+    {
+        self.queue.pop_front()
+    }
+}

@@ -1,0 +1,223 @@
+//! Queues toward memory, with their wait buffers.
+
+ghost use Rattle.std.specs.Prelude.{◌≡◌, ℕ, ◌+◌, ◌<◌, ◌≤◌, ◌==◌, ◌&&◌, length, drop, slice_get, nat_le, IfOk, IfSome, ◌∷◌, []};
+ghost use Rattle.std.specs.List.{position};
+ghost use Rattle.ultra_switch.specs.Arrive.{arrive, arrival, can_combine, combined_entry, wait_record};
+ghost use Rattle.ultra_switch.specs.Split.{is_of, records_after, replies_of, replies_in, old_reply, new_reply};
+ghost use Rattle.ultra_switch.specs.Queues.{empty_requests, request_of};
+
+use crate::{Arrived, Entry, Split, WaitRecord};
+use arrayvec::ArrayVec;
+use circular_buffer::HeapCircularBuffer;
+use std::alloc::{AllocError, Global};
+use std::marker::Model;
+use ultra_msg::{ReplyMessage, Request, pair};
+
+/// The most places that a wait buffer can have.
+const MOST_WAIT_PLACES: usize = 16;
+
+/// A queue toward memory, with its wait buffer: of one memory-side port of a switch.
+#[derive(Drop)]
+pub struct ToMm {
+    queue: HeapCircularBuffer<Entry>,
+    records: ArrayVec<WaitRecord, MOST_WAIT_PLACES>,
+    wait_places: usize,
+}
+
+impl Model for ToMm {
+    ghost use Rattle.ultra_switch.specs.Queues.{SizedLane, IsWithinPlaces};
+
+    ghost Value = { SizedLane };
+
+    ghost view = { λ q. record { lane = record { queue = q.queue.items; records = q.records.items }; request_places = q.queue.capacity; wait_places = q.wait_places } };
+
+    ghost invariant = { λ q. IsWithinPlaces record { lane = record { queue = q.queue.items; records = q.records.items }; request_places = q.queue.capacity; wait_places = q.wait_places } };
+}
+
+impl ToMm {
+    /// An empty queue with an empty wait buffer, of these places.
+    pub(crate) fn new(
+        alloc: Global,
+        request_places: usize,
+        wait_places: usize,
+    ) -> Result<ToMm, AllocError>
+        requires { wait_places ≤ 16 }
+        ensures { IfOk result (λ q. q ≡ empty_requests request_places wait_places) }
+    {
+        Ok(ToMm {
+            queue: HeapCircularBuffer::with_capacity(alloc, request_places)?,
+            records: ArrayVec::new(),
+            wait_places,
+        })
+    }
+
+    /// Whether at least 2 places of the queue are free: one for an arrival from each PE-side port.
+    pub fn has_room(&self) -> bool
+        ensures { result ≡ nat_le (length self.now.lane.queue + 2) self.now.request_places }
+    {
+        self.queue.len() + 2 <= self.queue.capacity()
+    }
+
+    /// How many requests stand in the queue.
+    pub fn len(&self) -> usize
+        ensures value { result ≡ length self.now.lane.queue }
+        ensures within { result ≤ self.now.request_places }
+    {
+        self.queue.len()
+    }
+
+    /// The entry at this place of the queue, counted from 0 at the front.
+    pub fn entry(&self, index: usize) -> Entry
+        requires { index < length self.now.lane.queue }
+        ensures { slice_get self.now.lane.queue index ≡ Some result }
+    {
+        *self.queue.get(index).unwrap()
+    }
+
+    /// How many records are in the wait buffer.
+    pub fn record_count(&self) -> usize
+        ensures value { result ≡ length self.now.lane.records }
+        ensures within { result ≤ self.now.wait_places }
+        ensures most { self.now.wait_places ≤ 16 }
+    {
+        self.records.len()
+    }
+
+    /// The record at this place of the wait buffer, counted from 0 at the oldest.
+    pub fn record(&self, index: usize) -> WaitRecord
+        requires { index < length self.now.lane.records }
+        ensures { slice_get self.now.lane.records index ≡ Some result }
+    {
+        self.records[index]
+    }
+
+    /// Whether both the queue and the wait buffer are empty.
+    pub fn is_idle(&self) -> bool
+        ensures { result ≡ (length self.now.lane.queue == 0) && (length self.now.lane.records == 0) }
+    {
+        self.queue.is_empty() && self.records.is_empty()
+    }
+
+    /// The request at the front of the queue, or `None` where the queue is empty.
+    pub fn head(&self) -> Option<Request>
+        ensures { result ≡ request_of (slice_get self.now.lane.queue 0) }
+    {
+        self.queue.front().map(|entry| entry.request)
+    }
+
+    /// Takes the request at the front out of the queue, or answers `None` where the queue is empty.
+    pub fn leave(&mut self) -> Option<Request>
+        ensures value { result ≡ request_of (slice_get self.old.lane.queue 0) }
+        ensures queue { self.new ≡ record self.old { lane = record self.old.lane { queue = drop 1 self.old.lane.queue } } }
+    {
+        self.queue.pop_front().map(|entry| entry.request)
+    }
+
+    /// A request arrives. It combines with the frontmost entry for its cell that hasn't combined in this queue, where there is one and the wait buffer has a free place; otherwise it goes to the end of the queue. The record of a combination goes behind those that are there.
+    pub fn arrive(&mut self, request: Request) -> Arrived
+        requires { length self.old.lane.queue < self.old.request_places }
+        ensures outcome { result ≡ arrival self.old.wait_places self.old.lane request }
+        ensures lane { self.new ≡ record self.old { lane = arrive self.old.wait_places self.old.lane request } }
+    {
+        if self.records.len() < self.wait_places
+            && let Some(place) = partner(&self.queue, request)
+        {
+            let entry = self.queue.get_mut(place).unwrap();
+            let old = *entry;
+            *entry = combined_entry(old, request);
+            self.records.push(wait_record(old, request));
+            return Arrived::CombinedWith(old.request.pe);
+        }
+        self.queue.push_back(Entry {
+            request,
+            combined: false,
+        });
+        Arrived::Appended
+    }
+
+    /// A reply comes back. Where the wait buffer has a record of its processing element and cell, the oldest such record goes, and the replies to the two requests of that pair are made by it; otherwise the reply goes on itself.
+    pub fn split(&mut self, reply: ReplyMessage) -> Split
+        ensures replies { replies_in result ≡ replies_of reply self.old.lane.records }
+        ensures records { self.new ≡ record self.old { lane = record self.old.lane { records = records_after reply self.old.lane.records } } }
+    {
+        match record_place(&self.records, reply) {
+            Some(place) => replies_by(self.records.remove(place), reply),
+            None => Split::One(reply),
+        }
+    }
+}
+
+/// Whether the request can combine with the entry.
+fn can_combine(request: Request, entry: &Entry) -> bool
+    ensures { result ≡ can_combine request entry.now }
+{
+    !entry.combined && entry.request.cell == request.cell
+}
+
+/// The place of the frontmost entry that the request can combine with.
+fn partner(queue: &HeapCircularBuffer<Entry>, request: Request) -> Option<usize>
+    ensures frontmost { result ≡ position (can_combine request) queue.now.items }
+    ensures within { IfSome result (λ place. place < length queue.now.items) }
+{
+    queue.iter().position(|entry| can_combine(request, entry))
+}
+
+/// The entry that stands for both after the request has combined with the old one.
+fn combined_entry(old: Entry, request: Request) -> Entry
+    ensures { result ≡ combined_entry old request }
+{
+    Entry {
+        request: Request {
+            pe: old.request.pe,
+            cell: old.request.cell,
+            op: pair(old.request.op, request.op).sent,
+        },
+        combined: true,
+    }
+}
+
+/// What is kept of the two.
+fn wait_record(old: Entry, request: Request) -> WaitRecord
+    ensures { result ≡ wait_record old request }
+{
+    let paired = pair(old.request.op, request.op);
+    WaitRecord {
+        pe: old.request.pe,
+        cell: old.request.cell,
+        give_old: paired.give_old,
+        partner: request.pe,
+        give_new: paired.give_new,
+    }
+}
+
+/// Whether the record has the identity of the reply.
+fn is_of(reply: ReplyMessage, kept: &WaitRecord) -> bool
+    ensures { result ≡ is_of reply kept.now }
+{
+    kept.pe == reply.pe && kept.cell == reply.cell
+}
+
+/// The place of the oldest record with the identity of the reply.
+fn record_place(records: &[WaitRecord], reply: ReplyMessage) -> Option<usize>
+    ensures { result ≡ position (is_of reply) records.now }
+{
+    records.iter().position(|kept| is_of(reply, kept))
+}
+
+/// The replies to the two requests of the record's pair.
+fn replies_by(kept: WaitRecord, reply: ReplyMessage) -> Split
+    ensures { replies_in result ≡ old_reply reply kept ∷ new_reply reply kept ∷ [] }
+{
+    Split::Two(
+        ReplyMessage {
+            pe: reply.pe,
+            cell: reply.cell,
+            reply: kept.give_old.of(reply.reply),
+        },
+        ReplyMessage {
+            pe: kept.partner,
+            cell: reply.cell,
+            reply: kept.give_new.of(reply.reply),
+        },
+    )
+}

@@ -1,0 +1,5 @@
+li r1 1
+li r2 1
+faa r3 r0 r2
+faa r4 r1 r2
+halt
