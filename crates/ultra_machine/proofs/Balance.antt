@@ -1,31 +1,30 @@
 -- every phase of a machine of one stage keeps it sound
-use Rattle.std.proofs.Common.{◌≡◌, ℕ, ◌+◌, ◌-◌, ◌*◌, ◌/◌, ◌%◌, ◌^◌, ◌≤◌, ◌<◌, List, [], ◌∷◌, ◌++◌, Bool, true, false, refl, arith, ap, ◌∙◌, sym, subst, drop, length, cond, zero, suc}
-use Rattle.std.specs.Prelude.{Option, Some, None, IfSome, slice_get, ◌==◌, nat_lt, nat_le, not}
-use Rattle.std.specs.List.{filter, AllByRecursion, list_any}
+use Rattle.std.proofs.Common.{◌≡◌, ℕ, ◌+◌, ◌*◌, ◌/◌, ◌%◌, ◌≤◌, ◌<◌, List, [], ◌∷◌, ◌++◌, Bool, true, false, refl, arith, ap, cond, zero, suc}
+use Rattle.std.specs.Prelude.{Option, Some, None, slice_get, ◌==◌, nat_le}
+use Rattle.std.specs.List.{filter, AllByRecursion}
 use Rattle.std.proofs.lemmas.Bool.{eqb-true}
 use Rattle.std.proofs.lemmas.Bool.Decides.{nat_tests}
 use Rattle.ultra_msg.specs.declared.Request.{Request}
 use Rattle.ultra_msg.specs.declared.ReplyMessage.{ReplyMessage}
-use Rattle.ultra_route.specs.Route.{bit_of, with_lowest, shuffled}
+use Rattle.ultra_route.specs.Route.{bit_of}
 use Rattle.ultra_switch.specs.declared.Entry.{Entry}
 use Rattle.ultra_switch.specs.declared.WaitRecord.{WaitRecord}
-use Rattle.ultra_switch.specs.Arrive.{Lane}
 use Rattle.ultra_mem.specs.declared.Placed.{Placed}
 use Rattle.ultra_switch.specs.Queues.{request_of}
-use Rattle.ultra_mem.specs.Serve.{Bank, serve}
+use Rattle.ultra_mem.specs.Serve.{Bank}
 use Rattle.ultra_pni.specs.declared.OpenCell.{OpenCell}
 use Rattle.ultra_pni.specs.declared.Issue.TheVariants.{Sent}
 use Rattle.ultra_pni.specs.Interface.{Interface, closed, after_issue}
 use Rattle.ultra_isa.specs.declared.Instr.{Instr}
 use Rattle.ultra_isa.specs.Instruction.{Site}
 use Rattle.ultra_isa.specs.Step.{Core, step_of}
-use Rattle.ultra_isa.proofs.Steps.{SendsInto, IsStepFrom, step_is}
-use Rattle.ultra_block.specs.Places.{places, table, after_leaving}
+use Rattle.ultra_isa.proofs.Steps.{SendsInto, step_is}
+use Rattle.ultra_block.specs.Places.{places, after_leaving}
 use Rattle.ultra_block.specs.Machine.{Settings, Machine, Element, lane_at, replies_at, bank_at, element_at, reply_exit, request_exit, site, start}
-use Rattle.ultra_block.specs.Phases.{deliver, delivered, without_reply, arriving_reply, replies_made, replies_at_exit, lane_after_split, next_replies, reply_phase, memory_phase, request_phase, processor_phase, cycle, arriving_request, admitted, entering, with_request, requests_by, arrivals_by, arrivals, lane_after_leaving, next_lane, without_pending, stepped, step_at, has_request_room, has_reply_room, request_before}
-use Rattle.ultra_machine.specs.Flow.{weight, count, count_option, passes, replies_on_way, lane_on_way, bank_on_way, pending_on_way, opened_by}
+use Rattle.ultra_block.specs.Phases.{deliver, without_reply, arriving_reply, replies_made, replies_at_exit, reply_phase, memory_phase, request_phase, processor_phase, cycle, arriving_request, admitted, with_request, requests_by, arrivals_by, arrivals, lane_after_leaving, without_pending, stepped, step_at, has_request_room, has_reply_room}
+use Rattle.ultra_machine.specs.Flow.{weight, count, count_option, passes, bank_on_way, pending_on_way, opened_by}
 use Rattle.ultra_machine.specs.Sound.{one_stage, on_way, opened, AreHomeward, IsOwn, IsSound}
-use Rattle.ultra_machine.proofs.Counts.{count-append, count-head, count-none, count-all, count-filters, by_test, by_test_rev, arrive_all_way, made_way, serve_way, closed_way}
+use Rattle.ultra_machine.proofs.Counts.{count-append, count-head, count-none, count-filters, by_test, arrive_all_way, made_way, serve_way, closed_way}
 
 -- ---- what a sound machine's messages are
 false_of_zero : (b : Bool) (n : ℕ) → weight b + n ≤ 0 → b ≡ false

@@ -1,13 +1,12 @@
 -- the event of a combination, from the record that is kept of it
-use Rattle.std.proofs.Common.{◌≡◌, ℕ, zero, suc, ◌+◌, ◌-◌, List, [], ◌∷◌, ◌++◌, Bool, true, false, refl, arith, ap, ◌∙◌, sym, length, length-append}
+use Rattle.std.proofs.Common.{◌≡◌, ℕ, ◌-◌, List, [], ◌∷◌, ◌++◌, refl, arith, ap, length, length-append}
 use Rattle.std.specs.Prelude.{Option, Some, None, slice_get, not}
 use Rattle.ultra_msg.specs.declared.Request.{Request}
-use Rattle.ultra_msg.specs.declared.Event.{Event}
 use Rattle.ultra_msg.specs.declared.Event.TheVariants.{Combined}
 use Rattle.ultra_msg.specs.Pair.{pair_of, is_fixed}
 use Rattle.ultra_msg.proofs.Pairs.{pair_first}
 use Rattle.ultra_switch.specs.declared.WaitRecord.{WaitRecord}
-use Rattle.ultra_switch.specs.declared.Arrived.TheVariants.{Appended, CombinedWith}
+use Rattle.ultra_switch.specs.declared.Arrived.TheVariants.{CombinedWith}
 use Rattle.ultra_switch.specs.Arrive.{Lane, Combination, wait_record, after_arrival, outcome}
 use Rattle.ultra_block.specs.Phases.{combination}
 

@@ -1,6 +1,6 @@
 -- what the halves of a cycle ask holds in a machine that fits its settings
-use Rattle.std.proofs.Common.{◌≡◌, ℕ, ◌+◌, ◌-◌, ◌*◌, ◌/◌, ◌%◌, ◌^◌, ◌≤◌, ◌<◌, List, [], ◌∷◌, ◌++◌, Bool, true, false, refl, arith, ap, ◌∙◌, sym, subst, drop, length}
-use Rattle.std.specs.Prelude.{Option, Some, None, slice_get, ◌==◌, nat_le, IsTrue}
+use Rattle.std.proofs.Common.{◌≡◌, ℕ, ◌+◌, ◌*◌, ◌/◌, ◌%◌, ◌≤◌, ◌<◌, List, [], ◌∷◌, Bool, true, false, refl, arith, ◌∙◌, sym, subst, drop, length}
+use Rattle.std.specs.Prelude.{Option, Some, None, slice_get, ◌==◌, nat_le}
 use Rattle.std.specs.List.{AllByRecursion}
 use Rattle.std.proofs.lemmas.Bool.Decides.{nat_tests}
 use Rattle.ultra_msg.specs.declared.Request.{Request}
@@ -10,26 +10,25 @@ use Rattle.ultra_block.specs.declared.Stop.{Stop}
 use Rattle.ultra_route.specs.Route.{bit_of, with_lowest}
 use Rattle.ultra_switch.specs.declared.Entry.{Entry}
 use Rattle.ultra_switch.specs.declared.Ports.{Ports}
-use Rattle.ultra_switch.specs.Queues.{SizedLane, SizedReplies, request_of}
+use Rattle.ultra_switch.specs.Queues.{SizedLane, request_of}
 use Rattle.ultra_mem.specs.declared.Placed.{Placed}
-use Rattle.ultra_mem.specs.Serve.{Bank, serve}
+use Rattle.ultra_mem.specs.Serve.{Bank}
 use Rattle.ultra_mem.proofs.Cells.{length-serve}
 use Rattle.ultra_pni.specs.declared.OpenCell.{OpenCell}
 use Rattle.ultra_isa.specs.declared.Instr.{Instr}
 use Rattle.ultra_block.specs.Places.{after_leaving}
-use Rattle.ultra_block.specs.Machine.{Settings, Machine, replies_at, element_at, lane_at}
-use Rattle.ultra_block.specs.Phases.{without_reply, issues_after, reply_phase, memory_phase, request_phase, processor_phase}
-use Rattle.ultra_machine.specs.Flow.{weight, count, count_option, passes}
-use Rattle.ultra_machine.specs.Sound.{one_stage, on_way, opened, IsSound}
+use Rattle.ultra_block.specs.Machine.{Settings, Machine, replies_at, element_at}
+use Rattle.ultra_block.specs.Phases.{without_reply, issues_after}
+use Rattle.ultra_machine.specs.Flow.{count}
+use Rattle.ultra_machine.specs.Sound.{IsSound}
 use Rattle.ultra_machine.specs.Halves.{room_by, sent_where, has_place_for, where_room}
-use Rattle.ultra_machine.specs.TwoPorts.{ports}
-use Rattle.ultra_machine.specs.Units.{element_of, machine_of}
+use Rattle.ultra_machine.specs.Units.{machine_of}
 use Rattle.ultra_machine.specs.Sent
-use Rattle.ultra_machine.specs.Fit.{FitsLane, FitsElement, IsFit}
+use Rattle.ultra_machine.specs.Fit.{IsFit}
 use Rattle.ultra_machine.specs.declared.units.ProcessingElement.{ProcessingElement}
 use Rattle.ultra_machine.specs.declared.units.Units.{Units}
-use Rattle.ultra_machine.proofs.Counts.{count-all, count-none, count-head}
-use Rattle.ultra_machine.proofs.Balance.{cells_below, replies_of_two, sound_replies, sound_memory, sound_requests, sound_processors}
+use Rattle.ultra_machine.proofs.Counts.{count-all, count-none}
+use Rattle.ultra_machine.proofs.Balance.{replies_of_two, sound_replies, sound_memory, sound_requests, sound_processors}
 use Rattle.ultra_machine.proofs.OneCycle.{replied_is, served_is, requested_is, executed_is}
 
 -- ---- a delivery

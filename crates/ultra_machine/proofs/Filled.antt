@@ -1,6 +1,6 @@
 -- modules filled with the initial values, one after the other
-use Rattle.std.proofs.Common.{◌≡◌, ◌≢◌, ℕ, zero, suc, ◌+◌, ◌-◌, ◌*◌, ◌/◌, ◌%◌, ◌<◌, ◌≤◌, List, [], ◌∷◌, ◌++◌, Bool, true, false, refl, inl, inr, arith, ap, ◌∙◌, sym, length, get_or, set, replicate}
-use Rattle.std.specs.Prelude.{◌==◌, ◌⊎◌, None, map}
+use Rattle.std.proofs.Common.{◌≡◌, ◌≢◌, ℕ, zero, suc, ◌+◌, ◌*◌, ◌/◌, ◌%◌, ◌<◌, List, [], ◌∷◌, ◌++◌, true, false, refl, inl, inr, arith, ap, ◌∙◌, sym, length, get_or, set, replicate}
+use Rattle.std.specs.Prelude.{◌==◌, ◌⊎◌, map}
 use Rattle.std.specs.List.{range_with_len}
 use Rattle.std.proofs.lemmas.List.{same_lists, length-set, get_or-set_same, get_or-set_other}
 use Rattle.std.proofs.lemmas.Bool.{cases_eq}
@@ -8,7 +8,7 @@ use Rattle.std.proofs.lemmas.Bool.Decides.{nat_tests}
 use Rattle.ultra_block.specs.Places.{places}
 use Rattle.ultra_block.specs.Machine.{given_value}
 use Rattle.ultra_block.proofs.Each.{places_at, length-places}
-use Rattle.ultra_mem.specs.Serve.{Bank, new_bank}
+use Rattle.ultra_mem.specs.Serve.{new_bank}
 use Rattle.ultra_machine.specs.Fresh.{filled}
 
 -- one more address: its value is the last
@@ -41,9 +41,9 @@ cells_here m n xs x h b =
     same_lists (set (values m n xs) (x.0 / 2) x.1) (values m n (xs ++ x ∷ []))
     (length-set (values m n xs) (x.0 / 2) x.1 ∙ length-places n (λ o. given_value xs (o * 2 + m) 0) ∙ sym (length-places n (λ o. given_value (xs ++ x ∷ []) (o * 2 + m) 0)))
     (λ k d l.
-        let long = length-set (values m n xs) (x.0 / 2) x.1 in
-        let count = length-places n (λ o. given_value xs (o * 2 + m) 0) in
-        at_cell m n xs x k d h b (omega (arith, l, long, count)) (cases_eq k (x.0 / 2)))
+    let long = length-set (values m n xs) (x.0 / 2) x.1 in
+    let count = length-places n (λ o. given_value xs (o * 2 + m) 0) in
+    at_cell m n xs x k d h b (omega (arith, l, long, count)) (cases_eq k (x.0 / 2)))
 
 -- another address leaves them
 cells_past : (m n : ℕ) (xs : List (ℕ × ℕ)) (x : ℕ × ℕ) → m < 2 → x.0 % 2 ≢ m → values m n xs ≡ values m n (xs ++ x ∷ [])
@@ -51,10 +51,10 @@ cells_past m n xs x s h =
     same_lists (values m n xs) (values m n (xs ++ x ∷ []))
     (length-places n (λ o. given_value xs (o * 2 + m) 0) ∙ sym (length-places n (λ o. given_value (xs ++ x ∷ []) (o * 2 + m) 0)))
     (λ k d l.
-        let count = length-places n (λ o. given_value xs (o * 2 + m) 0) in
-        let within : k < n = omega (arith, l, count) in
-        let other : x.0 ≢ k * 2 + m = omega (arith, h, s) in
-        places_at n (λ o. given_value xs (o * 2 + m) 0) k d within ∙ sym (places_at n (λ o. given_value (xs ++ x ∷ []) (o * 2 + m) 0) k d within ∙ given_past xs x (k * 2 + m) 0 other))
+    let count = length-places n (λ o. given_value xs (o * 2 + m) 0) in
+    let within : k < n = omega (arith, l, count) in
+    let other : x.0 ≢ k * 2 + m = omega (arith, h, s) in
+    places_at n (λ o. given_value xs (o * 2 + m) 0) k d within ∙ sym (places_at n (λ o. given_value (xs ++ x ∷ []) (o * 2 + m) 0) k d within ∙ given_past xs x (k * 2 + m) 0 other))
 
 pub fill_here : (m n : ℕ) (xs : List (ℕ × ℕ)) (x : ℕ × ℕ) → x.0 % 2 ≡ m → x.0 / 2 < n → record (filled m n xs) { cells = set (filled m n xs).cells (x.0 / 2) x.1 } ≡ filled m n (xs ++ x ∷ [])
 fill_here m n xs x h b = ap (λ cs. record (filled m n xs) { cells = cs }) (cells_here m n xs x h b)

@@ -1,5 +1,5 @@
 -- the phases of a machine of one stage, port by port
-use Rattle.std.proofs.Common.{◌≡◌, ℕ, ◌+◌, ◌-◌, ◌*◌, ◌/◌, ◌%◌, ◌≤◌, ◌<◌, List, [], ◌∷◌, ◌++◌, Bool, true, false, refl, arith, ap, ◌∙◌, sym, drop, length}
+use Rattle.std.proofs.Common.{◌≡◌, ℕ, ◌+◌, ◌%◌, ◌≤◌, ◌<◌, List, [], ◌∷◌, ◌++◌, Bool, true, false, refl, arith, ap, drop, length}
 use Rattle.std.specs.Prelude.{Option, Some, None, slice_get, ◌==◌, ◌&&◌, nat_le}
 use Rattle.std.proofs.lemmas.Bool.{eqb-true}
 use Rattle.std.proofs.lemmas.Bool.Decides.{nat_tests}
@@ -12,16 +12,14 @@ use Rattle.ultra_switch.specs.declared.Ports.{Ports}
 use Rattle.ultra_switch.specs.Queues.{request_of}
 use Rattle.ultra_mem.specs.Serve.{Bank, serve, served}
 use Rattle.ultra_isa.specs.declared.Instr.{Instr}
-use Rattle.ultra_isa.specs.Instruction.{Site}
 use Rattle.ultra_isa.specs.Step.{Stepped, step_of}
 use Rattle.ultra_block.specs.declared.Stop.{Stop}
 use Rattle.ultra_block.specs.Places.{places, after_leaving, present}
 use Rattle.ultra_block.specs.Machine.{Settings, Machine, Element, site, request_exit}
 use Rattle.ultra_block.specs.Phases.{deliver, delivery, without_reply, records_left, replies_made, serving, arriving_reply, reply_phase, memory_phase, request_phase, processor_phase, arriving_request, without_pending, with_request, arrive_all, combinations, stepped, issue_event, stop_of, admitted, requests_by, has_request_room}
 use Rattle.ultra_machine.specs.Sound.{one_stage}
-use Rattle.ultra_machine.specs.Halves.{going_to, coming_to, room_by, sent_where}
-use Rattle.ultra_machine.specs.TwoPorts.{both, ports, two_port_machine}
-use Rattle.ultra_machine.proofs.Counts.{by_test}
+use Rattle.ultra_machine.specs.Halves.{going_to, coming_to, sent_where}
+use Rattle.ultra_machine.specs.TwoPorts.{ports, two_port_machine}
 
 -- the requests that go to a position, by the definition and by the code
 pub requests_to : (c : Settings) (y x : ℕ) (o : Option Request) → y < 2 → requests_by (one_stage c) 0 y x o ≡ coming_to x o

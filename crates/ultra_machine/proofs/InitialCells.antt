@@ -1,13 +1,11 @@
 -- marks over the addresses find an address that is given twice
-use Rattle.std.proofs.Common.{◌≡◌, ◌≢◌, ℕ, ◌<◌, ◌≤◌, ◌^◌, ◌+◌, Bool, true, false, not, ◌&&◌, ◌||◌, ◌==◌, eqb, ℤ, List, [], ◌∷◌, ◌++◌, map, length, get_or, set, take, drop, replicate, All, AllPairs, refl, sym, ◌∙◌, ap, subst, inl, inr, arith, rules, zero, suc, ◌⊎◌, add-one}
-use Rattle.std.specs.List.{list_any, list_all}
-use Rattle.std.proofs.lemmas.Grind.{common_steps}
-use Rattle.std.proofs.lemmas.Bool.{or_cases, or_from, and_from, and_parts, and_left, and_right, or_parts, or_left, or_right, eqb-true, eqb-false, eq-eqb, ne_eqb, cases_eq, cases_Bool, not_from_true, not_from_false, not-true, false≢true}
-use Rattle.std.proofs.lemmas.Bool.Decides.{nat_tests}
-use Rattle.std.proofs.lemmas.List.{map-append, get_or-set_same, get_or-set_other, take_more, take-append-drop}
+use Rattle.std.proofs.Common.{◌≡◌, ◌≢◌, ℕ, ◌<◌, ◌^◌, ◌+◌, Bool, true, false, not, ◌||◌, ◌==◌, ℤ, List, [], ◌∷◌, ◌++◌, length, get_or, set, take, drop, All, refl, sym, ◌∙◌, ap, inl, inr, arith, zero, suc, ◌⊎◌, add-one}
+use Rattle.std.specs.List.{list_all}
+use Rattle.std.proofs.lemmas.Bool.{or_cases, or_from, and_from, and_parts, and_left, and_right, or_parts, or_left, or_right, eqb-true, eqb-false, eq-eqb, ne_eqb, cases_eq, not_from_true, not-true, false≢true}
+use Rattle.std.proofs.lemmas.List.{map-append, get_or-set_same, get_or-set_other, take-append-drop}
 use Rattle.std.proofs.Math.Seq.{drop-cons}
 use Rattle.std.proofs.lemmas.List.Elements.{All-push, All-nil}
-use Rattle.std.proofs.lemmas.List.Folds.{list_any-append, list_all-append, list_all_at, list_all_more}
+use Rattle.std.proofs.lemmas.List.Folds.{list_all-append, list_all_at}
 use Rattle.std.proofs.Math.ListN.{length-set}
 use Rattle.ultra_machine.specs.Accepted.{is_cell, cell_of, cells_of, is_named, are_different, are_initial}
 

@@ -1,5 +1,5 @@
 -- an arrival takes at most one place of a queue
-use Rattle.std.proofs.Common.{◌≡◌, ℕ, suc, ◌+◌, ◌≤◌, List, [], ◌∷◌, ◌++◌, Bool, true, false, refl, arith, ap, length, length-append}
+use Rattle.std.proofs.Common.{◌≡◌, ℕ, suc, ◌+◌, ◌≤◌, List, [], ◌∷◌, false, refl, arith, ap, length, length-append}
 use Rattle.std.specs.Prelude.{Option, Some, None, IfSome, nat_lt}
 use Rattle.ultra_msg.specs.declared.Request.{Request}
 use Rattle.ultra_switch.specs.declared.Entry.{Entry}

@@ -1,27 +1,26 @@
 -- the halves of a cycle make up the phases of the definition
-use Rattle.std.proofs.Common.{◌≡◌, ℕ, ◌+◌, ◌-◌, ◌*◌, ◌/◌, ◌%◌, ◌≤◌, ◌<◌, List, [], ◌∷◌, ◌++◌, Bool, true, false, refl, arith, ap, ◌∙◌, sym, drop, length, append_assoc}
+use Rattle.std.proofs.Common.{◌≡◌, ℕ, ◌+◌, ◌%◌, List, [], ◌∷◌, ◌++◌, Bool, true, false, refl, arith, ap, ◌∙◌, sym, append_assoc}
 use Rattle.std.proofs.lemmas.List.{append-nil}
-use Rattle.std.specs.Prelude.{Option, Some, None, slice_get, ◌==◌, ◌&&◌, nat_le}
+use Rattle.std.specs.Prelude.{Option, Some, None, slice_get, ◌==◌}
 use Rattle.ultra_msg.specs.declared.Request.{Request}
 use Rattle.ultra_msg.specs.declared.ReplyMessage.{ReplyMessage}
 use Rattle.ultra_msg.specs.declared.Event.{Event}
 use Rattle.ultra_switch.specs.Arrive.{Lane, arrive}
 use Rattle.ultra_switch.specs.declared.Ports.{Ports}
-use Rattle.ultra_switch.specs.Queues.{SizedLane, SizedReplies}
+use Rattle.ultra_switch.specs.Queues.{SizedLane}
 use Rattle.ultra_mem.specs.Serve.{Bank}
 use Rattle.ultra_isa.specs.declared.Instr.{Instr}
 use Rattle.ultra_block.specs.declared.Stop.{Stop}
 use Rattle.ultra_block.specs.Places.{present}
-use Rattle.ultra_block.specs.Machine.{Settings, Machine, Element, site}
-use Rattle.ultra_block.specs.Phases.{reply_phase, memory_phase, request_phase, processor_phase, cycle, arrive_all, combinations, combination, with_request, requests_by}
+use Rattle.ultra_block.specs.Machine.{Settings, Element}
+use Rattle.ultra_block.specs.Phases.{reply_phase, memory_phase, request_phase, processor_phase, arrive_all, combinations, combination, with_request, requests_by}
 use Rattle.ultra_switch.specs.Arrive.{combine_within}
 use Rattle.ultra_machine.specs.Sound.{one_stage}
-use Rattle.ultra_machine.specs.Halves.{going_to, coming_to, sent_where}
-use Rattle.ultra_machine.specs.TwoPorts.{ports, two_port_machine}
+use Rattle.ultra_machine.specs.Halves.{coming_to, sent_where}
+use Rattle.ultra_machine.specs.TwoPorts.{ports}
 use Rattle.ultra_machine.specs.Units.{element_of, machine_of}
 use Rattle.ultra_machine.specs.Sent
-use Rattle.ultra_machine.specs.Fit.{FitsLane, FitsElement, IsFit}
-use Rattle.ultra_machine.specs.declared.units.ProcessingElement.{ProcessingElement}
+use Rattle.ultra_machine.specs.Fit.{FitsLane, IsFit}
 use Rattle.ultra_machine.specs.declared.units.Units.{Units}
 use Rattle.ultra_machine.proofs.Forms
 use Rattle.ultra_machine.proofs.Forms.{leaving, reply_phase_form, memory_phase_form, request_phase_form, processor_phase_form, comes_form, requests_to}
@@ -128,7 +127,16 @@ module _ (c : Settings) (n : ℕ) (u : Units) (fit : IsFit c n u) (events : List
   pub requested_is : machine_of (Sent.requested n u) n (events ++ Sent.requested_events n u) stops ≡ request_phase (one_stage c) (machine_of u n events stops)
   requested_is =
       rw (request_phase_form c lanes replies_now u.modules elements_now n events stops)
-      (rw (due_form 0, due_form 1, comes_zero, comes_one,
-        lane_form u.switch.to_mm.zero u.modules.zero 0 fit.lane_zero, lane_form u.switch.to_mm.one u.modules.one 1 fit.lane_one,
-        events_form u.switch.to_mm.zero u.modules.zero 0 fit.lane_zero, events_form u.switch.to_mm.one u.modules.one 1 fit.lane_one,
-        bank_form u.modules.zero, bank_form u.modules.one, append-nil) refl)
+      (rw (
+        due_form 0,
+        due_form 1,
+        comes_zero,
+        comes_one,
+        lane_form u.switch.to_mm.zero u.modules.zero 0 fit.lane_zero,
+        lane_form u.switch.to_mm.one u.modules.one 1 fit.lane_one,
+        events_form u.switch.to_mm.zero u.modules.zero 0 fit.lane_zero,
+        events_form u.switch.to_mm.one u.modules.one 1 fit.lane_one,
+        bank_form u.modules.zero,
+        bank_form u.modules.one,
+        append-nil,
+      ) refl)

@@ -1,11 +1,11 @@
 -- the units before the first cycle are those of the definition, and fit the settings
-use Rattle.std.proofs.Common.{◌≡◌, ℕ, ◌+◌, ◌*◌, [], refl, ap, ◌∙◌, sym, subst, arith}
+use Rattle.std.proofs.Common.{◌≡◌, ◌+◌, ◌*◌, [], refl, sym, subst, arith}
 use Rattle.ultra_block.specs.Places.{places}
-use Rattle.ultra_block.specs.Machine.{Settings, Machine, start, given_value}
+use Rattle.ultra_block.specs.Machine.{Settings, start, given_value}
 use Rattle.ultra_block.proofs.Each.{length-places}
 use Rattle.ultra_machine.specs.Sound.{one_stage, IsSound}
 use Rattle.ultra_machine.specs.Units.{machine_of}
-use Rattle.ultra_machine.specs.Fit.{FitsLane, FitsElement, IsFit}
+use Rattle.ultra_machine.specs.Fit.{IsFit}
 use Rattle.ultra_machine.specs.Fresh.{fresh_units}
 use Rattle.ultra_machine.proofs.Balance.{sound_start}
 

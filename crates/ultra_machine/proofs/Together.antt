@@ -1,9 +1,8 @@
 -- the values between the halves of a cycle, put together
-use Rattle.std.proofs.Common.{◌≡◌, ℕ, List, ◌++◌, refl, ap, ◌∙◌, sym}
+use Rattle.std.proofs.Common.{◌≡◌, ℕ, List, ◌++◌, ap, ◌∙◌}
 use Rattle.std.specs.Prelude.{Bool, Option}
 use Rattle.ultra_msg.specs.declared.Request.{Request}
 use Rattle.ultra_msg.specs.declared.Event.{Event}
-use Rattle.ultra_isa.specs.declared.Instr.{Instr}
 use Rattle.ultra_switch.specs.declared.Ports.{Ports}
 use Rattle.ultra_machine.specs.Sent
 use Rattle.ultra_machine.specs.declared.units.Units.{Units}

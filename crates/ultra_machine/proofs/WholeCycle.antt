@@ -1,10 +1,10 @@
 -- one cycle of the units is one cycle of the definition
-use Rattle.std.proofs.Common.{◌≡◌, ℕ, ◌+◌, List, [], ◌++◌, refl, ap, ◌∙◌, sym}
+use Rattle.std.proofs.Common.{◌≡◌, ℕ, ◌+◌, List, [], ◌++◌, ap, ◌∙◌, sym}
 use Rattle.ultra_msg.specs.declared.Event.{Event}
 use Rattle.ultra_isa.specs.declared.Instr.{Instr}
 use Rattle.ultra_block.specs.declared.Stop.{Stop}
-use Rattle.ultra_block.specs.Machine.{Settings, Machine}
-use Rattle.ultra_block.specs.Phases.{cycle, reply_phase, memory_phase, request_phase, processor_phase}
+use Rattle.ultra_block.specs.Machine.{Settings}
+use Rattle.ultra_block.specs.Phases.{cycle, memory_phase, request_phase, processor_phase}
 use Rattle.ultra_machine.specs.Sound.{one_stage}
 use Rattle.ultra_machine.specs.Units.{machine_of}
 use Rattle.ultra_machine.specs.Sent

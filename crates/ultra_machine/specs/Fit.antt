@@ -1,7 +1,6 @@
 -- the units of a machine fit its settings, and are sound
 use Rattle.std.specs.Prelude.{◌≡◌, ℕ, ◌≤◌, length}
-use Rattle.ultra_switch.specs.Queues.{SizedLane, SizedReplies}
-use Rattle.ultra_mem.specs.Serve.{Bank}
+use Rattle.ultra_switch.specs.Queues.{SizedLane}
 use Rattle.ultra_block.specs.Machine.{Settings, site}
 use Rattle.ultra_machine.specs.Sound.{one_stage, IsSound}
 use Rattle.ultra_machine.specs.Units.{machine_of}

@@ -1,5 +1,5 @@
 -- what the machine's fields stand for, and what is always true of them
-use Rattle.std.specs.Prelude.{◌≡◌, ℕ}
+use Rattle.std.specs.Prelude.{◌≡◌}
 use Rattle.ultra_machine.specs.Running.{Running}
 use Rattle.ultra_machine.specs.Units.{machine_of}
 use Rattle.ultra_machine.specs.Fit.{IsFit}

@@ -1,5 +1,5 @@
 -- a machine with its settings and its program
-use Rattle.std.specs.Prelude.{ℕ, List}
+use Rattle.std.specs.Prelude.{List}
 use Rattle.ultra_isa.specs.declared.Instr.{Instr}
 use Rattle.ultra_block.specs.Machine.{Settings, Machine}
 

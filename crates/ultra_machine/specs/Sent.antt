@@ -1,5 +1,5 @@
 -- the units of a machine of one stage after each half of a cycle
-use Rattle.std.specs.Prelude.{ℕ, ◌+◌, List, [], ◌∷◌, ◌++◌, ◌/◌, ◌%◌, Bool, true, false, ◌==◌, ◌&&◌, length, Option, Some, None, drop, slice_get}
+use Rattle.std.specs.Prelude.{ℕ, List, [], ◌∷◌, ◌++◌, ◌/◌, ◌%◌, Bool, true, false, ◌==◌, ◌&&◌, length, Option, Some, None, drop, slice_get}
 use Rattle.ultra_msg.specs.declared.Request.{Request}
 use Rattle.ultra_msg.specs.declared.ReplyMessage.{ReplyMessage}
 use Rattle.ultra_msg.specs.declared.Event.{Event}
@@ -10,7 +10,7 @@ use Rattle.ultra_isa.specs.declared.Instr.{Instr}
 use Rattle.ultra_isa.specs.Step.{Stepped, step_of, has_stopped}
 use Rattle.ultra_block.specs.Places.{after_leaving, present}
 use Rattle.ultra_block.specs.Machine.{is_nothing}
-use Rattle.ultra_block.specs.Phases.{deliver, delivery, records_left, replies_made, without_reply, without_pending, arrive_all, combinations, serving, stepped, issue_event, stop_of}
+use Rattle.ultra_block.specs.Phases.{deliver, delivery, records_left, replies_made, without_reply, arrive_all, combinations, serving, stepped, issue_event, stop_of}
 use Rattle.ultra_block.specs.declared.Stop.{Stop}
 use Rattle.ultra_machine.specs.TwoPorts.{ports}
 use Rattle.ultra_machine.specs.Halves.{going_to, with_replies, has_room_for, coming_to, sent_where, where_room, has_place_for}
@@ -34,12 +34,12 @@ abbrev pub after_sending_replies : Bool → Units → Units
 after_sending_replies room u = record u {
   switch = record u.switch {
     to_pe = ports
-      record u.switch.to_pe.zero { replies = drop 1 u.switch.to_pe.zero.replies }
-      record u.switch.to_pe.one { replies = drop 1 u.switch.to_pe.one.replies };
+        record u.switch.to_pe.zero { replies = drop 1 u.switch.to_pe.zero.replies }
+        record u.switch.to_pe.one { replies = drop 1 u.switch.to_pe.one.replies };
   };
   modules = ports
-    (without_reply u.modules.zero (where_room room u.modules.zero.out))
-    (without_reply u.modules.one (where_room room u.modules.one.out));
+      (without_reply u.modules.zero (where_room room u.modules.zero.out))
+      (without_reply u.modules.one (where_room room u.modules.one.out));
 }
 
 abbrev pub lane_after_reply : SizedLane → Option ReplyMessage → SizedLane

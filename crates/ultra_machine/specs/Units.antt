@@ -1,7 +1,6 @@
 -- the units of a machine of one stage, and what moves between them in the halves of a cycle
 use Rattle.std.specs.Prelude.{ℕ, List}
 use Rattle.ultra_msg.specs.declared.Event.{Event}
-use Rattle.ultra_switch.specs.declared.Ports.{Ports}
 use Rattle.ultra_block.specs.declared.Stop.{Stop}
 use Rattle.ultra_block.specs.Machine.{Machine, Element}
 use Rattle.ultra_machine.specs.TwoPorts.{ports, two_port_machine}

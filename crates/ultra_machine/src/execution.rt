@@ -32,7 +32,13 @@ pub(crate) fn serve(bank: &mut Module, number: u32, events: &mut Events)
 }
 
 /// A processing element makes one step.
-pub(crate) fn execute(element: &mut ProcessingElement, pe: Pe, program: &Program, events: &mut Events, stops: &mut Stops)
+pub(crate) fn execute(
+    element: &mut ProcessingElement,
+    pe: Pe,
+    program: &Program,
+    events: &mut Events,
+    stops: &mut Stops,
+)
     requires counted { element.old.issued < 2 ^ 32 - 1 }
     requires room { length events.old < MOST_EVENTS }
     requires stops { length stops.old < 2 }

@@ -7,7 +7,7 @@ use std::marker::Model;
 
 /// A list with a fixed number of places. They are made with it, so that nothing that is put there takes memory.
 #[derive(Drop)]
-pub struct FixedList<T, const PLACES: usize> {
+pub(crate) struct FixedList<T, const PLACES: usize> {
     items: Vec<T>,
 }
 

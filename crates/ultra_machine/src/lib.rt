@@ -11,12 +11,11 @@ mod requests;
 mod units;
 
 pub use config::{Config, ConfigFault, Field, MOST_STAGES, RawSettings};
-pub use fixed_list::FixedList;
+use fixed_list::FixedList;
 pub use machine::Machine;
-pub use units::ProcessingElement;
-
 use ultra_block::Stop;
 use ultra_msg::Event;
+pub use units::ProcessingElement;
 
 /// The most events of a cycle: two deliveries, two servings, a combination for each request and position, and two issues.
 pub(crate) const MOST_EVENTS: usize = 10;

@@ -7,9 +7,10 @@ ghost use Rattle.ultra_machine.specs.TwoPorts.{at_port};
 
 use crate::building::new_units;
 use crate::config::Config;
+use crate::fixed_list::FixedList;
 use crate::requests::in_order;
 use crate::units::{ProcessingElement, Requests, Units};
-use crate::{Events, FixedList, Stops};
+use crate::{Events, Stops};
 use std::alloc::{AllocError, Global};
 use std::marker::Model;
 use ultra_block::Stop;
@@ -80,8 +81,10 @@ impl Machine {
         let rooms = self.units.request_rooms();
         let Requests { entering, arriving } = self.units.send_requests(net, rooms);
         let (first, second) = in_order(self.done, arriving);
-        self.units.take_requests(net, entering, first, second, &mut self.events);
-        self.units.execute(&self.program, &mut self.events, &mut self.stops);
+        self.units
+            .take_requests(net, entering, first, second, &mut self.events);
+        self.units
+            .execute(&self.program, &mut self.events, &mut self.stops);
         self.done += 1;
     }
 

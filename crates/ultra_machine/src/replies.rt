@@ -23,7 +23,11 @@ pub(crate) fn send_reply(bank: &mut Module, has_room: bool) -> Option<ReplyMessa
 }
 
 /// A reply comes to its processing element.
-pub(crate) fn deliver(element: &mut ProcessingElement, reply: Option<ReplyMessage>, events: &mut Events)
+pub(crate) fn deliver(
+    element: &mut ProcessingElement,
+    reply: Option<ReplyMessage>,
+    events: &mut Events,
+)
     requires waiting { ForSome reply (λ _. length element.old.interface.interface.pending < length element.old.interface.interface.opened) }
     requires room { length events.old < MOST_EVENTS }
     ensures element { element.new ≡ with_element element.old (delivered_to (element_of element.old) reply) }
@@ -52,7 +56,12 @@ fn put_reply(to_pe: &mut Ports<ToPe>, net: Net, reply: ReplyMessage)
 }
 
 /// A reply comes to a memory-side position: it is split by the wait buffer there, and what comes of it goes on.
-pub(crate) fn take_reply(to_mm: &mut ToMm, to_pe: &mut Ports<ToPe>, net: Net, reply: Option<ReplyMessage>)
+pub(crate) fn take_reply(
+    to_mm: &mut ToMm,
+    to_pe: &mut Ports<ToPe>,
+    net: Net,
+    reply: Option<ReplyMessage>,
+)
     requires stage { net ≡ 1 }
     requires zero { ForSome reply (λ _. length to_pe.old.zero.replies + 2 ≤ to_pe.old.zero.places) }
     requires one { ForSome reply (λ _. length to_pe.old.one.replies + 2 ≤ to_pe.old.one.places) }

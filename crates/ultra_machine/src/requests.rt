@@ -66,7 +66,11 @@ pub(crate) fn leave_for(to_mm: &mut ToMm, bank: &Module) -> Option<Request>
     ensures sent { result ≡ entering_of to_mm.old bank.now }
     ensures left { to_mm.new ≡ lane_without to_mm.old result }
 {
-    if bank.request().is_none() { to_mm.leave() } else { None }
+    if bank.request().is_none() {
+        to_mm.leave()
+    } else {
+        None
+    }
 }
 
 /// A request goes into the register of its module.
@@ -81,7 +85,13 @@ pub(crate) fn enter(bank: &mut Module, request: Option<Request>)
 }
 
 /// The request that came to a port of the switch goes to the queue at this position, if that is its way.
-fn take_if_due(to_mm: &mut ToMm, net: Net, position: u32, request: Option<Request>, events: &mut Events)
+fn take_if_due(
+    to_mm: &mut ToMm,
+    net: Net,
+    position: u32,
+    request: Option<Request>,
+    events: &mut Events,
+)
     requires stage { net ≡ 1 }
     requires room { ForSome request (λ r. bit_of 0 (r.cell % 2) ≡ position → length to_mm.old.lane.queue < to_mm.old.request_places) }
     requires events { length events.old < MOST_EVENTS }
@@ -98,7 +108,10 @@ fn take_if_due(to_mm: &mut ToMm, net: Net, position: u32, request: Option<Reques
 }
 
 /// Of the requests that came to the two ports of the switch, the one that goes first in this cycle, and the one that goes second: port 0 goes first in even cycles, port 1 in odd ones.
-pub(crate) fn in_order(done: u32, arriving: Ports<Option<Request>>) -> (Option<Request>, Option<Request>)
+pub(crate) fn in_order(
+    done: u32,
+    arriving: Ports<Option<Request>>,
+) -> (Option<Request>, Option<Request>)
     ensures first { result.0 ≡ first_of done arriving }
     ensures second { result.1 ≡ second_of done arriving }
 {
@@ -110,7 +123,14 @@ pub(crate) fn in_order(done: u32, arriving: Ports<Option<Request>>) -> (Option<R
 }
 
 /// Of the requests that came to the switch, those that go to the queue at this position arrive there, `first` before `second`.
-pub(crate) fn take_both(to_mm: &mut ToMm, net: Net, position: u32, first: Option<Request>, second: Option<Request>, events: &mut Events)
+pub(crate) fn take_both(
+    to_mm: &mut ToMm,
+    net: Net,
+    position: u32,
+    first: Option<Request>,
+    second: Option<Request>,
+    events: &mut Events,
+)
     requires stage { net ≡ 1 }
     requires first { ForSome first (λ r. bit_of 0 (r.cell % 2) ≡ position → IsTrue (has_place_for 2 to_mm.old)) }
     requires second { ForSome second (λ r. bit_of 0 (r.cell % 2) ≡ position → IsTrue (has_place_for 2 to_mm.old)) }

@@ -134,8 +134,18 @@ impl Units {
         deliver(&mut self.elements.zero, replies.delivered.zero, events);
         deliver(&mut self.elements.one, replies.delivered.one, events);
         let switch = &mut self.switch;
-        take_reply(&mut switch.to_mm.zero, &mut switch.to_pe, net, replies.arriving.zero);
-        take_reply(&mut switch.to_mm.one, &mut switch.to_pe, net, replies.arriving.one);
+        take_reply(
+            &mut switch.to_mm.zero,
+            &mut switch.to_pe,
+            net,
+            replies.arriving.zero,
+        );
+        take_reply(
+            &mut switch.to_mm.one,
+            &mut switch.to_pe,
+            net,
+            replies.arriving.one,
+        );
     }
 
     /// Each module serves the request that waits for it, if no reply is in its way.
@@ -178,7 +188,14 @@ impl Units {
     }
 
     /// The requests that were sent go into the modules' registers, and into the queues toward memory; of those that come to the switch `first` goes before `second`.
-    pub(crate) fn take_requests(&mut self, net: Net, entering: Ports<Option<Request>>, first: Option<Request>, second: Option<Request>, events: &mut Events)
+    pub(crate) fn take_requests(
+        &mut self,
+        net: Net,
+        entering: Ports<Option<Request>>,
+        first: Option<Request>,
+        second: Option<Request>,
+        events: &mut Events,
+    )
         requires stage { net ≡ 1 }
         requires within_zero { ForSome entering.zero (λ r. r.cell / 2 < length self.old.modules.zero.cells) }
         requires empty_zero { ForSome entering.zero (λ _. self.old.modules.zero.inp ≡ None) }

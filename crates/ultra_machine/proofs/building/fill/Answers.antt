@@ -1,11 +1,10 @@
-use Rattle.std.proofs.Common.{◌≡◌, ◌≢◌, ℕ, ◌+◌, ◌*◌, ◌/◌, ◌%◌, ◌<◌, arith, ◌∙◌, ap, sym, get_or, take, length, ◌++◌, ◌∷◌, []}
+use Rattle.std.proofs.Common.{◌≡◌, ◌≢◌, ℕ, ◌+◌, ◌*◌, ◌/◌, ◌%◌, ◌<◌, arith, ◌∙◌, ap, get_or, take}
 use Rattle.std.proofs.lemmas.List.{take_more}
 use Rattle.std.proofs.lemmas.List.Elements.{All-get_or}
 use Rattle.ultra_mem.specs.Serve.{Bank}
 use Rattle.ultra_switch.specs.declared.Ports.{Ports}
 use Rattle.ultra_block.specs.Machine.{given_value}
 use Rattle.ultra_block.proofs.Each.{length-places}
-use Rattle.ultra_machine.specs.Fresh.{filled}
 use Rattle.ultra_machine.proofs.Filled.{fill_here, fill_past, fill_none}
 use Rattle.ultra_machine.proofs.building.fill.Goals as goal
 use Rattle.ultra_machine.proofs.building.fill.Goals.{then-cell-eq0, else-cell-eq0}
@@ -35,17 +34,17 @@ loop-cell-preserved c =
     let more = take_more c.args.values.now c.loop-cell.cell-index (0, 0) c.loop-cell-test.true in
     elim c.if-cell-eq0.branch [
       | then-cell-eq0 w ↦
-        let even : x.0 % 2 ≡ 0 = omega (arith, w.if-cell-eq0.true) in
-        let odd : x.0 % 2 ≢ 1 = omega (arith, even) in
-        record {
-          zero = ap (λ (p : Ports Bank). p.zero) w.modules-is ∙ w.set.ensures.state ∙ rw (more, c.loop-cell.invariant.zero) (fill_here 0 n done x even below);
-          one = ap (λ (p : Ports Bank). p.one) w.modules-is ∙ rw (more, c.loop-cell.invariant.one) (fill_past 1 n done x (omega arith) odd);
-        }
+          let even : x.0 % 2 ≡ 0 = omega (arith, w.if-cell-eq0.true) in
+          let odd : x.0 % 2 ≢ 1 = omega (arith, even) in
+          record {
+            zero = ap (λ (p : Ports Bank). p.zero) w.modules-is ∙ w.set.ensures.state ∙ rw (more, c.loop-cell.invariant.zero) (fill_here 0 n done x even below);
+            one = ap (λ (p : Ports Bank). p.one) w.modules-is ∙ rw (more, c.loop-cell.invariant.one) (fill_past 1 n done x (omega arith) odd);
+          }
       | else-cell-eq0 w ↦
-        let no : x.0 % 2 ≢ 0 = omega (arith, w.if-cell-eq0.false) in
-        let odd : x.0 % 2 ≡ 1 = omega (arith, no) in
-        record {
-          zero = ap (λ (p : Ports Bank). p.zero) w.modules-is ∙ rw (more, c.loop-cell.invariant.zero) (fill_past 0 n done x (omega arith) no);
-          one = ap (λ (p : Ports Bank). p.one) w.modules-is ∙ w.set-else-cell-eq0.ensures.state ∙ rw (more, c.loop-cell.invariant.one) (fill_here 1 n done x odd below);
-        }
+          let no : x.0 % 2 ≢ 0 = omega (arith, w.if-cell-eq0.false) in
+          let odd : x.0 % 2 ≡ 1 = omega (arith, no) in
+          record {
+            zero = ap (λ (p : Ports Bank). p.zero) w.modules-is ∙ rw (more, c.loop-cell.invariant.zero) (fill_past 0 n done x (omega arith) no);
+            one = ap (λ (p : Ports Bank). p.one) w.modules-is ∙ w.set-else-cell-eq0.ensures.state ∙ rw (more, c.loop-cell.invariant.one) (fill_here 1 n done x odd below);
+          }
     ]

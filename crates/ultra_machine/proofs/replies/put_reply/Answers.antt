@@ -1,4 +1,4 @@
-use Rattle.std.proofs.Common.{◌≡◌, ◌≢◌, arith, ◌∙◌, sym, rules}
+use Rattle.std.proofs.Common.{◌≡◌, ◌≢◌, arith, ◌∙◌}
 use Rattle.ultra_route.specs.Route.{bit_of}
 use Rattle.ultra_machine.proofs.Going.{put_here, put_past}
 use Rattle.ultra_machine.proofs.replies.put_reply.Goals as goal

@@ -1,5 +1,5 @@
-use Rattle.std.proofs.Common.{◌≡◌, ◌∙◌, ap, sym, ◌++◌, ◌-◌, length}
-use Rattle.std.specs.Prelude.{slice_get, Some, List}
+use Rattle.std.proofs.Common.{◌≡◌, ◌∙◌, ap, sym, ◌++◌}
+use Rattle.std.specs.Prelude.{List}
 use Rattle.ultra_msg.specs.declared.Event.{Event}
 use Rattle.ultra_switch.specs.Arrive.{combine_within, after_arrival}
 use Rattle.ultra_switch.specs.Queues.{SizedLane}

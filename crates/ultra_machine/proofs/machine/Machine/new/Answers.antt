@@ -1,7 +1,6 @@
-use Rattle.std.proofs.Common.{◌≡◌, arith, ◌∙◌, ap, sym, []}
+use Rattle.std.proofs.Common.{◌≡◌, arith, ◌∙◌, ap, []}
 use Rattle.ultra_block.specs.Machine.{start}
 use Rattle.ultra_machine.specs.Units.{machine_of}
-use Rattle.ultra_machine.specs.Fit.{IsFit}
 use Rattle.ultra_machine.specs.Fresh.{fresh_units}
 use Rattle.ultra_machine.proofs.Start.{fresh_is, fit_fresh}
 use Rattle.ultra_machine.proofs.WholeCycle.{of_one_stage}

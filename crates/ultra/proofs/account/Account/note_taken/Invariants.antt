@@ -1,0 +1,9 @@
+use Rattle.std.proofs.Common.{◌≡◌, ◌++◌, take}
+use Rattle.ultra.specs.Account.{bytes_in, failures_in}
+use Rattle.ultra.proofs.account.Account.note_taken.Given as goal
+
+abbrev pub invariant-loop-byte : goal.invariant-loop-byte
+invariant-loop-byte l = record {
+  taken : bytes_in l.self ≡ bytes_in l.initial.self ++ take l.byte-index l.bytes;
+  failures : failures_in l.self ≡ failures_in l.initial.self;
+}

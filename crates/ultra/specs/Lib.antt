@@ -1,0 +1,11 @@
+pub mod Account
+pub mod Source
+pub mod Failure
+pub mod Outcome
+pub mod Text
+pub mod Trace
+pub mod Page
+pub mod Run
+pub mod ProgramText
+pub mod SettingsText
+pub mod AsmFault

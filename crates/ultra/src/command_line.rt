@@ -1,0 +1,133 @@
+//! The command line of the program.
+
+use clap::Arg;
+use clap::error::ErrorKind;
+use std::alloc::{AllocError, Global};
+
+/// What the program is asked to do.
+#[derive(Clone, Copy, PartialEq, Eq, Debug, Drop)]
+pub enum Command<'w> {
+    /// To write the trace of a run: `ultra run CONF PROG`.
+    Run {
+        /// The path of the settings.
+        settings: &'w str,
+        /// The path of the program's text.
+        program: &'w str,
+    },
+}
+
+/// What the words of a command line tell.
+#[derive(Debug, Drop)]
+pub enum Parsed<'w> {
+    /// A command.
+    Command(Command<'w>),
+    /// That help is asked for: a text for standard output.
+    Help(String),
+    /// No command, since the words are wrong: a text for standard error.
+    Usage(String),
+    /// Nothing, since memory was refused.
+    NoMemory,
+}
+
+/// What the words tell; the first is the program's name.
+///
+/// The contract says only that it is safe and returns. Which words are which command and what the texts say is `clap`'s, and is shown by tests.
+pub fn parse<'w>(alloc: Global, words: &'w [&'w str]) -> Parsed<'w> {
+    match command_in(alloc, words) {
+        Ok(command) => Parsed::Command(command),
+        Err(error) => match shown(alloc, &error) {
+            Ok(text) if error.use_stderr() => Parsed::Usage(text),
+            Ok(text) => Parsed::Help(text),
+            Err(_) => Parsed::NoMemory,
+        },
+    }
+}
+
+/// The error's text for the user, unless memory was refused.
+fn shown(alloc: Global, error: &clap::Error) -> Result<String, AllocError> {
+    if error.kind() == ErrorKind::OutOfMemory {
+        return Err(AllocError);
+    }
+    format!(in alloc; "{error}")
+}
+
+/// The command of the words.
+fn command_in<'w>(alloc: Global, words: &'w [&'w str]) -> Result<Command<'w>, clap::Error> {
+    let settings = Arg::new(alloc, "CONF")
+        .help("The settings of the machine, a TOML file")
+        .required(true);
+    let program = Arg::new(alloc, "PROG")
+        .help("The program of the processing elements")
+        .required(true);
+    let run = clap::Command::new(alloc, "run")
+        .about("Writes the trace of a run")
+        .arg(settings)?
+        .arg(program)?;
+    let mut ultra = clap::Command::new(alloc, "ultra")
+        .about("Simulates the NYU Ultracomputer cycle by cycle")
+        .subcommand_required(true)
+        .subcommand(run)?;
+    let matches = ultra.try_get_matches_from_mut(words)?;
+    if let Some(("run", run)) = matches.subcommand() {
+        if let (Some(settings), Some(program)) = (run.get_str("CONF"), run.get_str("PROG")) {
+            return Ok(Command::Run { settings, program });
+        }
+    }
+    Err(ultra.error(ErrorKind::MissingSubcommand, "no command")?)
+}
+
+#[cfg(test)]
+mod tests {
+    use super::*;
+    use std::test::Fail;
+
+    #[test]
+    fn a_run_is_asked_for(rt: HostRuntime) -> Result<(), Fail> {
+        let words = ["ultra", "run", "c.toml", "p.s"];
+        let Parsed::Command(command) = parse(rt.alloc(), &words) else {
+            return Err("no command".into());
+        };
+        let wanted = Command::Run {
+            settings: "c.toml",
+            program: "p.s",
+        };
+        assert!(rt; command == wanted);
+        Ok(())
+    }
+
+    #[test]
+    fn wrong_words_are_usage_faults(rt: HostRuntime) -> Result<(), Fail> {
+        let rows: [&[&str]; 7] = [
+            &["ultra"],
+            &["ultra", "run"],
+            &["ultra", "run", "c.toml"],
+            &["ultra", "run", "c.toml", "p.s", "x"],
+            &["ultra", "run", "c.toml", "p.s", "--workers", "2"],
+            &["ultra", "order", "c.toml", "p.s"],
+            &["ultra", "--version"],
+        ];
+        for words in rows {
+            let Parsed::Usage(text) = parse(rt.alloc(), words) else {
+                return Err("no usage fault".into());
+            };
+            assert!(rt; text.as_str().contains("Usage: ultra"), "{text}");
+        }
+        Ok(())
+    }
+
+    #[test]
+    fn help_is_shown(rt: HostRuntime) -> Result<(), Fail> {
+        let rows: [&[&str]; 3] = [
+            &["ultra", "--help"],
+            &["ultra", "run", "-h"],
+            &["ultra", "help", "run"],
+        ];
+        for words in rows {
+            let Parsed::Help(text) = parse(rt.alloc(), words) else {
+                return Err("no help".into());
+            };
+            assert!(rt; text.as_str().contains("Usage: ultra"), "{text}");
+        }
+        Ok(())
+    }
+}

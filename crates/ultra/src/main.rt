@@ -1,0 +1,102 @@
+//! The program `ultra`: it runs programs on a simulated machine.
+#![tactic(auto)]
+
+ghost use Rattle.std.specs.Prelude.{◌≡◌, ◌+◌, IfErr, OnOk};
+ghost use Rattle.ultra.specs.Failure.{status_of};
+ghost use Rattle.ultra.specs.Outcome.{write_failures, IsRefusal, IsStatus};
+
+mod account;
+mod assembler;
+mod command_line;
+mod failure;
+mod run;
+mod settings;
+mod source;
+mod streams;
+#[cfg(test)]
+mod tests;
+mod trace;
+
+use command_line::{Command, Parsed};
+use failure::Failure;
+use source::{FileSource, Source};
+use std::alloc::Global;
+use std::io::{ErrorKind, Stderr};
+use std::process::ExitCode;
+use std::{env, io};
+use streams::Stream;
+use ultra_msg::{Sink, write_all};
+
+/// Does what the words ask for, and answers the status that the program ends with: 0 done, 2 a usage fault, 3 refused input, 4 no memory, 5 a failed write.
+///
+/// The first word is the program's name. Results and help go to `out`; what is wrong goes to `err`.
+pub fn main_with<'w, R: AllocGlobal, F: Source, O: Sink, E: Sink>(
+    rt: &R,
+    words: &'w [&'w str],
+    source: &mut F,
+    out: &mut O,
+    err: &mut E,
+) -> u8
+    ensures status { IsStatus result }
+    ensures nothing { IsRefusal result → O.taken out.new ≡ O.taken out.old }
+    ensures counted { O.failures out.new ≡ O.failures out.old + write_failures result }
+{
+    match obey(rt.alloc(), words, source, out) {
+        Ok(()) => 0,
+        Err(failure) => give_up(&failure, err),
+    }
+}
+
+/// Does what the words ask for.
+fn obey<'w, F: Source, O: Sink>(
+    alloc: Global,
+    words: &'w [&'w str],
+    source: &mut F,
+    out: &mut O,
+) -> Result<(), Failure<'w>>
+    ensures still { OnOk result (O.failures out.new ≡ O.failures out.old) }
+    ensures nothing { IfErr result (λ f. IsRefusal (status_of f) → O.taken out.new ≡ O.taken out.old) }
+    ensures counted { IfErr result (λ f. O.failures out.new ≡ O.failures out.old + write_failures (status_of f)) }
+{
+    match command_line::parse(alloc, words) {
+        Parsed::Command(Command::Run { settings, program }) => {
+            run::run(alloc, settings, program, source, out)
+        }
+        Parsed::Help(text) => match write_all(out, text.as_bytes()) {
+            Ok(()) => Ok(()),
+            Err(_) => Err(Failure::NotWritten),
+        },
+        Parsed::Usage(text) => Err(Failure::Usage(text)),
+        Parsed::NoMemory => Err(Failure::NoMemory),
+    }
+}
+
+/// Calls `main_with` with the program's own words, files and streams. An error says that the words couldn't be had.
+fn start(rt: &HostRuntime, err: &mut Stream<Stderr>) -> io::Result<u8> {
+    let args: Vec<String> = env::args(rt)?.collect(rt.alloc())?;
+    let words: Vec<&str> = args.iter().map(|word| word.as_str()).collect(rt.alloc())?;
+    let mut source = FileSource::new(rt);
+    let mut out = Stream::new(rt.stdout());
+    Ok(main_with(rt, words.as_slice(), &mut source, &mut out, err))
+}
+
+fn main(rt: HostRuntime) -> ExitCode {
+    let mut err = Stream::new(rt.stderr());
+    let status = match start(&rt, &mut err) {
+        Ok(status) => status,
+        Err(error) if error.kind() == ErrorKind::OutOfMemory => give_up(
+            &Failure::NoMemory,
+            &mut err,
+        ),
+        Err(_) => give_up(&Failure::NotWords, &mut err),
+    };
+    ExitCode::from(status)
+}
+
+/// Tells a failure, and answers its status. Where `err` fails too, the status alone tells it.
+fn give_up<E: Sink>(failure: &Failure, err: &mut E) -> u8
+    ensures { result ≡ status_of failure.now }
+{
+    let _ = failure.write_to(err);
+    failure.status()
+}

@@ -1,0 +1,328 @@
+//! The program over files in memory.
+
+ghost use Rattle.std.specs.Prelude.{◌≡◌, ◌<◌};
+ghost use Rattle.ultra.specs.Account.{failures_in};
+
+mod traces;
+
+use super::*;
+use crate::account::Account;
+use crate::source::SourceFault;
+use std::process::Abort;
+use std::str;
+use std::test::Fail;
+use ultra_msg::SinkFault;
+
+/// Files in memory, by their paths.
+#[derive(Drop)]
+struct Shelf<'f> {
+    files: &'f [(&'f str, &'f [u8])],
+    account: Account,
+}
+
+impl Source for Shelf<'_> {
+    ghost failures = { λ s. failures_in s.account };
+
+    fn read(&mut self, alloc: Global, path: &str) -> Result<Vec<u8>, SourceFault> {
+        for (name, bytes) in self.files {
+            if *name == path {
+                return match Vec::from_slice(alloc, bytes) {
+                    Ok(copy) => Ok(copy),
+                    Err(_) => Err(SourceFault::NoMemory),
+                };
+            }
+        }
+        self.account.note_failure();
+        Err(SourceFault::NotRead)
+    }
+}
+
+/// A sink in memory. It takes so many bytes a write at most, and fails from one of its writes on.
+#[derive(Drop)]
+struct Tray {
+    bytes: Vec<u8>,
+    failures: Account,
+    most: usize,
+    sound_writes: usize,
+    ghost takes_some: { 0 < most },
+}
+
+impl Tray {
+    /// A tray that takes all that it is offered.
+    fn new(alloc: Global) -> Tray {
+        Tray {
+            bytes: Vec::new(alloc),
+            failures: Account::Opened,
+            most: usize::MAX,
+            sound_writes: usize::MAX,
+        }
+    }
+
+    fn text(&self) -> Result<&str, Fail> {
+        Ok(str::from_utf8(self.bytes.as_slice())?)
+    }
+}
+
+impl Sink for Tray {
+    ghost taken = { λ t. t.bytes.items };
+
+    ghost failures = { λ t. failures_in t.failures };
+
+    fn write(&mut self, bytes: &[u8]) -> Result<usize, SinkFault> {
+        let count = bytes.len().min(self.most);
+        if self.sound_writes == 0 || self.bytes.extend_from_slice(&bytes[..count]).is_err() {
+            self.failures.note_failure();
+            return Err(SinkFault);
+        }
+        self.sound_writes -= 1;
+        Ok(count)
+    }
+}
+
+/// What a call of the program did.
+#[derive(Drop)]
+struct Ended {
+    status: u8,
+    out: Tray,
+    err: Tray,
+}
+
+/// Calls the program over files in memory.
+fn call<'t, R: AllocGlobal>(
+    rt: &R,
+    words: &'t [&'t str],
+    files: &'t [(&'t str, &'t [u8])],
+) -> Ended {
+    let mut shelf = Shelf {
+        files,
+        account: Account::Opened,
+    };
+    let mut out = Tray::new(rt.alloc());
+    let mut err = Tray::new(rt.alloc());
+    let status = main_with(rt, words, &mut shelf, &mut out, &mut err);
+    Ended { status, out, err }
+}
+
+const RUN: [&str; 4] = ["ultra", "run", "c.toml", "p.s"];
+
+/// Asserts what `ultra run c.toml p.s` does with settings and a program: its status, and what it writes to standard output and standard error.
+fn check_run<R: AllocGlobal + Abort>(
+    rt: &R,
+    settings: &[u8],
+    program: &[u8],
+    wanted: (u8, &str, &str),
+) -> Result<(), Fail> {
+    let files = [("c.toml", settings), ("p.s", program)];
+    let ended = call(rt, &RUN, &files);
+    assert_eq!(rt; ended.err.text()?, wanted.2);
+    assert_eq!(rt; ended.out.text()?, wanted.1);
+    assert_eq!(rt; ended.status, wanted.0);
+    Ok(())
+}
+
+/// A fetch-and-add of 1 to cell 0.
+const ADDS_ONE: &str = "li r1 0\nli r2 1\nfaa r3 r1 r2\nhalt\n";
+
+/// Two fetch-and-adds: of 1 to cell 0, then of 1 to cell 1.
+const ADDS_TWICE: &str = "li r1 1\nli r2 1\nfaa r3 r0 r2\nfaa r4 r1 r2\nhalt\n";
+
+#[test]
+fn traces_are_written(rt: HostRuntime) -> Result<(), Fail> {
+    let adds_most = "li r1 0\nli r2 4294967295\nfaa r3 r1 r2\nhalt\n";
+    let adds_to_two = "li r1 2\nli r2 1\nfaa r3 r0 r2\nfaa r4 r1 r2\nhalt\n";
+    for (settings, program, trace) in [
+        ("stages = 1", ADDS_ONE, traces::COMBINED_PAIR),
+        (
+            "stages = 1\nwait_places = 0",
+            ADDS_ONE,
+            traces::UNCOMBINED_PAIR,
+        ),
+        (
+            "stages = 1\ninitial = [[0, 1]]",
+            adds_most,
+            traces::WRAPAROUND,
+        ),
+        (
+            "stages = 1\nwait_places = 1",
+            adds_to_two,
+            traces::WAIT_BUFFER_FULL,
+        ),
+        (
+            "stages = 1\nreply_places = 4",
+            ADDS_TWICE,
+            traces::NARROW_REPLY_QUEUES,
+        ),
+        ("stages = 1", "halt\n", traces::HALT),
+        ("stages = 1", "", traces::EMPTY),
+        ("stages = 1\nopen = 1", ADDS_TWICE, traces::ONE_OPEN),
+        ("stages = 1\ncycles = 4", ADDS_ONE, traces::CYCLE_LIMIT),
+    ] {
+        check_run(&rt, settings.as_bytes(), program.as_bytes(), (0, trace, ""))?;
+    }
+    Ok(())
+}
+
+#[test]
+fn settings_are_refused(rt: HostRuntime) -> Result<(), Fail> {
+    for (settings, line) in [
+        ("stages = 0", "ultra: c.toml: bad stages\n"),
+        ("stages = 7", "ultra: c.toml: bad stages\n"),
+        ("", "ultra: c.toml: bad stages\n"),
+        (
+            "stages = 1\nrequest_places = 1",
+            "ultra: c.toml: bad request_places\n",
+        ),
+        (
+            "stages = 1\nreply_places = 65",
+            "ultra: c.toml: bad reply_places\n",
+        ),
+        (
+            "stages = 1\nwait_places = -1",
+            "ultra: c.toml: bad wait_places\n",
+        ),
+        ("stages = 1\nopen = 9", "ultra: c.toml: bad open\n"),
+        ("stages = 1\ncells = 4097", "ultra: c.toml: bad cells\n"),
+        ("stages = 1\ncycles = 1.5", "ultra: c.toml: bad cycles\n"),
+        (
+            "stages = 1\ninitial = [[0, 1], [0, 1]]",
+            "ultra: c.toml: bad initial\n",
+        ),
+        ("stages = 1\nworkers = 2", "ultra: c.toml: unknown key\n"),
+        (
+            "workers = 2\nstages = 1\ncycles = 0",
+            "ultra: c.toml: bad cycles\n",
+        ),
+        ("stages", "ultra: c.toml: not toml\n"),
+    ] {
+        check_run(&rt, settings.as_bytes(), b"halt", (3, "", line))?;
+    }
+    let not_utf8 = [b'#', 0xff];
+    check_run(
+        &rt,
+        &not_utf8,
+        b"halt",
+        (3, "", "ultra: c.toml: not toml\n"),
+    )
+}
+
+#[test]
+fn programs_are_refused(rt: HostRuntime) -> Result<(), Fail> {
+    for (program, line) in [
+        ("halt\nfoo\n", "ultra: p.s: line 2: unknown word\n"),
+        ("li r16 0", "ultra: p.s: line 1: bad register\n"),
+        ("li r1 4294967296", "ultra: p.s: line 1: bad number\n"),
+        ("halt r1", "ultra: p.s: line 1: wrong operands\n"),
+    ] {
+        check_run(&rt, b"stages = 1", program.as_bytes(), (3, "", line))?;
+    }
+    let not_utf8 = [b';', 0xff];
+    check_run(
+        &rt,
+        b"stages = 1",
+        &not_utf8,
+        (3, "", "ultra: p.s: not utf-8\n"),
+    )?;
+    let halts = b"halt\n".repeat(rt.alloc(), 4097)?;
+    check_run(
+        &rt,
+        b"stages = 1",
+        halts.as_slice(),
+        (3, "", "ultra: p.s: line 4097: too long\n"),
+    )
+}
+
+/// Files are read in the order of the words, and each is accepted before the next is read.
+#[test]
+fn files_are_read_in_order(rt: HostRuntime) -> Result<(), Fail> {
+    let program: (&str, &[u8]) = ("p.s", b"foo");
+    let good: (&str, &[u8]) = ("c.toml", b"stages = 1");
+    let bad: (&str, &[u8]) = ("c.toml", b"stages = 0");
+    let rows: [(&[(&str, &[u8])], &str); 3] = [
+        (&[program], "ultra: cannot read c.toml\n"),
+        (&[bad], "ultra: c.toml: bad stages\n"),
+        (&[good], "ultra: cannot read p.s\n"),
+    ];
+    for (files, line) in rows {
+        let ended = call(&rt, &RUN, files);
+        assert_eq!(rt; ended.err.text()?, line);
+        assert!(rt; ended.out.bytes.is_empty(), "{line}");
+        assert_eq!(rt; ended.status, 3);
+    }
+    Ok(())
+}
+
+#[test]
+fn wrong_words_are_usage_faults(rt: HostRuntime) -> Result<(), Fail> {
+    let rows: [&[&str]; 10] = [
+        &[],
+        &["ultra"],
+        &["ultra", "walk", "c.toml", "p.s"],
+        &["ultra", "run", "c.toml"],
+        &["ultra", "run", "c.toml", "p.s", "q.s"],
+        &["ultra", "run", "c.toml", "p.s", "--workers", "2"],
+        &["ultra", "order", "c.toml", "p.s"],
+        &["ultra", "explain", "c.toml", "p.s"],
+        &["ultra", "list", "p.s"],
+        &[
+            "ultra",
+            "sweep",
+            "jobs.toml",
+            "--workers",
+            "2",
+            "--at-once",
+            "1",
+        ],
+    ];
+    for words in rows {
+        let ended = call(&rt, words, &[]);
+        assert!(rt; ended.err.text()?.contains("Usage: ultra"), "{words:?}");
+        assert!(rt; ended.out.bytes.is_empty(), "{words:?}");
+        assert_eq!(rt; ended.status, 2, "{words:?}");
+    }
+    Ok(())
+}
+
+#[test]
+fn help_goes_to_standard_output(rt: HostRuntime) -> Result<(), Fail> {
+    let ended = call(&rt, &["ultra", "--help"], &[]);
+    assert!(rt; ended.out.text()?.contains("Usage: ultra"));
+    assert!(rt; ended.err.bytes.is_empty());
+    assert_eq!(rt; ended.status, 0);
+    Ok(())
+}
+
+/// The text of the words' command where standard output takes at most 4 bytes a write, and fails at its third write.
+fn short_failing_sink<R: AllocGlobal + Abort>(rt: &R, words: &[&str]) -> Result<String, Fail> {
+    let files: [(&str, &[u8]); 2] = [("c.toml", b"stages = 1"), ("p.s", ADDS_ONE.as_bytes())];
+    let mut shelf = Shelf {
+        files: &files,
+        account: Account::Opened,
+    };
+    let mut out = Tray {
+        bytes: Vec::new(rt.alloc()),
+        failures: Account::Opened,
+        most: 4,
+        sound_writes: 2,
+    };
+    let mut err = Tray::new(rt.alloc());
+    let status = main_with(rt, words, &mut shelf, &mut out, &mut err);
+    assert_eq!(rt; err.text()?, "ultra: write failed\n");
+    assert_eq!(rt; status, 5);
+    Ok(String::from_str(rt.alloc(), out.text()?)?)
+}
+
+#[test]
+fn a_beginning_is_written_to_a_short_failing_sink(rt: HostRuntime) -> Result<(), Fail> {
+    let trace = short_failing_sink(&rt, &RUN)?;
+    assert_eq!(rt; trace.as_str(), "ultra tr");
+    let help = short_failing_sink(&rt, &["ultra", "--help"])?;
+    assert_eq!(rt; help.len(), 8);
+    Ok(())
+}
+
+#[test]
+fn a_file_that_is_not_there_is_not_read(rt: HostRuntime) {
+    let mut files = FileSource::new(&rt);
+    let fault = files.read(rt.alloc(), "no-such-file").err();
+    assert_eq!(rt; fault, Some(SourceFault::NotRead));
+}

@@ -1,0 +1,264 @@
+//! The traces of the examples.
+
+pub const COMBINED_PAIR: &str = "\
+ultra trace 2
+cycle 0
+cycle 1
+cycle 2
+pni 0: 0@0 faa 1
+pni 1: 1@0 faa 1
+cycle 3
+req 0 0: 1@0 faa 2 *
+wait 0 0: 1@0 same 0 plus 1
+cycle 4
+wait 0 0: 1@0 same 0 plus 1
+inp 0: 1@0 faa 2
+cycle 5
+act 0 1@0 faa 2 = 0 now 2
+wait 0 0: 1@0 same 0 plus 1
+out 0: 1@0 = 0
+cycle 6
+rep 0 0: 0@0 = 1
+rep 0 1: 1@0 = 0
+cycle 7
+got 0@0 = 1
+got 1@0 = 0
+end quiet
+cell 0 2
+pe 0 halted 3 r2=1 r3=1
+pe 1 halted 3 r2=1
+";
+
+pub const UNCOMBINED_PAIR: &str = "\
+ultra trace 2
+cycle 0
+cycle 1
+cycle 2
+pni 0: 0@0 faa 1
+pni 1: 1@0 faa 1
+cycle 3
+req 0 0: 1@0 faa 1, 0@0 faa 1
+cycle 4
+req 0 0: 0@0 faa 1
+inp 0: 1@0 faa 1
+cycle 5
+act 0 1@0 faa 1 = 0 now 1
+inp 0: 0@0 faa 1
+out 0: 1@0 = 0
+cycle 6
+act 0 0@0 faa 1 = 1 now 2
+out 0: 0@0 = 1
+rep 0 1: 1@0 = 0
+cycle 7
+got 1@0 = 0
+rep 0 0: 0@0 = 1
+cycle 8
+got 0@0 = 1
+end quiet
+cell 0 2
+pe 0 halted 3 r2=1 r3=1
+pe 1 halted 3 r2=1
+";
+
+pub const WRAPAROUND: &str = "\
+ultra trace 2
+cycle 0
+cycle 1
+cycle 2
+pni 0: 0@0 faa 4294967295
+pni 1: 1@0 faa 4294967295
+cycle 3
+req 0 0: 1@0 faa 4294967294 *
+wait 0 0: 1@0 same 0 plus 4294967295
+cycle 4
+wait 0 0: 1@0 same 0 plus 4294967295
+inp 0: 1@0 faa 4294967294
+cycle 5
+act 0 1@0 faa 4294967294 = 1 now 4294967295
+wait 0 0: 1@0 same 0 plus 4294967295
+out 0: 1@0 = 1
+cycle 6
+rep 0 0: 0@0 = 0
+rep 0 1: 1@0 = 1
+cycle 7
+got 0@0 = 0
+got 1@0 = 1
+end quiet
+cell 0 4294967295
+pe 0 halted 3 r2=4294967295
+pe 1 halted 3 r2=4294967295 r3=1
+";
+
+pub const WAIT_BUFFER_FULL: &str = "\
+ultra trace 2
+cycle 0
+cycle 1
+cycle 2
+pni 0: 0@0 faa 1
+pni 1: 1@0 faa 1
+cycle 3
+pni 0: 0@2 faa 1
+pni 1: 1@2 faa 1
+req 0 0: 1@0 faa 2 *
+wait 0 0: 1@0 same 0 plus 1
+cycle 4
+req 0 0: 0@2 faa 1, 1@2 faa 1
+wait 0 0: 1@0 same 0 plus 1
+inp 0: 1@0 faa 2
+cycle 5
+act 0 1@0 faa 2 = 0 now 2
+req 0 0: 1@2 faa 1
+wait 0 0: 1@0 same 0 plus 1
+inp 0: 0@2 faa 1
+out 0: 1@0 = 0
+cycle 6
+act 0 0@2 faa 1 = 0 now 1
+inp 0: 1@2 faa 1
+out 0: 0@2 = 0
+rep 0 0: 0@0 = 1
+rep 0 1: 1@0 = 0
+cycle 7
+got 0@0 = 1
+got 1@0 = 0
+act 0 1@2 faa 1 = 1 now 2
+out 0: 1@2 = 1
+rep 0 0: 0@2 = 0
+cycle 8
+got 0@2 = 0
+rep 0 1: 1@2 = 1
+cycle 9
+got 1@2 = 1
+end quiet
+cell 0 2
+cell 2 2
+pe 0 halted 4 r1=2 r2=1 r3=1
+pe 1 halted 4 r1=2 r2=1 r4=1
+";
+
+pub const NARROW_REPLY_QUEUES: &str = "\
+ultra trace 2
+cycle 0
+cycle 1
+cycle 2
+pni 0: 0@0 faa 1
+pni 1: 1@0 faa 1
+cycle 3
+pni 0: 0@1 faa 1
+pni 1: 1@1 faa 1
+req 0 0: 1@0 faa 2 *
+wait 0 0: 1@0 same 0 plus 1
+cycle 4
+req 0 1: 0@1 faa 2 *
+wait 0 0: 1@0 same 0 plus 1
+wait 0 1: 0@1 same 1 plus 1
+inp 0: 1@0 faa 2
+cycle 5
+act 0 1@0 faa 2 = 0 now 2
+wait 0 0: 1@0 same 0 plus 1
+wait 0 1: 0@1 same 1 plus 1
+inp 1: 0@1 faa 2
+out 0: 1@0 = 0
+cycle 6
+act 1 0@1 faa 2 = 0 now 2
+wait 0 1: 0@1 same 1 plus 1
+out 1: 0@1 = 0
+rep 0 0: 0@0 = 1
+rep 0 1: 1@0 = 0
+cycle 7
+got 0@0 = 1
+got 1@0 = 0
+wait 0 1: 0@1 same 1 plus 1
+out 1: 0@1 = 0
+cycle 8
+rep 0 0: 0@1 = 0
+rep 0 1: 1@1 = 1
+cycle 9
+got 0@1 = 0
+got 1@1 = 1
+end quiet
+cell 0 2
+cell 1 2
+pe 0 halted 4 r1=1 r2=1 r3=1
+pe 1 halted 4 r1=1 r2=1 r4=1
+";
+
+pub const HALT: &str = "\
+ultra trace 2
+cycle 0
+end quiet
+pe 0 halted 0
+pe 1 halted 0
+";
+
+pub const EMPTY: &str = "\
+ultra trace 2
+cycle 0
+fault 0 f2
+fault 1 f2
+end quiet
+pe 0 f2 0
+pe 1 f2 0
+";
+
+pub const ONE_OPEN: &str = "\
+ultra trace 2
+cycle 0
+cycle 1
+cycle 2
+pni 0: 0@0 faa 1
+pni 1: 1@0 faa 1
+cycle 3
+req 0 0: 1@0 faa 2 *
+wait 0 0: 1@0 same 0 plus 1
+cycle 4
+wait 0 0: 1@0 same 0 plus 1
+inp 0: 1@0 faa 2
+cycle 5
+act 0 1@0 faa 2 = 0 now 2
+wait 0 0: 1@0 same 0 plus 1
+out 0: 1@0 = 0
+cycle 6
+rep 0 0: 0@0 = 1
+rep 0 1: 1@0 = 0
+cycle 7
+got 0@0 = 1
+got 1@0 = 0
+pni 0: 0@1 faa 1
+pni 1: 1@1 faa 1
+cycle 8
+req 0 1: 0@1 faa 2 *
+wait 0 1: 0@1 same 1 plus 1
+cycle 9
+wait 0 1: 0@1 same 1 plus 1
+inp 1: 0@1 faa 2
+cycle 10
+act 1 0@1 faa 2 = 0 now 2
+wait 0 1: 0@1 same 1 plus 1
+out 1: 0@1 = 0
+cycle 11
+rep 0 0: 0@1 = 0
+rep 0 1: 1@1 = 1
+cycle 12
+got 0@1 = 0
+got 1@1 = 1
+end quiet
+cell 0 2
+cell 1 2
+pe 0 halted 4 r1=1 r2=1 r3=1
+pe 1 halted 4 r1=1 r2=1 r4=1
+";
+
+pub const CYCLE_LIMIT: &str = "\
+ultra trace 2
+cycle 0
+cycle 1
+cycle 2
+pni 0: 0@0 faa 1
+pni 1: 1@0 faa 1
+cycle 3
+req 0 0: 1@0 faa 2 *
+wait 0 0: 1@0 same 0 plus 1
+end limit
+pe 0 halted 3 r2=1
+pe 1 halted 3 r2=1
+";
