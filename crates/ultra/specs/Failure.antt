@@ -30,6 +30,15 @@ status_of (BadLine p l k) = 3
 status_of NoMemory = 4
 status_of NotWritten = 5
 
+-- how often the source of files failed, and how often standard output failed, in a command that failed so
+abbrev pub read_failures : Failure → ℕ
+read_failures (NotRead p) = 1
+read_failures _ = 0
+
+abbrev pub write_failures : Failure → ℕ
+write_failures NotWritten = 1
+write_failures _ = 0
+
 -- the beginning of the line of a refused file
 abbrev pub path_text : List ℕ → List ℕ
 path_text path = codes "ultra: " ++ path ++ codes ": "

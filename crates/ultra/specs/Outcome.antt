@@ -1,42 +1,108 @@
--- what a command does to standard output, and with which status it ends; this project's profile
-use Rattle.std.specs.Prelude.{◌≡◌, ℕ, List, ◌++◌, ◌⊎◌, None, false, ◌==◌, if◌then◌else◌, IsUtf8}
+-- what a command does with files and standard output, and with which status it ends; this project's profile
+use Rattle.std.specs.Prelude.{◌≡◌, ℕ, List, [], ◌∷◌, ◌++◌, ◌⊎◌, None, false, ◌==◌, if◌then◌else◌, IsUtf8, string_bytes, ⊤}
 use Rattle.ultra_msg.specs.Bytes.{IsBeginning}
 use Rattle.ultra_isa.specs.declared.Instr.{Instr}
 use Rattle.ultra_block.specs.Machine.{Settings}
 use Rattle.ultra_machine.specs.declared.config.RawSettings.{RawSettings}
 use Rattle.ultra_machine.specs.Accepted.{first_bad, settings_of}
+use Rattle.ultra.specs.declared.settings.SettingsFault.TheVariants as settings
+use Rattle.ultra.specs.SettingsText as settings_text
 use Rattle.ultra.specs.SettingsText.{Gives}
-use Rattle.ultra.specs.ProgramText.{lines_of, IsAssembled}
+use Rattle.ultra.specs.ProgramText.{lines_of, IsAssembled, IsFirstFault}
+use Rattle.ultra.specs.declared.command_line.Command.{Command}
+use Rattle.ultra.specs.declared.command_line.Command.TheVariants.{Run}
+use Rattle.ultra.specs.declared.command_line.Parsed.{Parsed}
+use Rattle.ultra.specs.declared.command_line.Parsed.TheVariants as parsed
+use Rattle.ultra.specs.declared.failure.Failure.{Failure}
+use Rattle.ultra.specs.declared.failure.Failure.TheVariants.{Usage, NotWords, NotRead, NotToml, BadField, UnknownKey, NotUtf8, BadLine, NoMemory, NotWritten}
+use Rattle.ultra.specs.Account.{File, file_of}
 use Rattle.ultra.specs.Trace.{trace}
 
 -- one of the program's statuses: done, a usage fault, refused input, no memory, a failed write
 abbrev pub IsStatus : ℕ → Type 0
 IsStatus s = (s ≡ 0) ⊎ (s ≡ 2) ⊎ (s ≡ 3) ⊎ (s ≡ 4) ⊎ (s ≡ 5)
 
--- nothing was done: the words are no command, or an input is refused
+-- nothing was written: the words are no command, or an input is refused
 abbrev pub IsRefusal : ℕ → Type 0
 IsRefusal s = (s ≡ 2) ⊎ (s ≡ 3)
 
--- a fault that is found before a byte is written: refused input, or no memory
-abbrev pub IsInputStatus : ℕ → Type 0
-IsInputStatus s = (s ≡ 3) ⊎ (s ≡ 4)
+-- how often standard output failed where the program ended with the status
+abbrev pub status_failures : ℕ → ℕ
+status_failures s = if s == 5 then 1 else 0
 
--- how often standard output failed in a command that ended with the status
-abbrev pub write_failures : ℕ → ℕ
-write_failures s = if s == 5 then 1 else 0
+-- what went in and out so far: the files that were read, and the bytes that standard output took
+pub record Traffic : Type 0 where
+  pub files : List File
+  pub written : List ℕ
 
--- some text gives these settings, and they are accepted
-abbrev pub AreAccepted : Settings → Type 0
-AreAccepted c = (text : List ℕ) × (r : RawSettings) × Gives text r false × (first_bad r ≡ None) × (c ≡ settings_of r)
+abbrev pub traffic : List File → List ℕ → Traffic
+traffic files written = record { files = files; written = written }
 
--- some text is assembled to this program
-abbrev pub IsFromText : List Instr → Type 0
-IsFromText p = (text : List ℕ) × IsUtf8 text × IsAssembled (lines_of text) p
+abbrev pub with_files : Traffic → List File → Traffic
+with_files t files = record t { files = t.files ++ files }
 
--- the trace of some accepted settings and some program was written
-abbrev pub WroteTrace : List ℕ → List ℕ → Type 0
-WroteTrace old new = (c : Settings) × (p : List Instr) × AreAccepted c × IsFromText p × (new ≡ old ++ trace c p)
+-- the text of a file gives these settings, and they are accepted
+abbrev pub IsAccepted : List ℕ → Settings → Type 0
+IsAccepted text c = (r : RawSettings) × Gives text r false × (first_bad r ≡ None) × (c ≡ settings_of r)
 
--- a beginning of such a trace was written, or nothing
-abbrev pub WroteBeginning : List ℕ → List ℕ → Type 0
-WroteBeginning old new = (new ≡ old) ⊎ ((c : Settings) × (p : List Instr) × AreAccepted c × IsFromText p × IsBeginning new (old ++ trace c p))
+-- the text of a file is assembled to this program
+abbrev pub IsProgramOf : List ℕ → List Instr → Type 0
+IsProgramOf text p = IsUtf8 text × IsAssembled (lines_of text) p
+
+-- why a file isn't had
+abbrev pub IsUnread : List ℕ → Failure → Type 0
+IsUnread path (NotRead p) = p.now ≡ path
+IsUnread path NoMemory = ⊤
+IsUnread path _ = ⊥
+
+-- why the text of a file gives no settings that are accepted
+abbrev pub ExplainsSettings : List ℕ → List ℕ → Failure → Type 0
+ExplainsSettings path text (NotToml p) = (p.now ≡ path) × settings_text.ExplainsFault text settings.NotToml
+ExplainsSettings path text (BadField p f) = (p.now ≡ path) × settings_text.ExplainsFault text (settings.BadField f)
+ExplainsSettings path text (UnknownKey p) = (p.now ≡ path) × settings_text.ExplainsFault text settings.UnknownKey
+ExplainsSettings path text NoMemory = ⊤
+ExplainsSettings path text _ = ⊥
+
+-- why the text of a file is no program
+abbrev pub ExplainsProgram : List ℕ → List ℕ → Failure → Type 0
+ExplainsProgram path text (NotUtf8 p) = (p.now ≡ path) × ¬ IsUtf8 text
+ExplainsProgram path text (BadLine p l k) = (p.now ≡ path) × IsFirstFault (lines_of text) (record { line = l; kind = k })
+ExplainsProgram path text NoMemory = ⊤
+ExplainsProgram path text _ = ⊥
+
+-- why a run ended early
+abbrev pub IsStopped : Failure → Type 0
+IsStopped f = (f ≡ NoMemory) ⊎ (f ≡ NotWritten)
+
+-- two files were read, and the trace of their settings and program was written
+pub record WroteTrace (conf prog : List ℕ) (old new : Traffic) : Type 0 where
+  pub settings_bytes : List ℕ
+  pub program_bytes : List ℕ
+  pub settings : Settings
+  pub program : List Instr
+  pub accepted : IsAccepted settings_bytes settings
+  pub assembled : IsProgramOf program_bytes program
+  pub files : new.files ≡ old.files ++ file_of conf settings_bytes ∷ file_of prog program_bytes ∷ []
+  pub written : new.written ≡ old.written ++ trace settings program
+
+-- how a run fails: each file is accepted or refused before the next is read, and both before a byte is written
+pub data RunFails (conf prog : List ℕ) (old new : Traffic) (f : Failure) : Type 0 where
+  unread_settings : IsUnread conf f → new ≡ old → RunFails conf prog old new f
+  refused_settings : (text : List ℕ) → ExplainsSettings conf text f → new ≡ with_files old (file_of conf text ∷ []) → RunFails conf prog old new f
+  unread_program : (text : List ℕ) (c : Settings) → IsAccepted text c → IsUnread prog f → new ≡ with_files old (file_of conf text ∷ []) → RunFails conf prog old new f
+  refused_program : (text program_text : List ℕ) (c : Settings) → IsAccepted text c → ExplainsProgram prog program_text f → new ≡ with_files old (file_of conf text ∷ file_of prog program_text ∷ []) → RunFails conf prog old new f
+  stopped : (text program_text : List ℕ) (c : Settings) (p : List Instr) → IsAccepted text c → IsProgramOf program_text p → IsStopped f → new.files ≡ old.files ++ file_of conf text ∷ file_of prog program_text ∷ [] → IsBeginning new.written (old.written ++ trace c p) → RunFails conf prog old new f
+
+-- what was asked for was done
+abbrev pub Obeyed : Parsed → Traffic → Traffic → Type 0
+Obeyed (parsed.Command (Run conf prog)) old new = WroteTrace conf.now prog.now old new
+Obeyed (parsed.Help text) old new = new ≡ record old { written = old.written ++ string_bytes text }
+Obeyed (parsed.Usage text) old new = ⊥
+Obeyed parsed.NoMemory old new = ⊥
+
+-- how it wasn't done
+abbrev pub NotObeyed : Parsed → Traffic → Traffic → Failure → Type 0
+NotObeyed (parsed.Command (Run conf prog)) old new f = RunFails conf.now prog.now old new f
+NotObeyed (parsed.Help text) old new f = (f ≡ NotWritten) × (new.files ≡ old.files) × IsBeginning new.written (old.written ++ string_bytes text)
+NotObeyed (parsed.Usage text) old new f = (f ≡ Usage text) × (new ≡ old)
+NotObeyed parsed.NoMemory old new f = (f ≡ NoMemory) × (new ≡ old)

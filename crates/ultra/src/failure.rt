@@ -1,6 +1,6 @@
 //! How a command ends that fails.
 
-ghost use Rattle.std.specs.Prelude.{◌≡◌, ◌++◌, codes, OnOk, OnErr};
+ghost use Rattle.std.specs.Prelude.{◌≡◌, ◌+◌, ◌++◌, codes, OnOk, OnErr};
 ghost use Rattle.ultra_msg.specs.Bytes.{IsBeginning};
 ghost use Rattle.ultra.specs.Failure.{kind_text, path_text, status_of, text_of};
 ghost use Rattle.ultra.specs.Page.{Writes};
@@ -60,7 +60,9 @@ impl Failure<'_> {
     /// Writes what goes to standard error: the text of a usage fault, else one line. It takes no memory.
     pub fn write_to<E: Sink>(&self, err: &mut E) -> Result<(), SinkFault>
         ensures ok { OnOk result (E.taken err.new ≡ E.taken err.old ++ text_of self.now) }
+        ensures still { OnOk result (E.failures err.new ≡ E.failures err.old) }
         ensures err { OnErr result (IsBeginning (E.taken err.new) (E.taken err.old ++ text_of self.now)) }
+        ensures counted { OnErr result (E.failures err.new ≡ E.failures err.old + 1) }
     {
         let mut page = Page::new(err);
         page.put_failure(self);

@@ -1,9 +1,12 @@
 //! The program `ultra`: it runs programs on a simulated machine.
 #![tactic(auto)]
 
-ghost use Rattle.std.specs.Prelude.{◌≡◌, ◌+◌, IfErr, OnOk};
-ghost use Rattle.ultra.specs.Failure.{status_of};
-ghost use Rattle.ultra.specs.Outcome.{write_failures, IsRefusal, IsStatus};
+ghost use Rattle.std.specs.Prelude.{◌≡◌, ◌≢◌, ◌+◌, ◌++◌, IfErr, OnOk};
+ghost use Rattle.ultra_msg.specs.Bytes.{IsBeginning};
+ghost use Rattle.ultra.specs.declared.command_line.Parsed.{Parsed};
+ghost use Rattle.ultra.specs.declared.failure.Failure.{Failure};
+ghost use Rattle.ultra.specs.Failure.{status_of, text_of, read_failures, write_failures};
+ghost use Rattle.ultra.specs.Outcome.{status_failures, traffic, IsRefusal, IsStatus, Obeyed, NotObeyed};
 
 mod account;
 mod assembler;
@@ -25,11 +28,11 @@ use std::io::{ErrorKind, Stderr};
 use std::process::ExitCode;
 use std::{env, io};
 use streams::Stream;
-use ultra_msg::{Sink, write_all};
+use ultra_msg::{Sink, SinkFault, write_all};
 
 /// Does what the words ask for, and answers the status that the program ends with: 0 done, 2 a usage fault, 3 refused input, 4 no memory, 5 a failed write.
 ///
-/// The first word is the program's name. Results and help go to `out`; what is wrong goes to `err`.
+/// The first word is the program's name. Results and help go to `out`; what is wrong goes to `err`. Which words ask for what, and the texts of help and usage faults, are `clap`'s, and shown by tests.
 pub fn main_with<'w, R: AllocGlobal, F: Source, O: Sink, E: Sink>(
     rt: &R,
     words: &'w [&'w str],
@@ -39,36 +42,60 @@ pub fn main_with<'w, R: AllocGlobal, F: Source, O: Sink, E: Sink>(
 ) -> u8
     ensures status { IsStatus result }
     ensures nothing { IsRefusal result → O.taken out.new ≡ O.taken out.old }
-    ensures counted { O.failures out.new ≡ O.failures out.old + write_failures result }
+    ensures counted { O.failures out.new ≡ O.failures out.old + status_failures result }
+    ensures done { result ≡ 0 → (p : Parsed) × Obeyed p
+        (traffic (F.files source.old) (O.taken out.old)) (traffic (F.files source.new) (O.taken out.new)) }
+    ensures silent { result ≡ 0 → E.taken err.new ≡ E.taken err.old }
+    ensures failed { result ≢ 0 → (p : Parsed) × (f : Failure) × (status_of f ≡ result) × NotObeyed p
+        (traffic (F.files source.old) (O.taken out.old)) (traffic (F.files source.new) (O.taken out.new)) f
+        × IsBeginning (E.taken err.new) (E.taken err.old ++ text_of f) }
 {
-    match obey(rt.alloc(), words, source, out) {
+    match obey(
+        rt.alloc(),
+        command_line::parse(rt.alloc(), words),
+        source,
+        out,
+    ) {
         Ok(()) => 0,
         Err(failure) => give_up(&failure, err),
     }
 }
 
-/// Does what the words ask for.
+/// Does what is asked for.
 fn obey<'w, F: Source, O: Sink>(
     alloc: Global,
-    words: &'w [&'w str],
+    parsed: Parsed<'w>,
     source: &mut F,
     out: &mut O,
 ) -> Result<(), Failure<'w>>
-    ensures still { OnOk result (O.failures out.new ≡ O.failures out.old) }
-    ensures nothing { IfErr result (λ f. IsRefusal (status_of f) → O.taken out.new ≡ O.taken out.old) }
-    ensures counted { IfErr result (λ f. O.failures out.new ≡ O.failures out.old + write_failures (status_of f)) }
+    ensures ok { OnOk result (Obeyed parsed.entry
+        (traffic (F.files source.old) (O.taken out.old)) (traffic (F.files source.new) (O.taken out.new))) }
+    ensures err { IfErr result (NotObeyed parsed.entry
+        (traffic (F.files source.old) (O.taken out.old)) (traffic (F.files source.new) (O.taken out.new))) }
+    ensures write_still { OnOk result (O.failures out.new ≡ O.failures out.old) }
+    ensures write_counted { IfErr result (λ f. O.failures out.new ≡ O.failures out.old + write_failures f) }
 {
-    match command_line::parse(alloc, words) {
+    match parsed {
         Parsed::Command(Command::Run { settings, program }) => {
             run::run(alloc, settings, program, source, out)
         }
         Parsed::Help(text) => match write_all(out, text.as_bytes()) {
             Ok(()) => Ok(()),
-            Err(_) => Err(Failure::NotWritten),
+            Err(SinkFault) => Err(Failure::NotWritten),
         },
         Parsed::Usage(text) => Err(Failure::Usage(text)),
         Parsed::NoMemory => Err(Failure::NoMemory),
     }
+}
+
+/// Tells a failure, and answers its status. Where `err` fails too, the status alone tells it.
+fn give_up<E: Sink>(failure: &Failure, err: &mut E) -> u8
+    ensures status { result ≡ status_of failure.now }
+    ensures told { IsBeginning (E.taken err.new) (E.taken err.old ++ text_of failure.now) }
+    ensures whole { E.failures err.new ≡ E.failures err.old → E.taken err.new ≡ E.taken err.old ++ text_of failure.now }
+{
+    let _ = failure.write_to(err);
+    failure.status()
 }
 
 /// Calls `main_with` with the program's own words, files and streams. An error says that the words couldn't be had.
@@ -84,19 +111,15 @@ fn main(rt: HostRuntime) -> ExitCode {
     let mut err = Stream::new(rt.stderr());
     let status = match start(&rt, &mut err) {
         Ok(status) => status,
-        Err(error) if error.kind() == ErrorKind::OutOfMemory => give_up(
-            &Failure::NoMemory,
-            &mut err,
-        ),
-        Err(_) => give_up(&Failure::NotWords, &mut err),
+        Err(error) => give_up(&no_words(&error), &mut err),
     };
     ExitCode::from(status)
 }
 
-/// Tells a failure, and answers its status. Where `err` fails too, the status alone tells it.
-fn give_up<E: Sink>(failure: &Failure, err: &mut E) -> u8
-    ensures { result ≡ status_of failure.now }
-{
-    let _ = failure.write_to(err);
-    failure.status()
+/// Why the words couldn't be had.
+fn no_words(error: &io::Error) -> Failure<'static> {
+    match error.kind() {
+        ErrorKind::OutOfMemory => Failure::NoMemory,
+        _ => Failure::NotWords,
+    }
 }

@@ -1,8 +1,9 @@
 //! The command `run`: it writes the trace of a program.
 
-ghost use Rattle.std.specs.Prelude.{◌≡◌, ◌+◌, IfOk, IfErr, OnOk, OnErr};
-ghost use Rattle.ultra.specs.Failure.{status_of};
-ghost use Rattle.ultra.specs.Outcome.{write_failures, IsInputStatus, IsRefusal, AreAccepted, IsFromText, WroteTrace, WroteBeginning};
+ghost use Rattle.std.specs.Prelude.{◌≡◌, ◌+◌, [], ◌∷◌, ◌++◌, IfOk, IfErr, OnOk, OnErr};
+ghost use Rattle.ultra.specs.Account.{file_of};
+ghost use Rattle.ultra.specs.Failure.{read_failures, write_failures};
+ghost use Rattle.ultra.specs.Outcome.{traffic, IsAccepted, IsProgramOf, IsUnread, ExplainsSettings, ExplainsProgram, WroteTrace, RunFails};
 
 use crate::assembler::{AsmFault, AsmFaultKind, assemble};
 use crate::failure::Failure;
@@ -15,7 +16,7 @@ use ultra_isa::Program;
 use ultra_machine::Config;
 use ultra_msg::Sink;
 
-/// Reads settings and a program, runs the program and writes its trace to `out`. Both files are accepted before a byte is written.
+/// Reads settings and a program, runs the program and writes its trace to `out`. Each file is accepted before the next is read, and both before a byte is written.
 pub fn run<'p, F: Source, O: Sink>(
     alloc: Global,
     settings_path: &'p str,
@@ -23,14 +24,19 @@ pub fn run<'p, F: Source, O: Sink>(
     source: &mut F,
     out: &mut O,
 ) -> Result<(), Failure<'p>>
-    ensures ok { OnOk result (WroteTrace (O.taken out.old) (O.taken out.new)) }
-    ensures still { OnOk result (O.failures out.new ≡ O.failures out.old) }
-    ensures refused { IfErr result (λ f. IsRefusal (status_of f) → O.taken out.new ≡ O.taken out.old) }
-    ensures stopped { OnErr result (WroteBeginning (O.taken out.old) (O.taken out.new)) }
-    ensures counted { IfErr result (λ f. O.failures out.new ≡ O.failures out.old + write_failures (status_of f)) }
+    ensures ok { OnOk result (WroteTrace settings_path.now program_path.now
+        (traffic (F.files source.old) (O.taken out.old)) (traffic (F.files source.new) (O.taken out.new))) }
+    ensures err { IfErr result (RunFails settings_path.now program_path.now
+        (traffic (F.files source.old) (O.taken out.old)) (traffic (F.files source.new) (O.taken out.new))) }
+    ensures read_still { OnOk result (F.failures source.new ≡ F.failures source.old) }
+    ensures read_counted { IfErr result (λ f. F.failures source.new ≡ F.failures source.old + read_failures f) }
+    ensures write_still { OnOk result (O.failures out.new ≡ O.failures out.old) }
+    ensures write_counted { IfErr result (λ f. O.failures out.new ≡ O.failures out.old + write_failures f) }
 {
-    let config = read_settings(alloc, settings_path, source)?;
-    let program = read_program(alloc, program_path, source)?;
+    let settings = read_file(alloc, settings_path, source)?;
+    let config = accept_settings(alloc, settings_path, settings.as_slice())?;
+    let text = read_file(alloc, program_path, source)?;
+    let program = accept_program(alloc, program_path, text.as_slice())?;
     match run_alone(alloc, &config, &program, out) {
         Ok(()) => Ok(()),
         Err(RunFault::Write) => Err(Failure::NotWritten),
@@ -38,17 +44,31 @@ pub fn run<'p, F: Source, O: Sink>(
     }
 }
 
-/// Reads and accepts the settings at a path.
-fn read_settings<'p, F: Source>(
+/// The bytes of the file at a path.
+fn read_file<'p, F: Source>(
     alloc: Global,
     path: &'p str,
     source: &mut F,
-) -> Result<Config, Failure<'p>>
-    ensures ok { IfOk result AreAccepted }
-    ensures err { IfErr result (λ f. IsInputStatus (status_of f)) }
+) -> Result<Vec<u8>, Failure<'p>>
+    ensures ok { IfOk result (λ v. F.files source.new ≡ F.files source.old ++ file_of path.now v.items ∷ []) }
+    ensures still { OnOk result (F.failures source.new ≡ F.failures source.old) }
+    ensures err { IfErr result (IsUnread path.now) }
+    ensures none { OnErr result (F.files source.new ≡ F.files source.old) }
+    ensures counted { IfErr result (λ f. F.failures source.new ≡ F.failures source.old + read_failures f) }
 {
-    let bytes = read_file(alloc, path, source)?;
-    match settings_from(alloc, bytes.as_slice()) {
+    match source.read(alloc, path) {
+        Ok(bytes) => Ok(bytes),
+        Err(SourceFault::NotRead) => Err(Failure::NotRead(path)),
+        Err(SourceFault::NoMemory) => Err(Failure::NoMemory),
+    }
+}
+
+/// The settings that the bytes of a file give, once they are accepted.
+fn accept_settings<'p>(alloc: Global, path: &'p str, bytes: &[u8]) -> Result<Config, Failure<'p>>
+    ensures ok { IfOk result (IsAccepted bytes.now) }
+    ensures err { IfErr result (ExplainsSettings path.now bytes.now) }
+{
+    match settings_from(alloc, bytes) {
         Ok(config) => Ok(config),
         Err(SettingsFault::NoMemory) => Err(Failure::NoMemory),
         Err(SettingsFault::NotToml) => Err(Failure::NotToml(path)),
@@ -57,42 +77,17 @@ fn read_settings<'p, F: Source>(
     }
 }
 
-/// Reads and assembles the program at a path.
-fn read_program<'p, F: Source>(
-    alloc: Global,
-    path: &'p str,
-    source: &mut F,
-) -> Result<Program, Failure<'p>>
-    ensures ok { IfOk result IsFromText }
-    ensures err { IfErr result (λ f. IsInputStatus (status_of f)) }
+/// The program that the bytes of a file are assembled to.
+fn accept_program<'p>(alloc: Global, path: &'p str, bytes: &[u8]) -> Result<Program, Failure<'p>>
+    ensures ok { IfOk result (IsProgramOf bytes.now) }
+    ensures err { IfErr result (ExplainsProgram path.now bytes.now) }
 {
-    let bytes = read_file(alloc, path, source)?;
-    let Ok(text) = str::from_utf8(bytes.as_slice()) else {
+    let Ok(text) = str::from_utf8(bytes) else {
         return Err(Failure::NotUtf8(path));
     };
     match assemble(alloc, text) {
         Ok(program) => Ok(program),
-        Err(
-            AsmFault {
-                kind: AsmFaultKind::NoMemory,
-                ..
-            },
-        ) => Err(Failure::NoMemory),
+        Err(fault) if fault.kind == AsmFaultKind::NoMemory => Err(Failure::NoMemory),
         Err(AsmFault { line, kind }) => Err(Failure::BadLine { path, line, kind }),
-    }
-}
-
-/// Reads the bytes at a path.
-fn read_file<'p, F: Source>(
-    alloc: Global,
-    path: &'p str,
-    source: &mut F,
-) -> Result<Vec<u8>, Failure<'p>>
-    ensures { IfErr result (λ f. IsInputStatus (status_of f)) }
-{
-    match source.read(alloc, path) {
-        Ok(bytes) => Ok(bytes),
-        Err(SourceFault::NotRead) => Err(Failure::NotRead(path)),
-        Err(SourceFault::NoMemory) => Err(Failure::NoMemory),
     }
 }

@@ -1,7 +1,7 @@
 //! Where the program's files come from.
 
-ghost use Rattle.std.specs.Prelude.{◌≡◌, ℕ, ◌+◌, OnOk, IfErr};
-ghost use Rattle.ultra.specs.Account.{failures_in};
+ghost use Rattle.std.specs.Prelude.{◌≡◌, ℕ, ◌+◌, List, [], ◌∷◌, ◌++◌, IfOk, OnOk, IfErr, OnErr};
+ghost use Rattle.ultra.specs.Account.{File, file_of, SourceTold, source_told};
 ghost use Rattle.ultra.specs.Source.{failures_of};
 
 use crate::account::Account;
@@ -22,13 +22,18 @@ pub enum SourceFault {
 
 /// A place that files are read from: a file system, or files in memory.
 pub trait Source {
+    /// The files that it has read, in their order.
+    ghost files: { Self → List File };
+
     /// How often it has failed.
     ghost failures: { Self → ℕ };
 
     /// All bytes of the file at a path. `NotRead` comes only where the source failed in this call.
     fn read(&mut self, alloc: Global, path: &str) -> Result<Vec<u8>, SourceFault>
-        ensures ok { OnOk result (failures self.new ≡ failures self.old) }
-        ensures err { IfErr result (λ f. failures self.new ≡ failures self.old + failures_of f) };
+        ensures ok { IfOk result (λ v. files self.new ≡ files self.old ++ file_of path.now v.items ∷ []) }
+        ensures still { OnOk result (failures self.new ≡ failures self.old) }
+        ensures err { OnErr result (files self.new ≡ files self.old) }
+        ensures counted { IfErr result (λ f. failures self.new ≡ failures self.old + failures_of f) };
 }
 
 /// The files of a file system of std.
@@ -39,15 +44,15 @@ pub struct FileSource<'r, R: Files> {
 }
 
 impl<'r, R: Files> Model for FileSource<'r, R> {
-    ghost Value = { ℕ };
+    ghost Value = { SourceTold };
 
-    ghost view = { λ s. failures_in s.account };
+    ghost view = { λ s. source_told s.account };
 }
 
 impl<'r, R: Files> FileSource<'r, R> {
-    /// The files that `files` reaches; nothing has failed yet.
+    /// The files that `files` reaches; nothing has been read yet.
     pub fn new(files: &'r R) -> FileSource<'r, R>
-        ensures { result ≡ 0 }
+        ensures { result ≡ record { files = []; failures = 0 } }
     {
         FileSource {
             files,
@@ -57,11 +62,16 @@ impl<'r, R: Files> FileSource<'r, R> {
 }
 
 impl<R: Files> Source for FileSource<'_, R> {
-    ghost failures = { λ n. n };
+    ghost files = { λ s. s.files };
+
+    ghost failures = { λ s. s.failures };
 
     fn read(&mut self, alloc: Global, path: &str) -> Result<Vec<u8>, SourceFault> {
         match read_whole(alloc, self.files, path) {
-            Ok(bytes) => Ok(bytes),
+            Ok(bytes) => {
+                self.account.note_read(path, &bytes);
+                Ok(bytes)
+            }
             Err(error) if error.kind() == ErrorKind::OutOfMemory => Err(SourceFault::NoMemory),
             Err(_) => {
                 self.account.note_failure();

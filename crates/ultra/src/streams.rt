@@ -1,7 +1,7 @@
 //! The program's output streams.
 
 ghost use Rattle.std.specs.Prelude.{◌≡◌, []};
-ghost use Rattle.ultra.specs.Account.{Told, told_by};
+ghost use Rattle.ultra.specs.Account.{SinkTold, sink_told};
 
 use crate::account::Account;
 use std::io::Write;
@@ -16,9 +16,9 @@ pub struct Stream<W> {
 }
 
 impl<W> Model for Stream<W> {
-    ghost Value = { Told };
+    ghost Value = { SinkTold };
 
-    ghost view = { λ s. told_by s.account };
+    ghost view = { λ s. sink_told s.account };
 }
 
 impl<W: Write> Stream<W> {

@@ -1,7 +1,7 @@
 //! The program over files in memory.
 
 ghost use Rattle.std.specs.Prelude.{◌≡◌, ◌<◌};
-ghost use Rattle.ultra.specs.Account.{failures_in};
+ghost use Rattle.ultra.specs.Account.{files_in, failures_in};
 
 mod traces;
 
@@ -21,15 +21,18 @@ struct Shelf<'f> {
 }
 
 impl Source for Shelf<'_> {
+    ghost files = { λ s. files_in s.account };
+
     ghost failures = { λ s. failures_in s.account };
 
     fn read(&mut self, alloc: Global, path: &str) -> Result<Vec<u8>, SourceFault> {
         for (name, bytes) in self.files {
             if *name == path {
-                return match Vec::from_slice(alloc, bytes) {
-                    Ok(copy) => Ok(copy),
-                    Err(_) => Err(SourceFault::NoMemory),
+                let Ok(copy) = Vec::from_slice(alloc, bytes) else {
+                    return Err(SourceFault::NoMemory);
                 };
+                self.account.note_read(path, &copy);
+                return Ok(copy);
             }
         }
         self.account.note_failure();
