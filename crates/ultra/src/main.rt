@@ -28,7 +28,7 @@ use std::io::{ErrorKind, Stderr};
 use std::process::ExitCode;
 use std::{env, io};
 use streams::Stream;
-use ultra_msg::{Sink, SinkFault, write_all};
+use ultra_msg::{Sink, write_all};
 
 /// Does what the words ask for, and answers the status that the program ends with: 0 done, 2 a usage fault, 3 refused input, 4 no memory, 5 a failed write.
 ///
@@ -81,7 +81,7 @@ fn obey<'w, F: Source, O: Sink>(
         }
         Parsed::Help(text) => match write_all(out, text.as_bytes()) {
             Ok(()) => Ok(()),
-            Err(SinkFault) => Err(Failure::NotWritten),
+            Err(_) => Err(Failure::NotWritten),
         },
         Parsed::Usage(text) => Err(Failure::Usage(text)),
         Parsed::NoMemory => Err(Failure::NoMemory),

@@ -26,18 +26,25 @@ impl Source for Shelf<'_> {
     ghost failures = { λ s. failures_in s.account };
 
     fn read(&mut self, alloc: Global, path: &str) -> Result<Vec<u8>, SourceFault> {
-        for (name, bytes) in self.files {
-            if *name == path {
-                let Ok(copy) = Vec::from_slice(alloc, bytes) else {
-                    return Err(SourceFault::NoMemory);
-                };
-                self.account.note_read(path, &copy);
-                return Ok(copy);
-            }
-        }
-        self.account.note_failure();
-        Err(SourceFault::NotRead)
+        let Some(bytes) = file_at(self.files, path) else {
+            self.account.note_failure();
+            return Err(SourceFault::NotRead);
+        };
+        let Ok(copy) = Vec::from_slice(alloc, bytes) else {
+            return Err(SourceFault::NoMemory);
+        };
+        self.account.note_read(path, &copy);
+        Ok(copy)
     }
+}
+
+fn file_at<'f>(files: &'f [(&'f str, &'f [u8])], path: &str) -> Option<&'f [u8]> {
+    for (name, bytes) in files {
+        if *name == path {
+            return Some(bytes);
+        }
+    }
+    None
 }
 
 /// A sink in memory. It takes so many bytes a write at most, and fails from one of its writes on.
