@@ -14,6 +14,18 @@ use thiserror::Error;
 use toml::{Table, Value};
 use ultra_machine::{Config, ConfigFault, Field, RawSettings};
 
+/// The keys that settings may have.
+const FIELDS: [Field; 8] = [
+    Field::Stages,
+    Field::RequestPlaces,
+    Field::ReplyPlaces,
+    Field::WaitPlaces,
+    Field::MostOpen,
+    Field::Cells,
+    Field::Cycles,
+    Field::Initial,
+];
+
 /// Why a text gives no settings.
 #[derive(Clone, Copy, PartialEq, Eq, Debug, Drop, Error)]
 pub enum SettingsFault {
@@ -166,17 +178,6 @@ fn is_key(text: &str) -> bool
 {
     FIELDS.iter().any(|field| field.name() == text)
 }
-
-const FIELDS: [Field; 8] = [
-    Field::Stages,
-    Field::RequestPlaces,
-    Field::ReplyPlaces,
-    Field::WaitPlaces,
-    Field::MostOpen,
-    Field::Cells,
-    Field::Cycles,
-    Field::Initial,
-];
 
 /// The settings that a text gives, once they are accepted.
 ///

@@ -176,6 +176,7 @@ fn traces_are_written(rt: HostRuntime) -> Result<(), Fail> {
 fn settings_are_refused(rt: HostRuntime) -> Result<(), Fail> {
     for (settings, line) in [
         ("stages = 0", "ultra: c.toml: bad stages\n"),
+        ("stages = 2", "ultra: c.toml: bad stages\n"),
         ("stages = 7", "ultra: c.toml: bad stages\n"),
         ("", "ultra: c.toml: bad stages\n"),
         (

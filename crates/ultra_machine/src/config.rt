@@ -1,6 +1,6 @@
 //! The settings of a machine, and which of them are accepted. The keys and their ranges are this project's profile.
 
-ghost use Rattle.std.specs.Prelude.{◌≡◌, ◌≢◌, ℕ, ◌*◌, ◌^◌, ◌<◌, ◌≤◌, true, false, All, AllPairs, IfOk, OnOk, IfErr, OnErr, IfSome, OnSome, IfNone};
+ghost use Rattle.std.specs.Prelude.{◌≡◌, ◌≢◌, ℕ, ◌*◌, ◌^◌, ◌<◌, ◌≤◌, true, false, Some, All, AllPairs, IfOk, OnOk, IfErr, OnErr, IfSome, OnSome, IfNone};
 ghost use Rattle.ultra_machine.specs.Accepted.{name_of, natural, number_of, is_below, is_within, is_cell, cell_of, are_initial, cells_of, first_bad, settings_of, ExplainsRefusal, ExplainsInitial};
 ghost use Rattle.ultra_machine.specs.Valid.{IsValid};
 
@@ -60,6 +60,8 @@ impl Field {
 }
 
 impl fmt::Display for Field {
+    ghost output = { λ field. Some (name_of field) };
+
     fn fmt<W: fmt::Write>(&self, f: &mut fmt::Formatter<W>) -> fmt::Result {
         f.write_str(self.name())
     }
