@@ -1,10 +1,1 @@
-pub mod Writing
-pub mod Count
-pub mod Listed
-pub mod Numbered
-pub mod WorkedTraces
-pub mod Numerals
-pub mod Comments
-pub mod Operands
 pub mod Tables
-pub mod Assembly

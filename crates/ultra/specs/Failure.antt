@@ -1,7 +1,7 @@
 -- how a command that failed ends: its status, and its line; this project's profile
 use Rattle.std.specs.Prelude.{ℕ, List, ◌++◌, codes, decimal, string_bytes}
-use Rattle.ultra.specs.declared.assembler.AsmFaultKind.{AsmFaultKind}
-use Rattle.ultra.specs.declared.assembler.AsmFaultKind.TheVariants as kind
+use Rattle.ultra_asm.specs.declared.AsmFaultKind.{AsmFaultKind}
+use Rattle.ultra_asm.specs.declared.AsmFaultKind.TheVariants as kind
 use Rattle.ultra_machine.specs.Accepted.{name_of}
 use Rattle.ultra.specs.declared.failure.Failure.{Failure}
 use Rattle.ultra.specs.declared.failure.Failure.TheVariants.{Usage, NotWords, NotRead, NotToml, BadField, UnknownKey, NotUtf8, BadLine, NoMemory, NotWritten}

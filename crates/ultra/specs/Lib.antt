@@ -2,10 +2,4 @@ pub mod Account
 pub mod Source
 pub mod Failure
 pub mod Outcome
-pub mod Text
-pub mod Trace
-pub mod Page
-pub mod Run
-pub mod ProgramText
 pub mod SettingsText
-pub mod AsmFault

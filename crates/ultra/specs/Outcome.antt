@@ -8,15 +8,17 @@ use Rattle.ultra_machine.specs.Accepted.{first_bad, settings_of}
 use Rattle.ultra.specs.declared.settings.SettingsFault.TheVariants as settings
 use Rattle.ultra.specs.SettingsText as settings_text
 use Rattle.ultra.specs.SettingsText.{Gives}
-use Rattle.ultra.specs.ProgramText.{lines_of, IsAssembled, IsFirstFault}
+use Rattle.ultra_asm.specs.Words.{text_words}
+use Rattle.ultra_asm.specs.ProgramText.{IsProgramText, IsFirstFault}
+use Rattle.ultra_asm.specs.Listing.{listing_text}
 use Rattle.ultra.specs.declared.command_line.Command.{Command}
-use Rattle.ultra.specs.declared.command_line.Command.TheVariants.{Run}
+use Rattle.ultra.specs.declared.command_line.Command.TheVariants.{Run, List as ListOf}
 use Rattle.ultra.specs.declared.command_line.Parsed.{Parsed}
 use Rattle.ultra.specs.declared.command_line.Parsed.TheVariants as parsed
 use Rattle.ultra.specs.declared.failure.Failure.{Failure}
 use Rattle.ultra.specs.declared.failure.Failure.TheVariants.{Usage, NotWords, NotRead, NotToml, BadField, UnknownKey, NotUtf8, BadLine, NoMemory, NotWritten}
 use Rattle.ultra.specs.Account.{File, file_of}
-use Rattle.ultra.specs.Trace.{trace}
+use Rattle.ultra_trace.specs.Trace.{trace}
 
 -- one of the program's statuses: done, a usage fault, refused input, no memory, a failed write
 abbrev pub IsStatus : ℕ → Type 0
@@ -45,9 +47,9 @@ with_files t files = record t { files = t.files ++ files }
 abbrev pub IsAccepted : List ℕ → Settings → Type 0
 IsAccepted text c = (r : RawSettings) × Gives text r false × (first_bad r ≡ None) × (c ≡ settings_of r)
 
--- the text of a file is assembled to this program
+-- the text of a file is written for this program
 abbrev pub IsProgramOf : List ℕ → List Instr → Type 0
-IsProgramOf text p = IsUtf8 text × IsAssembled (lines_of text) p
+IsProgramOf text p = IsUtf8 text × IsProgramText text p
 
 -- why a file isn't had
 abbrev pub IsUnread : List ℕ → Failure → Type 0
@@ -66,7 +68,7 @@ ExplainsSettings path text _ = ⊥
 -- why the text of a file is no program
 abbrev pub ExplainsProgram : List ℕ → List ℕ → Failure → Type 0
 ExplainsProgram path text (NotUtf8 p) = (p.now ≡ path) × ¬ IsUtf8 text
-ExplainsProgram path text (BadLine p l k) = (p.now ≡ path) × IsFirstFault (lines_of text) (record { line = l; kind = k })
+ExplainsProgram path text (BadLine p l k) = (p.now ≡ path) × IsFirstFault (text_words text) (record { line = l; kind = k })
 ExplainsProgram path text NoMemory = ⊤
 ExplainsProgram path text _ = ⊥
 
@@ -93,9 +95,24 @@ pub data RunFails (conf prog : List ℕ) (old new : Traffic) (f : Failure) : Typ
   refused_program : (text program_text : List ℕ) (c : Settings) → IsAccepted text c → ExplainsProgram prog program_text f → new ≡ with_files old (file_of conf text ∷ file_of prog program_text ∷ []) → RunFails conf prog old new f
   stopped : (text program_text : List ℕ) (c : Settings) (p : List Instr) → IsAccepted text c → IsProgramOf program_text p → IsStopped f → new.files ≡ old.files ++ file_of conf text ∷ file_of prog program_text ∷ [] → IsBeginning new.written (old.written ++ trace c p) → RunFails conf prog old new f
 
+-- a file was read, and the canonical text of its program was written
+pub record WroteListing (prog : List ℕ) (old new : Traffic) : Type 0 where
+  pub bytes : List ℕ
+  pub program : List Instr
+  pub assembled : IsProgramOf bytes program
+  pub files : new.files ≡ old.files ++ file_of prog bytes ∷ []
+  pub written : new.written ≡ old.written ++ listing_text program
+
+-- how a listing fails: its file is accepted before a byte is written
+pub data ListFails (prog : List ℕ) (old new : Traffic) (f : Failure) : Type 0 where
+  unread_text : IsUnread prog f → new ≡ old → ListFails prog old new f
+  refused_text : (text : List ℕ) → ExplainsProgram prog text f → new ≡ with_files old (file_of prog text ∷ []) → ListFails prog old new f
+  unwritten : (text : List ℕ) (p : List Instr) → IsProgramOf text p → f ≡ NotWritten → new.files ≡ old.files ++ file_of prog text ∷ [] → IsBeginning new.written (old.written ++ listing_text p) → ListFails prog old new f
+
 -- what was asked for was done
 abbrev pub Obeyed : Parsed → Traffic → Traffic → Type 0
 Obeyed (parsed.Command (Run conf prog)) old new = WroteTrace conf.now prog.now old new
+Obeyed (parsed.Command (ListOf prog)) old new = WroteListing prog.now old new
 Obeyed (parsed.Help text) old new = new ≡ record old { written = old.written ++ string_bytes text }
 Obeyed (parsed.Usage text) old new = ⊥
 Obeyed parsed.NoMemory old new = ⊥
@@ -103,6 +120,7 @@ Obeyed parsed.NoMemory old new = ⊥
 -- how it wasn't done
 abbrev pub NotObeyed : Parsed → Traffic → Traffic → Failure → Type 0
 NotObeyed (parsed.Command (Run conf prog)) old new f = RunFails conf.now prog.now old new f
+NotObeyed (parsed.Command (ListOf prog)) old new f = ListFails prog.now old new f
 NotObeyed (parsed.Help text) old new f = (f ≡ NotWritten) × (new.files ≡ old.files) × IsBeginning new.written (old.written ++ string_bytes text)
 NotObeyed (parsed.Usage text) old new f = (f ≡ Usage text) × (new ≡ old)
 NotObeyed parsed.NoMemory old new f = (f ≡ NoMemory) × (new ≡ old)

@@ -14,6 +14,11 @@ pub enum Command<'w> {
         /// The path of the program's text.
         program: &'w str,
     },
+    /// To write the canonical text of a program: `ultra list PROG`.
+    List {
+        /// The path of the program's text.
+        program: &'w str,
+    },
 }
 
 /// What the words of a command line tell.
@@ -56,24 +61,37 @@ fn command_in<'w>(alloc: Global, words: &'w [&'w str]) -> Result<Command<'w>, cl
     let settings = Arg::new(alloc, "CONF")
         .help("The settings of the machine, a TOML file")
         .required(true);
-    let program = Arg::new(alloc, "PROG")
-        .help("The program of the processing elements")
-        .required(true);
     let run = clap::Command::new(alloc, "run")
         .about("Writes the trace of a run")
         .arg(settings)?
-        .arg(program)?;
+        .arg(program_argument(alloc))?;
+    let list = clap::Command::new(alloc, "list")
+        .about("Writes the canonical text of a program")
+        .arg(program_argument(alloc))?;
     let mut ultra = clap::Command::new(alloc, "ultra")
         .about("Simulates the NYU Ultracomputer cycle by cycle")
         .subcommand_required(true)
-        .subcommand(run)?;
+        .subcommand(run)?
+        .subcommand(list)?;
     let matches = ultra.try_get_matches_from_mut(words)?;
     if let Some(("run", run)) = matches.subcommand() {
         if let (Some(settings), Some(program)) = (run.get_str("CONF"), run.get_str("PROG")) {
             return Ok(Command::Run { settings, program });
         }
     }
+    if let Some(("list", list)) = matches.subcommand() {
+        if let Some(program) = list.get_str("PROG") {
+            return Ok(Command::List { program });
+        }
+    }
     Err(ultra.error(ErrorKind::MissingSubcommand, "no command")?)
+}
+
+/// The argument that names the program's text.
+fn program_argument(alloc: Global) -> Arg<'static> {
+    Arg::new(alloc, "PROG")
+        .help("The program of the processing elements")
+        .required(true)
 }
 
 #[cfg(test)]

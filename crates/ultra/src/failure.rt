@@ -1,14 +1,13 @@
 //! How a command ends that fails.
 
 ghost use Rattle.std.specs.Prelude.{◌≡◌, ◌+◌, ◌++◌, codes, OnOk, OnErr};
-ghost use Rattle.ultra_msg.specs.Bytes.{IsBeginning};
+ghost use Rattle.ultra_msg.specs.Bytes.{IsBeginning, Writes};
 ghost use Rattle.ultra.specs.Failure.{kind_text, path_text, status_of, text_of};
-ghost use Rattle.ultra.specs.Page.{Writes};
 
-use crate::assembler::AsmFaultKind;
-use crate::trace::Page;
+use itoa::Buffer;
+use ultra_asm::AsmFaultKind;
 use ultra_machine::Field;
-use ultra_msg::{Sink, SinkFault};
+use ultra_msg::{Sink, SinkFault, write_all, write_pieces};
 
 /// Why a command failed. A path is that of the file at fault, as the command names it.
 #[derive(Drop)]
@@ -64,64 +63,75 @@ impl Failure<'_> {
         ensures err { OnErr result (IsBeginning (E.taken err.new) (E.taken err.old ++ text_of self.now)) }
         ensures counted { OnErr result (E.failures err.new ≡ E.failures err.old + 1) }
     {
-        let mut page = Page::new(err);
-        page.put_failure(self);
-        page.finish()
+        match self {
+            Failure::Usage(text) => write_all(err, text.as_bytes()),
+            Failure::NotWords => write_all(err, b"ultra: arguments: not utf-8\n"),
+            Failure::NotRead(path) => {
+                write_pieces(err, &[b"ultra: cannot read ", path.as_bytes(), b"\n"])
+            }
+            Failure::NotToml(path) => write_refusal(err, path, "not toml"),
+            Failure::BadField(path, field) => write_bad_value(err, path, field.name()),
+            Failure::UnknownKey(path) => write_refusal(err, path, "unknown key"),
+            Failure::NotUtf8(path) => write_refusal(err, path, "not utf-8"),
+            Failure::BadLine { path, line, kind } => {
+                let mut digits = Buffer::new();
+                write_bad_line(err, path, digits.format(*line), kind_text(*kind))
+            }
+            Failure::NoMemory => write_all(err, b"ultra: no memory\n"),
+            Failure::NotWritten => write_all(err, b"ultra: write failed\n"),
+        }
     }
 }
 
-impl<'s, S: Sink> Page<'s, S> {
-    /// Writes what goes to standard error after a failure.
-    fn put_failure(&mut self, failure: &Failure)
-        ensures { Writes S.taken S.failures (text_of failure.now) self.old self.new }
-    {
-        match failure {
-            Failure::Usage(text) => self.put(text.as_bytes()),
-            Failure::NotWords => self.put(b"ultra: arguments: not utf-8\n"),
-            Failure::NotRead(path) => {
-                self.put(b"ultra: cannot read ");
-                self.put(path.as_bytes());
-                self.put(b"\n");
-            }
-            Failure::NotToml(path) => self.put_refusal(path, "not toml"),
-            Failure::BadField(path, field) => {
-                self.put_path(path);
-                self.put(b"bad ");
-                self.put(field.name().as_bytes());
-                self.put(b"\n");
-            }
-            Failure::UnknownKey(path) => self.put_refusal(path, "unknown key"),
-            Failure::NotUtf8(path) => self.put_refusal(path, "not utf-8"),
-            Failure::BadLine { path, line, kind } => {
-                self.put_path(path);
-                self.put(b"line ");
-                self.put_number(*line);
-                self.put(b": ");
-                self.put(kind_text(*kind).as_bytes());
-                self.put(b"\n");
-            }
-            Failure::NoMemory => self.put(b"ultra: no memory\n"),
-            Failure::NotWritten => self.put(b"ultra: write failed\n"),
-        }
-    }
+/// Writes the line of a refused file: its path, and what is wrong with it.
+fn write_refusal<E: Sink>(err: &mut E, path: &str, what: &str) -> Result<(), SinkFault>
+    ensures { Writes result (path_text path.now ++ what.now ++ codes "\n") (E.taken err.old) (E.taken err.new) (E.failures err.old) (E.failures err.new) }
+{
+    write_pieces(
+        err,
+        &[b"ultra: ", path.as_bytes(), b": ", what.as_bytes(), b"\n"],
+    )
+}
 
-    /// Writes the line of a refused file: its path, and what is wrong with it.
-    fn put_refusal(&mut self, path: &str, what: &str)
-        ensures { Writes S.taken S.failures (path_text path.now ++ what.now ++ codes "\n") self.old self.new }
-    {
-        self.put_path(path);
-        self.put(what.as_bytes());
-        self.put(b"\n");
-    }
+/// Writes the line of settings with a bad value of this name.
+fn write_bad_value<E: Sink>(err: &mut E, path: &str, name: &str) -> Result<(), SinkFault>
+    ensures { Writes result (path_text path.now ++ codes "bad " ++ name.now ++ codes "\n") (E.taken err.old) (E.taken err.new) (E.failures err.old) (E.failures err.new) }
+{
+    write_pieces(
+        err,
+        &[
+            b"ultra: ",
+            path.as_bytes(),
+            b": ",
+            b"bad ",
+            name.as_bytes(),
+            b"\n",
+        ],
+    )
+}
 
-    /// Writes the beginning of the line of a refused file, which names it.
-    fn put_path(&mut self, path: &str)
-        ensures { Writes S.taken S.failures (path_text path.now) self.old self.new }
-    {
-        self.put(b"ultra: ");
-        self.put(path.as_bytes());
-        self.put(b": ");
-    }
+/// Writes the line of a program with a fault in the line of this number.
+fn write_bad_line<E: Sink>(
+    err: &mut E,
+    path: &str,
+    number: &str,
+    what: &str,
+) -> Result<(), SinkFault>
+    ensures { Writes result (path_text path.now ++ codes "line " ++ number.now ++ codes ": " ++ what.now ++ codes "\n") (E.taken err.old) (E.taken err.new) (E.failures err.old) (E.failures err.new) }
+{
+    write_pieces(
+        err,
+        &[
+            b"ultra: ",
+            path.as_bytes(),
+            b": ",
+            b"line ",
+            number.as_bytes(),
+            b": ",
+            what.as_bytes(),
+            b"\n",
+        ],
+    )
 }
 
 /// What is wrong in a line of a program.

@@ -9,16 +9,16 @@ ghost use Rattle.ultra.specs.Failure.{status_of, text_of, read_failures, write_f
 ghost use Rattle.ultra.specs.Outcome.{status_failures, traffic, IsRefusal, IsStatus, Obeyed, NotObeyed};
 
 mod account;
-mod assembler;
 mod command_line;
 mod failure;
+mod inputs;
+mod list;
 mod run;
 mod settings;
 mod source;
 mod streams;
 #[cfg(test)]
 mod tests;
-mod trace;
 
 use command_line::{Command, Parsed};
 use failure::Failure;
@@ -79,6 +79,7 @@ fn obey<'w, F: Source, O: Sink>(
         Parsed::Command(Command::Run { settings, program }) => {
             run::run(alloc, settings, program, source, out)
         }
+        Parsed::Command(Command::List { program }) => list::list(alloc, program, source, out),
         Parsed::Help(text) => match write_all(out, text.as_bytes()) {
             Ok(()) => Ok(()),
             Err(_) => Err(Failure::NotWritten),

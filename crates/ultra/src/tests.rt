@@ -172,6 +172,117 @@ fn traces_are_written(rt: HostRuntime) -> Result<(), Fail> {
     Ok(())
 }
 
+/// Runs with all operations, jumps and labels.
+#[test]
+fn traces_of_all_operations_are_written(rt: HostRuntime) -> Result<(), Fail> {
+    for (settings, program, trace) in [
+        (
+            "stages = 1\ninitial = [[0, 5]]",
+            "li r2 7\npid r1\njnz r1 w\nld r3 r0\nhalt\nw:\nst r0 r2\nhalt\n",
+            traces::LOAD_THEN_STORE,
+        ),
+        (
+            "stages = 1",
+            "li r2 3\nli r4 10\npid r1\njnz r1 w\nfaa r3 r0 r2\nhalt\nw:\nst r0 r4\nhalt\n",
+            traces::STORE_THEN_FAA,
+        ),
+        (
+            "stages = 1",
+            "pid r1\njnz r1 end\nli r2 1\nfaa r3 r0 r2\nfaa r4 r0 r2\nend:\nhalt\n",
+            traces::OPEN_CELL_STALL,
+        ),
+        (
+            "stages = 1\ncells = 1",
+            "pid r1\nadd r1 r1 r1\nli r2 1\nfaa r3 r1 r2\nhalt\n",
+            traces::ADDRESS_FAULT,
+        ),
+        (
+            "stages = 1",
+            "li r2 3\nli r4 10\npid r1\njnz r1 w\nst r0 r4\nhalt\nw:\nfaa r3 r0 r2\nhalt\n",
+            traces::FAA_THEN_STORE,
+        ),
+        (
+            "stages = 1",
+            "pid r1\naddi r2 r1 7\nswap r3 r0 r2\nhalt\n",
+            traces::TWO_SWAPS,
+        ),
+        (
+            "stages = 1\ninitial = [[0, 5]]",
+            "li r2 3\nli r4 10\npid r1\njnz r1 w\nfaa r3 r0 r2\nhalt\nw:\nswap r3 r0 r4\nhalt\n",
+            traces::SWAP_THEN_FAA,
+        ),
+    ] {
+        check_run(&rt, settings.as_bytes(), program.as_bytes(), (0, trace, ""))?;
+    }
+    Ok(())
+}
+
+/// Asserts what `ultra list p.s` does with a program: its status, and what it writes to standard output and standard error.
+fn check_list<R: AllocGlobal + Abort>(
+    rt: &R,
+    program: &[u8],
+    wanted: (u8, &str, &str),
+) -> Result<(), Fail> {
+    let files = [("p.s", program)];
+    let ended = call(rt, &["ultra", "list", "p.s"], &files);
+    assert_eq!(rt; ended.err.text()?, wanted.2);
+    assert_eq!(rt; ended.out.text()?, wanted.1);
+    assert_eq!(rt; ended.status, wanted.0);
+    Ok(())
+}
+
+#[test]
+fn listings_are_written(rt: HostRuntime) -> Result<(), Fail> {
+    for (program, listing) in [
+        ("li r1 007 # seven", "li r1 7\n"),
+        ("x: jmp x", "L0:\njmp L0\n"),
+        ("jmp end\nend:", "jmp L1\nL1:\n"),
+        (
+            "pid r1\njnz r1 end\nli r2 1\nfaa r3 r0 r2\nfaa r4 r0 r2\nend:\nhalt\n",
+            "pid r1\njnz r1 L5\nli r2 1\nfaa r3 r0 r2\nfaa r4 r0 r2\nL5:\nhalt\n",
+        ),
+        ("", ""),
+    ] {
+        check_list(&rt, program.as_bytes(), (0, listing, ""))?;
+    }
+    Ok(())
+}
+
+#[test]
+fn listings_are_refused(rt: HostRuntime) -> Result<(), Fail> {
+    for (program, line) in [
+        ("x: x: halt", "ultra: p.s: line 1: unknown word\n"),
+        ("9x:", "ultra: p.s: line 1: unknown word\n"),
+        ("jmp q\nfoo", "ultra: p.s: line 1: unknown label\n"),
+        ("jmp q\nq: foo", "ultra: p.s: line 2: unknown word\n"),
+        ("jmp 5", "ultra: p.s: line 1: unknown label\n"),
+        ("li r00 1", "ultra: p.s: line 1: bad register\n"),
+        ("li r16 1", "ultra: p.s: line 1: bad register\n"),
+        ("jnz 5 a", "ultra: p.s: line 1: bad register\n"),
+        ("li r1 4294967296", "ultra: p.s: line 1: bad number\n"),
+        ("shr r1 r1 32", "ultra: p.s: line 1: bad number\n"),
+        ("add r1 r2", "ultra: p.s: line 1: wrong operands\n"),
+        ("a:\nhalt\na:\nhalt\n", "ultra: p.s: line 3: double label\n"),
+    ] {
+        check_list(&rt, program.as_bytes(), (3, "", line))?;
+    }
+    let ended = call(&rt, &["ultra", "list", "p.s"], &[]);
+    assert_eq!(rt; ended.err.text()?, "ultra: cannot read p.s\n");
+    assert_eq!(rt; ended.status, 3);
+    let not_utf8 = [b';', 0xff];
+    check_list(&rt, &not_utf8, (3, "", "ultra: p.s: not utf-8\n"))
+}
+
+#[test]
+fn longest_program_is_listed(rt: HostRuntime) -> Result<(), Fail> {
+    let halts = b"halt\n".repeat(rt.alloc(), 4096)?;
+    check_list(
+        &rt,
+        halts.as_slice(),
+        (0, str::from_utf8(halts.as_slice())?, ""),
+    )
+}
+
 #[test]
 fn settings_are_refused(rt: HostRuntime) -> Result<(), Fail> {
     for (settings, line) in [
@@ -223,6 +334,7 @@ fn programs_are_refused(rt: HostRuntime) -> Result<(), Fail> {
         ("li r16 0", "ultra: p.s: line 1: bad register\n"),
         ("li r1 4294967296", "ultra: p.s: line 1: bad number\n"),
         ("halt r1", "ultra: p.s: line 1: wrong operands\n"),
+        ("a:\nhalt\na:\nhalt\n", "ultra: p.s: line 3: double label\n"),
     ] {
         check_run(&rt, b"stages = 1", program.as_bytes(), (3, "", line))?;
     }
@@ -273,7 +385,7 @@ fn wrong_words_are_usage_faults(rt: HostRuntime) -> Result<(), Fail> {
         &["ultra", "run", "c.toml", "p.s", "--workers", "2"],
         &["ultra", "order", "c.toml", "p.s"],
         &["ultra", "explain", "c.toml", "p.s"],
-        &["ultra", "list", "p.s"],
+        &["ultra", "list"],
         &[
             "ultra",
             "sweep",

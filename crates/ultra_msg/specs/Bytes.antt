@@ -1,5 +1,7 @@
 -- bytes that go to a sink; this project's profile
-use Rattle.std.specs.Prelude.{◌≡◌, ◌≤◌, ◌<◌, ℕ, List, ◌++◌, take, length}
+use Rattle.std.specs.Prelude.{◌≡◌, ◌≤◌, ◌<◌, ◌+◌, ℕ, List, ◌++◌, take, length, Result, OnOk, OnErr}
+use Rattle.std.specs.Borrow.{Bor}
+use Rattle.std.specs.List.{flat_map}
 
 -- the first list is a beginning of the second
 abbrev pub IsBeginning : List ℕ → List ℕ → Type 0
@@ -10,3 +12,14 @@ pub record TakesPart (n : ℕ) (bytes old new : List ℕ) : Type 0 where
   pub taken : new ≡ old ++ take n bytes
   pub within : n ≤ length bytes
   pub some : 0 < length bytes → 0 < n
+
+-- pieces of bytes, one after the other
+abbrev pub in_a_row : List (Bor (List ℕ)) → List ℕ
+in_a_row pieces = flat_map (λ piece. piece.now) pieces
+
+-- the bytes were written, or the sink has failed once and has taken a beginning of them
+pub record Writes {T E : Type 0} (result : Result T E) (bytes old new : List ℕ) (before after : ℕ) : Type 0 where
+  pub ok : OnOk result (new ≡ old ++ bytes)
+  pub still : OnOk result (after ≡ before)
+  pub err : OnErr result (IsBeginning new (old ++ bytes))
+  pub counted : OnErr result (after ≡ before + 1)

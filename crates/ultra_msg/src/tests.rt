@@ -65,6 +65,26 @@ const MEETINGS: [Meeting; 5] = [
         to_new: Reply::Ack,
         old_first: false,
     },
+    Meeting {
+        run: "two_swaps",
+        old: Op::Swap(8),
+        new: Op::Swap(7),
+        sent: Op::Swap(7),
+        reply: Reply::Value(0),
+        to_old: Reply::Value(0),
+        to_new: Reply::Value(8),
+        old_first: true,
+    },
+    Meeting {
+        run: "swap_then_faa",
+        old: Op::Swap(10),
+        new: Op::Faa(3),
+        sent: Op::Swap(13),
+        reply: Reply::Value(5),
+        to_old: Reply::Value(5),
+        to_new: Reply::Value(10),
+        old_first: true,
+    },
 ];
 
 #[test]
@@ -90,6 +110,28 @@ fn pairs_of_the_runs(rt: HostRuntime) {
             "first in {run}"
         );
     }
+}
+
+#[test]
+fn sums_of_a_store_wrap_around(rt: HostRuntime) {
+    assert_eq!(rt;
+        pair(Op::Store(5), Op::Faa(4294967295)),
+        Paired {
+            sent: Op::Store(4),
+            give_old: Give::Ack,
+            give_new: Give::Fixed(5),
+            old_first: true,
+        }
+    );
+    assert_eq!(rt;
+        pair(Op::Faa(5), Op::Store(4294967295)),
+        Paired {
+            sent: Op::Store(4),
+            give_old: Give::Fixed(4294967295),
+            give_new: Give::Ack,
+            old_first: false,
+        }
+    );
 }
 
 #[test]

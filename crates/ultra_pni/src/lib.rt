@@ -5,7 +5,10 @@ ghost use Rattle.std.specs.Prelude.{◌≡◌, ℕ, ◌-◌, ◌<◌, ◌≤◌,
 ghost use Rattle.std.specs.List.{position};
 ghost use Rattle.ultra_pni.specs.Interface.{empty_interface, is_open, goes_to, is_awaited, issue_of, after_issue, target_of, closed, IsWithin};
 
+mod ring;
+
 use arrayvec::ArrayVec;
+use ring::RequestRing;
 use std::marker::Model;
 use ultra_msg::{Cell, Register, ReplyMessage, Request};
 
@@ -48,7 +51,7 @@ pub enum Issue {
 #[derive(Debug, Drop)]
 pub struct Pni {
     opened: ArrayVec<OpenCell, MOST_OPEN>,
-    pending: ArrayVec<Request, MOST_OPEN>,
+    pending: RequestRing,
     most_open: usize,
 }
 
@@ -57,9 +60,9 @@ impl Model for Pni {
 
     ghost Value = { SizedInterface };
 
-    ghost view = { λ p. record { interface = record { opened = p.opened.items; pending = p.pending.items }; most_open = p.most_open } };
+    ghost view = { λ p. record { interface = record { opened = p.opened.items; pending = p.pending }; most_open = p.most_open } };
 
-    ghost invariant = { λ p. IsWithin record { opened = p.opened.items; pending = p.pending.items } p.most_open };
+    ghost invariant = { λ p. IsWithin record { opened = p.opened.items; pending = p.pending } p.most_open };
 }
 
 /// The place of a cell among the open ones, or `None` where it isn't open.
@@ -77,7 +80,7 @@ impl Pni {
     {
         Pni {
             opened: ArrayVec::new(),
-            pending: ArrayVec::new(),
+            pending: RequestRing::new(),
             most_open,
         }
     }
@@ -107,7 +110,11 @@ impl Pni {
     pub fn head(&self) -> Option<Request>
         ensures { result ≡ slice_get self.now.interface.pending 0 }
     {
-        self.pending.as_slice().first().copied()
+        if self.pending.len() == 0 {
+            None
+        } else {
+            Some(self.pending.at(0))
+        }
     }
 
     /// Takes the request that leaves next out of the list; its cell stays open. `None` says that none was pending.
@@ -115,7 +122,7 @@ impl Pni {
         ensures request { result ≡ slice_get self.old.interface.pending 0 }
         ensures interface { self.new ≡ record self.old { interface = record self.old.interface { pending = drop 1 self.old.interface.pending } } }
     {
-        self.pending.pop_at(0)
+        self.pending.pop()
     }
 
     /// A reply has come: its cell is no longer open. Gives the register that the reply's value goes to, or `None` where it goes to none.
@@ -164,7 +171,7 @@ impl Pni {
     pub fn is_idle(&self) -> bool
         ensures { result ≡ (length self.now.interface.opened == 0 && length self.now.interface.pending == 0) }
     {
-        self.opened.is_empty() && self.pending.is_empty()
+        self.opened.is_empty() && self.pending.len() == 0
     }
 
     /// The request at a place of the list, the first to leave being at 0.
@@ -172,13 +179,14 @@ impl Pni {
         requires { index < length self.now.interface.pending }
         ensures { slice_get self.now.interface.pending index ≡ Some result }
     {
-        self.pending.as_slice()[index]
+        self.pending.at(index)
     }
 
     /// The request that was issued last of those that are pending, or `None` where none is.
     pub fn newest(&self) -> Option<Request>
         ensures { result ≡ slice_get self.now.interface.pending (length self.now.interface.pending - 1) }
     {
-        self.pending.as_slice().last().copied()
+        let last = self.pending.len().checked_sub(1)?;
+        Some(self.pending.at(last))
     }
 }

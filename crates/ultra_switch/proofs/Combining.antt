@@ -1,6 +1,6 @@
 -- where a request combines, by the places of the entries
 use Rattle.std.proofs.Common.{◌≡◌, ℕ, zero, suc, ◌<◌, ◌≤◌, length, List, [], ◌∷◌, Bool, true, false, refl, arith, ap, get_or, ◌++◌, ◌-◌, length-append}
-use Rattle.std.specs.Prelude.{Some, None, slice_set, slice_get, nat_lt}
+use Rattle.std.specs.Prelude.{Option, Some, None, slice_set, slice_get, nat_lt}
 use Rattle.std.specs.List.{position, position_or_len}
 use Rattle.std.proofs.lemmas.Grind.{common_steps}
 use Rattle.std.proofs.lemmas.List.Quantifiers.{position-Some}
@@ -9,6 +9,7 @@ use Rattle.std.proofs.lemmas.Option.{get_or_from_slice_get}
 use Rattle.circular_buffer.specs.Buffer.{keep_last}
 use Rattle.ultra_msg.specs.declared.Request.{Request}
 use Rattle.ultra_switch.specs.declared.Entry.{Entry}
+use Rattle.ultra_switch.specs.Partner.{IsFirst, IsPartner, combination_at}
 use Rattle.ultra_switch.specs.Arrive.{Lane, Combination, combine, combine_within, behind, can_combine, combined_entry}
 
 module _ {X : Type 0} where
@@ -33,9 +34,6 @@ combines_nowhere r (e ∷ es) fails =
     let first : can_combine r e ≡ false = fails 0 e (omega arith) in
     rw (combine, first) (ap (behind e) (combines_nowhere r es (λ k d within. fails (suc k) d (omega arith))))
 
-abbrev combination_at : Request → List Entry → ℕ → Entry → Combination
-combination_at r es k e = record { queue = slice_set es k (combined_entry e r); old = e }
-
 combines_at : (r : Request) (es : List Entry) (k : ℕ) (e : Entry) → NoneBefore r es k → slice_get es k ≡ Some e → can_combine r e ≡ true → combine r es ≡ Some (combination_at r es k e)
 combines_at r [] k e fails there passes = cc
 combines_at r (x ∷ es) zero e fails there passes =
@@ -47,13 +45,13 @@ combines_at r (x ∷ es) (suc k) e fails there passes =
     rw (combine, first) (ap (behind x) (combines_at r es k e (λ j d within. fails (suc j) d (omega arith)) there passes))
 
 -- a request combines with the entry at the place that was found
-pub combines_within : (w : ℕ) (l : Lane) (r : Request) (k : ℕ) (e : Entry) → length l.records < w → position (can_combine r) l.queue ≡ Some k → slice_get l.queue k ≡ Some e → combine_within w l r ≡ Some (combination_at r l.queue k e)
+pub combines_within : (w : ℕ) (l : Lane) (r : Request) (k : ℕ) (e : Entry) → length l.records < w → IsFirst (can_combine r) l.queue (Some k) → slice_get l.queue k ≡ Some e → combine_within w l r ≡ Some (combination_at r l.queue k e)
 combines_within w l r k e room found there =
     let free : nat_lt (length l.records) w ≡ true = grind arith in
-    let facts = position-Some (can_combine r) l.queue k e found in
     let same : get_or l.queue k e ≡ e = get_or_from_slice_get l.queue k e e there in
-    let passes : can_combine r e ≡ true = rw same at facts.1 in
-    rw (combine_within, free) (combines_at r l.queue k e (λ j d before. (position-Some (can_combine r) l.queue k d found).2 j before) there passes)
+    let first : can_combine r (get_or l.queue k e) ≡ true = found.1 e in
+    let passes : can_combine r e ≡ true = rw same at first in
+    rw (combine_within, free) (combines_at r l.queue k e (λ j d before. found.2 j before d) there passes)
 
 -- where the wait buffer is full it doesn't combine
 pub combines_not_full : (w : ℕ) (l : Lane) (r : Request) → w ≤ length l.records → combine_within w l r ≡ None
@@ -62,11 +60,16 @@ combines_not_full w l r full =
     rw (combine_within, none) refl
 
 -- where no place was found it doesn't combine
-pub combines_not : (w : ℕ) (l : Lane) (r : Request) → position (can_combine r) l.queue ≡ None → combine_within w l r ≡ None
+pub combines_not : (w : ℕ) (l : Lane) (r : Request) → IsFirst (can_combine r) l.queue None → combine_within w l r ≡ None
 combines_not w l r none =
-    let nowhere : combine r l.queue ≡ None = combines_nowhere r l.queue (fails_at_each (can_combine r) l.queue none) in
+    let nowhere : combine r l.queue ≡ None = combines_nowhere r l.queue (λ k d within. none k within d) in
     by (nat_lt (length l.records) w) refl nowhere
   where
     by : (b : Bool) → nat_lt (length l.records) w ≡ b → combine r l.queue ≡ None → combine_within w l r ≡ None
     by true free nowhere = rw (combine_within, free) nowhere
     by false full nowhere = rw (combine_within, full) refl
+
+-- where the wait buffer has a free place, the place that was found is the partner's
+pub is_partner : (w : ℕ) (l : Lane) (r : Request) (found : Option ℕ) → length l.records < w → IsFirst (can_combine r) l.queue found → IsPartner w l r found
+is_partner w l r None room none = combines_not w l r none
+is_partner w l r (Some k) room first = (first.0, λ e there. combines_within w l r k e room first there)

@@ -1,2 +1,4 @@
 pub mod Combining
+pub mod Marking
+pub mod Partners
 pub mod Splitting

@@ -22,9 +22,13 @@ entry r marked = record { request = r; combined = marked }
 abbrev pub can_combine : Request → Entry → Bool
 can_combine r e = not e.combined && (e.request.cell == r.cell)
 
--- the entry that stands for both after the request has combined with it: what is sent has the identity of the old one, and is marked
+-- the request that stands for both after a request has combined with an old one: it has the identity of the old one
+abbrev pub sent_for : Request → Request → Request
+sent_for old r = record { pe = old.pe; cell = old.cell; op = (pair_of old.op r.op).sent }
+
+-- the entry that stands for both; it is marked
 abbrev pub combined_entry : Entry → Request → Entry
-combined_entry e r = entry record { pe = e.request.pe; cell = e.request.cell; op = (pair_of e.request.op r.op).sent } true
+combined_entry e r = entry (sent_for e.request r) true
 
 -- the record that is kept of the two
 abbrev pub wait_record : Entry → Request → WaitRecord

@@ -1,3 +1,5 @@
 pub mod Arrive
 pub mod Split
 pub mod Queues
+pub mod Marks
+pub mod Partner

@@ -14,11 +14,12 @@ pub record SizedLane : Type 0 where
 abbrev pub empty_requests : ℕ → ℕ → SizedLane
 empty_requests request_places wait_places = record { lane = empty_lane; request_places = request_places; wait_places = wait_places }
 
--- nothing holds more than its places, and a wait buffer has at most 16
+-- nothing holds more than its places; a queue has at most 32, and a wait buffer at most 16
 pub record IsWithinPlaces (l : SizedLane) : Type 0 where
   pub requests : length l.lane.queue ≤ l.request_places
   pub records : length l.lane.records ≤ l.wait_places
-  pub most : l.wait_places ≤ 16
+  pub most_requests : l.request_places ≤ 32
+  pub most_records : l.wait_places ≤ 16
 
 -- a queue toward the processing elements, and its places
 pub record SizedReplies : Type 0 where

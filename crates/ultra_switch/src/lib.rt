@@ -6,6 +6,8 @@
 ghost use Rattle.std.specs.Prelude.{◌≡◌, ℕ, ◌≤◌, IfOk};
 ghost use Rattle.ultra_switch.specs.Queues.{empty_requests, empty_replies};
 
+mod marked_queue;
+mod marks;
 mod reply_queue;
 mod request_queue;
 
@@ -80,7 +82,7 @@ pub struct Switch {
 }
 
 impl Switch {
-    /// A switch whose queues and wait buffers are empty. `request_places` is the size of each queue toward memory, `reply_places` that of each queue toward the processing elements, and `wait_places` that of each wait buffer, at most 16.
+    /// A switch whose queues and wait buffers are empty. `request_places` is the size of each queue toward memory, at most 32, `reply_places` that of each queue toward the processing elements, and `wait_places` that of each wait buffer, at most 16.
     ///
     /// `NoMemory` means that the memory for a queue was refused.
     pub fn new(
@@ -89,7 +91,8 @@ impl Switch {
         reply_places: usize,
         wait_places: usize,
     ) -> Result<Switch, SwitchFault>
-        requires { wait_places ≤ 16 }
+        requires requests { request_places ≤ 32 }
+        requires records { wait_places ≤ 16 }
         ensures to_mm { IfOk result (λ s. let q = empty_requests request_places wait_places in (s.to_mm.zero ≡ q) × (s.to_mm.one ≡ q)) }
         ensures to_pe { IfOk result (λ s. let q = empty_replies reply_places in (s.to_pe.zero ≡ q) × (s.to_pe.one ≡ q)) }
     {

@@ -2,13 +2,14 @@
 
 ghost use Rattle.std.specs.Prelude.{◌≡◌, ℕ, ◌+◌, ◌<◌, ◌≤◌, ◌==◌, ◌&&◌, length, drop, slice_get, nat_le, IfOk, IfSome, ◌∷◌, []};
 ghost use Rattle.std.specs.List.{position};
-ghost use Rattle.ultra_switch.specs.Arrive.{arrive, arrival, can_combine, combined_entry, wait_record};
+ghost use Rattle.ultra_switch.specs.Arrive.{arrive, arrival, sent_for, wait_record};
+ghost use Rattle.ultra_switch.specs.Partner.{IsPartner};
 ghost use Rattle.ultra_switch.specs.Split.{is_of, records_after, replies_of, replies_in, old_reply, new_reply};
 ghost use Rattle.ultra_switch.specs.Queues.{empty_requests, request_of};
 
+use crate::marked_queue::MarkedQueue;
 use crate::{Arrived, Entry, Split, WaitRecord};
 use arrayvec::ArrayVec;
-use circular_buffer::HeapCircularBuffer;
 use std::alloc::{AllocError, Global};
 use std::marker::Model;
 use ultra_msg::{ReplyMessage, Request, pair};
@@ -19,7 +20,7 @@ const MOST_WAIT_PLACES: usize = 16;
 /// A queue toward memory, with its wait buffer: of one memory-side port of a switch.
 #[derive(Drop)]
 pub struct ToMm {
-    queue: HeapCircularBuffer<Entry>,
+    queue: MarkedQueue,
     records: ArrayVec<WaitRecord, MOST_WAIT_PLACES>,
     wait_places: usize,
 }
@@ -29,9 +30,9 @@ impl Model for ToMm {
 
     ghost Value = { SizedLane };
 
-    ghost view = { λ q. record { lane = record { queue = q.queue.items; records = q.records.items }; request_places = q.queue.capacity; wait_places = q.wait_places } };
+    ghost view = { λ q. record { lane = record { queue = q.queue.entries; records = q.records.items }; request_places = q.queue.places; wait_places = q.wait_places } };
 
-    ghost invariant = { λ q. IsWithinPlaces record { lane = record { queue = q.queue.items; records = q.records.items }; request_places = q.queue.capacity; wait_places = q.wait_places } };
+    ghost invariant = { λ q. IsWithinPlaces record { lane = record { queue = q.queue.entries; records = q.records.items }; request_places = q.queue.places; wait_places = q.wait_places } };
 }
 
 impl ToMm {
@@ -41,11 +42,12 @@ impl ToMm {
         request_places: usize,
         wait_places: usize,
     ) -> Result<ToMm, AllocError>
-        requires { wait_places ≤ 16 }
+        requires requests { request_places ≤ 32 }
+        requires records { wait_places ≤ 16 }
         ensures { IfOk result (λ q. q ≡ empty_requests request_places wait_places) }
     {
         Ok(ToMm {
-            queue: HeapCircularBuffer::with_capacity(alloc, request_places)?,
+            queue: MarkedQueue::new(alloc, request_places)?,
             records: ArrayVec::new(),
             wait_places,
         })
@@ -55,7 +57,7 @@ impl ToMm {
     pub fn has_room(&self) -> bool
         ensures { result ≡ nat_le (length self.now.lane.queue + 2) self.now.request_places }
     {
-        self.queue.len() + 2 <= self.queue.capacity()
+        self.queue.len() + 2 <= self.queue.places()
     }
 
     /// How many requests stand in the queue.
@@ -71,7 +73,7 @@ impl ToMm {
         requires { index < length self.now.lane.queue }
         ensures { slice_get self.now.lane.queue index ≡ Some result }
     {
-        *self.queue.get(index).unwrap()
+        self.queue.entry(index)
     }
 
     /// How many records are in the wait buffer.
@@ -102,7 +104,7 @@ impl ToMm {
     pub fn head(&self) -> Option<Request>
         ensures { result ≡ request_of (slice_get self.now.lane.queue 0) }
     {
-        self.queue.front().map(|entry| entry.request)
+        self.queue.front()
     }
 
     /// Takes the request at the front out of the queue, or answers `None` where the queue is empty.
@@ -110,7 +112,7 @@ impl ToMm {
         ensures value { result ≡ request_of (slice_get self.old.lane.queue 0) }
         ensures queue { self.new ≡ record self.old { lane = record self.old.lane { queue = drop 1 self.old.lane.queue } } }
     {
-        self.queue.pop_front().map(|entry| entry.request)
+        self.queue.pop()
     }
 
     /// A request arrives. It combines with the frontmost entry for its cell that hasn't combined in this queue, where there is one and the wait buffer has a free place; otherwise it goes to the end of the queue. The record of a combination goes behind those that are there.
@@ -119,20 +121,25 @@ impl ToMm {
         ensures outcome { result ≡ arrival self.old.wait_places self.old.lane request }
         ensures lane { self.new ≡ record self.old { lane = arrive self.old.wait_places self.old.lane request } }
     {
-        if self.records.len() < self.wait_places
-            && let Some(place) = partner(&self.queue, request)
-        {
-            let entry = self.queue.get_mut(place).unwrap();
-            let old = *entry;
-            *entry = combined_entry(old, request);
-            self.records.push(wait_record(old, request));
-            return Arrived::CombinedWith(old.request.pe);
+        let Some(place) = self.partner(request) else {
+            self.queue.push(request);
+            return Arrived::Appended;
+        };
+        let old = self.queue.entry(place);
+        self.queue.replace(place, sent_for(old.request, request));
+        self.records.push(wait_record(old, request));
+        Arrived::CombinedWith(old.request.pe)
+    }
+
+    /// The place of the entry that the request combines with, if it combines.
+    fn partner(&self, request: Request) -> Option<usize>
+        ensures { IsPartner self.now.wait_places self.now.lane request result }
+    {
+        if self.records.len() < self.wait_places {
+            self.queue.partner(request)
+        } else {
+            None
         }
-        self.queue.push_back(Entry {
-            request,
-            combined: false,
-        });
-        Arrived::Appended
     }
 
     /// A reply comes back. Where the wait buffer has a record of its processing element and cell, the oldest such record goes, and the replies to the two requests of that pair are made by it; otherwise the reply goes on itself.
@@ -147,32 +154,14 @@ impl ToMm {
     }
 }
 
-/// Whether the request can combine with the entry.
-fn can_combine(request: Request, entry: &Entry) -> bool
-    ensures { result ≡ can_combine request entry.now }
+/// The request that stands for both after one has combined with an old one.
+fn sent_for(old: Request, request: Request) -> Request
+    ensures { result ≡ sent_for old request }
 {
-    !entry.combined && entry.request.cell == request.cell
-}
-
-/// The place of the frontmost entry that the request can combine with.
-fn partner(queue: &HeapCircularBuffer<Entry>, request: Request) -> Option<usize>
-    ensures frontmost { result ≡ position (can_combine request) queue.now.items }
-    ensures within { IfSome result (λ place. place < length queue.now.items) }
-{
-    queue.iter().position(|entry| can_combine(request, entry))
-}
-
-/// The entry that stands for both after the request has combined with the old one.
-fn combined_entry(old: Entry, request: Request) -> Entry
-    ensures { result ≡ combined_entry old request }
-{
-    Entry {
-        request: Request {
-            pe: old.request.pe,
-            cell: old.request.cell,
-            op: pair(old.request.op, request.op).sent,
-        },
-        combined: true,
+    Request {
+        pe: old.pe,
+        cell: old.cell,
+        op: pair(old.op, request.op).sent,
     }
 }
 

@@ -28,7 +28,7 @@ invariant_of-self c =
     let at : position (is_of cell) opened ≡ Some place = rw (← c.as_slice.ensures.value) (sym c.place_of.ensures ∙ c.in_ok-place.was) in
     let within : place < length opened = (position-Some (is_of cell) opened place c.remove.result at).0 in
     let was = c.self.invariant in
-    let left : length c.self.inside.pending.items < length opened = rw (← c.self.view_is) at c.requires in
+    let left : length c.self.inside.pending < length opened = rw (← c.self.view_is) at c.requires in
     let shorter = length-remove opened place within in
     record {
       small = was.small;

@@ -1,9 +1,0 @@
-use Rattle.ultra.proofs.Comments.{before_at, before_none}
-use Rattle.ultra.specs.ProgramText.{begins_comment}
-use Rattle.ultra.proofs.assembler.before_comment.Goals as goal
-
-pub returns-in-Some : goal.returns-in-Some
-returns-in-Some c = before_at begins_comment c.args.line.now c.in-Some.end c.in-Some.ensures
-
-pub returns-in-None : goal.returns-in-None
-returns-in-None c = before_none begins_comment c.args.line.now c.in-None.ensures

@@ -1,6 +1,0 @@
-use Rattle.ultra.specs.Page.{Writes}
-use Rattle.ultra.specs.Trace.{by_number, cell_of}
-use Rattle.ultra.proofs.trace.page.Page.put_cells.Given as goal
-
-abbrev pub invariant-loop-address : goal.invariant-loop-address
-invariant-loop-address g l = Writes g.S.Sink.taken g.S.Sink.failures (by_number l.address (cell_of l.machine.settings l.machine.state)) l.initial.self l.self

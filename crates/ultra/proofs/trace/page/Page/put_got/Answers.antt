@@ -1,5 +1,0 @@
-use Rattle.ultra.proofs.Writing.{◌then◌}
-use Rattle.ultra.proofs.trace.page.Page.put_got.Goals as goal
-
-pub returns-in-Delivered : goal.returns-in-Delivered
-returns-in-Delivered g c = rw c.in-Delivered.is (c.put.ensures then c.put_message.ensures then c.put-in-Delivered.ensures)

@@ -1,6 +1,0 @@
-use Rattle.ultra.specs.Page.{Writes}
-use Rattle.ultra.specs.Trace.{by_number, pe_of}
-use Rattle.ultra.proofs.trace.page.Page.put_processors.Given as goal
-
-abbrev pub invariant-loop-pe : goal.invariant-loop-pe
-invariant-loop-pe g l = Writes g.S.Sink.taken g.S.Sink.failures (by_number l.pe (pe_of l.machine.state)) l.initial.self l.self

@@ -1,5 +1,0 @@
-use Rattle.ultra.proofs.Writing.{◌then◌}
-use Rattle.ultra.proofs.trace.page.Page.put_refusal.Goals as goal
-
-pub returns : goal.returns
-returns g c = rw (← c.as_bytes.ensures.value) (c.put_path.ensures then c.put.ensures then c.put-2.ensures)

@@ -1,6 +1,0 @@
-use Rattle.ultra.specs.Page.{Writes}
-use Rattle.ultra.specs.Trace.{by_number, out_of}
-use Rattle.ultra.proofs.trace.page.Page.put_replies_to_leave.Given as goal
-
-abbrev pub invariant-loop-index : goal.invariant-loop-index
-invariant-loop-index g l = Writes g.S.Sink.taken g.S.Sink.failures (by_number l.index (out_of l.machine.state)) l.initial.self l.self

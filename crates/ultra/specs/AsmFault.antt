@@ -1,6 +1,0 @@
--- the fault of a text for which there is no memory: it has no line
-use Rattle.ultra.specs.declared.assembler.AsmFault.{AsmFault}
-use Rattle.ultra.specs.declared.assembler.AsmFaultKind.TheVariants.{NoMemory}
-
-abbrev pub no_memory : AsmFault
-no_memory = record { line = 0; kind = NoMemory }

@@ -1,0 +1,71 @@
+//! The files that a command reads, each accepted or refused.
+
+ghost use Rattle.std.specs.Prelude.{◌≡◌, ◌+◌, [], ◌∷◌, ◌++◌, IfOk, IfErr, OnOk, OnErr};
+ghost use Rattle.ultra.specs.Account.{file_of};
+ghost use Rattle.ultra.specs.Failure.{read_failures};
+ghost use Rattle.ultra.specs.Outcome.{IsAccepted, IsProgramOf, IsUnread, ExplainsSettings, ExplainsProgram};
+
+use crate::failure::Failure;
+use crate::settings::{SettingsFault, settings_from};
+use crate::source::{Source, SourceFault};
+use std::alloc::Global;
+use std::str;
+use ultra_asm::{AsmFault, AsmFaultKind, assemble};
+use ultra_isa::Program;
+use ultra_machine::Config;
+
+/// The bytes of the file at a path.
+pub fn read_file<'p, F: Source>(
+    alloc: Global,
+    path: &'p str,
+    source: &mut F,
+) -> Result<Vec<u8>, Failure<'p>>
+    ensures ok { IfOk result (λ v. F.files source.new ≡ F.files source.old ++ file_of path.now v.items ∷ []) }
+    ensures still { OnOk result (F.failures source.new ≡ F.failures source.old) }
+    ensures err { IfErr result (IsUnread path.now) }
+    ensures none { OnErr result (F.files source.new ≡ F.files source.old) }
+    ensures counted { IfErr result (λ f. F.failures source.new ≡ F.failures source.old + read_failures f) }
+{
+    match source.read(alloc, path) {
+        Ok(bytes) => Ok(bytes),
+        Err(SourceFault::NotRead) => Err(Failure::NotRead(path)),
+        Err(SourceFault::NoMemory) => Err(Failure::NoMemory),
+    }
+}
+
+/// The settings that the bytes of a file give, once they are accepted.
+pub fn accept_settings<'p>(
+    alloc: Global,
+    path: &'p str,
+    bytes: &[u8],
+) -> Result<Config, Failure<'p>>
+    ensures ok { IfOk result (IsAccepted bytes.now) }
+    ensures err { IfErr result (ExplainsSettings path.now bytes.now) }
+{
+    match settings_from(alloc, bytes) {
+        Ok(config) => Ok(config),
+        Err(SettingsFault::NoMemory) => Err(Failure::NoMemory),
+        Err(SettingsFault::NotToml) => Err(Failure::NotToml(path)),
+        Err(SettingsFault::BadField(field)) => Err(Failure::BadField(path, field)),
+        Err(SettingsFault::UnknownKey) => Err(Failure::UnknownKey(path)),
+    }
+}
+
+/// The program that the bytes of a file are assembled to.
+pub fn accept_program<'p>(
+    alloc: Global,
+    path: &'p str,
+    bytes: &[u8],
+) -> Result<Program, Failure<'p>>
+    ensures ok { IfOk result (IsProgramOf bytes.now) }
+    ensures err { IfErr result (ExplainsProgram path.now bytes.now) }
+{
+    let Ok(text) = str::from_utf8(bytes) else {
+        return Err(Failure::NotUtf8(path));
+    };
+    match assemble(alloc, text) {
+        Ok(program) => Ok(program),
+        Err(fault) if fault.kind == AsmFaultKind::NoMemory => Err(Failure::NoMemory),
+        Err(AsmFault { line, kind }) => Err(Failure::BadLine { path, line, kind }),
+    }
+}

@@ -1,0 +1,166 @@
+-- where the names of a text are defined
+use Rattle.std.proofs.Common.{◌≡◌, ℕ, ◌+◌, ◌<◌, ◌≤◌, Bool, true, false, List, [], ◌∷◌, ◌++◌, length, take, drop, filter, map, get_or, Option, Some, None, is_some, refl, sym, ◌∙◌, ap, inl, inr, arith, nat_lt, min, cond, add-zero}
+use Rattle.std.specs.Str.{bytes_eq}
+use Rattle.std.specs.Option.{option_map}
+use Rattle.std.specs.Map.{update}
+use Rattle.std.proofs.lemmas.List.Elements.{filter-append}
+use Rattle.std.proofs.lemmas.Slice.Eq.{bytes_eq-Decides}
+use Rattle.std.proofs.lemmas.Bool.{cases_Bool, lt-ltb, le-ltb}
+use Rattle.std.proofs.lemmas.List.{take-append-drop, length-take-le, take_more, map-append, length-append}
+use Rattle.ultra_asm.specs.declared.labels.Definition.{Definition}
+use Rattle.ultra_asm.specs.Labels.{statement, line_label, is_named, one_or_none, instructions_on, defines, definition_from, definition_of, place_of, is_defined_before, near_place, near_place_of}
+use Rattle.ultra_asm.specs.ProgramText.{statements, has_words}
+
+abbrev pub Lines : Type 0
+Lines = List (List (List ℕ))
+
+-- the first that is there
+abbrev pub first_of : Option Definition → Option Definition → Option Definition
+first_of None e = e
+first_of (Some d) e = Some d
+
+kept_one : (s : List (List ℕ)) (ss : Lines) → length (cond (has_words s) (s ∷ ss) ss) ≡ one_or_none s + length ss
+kept_one [] ss = omega arith
+kept_one (w ∷ ws) ss = omega arith
+
+-- how many instructions stand on lines
+pub count_cons : (ws : List (List ℕ)) (ls : Lines) → length (statements (ws ∷ ls)) ≡ instructions_on ws + length (statements ls)
+count_cons ws ls = kept_one (statement ws) (statements ls)
+
+pub definition_append : (line place : ℕ) (ls ms : Lines) (name : List ℕ) → definition_from line place (ls ++ ms) name ≡ first_of (definition_from line place ls name) (definition_from (line + length ls) (place + length (statements ls)) ms name)
+definition_append line place [] ms name =
+    let l : line + 0 ≡ line = omega arith in
+    let p : place + 0 ≡ place = omega arith in
+    rw (l, p) refl
+definition_append line place (ws ∷ ls) ms name = elim (cases_Bool (defines ws name)) [
+  | inl t ↦ rw t refl
+  | inr f ↦
+      let l : line + 1 + length ls ≡ line + length (ws ∷ ls) = omega arith in
+      let p : place + instructions_on ws + length (statements ls) ≡ place + length (statements (ws ∷ ls)) = omega (arith, count_cons ws ls) in
+      rw f (definition_append (line + 1) (place + instructions_on ws) ls ms name ∙ ap (λ e. first_of (definition_from (line + 1) (place + instructions_on ws) ls name) e) (ap (λ k. definition_from k (place + instructions_on ws + length (statements ls)) ms name) l ∙ ap (λ k. definition_from (line + length (ws ∷ ls)) k ms name) p))
+]
+
+-- where a definition can be
+pub record IsWithin (line place : ℕ) (ls : Lines) (d : Definition) : Type 0 where
+  pub from : line ≤ d.line
+  pub to : d.line < line + length ls
+  pub by : d.place ≤ place + length (statements ls)
+
+within_next : (line place : ℕ) (ws : List (List ℕ)) (ls : Lines) (d : Definition) → IsWithin (line + 1) (place + instructions_on ws) ls d → IsWithin line place (ws ∷ ls) d
+within_next line place ws ls d w =
+    let from = w.from in
+    let to = w.to in
+    let at = w.by in
+    record { from = omega arith; to = omega arith; by = omega (arith, count_cons ws ls) }
+
+within_here : (line place : ℕ) (ws : List (List ℕ)) (ls : Lines) (d : Definition) → Some (record { line = line; place = place }) ≡ Some d → IsWithin line place (ws ∷ ls) d
+within_here line place ws ls d h =
+    let at : d.line ≡ line = cc in
+    let near : d.place ≡ place = cc in
+    record { from = omega arith; to = omega arith; by = omega arith }
+
+pub definition_within : (line place : ℕ) (ls : Lines) (name : List ℕ) (d : Definition) → definition_from line place ls name ≡ Some d → IsWithin line place ls d
+definition_within line place [] name d h = absurd cc
+definition_within line place (ws ∷ ls) name d h = elim (cases_Bool (defines ws name)) [
+  | inl t ↦ within_here line place ws ls d (rw t at h)
+  | inr f ↦ within_next line place ws ls d (definition_within (line + 1) (place + instructions_on ws) ls name d (rw f at h))
+]
+
+-- the definitions of a text, by those of its first lines
+first_lines : (ls : Lines) (k : ℕ) (name : List ℕ) → k ≤ length ls → definition_of ls name ≡ first_of (definition_of (take k ls) name) (definition_from k (length (statements (take k ls))) (drop k ls) name)
+first_lines ls k name h =
+    let here = definition_append 0 0 (take k ls) (drop k ls) name in
+    let l : 0 + length (take k ls) ≡ k = omega (arith, length-take-le k ls h) in
+    let p : 0 + length (statements (take k ls)) ≡ length (statements (take k ls)) = omega arith in
+    ap (λ ms. definition_of ms name) (sym (take-append-drop k ls)) ∙ here ∙ ap (λ n. first_of (definition_of (take k ls) name) (definition_from n (0 + length (statements (take k ls))) (drop k ls) name)) l ∙ ap (λ n. first_of (definition_of (take k ls) name) (definition_from k n (drop k ls) name)) p
+
+-- whether the line of a definition is before line k
+abbrev pub is_before : ℕ → Option Definition → Bool
+is_before k None = false
+is_before k (Some d) = nat_lt d.line k
+
+before_later : (k place : ℕ) (ls : Lines) (name : List ℕ) (e : Option Definition) → definition_from k place ls name ≡ e → is_before k e ≡ false
+before_later k place ls name None h = refl
+before_later k place ls name (Some d) h = le-ltb _ _ (definition_within k place ls name d h).from
+
+before_either : (k : ℕ) (ls ms : Lines) (place : ℕ) (name : List ℕ) (d : Option Definition) → length ls ≡ k → definition_of ls name ≡ d → is_before k (first_of d (definition_from k place ms name)) ≡ is_some d
+before_either k ls ms place name None n h = before_later k place ms name (definition_from k place ms name) refl
+before_either k ls ms place name (Some d) n h = lt-ltb _ _ (let to = (definition_within 0 0 ls name d h).to in omega arith)
+
+pub before_is : (ls : Lines) (k : ℕ) (name : List ℕ) → k ≤ length ls → is_before k (definition_of ls name) ≡ is_defined_before ls k name
+before_is ls k name h =
+    ap (is_before k) (first_lines ls k name h) ∙ before_either k (take k ls) (drop k ls) (length (statements (take k ls))) name (definition_of (take k ls) name) (length-take-le k ls h) refl
+
+-- ---- places
+place_in : (ls : Lines) (name : List ℕ) (k : ℕ) (d : Option Definition) → definition_of ls name ≡ d → option_map (λ e. e.place) d ≡ Some k → k ≤ length (statements ls)
+place_in ls name k None h e = absurd cc
+place_in ls name k (Some d) h e = let same : d.place ≡ k = cc in omega (arith, (definition_within 0 0 ls name d h).by)
+
+pub place_within : (ls : Lines) (name : List ℕ) (k : ℕ) → place_of ls name ≡ Some k → k ≤ length (statements ls)
+place_within ls name k e = place_in ls name k (definition_of ls name) refl e
+
+near_in : (ls : Lines) (name : List ℕ) (d : Option Definition) → length (statements ls) ≤ 4096 → definition_of ls name ≡ d → option_map near_place d ≡ option_map (λ e. e.place) d
+near_in ls name None short h = refl
+near_in ls name (Some d) short h =
+    let at = (definition_within 0 0 ls name d h).by in
+    let same : min d.place 4096 ≡ d.place = omega arith in
+    ap Some same
+
+-- in a text that isn't too long all places are near
+pub near_is : (ls : Lines) (name : List ℕ) → length (statements ls) ≤ 4096 → near_place_of ls name ≡ place_of ls name
+near_is ls name short = near_in ls name (definition_of ls name) short refl
+
+-- ---- one more line
+pub statements-append : (ls ms : Lines) → statements (ls ++ ms) ≡ statements ls ++ statements ms
+statements-append ls ms = ap (filter has_words) (map-append statement ls ms) ∙ filter-append has_words (map statement ls) (map statement ms)
+
+last_count : (ws : List (List ℕ)) → length (statements (ws ∷ [])) ≡ instructions_on ws
+last_count ws = count_cons ws [] ∙ add-zero (instructions_on ws)
+
+pub count_next : (ls : Lines) (k : ℕ) → k < length ls → length (statements (take (k + 1) ls)) ≡ length (statements (take k ls)) + instructions_on (get_or ls k [])
+count_next ls k h =
+    ap (λ ms. length (statements ms)) (take_more ls k [] h) ∙ ap length (statements-append (take k ls) (get_or ls k [] ∷ [])) ∙ length-append (statements (take k ls)) (statements (get_or ls k [] ∷ [])) ∙ ap (λ n. length (statements (take k ls)) + n) (last_count (get_or ls k []))
+
+-- the definition on one line
+abbrev pub definition_at : ℕ → ℕ → Option (List ℕ) → List ℕ → Option Definition
+definition_at line place label name = cond (is_named label name) (Some (record { line = line; place = place })) None
+
+pub definition_next : (ls : Lines) (k : ℕ) (name : List ℕ) → k < length ls → definition_of (take (k + 1) ls) name ≡ first_of (definition_of (take k ls) name) (definition_at k (length (statements (take k ls))) (line_label (get_or ls k [])) name)
+definition_next ls k name h =
+    let short : k ≤ length ls = omega arith in
+    let l : 0 + length (take k ls) ≡ k = omega (arith, length-take-le k ls short) in
+    let p : 0 + length (statements (take k ls)) ≡ length (statements (take k ls)) = omega arith in
+    ap (λ ms. definition_of ms name) (take_more ls k [] h) ∙ definition_append 0 0 (take k ls) (get_or ls k [] ∷ []) name
+    ∙ ap (λ n. first_of (definition_of (take k ls) name) (definition_at n (0 + length (statements (take k ls))) (line_label (get_or ls k [])) name)) l
+    ∙ ap (λ n. first_of (definition_of (take k ls) name) (definition_at k n (line_label (get_or ls k [])) name)) p
+
+first_none : (d : Option Definition) → d ≡ first_of d None
+first_none None = refl
+first_none (Some d) = refl
+
+first_some : (d e : Option Definition) → is_some d ≡ true → d ≡ first_of d e
+first_some None e h = absurd cc
+first_some (Some d) e h = refl
+
+first_absent : (d e : Option Definition) → is_some d ≡ false → e ≡ first_of d e
+first_absent None e h = refl
+first_absent (Some d) e h = absurd cc
+
+-- a table of what is defined before a line, and after it
+module _ (old : List ℕ → Option Definition) (line place : ℕ) (q : List ℕ) where
+  pub unlabelled : (label : Option (List ℕ)) → None ≡ label → old q ≡ first_of (old q) (definition_at line place label q)
+  unlabelled label e = rw (← e) (first_none (old q))
+
+  stays_by : (name : List ℕ) (b : Bool) → bytes_eq name q ≡ b → is_some (old name) ≡ true → old q ≡ first_of (old q) (cond b (Some (record { line = line; place = place })) None)
+  stays_by name true e h = let same : name ≡ q = (bytes_eq-Decides name q).0 e in first_some (old q) _ (ap (λ n. is_some (old n)) (sym same) ∙ h)
+  stays_by name false e h = first_none (old q)
+
+  pub stays : (label : Option (List ℕ)) (name : List ℕ) → Some name ≡ label → is_some (old name) ≡ true → old q ≡ first_of (old q) (definition_at line place label q)
+  stays label name e h = rw (← e) (stays_by name (bytes_eq name q) refl h)
+
+  comes_by : (name : List ℕ) (b : Bool) → bytes_eq name q ≡ b → is_some (old name) ≡ false → cond b (Some (record { line = line; place = place })) (old q) ≡ first_of (old q) (cond b (Some (record { line = line; place = place })) None)
+  comes_by name true e h = let same : name ≡ q = (bytes_eq-Decides name q).0 e in first_absent (old q) _ (ap (λ n. is_some (old n)) (sym same) ∙ h)
+  comes_by name false e h = first_none (old q)
+
+  pub comes : (label : Option (List ℕ)) (name : List ℕ) → Some name ≡ label → is_some (old name) ≡ false → update bytes_eq old name (Some (record { line = line; place = place })) q ≡ first_of (old q) (definition_at line place label q)
+  comes label name e h = rw (← e) (comes_by name (bytes_eq name q) refl h)

@@ -1,0 +1,12 @@
+pub mod Comments
+pub mod Numerals
+pub mod Operands
+pub mod Definitions
+pub mod Lent
+pub mod Lines
+pub mod Assembly
+pub mod Places
+pub mod RoundTrip
+pub mod Cutting
+pub mod Spelled
+pub mod WorkedTexts

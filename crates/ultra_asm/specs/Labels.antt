@@ -1,0 +1,76 @@
+-- the labels of a text, and what each of its lines does besides; this project's profile
+use Rattle.std.specs.Prelude.{ℕ, ◌+◌, Bool, false, List, [], ◌∷◌, drop, take, Option, Some, None, is_some, if◌then◌else◌, bytes_eq, min}
+use Rattle.std.specs.Option.{option_map}
+use Rattle.std.specs.BTreeMap.{get_by}
+use Rattle.std.specs.Cmp.Lexicographic.{slice_cmp}
+use Rattle.std.specs.Ordering.{nat_cmp}
+use Rattle.ultra_asm.specs.Words.{before_colon, is_name}
+use Rattle.ultra_asm.specs.declared.labels.Definition.{Definition}
+use Rattle.ultra_asm.specs.declared.labels.Labels.{Labels}
+
+-- a label's word is a name followed directly by `:`
+abbrev pub if_name : Option (List ℕ) → Option (List ℕ)
+if_name None = None
+if_name (Some n) = if is_name n then Some n else None
+
+abbrev pub word_label : List ℕ → Option (List ℕ)
+word_label w = if_name (before_colon w)
+
+-- the label of a line, which is given by its words
+abbrev pub line_label : List (List ℕ) → Option (List ℕ)
+line_label [] = None
+line_label (w ∷ ws) = word_label w
+
+-- the words of its instruction, if it has one
+abbrev pub after_label : Option (List ℕ) → List (List ℕ) → List (List ℕ)
+after_label None ws = ws
+after_label (Some n) ws = drop 1 ws
+
+abbrev pub statement : List (List ℕ) → List (List ℕ)
+statement ws = after_label (line_label ws) ws
+
+-- how many instructions a line has, one or none
+abbrev pub one_or_none : List (List ℕ) → ℕ
+one_or_none [] = 0
+one_or_none (w ∷ ws) = 1
+
+abbrev pub instructions_on : List (List ℕ) → ℕ
+instructions_on ws = one_or_none (statement ws)
+
+-- whether a line's label is this name
+abbrev pub is_named : Option (List ℕ) → List ℕ → Bool
+is_named None name = false
+is_named (Some n) name = bytes_eq n name
+
+abbrev pub defines : List (List ℕ) → List ℕ → Bool
+defines ws name = is_named (line_label ws) name
+
+-- the first line that defines a name, and the place of the next instruction, counted from these numbers
+abbrev pub definition_from : ℕ → ℕ → List (List (List ℕ)) → List ℕ → Option Definition
+definition_from line place [] name = None
+definition_from line place (ws ∷ ls) name = if defines ws name then Some (record { line = line; place = place }) else definition_from (line + 1) (place + instructions_on ws) ls name
+
+abbrev pub definition_of : List (List (List ℕ)) → List ℕ → Option Definition
+definition_of ls name = definition_from 0 0 ls name
+
+-- the place that a label names
+abbrev pub place_of : List (List (List ℕ)) → List ℕ → Option ℕ
+place_of ls name = option_map (λ d. d.place) (definition_of ls name)
+
+-- whether a line before line k defines the name
+abbrev pub is_defined_before : List (List (List ℕ)) → ℕ → List ℕ → Bool
+is_defined_before ls k name = is_some (definition_of (take k ls) name)
+
+-- the same places, of which those above 4096 count as 4096: a program that has them is too long
+abbrev pub near_place : Definition → ℕ
+near_place d = min d.place 4096
+
+abbrev pub near_place_of : List (List (List ℕ)) → List ℕ → Option ℕ
+near_place_of ls name = option_map near_place (definition_of ls name)
+
+-- what a table of labels holds
+abbrev pub definition_in : Labels → List ℕ → Option Definition
+definition_in l name = get_by (λ k. slice_cmp nat_cmp name k.now) l.definitions
+
+abbrev pub places_in : Labels → List ℕ → Option ℕ
+places_in l name = option_map near_place (definition_in l name)

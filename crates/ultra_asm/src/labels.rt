@@ -1,0 +1,79 @@
+//! The labels of a text.
+
+ghost use Rattle.std.specs.Prelude.{◌≡◌, ℕ, List, map, IfOk};
+ghost use Rattle.std.specs.Option.{option_copied};
+ghost use Rattle.ultra_asm.specs.Labels.{line_label, statement, definition_of, definition_in, places_in};
+
+use crate::words::{before_colon, is_name};
+use std::alloc::{AllocError, Global};
+use std::collections::BTreeMap;
+use ultra_isa::MOST_INSTRUCTIONS;
+
+/// Where a label is defined.
+#[derive(Clone, Copy, PartialEq, Eq, Debug, Drop)]
+pub struct Definition {
+    /// The line, by its index from 0.
+    pub line: usize,
+    /// The place of the next instruction.
+    pub place: usize,
+}
+
+/// The labels of a text, each with the first line that defines it.
+#[derive(Drop)]
+pub struct Labels<'t> {
+    definitions: BTreeMap<&'t [u8], Definition, Global>,
+}
+
+impl<'t> Labels<'t> {
+    /// The labels of a text whose lines have these words.
+    pub fn of(alloc: Global, lines: &[Vec<&'t [u8]>]) -> Result<Labels<'t>, AllocError>
+        ensures { IfOk result (λ l. (q : List ℕ) → definition_in l q ≡ definition_of (map (λ v. map (λ w. w.now) v.items) lines.now) q) }
+    {
+        let mut definitions = BTreeMap::new(alloc);
+        let mut place = 0;
+        for (line, words) in lines.iter().enumerate() {
+            if let Some(name) = line_label(words) {
+                if !definitions.contains_key(name) {
+                    definitions.insert(name, Definition { line, place })?;
+                }
+            }
+            if !statement(words).is_empty() {
+                place += 1;
+            }
+        }
+        Ok(Labels { definitions })
+    }
+
+    /// Where the name is defined, if it is.
+    pub fn definition(&self, name: &[u8]) -> Option<Definition>
+        ensures { result ≡ definition_in self.now name.now }
+    {
+        self.definitions.get(name).copied()
+    }
+
+    /// The place that the name stands for, if it is defined. Places above 4096 count as 4096.
+    pub fn place(&self, name: &[u8]) -> Option<u16>
+        ensures { result ≡ places_in self.now name.now }
+    {
+        let definition = self.definition(name)?;
+        Some(definition.place.min(MOST_INSTRUCTIONS) as u16)
+    }
+}
+
+/// The label that a line of these words begins with, if it does: a name followed directly by `:`.
+pub fn line_label<'t>(words: &[&'t [u8]]) -> Option<&'t [u8]>
+    ensures { option_copied result ≡ line_label (map (λ w. w.now) words.now) }
+{
+    let name = before_colon(words.first()?)?;
+    if is_name(name) { Some(name) } else { None }
+}
+
+/// The words behind the label: those of the line's instruction, if it has one.
+pub fn statement<'w, 't>(words: &'w [&'t [u8]]) -> &'w [&'t [u8]]
+    ensures { map (λ w. w.now) result.now ≡ statement (map (λ w. w.now) words.now) }
+{
+    match line_label(words) {
+        Some(_) => &words[1..],
+        None => words,
+    }
+}

@@ -1,0 +1,116 @@
+//! The assembler: from the text of a program to its instructions, and back to its canonical listing. The language is this project's profile.
+#![tactic(auto)]
+
+ghost use Rattle.std.specs.Prelude.{◌≡◌, List, IfOk, IfErr};
+ghost use Rattle.ultra_isa.specs.declared.Instr.{Instr};
+ghost use Rattle.ultra_asm.specs.ProgramText.{IsProgramText, ExplainsFault, IsGivenBack};
+
+mod canonical;
+mod instruction;
+mod labels;
+mod reading;
+#[cfg(test)]
+mod tests;
+mod words;
+
+use crate::labels::Labels;
+use crate::reading::line_instruction;
+pub use canonical::listing;
+use std::alloc::{AllocError, AllocFailed, Global};
+use thiserror::Error;
+use ultra_isa::{MOST_INSTRUCTIONS, Program};
+
+/// What is wrong in a program's text.
+#[derive(Clone, Copy, PartialEq, Eq, Debug, Drop, Error)]
+pub enum AsmFaultKind {
+    /// Memory for the words of the text, its labels or its instructions was refused.
+    #[error("no memory")]
+    NoMemory,
+    /// The word names no instruction; or it ends with `:` at the beginning of a line and isn't a label.
+    #[error("unknown word")]
+    UnknownWord,
+    /// An operand should be a register, and isn't.
+    #[error("bad register")]
+    BadRegister,
+    /// An operand should be a number, and isn't, or is too large.
+    #[error("bad number")]
+    BadNumber,
+    /// A jump goes to a label that no line defines.
+    #[error("unknown label")]
+    UnknownLabel,
+    /// A label stood on an earlier line.
+    #[error("double label")]
+    DoubleLabel,
+    /// The instruction would be the 4097th.
+    #[error("too long")]
+    TooLong,
+    /// There are too many or too few operands.
+    #[error("wrong operands")]
+    WrongOperands,
+}
+
+/// The first fault of a text, and the line that has it.
+#[derive(Clone, Copy, PartialEq, Eq, Debug, Drop, Error)]
+#[error("line {line}: {kind}")]
+pub struct AsmFault {
+    /// The line's number, from 1; 0 for want of memory.
+    pub line: usize,
+    /// What is wrong there.
+    pub kind: AsmFaultKind,
+}
+
+impl AsmFault {
+    const NO_MEMORY: AsmFault = AsmFault {
+        line: 0,
+        kind: AsmFaultKind::NoMemory,
+    };
+}
+
+impl From<AllocError> for AsmFault {
+    ghost use Rattle.ultra_asm.specs.AsmFault.{no_memory};
+
+    ghost from_gives = { λ _ fault. fault ≡ no_memory };
+
+    fn from(_: AllocError) -> AsmFault {
+        AsmFault::NO_MEMORY
+    }
+}
+
+impl<T: Drop> From<AllocFailed<T>> for AsmFault {
+    ghost use Rattle.ultra_asm.specs.AsmFault.{no_memory};
+
+    ghost from_gives = { λ _ fault. fault ≡ no_memory };
+
+    fn from(_: AllocFailed<T>) -> AsmFault {
+        AsmFault::NO_MEMORY
+    }
+}
+
+/// The program that the text writes: in the grammar of this project's profile, each line may begin with a label and then may have an instruction.
+///
+/// Else the least line that has a fault is named; or `NoMemory`, with line 0, where memory for the words, the labels or the instructions was refused. Its time grows with the text's length, but for the logarithm of the number of labels.
+pub fn assemble(alloc: Global, text: &str) -> Result<Program, AsmFault>
+    ensures ok { IfOk result (IsProgramText text.now) }
+    ensures refused { IfErr result (ExplainsFault text.now) }
+    ensures given_back { (p : List Instr) → IsProgramText text.now p → IsGivenBack p result }
+{
+    let lines = words::lines_in(alloc, text.as_bytes())?;
+    let labels = Labels::of(alloc, lines.as_slice())?;
+    let mut list = Vec::new(alloc);
+    for (index, words) in lines.iter().enumerate() {
+        let has_room = list.len() < MOST_INSTRUCTIONS;
+        let found = match line_instruction(words.as_slice(), index, has_room, &labels) {
+            Ok(found) => found,
+            Err(kind) => {
+                return Err(AsmFault {
+                    line: index + 1,
+                    kind,
+                });
+            }
+        };
+        if let Some(instruction) = found {
+            list.push(instruction)?;
+        }
+    }
+    Ok(Program::new(list).unwrap())
+}

@@ -1,0 +1,198 @@
+//! From the words of an instruction to the instruction.
+
+ghost use Rattle.std.specs.Prelude.{◌≡◌, map};
+ghost use Rattle.ultra_asm.specs.Labels.{definition_in, places_in};
+ghost use Rattle.ultra_asm.specs.Reading.{none_in, one_in, two_in, three_in, read_instruction, read_statement, check_label, read_line};
+
+use crate::AsmFaultKind;
+use crate::instruction::Mnemonic;
+use crate::labels::{Labels, statement};
+use crate::words::{before_colon, is_name, number_written, register_named, shift_written};
+use ultra_isa::Instr;
+use ultra_msg::{Register, Shift, Word};
+
+/// What can stand as an operand of an instruction.
+pub trait Readable: Sized {
+    ghost use Rattle.std.specs.Prelude.{ℕ, List, Result};
+    ghost use Rattle.ultra_asm.specs.declared.AsmFaultKind.{AsmFaultKind};
+    ghost use Rattle.ultra_asm.specs.Reading.{Places};
+
+    /// What a word is read as, where this is where each label is.
+    ghost reading: { Places → List ℕ → Result Self AsmFaultKind };
+
+    /// Reads a word.
+    fn read(word: &[u8], labels: &Labels) -> Result<Self, AsmFaultKind>
+        ensures { result ≡ reading (places_in labels.now) word.now };
+}
+
+impl Readable for Register {
+    ghost use Rattle.ultra_asm.specs.Reading.{read_register};
+
+    ghost reading = { λ places w. read_register places w };
+
+    fn read(word: &[u8], _labels: &Labels) -> Result<Register, AsmFaultKind> {
+        register_named(word).ok_or(AsmFaultKind::BadRegister)
+    }
+}
+
+impl Readable for Word {
+    ghost use Rattle.ultra_asm.specs.Reading.{read_number};
+
+    ghost reading = { λ places w. read_number places w };
+
+    fn read(word: &[u8], _labels: &Labels) -> Result<Word, AsmFaultKind> {
+        number_written(word).ok_or(AsmFaultKind::BadNumber)
+    }
+}
+
+impl Readable for Shift {
+    ghost use Rattle.ultra_asm.specs.Reading.{read_shift};
+
+    ghost reading = { λ places w. read_shift places w };
+
+    fn read(word: &[u8], _labels: &Labels) -> Result<Shift, AsmFaultKind> {
+        shift_written(word).ok_or(AsmFaultKind::BadNumber)
+    }
+}
+
+impl Readable for u16 {
+    ghost use Rattle.ultra_asm.specs.Reading.{read_label};
+
+    ghost reading = { λ places w. read_label places w };
+
+    /// The place that a label names.
+    fn read(word: &[u8], labels: &Labels) -> Result<u16, AsmFaultKind> {
+        labels.place(word).ok_or(AsmFaultKind::UnknownLabel)
+    }
+}
+
+/// No operand.
+fn none(operands: &[&[u8]]) -> Result<(), AsmFaultKind>
+    ensures { result ≡ none_in (map (λ w. w.now) operands.now) }
+{
+    match operands {
+        [] => Ok(()),
+        _ => Err(AsmFaultKind::WrongOperands),
+    }
+}
+
+/// One operand.
+fn one<A: Readable + Drop>(operands: &[&[u8]], labels: &Labels) -> Result<A, AsmFaultKind>
+    ensures { result ≡ one_in (A.reading (places_in labels.now)) (map (λ w. w.now) operands.now) }
+{
+    match operands {
+        [first] => A::read(first, labels),
+        _ => Err(AsmFaultKind::WrongOperands),
+    }
+}
+
+/// Two operands.
+fn two<A: Readable + Drop, B: Readable + Drop>(
+    operands: &[&[u8]],
+    labels: &Labels,
+) -> Result<(A, B), AsmFaultKind>
+    ensures { result ≡ two_in (A.reading (places_in labels.now)) (B.reading (places_in labels.now)) (map (λ w. w.now) operands.now) }
+{
+    match operands {
+        [first, second] => Ok((A::read(first, labels)?, B::read(second, labels)?)),
+        _ => Err(AsmFaultKind::WrongOperands),
+    }
+}
+
+/// Three operands.
+fn three<A: Readable + Drop, B: Readable + Drop, C: Readable + Drop>(
+    operands: &[&[u8]],
+    labels: &Labels,
+) -> Result<(A, B, C), AsmFaultKind>
+    ensures { result ≡ three_in (A.reading (places_in labels.now)) (B.reading (places_in labels.now)) (C.reading (places_in labels.now)) (map (λ w. w.now) operands.now) }
+{
+    match operands {
+        [first, second, third] => Ok((
+            A::read(first, labels)?,
+            B::read(second, labels)?,
+            C::read(third, labels)?,
+        )),
+        _ => Err(AsmFaultKind::WrongOperands),
+    }
+}
+
+/// The instruction of a mnemonic with its operands.
+fn instruction(
+    mnemonic: Mnemonic,
+    operands: &[&[u8]],
+    labels: &Labels,
+) -> Result<Instr, AsmFaultKind>
+    ensures { result ≡ read_instruction (places_in labels.now) mnemonic (map (λ w. w.now) operands.now) }
+{
+    match mnemonic {
+        Mnemonic::Set => two(operands, labels).map(|(d, n)| Instr::Set(d, n)),
+        Mnemonic::Add => three(operands, labels).map(|(d, a, b)| Instr::Add(d, a, b)),
+        Mnemonic::AddWord => three(operands, labels).map(|(d, a, n)| Instr::AddWord(d, a, n)),
+        Mnemonic::Subtract => three(operands, labels).map(|(d, a, b)| Instr::Subtract(d, a, b)),
+        Mnemonic::And => three(operands, labels).map(|(d, a, b)| Instr::And(d, a, b)),
+        Mnemonic::ShiftRight => three(operands, labels).map(|(d, a, n)| Instr::ShiftRight(d, a, n)),
+        Mnemonic::IsBelow => three(operands, labels).map(|(d, a, b)| Instr::IsBelow(d, a, b)),
+        Mnemonic::IsEqual => three(operands, labels).map(|(d, a, b)| Instr::IsEqual(d, a, b)),
+        Mnemonic::JumpIfZero => two(operands, labels).map(|(a, to)| Instr::JumpIfZero(a, to)),
+        Mnemonic::JumpIfNotZero => two(operands, labels).map(|(a, to)| Instr::JumpIfNotZero(a, to)),
+        Mnemonic::Jump => one(operands, labels).map(Instr::Jump),
+        Mnemonic::Number => one(operands, labels).map(Instr::Number),
+        Mnemonic::Size => one(operands, labels).map(Instr::Size),
+        Mnemonic::Load => two(operands, labels).map(|(d, a)| Instr::Load(d, a)),
+        Mnemonic::Store => two(operands, labels).map(|(a, b)| Instr::Store(a, b)),
+        Mnemonic::Faa => three(operands, labels).map(|(d, a, b)| Instr::Faa(d, a, b)),
+        Mnemonic::Swap => three(operands, labels).map(|(d, a, b)| Instr::Swap(d, a, b)),
+        Mnemonic::Fence => none(operands).map(|()| Instr::Fence),
+        Mnemonic::Halt => none(operands).map(|()| Instr::Halt),
+    }
+}
+
+/// The instruction of the words behind a label, or `None` where there are no words. `has_room` tells whether the program may have one more.
+fn statement_instruction(
+    words: &[&[u8]],
+    has_room: bool,
+    labels: &Labels,
+) -> Result<Option<Instr>, AsmFaultKind>
+    ensures { result ≡ read_statement (places_in labels.now) has_room (map (λ w. w.now) words.now) }
+{
+    let Some((word, operands)) = words.split_first() else {
+        return Ok(None);
+    };
+    let mnemonic = Mnemonic::named(word).ok_or(AsmFaultKind::UnknownWord)?;
+    if !has_room {
+        return Err(AsmFaultKind::TooLong);
+    }
+    Ok(Some(instruction(mnemonic, operands, labels)?))
+}
+
+/// Whether the line of this index, from 0, may begin as its words do: what ends with `:` must be a label, and one that stood on no earlier line.
+fn check_label(words: &[&[u8]], index: usize, labels: &Labels) -> Result<(), AsmFaultKind>
+    ensures { result ≡ check_label (definition_in labels.now) index (map (λ w. w.now) words.now) }
+{
+    let Some(word) = words.first() else {
+        return Ok(());
+    };
+    let Some(name) = before_colon(word) else {
+        return Ok(());
+    };
+    if !is_name(name) {
+        return Err(AsmFaultKind::UnknownWord);
+    }
+    match labels.definition(name) {
+        Some(definition) if definition.line < index => Err(AsmFaultKind::DoubleLabel),
+        _ => Ok(()),
+    }
+}
+
+/// The instruction of the line of this index, from 0, or `None` where it has none. `has_room` tells whether the program may have one more.
+pub fn line_instruction(
+    words: &[&[u8]],
+    index: usize,
+    has_room: bool,
+    labels: &Labels,
+) -> Result<Option<Instr>, AsmFaultKind>
+    ensures { result ≡ read_line (definition_in labels.now) index has_room (map (λ w. w.now) words.now) }
+{
+    check_label(words, index, labels)?;
+    statement_instruction(statement(words), has_room, labels)
+}

@@ -1,0 +1,210 @@
+//! Texts with their listings and their faults.
+
+ghost use Rattle.std.specs.Prelude.{◌<◌};
+
+use super::*;
+use std::process::Abort;
+use std::str;
+use std::test::Fail;
+use ultra_isa::Instr;
+use ultra_msg::{Register, Sink, SinkFault};
+
+/// A sink in memory. It takes so many bytes a write at most, and fails from one of its writes on.
+#[derive(Drop)]
+struct Tray<'r, R: Abort> {
+    rt: &'r R,
+    bytes: Vec<u8>,
+    failures: u64,
+    most: usize,
+    sound_writes: usize,
+    ghost takes_some: { 0 < most },
+}
+
+impl<'r, R: Abort + AllocGlobal> Tray<'r, R> {
+    /// A tray that takes three bytes a write.
+    fn new(rt: &'r R) -> Self {
+        Tray {
+            rt,
+            bytes: Vec::new(rt.alloc()),
+            failures: 0,
+            most: 3,
+            sound_writes: usize::MAX,
+        }
+    }
+}
+
+impl<R: Abort> Tray<'_, R> {
+    fn text(&self) -> Result<&str, Fail> {
+        Ok(str::from_utf8(self.bytes.as_slice())?)
+    }
+}
+
+impl<R: Abort> Sink for Tray<'_, R> {
+    ghost taken = { λ t. t.bytes.items };
+
+    ghost failures = { λ t. t.failures };
+
+    fn write(&mut self, bytes: &[u8]) -> Result<usize, SinkFault> {
+        if self.sound_writes == 0 {
+            self.failures = self
+                .failures
+                .checked_add(1)
+                .expect(self.rt, "too many failures");
+            return Err(SinkFault);
+        }
+        let count = bytes.len().min(self.most);
+        self.bytes
+            .extend_from_slice(&bytes[..count])
+            .expect(self.rt, "no memory");
+        self.sound_writes -= 1;
+        Ok(count)
+    }
+}
+
+/// Asserts that the text is assembled to a program with this listing, and the listing to one with the same.
+fn check_listing<R: AllocGlobal + Abort>(rt: &R, text: &str, wanted: &str) -> Result<(), Fail> {
+    let mut tray = Tray::new(rt);
+    listing(&assemble(rt.alloc(), text)?, &mut tray)?;
+    assert_eq!(rt; tray.text()?, wanted, "of {text}");
+    let mut again = Tray::new(rt);
+    listing(&assemble(rt.alloc(), wanted)?, &mut again)?;
+    assert_eq!(rt; again.text()?, wanted, "of {wanted}");
+    Ok(())
+}
+
+#[test]
+fn listings_are_canonical(rt: HostRuntime) -> Result<(), Fail> {
+    check_listing(&rt, "", "")?;
+    check_listing(&rt, "; nothing\n\n#;\n \t,\r", "")?;
+    check_listing(&rt, "li r1 007 # seven", "li r1 7\n")?;
+    check_listing(&rt, "x: jmp x", "L0:\njmp L0\n")?;
+    check_listing(&rt, "jmp end\nend:", "jmp L1\nL1:\n")?;
+    check_listing(&rt, "a:\nc_9:;b\n", "")?;
+    check_listing(&rt, "halt:\n_: halt\nunused: halt", "halt\nhalt\n")?;
+    check_listing(
+        &rt,
+        "pid r1\njnz r1 end\nli r2 1\nfaa r3 r0 r2\nfaa r4 r0 r2\nend:\nhalt",
+        "pid r1\njnz r1 L5\nli r2 1\nfaa r3 r0 r2\nfaa r4 r0 r2\nL5:\nhalt\n",
+    )
+}
+
+#[test]
+fn all_instructions_are_listed(rt: HostRuntime) -> Result<(), Fail> {
+    check_listing(
+        &rt,
+        "again:,li\tr15 4294967295\r\nadd r0,r1,r2\nL7: addi r3 r4 0000\nsub r5 r6 r7\nand r8 r9 r10\nshr r11 r12 31\nslt r13 r14 r15\nseq r0 r0 r0\njz r1 L7\njnz r2 again\njmp end\npid r3\nnp r4\nld r5 r6\nst r7 r8\nfaa r9 r10 r11\nswap r12 r13 r14;\nfence#\nhalt\nend:",
+        "L0:\nli r15 4294967295\nadd r0 r1 r2\nL2:\naddi r3 r4 0\nsub r5 r6 r7\nand r8 r9 r10\nshr r11 r12 31\nslt r13 r14 r15\nseq r0 r0 r0\njz r1 L2\njnz r2 L0\njmp L19\npid r3\nnp r4\nld r5 r6\nst r7 r8\nfaa r9 r10 r11\nswap r12 r13 r14\nfence\nhalt\nL19:\n",
+    )
+}
+
+/// Asserts that the text is refused with this fault.
+fn check_fault<R: AllocGlobal + Abort>(
+    rt: &R,
+    text: &str,
+    line: usize,
+    kind: AsmFaultKind,
+) -> Result<(), Fail> {
+    let Err(fault) = assemble(rt.alloc(), text) else {
+        return Err("accepted".into());
+    };
+    assert_eq!(rt; fault, AsmFault { line, kind }, "of {text}");
+    Ok(())
+}
+
+#[test]
+fn the_least_line_with_a_fault_is_told(rt: HostRuntime) -> Result<(), Fail> {
+    for (text, line, kind) in [
+        ("x: x: halt", 1, AsmFaultKind::UnknownWord),
+        ("a:\nb: c_9:;", 2, AsmFaultKind::UnknownWord),
+        ("9x:", 1, AsmFaultKind::UnknownWord),
+        (":", 1, AsmFaultKind::UnknownWord),
+        ("x : halt", 1, AsmFaultKind::UnknownWord),
+        ("x:halt", 1, AsmFaultKind::UnknownWord),
+        ("HALT", 1, AsmFaultKind::UnknownWord),
+        ("jmp q\nfoo", 1, AsmFaultKind::UnknownLabel),
+        ("jmp q\nq: foo", 2, AsmFaultKind::UnknownWord),
+        ("jmp 5", 1, AsmFaultKind::UnknownLabel),
+        ("jmp L0", 1, AsmFaultKind::UnknownLabel),
+        ("a:\nhalt\na:\nhalt", 3, AsmFaultKind::DoubleLabel),
+        ("a:\n\n a: foo", 3, AsmFaultKind::DoubleLabel),
+        ("jmp a\na: li\na:", 2, AsmFaultKind::WrongOperands),
+        ("halt\nlii r1 1\nli r1", 2, AsmFaultKind::UnknownWord),
+        ("li r00 1", 1, AsmFaultKind::BadRegister),
+        ("li r16 1", 1, AsmFaultKind::BadRegister),
+        ("li R1 1", 1, AsmFaultKind::BadRegister),
+        ("jnz 5 a", 1, AsmFaultKind::BadRegister),
+        ("faa r1 r2 3", 1, AsmFaultKind::BadRegister),
+        ("li r1 4294967296", 1, AsmFaultKind::BadNumber),
+        ("li r1 +1", 1, AsmFaultKind::BadNumber),
+        ("li r1 r2", 1, AsmFaultKind::BadNumber),
+        ("shr r1 r1 32", 1, AsmFaultKind::BadNumber),
+        ("add r1 r2", 1, AsmFaultKind::WrongOperands),
+        ("add r1 x 3 4", 1, AsmFaultKind::WrongOperands),
+        ("jmp", 1, AsmFaultKind::WrongOperands),
+        ("halt r1", 1, AsmFaultKind::WrongOperands),
+    ] {
+        check_fault(&rt, text, line, kind)?;
+    }
+    Ok(())
+}
+
+#[test]
+fn a_name_has_at_most_32_bytes(rt: HostRuntime) -> Result<(), Fail> {
+    check_listing(
+        &rt,
+        "abcdefghijklmnopqrstuvwxyz_01234: jmp abcdefghijklmnopqrstuvwxyz_01234",
+        "L0:\njmp L0\n",
+    )?;
+    check_fault(
+        &rt,
+        "\nabcdefghijklmnopqrstuvwxyz_012345:",
+        2,
+        AsmFaultKind::UnknownWord,
+    )
+}
+
+#[test]
+fn a_program_has_at_most_4096_instructions(rt: HostRuntime) -> Result<(), Fail> {
+    let mut text = String::new(rt.alloc());
+    for _ in 0..4096 {
+        text.push_str("halt\n")?;
+    }
+    assert_eq!(rt; assemble(rt.alloc(), text.as_str())?.len(), 4096);
+    text.push_str("end:; nothing\nhalt r1")?;
+    let Err(fault) = assemble(rt.alloc(), text.as_str()) else {
+        return Err("accepted".into());
+    };
+    let text = format!(in rt.alloc(); "{fault}")?;
+    assert_eq!(rt; text.as_str(), "line 4098: too long");
+    Ok(())
+}
+
+#[test]
+fn a_fault_of_the_sink_is_told(rt: HostRuntime) -> Result<(), Fail> {
+    let program = assemble(rt.alloc(), "x: jmp x")?;
+    let mut tray = Tray::new(&rt);
+    tray.sound_writes = 3;
+    assert_eq!(rt; listing(&program, &mut tray), Err(SinkFault));
+    assert_eq!(rt; tray.text()?, "L0:\n");
+    assert_eq!(rt; tray.failures, 1);
+    Ok(())
+}
+
+/// Run with an allocator that refuses one of its calls, it tells that no memory was there, or gives the program.
+#[test]
+fn refused_memory_is_told(rt: HostRuntime) -> Result<(), Fail> {
+    match assemble(rt.alloc(), "a: li r1 1\nb: jmp a\nc: halt ; end\nd:") {
+        Ok(program) => {
+            let first = Register::new(1).ok_or("no register")?;
+            assert_eq!(rt; program.len(), 3);
+            assert_eq!(rt; program.instruction(0), Some(Instr::Set(first, 1)));
+            assert_eq!(rt; program.instruction(1), Some(Instr::Jump(0)));
+            assert_eq!(rt; program.instruction(2), Some(Instr::Halt));
+        }
+        Err(fault) => {
+            let kind = AsmFaultKind::NoMemory;
+            assert_eq!(rt; fault, AsmFault { line: 0, kind });
+        }
+    }
+    Ok(())
+}

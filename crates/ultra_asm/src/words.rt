@@ -1,0 +1,157 @@
+//! The lines of a text, and their words.
+
+ghost use Rattle.std.specs.Prelude.{◌≡◌, ◌-◌, map, position, IfOk, SomeIff};
+ghost use Rattle.std.specs.List.{before_first, list_all};
+ghost use Rattle.std.specs.Int.{IsInRange};
+ghost use Rattle.std.specs.Option.{option_copied};
+ghost use Rattle.ultra_asm.specs.Words.{is_separator, begins_comment, words_of, line_words, text_words, lines_of, is_letter, is_name_byte, is_name, before_colon, number_of, register_of, shift_of};
+
+use std::alloc::{AllocError, Global};
+use ultra_msg::{Register, Shift, Word};
+
+/// The words of each line of a text.
+pub fn lines_in(alloc: Global, text: &[u8]) -> Result<Vec<Vec<&[u8]>>, AllocError>
+    ensures { IfOk result (λ v. map (λ l. map (λ w. w.now) l.items) v.items ≡ text_words text.now) }
+{
+    let mut lines = Vec::new(alloc);
+    for line in cut_lines(alloc, text)?.iter() {
+        lines.push(words_in(alloc, before_comment(line))?)?;
+    }
+    Ok(lines)
+}
+
+/// The lines of a text.
+fn cut_lines(alloc: Global, text: &[u8]) -> Result<Vec<&[u8]>, AllocError>
+    ensures { IfOk result (λ v. map (λ l. l.now) v.items ≡ lines_of text.now) }
+{
+    text.split(|byte| *byte == b'\n').collect(alloc)
+}
+
+/// The line without its comment.
+fn before_comment(line: &[u8]) -> &[u8]
+    ensures { result.now ≡ before_first begins_comment line.now }
+{
+    match comment_start(line) {
+        Some(end) => &line[..end],
+        None => line,
+    }
+}
+
+/// Where the comment begins, if there is one.
+fn comment_start(line: &[u8]) -> Option<usize>
+    ensures { result ≡ position begins_comment line.now }
+{
+    line.iter().position(|byte| begins_comment(*byte))
+}
+
+/// The words of a line without comment.
+fn words_in(alloc: Global, code: &[u8]) -> Result<Vec<&[u8]>, AllocError>
+    ensures { IfOk result (λ v. map (λ w. w.now) v.items ≡ words_of code.now) }
+{
+    code.split(|byte| is_separator(*byte))
+        .filter(|word| !word.is_empty())
+        .collect(alloc)
+}
+
+/// Whether the byte begins a comment: `;` or `#`.
+fn begins_comment(byte: u8) -> bool
+    ensures { result ≡ begins_comment byte }
+{
+    byte == b';' || byte == b'#'
+}
+
+/// Whether the byte separates words: a blank, a tab, byte 13 or a comma.
+fn is_separator(byte: u8) -> bool
+    ensures { result ≡ is_separator byte }
+{
+    byte == b' ' || byte == b'\t' || byte == b'\r' || byte == b','
+}
+
+/// What stands before the `:` at a word's end, if there is one.
+pub fn before_colon(word: &[u8]) -> Option<&[u8]>
+    ensures { option_copied result ≡ before_colon word.now }
+{
+    match word {
+        [name @ .., b':'] => Some(name),
+        _ => None,
+    }
+}
+
+/// Whether the word is a name: 1 to 32 bytes, first a letter or `_`, then letters, `_` or digits.
+pub fn is_name(word: &[u8]) -> bool
+    ensures { result ≡ is_name word.now }
+{
+    !word.is_empty() && word.len() <= MOST_NAME_BYTES && is_letter(word[0]) && all_in_names(word)
+}
+
+/// Whether each byte can stand in a name.
+fn all_in_names(word: &[u8]) -> bool
+    ensures { result ≡ list_all is_name_byte word.now }
+{
+    word.iter().all(|byte| is_name_byte(*byte))
+}
+
+/// The most bytes of a name.
+const MOST_NAME_BYTES: usize = 32;
+
+/// Whether the byte is a letter or `_`.
+fn is_letter(byte: u8) -> bool
+    ensures { result ≡ is_letter byte }
+{
+    matches!(byte, b'A'..=b'Z' | b'a'..=b'z' | b'_')
+}
+
+/// Whether the byte is a letter, `_` or a digit.
+fn is_name_byte(byte: u8) -> bool
+    ensures { result ≡ is_name_byte byte }
+{
+    is_letter(byte) || matches!(byte, b'0'..=b'9')
+}
+
+/// The register of this name: `r0` to `r15`, without leading zero.
+pub fn register_named(word: &[u8]) -> Option<Register>
+    ensures { result ≡ register_of word.now }
+{
+    let [b'r', digits @ ..] = word else {
+        return None;
+    };
+    if digits.len() > 1 && digits[0] == b'0' {
+        return None;
+    }
+    let index = number_written(digits)?;
+    Register::new(u8::try_from(index).ok()?)
+}
+
+/// The number of bits that a number from 0 to 31 writes.
+pub fn shift_written(word: &[u8]) -> Option<Shift>
+    ensures { result ≡ shift_of word.now }
+{
+    let bits = number_written(word)?;
+    Shift::new(u8::try_from(bits).ok()?)
+}
+
+/// The number that one decimal digit or more write, if it is below `2^32`.
+pub fn number_written(word: &[u8]) -> Option<Word>
+    ensures { result ≡ number_of word.now }
+{
+    if word.is_empty() {
+        return None;
+    }
+    let mut value = 0u32;
+    for byte in word {
+        let ones = u32::from(digit(*byte)?);
+        value = value.checked_mul(10)?.checked_add(ones)?;
+    }
+    Some(value)
+}
+
+/// The value of a decimal digit.
+fn digit(byte: u8) -> Option<u8>
+    ensures { SomeIff result (IsInRange 48 57 byte) (byte - 48) }
+{
+    if byte.is_ascii_digit() {
+        Some(byte - b'0')
+    } else {
+        None
+    }
+}

@@ -1,0 +1,152 @@
+//! Rings of requests with marks.
+
+ghost use Rattle.std.specs.Prelude.{◌≡◌, ℕ, ◌+◌, ◌<◌, ◌≤◌, ◌==◌, ◌++◌, ◌∷◌, [], length, drop, slice_get, slice_set, IfOk, IfSome, Some, true, false};
+ghost use Rattle.std.specs.List.{position};
+ghost use Rattle.ultra_switch.specs.Arrive.{can_combine, entry};
+ghost use Rattle.ultra_switch.specs.Queues.{request_of};
+
+use crate::Entry;
+use crate::marks::Marks;
+use circular_buffer::HeapCircularBuffer;
+use std::alloc::{AllocError, Global};
+use std::marker::Model;
+use ultra_msg::Request;
+
+/// The most places that a queue toward memory can have: as many as a word has bits.
+pub(crate) const MOST_REQUEST_PLACES: usize = 32;
+
+/// A queue of requests, each with a mark, in a ring of a fixed number of places.
+#[derive(Drop)]
+pub(crate) struct MarkedQueue {
+    requests: HeapCircularBuffer<Request>,
+    marks: Marks,
+}
+
+impl Model for MarkedQueue {
+    ghost use Rattle.ultra_switch.specs.Marks.{MarkedEntries, marked_by, IsMarked};
+
+    ghost Value = { MarkedEntries };
+
+    ghost view = { λ q. record { entries = marked_by q.marks q.requests.items; places = q.requests.capacity } };
+
+    ghost invariant = { λ q. IsMarked q.marks q.requests.items q.requests.capacity };
+}
+
+impl MarkedQueue {
+    ghost use Rattle.ultra_switch.specs.Marks.{MarkedEntries, marked_by};
+    ghost use Rattle.ultra_switch.specs.Partner.{IsFirst};
+
+    /// An empty queue of this many places.
+    pub(crate) fn new(alloc: Global, places: usize) -> Result<MarkedQueue, AllocError>
+        requires { places ≤ 32 }
+        ensures { IfOk result (λ q. q ≡ record { entries = []; places = places }) }
+    {
+        Ok(MarkedQueue {
+            requests: HeapCircularBuffer::with_capacity(alloc, places)?,
+            marks: Marks::none(),
+        })
+    }
+
+    /// How many requests stand in the queue.
+    pub(crate) fn len(&self) -> usize
+        ensures value { result ≡ length self.now.entries }
+        ensures within { result ≤ self.now.places }
+    {
+        self.requests.len()
+    }
+
+    /// How many places the queue has, at most 32.
+    pub(crate) fn places(&self) -> usize
+        ensures value { result ≡ self.now.places }
+        ensures most { result ≤ 32 }
+    {
+        self.requests.capacity()
+    }
+
+    /// Whether no request stands in the queue.
+    pub(crate) fn is_empty(&self) -> bool
+        ensures { result ≡ (length self.now.entries == 0) }
+    {
+        self.requests.is_empty()
+    }
+
+    /// The request at this place, counted from 0 at the front, with its mark.
+    pub(crate) fn entry(&self, place: usize) -> Entry
+        requires { place < length self.now.entries }
+        ensures { slice_get self.now.entries place ≡ Some result }
+    {
+        Entry {
+            request: request_at(&self.requests, place),
+            combined: self.marks.has(place),
+        }
+    }
+
+    /// The request at the front, or `None` where the queue is empty.
+    pub(crate) fn front(&self) -> Option<Request>
+        ensures { result ≡ request_of (slice_get self.now.entries 0) }
+    {
+        self.requests.front().copied()
+    }
+
+    /// Puts a request without a mark at the end. There has to be a free place.
+    pub(crate) fn push(&mut self, request: Request)
+        requires { length self.old.entries < self.old.places }
+        ensures { self.new ≡ record self.old { entries = self.old.entries ++ entry request false ∷ [] } }
+    {
+        self.requests.push_back(request);
+    }
+
+    /// Takes the request at the front out of the queue, or answers `None` where the queue is empty. The marks of the others move with them.
+    pub(crate) fn pop(&mut self) -> Option<Request>
+        ensures value { result ≡ request_of (slice_get self.old.entries 0) }
+        ensures entries { self.new ≡ record self.old { entries = drop 1 self.old.entries } }
+    {
+        self.marks = self.marks.moved();
+        self.requests.pop_front()
+    }
+
+    /// Puts a marked request in the place of another.
+    pub(crate) fn replace(&mut self, place: usize, request: Request)
+        requires { place < length self.old.entries }
+        ensures { self.new ≡ record self.old { entries = slice_set self.old.entries place (entry request true) } }
+    {
+        put_at(&mut self.requests, place, request);
+        self.marks = self.marks.with(place);
+    }
+
+    /// The place of the frontmost request without a mark that is for the same cell as this one.
+    pub(crate) fn partner(&self, request: Request) -> Option<usize>
+        ensures { IsFirst (can_combine request) self.now.entries result }
+    {
+        (0..self.len()).find(
+            |&place|
+                requires { place < length self.now.entries }
+                ensures { IfSome (slice_get self.entry.now.entries place) (λ e. result ≡ can_combine request e) }
+            { can_combine(request, self.entry(place)) },
+        )
+    }
+}
+
+/// The request at this place of a ring.
+fn request_at(requests: &HeapCircularBuffer<Request>, place: usize) -> Request
+    requires { place < length requests.now.items }
+    ensures { slice_get requests.now.items place ≡ Some result }
+{
+    *requests.get(place).unwrap()
+}
+
+/// Puts a request in the place of another in a ring.
+fn put_at(requests: &mut HeapCircularBuffer<Request>, place: usize, request: Request)
+    requires { place < length requests.old.items }
+    ensures items { requests.new.items ≡ slice_set requests.old.items place request }
+    ensures places { requests.new.capacity ≡ requests.old.capacity }
+{
+    *requests.get_mut(place).unwrap() = request;
+}
+
+/// Whether the request can combine with the entry: it has no mark and is for the same cell.
+fn can_combine(request: Request, entry: Entry) -> bool
+    ensures { result ≡ can_combine request entry }
+{
+    !entry.combined && entry.request.cell == request.cell
+}

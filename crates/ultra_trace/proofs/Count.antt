@@ -1,0 +1,132 @@
+-- how many cycles a trace has
+use Rattle.std.proofs.Common.{ℕ, zero, suc, ◌≡◌, ◌+◌, ◌-◌, ◌≤◌, ◌<◌, inl, inr, List, ◌∷◌, ◌++◌, Bool, true, false, Some, None, refl, sym, ◌∙◌, ap, arith, add-one, cond}
+use Rattle.std.specs.List.{find, range_with_len, flat_map}
+use Rattle.std.specs.Option.{unwrap_or}
+use Rattle.std.proofs.Math.Nat.{eq-or-lt_of_le}
+use Rattle.std.proofs.lemmas.Bool.{cases_lt}
+use Rattle.std.proofs.lemmas.List.Concat.{flat_map-append}
+use Rattle.ultra_isa.specs.declared.Instr.{Instr}
+use Rattle.ultra_block.specs.Machine.{Settings, Machine, start, is_quiet}
+use Rattle.ultra_block.specs.Phases.{after, cycle, reply_phase, memory_phase, request_phase, processor_phase}
+use Rattle.ultra_trace.specs.declared.page.Page.{Page}
+use Rattle.ultra_trace.specs.Page.{Writes}
+use Rattle.ultra_machine.specs.Running.{Running}
+use Rattle.ultra_trace.specs.Trace.{by_number, cycle_text, cycles_text, cycle_count, all_cycles_text, last_state, end_text}
+use Rattle.ultra_trace.proofs.Writing.{either, writes_failed, writes_spent}
+
+-- ---- the first number of a range that passes a test
+module _ (test : ℕ → Bool) where
+  none_found : (a n : ℕ) → ((j : ℕ) → a ≤ j → j < a + n → test j ≡ false) → find test (range_with_len a n) ≡ None
+  none_found a zero h = refl
+  none_found a (suc n) h = rw (h a (omega arith) (omega arith)) (none_found (a + 1) n (λ j p q. h j (omega arith) (omega arith)))
+
+  found : (a n k : ℕ) → a ≤ k → k < a + n → test k ≡ true → ((j : ℕ) → a ≤ j → j < k → test j ≡ false) → find test (range_with_len a n) ≡ Some k
+  found a zero k p q t h = absurd (omega arith)
+  found a (suc n) k p q t h = elim (eq-or-lt_of_le p) [
+    | inl e ↦ rw (e, t) refl
+    | inr l ↦ rw (h a (omega arith) l) (found (a + 1) n k (omega arith) (omega arith) t (λ j r s. h j (omega arith) s))
+  ]
+
+  found_beyond : (a n b k : ℕ) → k ≤ b → k ≤ a + n → ((j : ℕ) → a ≤ j → j < k → test j ≡ false) → k ≤ unwrap_or (find test (range_with_len a n)) b
+  found_beyond a zero b k p q h = p
+  found_beyond a (suc n) b k p q h = elim (cases_lt a k) [
+    | inl l ↦ rw (h a (omega arith) l) (found_beyond (a + 1) n b k p (omega arith) (λ j r s. h j (omega arith) s))
+    | inr l ↦ elim (test a) as (λ t. k ≤ unwrap_or (cond t (Some a) (find test (range_with_len (a + 1) n))) b) [
+      | true ↦ l
+      | false ↦ found_beyond (a + 1) n b k p (omega arith) (λ j r s. absurd (omega arith))
+    ]
+  ]
+
+-- ---- the machine after so many cycles
+module _ (c : Settings) (program : List Instr) where
+  pub after_none : after c program 0 ≡ start c
+  unfolding after
+  after_none = refl
+
+  pub after_next : (n : ℕ) → after c program (n + 1) ≡ cycle c program (after c program n)
+  unfolding after
+  after_next n = rw add-one refl
+
+  pub cycles_next : (m : Machine) → (cycle c program m).cycles ≡ m.cycles + 1
+  unfolding cycle reply_phase memory_phase request_phase processor_phase
+  cycles_next m = refl
+
+  pub cycles_after : (n : ℕ) → (after c program n).cycles ≡ n
+  unfolding after start
+  cycles_after zero = refl
+  cycles_after (suc n) = cycles_next (after c program n) ∙ rw (cycles_after n, add-one) refl
+
+abbrev pub running_after : Running → ℕ → Running
+running_after v n = record v { state = after v.settings v.program n }
+
+pub running_start : (v : Running) → v.state ≡ start v.settings → v ≡ running_after v 0
+running_start v e = rw (after_none v.settings v.program, ← e) refl
+
+pub running_next : (v old new : Running) (n : ℕ) → old ≡ running_after v n → new ≡ record old { state = cycle old.settings old.program old.state } → new ≡ running_after v (n + 1)
+running_next v old new n e f = rw (after_next v.settings v.program n) (rw e at f)
+
+pub quiet_is : (v w : Running) (n : ℕ) (b : Bool) → w ≡ running_after v n → b ≡ is_quiet w.state → is_quiet (after v.settings v.program n) ≡ b
+quiet_is v w n b e f = sym (f ∙ ap (λ x. is_quiet x.state) e)
+
+-- where the machine is busy after so many cycles, from the first on
+abbrev pub IsBusy : Settings → List Instr → ℕ → Type 0
+IsBusy c program n = (j : ℕ) → 1 ≤ j → j ≤ n → is_quiet (after c program j) ≡ false
+
+module _ (c : Settings) (program : List Instr) where
+  pub busy_none : IsBusy c program 0
+  busy_none j p q = absurd (omega arith)
+
+  pub busy_more : (n : ℕ) → IsBusy c program n → is_quiet (after c program (n + 1)) ≡ false → IsBusy c program (n + 1)
+  busy_more n h b j p q = elim (eq-or-lt_of_le q) [ inl e ↦ rw e b | inr l ↦ h j p (omega arith) ]
+
+  -- the trace ends where the machine is quiet first
+  pub count_quiet : (n : ℕ) → IsBusy c program n → n < c.cycles → is_quiet (after c program (n + 1)) ≡ true → cycle_count c program ≡ n + 1
+  unfolding cycle_count
+  count_quiet n h p q = rw (found (λ k. is_quiet (after c program k)) 1 c.cycles (n + 1) (omega arith) (omega arith) q (λ j r s. h j r (omega arith))) refl
+
+  -- and else with the last cycle that the settings allow
+  pub count_limit : IsBusy c program c.cycles → cycle_count c program ≡ c.cycles
+  unfolding cycle_count
+  count_limit h = rw (none_found (λ k. is_quiet (after c program k)) 1 c.cycles (λ j r s. h j r (omega arith))) refl
+
+  -- it has each cycle before which the machine was busy
+  count_beyond : (n : ℕ) → IsBusy c program n → n < c.cycles → n + 1 ≤ cycle_count c program
+  unfolding cycle_count
+  count_beyond n h p = found_beyond (λ k. is_quiet (after c program k)) 1 c.cycles c.cycles (n + 1) (omega arith) (omega arith) (λ j r s. h j r (omega arith))
+
+-- ---- the first lines of all
+range_parts : (a n k m : ℕ) → n + k ≡ m → range_with_len a m ≡ range_with_len a n ++ range_with_len (a + n) k
+range_parts a zero k m e = let same : k ≡ m = omega arith in let start : a + 0 ≡ a = omega arith in rw (← same, start) refl
+range_parts a (suc n) k zero e = absurd (omega arith)
+range_parts a (suc n) k (suc m) e =
+    let on : a + 1 + n ≡ a + suc n = omega arith in ap (λ ks. a ∷ ks) (rw on at (range_parts (a + 1) n k m (omega arith)))
+
+pub first_lines : (line : ℕ → List ℕ) (n m : ℕ) → n ≤ m → (rest : List ℕ) × (by_number m line ≡ by_number n line ++ rest)
+first_lines line n m h =
+    let k : ℕ = m - n in
+    let parts = range_parts 0 n k m (omega arith) in
+    (flat_map line (range_with_len (0 + n) k), ap (flat_map line) parts ∙ flat_map-append line (range_with_len 0 n) (range_with_len (0 + n) k))
+
+-- ---- what has been written at the end, and the machine then
+module _ (v : Running) where
+  pub all_written : (n : ℕ) {S : Type 0} {taken : S → List ℕ} {failures : S → ℕ} {s t : Page S} → cycle_count v.settings v.program ≡ n → Writes taken failures (cycles_text v.settings v.program n) s t → Writes taken failures (all_cycles_text v.settings v.program) s t
+  unfolding all_cycles_text
+  all_written n e w = rw e w
+
+  -- after a fault the cycles that are missing don't matter
+  pub missing_cycles : (n : ℕ) {S : Type 0} {taken : S → List ℕ} {failures : S → ℕ} {s t : Page S} → IsBusy v.settings v.program n → n < v.settings.cycles → t.failed ≡ true → Writes taken failures (cycles_text v.settings v.program (n + 1)) s t → Writes taken failures (all_cycles_text v.settings v.program) s t
+  unfolding all_cycles_text
+  missing_cycles n h p f w =
+      let first = first_lines (λ k. cycle_text v.settings (after v.settings v.program (k + 1))) (n + 1) (cycle_count v.settings v.program) (count_beyond v.settings v.program n h p) in
+      rw first.1 (writes_failed first.0 f w)
+
+  pub last_is : (n : ℕ) (w : Running) → cycle_count v.settings v.program ≡ n → w ≡ running_after v n → w ≡ record v { state = last_state v.settings v.program }
+  unfolding last_state
+  last_is n w e f = rw e f
+
+  -- the lines at the end; after a fault it doesn't matter which
+  pub end_written : (w : Running) {S : Type 0} {taken : S → List ℕ} {failures : S → ℕ} {s t : Page S} → (s.failed ≡ false → w ≡ record v { state = last_state v.settings v.program }) → Writes taken failures (end_text w.settings w.state) s t → Writes taken failures (end_text v.settings (last_state v.settings v.program)) s t
+  end_written w {s = s} h p = elim (either s.failed) [
+    | inl e ↦ writes_spent (end_text v.settings (last_state v.settings v.program)) e p
+    | inr e ↦ rw (h e) at p
+  ]

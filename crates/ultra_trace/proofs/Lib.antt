@@ -1,0 +1,5 @@
+pub mod Writing
+pub mod Count
+pub mod Listed
+pub mod Numbered
+pub mod WorkedTraces

@@ -1,0 +1,111 @@
+-- writing one text after another
+use Rattle.std.proofs.Common.{ℕ, ◌≡◌, ◌+◌, ◌⊎◌, inl, inr, List, [], ◌++◌, Bool, true, false, refl, sym, ◌∙◌, ap, subst, append_assoc, append-nil}
+use Rattle.std.specs.Prelude.{Result, Ok, Err, OnOk, OnErr, IsOk}
+use Rattle.ultra_msg.specs.Bytes.{IsBeginning}
+use Rattle.ultra_trace.specs.declared.page.Page.{Page}
+use Rattle.ultra_trace.specs.Page.{State, text, Wrote, state_of, Writes}
+
+pub either : (b : Bool) → (b ≡ true) ⊎ (b ≡ false)
+either true = inl refl
+either false = inr refl
+
+begins_more : (xs ys zs : List ℕ) → IsBeginning xs ys → IsBeginning xs (ys ++ zs)
+begins_more xs ys zs (rest, e) = (rest ++ zs, sym (append_assoc xs rest zs) ∙ ap (λ t. t ++ zs) e)
+
+-- after the fault it doesn't matter what else was to be written
+pub wrote_failed : (a b : List ℕ) (s t : State) → t.failed ≡ true → Wrote a s t → Wrote (a ++ b) s t
+wrote_failed a b s t f w = record {
+  spent = w.spent;
+  whole = λ h. absurd cc;
+  beginning = λ g h. (rw (← append_assoc (text s) a b) (begins_more t.taken (text s ++ a) b (w.beginning g h).0), (w.beginning g h).1);
+}
+
+-- nor does it matter what is to be written once there has been one
+wrote_spent : (a b : List ℕ) (s t : State) → s.failed ≡ true → Wrote a s t → Wrote b s t
+wrote_spent a b s t f w = let same = w.spent f in record {
+  spent = w.spent;
+  whole = λ h. absurd cc;
+  beginning = λ g h. absurd cc;
+}
+
+pub wrote_nothing : (s : State) → Wrote [] s s
+wrote_nothing s = record {
+  spent = λ h. refl;
+  whole = λ h. (sym (append-nil (text s)), refl);
+  beginning = λ f h. absurd cc;
+}
+
+whole_then : (a b : List ℕ) (s t u : State) → Wrote a s t → Wrote b t u → u.failed ≡ false → (text u ≡ text s ++ (a ++ b)) × (u.failures ≡ s.failures)
+whole_then a b s t u v w h = elim (either t.failed) [
+  | inl e ↦ let same = w.spent e in absurd cc
+  | inr e ↦ ((w.whole h).0 ∙ ap (λ x. x ++ b) (v.whole e).0 ∙ append_assoc (text s) a b, (w.whole h).1 ∙ (v.whole e).1)
+]
+
+beginning_then : (a b : List ℕ) (s t u : State) → Wrote a s t → Wrote b t u → s.failed ≡ false → u.failed ≡ true → IsBeginning u.taken (text s ++ (a ++ b)) × (u.failures ≡ s.failures + 1)
+beginning_then a b s t u v w f h = elim (either t.failed) [
+  | inl e ↦ let p = wrote_failed a b s t e v in let P : State → Type 0 = λ x. IsBeginning x.taken (text s ++ (a ++ b)) × (x.failures ≡ s.failures + 1) in subst P (sym (w.spent e)) (p.beginning f e)
+  | inr e ↦ let p = w.beginning e h in (rw (← append_assoc (text s) a b, ← (v.whole e).0) p.0, p.1 ∙ ap (λ n. n + 1) (v.whole e).1)
+]
+
+pub wrote_then : (a b : List ℕ) (s t u : State) → Wrote a s t → Wrote b t u → Wrote (a ++ b) s u
+wrote_then a b s t u v w = record {
+  spent = λ h. let same = v.spent h in w.spent (ap (λ x. x.failed) same ∙ h) ∙ same;
+  whole = whole_then a b s t u v w;
+  beginning = beginning_then a b s t u v w;
+}
+
+-- the same of pages
+module _ {S : Type 0} {taken : S → List ℕ} {failures : S → ℕ} where
+  pub writes_nothing : (s : Page S) → Writes taken failures [] s s
+  writes_nothing s = record { same_reference = refl; wrote = wrote_nothing (state_of taken failures s) }
+
+  pub writes_failed : {a : List ℕ} (b : List ℕ) {s t : Page S} → t.failed ≡ true → Writes taken failures a s t → Writes taken failures (a ++ b) s t
+  writes_failed {a} b {s} {t} f w = record { same_reference = w.same_reference; wrote = wrote_failed a b _ _ f w.wrote }
+
+  pub writes_spent : {a : List ℕ} (b : List ℕ) {s t : Page S} → s.failed ≡ true → Writes taken failures a s t → Writes taken failures b s t
+  writes_spent {a} b {s} {t} f w = record { same_reference = w.same_reference; wrote = wrote_spent a b _ _ f w.wrote }
+
+  infixl 20 ◌then◌
+  pub ◌then◌ : {a b : List ℕ} {s t u : Page S} → Writes taken failures a s t → Writes taken failures b t u → Writes taken failures (a ++ b) s u
+  ◌then◌ {a} {b} {s} {t} {u} v w = record { same_reference = w.same_reference ∙ v.same_reference; wrote = wrote_then a b _ _ _ v.wrote w.wrote }
+
+-- after what was handed on, bytes wait in the buffer
+wrote_waiting : (b : List ℕ) (s t : State) → s.failed ≡ false → Wrote [] s t → Wrote b s record t { waiting = t.waiting ++ b }
+wrote_waiting b s t f w = record {
+  spent = λ h. absurd cc;
+  whole = λ h. (sym (append_assoc t.taken t.waiting b) ∙ ap (λ x. x ++ b) ((w.whole h).0 ∙ append-nil (text s)), (w.whole h).1);
+  beginning = λ g h. (rw (append-nil (text s)) at (begins_more t.taken (text s ++ []) b (w.beginning g h).0), (w.beginning g h).1);
+}
+
+module _ {S : Type 0} {taken : S → List ℕ} {failures : S → ℕ} where
+  pub writes_waiting : (b : List ℕ) (s t u : Page S) → s.failed ≡ false → Writes taken failures [] s t → u.sink ≡ t.sink → u.failed ≡ t.failed → u.waiting.items ≡ t.waiting.items ++ b → Writes taken failures b s u
+  writes_waiting b s t u f w e i p = record {
+    same_reference = ap (λ r. r.ghost_name) e ∙ w.same_reference;
+    wrote = rw (e, i, p) (wrote_waiting b _ _ f w.wrote);
+  }
+
+-- what holds on `Ok` holds where the result is `Ok`
+pub at_ok : {T E P : Type 0} (r : Result T E) → IsOk r → OnOk r P → P
+at_ok (Ok x) ok p = p
+at_ok (Err e) ok p = absurd cc
+
+-- what a whole text has become where the page is finished
+pub record Ended {T E : Type 0} (r : Result T E) (bytes : List ℕ) (old_taken new_taken : List ℕ) (old_failures new_failures : ℕ) : Type 0 where
+  pub ok : OnOk r (new_taken ≡ old_taken ++ bytes)
+  pub still : OnOk r (new_failures ≡ old_failures)
+  pub err : OnErr r (IsBeginning new_taken (old_taken ++ bytes))
+  pub counted : OnErr r (new_failures ≡ old_failures + 1)
+
+pub ended : {T E : Type 0} (r : Result T E) (bytes : List ℕ) (s t : State) → s.waiting ≡ [] → s.failed ≡ false → Wrote bytes s t → OnOk r (t.failed ≡ false) → OnOk r (t.waiting ≡ []) → OnErr r (t.failed ≡ true) → Ended r bytes s.taken t.taken s.failures t.failures
+ended (Ok x) bytes s t b f w g e h = record {
+  ok = sym (append-nil t.taken) ∙ rw (b, e, append-nil s.taken) at (w.whole g).0;
+  still = (w.whole g).1;
+  err = tt;
+  counted = tt;
+}
+ended (Err x) bytes s t b f w g e h = record {
+  ok = tt;
+  still = tt;
+  err = rw (b, append-nil s.taken) at (w.beginning f h).0;
+  counted = (w.beginning f h).1;
+}

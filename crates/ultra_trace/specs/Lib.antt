@@ -1,0 +1,4 @@
+pub mod Text
+pub mod Trace
+pub mod Page
+pub mod Run

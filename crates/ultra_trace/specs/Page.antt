@@ -1,0 +1,30 @@
+-- text on its way to a sink, some of it waiting in a buffer; this project's profile
+use Rattle.std.specs.Prelude.{ℕ, ◌≡◌, ◌+◌, List, ◌++◌, Bool, true, false}
+use Rattle.ultra_msg.specs.Bytes.{IsBeginning}
+use Rattle.ultra_trace.specs.declared.page.Page.{Page}
+
+-- what the sink has taken and how often it has failed, what waits in the buffer, and whether the sink has failed the page
+pub record State : Type 0 where
+  pub taken : List ℕ
+  pub failures : ℕ
+  pub waiting : List ℕ
+  pub failed : Bool
+
+-- all that was written
+abbrev pub text : State → List ℕ
+text s = s.taken ++ s.waiting
+
+-- bytes were written. The first fault of the sink is the last: nothing is written after it, and the sink has then taken a beginning of the text
+pub record Wrote (bytes : List ℕ) (old new : State) : Type 0 where
+  pub spent : old.failed ≡ true → new ≡ old
+  pub whole : new.failed ≡ false → (text new ≡ text old ++ bytes) × (new.failures ≡ old.failures)
+  pub beginning : old.failed ≡ false → new.failed ≡ true → IsBeginning new.taken (text old ++ bytes) × (new.failures ≡ old.failures + 1)
+
+-- the same of a page, whose sink tells what it has taken and how often it has failed
+module _ {S : Type 0} (taken : S → List ℕ) (failures : S → ℕ) where
+  abbrev pub state_of : Page S → State
+  state_of p = record { taken = taken p.sink.now; failures = failures p.sink.now; waiting = p.waiting.items; failed = p.failed }
+
+  pub record Writes (bytes : List ℕ) (old new : Page S) : Type 0 where
+    pub same_reference : new.sink.ghost_name ≡ old.sink.ghost_name
+    pub wrote : Wrote bytes (state_of old) (state_of new)

@@ -1,0 +1,9 @@
+-- the faults of a run; this project's profile
+use Rattle.std.specs.Prelude.{ℕ}
+use Rattle.ultra_trace.specs.declared.run.RunFault.{RunFault}
+use Rattle.ultra_trace.specs.declared.run.RunFault.TheVariants.{Write, NoMemory}
+
+-- how often the sink has failed in a run that ended with the fault
+abbrev pub sink_faults : RunFault → ℕ
+sink_faults Write = 1
+sink_faults NoMemory = 0
