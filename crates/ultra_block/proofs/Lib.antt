@@ -5,3 +5,8 @@ pub mod Pairs
 pub mod Room
 pub mod Levels
 pub mod Stops
+pub mod InitialCells
+pub mod Arrivals
+pub mod Going
+pub mod Mapped
+pub mod Written

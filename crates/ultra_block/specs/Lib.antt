@@ -1,3 +1,15 @@
 pub mod Places
 pub mod Machine
 pub mod Phases
+pub mod Valid
+pub mod Accepted
+pub mod Numbers
+pub mod RoomTable
+pub mod Halves
+pub mod Elements
+pub mod SwitchSteps
+pub mod ModuleSteps
+pub mod ElementSteps
+pub mod BlockState
+pub mod MailTable
+pub mod Tables
