@@ -10,3 +10,4 @@ pub mod Arrivals
 pub mod Going
 pub mod Mapped
 pub mod Written
+pub mod Lent

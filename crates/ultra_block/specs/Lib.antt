@@ -13,3 +13,4 @@ pub mod ElementSteps
 pub mod BlockState
 pub mod MailTable
 pub mod Tables
+pub mod BlockSteps

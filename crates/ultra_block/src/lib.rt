@@ -1,6 +1,7 @@
 //! The whole machine: its definition, its settings, and the blocks into which it may be cut.
 #![tactic(auto)]
 
+mod block;
 mod config;
 mod element;
 mod element_unit;
@@ -14,6 +15,7 @@ mod requests;
 mod rooms;
 mod switch_unit;
 
+pub use block::Block;
 pub use config::{Config, ConfigFault, Field, MOST_STAGES, RawSettings};
 pub use element::ProcessingElement;
 pub use rooms::Rooms;
