@@ -11,3 +11,6 @@ pub mod Going
 pub mod Mapped
 pub mod Written
 pub mod Lent
+pub mod AtUnits
+pub mod Passing
+pub mod ReplyPlaces

@@ -14,3 +14,4 @@ pub mod BlockState
 pub mod MailTable
 pub mod Tables
 pub mod BlockSteps
+pub mod Whole
