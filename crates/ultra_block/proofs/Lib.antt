@@ -14,3 +14,5 @@ pub mod Lent
 pub mod AtUnits
 pub mod Passing
 pub mod ReplyPlaces
+pub mod RequestPlaces
+pub mod OtherPlaces
