@@ -5,3 +5,15 @@ pub mod Pairs
 pub mod Room
 pub mod Levels
 pub mod Stops
+pub mod Sums
+pub mod Neighbours
+pub mod Counting
+pub mod Shapes
+pub mod Capacities
+pub mod OnRoute
+pub mod Routes
+pub mod ReplyBalance
+pub mod RequestBalance
+pub mod Balanced
+pub mod Sound
+pub mod Interfaces

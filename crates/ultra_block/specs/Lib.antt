@@ -1,3 +1,9 @@
 pub mod Places
 pub mod Machine
 pub mod Phases
+pub mod Ranges
+pub mod Shape
+pub mod Capacity
+pub mod Routed
+pub mod Balance
+pub mod Sound
