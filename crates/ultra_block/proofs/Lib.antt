@@ -16,3 +16,15 @@ pub mod Passing
 pub mod ReplyPlaces
 pub mod RequestPlaces
 pub mod OtherPlaces
+pub mod Sums
+pub mod Neighbours
+pub mod Counting
+pub mod Shapes
+pub mod Capacities
+pub mod OnRoute
+pub mod Routes
+pub mod ReplyBalance
+pub mod RequestBalance
+pub mod Balanced
+pub mod Sound
+pub mod Interfaces

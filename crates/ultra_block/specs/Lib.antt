@@ -15,3 +15,9 @@ pub mod MailTable
 pub mod Tables
 pub mod BlockSteps
 pub mod Whole
+pub mod Ranges
+pub mod Shape
+pub mod Capacity
+pub mod Routed
+pub mod Balance
+pub mod Sound
