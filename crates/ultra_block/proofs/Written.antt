@@ -32,3 +32,8 @@ pub same_rooms : (r : RoomTable) (a b x y : List Bool) → a ≡ b → x ≡ y �
 same_rooms r a b x y e k =
     let f : List Bool → List Bool → RoomTable = λ s t. record r { replies = s; requests = t } in
     ap (λ s. f s x) e ∙ ap (λ t. f b t) k
+
+pub same_table_of : {a b x y p q : List Bool} → a ≡ b → x ≡ y → p ≡ q → let f : List Bool → List Bool → List Bool → RoomTable = λ r s t. record { replies = r; requests = s; modules = t } in f a x p ≡ f b y q
+same_table_of {a} {b} {x} {y} {p} {q} e k g =
+    let f : List Bool → List Bool → List Bool → RoomTable = λ r s t. record { replies = r; requests = s; modules = t } in
+    ap (λ r. f r x p) e ∙ ap (λ s. f b s p) k ∙ ap (λ t. f b y t) g

@@ -5,6 +5,7 @@ mod block;
 mod config;
 mod element;
 mod element_unit;
+mod every_block;
 mod exchange;
 mod mail;
 mod module_unit;
