@@ -28,3 +28,5 @@ pub mod RequestBalance
 pub mod Balanced
 pub mod Sound
 pub mod Interfaces
+pub mod Standing
+pub mod Entries
