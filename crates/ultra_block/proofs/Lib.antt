@@ -30,3 +30,4 @@ pub mod Sound
 pub mod Interfaces
 pub mod Standing
 pub mod Entries
+pub mod Noted

@@ -6,6 +6,8 @@ use Rattle.ultra_block.specs.Machine.{Settings, size, site, fresh_element}
 use Rattle.ultra_isa.specs.Step.{fresh_core}
 use Rattle.ultra_pni.specs.Interface.{empty_interface}
 use Rattle.ultra_block.specs.Numbers.{switch_number}
+use Rattle.ultra_block.specs.RoomTable.{RoomTable}
+use Rattle.ultra_block.specs.MailTable.{MailTable}
 use Rattle.ultra_block.specs.Halves.{ports}
 use Rattle.ultra_block.specs.BlockState.{BlockState}
 use Rattle.ultra_block.specs.Whole.{Units}
@@ -111,3 +113,13 @@ module _ (d : ℕ) (homes : List Home) where
     pub switches : AreHome switches_of bs (d * 2 ^ (d - 1)) (λ n. home_at n) (λ w. switch_number d w.stage w.index)
     pub modules : AreHome modules_of bs (2 ^ d) (λ k. module_home k) (λ b. b.number)
     pub elements : AreHome elements_of bs (2 ^ d) (λ p. element_home p) (λ e. e.pe)
+
+-- the tables of rooms have a place for each switch, queue and module of d stages, those of messages one for each link
+pub record HasPlaces (d : ℕ) (rooms : RoomTable) : Type 0 where
+  pub replies : length rooms.replies ≡ d * 2 ^ (d - 1)
+  pub requests : length rooms.requests ≡ d * 2 ^ d
+  pub modules : length rooms.modules ≡ 2 ^ d
+
+pub record HasLinks (d : ℕ) (mail : MailTable) : Type 0 where
+  pub replies : length mail.replies ≡ (d + 1) * 2 ^ d
+  pub requests : length mail.requests ≡ (d + 1) * 2 ^ d
