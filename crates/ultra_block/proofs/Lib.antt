@@ -31,3 +31,4 @@ pub mod Interfaces
 pub mod Standing
 pub mod Entries
 pub mod Noted
+pub mod Mailed
