@@ -32,3 +32,5 @@ pub mod Standing
 pub mod Entries
 pub mod Noted
 pub mod Mailed
+pub mod Alike
+pub mod Fitting

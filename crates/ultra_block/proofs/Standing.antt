@@ -19,9 +19,9 @@ number_small d n s k hs hk =
     let all : (s + 1) * n ≤ d * n = mul-le-mul_right n rows in
     omega (arith, all, hk)
 
-module _ {U : Type 0} (kind : BlockState → List U) (F : BlockState → BlockState) (f : U → U) (e : (b : BlockState) → kind (F b) ≡ map f (kind b)) (bs : List BlockState) where
+module _ {U : Type 0} (kind : BlockState → List U) (F : BlockState → BlockState) (f : U → U) (bs : List BlockState) (e : (k : ℕ) → k < length bs → kind (F (get_or bs k no_block)) ≡ map f (units_of kind bs k)) where
   units-map : (k : ℕ) → k < length bs → units_of kind (map F bs) k ≡ map f (units_of kind bs k)
-  units-map k h = ap (λ b. kind b) (get_or-map F bs k no_block no_block h) ∙ e (get_or bs k no_block)
+  units-map k h = ap (λ b. kind b) (get_or-map F bs k no_block no_block h) ∙ e k h
 
   count-map : (k : ℕ) → k < length bs → length (units_of kind (map F bs) k) ≡ length (units_of kind bs k)
   count-map k h = ap (λ us. length us) (units-map k h) ∙ length-map (units_of kind bs k) f
@@ -48,30 +48,30 @@ module _ {U : Type 0} (kind : BlockState → List U) (F : BlockState → BlockSt
         ap home_of (ap number_of (unit-map k i d lk li) ∙ same (get_or (units_of kind bs k) i d)) ∙ w.home k i d lk li;
   }
 
--- what a change of blocks does to each unit; it keeps their numbers
-pub record ActsBy (F : BlockState → BlockState) (f : SwitchUnit → SwitchUnit) (g : ModuleUnit → ModuleUnit) (h : ElementUnit → ElementUnit) : Type 0 where
-  pub switches : (b : BlockState) → (F b).switches ≡ map f b.switches
-  pub modules : (b : BlockState) → (F b).modules ≡ map g b.modules
-  pub elements : (b : BlockState) → (F b).elements ≡ map h b.elements
+-- what a change of blocks does to each unit of some blocks; it keeps their numbers
+pub record ActsOn (bs : List BlockState) (F : BlockState → BlockState) (f : SwitchUnit → SwitchUnit) (g : ModuleUnit → ModuleUnit) (h : ElementUnit → ElementUnit) : Type 0 where
+  pub switches : (k : ℕ) → k < length bs → (F (get_or bs k no_block)).switches ≡ map f (units_of switches_of bs k)
+  pub modules : (k : ℕ) → k < length bs → (F (get_or bs k no_block)).modules ≡ map g (units_of modules_of bs k)
+  pub elements : (k : ℕ) → k < length bs → (F (get_or bs k no_block)).elements ≡ map h (units_of elements_of bs k)
   pub stage : (w : SwitchUnit) → (f w).stage ≡ w.stage
   pub index : (w : SwitchUnit) → (f w).index ≡ w.index
   pub number : (b : ModuleUnit) → (g b).number ≡ b.number
   pub pe : (e : ElementUnit) → (h e).pe ≡ e.pe
 
-module _ (d : ℕ) (homes : List Home) (bs : List BlockState) (cut : IsCut d homes bs) (F : BlockState → BlockState) (f : SwitchUnit → SwitchUnit) (g : ModuleUnit → ModuleUnit) (h : ElementUnit → ElementUnit) (a : ActsBy F f g h) where
+module _ (d : ℕ) (homes : List Home) (bs : List BlockState) (cut : IsCut d homes bs) (F : BlockState → BlockState) (f : SwitchUnit → SwitchUnit) (g : ModuleUnit → ModuleUnit) (h : ElementUnit → ElementUnit) (a : ActsOn bs F f g h) where
   pub cut-map : IsCut d homes (map F bs)
   cut-map = record {
-    switches = home-map switches_of F f a.switches bs (d * 2 ^ (d - 1)) (λ n. home_at d homes n) (λ w. switch_number d w.stage w.index)
+    switches = home-map switches_of F f bs a.switches (d * 2 ^ (d - 1)) (λ n. home_at d homes n) (λ w. switch_number d w.stage w.index)
         (λ w. ap (λ s. switch_number d s (f w).index) (a.stage w) ∙ ap (λ k. switch_number d w.stage k) (a.index w)) cut.switches;
-    modules = home-map modules_of F g a.modules bs (2 ^ d) (λ k. module_home d homes k) (λ b. b.number) a.number cut.modules;
-    elements = home-map elements_of F h a.elements bs (2 ^ d) (λ p. element_home d homes p) (λ e. e.pe) a.pe cut.elements;
+    modules = home-map modules_of F g bs a.modules (2 ^ d) (λ k. module_home d homes k) (λ b. b.number) a.number cut.modules;
+    elements = home-map elements_of F h bs a.elements (2 ^ d) (λ p. element_home d homes p) (λ e. e.pe) a.pe cut.elements;
   }
 
   pub switch-map : (s k : ℕ) → s < d → k < 2 ^ (d - 1) → (units_at d homes (map F bs)).switch s k ≡ f ((units_at d homes bs).switch s k)
-  switch-map s k hs hk = standing-map switches_of F f a.switches bs no_switch (home_at d homes (switch_number d s k)) (cut.switches.there (switch_number d s k) (number_small d (2 ^ (d - 1)) s k hs hk))
+  switch-map s k hs hk = standing-map switches_of F f bs a.switches no_switch (home_at d homes (switch_number d s k)) (cut.switches.there (switch_number d s k) (number_small d (2 ^ (d - 1)) s k hs hk))
 
   pub bank-map : (k : ℕ) → k < 2 ^ d → (units_at d homes (map F bs)).bank k ≡ g ((units_at d homes bs).bank k)
-  bank-map k hk = standing-map modules_of F g a.modules bs no_module (module_home d homes k) (cut.modules.there k hk)
+  bank-map k hk = standing-map modules_of F g bs a.modules no_module (module_home d homes k) (cut.modules.there k hk)
 
   pub element-map : (p : ℕ) → p < 2 ^ d → (units_at d homes (map F bs)).element p ≡ h ((units_at d homes bs).element p)
-  element-map p hp = standing-map elements_of F h a.elements bs no_element (element_home d homes p) (cut.elements.there p hp)
+  element-map p hp = standing-map elements_of F h bs a.elements no_element (element_home d homes p) (cut.elements.there p hp)
