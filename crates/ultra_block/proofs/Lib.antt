@@ -34,3 +34,4 @@ pub mod Noted
 pub mod Mailed
 pub mod Alike
 pub mod Fitting
+pub mod CutHalves

@@ -58,13 +58,13 @@ module _ (c : Settings) (low : 1 ≤ c.stages) (high : c.stages ≤ 6) (homes : 
       sym (pick_true (d == d) (u.bank k).reply_out (at_port (u.switch d (shuffled d k / 2)).replies_out (shuffled d k % 2)) t)
 
   -- the number of the link in a switch's first and second entry
-  link_even : (s k : ℕ) → s < d → k < 2 ^ (d - 1) → place_number (u.switch s k).net (u.switch s k).stage (unshuffled (u.switch s k).net (position (u.switch s k) 0)) ≡ s * 2 ^ d + unshuffled d (2 * k)
+  pub link_even : (s k : ℕ) → s < d → k < 2 ^ (d - 1) → place_number (u.switch s k).net (u.switch s k).stage (unshuffled (u.switch s k).net (position (u.switch s k) 0)) ≡ s * 2 ^ d + unshuffled d (2 * k)
   link_even s k hs hk =
       let f = fit.switches s k hs hk in
       let e : 2 * k + 0 ≡ 2 * k = omega arith in
       rw (f.net, f.stage, f.index) (ap (λ y. s * 2 ^ d + unshuffled d y) e)
 
-  link_odd : (s k : ℕ) → s < d → k < 2 ^ (d - 1) → place_number (u.switch s k).net (u.switch s k).stage (unshuffled (u.switch s k).net (position (u.switch s k) 1)) ≡ s * 2 ^ d + unshuffled d (2 * k + 1)
+  pub link_odd : (s k : ℕ) → s < d → k < 2 ^ (d - 1) → place_number (u.switch s k).net (u.switch s k).stage (unshuffled (u.switch s k).net (position (u.switch s k) 1)) ≡ s * 2 ^ d + unshuffled d (2 * k + 1)
   link_odd s k hs hk = let f = fit.switches s k hs hk in rw (f.net, f.stage, f.index) refl
 
   replies_right : (l x : ℕ) → x < 2 ^ d → (b : ℕ) → b < length bs → AllByRecursion (IsRight (place_number d l x) (reply_on c u l x)) (reply_entries (get_or bs b no_block))
@@ -142,13 +142,13 @@ module _ (c : Settings) (low : 1 ≤ c.stages) (high : c.stages ≤ 6) (homes : 
       ∙ ap (λ i. at_port (u.switch s i).requests_out ((2 * k + 1) % 2)) (half_odd k)
       ∙ ap (λ j. at_port (u.switch s k).requests_out j) (rest_odd k))
 
-  way_even : (s k : ℕ) → s < d → k < 2 ^ (d - 1) → place_number (u.switch s k).net ((u.switch s k).stage + 1) (position (u.switch s k) 0) ≡ (s + 1) * 2 ^ d + 2 * k
+  pub way_even : (s k : ℕ) → s < d → k < 2 ^ (d - 1) → place_number (u.switch s k).net ((u.switch s k).stage + 1) (position (u.switch s k) 0) ≡ (s + 1) * 2 ^ d + 2 * k
   way_even s k hs hk =
       let f = fit.switches s k hs hk in
       let e : 2 * k + 0 ≡ 2 * k = omega arith in
       rw (f.net, f.stage, f.index) (ap (λ y. (s + 1) * 2 ^ d + y) e)
 
-  way_odd : (s k : ℕ) → s < d → k < 2 ^ (d - 1) → place_number (u.switch s k).net ((u.switch s k).stage + 1) (position (u.switch s k) 1) ≡ (s + 1) * 2 ^ d + (2 * k + 1)
+  pub way_odd : (s k : ℕ) → s < d → k < 2 ^ (d - 1) → place_number (u.switch s k).net ((u.switch s k).stage + 1) (position (u.switch s k) 1) ≡ (s + 1) * 2 ^ d + (2 * k + 1)
   way_odd s k hs hk = let f = fit.switches s k hs hk in rw (f.net, f.stage, f.index) refl
 
   requests_right : (l x : ℕ) → x < 2 ^ d → (b : ℕ) → b < length bs → AllByRecursion (IsRight (place_number d l x) (request_on u l x)) (request_entries (get_or bs b no_block))
