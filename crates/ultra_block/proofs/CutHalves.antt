@@ -20,7 +20,7 @@ use Rattle.ultra_block.specs.Tables.{written, without_replies_out, without_reque
 use Rattle.ultra_block.specs.BlockState.{BlockState}
 use Rattle.ultra_block.specs.BlockSteps as block
 use Rattle.ultra_block.specs.Whole.{Units, at_port, Fit}
-use Rattle.ultra_block.specs.Cut.{no_block, units_at, IsCut}
+use Rattle.ultra_block.specs.Cut.{no_block, units_at, IsCut, AreDone}
 use Rattle.ultra_block.specs.declared.home.Home.{Home}
 use Rattle.ultra_block.specs.declared.switch_unit.SwitchUnit.{SwitchUnit}
 use Rattle.ultra_block.specs.declared.module_unit.ModuleUnit.{ModuleUnit}
@@ -58,10 +58,6 @@ acts_fetch_requests bs mail = record { switches = λ k h. refl; modules = λ k h
 
 acts_execute : (bs : List BlockState) (program : List Instr) → ActsOn bs (block.executes program) (λ w. w) (λ b. b) (element.executes program)
 acts_execute bs program = record { switches = λ k h. sym (map-id (get_or bs k no_block).switches); modules = λ k h. sym (map-id (get_or bs k no_block).modules); elements = λ k h. refl; stage = λ w. refl; index = λ w. refl; number = λ b. refl; pe = λ e. refl }
-
--- every block has made n cycles
-pub AreDone : ℕ → List BlockState → Type 0
-AreDone n bs = (k : ℕ) → k < length bs → (get_or bs k no_block).done ≡ n
 
 pub done-map : (n m : ℕ) (bs : List BlockState) (F : BlockState → BlockState) → ((b : BlockState) → b.done ≡ n → (F b).done ≡ m) → AreDone n bs → AreDone m (map F bs)
 unfolding AreDone

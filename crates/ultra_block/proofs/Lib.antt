@@ -35,3 +35,6 @@ pub mod Mailed
 pub mod Alike
 pub mod Fitting
 pub mod CutHalves
+pub mod Likewise
+pub mod Admitted
+pub mod CutCycle

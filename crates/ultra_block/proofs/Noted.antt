@@ -32,7 +32,7 @@ module _ (d : ℕ) (low : 1 ≤ d) (high : d ≤ 6) (homes : List Home) (bs : Li
   there = units_at d homes bs
 
   -- ---- what holds of each unit by its number holds of each unit in each block
-  each_switch : (P : SwitchUnit → Type 0) → ((s k : ℕ) → s < d → k < half → P (there.switch s k)) → (b i : ℕ) → b < length bs → i < length (units_of switches_of bs b) → P (get_or (units_of switches_of bs b) i no_switch)
+  pub each_switch : (P : SwitchUnit → Type 0) → ((s k : ℕ) → s < d → k < half → P (there.switch s k)) → (b i : ℕ) → b < length bs → i < length (units_of switches_of bs b) → P (get_or (units_of switches_of bs b) i no_switch)
   each_switch P all b i hb hi =
       let w = get_or (units_of switches_of bs b) i no_switch in
       let m = switch_number d w.stage w.index in
@@ -45,13 +45,13 @@ module _ (d : ℕ) (low : 1 ≤ d) (high : d ≤ 6) (homes : List Home) (bs : Li
           ap (λ h. standing switches_of no_switch bs h) (ap (λ m. home_at d homes m) number ∙ cut.switches.home b i no_switch hb hi) in
       subst P same (all (m / half) (m % half) row column)
 
-  each_module : (P : ModuleUnit → Type 0) → ((k : ℕ) → k < 2 ^ d → P (there.bank k)) → (b i : ℕ) → b < length bs → i < length (units_of modules_of bs b) → P (get_or (units_of modules_of bs b) i no_module)
+  pub each_module : (P : ModuleUnit → Type 0) → ((k : ℕ) → k < 2 ^ d → P (there.bank k)) → (b i : ℕ) → b < length bs → i < length (units_of modules_of bs b) → P (get_or (units_of modules_of bs b) i no_module)
   each_module P all b i hb hi =
       let w = get_or (units_of modules_of bs b) i no_module in
       let same : there.bank w.number ≡ w = ap (λ h. standing modules_of no_module bs h) (cut.modules.home b i no_module hb hi) in
       subst P same (all w.number (cut.modules.numbered b i no_module hb hi))
 
-  each_element : (P : ElementUnit → Type 0) → ((p : ℕ) → p < 2 ^ d → P (there.element p)) → (b i : ℕ) → b < length bs → i < length (units_of elements_of bs b) → P (get_or (units_of elements_of bs b) i no_element)
+  pub each_element : (P : ElementUnit → Type 0) → ((p : ℕ) → p < 2 ^ d → P (there.element p)) → (b i : ℕ) → b < length bs → i < length (units_of elements_of bs b) → P (get_or (units_of elements_of bs b) i no_element)
   each_element P all b i hb hi =
       let w = get_or (units_of elements_of bs b) i no_element in
       let same : there.element w.pe ≡ w = ap (λ h. standing elements_of no_element bs h) (cut.elements.home b i no_element hb hi) in

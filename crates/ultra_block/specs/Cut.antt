@@ -123,3 +123,7 @@ pub record HasPlaces (d : ℕ) (rooms : RoomTable) : Type 0 where
 pub record HasLinks (d : ℕ) (mail : MailTable) : Type 0 where
   pub replies : length mail.replies ≡ (d + 1) * 2 ^ d
   pub requests : length mail.requests ≡ (d + 1) * 2 ^ d
+
+-- every block has made n cycles
+unfoldable pub AreDone : ℕ → List BlockState → Type 0
+AreDone n bs = (k : ℕ) → k < length bs → (slice_index_or bs k no_block).done ≡ n

@@ -22,3 +22,5 @@ pub mod Routed
 pub mod Balance
 pub mod Sound
 pub mod Cut
+pub mod Cycle
+pub mod Ready
