@@ -38,3 +38,4 @@ pub mod CutHalves
 pub mod Likewise
 pub mod Admitted
 pub mod CutCycle
+pub mod Together

@@ -24,3 +24,4 @@ pub mod Sound
 pub mod Cut
 pub mod Cycle
 pub mod Ready
+pub mod BlocksState

@@ -2,7 +2,9 @@
 #![tactic(auto)]
 
 mod block;
+mod blocks;
 mod config;
+mod cycle;
 mod element;
 mod element_unit;
 mod every_block;
@@ -18,6 +20,7 @@ mod rooms;
 mod switch_unit;
 
 pub use block::Block;
+pub use blocks::Blocks;
 pub use config::{Config, ConfigFault, Field, MOST_STAGES, RawSettings};
 pub use element::ProcessingElement;
 pub use home::Home;
