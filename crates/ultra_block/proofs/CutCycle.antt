@@ -273,6 +273,7 @@ module _ (c : Settings) (homes : List Home) (n : ℕ) (bs : List BlockState) (ro
     pub ready_again : IsReady c homes (n + 1) b8 rooms2 (cycle.second_mail bs rooms mail)
     ready_again = record {
       range = ready.range;
+      count = ready.count;
       cut = as8.stands.cut;
       fit = as8.stands.fit;
       done = as8.stands.done;

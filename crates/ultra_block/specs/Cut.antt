@@ -5,7 +5,7 @@ use Rattle.ultra_mem.specs.Serve.{empty_bank}
 use Rattle.ultra_block.specs.Machine.{Settings, size, site, fresh_element}
 use Rattle.ultra_isa.specs.Step.{fresh_core}
 use Rattle.ultra_pni.specs.Interface.{empty_interface}
-use Rattle.ultra_block.specs.Numbers.{switch_number}
+use Rattle.ultra_block.specs.Numbers.{switch_number, module_number, element_number}
 use Rattle.ultra_block.specs.RoomTable.{RoomTable}
 use Rattle.ultra_block.specs.MailTable.{MailTable}
 use Rattle.ultra_block.specs.Halves.{ports}
@@ -15,13 +15,6 @@ use Rattle.ultra_block.specs.declared.home.Home.{Home}
 use Rattle.ultra_block.specs.declared.switch_unit.SwitchUnit.{SwitchUnit}
 use Rattle.ultra_block.specs.declared.module_unit.ModuleUnit.{ModuleUnit}
 use Rattle.ultra_block.specs.declared.element_unit.ElementUnit.{ElementUnit}
-
--- units are numbered switches first, then modules, then processing elements
-abbrev pub module_number : ℕ → ℕ → ℕ
-module_number d k = d * 2 ^ (d - 1) + k
-
-abbrev pub element_number : ℕ → ℕ → ℕ
-element_number d p = d * 2 ^ (d - 1) + 2 ^ d + p
 
 -- what stands where there is nothing
 abbrev pub no_block : BlockState

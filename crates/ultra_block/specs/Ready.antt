@@ -1,5 +1,5 @@
 -- a whole machine, cut into blocks, between two cycles
-use Rattle.std.specs.Prelude.{ℕ, List, ◌++◌}
+use Rattle.std.specs.Prelude.{◌≡◌, ℕ, ◌+◌, ◌-◌, ◌*◌, ◌^◌, List, ◌++◌, length}
 use Rattle.ultra_msg.specs.declared.Event.{Event}
 use Rattle.ultra_block.specs.Machine.{Settings, Machine}
 use Rattle.ultra_block.specs.Ranges.{AreInRange}
@@ -22,6 +22,7 @@ machine_from c u n = whole c u n (all_events c u) (all_stops c u)
 -- these blocks hold all units of a machine of these settings, each where its home says, after n cycles; and the machine is sound
 pub record IsReady (c : Settings) (homes : List Home) (n : ℕ) (bs : List BlockState) (rooms : RoomTable) (mail : MailTable) : Type 0 where
   pub range : AreInRange c
+  pub count : length homes ≡ c.stages * 2 ^ (c.stages - 1) + 2 * 2 ^ c.stages
   pub cut : IsCut c.stages homes bs
   pub fit : Fit c n (units_at c.stages homes bs)
   pub done : AreDone n bs

@@ -1,6 +1,6 @@
 //! Blocks: some of the units of a machine.
 
-ghost use Rattle.std.specs.Prelude.{◌≡◌, ℕ};
+ghost use Rattle.std.specs.Prelude.{◌≡◌, ℕ, ◌<◌, length, slice_index_or};
 
 use crate::element_unit::ElementUnit;
 use crate::exchange::{
@@ -43,6 +43,7 @@ impl Model for Block {
 
 impl Block {
     ghost use Rattle.ultra_block.specs.BlockSteps.{CanExecute, CanTakeReplies, CanTakeRequests, executes, fetches_replies, fetches_requests, notes_rooms, posted_replies, posted_requests, posts_replies, posts_requests, sends_replies, sends_requests, serves, takes_replies, takes_requests};
+    ghost use Rattle.ultra_block.specs.Cut.{no_element, no_module, no_switch};
 
     /// Notes which of its switches, queues and modules have room.
     pub fn rooms(&self, rooms: &mut Rooms)
@@ -134,5 +135,28 @@ impl Block {
     {
         fetch_switch_requests(self.switches.as_mut_slice(), mail);
         fetch_module_requests(self.modules.as_mut_slice(), mail);
+    }
+    /// The switch at this place of the block.
+    pub(crate) fn switch(&self, place: usize) -> &SwitchUnit
+        requires { place < length self.now.switches }
+        ensures { result.now ≡ slice_index_or self.now.switches place no_switch }
+    {
+        &self.switches[place]
+    }
+
+    /// The module at this place of the block.
+    pub(crate) fn module(&self, place: usize) -> &ModuleUnit
+        requires { place < length self.now.modules }
+        ensures { result.now ≡ slice_index_or self.now.modules place no_module }
+    {
+        &self.modules[place]
+    }
+
+    /// The processing element at this place of the block.
+    pub(crate) fn element(&self, place: usize) -> &ElementUnit
+        requires { place < length self.now.elements }
+        ensures { result.now ≡ slice_index_or self.now.elements place no_element }
+    {
+        &self.elements[place]
     }
 }

@@ -1,15 +1,20 @@
 //! The whole machine, cut into blocks.
 
-ghost use Rattle.std.specs.Prelude.{◌≡◌, ℕ, ◌+◌, ◌-◌, ◌^◌, ◌<◌};
+ghost use Rattle.std.specs.Prelude.{◌≡◌, ℕ, ◌+◌, ◌-◌, ◌^◌, ◌<◌, length, slice_index_or};
 ghost use Rattle.ultra_block.specs.Phases.{cycle as next_cycle};
 
 use crate::block::Block;
 use crate::config::Config;
 use crate::cycle::make_cycle;
+use crate::element_unit::ElementUnit;
 use crate::home::Home;
 use crate::mail::Mail;
+use crate::module_unit::ModuleUnit;
+use crate::numbers::{element_number, module_number, switch_number};
 use crate::rooms::Rooms;
+use crate::switch_unit::SwitchUnit;
 use ultra_isa::Program;
+use ultra_msg::Pe;
 
 /// A whole machine, cut into blocks: its settings, its program, where each unit stands, and the blocks.
 ///
@@ -26,7 +31,8 @@ pub struct Blocks {
 }
 
 impl Blocks {
-    ghost use Rattle.ultra_block.specs.BlocksState.{machine_of, IsWhole};
+    ghost use Rattle.ultra_block.specs.BlocksState.{machine_of, units_of_blocks, IsWhole};
+    ghost use Rattle.ultra_block.specs.Cut.{no_home};
 
     /// The machine makes one cycle: replies, memory, requests, processors. It takes no memory and always succeeds.
     ///
@@ -68,5 +74,43 @@ impl Blocks {
         ensures { result.now ≡ self.now.program }
     {
         &self.program
+    }
+    /// Where the unit of this number stands.
+    fn home(&self, number: usize) -> Home
+        requires { number < length self.now.homes.items }
+        ensures { result ≡ slice_index_or self.now.homes.items number no_home }
+    {
+        self.homes[number]
+    }
+
+    /// A switch, by its stage and its index there.
+    fn switch(&self, stage: u32, index: u32) -> &SwitchUnit
+        requires whole { IsWhole self.now }
+        requires stage { stage < self.now.config.stages }
+        requires index { index < 2 ^ (self.now.config.stages - 1) }
+        ensures { result.now ≡ (units_of_blocks self.now).switch stage index }
+    {
+        let home = self.home(switch_number(self.config.net(), stage, index));
+        self.blocks[home.block].switch(home.index)
+    }
+
+    /// A module, by its number.
+    fn module(&self, number: u32) -> &ModuleUnit
+        requires whole { IsWhole self.now }
+        requires number { number < 2 ^ self.now.config.stages }
+        ensures { result.now ≡ (units_of_blocks self.now).bank number }
+    {
+        let home = self.home(module_number(self.config.net(), number));
+        self.blocks[home.block].module(home.index)
+    }
+
+    /// A processing element, by its number.
+    fn unit(&self, pe: Pe) -> &ElementUnit
+        requires whole { IsWhole self.now }
+        requires pe { pe < 2 ^ self.now.config.stages }
+        ensures { result.now ≡ (units_of_blocks self.now).element pe }
+    {
+        let home = self.home(element_number(self.config.net(), pe));
+        self.blocks[home.block].element(home.index)
     }
 }

@@ -1,7 +1,7 @@
 //! The numbers of switches and places, counted over all stages.
 
 ghost use Rattle.std.specs.Prelude.{◌≡◌, ℕ, ◌-◌, ◌^◌, ◌<◌, ◌≤◌};
-ghost use Rattle.ultra_block.specs.Numbers.{switch_number as number_of_switch, place_number as number_of_place};
+ghost use Rattle.ultra_block.specs.Numbers.{switch_number as number_of_switch, element_number as number_of_element, module_number as number_of_module, place_number as number_of_place};
 
 use ultra_route::Net;
 
@@ -22,4 +22,22 @@ pub(crate) fn place_number(net: Net, stage: u32, position: u32) -> usize
 {
     let _stages = net.stages();
     (stage * net.size() + position) as usize
+}
+
+/// The number of a module among all units: switches come first.
+pub(crate) fn module_number(net: Net, number: u32) -> usize
+    requires { number < 2 ^ net }
+    ensures { result ≡ number_of_module net number }
+{
+    let stages = net.stages();
+    (stages * (net.size() / 2) + number) as usize
+}
+
+/// The number of a processing element among all units: switches come first, then modules.
+pub(crate) fn element_number(net: Net, pe: u32) -> usize
+    requires { pe < 2 ^ net }
+    ensures { result ≡ number_of_element net pe }
+{
+    let stages = net.stages();
+    (stages * (net.size() / 2) + net.size() + pe) as usize
 }
