@@ -1,6 +1,30 @@
-//! The whole machine: its definition, on which the blocks of the machine will stand.
+//! The whole machine: its definition, its settings, and the blocks into which it may be cut.
 #![tactic(auto)]
 
+mod block;
+mod blocks;
+mod config;
+mod cycle;
+mod element;
+mod element_unit;
+mod every_block;
+mod exchange;
+mod home;
+mod mail;
+mod module_unit;
+mod numbers;
+mod passes;
+mod replies;
+mod requests;
+mod rooms;
+mod switch_unit;
+
+pub use block::Block;
+pub use blocks::Blocks;
+pub use config::{Config, ConfigFault, Field, MOST_STAGES, RawSettings};
+pub use element::ProcessingElement;
+pub use home::Home;
+pub use rooms::Rooms;
 use ultra_isa::MachineFault;
 use ultra_msg::Pe;
 

@@ -1,0 +1,10 @@
+use Rattle.ultra_block.specs.ModuleSteps as bk
+use Rattle.ultra_block.proofs.Lent.{kept}
+use Rattle.ultra_block.proofs.block.Block.serve.Goals as goal
+
+pub invariant_of-self : goal.invariant_of-self
+invariant_of-self c = record {
+  switches = c.self.invariant.switches;
+  modules = kept (bk.serves) c.self.inside.modules c.as_mut_slice.result.now c.serve_modules.new.units c.as_mut_slice.ensures.value c.as_mut_slice.ensures.len c.serve_modules.ensures bk.IsPlaced (λ u h. record { number = h.number }) c.self.invariant.modules;
+  elements = c.self.invariant.elements;
+}

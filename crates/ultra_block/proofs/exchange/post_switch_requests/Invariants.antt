@@ -1,0 +1,10 @@
+use Rattle.std.proofs.Common.{◌≡◌, take}
+use Rattle.std.specs.List.{flat_map}
+use Rattle.ultra_block.specs.Tables.{switch_requests, without_requests_out, written}
+use Rattle.ultra_block.proofs.Mapped.{changed}
+use Rattle.ultra_block.proofs.exchange.post_switch_requests.Given as goal
+
+abbrev pub invariant-loop-unit : goal.invariant-loop-unit
+invariant-loop-unit l =
+    (l.units ≡ changed without_requests_out l.unit-index l.initial.units)
+    × (l.mail ≡ record l.initial.mail { requests = written (flat_map switch_requests (take l.unit-index l.initial.units)) l.initial.mail.requests })

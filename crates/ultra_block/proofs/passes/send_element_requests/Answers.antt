@@ -1,0 +1,9 @@
+use Rattle.std.proofs.Common.{arith}
+use Rattle.ultra_block.specs.ElementSteps.{sends_requests}
+use Rattle.ultra_block.proofs.Mapped.{stepped}
+use Rattle.ultra_block.proofs.passes.send_element_requests.Goals as goal
+
+pub loop-unit-preserved : goal.loop-unit-preserved
+loop-unit-preserved c =
+    stepped (sends_requests c.args.rooms.now) c.args.units.now c.loop-unit.units c.loop-unit.unit-index c.send_requests.new.self c.unit-item.result
+    (omega arith) c.loop-unit.invariant c.send_requests.ensures

@@ -1,0 +1,12 @@
+use Rattle.std.proofs.Common.{arith}
+use Rattle.ultra_block.specs.ModuleSteps.{CanTakeRequests, takes_requests}
+use Rattle.ultra_block.proofs.Mapped.{holds_next, stepped}
+use Rattle.ultra_block.proofs.passes.take_module_requests.Goals as goal
+
+pub loop-unit-preserved : goal.loop-unit-preserved
+loop-unit-preserved c =
+    stepped takes_requests c.args.units.now c.loop-unit.units c.loop-unit.unit-index c.take_requests.new.self c.unit-item.result
+    (omega arith) c.loop-unit.invariant c.take_requests.ensures
+
+pub take_requests-requires : goal.take_requests-requires
+take_requests-requires c = holds_next takes_requests CanTakeRequests c.args.units.now c.loop-unit.units c.loop-unit.unit-index c.unit-item.result (omega arith) c.loop-unit.invariant c.requires

@@ -1,0 +1,162 @@
+//! Blocks: some of the units of a machine.
+
+ghost use Rattle.std.specs.Prelude.{◌≡◌, ℕ, ◌<◌, length, slice_index_or};
+
+use crate::element_unit::ElementUnit;
+use crate::exchange::{
+    fetch_element_replies, fetch_module_requests, fetch_switch_replies, fetch_switch_requests,
+    note_modules, note_switches, post_element_requests, post_module_replies, post_switch_replies,
+    post_switch_requests,
+};
+use crate::mail::Mail;
+use crate::module_unit::ModuleUnit;
+use crate::passes::{
+    execute_elements, send_element_requests, send_module_replies, send_switch_replies,
+    send_switch_requests, serve_modules, take_element_replies, take_module_requests,
+    take_switch_replies, take_switch_requests,
+};
+use crate::rooms::Rooms;
+use crate::switch_unit::SwitchUnit;
+use std::marker::Model;
+use ultra_isa::Program;
+
+/// Some of the units of a machine, with what comes to them and leaves them: any switches, modules and processing elements, or none.
+///
+/// A cycle is made of six halves, each done to every block: `send_replies`, `take_replies`, `serve`, `send_requests`, `take_requests`, `execute`. Before each phase that sends, every block notes its `rooms`, and between sending and taking the messages are exchanged. No half takes memory.
+#[derive(Drop)]
+pub struct Block {
+    pub(crate) done: u32,
+    pub(crate) switches: Vec<SwitchUnit>,
+    pub(crate) modules: Vec<ModuleUnit>,
+    pub(crate) elements: Vec<ElementUnit>,
+}
+
+impl Model for Block {
+    ghost use Rattle.ultra_block.specs.BlockState.{BlockState, ArePlaced};
+
+    ghost Value = { BlockState };
+
+    ghost view = { λ b. record { done = b.done; switches = b.switches.items; modules = b.modules.items; elements = b.elements.items } };
+
+    ghost invariant = { λ b. ArePlaced record { done = b.done; switches = b.switches.items; modules = b.modules.items; elements = b.elements.items } };
+}
+
+impl Block {
+    ghost use Rattle.ultra_block.specs.BlockSteps.{CanExecute, CanTakeReplies, CanTakeRequests, executes, fetches_replies, fetches_requests, notes_rooms, posted_replies, posted_requests, posts_replies, posts_requests, sends_replies, sends_requests, serves, takes_replies, takes_requests};
+    ghost use Rattle.ultra_block.specs.Cut.{no_element, no_module, no_switch};
+
+    /// Notes which of its switches, queues and modules have room.
+    pub fn rooms(&self, rooms: &mut Rooms)
+        ensures { rooms.new ≡ notes_rooms self.now rooms.old }
+    {
+        note_switches(self.switches.as_slice(), rooms);
+        note_modules(self.modules.as_slice(), rooms);
+    }
+
+    /// Replies leave the switches and modules, where there is room.
+    pub fn send_replies(&mut self, rooms: &Rooms)
+        ensures { self.new ≡ sends_replies rooms.now self.old }
+    {
+        send_switch_replies(self.switches.as_mut_slice(), rooms);
+        send_module_replies(self.modules.as_mut_slice(), rooms);
+    }
+
+    /// The replies that have come are delivered to the processing elements, or split and passed on by the switches. They have to have room, and the cell of each that is delivered has to be open.
+    pub fn take_replies(&mut self)
+        requires { CanTakeReplies self.old }
+        ensures { self.new ≡ takes_replies self.old }
+    {
+        take_switch_replies(self.switches.as_mut_slice());
+        take_element_replies(self.elements.as_mut_slice());
+    }
+
+    /// Each module serves the request that waits, if no reply is in its way.
+    pub fn serve(&mut self)
+        ensures { self.new ≡ serves self.old }
+    {
+        serve_modules(self.modules.as_mut_slice());
+    }
+
+    /// Requests leave the switches and processing elements, where there is room.
+    pub fn send_requests(&mut self, rooms: &Rooms)
+        ensures { self.new ≡ sends_requests rooms.now self.old }
+    {
+        send_switch_requests(self.switches.as_mut_slice(), rooms);
+        send_element_requests(self.elements.as_mut_slice(), rooms);
+    }
+
+    /// The requests that have come go into the queues of the switches, port 0 first in even cycles and port 1 first in odd ones, and into the registers of the modules. They have to have room.
+    pub fn take_requests(&mut self)
+        requires { CanTakeRequests self.old }
+        ensures { self.new ≡ takes_requests self.old }
+    {
+        take_switch_requests(self.switches.as_mut_slice(), self.done);
+        take_module_requests(self.modules.as_mut_slice());
+    }
+
+    /// Each processing element makes one step of the program. The cycles that are done have to be fewer than `2^32 - 1`.
+    pub fn execute(&mut self, program: &Program)
+        requires { CanExecute self.old }
+        ensures { self.new ≡ executes program.now self.old }
+    {
+        execute_elements(self.elements.as_mut_slice(), program);
+        self.done += 1;
+    }
+
+    /// Puts the replies that leave onto their links.
+    pub(crate) fn post_replies(&mut self, mail: &mut Mail)
+        ensures block { self.new ≡ posted_replies self.old }
+        ensures mail { mail.new ≡ posts_replies self.old mail.old }
+    {
+        post_switch_replies(self.switches.as_mut_slice(), mail);
+        post_module_replies(self.modules.as_mut_slice(), mail);
+    }
+
+    /// Gets the replies that come, from their links.
+    pub(crate) fn fetch_replies(&mut self, mail: &Mail)
+        ensures { self.new ≡ fetches_replies mail.now self.old }
+    {
+        fetch_switch_replies(self.switches.as_mut_slice(), mail);
+        fetch_element_replies(self.elements.as_mut_slice(), mail);
+    }
+
+    /// Puts the requests that leave onto their links.
+    pub(crate) fn post_requests(&mut self, mail: &mut Mail)
+        ensures block { self.new ≡ posted_requests self.old }
+        ensures mail { mail.new ≡ posts_requests self.old mail.old }
+    {
+        post_switch_requests(self.switches.as_mut_slice(), mail);
+        post_element_requests(self.elements.as_mut_slice(), mail);
+    }
+
+    /// Gets the requests that come, from their links.
+    pub(crate) fn fetch_requests(&mut self, mail: &Mail)
+        ensures { self.new ≡ fetches_requests mail.now self.old }
+    {
+        fetch_switch_requests(self.switches.as_mut_slice(), mail);
+        fetch_module_requests(self.modules.as_mut_slice(), mail);
+    }
+    /// The switch at this place of the block.
+    pub(crate) fn switch(&self, place: usize) -> &SwitchUnit
+        requires { place < length self.now.switches }
+        ensures { result.now ≡ slice_index_or self.now.switches place no_switch }
+    {
+        &self.switches[place]
+    }
+
+    /// The module at this place of the block.
+    pub(crate) fn module(&self, place: usize) -> &ModuleUnit
+        requires { place < length self.now.modules }
+        ensures { result.now ≡ slice_index_or self.now.modules place no_module }
+    {
+        &self.modules[place]
+    }
+
+    /// The processing element at this place of the block.
+    pub(crate) fn element(&self, place: usize) -> &ElementUnit
+        requires { place < length self.now.elements }
+        ensures { result.now ≡ slice_index_or self.now.elements place no_element }
+    {
+        &self.elements[place]
+    }
+}

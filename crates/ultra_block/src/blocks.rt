@@ -1,0 +1,116 @@
+//! The whole machine, cut into blocks.
+
+ghost use Rattle.std.specs.Prelude.{◌≡◌, ℕ, ◌+◌, ◌-◌, ◌^◌, ◌<◌, length, slice_index_or};
+ghost use Rattle.ultra_block.specs.Phases.{cycle as next_cycle};
+
+use crate::block::Block;
+use crate::config::Config;
+use crate::cycle::make_cycle;
+use crate::element_unit::ElementUnit;
+use crate::home::Home;
+use crate::mail::Mail;
+use crate::module_unit::ModuleUnit;
+use crate::numbers::{element_number, module_number, switch_number};
+use crate::rooms::Rooms;
+use crate::switch_unit::SwitchUnit;
+use ultra_isa::Program;
+use ultra_msg::Pe;
+
+/// A whole machine, cut into blocks: its settings, its program, where each unit stands, and the blocks.
+///
+/// Between two cycles contracts see it as the machine of the definition, the same for every partition.
+#[derive(Drop)]
+pub struct Blocks {
+    pub(crate) config: Config,
+    pub(crate) program: Program,
+    pub(crate) homes: Vec<Home>,
+    pub(crate) rooms: Rooms,
+    pub(crate) mail: Mail,
+    pub(crate) done: u32,
+    pub(crate) blocks: Vec<Block>,
+}
+
+impl Blocks {
+    ghost use Rattle.ultra_block.specs.BlocksState.{machine_of, units_of_blocks, IsWhole};
+    ghost use Rattle.ultra_block.specs.Cut.{no_home};
+
+    /// The machine makes one cycle: replies, memory, requests, processors. It takes no memory and always succeeds.
+    ///
+    /// The machine has to be between two cycles, and its count of cycles below `2^32 - 1`.
+    pub fn cycle(&mut self)
+        requires whole { IsWhole self.old }
+        requires counted { self.old.done < 2 ^ 32 - 1 }
+        ensures state { machine_of self.new ≡ next_cycle self.old.config self.old.program (machine_of self.old) }
+        ensures whole { IsWhole self.new }
+        ensures settings { self.new.config ≡ self.old.config }
+        ensures program { self.new.program ≡ self.old.program }
+        ensures done { self.new.done ≡ self.old.done + 1 }
+    {
+        make_cycle(
+            self.blocks.as_mut_slice(),
+            &mut self.rooms,
+            &mut self.mail,
+            &self.program,
+        );
+        self.done += 1;
+    }
+
+    /// How many cycles the machine has made.
+    pub fn done(&self) -> u32
+        ensures { result ≡ self.now.done }
+    {
+        self.done
+    }
+
+    /// The machine's settings.
+    pub fn config(&self) -> &Config
+        ensures { result.now ≡ self.now.config }
+    {
+        &self.config
+    }
+
+    /// The machine's program.
+    pub fn program(&self) -> &Program
+        ensures { result.now ≡ self.now.program }
+    {
+        &self.program
+    }
+    /// Where the unit of this number stands.
+    fn home(&self, number: usize) -> Home
+        requires { number < length self.now.homes.items }
+        ensures { result ≡ slice_index_or self.now.homes.items number no_home }
+    {
+        self.homes[number]
+    }
+
+    /// A switch, by its stage and its index there.
+    fn switch(&self, stage: u32, index: u32) -> &SwitchUnit
+        requires whole { IsWhole self.now }
+        requires stage { stage < self.now.config.stages }
+        requires index { index < 2 ^ (self.now.config.stages - 1) }
+        ensures { result.now ≡ (units_of_blocks self.now).switch stage index }
+    {
+        let home = self.home(switch_number(self.config.net(), stage, index));
+        self.blocks[home.block].switch(home.index)
+    }
+
+    /// A module, by its number.
+    fn module(&self, number: u32) -> &ModuleUnit
+        requires whole { IsWhole self.now }
+        requires number { number < 2 ^ self.now.config.stages }
+        ensures { result.now ≡ (units_of_blocks self.now).bank number }
+    {
+        let home = self.home(module_number(self.config.net(), number));
+        self.blocks[home.block].module(home.index)
+    }
+
+    /// A processing element, by its number.
+    fn unit(&self, pe: Pe) -> &ElementUnit
+        requires whole { IsWhole self.now }
+        requires pe { pe < 2 ^ self.now.config.stages }
+        ensures { result.now ≡ (units_of_blocks self.now).element pe }
+    {
+        let home = self.home(element_number(self.config.net(), pe));
+        self.blocks[home.block].element(home.index)
+    }
+}

@@ -1,0 +1,96 @@
+//! Processing elements, with what comes to them and leaves them.
+
+ghost use Rattle.std.specs.Prelude.{◌≡◌, ℕ, ◌^◌, ◌<◌};
+ghost use Rattle.ultra_block.specs.Numbers.{place_number};
+
+use crate::Stop;
+use crate::element::ProcessingElement;
+use crate::mail::Mail;
+use crate::numbers::place_number;
+use crate::requests::send_request;
+use crate::rooms::Rooms;
+use ultra_isa::{Program, Step};
+use ultra_msg::{Event, Pe, ReplyMessage, Request};
+use ultra_route::Net;
+
+/// A processing element, with its mailboxes: what comes to it and what leaves it between the halves of a cycle, and what was delivered to it, what it issued and how it stopped in the last cycle.
+#[derive(Drop)]
+pub struct ElementUnit {
+    pub(crate) net: Net,
+    pub(crate) pe: Pe,
+    pub(crate) reply_in: Option<ReplyMessage>,
+    pub(crate) request_out: Option<Request>,
+    pub(crate) delivered: Option<ReplyMessage>,
+    pub(crate) issue: Option<Event>,
+    pub(crate) stop: Option<Stop>,
+    pub(crate) element: ProcessingElement,
+}
+
+impl ElementUnit {
+    ghost use Rattle.ultra_block.specs.ElementSteps.{CanExecute, CanTakeReplies, IsPlaced, executes, sends_requests, takes_replies};
+    ghost use Rattle.ultra_block.specs.Tables.{element_requests, with_reply_in, without_request_out, written};
+
+    /// A reply that has come is delivered.
+    pub(crate) fn take_replies(&mut self)
+        requires { CanTakeReplies self.old }
+        ensures { self.new ≡ takes_replies self.old }
+    {
+        self.delivered = self.reply_in.take();
+        self.element.deliver(self.delivered);
+    }
+
+    /// The first request that waits leaves, if the queue that it goes to has room.
+    pub(crate) fn send_requests(&mut self, rooms: &Rooms)
+        requires { IsPlaced self.old }
+        ensures { self.new ≡ sends_requests rooms.now self.old }
+    {
+        let entry = self.net.shuffle(self.pe);
+        self.request_out = send_request(&mut self.element.interface, rooms, self.net, entry);
+    }
+
+    /// One step of the program.
+    pub(crate) fn execute(&mut self, program: &Program)
+        requires { CanExecute self.old }
+        ensures { self.new ≡ executes program.now self.old }
+    {
+        let number = self.element.issued;
+        let step = self.element.execute(program);
+        self.issue = match step {
+            Step::Issued => self
+                .element
+                .interface
+                .newest()
+                .map(|request| Event::Issued { request, number }),
+            Step::Done | Step::Stalled | Step::Halted | Step::Fault(_) => None,
+        };
+        self.stop = match step {
+            Step::Fault(fault) => Some(Stop { pe: self.pe, fault }),
+            Step::Done | Step::Issued | Step::Stalled | Step::Halted => None,
+        };
+    }
+
+    /// The number of the link from the processing element.
+    fn link(&self) -> usize
+        requires { IsPlaced self.now }
+        ensures { result ≡ place_number self.now.net 0 self.now.pe }
+    {
+        place_number(self.net, 0, self.pe)
+    }
+
+    /// Puts the request that leaves onto its link.
+    pub(crate) fn post_requests(&mut self, mail: &mut Mail)
+        requires { IsPlaced self.old }
+        ensures unit { self.new ≡ without_request_out self.old }
+        ensures mail { mail.new ≡ record mail.old { requests = written (element_requests self.old) mail.old.requests } }
+    {
+        mail.post_request(self.link(), self.request_out.take());
+    }
+
+    /// Gets the reply that comes, from its link.
+    pub(crate) fn fetch_replies(&mut self, mail: &Mail)
+        requires { IsPlaced self.old }
+        ensures { self.new ≡ with_reply_in mail.now self.old }
+    {
+        self.reply_in = mail.reply(self.link());
+    }
+}
