@@ -92,13 +92,13 @@ module _ (c : Settings) where
     sends p = (step_is (site c p) c.most_open (element_at m p).interface program (element_at m p).core).into
 
     -- as many messages more as open cells
-    element_step : (t : ℕ → ℕ → Bool) (p : ℕ) → p < size c
+    pub element_step : (t : ℕ → ℕ → Bool) (p : ℕ) → p < size c
         → pending_on_way t (element_at (processor_phase c program m) p) + opened_by t p (element_at m p) ≡ pending_on_way t (element_at m p) + opened_by t p (element_at (processor_phase c program m) p)
     element_step t p h =
         rw (element-processor_phase c program m p h)
         (sends_balanced t (site c p) c.most_open (element_at m p).interface (step_at c program m p).interface (step_at c program m p).sent (sends p))
 
-    all_elements : (t : ℕ → ℕ → Bool) → total (size c) (λ p. pending_on_way t (element_at (processor_phase c program m) p)) + all_opened t c m
+    pub all_elements : (t : ℕ → ℕ → Bool) → total (size c) (λ p. pending_on_way t (element_at (processor_phase c program m) p)) + all_opened t c m
         ≡ total (size c) (λ p. pending_on_way t (element_at m p)) + all_opened t c (processor_phase c program m)
     all_elements t =
         let after = total_plus (size c) (λ p. pending_on_way t (element_at (processor_phase c program m) p)) (λ p. opened_by t p (element_at m p)) in
