@@ -186,7 +186,7 @@ module _ (c : Settings) (range : AreInRange c) (m : Machine) where
     pub on_way-request_phase : on_way t c (request_phase c m) ≡ on_way t c m
     on_way-request_phase = omega (arith, all_arriving, all_leaving, all_lanes, all_banks, all_pending, all_replies)
 
-    all_opened_as_before : all_opened t c (request_phase c m) ≡ all_opened t c m
+    pub all_opened_as_before : all_opened t c (request_phase c m) ≡ all_opened t c m
     all_opened_as_before = total_same (size c) _ _ (λ p h. rw (element-request_phase c m p h) refl)
 
   pub balanced-request_phase : IsBalanced c m → IsBalanced c (request_phase c m)
