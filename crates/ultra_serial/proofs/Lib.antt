@@ -1,3 +1,5 @@
 pub mod Rows
 pub mod Series
 pub mod Tidy
+pub mod Forest
+pub mod Standing

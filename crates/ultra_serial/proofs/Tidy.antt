@@ -50,14 +50,14 @@ total_longer n m f h =
     let halves = total_halves n (m - n) m f (omega arith) in
     omega (arith, halves)
 
-total_most : (n : ℕ) (f g : ℕ → ℕ) → ((j : ℕ) → j < n → g j ≤ f j) → total n g ≤ total n f
+pub total_most : (n : ℕ) (f g : ℕ → ℕ) → ((j : ℕ) → j < n → g j ≤ f j) → total n g ≤ total n f
 total_most zero f g h = omega (arith, total_none f, total_none g)
 total_most (suc n) f g h =
     let last = h n (omega arith) in
     let rest = total_most n f g (λ j a. h j (omega arith)) in
     omega (arith, total_next n f, total_next n g)
 
-true_or_false : (b : Bool) → (b ≡ true) ⊎ (b ≡ false)
+pub true_or_false : (b : Bool) → (b ≡ true) ⊎ (b ≡ false)
 true_or_false true = inl refl
 true_or_false false = inr refl
 
@@ -257,7 +257,7 @@ unmarked_is : (b d : Bool) → not b ≡ true → weight (b && d) ≡ 0
 unmarked_is true d h = cc
 unmarked_is false d h = refl
 
-marked_weight : (b d : Bool) → weight (b && d) ≤ weight d
+pub marked_weight : (b d : Bool) → weight (b && d) ≤ weight d
 marked_weight true d = omega arith
 marked_weight false d = omega arith
 
