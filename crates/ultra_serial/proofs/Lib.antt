@@ -3,3 +3,5 @@ pub mod Series
 pub mod Tidy
 pub mod Forest
 pub mod Standing
+pub mod Explained
+pub mod ReplyForest

@@ -161,21 +161,21 @@ taken p a ws (Some r) l = taken_if p a r ws (is_reference p a r.pe r.cell) refl 
 
 module _ (c : Settings) (range : AreInRange c) (m : Machine) where
   module _ (t : ℕ → ℕ → Bool) where
-    abbrev comes : ℕ → ℕ
+    abbrev pub comes : ℕ → ℕ
     comes s = total (size c) (λ x. replies.arriving c range m t s x)
 
-    abbrev goes : ℕ → ℕ
+    abbrev pub goes : ℕ → ℕ
     goes s = total (size c) (λ y. replies.leaving c range m t s y)
 
-    abbrev made : ℕ → ℕ
+    abbrev pub made : ℕ → ℕ
     made s = total (size c) (λ x. replies.made c range m t s x)
 
-    lanes_row : (s : ℕ) → s < c.stages → lanes_of t c (reply_phase c m) s + made s ≡ lanes_of t c m s + comes s
+    pub lanes_row : (s : ℕ) → s < c.stages → lanes_of t c (reply_phase c m) s + made s ≡ lanes_of t c m s + comes s
     lanes_row s h =
         sym (total_plus (size c) (λ x. lane_on_way t (lane_at (reply_phase c m) s x)) (λ x. replies.made c range m t s x))
         ∙ (total_same (size c) _ _ (λ x l. replies.lane_step c range m t s x h l) ∙ total_plus (size c) (λ x. lane_on_way t (lane_at m s x)) (λ x. replies.arriving c range m t s x))
 
-    replies_row : (s : ℕ) → s < c.stages → replies_of t c (reply_phase c m) s + goes s ≡ replies_of t c m s + made s
+    pub replies_row : (s : ℕ) → s < c.stages → replies_of t c (reply_phase c m) s + goes s ≡ replies_of t c m s + made s
     replies_row s h =
         let after = total_plus (size c) (λ y. replies_on_way t (replies_at (reply_phase c m) s y)) (λ y. replies.leaving c range m t s y) in
         let before = total_plus (size c) (λ y. replies_on_way t (replies_at m s y)) (λ y. replies.exits_at c range m t s y) in
