@@ -5,3 +5,4 @@ pub mod Forest
 pub mod Standing
 pub mod Explained
 pub mod ReplyForest
+pub mod Mentions
