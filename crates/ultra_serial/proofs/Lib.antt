@@ -6,3 +6,4 @@ pub mod Standing
 pub mod Explained
 pub mod ReplyForest
 pub mod Mentions
+pub mod LaneForest
