@@ -64,7 +64,7 @@ within_each P Q w l r f h = if_tested (nat_lt (length l.records) w) (λ o. Combi
 
 -- ---- how often a reference is named
 module _ (t : ℕ → ℕ → Bool) where
-  abbrev is_unmarked : Entry → Bool
+  abbrev pub is_unmarked : Entry → Bool
   is_unmarked e = not e.combined && t e.request.pe e.request.cell
 
   abbrev pub unmarked_in : List Entry → ℕ

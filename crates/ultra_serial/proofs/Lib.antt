@@ -7,3 +7,4 @@ pub mod Explained
 pub mod ReplyForest
 pub mod Mentions
 pub mod LaneForest
+pub mod RequestForest

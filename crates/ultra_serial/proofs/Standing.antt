@@ -38,7 +38,7 @@ total_both (suc n) f j k hj hk apart =
         let less : k < n = omega (arith, hj, hk, l, apart) in
         let rest = total_term n f k less in omega (arith, total_next n f)) (cases_lt j n)
 
-marked_within : (t : ℕ → ℕ → Bool) (es : List Entry) → marked_in t es ≤ count (entry_passes t) es
+pub marked_within : (t : ℕ → ℕ → Bool) (es : List Entry) → marked_in t es ≤ count (entry_passes t) es
 marked_within t [] = omega arith
 marked_within t (e ∷ es) = omega (arith, marked_within t es, marked_weight e.combined (t e.request.pe e.request.cell))
 
