@@ -8,3 +8,5 @@ pub mod ReplyForest
 pub mod Mentions
 pub mod LaneForest
 pub mod RequestForest
+pub mod Replays
+pub mod MemoryForest
