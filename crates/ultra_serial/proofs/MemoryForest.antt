@@ -23,6 +23,7 @@ use Rattle.ultra_block.specs.Ranges.{AreInRange}
 use Rattle.ultra_block.specs.Shape.{HasShape}
 use Rattle.ultra_block.specs.Routed.{module_of, IsAtModule, IsPlacedAt, IsReplyOf, IsEntryAt, IsOwn, IsRouted}
 use Rattle.ultra_block.specs.Balance.{weight, count, count_option, total, passes, reply_passes, entry_passes, lane_on_way, replies_on_way, bank_on_way, pending_on_way, on_way, IsBalanced}
+use Rattle.ultra_block.proofs.Each.{each-weaker, some-weaker}
 use Rattle.ultra_block.proofs.Sums.{total_same, total_plus, total_term, table_term}
 use Rattle.ultra_block.proofs.Counting.{is_reference}
 use Rattle.ultra_block.proofs.Neighbours.{other}
@@ -33,12 +34,12 @@ use Rattle.ultra_serial.specs.Log.{Issue, Log, logged}
 use Rattle.ultra_serial.specs.Legal.{Entry as Done, Cells, cells_after, replayed}
 use Rattle.ultra_serial.specs.SerialList.{History, noted, after_event, cells_of}
 use Rattle.ultra_serial.proofs.Series.{sent, value_after, IsSeries, in_series}
-use Rattle.ultra_serial.proofs.Tidy.{that_is}
-use Rattle.ultra_serial.proofs.Forest.{built, built_proper, same_built, IsSameBelow, record_at}
+use Rattle.ultra_serial.proofs.Tidy.{that_is, total_most}
+use Rattle.ultra_serial.proofs.Forest.{built, built_leaf, built_next, built_proper, grown, position_of, record_at}
 use Rattle.ultra_serial.proofs.Standing.{each_in, some_in, once}
 use Rattle.ultra_serial.proofs.Explained.{IsExplained, explained_more, bound, IsKept, IsKeptAt, IsAnswered, IsGiven, IsForest}
 use Rattle.ultra_serial.proofs.ReplyForest.{each_and, some_and}
-use Rattle.ultra_serial.proofs.Mentions.{mention, mentions, sum_of, trees_noted, noted_trees, unmentioned, without_other}
+use Rattle.ultra_serial.proofs.Mentions.{mention, mentions, sum_of, sum-places, trees_noted, noted_trees, unmentioned, without_other}
 use Rattle.ultra_serial.proofs.Replays.{AreFor, cells-append, replayed-append, explained_right, cell_after, cell_kept, built_is_for, for_leaves, replay_explains}
 
 -- the history after an event, if there is one
@@ -192,3 +193,199 @@ module _ (c : Settings) (range : AreInRange c) (m : Machine) (shape : HasShape c
           grows = (g.grows.0 ++ replayed before (leaves t), list_now ∙ (ap (λ es. es ++ replayed before (leaves t)) g.grows.1 ∙ append_assoc (replayed initial first.order) g.grows.0 (replayed before (leaves t))));
           log = g.log;
         }
+
+    -- ---- all modules, one after another
+    input_of : (i : Option Placed) (o : Option ReplyMessage) (p : Placed) → elim o [ None ↦ i | Some r ↦ None ] ≡ Some p → i ≡ Some p
+    input_of i None p e = e
+    input_of i (Some r) p e = absurd cc
+
+    known : (P : Placed → Type 0) (i : Option Placed) (p : Placed) → IfSome i P → i ≡ Some p → P p
+    known P None p h e = absurd cc
+    known P (Some q) p h e = let same : q ≡ p = cc in subst P same h
+
+    acted_by : (n j : ℕ) (h : History) (o : Option Placed) → j < size c → to_serve (bank_at m j) ≡ o → Acted j h → Acted (suc j) (after_some n (serving j (act_of (bank_at m j) o)) h)
+    acted_by n j h None hj e g = acted_none n j h hj e g
+    acted_by n j h (Some p) hj e g =
+        let inp = input_of (bank_at m j).inp (bank_at m j).out p e in
+        acted_some n j h p hj e (known (IsPlacedAt c j) (bank_at m j).inp p (w.inputs j hj) inp)
+        (known (λ (q : Placed). IsKeptAt c m is first.trees c.stages q.request) (bank_at m j).inp p (f.inputs j hj) inp) g
+
+    acted_from : (n k j : ℕ) (h : History) → j + k ≡ size c → Acted j h → Acted (size c) (noted n (present (map event_at (range_with_len j k))) h)
+    acted_from n zero j h e g = let same : j ≡ size c = omega (arith, e) in subst (λ i. Acted i h) same g
+    acted_from n (suc k) j h e g =
+        let one = acted_by n j h (to_serve (bank_at m j)) (omega (arith, e)) refl g in
+        let next : suc j ≡ j + 1 = omega arith in
+        rw (noted_present n (event_at j) (map event_at (range_with_len (j + 1) k)) h)
+        (acted_from n k (j + 1) (after_some n (event_at j) h) (omega (arith, e)) (subst (λ i. Acted i (after_some n (event_at j) h)) next one))
+
+    pub all_acted : (n : ℕ) → ((a : ℕ) → cells_after initial first.order a ≡ cells_of c m a) → Acted (size c) (noted n all_served first)
+    unfolding places
+    all_acted n cells = acted_from n (size c) 0 first (omega arith) record {
+      trees = λ p a l. refl;
+      cells_ahead = λ a l. cells a;
+      cells_done = λ a l. absurd (omega (arith, l));
+      explained = λ k l. absurd (omega (arith, l));
+      grows = ([], sym (append-nil (replayed initial first.order)));
+      log = refl;
+    }
+
+    -- ---- the trees that are taken
+    module _ (t : ℕ → ℕ → Bool) where
+      abbrev inputs_on_way : Bank → ℕ
+      inputs_on_way v = count_option (λ (p : Placed). t p.request.pe p.request.cell) v.inp
+
+      abbrev mention_some : Option Event → ℕ
+      mention_some None = 0
+      mention_some (Some e) = mention t e
+
+      present_mentions : (os : List (Option Event)) → mentions t (present os) ≡ sum_of (λ o. mention_some o) os
+      present_mentions [] = refl
+      present_mentions (None ∷ os) = omega (arith, present_mentions os)
+      present_mentions (Some e ∷ os) = omega (arith, present_mentions os)
+
+      taken_of : (k : ℕ) (v : Bank) (i : Option Placed) (o : Option ReplyMessage) → v.inp ≡ i → v.out ≡ o
+          → let s : Option Placed = elim o [ None ↦ i | Some r ↦ None ] in mention_some (serving k (act_of v s)) + inputs_on_way (after_serving v s) ≡ inputs_on_way v
+      taken_of k v i (Some r) e d = omega arith
+      taken_of k v None None e d = omega arith
+      taken_of k v (Some p) None e d = rw e (omega arith)
+
+      taken_at : (k : ℕ) → k < size c → mention_some (event_at k) + inputs_on_way (bank_at after k) ≡ inputs_on_way (bank_at m k)
+      taken_at k h = rw (bank-memory_phase c m k h) (taken_of k (bank_at m k) (bank_at m k).inp (bank_at m k).out refl refl)
+
+      all_taken : mentions t all_served + total (size c) (λ k. inputs_on_way (bank_at after k)) ≡ total (size c) (λ k. inputs_on_way (bank_at m k))
+      all_taken =
+          let named = present_mentions (places (size c) event_at) ∙ sum-places (λ o. mention_some o) (size c) event_at in
+          let sum = total_plus (size c) (λ k. mention_some (event_at k)) (λ k. inputs_on_way (bank_at after k)) in
+          let each = total_same (size c) (λ k. mention_some (event_at k) + inputs_on_way (bank_at after k)) (λ k. inputs_on_way (bank_at m k)) taken_at in
+          omega (arith, named, sum, each)
+
+      inputs_within : total (size c) (λ k. inputs_on_way (bank_at m k)) ≤ total (size c) (λ k. bank_on_way t (bank_at m k))
+      inputs_within = total_most (size c) (λ k. bank_on_way t (bank_at m k)) (λ k. inputs_on_way (bank_at m k)) (λ k l. omega arith)
+
+    -- ---- the trees are the same
+    same_record : (s p a : ℕ) → record_at c after s p a ≡ record_at c m s p a
+    unfolding memory_phase
+    same_record s p a = refl
+
+    same_grown : (s x : ℕ) (t u : Tree) (g h : ℕ → Tree) (o : Option WaitRecord) → t ≡ u → ((q : ℕ) → g q ≡ h q) → grown s x t g o ≡ grown s x u h o
+    same_grown s x t u g h None e d = e
+    same_grown s x t u g h (Some v) e d = rw (e, d v.partner) refl
+
+    same_tree : (n p a : ℕ) → built c after is n p a ≡ built c m is n p a
+    same_tree zero p a = built_leaf c after is p a ∙ sym (built_leaf c m is p a)
+    same_tree (suc s) p a =
+        built_next c after is s p a
+        ∙ (ap (λ o. grown s (position_of c s p a) (built c after is s p a) (λ q. built c after is s q a) o) (same_record s p a)
+        ∙ (same_grown s (position_of c s p a) (built c after is s p a) (built c m is s p a) (λ q. built c after is s q a) (λ q. built c m is s q a) (record_at c m s p a) (same_tree s p a) (λ q. same_tree s q a)
+        ∙ sym (built_next c m is s p a)))
+
+    module _ (n : ℕ) (cells : (a : ℕ) → cells_after initial first.order a ≡ cells_of c m a) (is_list : list ≡ replayed initial first.order) where
+      abbrev last : History
+      last = noted n all_served first
+
+      abbrev now : List Done
+      now = replayed initial last.order
+
+      acted : Acted (size c) last
+      acted = all_acted n cells
+
+      kept_after : (k : ℕ) (r : Request) → mentions (is_reference r.pe r.cell) all_served ≤ 0 → IsKeptAt c m is first.trees k r → IsKeptAt c after is last.trees k r
+      kept_after k r none g =
+          let same = same_tree k r.pe r.cell in
+          let stays : tree_of r.pe r.cell last.trees ≡ tree_of r.pe r.cell first.trees = ap (λ ts. tree_of r.pe r.cell ts) (noted_trees n all_served first) ∙ unmentioned r.pe r.cell all_served first.trees none in
+          record { tree = stays ∙ (g.tree ∙ ap (λ t. Some t) (sym same)); op = ap (λ t. sent t) same ∙ g.op }
+
+      answered_after : (k : ℕ) (r : ReplyMessage) → IsAnswered c m is list k r → IsAnswered c after is now k r
+      answered_after k r g =
+          let t = built c m is k r.pe r.cell in
+          let more = explained_more list acted.grows.0 t r.reply g in
+          let grown_list : list ++ acted.grows.0 ≡ now = ap (λ es. es ++ acted.grows.0) is_list ∙ sym acted.grows.1 in
+          subst (λ es. IsExplained es (built c after is k r.pe r.cell) r.reply) grown_list (subst (λ u. IsExplained (list ++ acted.grows.0) u r.reply) (sym (same_tree k r.pe r.cell)) more)
+
+      -- no act is of a request that stands elsewhere
+      not_named : (p a : ℕ) → p < size c → 1 + total (size c) (λ k. bank_on_way (is_reference p a) (bank_at m k)) ≤ on_way (is_reference p a) c m → mentions (is_reference p a) all_served ≤ 0
+      not_named p a hp l =
+          let t = is_reference p a in
+          omega (arith, l, once c range m b p a hp, all_taken t, inputs_within t)
+
+      pending_after : (p : ℕ) → p < size c → AllByRecursion (IsKeptAt c after is last.trees 0) (element_at m p).interface.pending
+      pending_after p hp =
+          each_in (λ (r : Request). IsOwn c p r × IsKeptAt c m is first.trees 0 r) (IsKeptAt c after is last.trees 0) (element_at m p).interface.pending
+          (λ r counts h.
+              let hq : r.pe < size c = rw h.0.0 hp in
+              let one = counts (passes (is_reference r.pe r.cell)) (that_is r.pe r.cell) in
+              let there = total_term (size c) (λ q. pending_on_way (is_reference r.pe r.cell) (element_at m q)) p hp in
+              kept_after 0 r (not_named r.pe r.cell hq (omega (arith, one, there))) h.1)
+          (each_and (IsOwn c p) (IsKeptAt c m is first.trees 0) (element_at m p).interface.pending (w.pending p hp) (f.pending p hp))
+
+      queued_after : (s x : ℕ) → s < c.stages → x < size c → AllByRecursion (λ (e : Entry). IsKeptAt c after is last.trees (bound s e.combined) e.request) (lane_at m s x).queue
+      queued_after s x hs hx =
+          each_in (λ (e : Entry). IsEntryAt c s x e × IsKeptAt c m is first.trees (bound s e.combined) e.request) (λ (e : Entry). IsKeptAt c after is last.trees (bound s e.combined) e.request) (lane_at m s x).queue
+          (λ e counts h.
+              let t = is_reference e.request.pe e.request.cell in
+              let one = counts (entry_passes t) (that_is e.request.pe e.request.cell) in
+              let there = table_term c.stages (size c) (λ i z. lane_on_way t (lane_at m i z)) s x hs hx in
+              kept_after (bound s e.combined) e.request (not_named e.request.pe e.request.cell h.0.reference.element (omega (arith, one, there))) h.1)
+          (each_and (IsEntryAt c s x) (λ (e : Entry). IsKeptAt c m is first.trees (bound s e.combined) e.request) (lane_at m s x).queue (w.requests s x hs hx) (f.queued s x hs hx))
+
+      input_left : (k : ℕ) (v : Bank) (o : Option Placed) (P : Placed → Type 0) → IfSome v.inp P → IfSome (after_serving v o).inp P
+      input_left k v None P h = h
+      input_left k v (Some p) P h = tt
+
+      input_after : (k : ℕ) → k < size c → IfSome (bank_at after k).inp (λ (p : Placed). IsKeptAt c after is last.trees c.stages p.request)
+      input_after k hk =
+          some_in (λ (p : Placed). IsPlacedAt c k p × IsKeptAt c m is first.trees c.stages p.request) (λ (p : Placed). IsKeptAt c after is last.trees c.stages p.request) (bank_at after k).inp
+          (λ p counts h.
+              let t = is_reference p.request.pe p.request.cell in
+              let hp = h.0.0.reference.element in
+              let one = counts (λ (q : Placed). t q.request.pe q.request.cell) (that_is p.request.pe p.request.cell) in
+              let there = total_term (size c) (λ z. inputs_on_way t (bank_at after z)) k hk in
+              let none : mentions t all_served ≤ 0 = omega (arith, one, there, once c range m b p.request.pe p.request.cell hp, all_taken t, inputs_within t) in
+              kept_after c.stages p.request none h.1)
+          (rw (bank-memory_phase c m k hk)
+          (input_left k (bank_at m k) (to_serve (bank_at m k)) (λ (p : Placed). IsPlacedAt c k p × IsKeptAt c m is first.trees c.stages p.request)
+          (some_and (IsPlacedAt c k) (λ (p : Placed). IsKeptAt c m is first.trees c.stages p.request) (bank_at m k).inp (w.inputs k hk) (f.inputs k hk))))
+
+      output_of : (k : ℕ) (v : Bank) (o : Option Placed) → IfSome v.out (IsAnswered c after is now c.stages)
+          → IfSome o (λ (p : Placed). IsExplained now (built c after is c.stages p.request.pe p.request.cell) (act p.request.op (value_at v p)).1) → IfSome (after_serving v o).out (IsAnswered c after is now c.stages)
+      output_of k v None h g = h
+      output_of k v (Some p) h g = g
+
+      output_after : (k : ℕ) → k < size c → IfSome (bank_at after k).out (IsAnswered c after is now c.stages)
+      output_after k hk =
+          rw (bank-memory_phase c m k hk)
+          (output_of k (bank_at m k) (to_serve (bank_at m k))
+          (some-weaker (IsAnswered c m is list c.stages) (IsAnswered c after is now c.stages) (bank_at m k).out (λ r h. answered_after c.stages r h) (f.outputs k hk))
+          (some-weaker (λ (p : Placed). IsExplained now (built c m is c.stages p.request.pe p.request.cell) (act p.request.op (value_at (bank_at m k) p)).1)
+          (λ (p : Placed). IsExplained now (built c after is c.stages p.request.pe p.request.cell) (act p.request.op (value_at (bank_at m k) p)).1) (to_serve (bank_at m k))
+          (λ p h. subst (λ t. IsExplained now t (act p.request.op (value_at (bank_at m k) p)).1) (sym (same_tree c.stages p.request.pe p.request.cell)) h) (acted.explained k hk)))
+
+      replies_after : (s v : ℕ) → s < c.stages → v < size c → AllByRecursion (IsAnswered c after is now s) (replies_at m s v)
+      replies_after s v hs hv = each-weaker (IsAnswered c m is list s) (IsAnswered c after is now s) (replies_at m s v) (λ r h. answered_after s r h) (f.replies s v hs hv)
+
+      records_after : (s x : ℕ) → s < c.stages → x < size c → AllByRecursion (IsGiven c after is s) (lane_at m s x).records
+      records_after s x hs hx =
+          each-weaker (IsGiven c m is s) (IsGiven c after is s) (lane_at m s x).records
+          (λ u h. record { old = rw (same_tree s u.pe u.cell, same_tree s u.partner u.cell) h.old; new = rw (same_tree s u.pe u.cell, same_tree s u.partner u.cell) h.new }) (f.records s x hs hx)
+
+      same_lane : (s x : ℕ) → lane_at after s x ≡ lane_at m s x
+      unfolding memory_phase
+      same_lane s x = refl
+
+      same_replies : (s v : ℕ) → replies_at after s v ≡ replies_at m s v
+      unfolding memory_phase
+      same_replies s v = refl
+
+      same_element : (p : ℕ) → element_at after p ≡ element_at m p
+      unfolding memory_phase
+      same_element p = refl
+
+      pub forest-memory_phase : IsForest c after last.trees is now
+      forest-memory_phase = record {
+        pending = λ p h. rw (same_element p) (pending_after p h);
+        queued = λ s x hs hx. rw (same_lane s x) (queued_after s x hs hx);
+        inputs = input_after;
+        outputs = output_after;
+        replies = λ s v hs hv. rw (same_replies s v) (replies_after s v hs hv);
+        records = λ s x hs hx. rw (same_lane s x) (records_after s x hs hx);
+      }
