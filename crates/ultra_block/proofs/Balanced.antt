@@ -20,7 +20,7 @@ both_false true b h = cc
 both_false false b h = (refl, h)
 
 -- what isn't open counts nothing
-none_open : (a : ℕ) (os : List OpenCell) → is_open a os ≡ false → count (λ (o : OpenCell). o.cell == a) os ≡ 0
+pub none_open : (a : ℕ) (os : List OpenCell) → is_open a os ≡ false → count (λ (o : OpenCell). o.cell == a) os ≡ 0
 none_open a [] e = refl
 none_open a (o ∷ os) e =
     let parts = both_false (o.cell == a) (is_open a os) e in
@@ -88,7 +88,7 @@ module _ (c : Settings) where
 
   -- ---- processors
   module _ (program : List Instr) (m : Machine) where
-    sends : (p : ℕ) → SendsInto (site c p) c.most_open (element_at m p).interface (step_at c program m p).interface (step_at c program m p).sent
+    pub sends : (p : ℕ) → SendsInto (site c p) c.most_open (element_at m p).interface (step_at c program m p).interface (step_at c program m p).sent
     sends p = (step_is (site c p) c.most_open (element_at m p).interface program (element_at m p).core).into
 
     -- as many messages more as open cells

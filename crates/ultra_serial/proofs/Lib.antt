@@ -10,3 +10,4 @@ pub mod LaneForest
 pub mod RequestForest
 pub mod Replays
 pub mod MemoryForest
+pub mod ProcessorForest
