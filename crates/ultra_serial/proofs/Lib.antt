@@ -11,3 +11,4 @@ pub mod RequestForest
 pub mod Replays
 pub mod MemoryForest
 pub mod ProcessorForest
+pub mod Named

@@ -115,7 +115,7 @@ event_other p a ks (Served k r reply now) h = without_other p a r.pe r.cell ks (
 event_other p a ks (Combined s x b q r f) h =
     let old : is_reference p a q b ≡ false = zero_weight (is_reference p a q b) (omega (arith, h)) in
     let new : is_reference p a r b ≡ false = zero_weight (is_reference p a r b) (omega (arith, h)) in
-    paired_other p a s x b q f (without r b (without q b ks)) (tree_of q b ks) (tree_of r b ks) old
+    paired_other p a s x b q f (without r b (without q b ks)) (tree_of q b ks) (tree_of r b (without q b ks)) old
     ∙ (without_other p a r b (without q b ks) new ∙ without_other p a q b ks old)
 event_other p a ks (Issued r n) h = under_other p a _ ks (zero_weight _ h)
 
@@ -142,9 +142,12 @@ combined_tree s x a p q f o n (e ∷ es) ks (inl z) one two old new =
     let here : mention (is_reference p a) e ≡ mention (is_reference p a) (Combined s x a p q f) = ap (λ v. mention (is_reference p a) v) z in
     let that : weight (is_reference p a p a) ≡ 1 = rw (that_is p a) refl in
     let rest : mentions (is_reference p a) es ≤ 0 = omega (arith, one, here, that) in
+    let there : mention (is_reference q a) e ≡ mention (is_reference q a) (Combined s x a p q f) = ap (λ v. mention (is_reference q a) v) z in
+    let that_q : weight (is_reference q a q a) ≡ 1 = rw (that_is q a) refl in
+    let apart : is_reference q a p a ≡ false = zero_weight (is_reference q a p a) (omega (arith, two, there, that_q)) in
     unmentioned p a es (trees_after ks e) rest
     ∙ (ap (λ v. tree_of p a (trees_after ks v)) z
-    ∙ paired_known s x a p q f ks (without q a (without p a ks)) o n (tree_of p a ks) (tree_of q a ks) old new)
+    ∙ paired_known s x a p q f ks (without q a (without p a ks)) o n (tree_of p a ks) (tree_of q a (without p a ks)) old (without_other q a p a ks apart ∙ new))
 combined_tree s x a p q f o n (e ∷ es) ks (inr h) one two old new =
     let p_there = in_mentions (is_reference p a) (Combined s x a p q f) es h in
     let q_there = in_mentions (is_reference q a) (Combined s x a p q f) es h in

@@ -23,7 +23,7 @@ use Rattle.ultra_block.specs.Ranges.{AreInRange}
 use Rattle.ultra_block.specs.Routed.{IsEntryAt, IsRecordAt, IsReplyAt, IsPlacedAt, IsReplyOf, IsOwn, IsRouted}
 use Rattle.ultra_block.specs.Balance.{weight, count, count_option, total, passes, reply_passes, entry_passes, record_passes, lane_on_way, replies_on_way, bank_on_way, pending_on_way, on_way, IsBalanced}
 use Rattle.ultra_block.proofs.Each.{each-append}
-use Rattle.ultra_block.proofs.Sums.{total_only, total_term, table_term}
+use Rattle.ultra_block.proofs.Sums.{total_next, total_only, total_term, table_term}
 use Rattle.ultra_block.proofs.Counting.{is_reference}
 use Rattle.ultra_block.proofs.ReplyBalance.{opened_once}
 use Rattle.ultra_block.proofs.Balanced.{none_open, sends}
@@ -33,9 +33,9 @@ use Rattle.ultra_serial.specs.Log.{Issue, Log, latest_number, is_issue_for}
 use Rattle.ultra_serial.specs.Legal.{Entry as Done}
 use Rattle.ultra_serial.specs.SerialList.{History, noted, after_event}
 use Rattle.ultra_serial.proofs.Series.{sent}
-use Rattle.ultra_serial.proofs.Tidy.{that_is, is_that, true_or_false}
+use Rattle.ultra_serial.proofs.Tidy.{old_records, marked_of, lanes_of, up_to, IsTidy, that_is, is_that, true_or_false}
 use Rattle.ultra_serial.proofs.Forest.{latest_op, leaf_of, record_at, position_of, built, built_leaf, same_built, IsSameBelow, found_record, found_partner}
-use Rattle.ultra_serial.proofs.Standing.{each_in, some_in, position_small}
+use Rattle.ultra_serial.proofs.Standing.{each_in, some_in, marked_lanes, position_small}
 use Rattle.ultra_serial.proofs.Explained.{IsIn, IsExplained, bound, IsKept, IsKeptAt, IsAnswered, IsGiven, IsForest}
 use Rattle.ultra_serial.proofs.ReplyForest.{each_and, some_and}
 use Rattle.ultra_serial.proofs.Mentions.{mention, mentions, sum_of, sum-places, in-places, trees_noted, unmentioned}
@@ -51,7 +51,7 @@ abbrev pub issues_noted : ℕ → List Event → List Issue → List Issue
 issues_noted n [] is = is
 issues_noted n (e ∷ es) is = issues_noted n es (issues_after n is e)
 
-event_issues : (n : ℕ) (h : History) (e : Event) → (after_event n h e).log.issues ≡ issues_after n h.log.issues e
+pub event_issues : (n : ℕ) (h : History) (e : Event) → (after_event n h e).log.issues ≡ issues_after n h.log.issues e
 event_issues n h (Delivered r) = refl
 event_issues n h (Served k r reply now) = refl
 event_issues n h (Combined s x a p q f) = refl
@@ -127,7 +127,7 @@ in-present x (None ∷ os) (inr h) = in-present x os h
 in-present x (Some y ∷ os) (inl e) = let same : y ≡ x = cc in inl same
 in-present x (Some y ∷ os) (inr h) = inr (in-present x os h)
 
-module _ (c : Settings) (range : AreInRange c) (program : List Instr) (m : Machine) (w : IsRouted c m) (b : IsBalanced c m) where
+module _ (c : Settings) (range : AreInRange c) (program : List Instr) (m : Machine) (w : IsRouted c m) (b : IsBalanced c m) (y : IsTidy c m) where
   abbrev after : Machine
   after = processor_phase c program m
 
@@ -194,10 +194,10 @@ module _ (c : Settings) (range : AreInRange c) (program : List Instr) (m : Machi
   same_record s p a = refl
 
   module _ (n : ℕ) (is : List Issue) (ks : List Kept) (list : List Done) (f : IsForest c m ks is list) where
-    abbrev issues : List Issue
+    abbrev pub issues : List Issue
     issues = issues_noted n all_issued is
 
-    abbrev trees : List Kept
+    abbrev pub trees : List Kept
     trees = trees_noted all_issued ks
 
     same_tree : (k p a : ℕ) → k ≤ c.stages → p < size c → 1 ≤ on_way (is_reference p a) c m → built c after issues k p a ≡ built c m is k p a
@@ -296,3 +296,45 @@ module _ (c : Settings) (range : AreInRange c) (program : List Instr) (m : Machi
             let there = table_term c.stages (size c) (λ i z. replies_on_way t (replies_at m i z)) s v hs hv in
             answered_after s r (omega (arith, hs)) h.0.reference.element (omega (arith, one, there)) h.1)
         (each_and (IsReplyAt c s v) (IsAnswered c m is list s) (replies_at m s v) (w.replies s v hs hv) (f.replies s v hs hv))
+
+    old_on_way : (p a s x : ℕ) → p < size c → s < c.stages → x < size c → 1 ≤ old_records (is_reference p a) (lane_at m s x).records → 1 ≤ on_way (is_reference p a) c m
+    old_on_way p a s x hp hs hx l =
+        let t = is_reference p a in
+        let next = total_next s (λ i. lanes_of t c m i) in
+        omega (arith, l, y.beyond p a s x hs hx, b.balanced t, next, marked_lanes c m t s)
+
+    records_after : (s x : ℕ) → s < c.stages → x < size c → AllByRecursion (IsGiven c after issues s) (lane_at m s x).records
+    records_after s x hs hx =
+        each_in (λ (u : WaitRecord). IsRecordAt c s x u × IsGiven c m is s u) (IsGiven c after issues s) (lane_at m s x).records
+        (λ u counts h.
+            let old = h.0.0.reference.element in
+            let new = h.0.1.reference.element in
+            let one = counts (λ (v : WaitRecord). is_reference u.pe u.cell v.pe v.cell) (that_is u.pe u.cell) in
+            let two = counts (record_passes (is_reference u.partner u.cell)) (that_is u.partner u.cell) in
+            let there = table_term c.stages (size c) (λ i z. lane_on_way (is_reference u.partner u.cell) (lane_at m i z)) s x hs hx in
+            let first = same_tree s u.pe u.cell (omega (arith, hs)) old (old_on_way u.pe u.cell s x old hs hx one) in
+            let second = same_tree s u.partner u.cell (omega (arith, hs)) new (omega (arith, two, there)) in
+            record { old = rw (first, second) h.1.old; new = rw (first, second) h.1.new })
+        (each_and (IsRecordAt c s x) (IsGiven c m is s) (lane_at m s x).records (w.records s x hs hx) (f.records s x hs hx))
+
+    same_lane : (s x : ℕ) → lane_at after s x ≡ lane_at m s x
+    unfolding processor_phase
+    same_lane s x = refl
+
+    same_replies : (s v : ℕ) → replies_at after s v ≡ replies_at m s v
+    unfolding processor_phase
+    same_replies s v = refl
+
+    same_bank : (k : ℕ) → bank_at after k ≡ bank_at m k
+    unfolding processor_phase
+    same_bank k = refl
+
+    pub forest-processor_phase : IsForest c after trees issues list
+    forest-processor_phase = record {
+      pending = pending_after;
+      queued = λ s x hs hx. rw (same_lane s x) (queued_after s x hs hx);
+      inputs = λ k hk. rw (same_bank k) (input_after k hk);
+      outputs = λ k hk. rw (same_bank k) (output_after k hk);
+      replies = λ s v hs hv. rw (same_replies s v) (replies_after s v hs hv);
+      records = λ s x hs hx. rw (same_lane s x) (records_after s x hs hx);
+    }

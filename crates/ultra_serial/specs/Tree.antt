@@ -56,7 +56,7 @@ paired s x a p f ks (Some o) (Some n) = kept p a (pair s x o n f) ∷ ks
 abbrev pub trees_after : List Kept → Event → List Kept
 trees_after ks (Delivered r) = ks
 trees_after ks (Served k r reply now) = without r.pe r.cell ks
-trees_after ks (Combined s x a p q f) = paired s x a p f (without q a (without p a ks)) (tree_of p a ks) (tree_of q a ks)
+trees_after ks (Combined s x a p q f) = paired s x a p f (without q a (without p a ks)) (tree_of p a ks) (tree_of q a (without p a ks))
 trees_after ks (Issued r n) = kept r.pe r.cell (leaf record { pe = r.pe; number = n; cell = r.cell; op = r.op }) ∷ ks
 
 abbrev pub leaves_of : Option Tree → List Leaf
