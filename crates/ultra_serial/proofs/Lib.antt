@@ -12,3 +12,4 @@ pub mod Replays
 pub mod MemoryForest
 pub mod ProcessorForest
 pub mod Named
+pub mod Issued

@@ -23,6 +23,13 @@ tree_leaves t k = count t (leaves k.tree)
 abbrev pub leaves_in : (Leaf → Bool) → History → ℕ
 leaves_in t h = count t h.order + sum_of (tree_leaves t) h.trees
 
+-- an event that issues nothing
+abbrev pub IsNoIssue : Event → Type 0
+IsNoIssue (Delivered r) = Unit {0}
+IsNoIssue (Served k r reply now) = Unit {0}
+IsNoIssue (Combined s x a p q f) = Unit {0}
+IsNoIssue (Issued r n) = ⊥
+
 module _ (t : Leaf → Bool) where
   pair_leaves : (s x : ℕ) (o n : Tree) (f : Bool) → count t (leaves (pair s x o n f)) ≡ count t (leaves o) + count t (leaves n)
   pair_leaves s x o n true = count-append t (leaves o) (leaves n)
@@ -42,12 +49,6 @@ module _ (t : Leaf → Bool) where
   paired_leaves s x a p f ks None n = omega arith
   paired_leaves s x a p f ks (Some o) None = omega arith
   paired_leaves s x a p f ks (Some o) (Some n) = omega (arith, pair_leaves s x o n f)
-
-  abbrev IsNoIssue : Event → Type 0
-  IsNoIssue (Delivered r) = Unit {0}
-  IsNoIssue (Served k r reply now) = Unit {0}
-  IsNoIssue (Combined s x a p q f) = Unit {0}
-  IsNoIssue (Issued r n) = ⊥
 
   event_leaves : (n : ℕ) (h : History) (e : Event) → IsNoIssue e → leaves_in t (after_event n h e) ≤ leaves_in t h
   event_leaves n h (Delivered r) z = omega (arith, count-append t h.order [])

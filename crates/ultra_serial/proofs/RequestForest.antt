@@ -45,7 +45,7 @@ use Rattle.ultra_serial.proofs.LaneForest.{unmarked_in, is_unmarked, marked_unma
 not_zero : (s : ℕ) → (s == 0) ≡ false → 1 ≤ s
 not_zero s h = grind (arith, nat_tests)
 
-in_holds : {X : Type 0} (P : X → Type 0) (x : X) (xs : List X) → AllByRecursion P xs → IsIn x xs → P x
+pub in_holds : {X : Type 0} (P : X → Type 0) (x : X) (xs : List X) → AllByRecursion P xs → IsIn x xs → P x
 in_holds P x [] h k = absurd k
 in_holds P x (z ∷ xs) h (inl e) = subst P e h.0
 in_holds P x (z ∷ xs) h (inr k) = in_holds P x xs h.1 k
