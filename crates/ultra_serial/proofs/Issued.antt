@@ -92,7 +92,7 @@ issues_leaves t (Served k r reply now ∷ es) ks z = absurd z.0
 issues_leaves t (Combined s x a p q f ∷ es) ks z = absurd z.0
 issues_leaves t (Issued r k ∷ es) ks z = omega (arith, issues_leaves t es (trees_after ks (Issued r k)) z.1)
 
-abbrev NewIssue : (P : Issue → Type 0) → ℕ → Event → Type 0
+abbrev pub NewIssue : (P : Issue → Type 0) → ℕ → Event → Type 0
 NewIssue P n (Delivered r) = Unit {0}
 NewIssue P n (Served k r reply now) = Unit {0}
 NewIssue P n (Combined s x a p q f) = Unit {0}

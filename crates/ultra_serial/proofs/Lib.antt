@@ -13,3 +13,6 @@ pub mod MemoryForest
 pub mod ProcessorForest
 pub mod Named
 pub mod Issued
+pub mod Answered
+pub mod Lists
+pub mod Law
