@@ -1,14 +1,11 @@
 -- each answer is the reply of an entry, before which everything was issued earlier
-use Rattle.std.proofs.Common.{◌≡◌, ◌≢◌, ℕ, zero, suc, ◌+◌, ◌<◌, ◌≤◌, List, [], ◌∷◌, ◌++◌, Bool, true, false, refl, arith, sym, ◌∙◌, ap, subst, ◌⊎◌, inl, inr, append_assoc}
-use Rattle.std.specs.Prelude.{Option, Some, None, IfSome}
+use Rattle.std.proofs.Common.{◌≡◌, ℕ, ◌<◌, List, [], ◌∷◌, ◌++◌, refl, sym, ◌∙◌, ap, append_assoc}
 use Rattle.std.specs.List.{AllByRecursion}
 use Rattle.std.proofs.lemmas.List.{append-nil}
-use Rattle.ultra_msg.specs.declared.Reply.{Reply}
-use Rattle.ultra_msg.specs.declared.ReplyMessage.{ReplyMessage}
 use Rattle.ultra_msg.specs.declared.Event.{Event}
 use Rattle.ultra_msg.specs.declared.Event.TheVariants.{Delivered, Served, Combined, Issued}
 use Rattle.ultra_block.proofs.Each.{each-append, each-weaker, each-left}
-use Rattle.ultra_serial.specs.Log.{Issue, Answer, Log}
+use Rattle.ultra_serial.specs.Log.{Issue, Answer}
 use Rattle.ultra_serial.specs.Legal.{Entry as Done, answered_by}
 use Rattle.ultra_serial.specs.SerialList.{History, noted, after_event}
 use Rattle.ultra_serial.proofs.Forest.{leaf_of}
@@ -34,9 +31,15 @@ pub record IsAnsweredWell (is : List Issue) (list : List Done) (x : Answer) : Ty
 -- the list grows
 pub answered_more : (is : List Issue) (list more : List Done) (x : Answer) → IsAnsweredWell is list x → IsAnsweredWell is (list ++ more) x
 answered_more is list more x h = record {
-  before = h.before; rest = h.rest ++ more;
+  before = h.before;
+  rest = h.rest ++ more;
   split = ap (λ es. es ++ more) h.split ∙ append_assoc h.before h.rest more;
-  entry = h.entry; stands = h.stands; pe = h.pe; number = h.number; reply = h.reply; early = h.early;
+  entry = h.entry;
+  stands = h.stands;
+  pe = h.pe;
+  number = h.number;
+  reply = h.reply;
+  early = h.early;
 }
 
 -- new issues have new names
@@ -57,7 +60,14 @@ module _ (fresh : Done → Issue → Type 0) (contradiction : (d : Done) (i : Is
 
   pub answered_issued : (n : ℕ) (es : List Event) (is : List Issue) (list : List Done) (x : Answer) → AllByRecursion (λ (d : Done). AllByRecursion (NewIssue (fresh d) n) es) list → IsAnsweredWell is list x → IsAnsweredWell (issues_noted n es is) list x
   answered_issued n es is list x z h = record {
-    before = h.before; rest = h.rest; split = h.split; entry = h.entry; stands = h.stands; pe = h.pe; number = h.number; reply = h.reply;
+    before = h.before;
+    rest = h.rest;
+    split = h.split;
+    entry = h.entry;
+    stands = h.stands;
+    pe = h.pe;
+    number = h.number;
+    reply = h.reply;
     early = early_more n x.cycle es is h.before (each-left (λ (d : Done). AllByRecursion (NewIssue (fresh d) n) es) h.before h.rest (rw h.split at z)) h.early;
   }
 
@@ -79,9 +89,14 @@ delivered_answers n (Delivered r ∷ es) h list early z g =
     let is = h.log.issues in
     let x : Answer = record { pe = r.pe; number = (leaf_of is r.pe r.cell).number; reply = r.reply; cycle = n } in
     let one : IsAnsweredWell is list x = record {
-      before = list; rest = []; split = sym (append-nil list);
+      before = list;
+      rest = [];
+      split = sym (append-nil list);
       entry = answered_by (leaf_of is r.pe r.cell) r.reply;
-      stands = z.0; pe = refl; number = refl; reply = refl;
+      stands = z.0;
+      pe = refl;
+      number = refl;
+      reply = refl;
       early = all_early n is list early;
     } in
     delivered_answers n es (after_event n h (Delivered r)) list early z.1 (each-append (IsAnsweredWell is list) h.log.answers (x ∷ []) g (one, tt))

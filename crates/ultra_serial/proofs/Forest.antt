@@ -1,32 +1,21 @@
 -- the tree of a message, read off the wait buffers: at each stage below its place the record of its reference, if there is one, makes a pair
-use Rattle.std.proofs.Common.{◌≡◌, ◌≢◌, ℕ, zero, suc, ◌+◌, ◌-◌, ◌*◌, ◌^◌, ◌<◌, ◌≤◌, List, [], ◌∷◌, ◌++◌, Bool, true, false, refl, arith, sym, ◌∙◌, ap, subst, ◌⊎◌, ⊎_elim, inl, inr}
-use Rattle.std.specs.Prelude.{Option, Some, None, IfSome, slice_get, ◌==◌, ◌&&◌}
+use Rattle.std.proofs.Common.{◌≡◌, ℕ, zero, suc, ◌+◌, ◌<◌, ◌≤◌, List, [], ◌∷◌, Bool, true, false, refl, arith, sym, ◌∙◌, ap, subst, ⊎_elim}
+use Rattle.std.specs.Prelude.{Option, Some, None}
 use Rattle.std.specs.List.{AllByRecursion}
-use Rattle.std.proofs.lemmas.Bool.{eqb-true, cases_lt, cases_eq}
+use Rattle.std.proofs.lemmas.Bool.{cases_lt}
 use Rattle.ultra_msg.specs.declared.Op.{Op}
 use Rattle.ultra_msg.specs.declared.Op.TheVariants.{Load}
-use Rattle.ultra_msg.specs.declared.Reply.{Reply}
-use Rattle.ultra_msg.specs.declared.Request.{Request}
-use Rattle.ultra_msg.specs.declared.ReplyMessage.{ReplyMessage}
 use Rattle.ultra_msg.specs.Pair.{pair_of}
 use Rattle.ultra_route.specs.Route.{line_of}
-use Rattle.ultra_switch.specs.declared.Entry.{Entry}
 use Rattle.ultra_switch.specs.declared.WaitRecord.{WaitRecord}
-use Rattle.ultra_mem.specs.declared.Placed.{Placed}
-use Rattle.ultra_block.specs.Machine.{Settings, Machine, size, lane_at, replies_at, bank_at, element_at}
-use Rattle.ultra_block.specs.Ranges.{AreInRange}
-use Rattle.ultra_block.specs.Routed.{IsByLine, IsRecordAt, module_of, IsRouted}
-use Rattle.ultra_block.specs.Balance.{weight, count, count_option, total, passes, reply_passes, entry_passes, record_passes, lane_on_way, replies_on_way, bank_on_way, pending_on_way, opened_by, on_way, all_opened, IsBalanced}
-use Rattle.ultra_block.proofs.Sums.{total_next, total_term}
-use Rattle.ultra_block.proofs.Counting.{both_true, is_reference}
-use Rattle.ultra_block.proofs.ReplyBalance.{opened_once}
-use Rattle.ultra_block.proofs.Routes.{route}
-use Rattle.ultra_serial.specs.Tree.{Tree, leaf, pair, Leaf, Kept, tree_of}
+use Rattle.ultra_block.specs.Machine.{Settings, Machine, size, lane_at}
+use Rattle.ultra_block.specs.Routed.{module_of}
+use Rattle.ultra_block.specs.Balance.{weight, count, record_passes}
+use Rattle.ultra_block.proofs.Counting.{is_reference}
+use Rattle.ultra_serial.specs.Tree.{Tree, leaf, pair, Leaf}
 use Rattle.ultra_serial.specs.Log.{Issue, is_issue_for, latest_number}
-use Rattle.ultra_serial.specs.Legal.{Entry as Done, answered_by}
-use Rattle.ultra_serial.specs.SerialList.{History}
-use Rattle.ultra_serial.proofs.Series.{sent, to_old, to_new, IsProper}
-use Rattle.ultra_serial.proofs.Tidy.{old_records, is_marked, marked_in, lanes_of, replies_of, marked_of, pending_of, up_to, IsTidy, total_longer, total_gain, is_that, that_is}
+use Rattle.ultra_serial.proofs.Series.{sent, IsProper}
+use Rattle.ultra_serial.proofs.Tidy.{old_records, is_that, that_is}
 
 -- ---- the record of a reference, and its latest issue
 abbrev pub find_record : ℕ → ℕ → List WaitRecord → Option WaitRecord
@@ -80,8 +69,8 @@ module _ (c : Settings) where
   built_clear m is b (suc n) p a h none =
       ⊎_elim (λ l. let same : b ≡ suc n = omega (arith, h, l) in ap (λ k. built m is k p a) (sym same))
       (λ l.
-          let rest = built_clear m is b n p a l (λ s k j. none s k (omega arith)) in
-          built_next m is n p a ∙ (ap (λ o. grown n (position_of n p a) (built m is n p a) (λ q. built m is n q a) o) (none n l (omega arith)) ∙ rest)) (cases_lt n b)
+      let rest = built_clear m is b n p a l (λ s k j. none s k (omega arith)) in
+      built_next m is n p a ∙ (ap (λ o. grown n (position_of n p a) (built m is n p a) (λ q. built m is n q a) o) (none n l (omega arith)) ∙ rest)) (cases_lt n b)
 
   -- ---- two machines with the same records for a tree have the same tree
   module _ (m k : Machine) (is js : List Issue) (a : ℕ) where

@@ -1,8 +1,8 @@
 -- names, through all phases: an issue has a number that its processing element hasn't given yet
-use Rattle.std.proofs.Common.{◌≡◌, ◌≢◌, ℕ, zero, suc, ◌+◌, ◌<◌, ◌≤◌, List, [], ◌∷◌, ◌++◌, Bool, true, false, refl, arith, sym, ◌∙◌, ap, subst, ◌⊎◌, ⊎_elim, inl, inr}
-use Rattle.std.specs.Prelude.{Option, Some, None, IfSome, ◌==◌, ◌&&◌}
+use Rattle.std.proofs.Common.{◌≡◌, ◌≢◌, ℕ, suc, ◌+◌, ◌<◌, ◌≤◌, List, [], ◌∷◌, Bool, false, refl, arith, sym, ◌∙◌, ap, ◌⊎◌, ⊎_elim, inl, inr}
+use Rattle.std.specs.Prelude.{Option, Some, None, IfSome}
 use Rattle.std.specs.List.{AllByRecursion}
-use Rattle.std.proofs.lemmas.Bool.{cases_lt, cases_eq}
+use Rattle.std.proofs.lemmas.Bool.{cases_lt}
 use Rattle.std.proofs.lemmas.List.{append-nil}
 use Rattle.ultra_msg.specs.declared.Request.{Request}
 use Rattle.ultra_msg.specs.declared.Event.{Event}
@@ -12,18 +12,17 @@ use Rattle.ultra_isa.specs.declared.Instr.{Instr}
 use Rattle.ultra_isa.proofs.Steps.{SendsInto}
 use Rattle.ultra_block.specs.Places.{places, present}
 use Rattle.ultra_block.specs.Machine.{Settings, Machine, Element, size, site, element_at}
-use Rattle.ultra_block.specs.Phases.{issue_event, issues_after as count_after, stepped, step_at, processor_phase}
+use Rattle.ultra_block.specs.Phases.{issue_event, issues_after as count_after, step_at, processor_phase}
 use Rattle.ultra_block.specs.Balance.{weight, count, total}
 use Rattle.ultra_block.proofs.Each.{each-append, each-weaker, each-places, each-present}
 use Rattle.ultra_block.proofs.Sums.{total_only, total_zero}
 use Rattle.ultra_block.proofs.Counting.{count-none, is_reference}
 use Rattle.ultra_block.proofs.Balanced.{sends}
 use Rattle.ultra_block.proofs.AtPlaces.{element-processor_phase}
-use Rattle.ultra_serial.specs.Tree.{Tree, leaf, Leaf, leaves, Kept, trees_after}
+use Rattle.ultra_serial.specs.Tree.{Leaf, leaves, Kept, trees_after}
 use Rattle.ultra_serial.specs.Log.{Issue}
 use Rattle.ultra_serial.specs.SerialList.{History, noted, after_event}
 use Rattle.ultra_serial.proofs.Tidy.{is_that, true_or_false}
-use Rattle.ultra_serial.proofs.Explained.{IsIn}
 use Rattle.ultra_serial.proofs.Mentions.{sum_of, sum-places, trees_noted, noted_trees}
 use Rattle.ultra_serial.proofs.RequestForest.{in_holds}
 use Rattle.ultra_serial.proofs.ProcessorForest.{issues_after, issues_noted, noted_issues}
@@ -156,18 +155,18 @@ module _ (c : Settings) (program : List Instr) (m : Machine) where
         rw (noted_issues n all_issued h)
         (each_issue (IsEarlier c after (suc n)) n all_issued h.log.issues
         (each_issued (NewIssue (IsEarlier c after (suc n)) n) (λ p r z e.
-            let own = sent_own p r e in
-            record { element = rw own z; number = rw own (issued_more p r z e); cycle = omega arith }))
+        let own = sent_own p r e in
+        record { element = rw own z; number = rw own (issued_more p r z e); cycle = omega arith }))
         (each-weaker (IsEarlier c m n) (IsEarlier c after (suc n)) h.log.issues (λ i e. record { element = e.element; number = omega (arith, e.number, issued_grows i.pe e.element); cycle = omega (arith, e.cycle) }) g.issues))
 
     -- a number that is given now was not given before
     unnamed : (p : ℕ) (l : Leaf) → IsLogged h.log.issues l → is_named p (element_at m p).issued l ≡ false
     unnamed p l z =
         ⊎_elim (λ e.
-            let that = is_that p (element_at m p).issued l.pe l.number e in
-            let known = in_holds (IsEarlier c m n) z.0 h.log.issues g.issues z.1 in
-            let here : (element_at m z.0.pe).issued ≡ (element_at m p).issued = ap (λ q. (element_at m q).issued) (z.2 ∙ that.0) in
-            absurd (omega (arith, known.number, z.3, that.1, here)))
+        let that = is_that p (element_at m p).issued l.pe l.number e in
+        let known = in_holds (IsEarlier c m n) z.0 h.log.issues g.issues z.1 in
+        let here : (element_at m z.0.pe).issued ≡ (element_at m p).issued = ap (λ q. (element_at m q).issued) (z.2 ∙ that.0) in
+        absurd (omega (arith, known.number, z.3, that.1, here)))
         (λ e. e) (true_or_false (is_named p (element_at m p).issued l))
 
     none_named : (p : ℕ) (ls : List Leaf) → AreLogged h.log.issues ls → count (is_named p (element_at m p).issued) ls ≡ 0
@@ -202,8 +201,8 @@ module _ (c : Settings) (program : List Instr) (m : Machine) where
       new_by : (sum_of (new_leaf (is_named p k)) all_issued ≡ 0) ⊎ ((sum_of (new_leaf (is_named p k)) all_issued ≤ 1) × (k ≡ (element_at m p).issued))
       new_by =
           ⊎_elim (λ hp.
-              let only = all_new ∙ total_only (size c) (λ q. new_some (event_at q)) p hp (λ q hq apart. new_apart q (element_at m q) (sent_by q) (λ r e. sent_own q r e) apart) in
-              ⊎_elim (λ z. inl (only ∙ z)) (λ z. inr (rw only z.0, z.1)) (new_is (element_at m p) (sent_by p)))
+          let only = all_new ∙ total_only (size c) (λ q. new_some (event_at q)) p hp (λ q hq apart. new_apart q (element_at m q) (sent_by q) (λ r e. sent_own q r e) apart) in
+          ⊎_elim (λ z. inl (only ∙ z)) (λ z. inr (rw only z.0, z.1)) (new_is (element_at m p) (sent_by p)))
           (λ hp. inl (all_new ∙ total_zero (size c) (λ q. new_some (event_at q)) (λ q hq. new_apart q (element_at m q) (sent_by q) (λ r e. sent_own q r e) (omega (arith, hp, hq)))))
           (cases_lt p (size c))
 
@@ -217,8 +216,8 @@ module _ (c : Settings) (program : List Instr) (m : Machine) where
       once_more =
           ⊎_elim (λ z. omega (arith, z, leaves_last, g.once p k))
           (λ z.
-              let none : leaves_in (is_named p k) h ≡ 0 = rw z.1 (omega (arith, none_named p h.order g.logged.order, none_kept p h.trees g.logged.trees)) in
-              omega (arith, z.0, leaves_last, none)) new_by
+          let none : leaves_in (is_named p k) h ≡ 0 = rw z.1 (omega (arith, none_named p h.order g.logged.order, none_kept p h.trees g.logged.trees)) in
+          omega (arith, z.0, leaves_last, none)) new_by
 
     pub recorded_issued : IsRecorded c after (suc n) last
     recorded_issued = record { once = once_more; logged = noted_logged n all_issued h g.logged; issues = issues_earlier }

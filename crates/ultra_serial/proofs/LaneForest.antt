@@ -1,27 +1,27 @@
 -- what becomes of the requests that arrive in one lane, for the trees of their references
-use Rattle.std.proofs.Common.{◌≡◌, ◌≢◌, ℕ, zero, suc, ◌+◌, ◌-◌, ◌*◌, ◌<◌, ◌≤◌, List, [], ◌∷◌, ◌++◌, Bool, true, false, refl, arith, sym, ◌∙◌, ap, subst, ◌⊎◌, inl, inr, append_assoc, length}
-use Rattle.std.specs.Prelude.{Option, Some, None, IfSome, slice_get, ◌==◌, ◌&&◌, not, nat_lt}
+use Rattle.std.proofs.Common.{◌≡◌, ℕ, suc, ◌+◌, ◌≤◌, List, [], ◌∷◌, ◌++◌, Bool, true, false, refl, arith, sym, ◌∙◌, ap, ◌⊎◌, inl, inr, append_assoc, length}
+use Rattle.std.specs.Prelude.{Option, Some, None, IfSome, ◌==◌, ◌&&◌, not, nat_lt}
 use Rattle.std.specs.List.{AllByRecursion}
 use Rattle.std.proofs.lemmas.Bool.{eqb-true}
 use Rattle.std.proofs.lemmas.List.{append-nil}
 use Rattle.ultra_msg.specs.declared.Request.{Request}
 use Rattle.ultra_msg.specs.declared.Event.{Event}
-use Rattle.ultra_msg.specs.declared.Event.TheVariants.{Delivered, Served, Combined, Issued}
+use Rattle.ultra_msg.specs.declared.Event.TheVariants.{Combined}
 use Rattle.ultra_msg.specs.Pair.{pair_of}
 use Rattle.ultra_switch.specs.declared.Entry.{Entry}
 use Rattle.ultra_switch.specs.declared.WaitRecord.{WaitRecord}
 use Rattle.ultra_switch.specs.Arrive.{Lane, Combination, entry, behind, can_combine, wait_record, combined_entry, combine, combine_within, after_arrival, arrive}
 use Rattle.ultra_block.specs.Machine.{Settings, Machine}
 use Rattle.ultra_block.specs.Phases.{arrive_all, combination, combinations}
-use Rattle.ultra_block.specs.Balance.{weight, count, passes, entry_passes, record_passes}
+use Rattle.ultra_block.specs.Balance.{weight, count, passes, entry_passes}
 use Rattle.ultra_block.proofs.Each.{each-append, each-weaker, if_tested}
 use Rattle.ultra_block.proofs.Counting.{both_true, count-append, is_reference}
-use Rattle.ultra_serial.specs.Tree.{Tree, Kept}
+use Rattle.ultra_serial.specs.Tree.{Kept}
 use Rattle.ultra_serial.specs.Log.{Issue}
 use Rattle.ultra_serial.proofs.Series.{sent}
-use Rattle.ultra_serial.proofs.Tidy.{old_records, marked_in, is_marked, that_is}
+use Rattle.ultra_serial.proofs.Tidy.{old_records, marked_in}
 use Rattle.ultra_serial.proofs.Forest.{find_record, built}
-use Rattle.ultra_serial.proofs.Explained.{IsIn, in-append, in-append_right, bound, IsKept, IsKeptAt, IsGiven}
+use Rattle.ultra_serial.proofs.Explained.{IsIn, in-append, in-append_right, IsKeptAt, IsGiven}
 use Rattle.ultra_serial.proofs.Mentions.{mention, mentions, sum-append}
 
 -- ---- lists
@@ -178,7 +178,12 @@ module _ (c : Settings) (m : Machine) (is : List Issue) (ks : List Kept) (s x : 
   said_more ws us es fs e (inl h) = inl h
   said_more ws us es fs e (inr (inl h)) = inr (inl h)
   said_more ws us es fs e (inr (inr h)) = inr (inr record {
-    old = h.old; new = h.new; entry = h.entry; cell = h.cell; old_kept = h.old_kept; new_kept = h.new_kept;
+    old = h.old;
+    new = h.new;
+    entry = h.entry;
+    cell = h.cell;
+    old_kept = h.old_kept;
+    new_kept = h.new_kept;
     noted = in-append _ ws us h.noted;
     told = in-append _ es fs h.told;
   })
@@ -198,7 +203,9 @@ module _ (c : Settings) (m : Machine) (is : List Issue) (ks : List Kept) (s x : 
   arrived_said l r es (Some v) h k g =
       let parts = both_true (not v.old.combined) (v.old.request.cell == r.cell) g.1 in
       g.2 (inr (inr record {
-        old = v.old; new = r; entry = refl;
+        old = v.old;
+        new = r;
+        entry = refl;
         cell = eqb-true v.old.request.cell r.cell parts.1;
         old_kept = single_of l.records es r v.old g.0 g.1;
         new_kept = k;

@@ -1,5 +1,5 @@
 -- the serialization law: the serial lists of every run are a chain of legal lists
-use Rattle.std.proofs.Common.{◌≡◌, ◌≢◌, ℕ, zero, suc, ◌+◌, ◌*◌, ◌/◌, ◌%◌, ◌^◌, ◌<◌, ◌≤◌, List, [], ◌∷◌, ◌++◌, Bool, true, false, refl, arith, sym, ◌∙◌, ap, subst, ◌⊎◌, ⊎_elim, inl, inr, map, length, append_assoc}
+use Rattle.std.proofs.Common.{◌≡◌, ℕ, zero, suc, ◌+◌, ◌*◌, ◌/◌, ◌%◌, ◌<◌, ◌≤◌, List, [], ◌∷◌, ◌++◌, Bool, true, false, refl, arith, sym, ◌∙◌, ap, subst, ⊎_elim, append_assoc}
 use Rattle.std.specs.Prelude.{Option, Some, None, IfSome, slice_get, slice_index, ◌==◌}
 use Rattle.std.specs.List.{AllByRecursion}
 use Rattle.std.proofs.lemmas.Bool.{cases_lt}
@@ -9,14 +9,14 @@ use Rattle.std.proofs.lemmas.List.{get_or_past, append-nil}
 use Rattle.ultra_msg.specs.declared.Request.{Request}
 use Rattle.ultra_msg.specs.declared.ReplyMessage.{ReplyMessage}
 use Rattle.ultra_msg.specs.declared.Event.{Event}
-use Rattle.ultra_msg.specs.declared.Event.TheVariants.{Delivered, Served, Combined, Issued}
+use Rattle.ultra_msg.specs.declared.Event.TheVariants.{Delivered, Served, Combined}
 use Rattle.ultra_route.specs.Route.{shuffled}
 use Rattle.ultra_switch.specs.Arrive.{Lane, Combination, combine_within, arrive}
 use Rattle.ultra_mem.specs.declared.Served.{Served as Act}
 use Rattle.ultra_mem.specs.Serve.{Bank, served}
 use Rattle.ultra_isa.specs.declared.Instr.{Instr}
 use Rattle.ultra_block.specs.Places.{places, table, joined, present}
-use Rattle.ultra_block.specs.Machine.{Settings, Machine, Element, size, last_stage, start, given_value, lane_at, replies_at, bank_at, element_at}
+use Rattle.ultra_block.specs.Machine.{Settings, Machine, Element, size, last_stage, start, given_value, replies_at, bank_at, element_at}
 use Rattle.ultra_block.specs.Phases.{delivery, delivered, deliver, without_reply, arriving_reply, with_request, entering, issue_event, step_at, serving, combination, combinations, lane_after_leaving, arrivals, reply_phase, memory_phase, request_phase, processor_phase, cycle, after}
 use Rattle.ultra_block.specs.Balance.{count}
 use Rattle.ultra_block.specs.Ranges.{AreInRange}
@@ -25,22 +25,21 @@ use Rattle.ultra_block.proofs.Each.{each-append, each-weaker, each-places, each-
 use Rattle.ultra_block.proofs.Routes.{turns_back, module_small}
 use Rattle.ultra_block.proofs.Sound.{sound-start, sound-reply_phase, sound-memory_phase, sound-request_phase, sound-processor_phase}
 use Rattle.ultra_block.proofs.AtPlaces.{lane-start, replies-start, bank-start, element-start, bank-reply_phase, bank-request_phase, element-reply_phase, element-request_phase}
-use Rattle.ultra_block.proofs.Counting.{is_reference}
 use Rattle.ultra_block.proofs.Neighbours.{other}
-use Rattle.ultra_serial.specs.Tree.{Leaf, Kept, served_leaves}
+use Rattle.ultra_serial.specs.Tree.{Leaf, served_leaves}
 use Rattle.ultra_serial.specs.Log.{Issue, Answer}
-use Rattle.ultra_serial.specs.Legal.{Entry as Done, Has, Cells, with_cell, given_over, given, answered_by, request_of, cells_after, replayed, IsIssueOf, IsIssueNamed, IsAnswerTo, IsLegal}
+use Rattle.ultra_serial.specs.Legal.{Entry as Done, Has, Cells, with_cell, given_over, given, answered_by, request_of, cells_after, replayed, IsLegal}
 use Rattle.ultra_serial.specs.SerialList.{History, empty_history, noted, after_event, cells_of, history, serial_list}
 use Rattle.ultra_serial.specs.Chain.{IsBeginningOf, AreChained, SerializationLaw}
 use Rattle.ultra_serial.proofs.Tidy.{IsTidy, tidy-start, tidy-reply_phase, tidy-memory_phase, tidy-request_phase, tidy-processor_phase, that_is}
-use Rattle.ultra_serial.proofs.Forest.{leaf_of, built, built_leaf}
-use Rattle.ultra_serial.proofs.Explained.{IsIn, IsExplained, IsAnswered, IsForest, in-append}
-use Rattle.ultra_serial.proofs.Mentions.{trees_noted, noted_trees}
+use Rattle.ultra_serial.proofs.Forest.{leaf_of, built_leaf}
+use Rattle.ultra_serial.proofs.Explained.{IsIn, IsExplained, IsAnswered, IsForest}
+use Rattle.ultra_serial.proofs.Mentions.{noted_trees}
 use Rattle.ultra_serial.proofs.ReplyForest.{forest-reply_phase}
-use Rattle.ultra_serial.proofs.RequestForest.{all_combined, forest-request_phase, in_holds}
-use Rattle.ultra_serial.proofs.MemoryForest.{noted-append, all_served, all_acted, Acted, forest-memory_phase}
-use Rattle.ultra_serial.proofs.ProcessorForest.{issues_noted, noted_issues, all_issued, forest-processor_phase}
-use Rattle.ultra_serial.proofs.Named.{IsNoIssue, IsLogged, AreLogged, leaves_in}
+use Rattle.ultra_serial.proofs.RequestForest.{forest-request_phase, in_holds}
+use Rattle.ultra_serial.proofs.MemoryForest.{noted-append, all_acted, forest-memory_phase}
+use Rattle.ultra_serial.proofs.ProcessorForest.{issues_noted, noted_issues, forest-processor_phase}
+use Rattle.ultra_serial.proofs.Named.{IsNoIssue, IsLogged}
 use Rattle.ultra_serial.proofs.Issued.{is_named, IsEarlier, IsRecorded, same_issues, recorded_noted, recorded_issued, each_issued, sent_own, NewIssue}
 use Rattle.ultra_serial.proofs.Answered.{IsAnsweredWell, answered_more, answered_issued, DeliversWell, delivered_answers, IsNoDelivery, same_answers, IsNoAct, same_order, same_trees}
 use Rattle.ultra_serial.proofs.Replays.{replayed-append}
@@ -137,14 +136,14 @@ module _ (c : Settings) (range : AreInRange c) where
       let some = pow_pos c.stages in
       let at = ap (λ v. slice_index v.cells (a / size c)) (bank-start c k (module_small c range a)) in
       at ∙ ⊎_elim
-          (λ l.
-              let whole : a / size c * size c + a % size c ≡ a = div-add-mod' a (size c) in
-              places_at c.cells (λ o. given_value c.initial (o * size c + k) 0) (a / size c) 0 l ∙ ap (λ v. given_value c.initial v 0) whole)
-          (λ l.
-              let long = length-places c.cells (λ o. given_value c.initial (o * size c + k) 0) in
-              let past : size c * c.cells ≤ a = ⊎_elim (λ z. absurd (omega (arith, l, div_below a (size c) c.cells some (omega (arith, z))))) (λ z. z) (cases_lt a (size c * c.cells)) in
-              get_or_past (places c.cells (λ o. given_value c.initial (o * size c + k) 0)) (a / size c) 0 (omega (arith, long, l)) ∙ sym (given_past c.initial (size c * c.cells) a 0 past range.addresses))
-          (cases_lt (a / size c) c.cells)
+      (λ l.
+      let whole : a / size c * size c + a % size c ≡ a = div-add-mod' a (size c) in
+      places_at c.cells (λ o. given_value c.initial (o * size c + k) 0) (a / size c) 0 l ∙ ap (λ v. given_value c.initial v 0) whole)
+      (λ l.
+      let long = length-places c.cells (λ o. given_value c.initial (o * size c + k) 0) in
+      let past : size c * c.cells ≤ a = ⊎_elim (λ z. absurd (omega (arith, l, div_below a (size c) c.cells some (omega (arith, z))))) (λ z. z) (cases_lt a (size c * c.cells)) in
+      get_or_past (places c.cells (λ o. given_value c.initial (o * size c + k) 0)) (a / size c) 0 (omega (arith, long, l)) ∙ sym (given_past c.initial (size c * c.cells) a 0 past range.addresses))
+      (cases_lt (a / size c) c.cells)
 
   serial-start : IsSerial c 0 (start c) empty_history
   serial-start = record {
@@ -217,11 +216,11 @@ module _ (c : Settings) (range : AreInRange c) (program : List Instr) (n : ℕ) 
   delivers_well : (m : Machine) (h : History) → IsSerial c n m h → AllByRecursion (DeliversWell h.log.issues (list_of c h)) (deliveries m)
   delivers_well m h w =
       each_delivery (DeliversWell h.log.issues (list_of c h)) m (λ p hp.
-          let v = shuffled c.stages p in
-          let some = range.some_stages in
-          some-weaker (IsAnswered c m h.log.issues (list_of c h) 0) (λ (r : ReplyMessage). IsIn (answered_by (leaf_of h.log.issues r.pe r.cell) r.reply) (list_of c h)) (slice_get (replies_at m 0 v) 0)
-          (λ r k. subst (λ t. IsExplained (list_of c h) t r.reply) (built_leaf c m h.log.issues r.pe r.cell) k)
-          (each-first (IsAnswered c m h.log.issues (list_of c h) 0) (replies_at m 0 v) (w.forest.replies 0 v (omega arith) (turns_back c range p hp).entry_small)))
+      let v = shuffled c.stages p in
+      let some = range.some_stages in
+      some-weaker (IsAnswered c m h.log.issues (list_of c h) 0) (λ (r : ReplyMessage). IsIn (answered_by (leaf_of h.log.issues r.pe r.cell) r.reply) (list_of c h)) (slice_get (replies_at m 0 v) 0)
+      (λ r k. subst (λ t. IsExplained (list_of c h) t r.reply) (built_leaf c m h.log.issues r.pe r.cell) k)
+      (each-first (IsAnswered c m h.log.issues (list_of c h) 0) (replies_at m 0 v) (w.forest.replies 0 v (omega arith) (turns_back c range p hp).entry_small)))
 
   same_cells_replied : (m : Machine) (a : ℕ) → cells_of c (reply_phase c m) a ≡ cells_of c m a
   same_cells_replied m a =
@@ -327,9 +326,9 @@ module _ (c : Settings) (range : AreInRange c) (program : List Instr) (n : ℕ) 
       each_replayed (λ (l : Leaf). l.number < (element_at m l.pe).issued) (given c.initial) h.order
       (each-weaker (IsLogged h.log.issues) (λ (l : Leaf). l.number < (element_at m l.pe).issued) h.order
       (λ l z.
-          let known = in_holds (IsEarlier c m n) z.0 h.log.issues w.recorded.issues z.1 in
-          let same : (element_at m z.0.pe).issued ≡ (element_at m l.pe).issued = ap (λ p. (element_at m p).issued) z.2 in
-          omega (arith, known.number, same, z.3)) w.recorded.logged.order)
+      let known = in_holds (IsEarlier c m n) z.0 h.log.issues w.recorded.issues z.1 in
+      let same : (element_at m z.0.pe).issued ≡ (element_at m l.pe).issued = ap (λ p. (element_at m p).issued) z.2 in
+      omega (arith, known.number, same, z.3)) w.recorded.logged.order)
 
   all_fresh : (m : Machine) (h : History) → IsSerial c n m h → AllByRecursion (λ (d : Done). AllByRecursion (NewIssue (Fresh m d) n) (issues_of m)) (list_of c h)
   all_fresh m h w =
@@ -396,9 +395,10 @@ module _ (c : Settings) (range : AreInRange c) (program : List Instr) where
   grows_next n =
       let h = history c program n in
       let more = grows-noted n (after c program (suc n)).events h in
-      let order : (history c program (suc n)).order ≡ h.order ++ more.0 = ap (λ k. k.order) (history_next n) ∙ more.1 in
-      (replayed (cells_after (given c.initial) h.order) more.0,
-      sym (ap (λ ls. replayed (given c.initial) ls) order ∙ replayed-append (given c.initial) h.order more.0))
+      let order : (history c program (suc n)).order ≡ h.order ++ more.0 = ap (λ k. k.order) (history_next n) ∙ more.1 in (
+        replayed (cells_after (given c.initial) h.order) more.0,
+        sym (ap (λ ls. replayed (given c.initial) ls) order ∙ replayed-append (given c.initial) h.order more.0),
+      )
 
   pub are_chained : AreChained c program
   are_chained = record {

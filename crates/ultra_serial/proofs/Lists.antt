@@ -1,11 +1,11 @@
 -- lists by their places, for what a legal list says
-use Rattle.std.proofs.Common.{◌≡◌, ℕ, zero, suc, ◌+◌, ◌<◌, ◌≤◌, List, [], ◌∷◌, ◌++◌, Bool, true, false, refl, arith, sym, ◌∙◌, ap, subst, ◌⊎◌, inl, inr, map, length}
-use Rattle.std.specs.Prelude.{Option, Some, None, slice_get}
+use Rattle.std.proofs.Common.{◌≡◌, ℕ, zero, suc, ◌+◌, ◌<◌, ◌≤◌, List, [], ◌∷◌, ◌++◌, Bool, true, refl, arith, ap, inl, inr, map}
+use Rattle.std.specs.Prelude.{Some, slice_get}
 use Rattle.std.specs.List.{AllByRecursion}
 use Rattle.ultra_block.specs.Balance.{weight, count}
 use Rattle.ultra_serial.specs.Tree.{Leaf}
 use Rattle.ultra_msg.specs.Act.{act}
-use Rattle.ultra_serial.specs.Legal.{Entry as Done, Has, Cells, with_cell, answered_by, request_of, replayed}
+use Rattle.ultra_serial.specs.Legal.{Entry as Done, Has, Cells, with_cell, request_of, replayed}
 use Rattle.ultra_serial.proofs.Explained.{IsIn}
 use Rattle.ultra_serial.proofs.LaneForest.{in_counts}
 

@@ -1,45 +1,44 @@
 -- the memory phase: the leaves of each request that is served go to the end of the serial list, and its reply answers them
-use Rattle.std.proofs.Common.{◌≡◌, ◌≢◌, ℕ, zero, suc, ◌+◌, ◌-◌, ◌*◌, ◌/◌, ◌%◌, ◌^◌, ◌<◌, ◌≤◌, List, [], ◌∷◌, ◌++◌, Bool, true, false, refl, arith, sym, ◌∙◌, ap, subst, ◌⊎◌, ⊎_elim, inl, inr, length, map, append_assoc}
-use Rattle.std.specs.Prelude.{Option, Some, None, IfSome, slice_get, slice_index, slice_set, ◌==◌, ◌&&◌}
+use Rattle.std.proofs.Common.{◌≡◌, ◌≢◌, ℕ, zero, suc, ◌+◌, ◌*◌, ◌/◌, ◌%◌, ◌<◌, ◌≤◌, List, [], ◌∷◌, ◌++◌, Bool, true, false, refl, arith, sym, ◌∙◌, ap, subst, ⊎_elim, length, map, append_assoc}
+use Rattle.std.specs.Prelude.{Option, Some, None, IfSome, slice_index, slice_set, ◌==◌, ◌&&◌}
 use Rattle.std.specs.List.{AllByRecursion, range_with_len}
-use Rattle.std.proofs.lemmas.Bool.{eqb-true, cases_lt, cases_eq}
+use Rattle.std.proofs.lemmas.Bool.{cases_lt, cases_eq}
 use Rattle.std.proofs.lemmas.Nat.{pow_pos}
 use Rattle.std.proofs.lemmas.List.{get_or-set_same, get_or-set_other, append-nil}
 use Rattle.ultra_msg.specs.declared.Reply.{Reply}
 use Rattle.ultra_msg.specs.declared.Request.{Request}
 use Rattle.ultra_msg.specs.declared.ReplyMessage.{ReplyMessage}
 use Rattle.ultra_msg.specs.declared.Event.{Event}
-use Rattle.ultra_msg.specs.declared.Event.TheVariants.{Delivered, Served, Combined, Issued}
+use Rattle.ultra_msg.specs.declared.Event.TheVariants.{Served}
 use Rattle.ultra_msg.specs.Act.{act}
 use Rattle.ultra_switch.specs.declared.Entry.{Entry}
 use Rattle.ultra_switch.specs.declared.WaitRecord.{WaitRecord}
 use Rattle.ultra_mem.specs.declared.Placed.{Placed}
-use Rattle.ultra_mem.specs.declared.Served.{Served as Act}
-use Rattle.ultra_mem.specs.Serve.{Bank, empty_bank, serve, served, to_serve, act_of, after_serving, value_at}
+use Rattle.ultra_mem.specs.Serve.{Bank, serve, served, to_serve, act_of, after_serving, value_at}
 use Rattle.ultra_block.specs.Places.{places, present}
-use Rattle.ultra_block.specs.Machine.{Settings, Machine, Element, size, lane_at, replies_at, bank_at, element_at}
+use Rattle.ultra_block.specs.Machine.{Settings, Machine, size, lane_at, replies_at, bank_at, element_at}
 use Rattle.ultra_block.specs.Phases.{serving, memory_phase}
 use Rattle.ultra_block.specs.Ranges.{AreInRange}
 use Rattle.ultra_block.specs.Shape.{HasShape}
-use Rattle.ultra_block.specs.Routed.{module_of, IsAtModule, IsPlacedAt, IsReplyOf, IsEntryAt, IsOwn, IsRouted}
-use Rattle.ultra_block.specs.Balance.{weight, count, count_option, total, passes, reply_passes, entry_passes, lane_on_way, replies_on_way, bank_on_way, pending_on_way, on_way, IsBalanced}
+use Rattle.ultra_block.specs.Routed.{module_of, IsPlacedAt, IsEntryAt, IsOwn, IsRouted}
+use Rattle.ultra_block.specs.Balance.{count_option, total, passes, entry_passes, lane_on_way, bank_on_way, pending_on_way, on_way, IsBalanced}
 use Rattle.ultra_block.proofs.Each.{each-weaker, some-weaker}
 use Rattle.ultra_block.proofs.Sums.{total_same, total_plus, total_term, table_term}
 use Rattle.ultra_block.proofs.Counting.{is_reference}
 use Rattle.ultra_block.proofs.Neighbours.{other}
 use Rattle.ultra_block.proofs.Routes.{module_small, placed_within}
 use Rattle.ultra_block.proofs.AtPlaces.{bank-memory_phase}
-use Rattle.ultra_serial.specs.Tree.{Tree, Kept, tree_of, leaves, without, trees_after, served_leaves, leaves_of}
-use Rattle.ultra_serial.specs.Log.{Issue, Log, logged}
+use Rattle.ultra_serial.specs.Tree.{Tree, Kept, tree_of, leaves, leaves_of}
+use Rattle.ultra_serial.specs.Log.{Issue}
 use Rattle.ultra_serial.specs.Legal.{Entry as Done, Cells, cells_after, replayed}
 use Rattle.ultra_serial.specs.SerialList.{History, noted, after_event, cells_of}
 use Rattle.ultra_serial.proofs.Series.{sent, value_after, IsSeries, in_series}
 use Rattle.ultra_serial.proofs.Tidy.{that_is, total_most}
 use Rattle.ultra_serial.proofs.Forest.{built, built_leaf, built_next, built_proper, grown, position_of, record_at}
 use Rattle.ultra_serial.proofs.Standing.{each_in, some_in, once}
-use Rattle.ultra_serial.proofs.Explained.{IsExplained, explained_more, bound, IsKept, IsKeptAt, IsAnswered, IsGiven, IsForest}
+use Rattle.ultra_serial.proofs.Explained.{IsExplained, explained_more, bound, IsKeptAt, IsAnswered, IsGiven, IsForest}
 use Rattle.ultra_serial.proofs.ReplyForest.{each_and, some_and}
-use Rattle.ultra_serial.proofs.Mentions.{mention, mentions, sum_of, sum-places, trees_noted, noted_trees, unmentioned, without_other}
+use Rattle.ultra_serial.proofs.Mentions.{mention, mentions, sum_of, sum-places, noted_trees, unmentioned, without_other}
 use Rattle.ultra_serial.proofs.Replays.{AreFor, cells-append, replayed-append, explained_right, cell_after, cell_kept, built_is_for, for_leaves, replay_explains}
 
 -- the history after an event, if there is one
@@ -151,13 +150,13 @@ module _ (c : Settings) (range : AreInRange c) (m : Machine) (shape : HasShape c
       let before = cells_after initial h.order in
       ⊎_elim
       (λ e.
-          let acts : value_after (before p.request.cell) (leaves t) ≡ (act p.request.op (value_at (bank_at m j) p)).0 = rw (value, ← op) series.value in
-          ap (λ z. cells_after before (leaves t) z) e ∙ (cell_after before p.request.cell (leaves t) are_for ∙ (acts ∙ sym (cell_here j a p hj some placed e))))
+      let acts : value_after (before p.request.cell) (leaves t) ≡ (act p.request.op (value_at (bank_at m j) p)).0 = rw (value, ← op) series.value in
+      ap (λ z. cells_after before (leaves t) z) e ∙ (cell_after before p.request.cell (leaves t) are_for ∙ (acts ∙ sym (cell_here j a p hj some placed e))))
       (λ apart.
-          let kept = cell_kept before p.request.cell a (leaves t) are_for apart in
-          kept ∙ ⊎_elim (λ z. g.cells_done a z)
-          (λ z. let home : module_of c a ≡ j = omega (arith, l, z) in
-          g.cells_ahead a z ∙ sym (cell_beside j a p hj some placed home apart)) (cases_lt (module_of c a) j))
+      let kept = cell_kept before p.request.cell a (leaves t) are_for apart in
+      kept ∙ ⊎_elim (λ z. g.cells_done a z)
+      (λ z. let home : module_of c a ≡ j = omega (arith, l, z) in
+      g.cells_ahead a z ∙ sym (cell_beside j a p hj some placed home apart)) (cases_lt (module_of c a) j))
       (cases_eq a p.request.cell)
 
   module _ (list : List Done) (f : IsForest c m first.trees is list) where
@@ -312,20 +311,20 @@ module _ (c : Settings) (range : AreInRange c) (m : Machine) (shape : HasShape c
       pending_after p hp =
           each_in (λ (r : Request). IsOwn c p r × IsKeptAt c m is first.trees 0 r) (IsKeptAt c after is last.trees 0) (element_at m p).interface.pending
           (λ r counts h.
-              let hq : r.pe < size c = rw h.0.0 hp in
-              let one = counts (passes (is_reference r.pe r.cell)) (that_is r.pe r.cell) in
-              let there = total_term (size c) (λ q. pending_on_way (is_reference r.pe r.cell) (element_at m q)) p hp in
-              kept_after 0 r (not_named r.pe r.cell hq (omega (arith, one, there))) h.1)
+          let hq : r.pe < size c = rw h.0.0 hp in
+          let one = counts (passes (is_reference r.pe r.cell)) (that_is r.pe r.cell) in
+          let there = total_term (size c) (λ q. pending_on_way (is_reference r.pe r.cell) (element_at m q)) p hp in
+          kept_after 0 r (not_named r.pe r.cell hq (omega (arith, one, there))) h.1)
           (each_and (IsOwn c p) (IsKeptAt c m is first.trees 0) (element_at m p).interface.pending (w.pending p hp) (f.pending p hp))
 
       queued_after : (s x : ℕ) → s < c.stages → x < size c → AllByRecursion (λ (e : Entry). IsKeptAt c after is last.trees (bound s e.combined) e.request) (lane_at m s x).queue
       queued_after s x hs hx =
           each_in (λ (e : Entry). IsEntryAt c s x e × IsKeptAt c m is first.trees (bound s e.combined) e.request) (λ (e : Entry). IsKeptAt c after is last.trees (bound s e.combined) e.request) (lane_at m s x).queue
           (λ e counts h.
-              let t = is_reference e.request.pe e.request.cell in
-              let one = counts (entry_passes t) (that_is e.request.pe e.request.cell) in
-              let there = table_term c.stages (size c) (λ i z. lane_on_way t (lane_at m i z)) s x hs hx in
-              kept_after (bound s e.combined) e.request (not_named e.request.pe e.request.cell h.0.reference.element (omega (arith, one, there))) h.1)
+          let t = is_reference e.request.pe e.request.cell in
+          let one = counts (entry_passes t) (that_is e.request.pe e.request.cell) in
+          let there = table_term c.stages (size c) (λ i z. lane_on_way t (lane_at m i z)) s x hs hx in
+          kept_after (bound s e.combined) e.request (not_named e.request.pe e.request.cell h.0.reference.element (omega (arith, one, there))) h.1)
           (each_and (IsEntryAt c s x) (λ (e : Entry). IsKeptAt c m is first.trees (bound s e.combined) e.request) (lane_at m s x).queue (w.requests s x hs hx) (f.queued s x hs hx))
 
       input_left : (k : ℕ) (v : Bank) (o : Option Placed) (P : Placed → Type 0) → IfSome v.inp P → IfSome (after_serving v o).inp P
@@ -336,12 +335,12 @@ module _ (c : Settings) (range : AreInRange c) (m : Machine) (shape : HasShape c
       input_after k hk =
           some_in (λ (p : Placed). IsPlacedAt c k p × IsKeptAt c m is first.trees c.stages p.request) (λ (p : Placed). IsKeptAt c after is last.trees c.stages p.request) (bank_at after k).inp
           (λ p counts h.
-              let t = is_reference p.request.pe p.request.cell in
-              let hp = h.0.0.reference.element in
-              let one = counts (λ (q : Placed). t q.request.pe q.request.cell) (that_is p.request.pe p.request.cell) in
-              let there = total_term (size c) (λ z. inputs_on_way t (bank_at after z)) k hk in
-              let none : mentions t all_served ≤ 0 = omega (arith, one, there, once c range m b p.request.pe p.request.cell hp, all_taken t, inputs_within t) in
-              kept_after c.stages p.request none h.1)
+          let t = is_reference p.request.pe p.request.cell in
+          let hp = h.0.0.reference.element in
+          let one = counts (λ (q : Placed). t q.request.pe q.request.cell) (that_is p.request.pe p.request.cell) in
+          let there = total_term (size c) (λ z. inputs_on_way t (bank_at after z)) k hk in
+          let none : mentions t all_served ≤ 0 = omega (arith, one, there, once c range m b p.request.pe p.request.cell hp, all_taken t, inputs_within t) in
+          kept_after c.stages p.request none h.1)
           (rw (bank-memory_phase c m k hk)
           (input_left k (bank_at m k) (to_serve (bank_at m k)) (λ (p : Placed). IsPlacedAt c k p × IsKeptAt c m is first.trees c.stages p.request)
           (some_and (IsPlacedAt c k) (λ (p : Placed). IsKeptAt c m is first.trees c.stages p.request) (bank_at m k).inp (w.inputs k hk) (f.inputs k hk))))

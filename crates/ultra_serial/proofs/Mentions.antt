@@ -1,11 +1,11 @@
 -- what several events do to the trees that are kept, where each reference is named at most once
-use Rattle.std.proofs.Common.{◌≡◌, ◌≢◌, ℕ, zero, suc, ◌+◌, ◌<◌, ◌≤◌, List, [], ◌∷◌, ◌++◌, Bool, true, false, refl, arith, sym, ◌∙◌, ap, subst, ◌⊎◌, inl, inr, map}
-use Rattle.std.specs.Prelude.{Option, Some, None, ◌==◌, ◌&&◌}
+use Rattle.std.proofs.Common.{◌≡◌, ℕ, zero, suc, ◌+◌, ◌<◌, ◌≤◌, List, [], ◌∷◌, ◌++◌, Bool, true, false, refl, arith, sym, ◌∙◌, ap, subst, inl, inr, map}
+use Rattle.std.specs.Prelude.{Option, Some, None}
 use Rattle.std.specs.List.{range_with_len}
 use Rattle.ultra_msg.specs.declared.Event.{Event}
 use Rattle.ultra_msg.specs.declared.Event.TheVariants.{Delivered, Served, Combined, Issued}
-use Rattle.ultra_block.specs.Places.{places, table, joined, present}
-use Rattle.ultra_block.specs.Balance.{weight, count, total}
+use Rattle.ultra_block.specs.Places.{places, table, joined}
+use Rattle.ultra_block.specs.Balance.{weight, total}
 use Rattle.ultra_block.proofs.Sums.{total_none, total_front, total_same}
 use Rattle.ultra_block.proofs.Counting.{is_reference}
 use Rattle.ultra_serial.specs.Tree.{Tree, pair, Kept, kept, is_under, tree_of, without, paired, trees_after}

@@ -1,20 +1,17 @@
 -- every leaf was issued, and no name stands twice among the leaves that were served and those of the kept trees
-use Rattle.std.proofs.Common.{◌≡◌, ◌≢◌, ℕ, zero, suc, ◌+◌, ◌<◌, ◌≤◌, List, [], ◌∷◌, ◌++◌, Bool, true, false, refl, arith, sym, ◌∙◌, ap, subst, ◌⊎◌, ⊎_elim, inl, inr}
-use Rattle.std.specs.Prelude.{Option, Some, None, IfSome, ◌==◌, ◌&&◌}
+use Rattle.std.proofs.Common.{◌≡◌, ℕ, ◌+◌, ◌≤◌, List, [], ◌∷◌, ◌++◌, Bool, true, false, refl, arith, inl}
+use Rattle.std.specs.Prelude.{Option, Some, None}
 use Rattle.std.specs.List.{AllByRecursion}
-use Rattle.std.proofs.lemmas.Bool.{cases_lt}
 use Rattle.ultra_msg.specs.declared.Event.{Event}
 use Rattle.ultra_msg.specs.declared.Event.TheVariants.{Delivered, Served, Combined, Issued}
-use Rattle.ultra_block.specs.Balance.{weight, count}
-use Rattle.ultra_block.specs.Machine.{Settings, Machine, size, element_at}
+use Rattle.ultra_block.specs.Balance.{count}
 use Rattle.ultra_block.proofs.Each.{each-append, each-weaker}
-use Rattle.ultra_block.proofs.Counting.{count-append, is_reference}
-use Rattle.ultra_serial.specs.Tree.{Tree, leaf, pair, Leaf, leaves, Kept, kept, is_under, tree_of, without, paired, trees_after, leaves_of, served_leaves}
+use Rattle.ultra_block.proofs.Counting.{count-append}
+use Rattle.ultra_serial.specs.Tree.{Tree, pair, Leaf, leaves, Kept, is_under, tree_of, without, paired, leaves_of}
 use Rattle.ultra_serial.specs.Log.{Issue}
 use Rattle.ultra_serial.specs.SerialList.{History, noted, after_event}
 use Rattle.ultra_serial.proofs.Explained.{IsIn, in-append, in-append_right}
 use Rattle.ultra_serial.proofs.Mentions.{sum_of}
-use Rattle.ultra_serial.proofs.ProcessorForest.{issues_after, issues_noted, noted_issues, event_issues}
 
 -- ---- how often a test passes among the leaves of a history
 abbrev pub tree_leaves : (Leaf → Bool) → Kept → ℕ
@@ -121,8 +118,10 @@ event_logged n h (Issued r k) g =
     let i : Issue = record { pe = r.pe; number = k; cell = r.cell; op = r.op; cycle = n } in
     record {
       order = each-append (IsLogged (is ++ i ∷ [])) h.order [] (each-weaker (IsLogged is) (IsLogged (is ++ i ∷ [])) h.order (λ l z. logged_more is (i ∷ []) l z) g.order) tt;
-      trees = (((i, in-append_right i is (i ∷ []) (inl refl), refl, refl, refl, refl), tt),
-      each-weaker (λ (u : Kept). AreLogged is (leaves u.tree)) (λ (u : Kept). AreLogged (is ++ i ∷ []) (leaves u.tree)) h.trees (λ u z. each-weaker (IsLogged is) (IsLogged (is ++ i ∷ [])) (leaves u.tree) (λ l v. logged_more is (i ∷ []) l v) z) g.trees);
+      trees = (
+        ((i, in-append_right i is (i ∷ []) (inl refl), refl, refl, refl, refl), tt),
+        each-weaker (λ (u : Kept). AreLogged is (leaves u.tree)) (λ (u : Kept). AreLogged (is ++ i ∷ []) (leaves u.tree)) h.trees (λ u z. each-weaker (IsLogged is) (IsLogged (is ++ i ∷ [])) (leaves u.tree) (λ l v. logged_more is (i ∷ []) l v) z) g.trees,
+      );
     }
 
 pub noted_logged : (n : ℕ) (es : List Event) (h : History) → IsLoggedAll h → IsLoggedAll (noted n es h)

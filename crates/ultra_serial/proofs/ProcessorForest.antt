@@ -1,8 +1,7 @@
 -- the processor phase: each request that is issued has its own leaf
-use Rattle.std.proofs.Common.{◌≡◌, ◌≢◌, ℕ, zero, suc, ◌+◌, ◌<◌, ◌≤◌, List, [], ◌∷◌, ◌++◌, Bool, true, false, refl, arith, sym, ◌∙◌, ap, subst, ◌⊎◌, ⊎_elim, inl, inr}
-use Rattle.std.specs.Prelude.{Option, Some, None, IfSome, ◌==◌, ◌&&◌}
+use Rattle.std.proofs.Common.{◌≡◌, ◌≢◌, ℕ, ◌<◌, ◌≤◌, List, [], ◌∷◌, ◌++◌, Bool, true, false, refl, arith, sym, ◌∙◌, ap, subst, ⊎_elim, inl, inr}
+use Rattle.std.specs.Prelude.{Option, Some, None, IfSome, ◌==◌}
 use Rattle.std.specs.List.{AllByRecursion}
-use Rattle.std.proofs.lemmas.Bool.{eqb-true, cases_lt}
 use Rattle.ultra_msg.specs.declared.Op.{Op}
 use Rattle.ultra_msg.specs.declared.Op.TheVariants.{Load}
 use Rattle.ultra_msg.specs.declared.Request.{Request}
@@ -18,10 +17,10 @@ use Rattle.ultra_isa.specs.declared.Instr.{Instr}
 use Rattle.ultra_isa.proofs.Steps.{SendsInto}
 use Rattle.ultra_block.specs.Places.{places, present}
 use Rattle.ultra_block.specs.Machine.{Settings, Machine, Element, size, site, lane_at, replies_at, bank_at, element_at}
-use Rattle.ultra_block.specs.Phases.{issue_event, stepped, step_at, processor_phase}
+use Rattle.ultra_block.specs.Phases.{issue_event, step_at, processor_phase}
 use Rattle.ultra_block.specs.Ranges.{AreInRange}
 use Rattle.ultra_block.specs.Routed.{IsEntryAt, IsRecordAt, IsReplyAt, IsPlacedAt, IsReplyOf, IsOwn, IsRouted}
-use Rattle.ultra_block.specs.Balance.{weight, count, count_option, total, passes, reply_passes, entry_passes, record_passes, lane_on_way, replies_on_way, bank_on_way, pending_on_way, on_way, IsBalanced}
+use Rattle.ultra_block.specs.Balance.{weight, count, total, passes, reply_passes, entry_passes, record_passes, lane_on_way, replies_on_way, bank_on_way, pending_on_way, on_way, IsBalanced}
 use Rattle.ultra_block.proofs.Each.{each-append}
 use Rattle.ultra_block.proofs.Sums.{total_next, total_only, total_term, table_term}
 use Rattle.ultra_block.proofs.Counting.{is_reference}
@@ -29,14 +28,14 @@ use Rattle.ultra_block.proofs.ReplyBalance.{opened_once}
 use Rattle.ultra_block.proofs.Balanced.{none_open, sends}
 use Rattle.ultra_block.proofs.AtPlaces.{element-processor_phase}
 use Rattle.ultra_serial.specs.Tree.{Tree, leaf, Leaf, Kept, kept, tree_of}
-use Rattle.ultra_serial.specs.Log.{Issue, Log, latest_number, is_issue_for}
+use Rattle.ultra_serial.specs.Log.{Issue, latest_number, is_issue_for}
 use Rattle.ultra_serial.specs.Legal.{Entry as Done}
 use Rattle.ultra_serial.specs.SerialList.{History, noted, after_event}
 use Rattle.ultra_serial.proofs.Series.{sent}
-use Rattle.ultra_serial.proofs.Tidy.{old_records, marked_of, lanes_of, up_to, IsTidy, that_is, is_that, true_or_false}
-use Rattle.ultra_serial.proofs.Forest.{latest_op, leaf_of, record_at, position_of, built, built_leaf, same_built, IsSameBelow, found_record, found_partner}
+use Rattle.ultra_serial.proofs.Tidy.{old_records, lanes_of, IsTidy, that_is, is_that, true_or_false}
+use Rattle.ultra_serial.proofs.Forest.{latest_op, leaf_of, record_at, position_of, built, built_leaf, same_built, found_record, found_partner}
 use Rattle.ultra_serial.proofs.Standing.{each_in, some_in, marked_lanes, position_small}
-use Rattle.ultra_serial.proofs.Explained.{IsIn, IsExplained, bound, IsKept, IsKeptAt, IsAnswered, IsGiven, IsForest}
+use Rattle.ultra_serial.proofs.Explained.{IsIn, IsExplained, bound, IsKeptAt, IsAnswered, IsGiven, IsForest}
 use Rattle.ultra_serial.proofs.ReplyForest.{each_and, some_and}
 use Rattle.ultra_serial.proofs.Mentions.{mention, mentions, sum_of, sum-places, in-places, trees_noted, unmentioned}
 
@@ -115,9 +114,10 @@ issued_known n k r (e ∷ es) is ks (inl z) l =
     let here : mention t e ≡ mention t (Issued r k) = ap (λ v. mention t v) z in
     let that : weight (t r.pe r.cell) ≡ 1 = rw (that_is r.pe r.cell) refl in
     let rest : mentions t es ≤ 0 = omega (arith, l, here, that) in
-    let g : Bool → Option Tree = λ b. elim b [ true ↦ Some (leaf (issued_leaf r k)) | false ↦ tree_of r.pe r.cell ks ] in
-    (unmentioned_leaf n r.pe r.cell es (issues_after n is e) rest ∙ (ap (λ v. leaf_of (issues_after n is v) r.pe r.cell) z ∙ leaf_by r.pe r.cell is record { pe = r.pe; number = k; cell = r.cell; op = r.op; cycle = n } true (that_is r.pe r.cell)),
-    rw z (unmentioned r.pe r.cell es (kept r.pe r.cell (leaf (issued_leaf r k)) ∷ ks) rest ∙ ap g (that_is r.pe r.cell)))
+    let g : Bool → Option Tree = λ b. elim b [ true ↦ Some (leaf (issued_leaf r k)) | false ↦ tree_of r.pe r.cell ks ] in (
+      unmentioned_leaf n r.pe r.cell es (issues_after n is e) rest ∙ (ap (λ v. leaf_of (issues_after n is v) r.pe r.cell) z ∙ leaf_by r.pe r.cell is record { pe = r.pe; number = k; cell = r.cell; op = r.op; cycle = n } true (that_is r.pe r.cell)),
+      rw z (unmentioned r.pe r.cell es (kept r.pe r.cell (leaf (issued_leaf r k)) ∷ ks) rest ∙ ap g (that_is r.pe r.cell)),
+    )
 issued_known n k r (e ∷ es) is ks (inr h) l = issued_known n k r es (issues_after n is e) _ h (omega (arith, l))
 
 in-present : {X : Type 0} (x : X) (os : List (Option X)) → IsIn (Some x) os → IsIn x (present os)
@@ -176,9 +176,9 @@ module _ (c : Settings) (range : AreInRange c) (program : List Instr) (m : Machi
   not_open q a i j e None h l = omega arith
   not_open q a i j e (Some r) h l =
       ⊎_elim (λ k.
-          let cell : r.cell ≡ a = (is_that q a r.pe r.cell k).1 in
-          let none : count (λ (v : OpenCell). v.cell == a) i.opened ≡ 0 = rw (← cell) (none_open r.cell i.opened h.2) in
-          absurd (omega (arith, none, l)))
+      let cell : r.cell ≡ a = (is_that q a r.pe r.cell k).1 in
+      let none : count (λ (v : OpenCell). v.cell == a) i.opened ≡ 0 = rw (← cell) (none_open r.cell i.opened h.2) in
+      absurd (omega (arith, none, l)))
       (λ k. rw k (omega arith)) (true_or_false (is_reference q a r.pe r.cell))
 
   -- a reference that is on its way isn't issued
@@ -204,13 +204,14 @@ module _ (c : Settings) (range : AreInRange c) (program : List Instr) (m : Machi
     same_tree k p a hk hp l =
         same_built c after m issues is a k p record { issue = unmentioned_leaf n p a all_issued is (not_issued p a hp l); records = λ s z. same_record s p a }
         (λ s q u z e hq.
-            let x = position_of c s q a in
-            let small = position_small c range m b s q a (omega arith) hq in
-            let route = found_record q a (lane_at m s x).records u e (IsRecordAt c s x) (w.records s x (omega arith) small) in
-            let counts = found_partner q a (lane_at m s x).records u e in
-            let there = table_term c.stages (size c) (λ i v. lane_on_way (is_reference u.partner a) (lane_at m i v)) s x (omega arith) small in
-            (route.1.reference.element,
-            record { issue = unmentioned_leaf n u.partner a all_issued is (not_issued u.partner a route.1.reference.element (omega (arith, counts, there))); records = λ i v. same_record i u.partner a }))
+        let x = position_of c s q a in
+        let small = position_small c range m b s q a (omega arith) hq in
+        let route = found_record q a (lane_at m s x).records u e (IsRecordAt c s x) (w.records s x (omega arith) small) in
+        let counts = found_partner q a (lane_at m s x).records u e in
+        let there = table_term c.stages (size c) (λ i v. lane_on_way (is_reference u.partner a) (lane_at m i v)) s x (omega arith) small in (
+          route.1.reference.element,
+          record { issue = unmentioned_leaf n u.partner a all_issued is (not_issued u.partner a route.1.reference.element (omega (arith, counts, there))); records = λ i v. same_record i u.partner a },
+        ))
         hp
 
     kept_after : (k : ℕ) (r : Request) → k ≤ c.stages → r.pe < size c → 1 ≤ on_way (is_reference r.pe r.cell) c m → IsKeptAt c m is ks k r → IsKeptAt c after issues trees k r
@@ -225,10 +226,10 @@ module _ (c : Settings) (range : AreInRange c) (program : List Instr) (m : Machi
     old_pending p hp =
         each_in (λ (r : Request). IsOwn c p r × IsKeptAt c m is ks 0 r) (IsKeptAt c after issues trees 0) (element_at m p).interface.pending
         (λ r counts h.
-            let hq : r.pe < size c = rw h.0.0 hp in
-            let one = counts (passes (is_reference r.pe r.cell)) (that_is r.pe r.cell) in
-            let there = total_term (size c) (λ q. pending_on_way (is_reference r.pe r.cell) (element_at m q)) p hp in
-            kept_after 0 r (omega arith) hq (omega (arith, one, there)) h.1)
+        let hq : r.pe < size c = rw h.0.0 hp in
+        let one = counts (passes (is_reference r.pe r.cell)) (that_is r.pe r.cell) in
+        let there = total_term (size c) (λ q. pending_on_way (is_reference r.pe r.cell) (element_at m q)) p hp in
+        kept_after 0 r (omega arith) hq (omega (arith, one, there)) h.1)
         (each_and (IsOwn c p) (IsKeptAt c m is ks 0) (element_at m p).interface.pending (w.pending p hp) (f.pending p hp))
 
     -- a request that is issued now
@@ -261,40 +262,40 @@ module _ (c : Settings) (range : AreInRange c) (program : List Instr) (m : Machi
     queued_after s x hs hx =
         each_in (λ (e : Entry). IsEntryAt c s x e × IsKeptAt c m is ks (bound s e.combined) e.request) (λ (e : Entry). IsKeptAt c after issues trees (bound s e.combined) e.request) (lane_at m s x).queue
         (λ e counts h.
-            let t = is_reference e.request.pe e.request.cell in
-            let one = counts (entry_passes t) (that_is e.request.pe e.request.cell) in
-            let there = table_term c.stages (size c) (λ i z. lane_on_way t (lane_at m i z)) s x hs hx in
-            kept_after (bound s e.combined) e.request (bound_small s e.combined hs) h.0.reference.element (omega (arith, one, there)) h.1)
+        let t = is_reference e.request.pe e.request.cell in
+        let one = counts (entry_passes t) (that_is e.request.pe e.request.cell) in
+        let there = table_term c.stages (size c) (λ i z. lane_on_way t (lane_at m i z)) s x hs hx in
+        kept_after (bound s e.combined) e.request (bound_small s e.combined hs) h.0.reference.element (omega (arith, one, there)) h.1)
         (each_and (IsEntryAt c s x) (λ (e : Entry). IsKeptAt c m is ks (bound s e.combined) e.request) (lane_at m s x).queue (w.requests s x hs hx) (f.queued s x hs hx))
 
     input_after : (k : ℕ) → k < size c → IfSome (bank_at m k).inp (λ (p : Placed). IsKeptAt c after issues trees c.stages p.request)
     input_after k hk =
         some_in (λ (p : Placed). IsPlacedAt c k p × IsKeptAt c m is ks c.stages p.request) (λ (p : Placed). IsKeptAt c after issues trees c.stages p.request) (bank_at m k).inp
         (λ p counts h.
-            let t = is_reference p.request.pe p.request.cell in
-            let one = counts (λ (q : Placed). t q.request.pe q.request.cell) (that_is p.request.pe p.request.cell) in
-            let there = total_term (size c) (λ z. bank_on_way t (bank_at m z)) k hk in
-            kept_after c.stages p.request (omega arith) h.0.0.reference.element (omega (arith, one, there)) h.1)
+        let t = is_reference p.request.pe p.request.cell in
+        let one = counts (λ (q : Placed). t q.request.pe q.request.cell) (that_is p.request.pe p.request.cell) in
+        let there = total_term (size c) (λ z. bank_on_way t (bank_at m z)) k hk in
+        kept_after c.stages p.request (omega arith) h.0.0.reference.element (omega (arith, one, there)) h.1)
         (some_and (IsPlacedAt c k) (λ (p : Placed). IsKeptAt c m is ks c.stages p.request) (bank_at m k).inp (w.inputs k hk) (f.inputs k hk))
 
     output_after : (k : ℕ) → k < size c → IfSome (bank_at m k).out (IsAnswered c after issues list c.stages)
     output_after k hk =
         some_in (λ (r : ReplyMessage). IsReplyOf c k r × IsAnswered c m is list c.stages r) (IsAnswered c after issues list c.stages) (bank_at m k).out
         (λ r counts h.
-            let t = is_reference r.pe r.cell in
-            let one = counts (reply_passes t) (that_is r.pe r.cell) in
-            let there = total_term (size c) (λ z. bank_on_way t (bank_at m z)) k hk in
-            answered_after c.stages r (omega arith) h.0.reference.element (omega (arith, one, there)) h.1)
+        let t = is_reference r.pe r.cell in
+        let one = counts (reply_passes t) (that_is r.pe r.cell) in
+        let there = total_term (size c) (λ z. bank_on_way t (bank_at m z)) k hk in
+        answered_after c.stages r (omega arith) h.0.reference.element (omega (arith, one, there)) h.1)
         (some_and (IsReplyOf c k) (IsAnswered c m is list c.stages) (bank_at m k).out (w.outputs k hk) (f.outputs k hk))
 
     replies_after : (s v : ℕ) → s < c.stages → v < size c → AllByRecursion (IsAnswered c after issues list s) (replies_at m s v)
     replies_after s v hs hv =
         each_in (λ (r : ReplyMessage). IsReplyAt c s v r × IsAnswered c m is list s r) (IsAnswered c after issues list s) (replies_at m s v)
         (λ r counts h.
-            let t = is_reference r.pe r.cell in
-            let one = counts (reply_passes t) (that_is r.pe r.cell) in
-            let there = table_term c.stages (size c) (λ i z. replies_on_way t (replies_at m i z)) s v hs hv in
-            answered_after s r (omega (arith, hs)) h.0.reference.element (omega (arith, one, there)) h.1)
+        let t = is_reference r.pe r.cell in
+        let one = counts (reply_passes t) (that_is r.pe r.cell) in
+        let there = table_term c.stages (size c) (λ i z. replies_on_way t (replies_at m i z)) s v hs hv in
+        answered_after s r (omega (arith, hs)) h.0.reference.element (omega (arith, one, there)) h.1)
         (each_and (IsReplyAt c s v) (IsAnswered c m is list s) (replies_at m s v) (w.replies s v hs hv) (f.replies s v hs hv))
 
     old_on_way : (p a s x : ℕ) → p < size c → s < c.stages → x < size c → 1 ≤ old_records (is_reference p a) (lane_at m s x).records → 1 ≤ on_way (is_reference p a) c m
@@ -307,14 +308,14 @@ module _ (c : Settings) (range : AreInRange c) (program : List Instr) (m : Machi
     records_after s x hs hx =
         each_in (λ (u : WaitRecord). IsRecordAt c s x u × IsGiven c m is s u) (IsGiven c after issues s) (lane_at m s x).records
         (λ u counts h.
-            let old = h.0.0.reference.element in
-            let new = h.0.1.reference.element in
-            let one = counts (λ (v : WaitRecord). is_reference u.pe u.cell v.pe v.cell) (that_is u.pe u.cell) in
-            let two = counts (record_passes (is_reference u.partner u.cell)) (that_is u.partner u.cell) in
-            let there = table_term c.stages (size c) (λ i z. lane_on_way (is_reference u.partner u.cell) (lane_at m i z)) s x hs hx in
-            let first = same_tree s u.pe u.cell (omega (arith, hs)) old (old_on_way u.pe u.cell s x old hs hx one) in
-            let second = same_tree s u.partner u.cell (omega (arith, hs)) new (omega (arith, two, there)) in
-            record { old = rw (first, second) h.1.old; new = rw (first, second) h.1.new })
+        let old = h.0.0.reference.element in
+        let new = h.0.1.reference.element in
+        let one = counts (λ (v : WaitRecord). is_reference u.pe u.cell v.pe v.cell) (that_is u.pe u.cell) in
+        let two = counts (record_passes (is_reference u.partner u.cell)) (that_is u.partner u.cell) in
+        let there = table_term c.stages (size c) (λ i z. lane_on_way (is_reference u.partner u.cell) (lane_at m i z)) s x hs hx in
+        let first = same_tree s u.pe u.cell (omega (arith, hs)) old (old_on_way u.pe u.cell s x old hs hx one) in
+        let second = same_tree s u.partner u.cell (omega (arith, hs)) new (omega (arith, two, there)) in
+        record { old = rw (first, second) h.1.old; new = rw (first, second) h.1.new })
         (each_and (IsRecordAt c s x) (IsGiven c m is s) (lane_at m s x).records (w.records s x hs hx) (f.records s x hs hx))
 
     same_lane : (s x : ℕ) → lane_at after s x ≡ lane_at m s x

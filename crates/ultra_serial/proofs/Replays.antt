@@ -1,11 +1,10 @@
 -- replaying the leaves of a tree, which are all for one cell
-use Rattle.std.proofs.Common.{◌≡◌, ◌≢◌, ℕ, zero, suc, ◌+◌, ◌<◌, List, [], ◌∷◌, ◌++◌, Bool, true, false, refl, arith, sym, ◌∙◌, ap, subst, ◌⊎◌, inl, inr}
-use Rattle.std.specs.Prelude.{Option, Some, None, ◌==◌}
+use Rattle.std.proofs.Common.{◌≡◌, ◌≢◌, ℕ, zero, suc, List, [], ◌∷◌, ◌++◌, Bool, true, false, refl, sym, ◌∙◌, ap, subst, inl}
+use Rattle.std.specs.Prelude.{Option, Some, None}
 use Rattle.std.specs.List.{AllByRecursion}
-use Rattle.ultra_msg.specs.declared.Op.{Op}
 use Rattle.ultra_msg.specs.declared.Reply.{Reply}
 use Rattle.ultra_msg.specs.Act.{act}
-use Rattle.ultra_msg.specs.Pair.{pair_of, KeepsBoth, IsInTurn}
+use Rattle.ultra_msg.specs.Pair.{pair_of, KeepsBoth}
 use Rattle.ultra_msg.proofs.Pairs.{pair_keeps}
 use Rattle.ultra_switch.specs.declared.WaitRecord.{WaitRecord}
 use Rattle.ultra_block.specs.Machine.{Settings, Machine}
@@ -14,9 +13,9 @@ use Rattle.ultra_block.proofs.Neighbours.{itself, other}
 use Rattle.ultra_serial.specs.Tree.{Tree, leaf, pair, Leaf, leaves}
 use Rattle.ultra_serial.specs.Log.{Issue}
 use Rattle.ultra_serial.specs.Legal.{Entry as Done, Cells, with_cell, answered_by, cells_after, replayed}
-use Rattle.ultra_serial.proofs.Series.{sent, to_old, to_new, IsProper, value_after, IsSeries, in_series}
+use Rattle.ultra_serial.proofs.Series.{sent, to_old, to_new, IsProper, value_after, in_series}
 use Rattle.ultra_serial.proofs.Forest.{built, built_leaf, built_next, grown, record_at, position_of}
-use Rattle.ultra_serial.proofs.Explained.{IsIn, in-append_right, IsExplained, explained_more}
+use Rattle.ultra_serial.proofs.Explained.{in-append_right, IsExplained, explained_more}
 
 -- ---- replaying one list after another
 pub cells-append : (m : Cells) (xs ys : List Leaf) → cells_after m (xs ++ ys) ≡ cells_after (cells_after m xs) ys

@@ -1,13 +1,11 @@
 -- the reply phase keeps what the messages say: a reply that meets its record is split as its tree is
-use Rattle.std.proofs.Common.{◌≡◌, ◌≢◌, ℕ, zero, suc, ◌+◌, ◌-◌, ◌*◌, ◌/◌, ◌^◌, ◌<◌, ◌≤◌, List, [], ◌∷◌, ◌++◌, Bool, true, false, refl, arith, sym, ◌∙◌, ap, subst, ◌⊎◌, ⊎_elim, inl, inr}
-use Rattle.std.specs.Prelude.{Option, Some, None, IfSome, slice_get, ◌==◌, ◌&&◌}
-use Rattle.std.specs.List.{AllByRecursion, filter}
-use Rattle.std.proofs.lemmas.Bool.{eqb-true, cases_lt}
+use Rattle.std.proofs.Common.{◌≡◌, ℕ, suc, ◌+◌, ◌*◌, ◌/◌, ◌<◌, ◌≤◌, List, [], ◌∷◌, Bool, true, false, refl, arith, sym, ◌∙◌, ap, subst}
+use Rattle.std.specs.Prelude.{Option, Some, None, IfSome, slice_get, ◌==◌}
+use Rattle.std.specs.List.{AllByRecursion}
+use Rattle.std.proofs.lemmas.Bool.{eqb-true}
 use Rattle.std.proofs.lemmas.Bool.Decides.{nat_tests}
-use Rattle.ultra_msg.specs.declared.Reply.{Reply}
 use Rattle.ultra_msg.specs.declared.Request.{Request}
 use Rattle.ultra_msg.specs.declared.ReplyMessage.{ReplyMessage}
-use Rattle.ultra_msg.specs.Act.{reply_given}
 use Rattle.ultra_msg.specs.Pair.{pair_of}
 use Rattle.ultra_route.specs.Route.{shuffled}
 use Rattle.ultra_switch.specs.declared.Entry.{Entry}
@@ -18,23 +16,23 @@ use Rattle.ultra_mem.specs.Serve.{Bank}
 use Rattle.ultra_block.specs.Machine.{Settings, Machine, Element, size, last_stage, lane_at, replies_at, bank_at, element_at, reply_exit}
 use Rattle.ultra_block.specs.Phases.{deliver, delivered, without_reply, records_left, replies_made, arriving_reply, reply_before, has_reply_room, leaving_reply, replies_at_exit, next_replies, reply_phase}
 use Rattle.ultra_block.specs.Ranges.{AreInRange}
-use Rattle.ultra_block.specs.Routed.{IsByLine, IsEntryAt, IsRecordAt, IsReplyAt, IsPlacedAt, IsReplyOf, module_of, IsRouted}
-use Rattle.ultra_block.specs.Balance.{weight, count, count_option, total, passes, reply_passes, entry_passes, record_passes, lane_on_way, replies_on_way, bank_on_way, on_way, IsBalanced}
+use Rattle.ultra_block.specs.Routed.{IsByLine, IsEntryAt, IsRecordAt, IsReplyAt, IsPlacedAt, IsReplyOf, IsRouted}
+use Rattle.ultra_block.specs.Balance.{weight, count, count_option, total, reply_passes, entry_passes, record_passes, lane_on_way, replies_on_way, bank_on_way, IsBalanced}
 use Rattle.ultra_block.proofs.Each.{each-append, each-after_leaving, each-first, if_tested}
 use Rattle.ultra_block.proofs.OnRoute.{each-filter}
 use Rattle.ultra_block.proofs.Sums.{total_next, total_term}
-use Rattle.ultra_block.proofs.Counting.{both_true, is_reference, count-leaving, made_way}
+use Rattle.ultra_block.proofs.Counting.{is_reference, count-leaving}
 use Rattle.ultra_block.proofs.Routes.{routed-reply_phase, turns_back, arriving_reply_well, two_ports}
 use Rattle.ultra_block.proofs.ReplyBalance as replies
 use Rattle.ultra_block.proofs.AtPlaces.{lane-reply_phase, replies-reply_phase, bank-reply_phase, element-reply_phase}
-use Rattle.ultra_serial.specs.Tree.{Tree, leaf, pair, Kept, tree_of}
+use Rattle.ultra_serial.specs.Tree.{Kept}
 use Rattle.ultra_serial.specs.Log.{Issue}
 use Rattle.ultra_serial.specs.Legal.{Entry as Done}
-use Rattle.ultra_serial.proofs.Series.{sent, to_old, to_new}
-use Rattle.ultra_serial.proofs.Tidy.{old_records, marked_of, lanes_of, replies_of as stage_replies, pending_of, up_to, IsTidy, total_most, total_longer, is_that, that_is, true_or_false, comes, goes, lanes_row, replies_row, tidy-reply_phase}
-use Rattle.ultra_serial.proofs.Forest.{find_record, record_at, position_of, built, built_leaf, built_next, grown, same_built, IsSameBelow, found_record, found_is, found_partner}
+use Rattle.ultra_serial.proofs.Series.{sent}
+use Rattle.ultra_serial.proofs.Tidy.{old_records, lanes_of, replies_of as stage_replies, IsTidy, total_most, is_that, that_is, comes, lanes_row, replies_row, tidy-reply_phase}
+use Rattle.ultra_serial.proofs.Forest.{find_record, record_at, position_of, built, built_leaf, built_next, grown, same_built, found_record, found_is, found_partner}
 use Rattle.ultra_serial.proofs.Standing.{each_in, some_in, total_both, marked_lanes, once, position_small}
-use Rattle.ultra_serial.proofs.Explained.{IsExplained, bound, IsKept, IsKeptAt, IsAnswered, IsGiven, IsForest}
+use Rattle.ultra_serial.proofs.Explained.{IsExplained, bound, IsKeptAt, IsAnswered, IsGiven, IsForest}
 
 -- ---- lists
 pub each_and : {X : Type 0} (P Q : X → Type 0) (xs : List X) → AllByRecursion P xs → AllByRecursion Q xs → AllByRecursion (λ x. P x × Q x) xs
@@ -131,9 +129,9 @@ module _ (c : Settings) (range : AreInRange c) (m : Machine) (w : IsRouted c m) 
         let lanes = lanes_row c range m t s h in
         let rows = replies_row c range m t s h in
         let fewer = total_most (size c) (λ x. lane_on_way t (lane_at m s x)) (λ x. lane_on_way t (lane_at after s x))
-            (λ x l. rw (lane-reply_phase c m s x h l) (omega (arith, fewer_left (record_passes t) (lane_at m s x).records (arriving_reply c m s x)))) in
+        (λ x l. rw (lane-reply_phase c m s x h l) (omega (arith, fewer_left (record_passes t) (lane_at m s x).records (arriving_reply c m s x)))) in
         let leave = total_most (size c) (λ z. replies_on_way t (replies_at m s z)) (λ z. replies.leaving c range m t s z)
-            (λ z l. omega (arith, count-leaving (reply_passes t) (leaving_reply c m s z) (replies_at m s z) (replies.leaving_head c range m s z h l))) in
+        (λ z l. omega (arith, count-leaving (reply_passes t) (leaving_reply c m s z) (replies_at m s z) (replies.leaving_head c range m s z h l))) in
         omega (arith, lanes, rows, fewer, leave)
 
   abbrev Unmoved : ℕ → ℕ → ℕ → Type 0
@@ -185,13 +183,14 @@ module _ (c : Settings) (range : AreInRange c) (m : Machine) (w : IsRouted c m) 
     same_tree n p a hn hp h =
         same_built c m after is is a n p record { issue = refl; records = λ s l. unmoved p a s hp (omega arith) (h s l) }
         (λ s q u l e hq.
-            let x = position_of c s q a in
-            let small = position_small c range m b s q a (omega arith) hq in
-            let route = found_record q a (lane_at after s x).records u e (IsRecordAt c s x) (routed.records s x (omega arith) small) in
-            let counts = found_partner q a (lane_at after s x).records u e in
-            let there = total_term (size c) (λ z. lane_on_way (is_reference u.partner a) (lane_at after s z)) x small in
-            (route.1.reference.element,
-            record { issue = refl; records = λ i k. unmoved u.partner a i route.1.reference.element (omega arith) (still_lanes u.partner a s i route.1.reference.element (omega arith) (omega arith) (omega (arith, counts, there))) }))
+        let x = position_of c s q a in
+        let small = position_small c range m b s q a (omega arith) hq in
+        let route = found_record q a (lane_at after s x).records u e (IsRecordAt c s x) (routed.records s x (omega arith) small) in
+        let counts = found_partner q a (lane_at after s x).records u e in
+        let there = total_term (size c) (λ z. lane_on_way (is_reference u.partner a) (lane_at after s z)) x small in (
+          route.1.reference.element,
+          record { issue = refl; records = λ i k. unmoved u.partner a i route.1.reference.element (omega arith) (still_lanes u.partner a s i route.1.reference.element (omega arith) (omega arith) (omega (arith, counts, there))) },
+        ))
         hp
 
     -- ---- what the messages say
@@ -222,13 +221,13 @@ module _ (c : Settings) (range : AreInRange c) (m : Machine) (w : IsRouted c m) 
       queued_said s x hs hx =
           each_in (λ (e : Entry). IsEntryAt c s x e × IsKeptAt c m is ks (bound s e.combined) e.request) (λ (e : Entry). IsKeptAt c after is ks (bound s e.combined) e.request) (lane_at m s x).queue
           (λ e counts k.
-              let hp = k.0.reference.element in
-              let t = is_reference e.request.pe e.request.cell in
-              let one = counts (entry_passes t) (that_is e.request.pe e.request.cell) in
-              let there = total_term (size c) (λ z. lane_on_way t (lane_at after s z)) x hx in
-              let lane : 1 ≤ lane_on_way t (lane_at after s x) = rw (lane-reply_phase c m s x hs hx) (omega (arith, one)) in
-              let small = bound_small s e.combined hs in
-              kept_moved (bound s e.combined) e.request small hp (λ i l. still_lanes e.request.pe e.request.cell s i hp hs (omega (arith, l, small)) (omega (arith, there, lane))) k.1)
+          let hp = k.0.reference.element in
+          let t = is_reference e.request.pe e.request.cell in
+          let one = counts (entry_passes t) (that_is e.request.pe e.request.cell) in
+          let there = total_term (size c) (λ z. lane_on_way t (lane_at after s z)) x hx in
+          let lane : 1 ≤ lane_on_way t (lane_at after s x) = rw (lane-reply_phase c m s x hs hx) (omega (arith, one)) in
+          let small = bound_small s e.combined hs in
+          kept_moved (bound s e.combined) e.request small hp (λ i l. still_lanes e.request.pe e.request.cell s i hp hs (omega (arith, l, small)) (omega (arith, there, lane))) k.1)
           (each_and (IsEntryAt c s x) (λ (e : Entry). IsKeptAt c m is ks (bound s e.combined) e.request) (lane_at m s x).queue (w.requests s x hs hx) (f.queued s x hs hx))
 
       input_said : (k : ℕ) → k < size c → IfSome (bank_at after k).inp (λ (p : Placed). IsKeptAt c after is ks c.stages p.request)
@@ -237,11 +236,11 @@ module _ (c : Settings) (range : AreInRange c) (m : Machine) (w : IsRouted c m) 
           let now : (bank_at after k).inp ≡ (bank_at m k).inp = rw (bank-reply_phase c m k hk) same in
           some_in (λ (p : Placed). IsPlacedAt c k p × IsKeptAt c m is ks c.stages p.request) (λ (p : Placed). IsKeptAt c after is ks c.stages p.request) (bank_at after k).inp
           (λ p counts h.
-              let hp = h.0.0.reference.element in
-              let t = is_reference p.request.pe p.request.cell in
-              let one = counts (λ (q : Placed). t q.request.pe q.request.cell) (that_is p.request.pe p.request.cell) in
-              let there = total_term (size c) (λ z. bank_on_way t (bank_at after z)) k hk in
-              kept_moved c.stages p.request (omega arith) hp (λ i l. still_banks p.request.pe p.request.cell i hp l (omega (arith, one, there))) h.1)
+          let hp = h.0.0.reference.element in
+          let t = is_reference p.request.pe p.request.cell in
+          let one = counts (λ (q : Placed). t q.request.pe q.request.cell) (that_is p.request.pe p.request.cell) in
+          let there = total_term (size c) (λ z. bank_on_way t (bank_at after z)) k hk in
+          kept_moved c.stages p.request (omega arith) hp (λ i l. still_banks p.request.pe p.request.cell i hp l (omega (arith, one, there))) h.1)
           (subst (λ o. IfSome o (λ (p : Placed). IsPlacedAt c k p × IsKeptAt c m is ks c.stages p.request)) (sym now)
           (some_and (IsPlacedAt c k) (λ (p : Placed). IsKeptAt c m is ks c.stages p.request) (bank_at m k).inp (w.inputs k hk) (f.inputs k hk)))
 
@@ -249,11 +248,11 @@ module _ (c : Settings) (range : AreInRange c) (m : Machine) (w : IsRouted c m) 
       output_said k hk =
           some_in (λ (r : ReplyMessage). IsReplyOf c k r × IsAnswered c m is list c.stages r) (IsAnswered c after is list c.stages) (bank_at after k).out
           (λ r counts h.
-              let hp = h.0.reference.element in
-              let t = is_reference r.pe r.cell in
-              let one = counts (reply_passes t) (that_is r.pe r.cell) in
-              let there = total_term (size c) (λ z. bank_on_way t (bank_at after z)) k hk in
-              answered_moved c.stages r (omega arith) hp (λ i l. still_banks r.pe r.cell i hp l (omega (arith, one, there))) h.1)
+          let hp = h.0.reference.element in
+          let t = is_reference r.pe r.cell in
+          let one = counts (reply_passes t) (that_is r.pe r.cell) in
+          let there = total_term (size c) (λ z. bank_on_way t (bank_at after z)) k hk in
+          answered_moved c.stages r (omega arith) hp (λ i l. still_banks r.pe r.cell i hp l (omega (arith, one, there))) h.1)
           (some_and (IsReplyOf c k) (IsAnswered c m is list c.stages) (bank_at after k).out (routed.outputs k hk)
           (rw (bank-reply_phase c m k hk) (out_kept (IsAnswered c m is list c.stages) (bank_at m k) (arriving_reply c m (last_stage c) k) (f.outputs k hk))))
 
@@ -327,11 +326,11 @@ module _ (c : Settings) (range : AreInRange c) (m : Machine) (w : IsRouted c m) 
       replies_said s v hs hv =
           each_in (λ (r : ReplyMessage). IsReplyAt c s v r × IsAnswered c m is list s r) (IsAnswered c after is list s) (replies_at after s v)
           (λ r counts h.
-              let hp = h.0.reference.element in
-              let t = is_reference r.pe r.cell in
-              let one = counts (reply_passes t) (that_is r.pe r.cell) in
-              let there = total_term (size c) (λ z. replies_on_way t (replies_at after s z)) v hv in
-              answered_moved s r (omega (arith, hs)) hp (λ i l. still_replies r.pe r.cell s i hp hs l (omega (arith, one, there))) h.1)
+          let hp = h.0.reference.element in
+          let t = is_reference r.pe r.cell in
+          let one = counts (reply_passes t) (that_is r.pe r.cell) in
+          let there = total_term (size c) (λ z. replies_on_way t (replies_at after s z)) v hv in
+          answered_moved s r (omega (arith, hs)) hp (λ i l. still_replies r.pe r.cell s i hp hs l (omega (arith, one, there))) h.1)
           (each_and (IsReplyAt c s v) (IsAnswered c m is list s) (replies_at after s v) (routed.replies s v hs hv) (rw (replies-reply_phase c m s v hs hv) (next_said s v hs hv)))
 
       -- records
@@ -339,14 +338,14 @@ module _ (c : Settings) (range : AreInRange c) (m : Machine) (w : IsRouted c m) 
       records_said s x hs hx =
           each_in (λ (u : WaitRecord). IsRecordAt c s x u × IsGiven c m is s u) (IsGiven c after is s) (lane_at after s x).records
           (λ u counts h.
-              let old = h.0.0.reference.element in
-              let new = h.0.1.reference.element in
-              let one = counts (λ (v : WaitRecord). is_reference u.pe u.cell v.pe v.cell) (that_is u.pe u.cell) in
-              let two = counts (record_passes (is_reference u.partner u.cell)) (that_is u.partner u.cell) in
-              let there = total_term (size c) (λ z. lane_on_way (is_reference u.partner u.cell) (lane_at after s z)) x hx in
-              let first = same_tree s u.pe u.cell (omega (arith, hs)) old (λ i l. still_record u.pe u.cell s x i old hs hx l one) in
-              let second = same_tree s u.partner u.cell (omega (arith, hs)) new (λ i l. still_lanes u.partner u.cell s i new hs (omega (arith, l, hs)) (omega (arith, two, there))) in
-              record { old = rw (← first, ← second) h.1.old; new = rw (← first, ← second) h.1.new })
+          let old = h.0.0.reference.element in
+          let new = h.0.1.reference.element in
+          let one = counts (λ (v : WaitRecord). is_reference u.pe u.cell v.pe v.cell) (that_is u.pe u.cell) in
+          let two = counts (record_passes (is_reference u.partner u.cell)) (that_is u.partner u.cell) in
+          let there = total_term (size c) (λ z. lane_on_way (is_reference u.partner u.cell) (lane_at after s z)) x hx in
+          let first = same_tree s u.pe u.cell (omega (arith, hs)) old (λ i l. still_record u.pe u.cell s x i old hs hx l one) in
+          let second = same_tree s u.partner u.cell (omega (arith, hs)) new (λ i l. still_lanes u.partner u.cell s i new hs (omega (arith, l, hs)) (omega (arith, two, there))) in
+          record { old = rw (← first, ← second) h.1.old; new = rw (← first, ← second) h.1.new })
           (each_and (IsRecordAt c s x) (IsGiven c m is s) (lane_at after s x).records (routed.records s x hs hx)
           (rw (lane-reply_phase c m s x hs hx) (each_left (IsGiven c m is s) (lane_at m s x).records (arriving_reply c m s x) (f.records s x hs hx))))
 

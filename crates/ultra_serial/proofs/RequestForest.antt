@@ -1,46 +1,46 @@
 -- the request phase keeps what the messages say: two requests that combine make the pair of their trees
-use Rattle.std.proofs.Common.{◌≡◌, ◌≢◌, ℕ, zero, suc, ◌+◌, ◌-◌, ◌*◌, ◌/◌, ◌%◌, ◌^◌, ◌<◌, ◌≤◌, List, [], ◌∷◌, ◌++◌, Bool, true, false, refl, arith, sym, ◌∙◌, ap, subst, ◌⊎◌, ⊎_elim, inl, inr}
-use Rattle.std.specs.Prelude.{Option, Some, None, IfSome, slice_get, ◌==◌, ◌&&◌, not}
+use Rattle.std.proofs.Common.{◌≡◌, ℕ, suc, ◌+◌, ◌-◌, ◌*◌, ◌/◌, ◌%◌, ◌<◌, ◌≤◌, List, [], ◌∷◌, Bool, true, false, refl, arith, sym, ◌∙◌, ap, subst, ⊎_elim, inl, inr}
+use Rattle.std.specs.Prelude.{Option, Some, None, IfSome, slice_get, ◌==◌}
 use Rattle.std.specs.List.{AllByRecursion}
-use Rattle.std.proofs.lemmas.Bool.{eqb-true, cases_lt}
+use Rattle.std.proofs.lemmas.Bool.{cases_lt}
 use Rattle.std.proofs.lemmas.Bool.Decides.{nat_tests}
 use Rattle.ultra_msg.specs.declared.Request.{Request}
 use Rattle.ultra_msg.specs.declared.ReplyMessage.{ReplyMessage}
 use Rattle.ultra_msg.specs.declared.Event.{Event}
-use Rattle.ultra_msg.specs.declared.Event.TheVariants.{Delivered, Served, Combined, Issued}
+use Rattle.ultra_msg.specs.declared.Event.TheVariants.{Combined}
 use Rattle.ultra_msg.specs.Pair.{pair_of}
 use Rattle.ultra_route.specs.Route.{shuffled, unshuffled}
 use Rattle.ultra_switch.specs.declared.Entry.{Entry}
 use Rattle.ultra_switch.specs.declared.WaitRecord.{WaitRecord}
-use Rattle.ultra_switch.specs.Arrive.{Lane, entry, wait_record, combined_entry}
+use Rattle.ultra_switch.specs.Arrive.{Lane, wait_record, combined_entry}
 use Rattle.ultra_switch.specs.Queues.{request_of}
 use Rattle.ultra_mem.specs.declared.Placed.{Placed}
 use Rattle.ultra_mem.specs.Serve.{Bank}
-use Rattle.ultra_block.specs.Places.{places, table, joined, after_leaving}
-use Rattle.ultra_block.specs.Machine.{Settings, Machine, Element, size, last_stage, lane_at, replies_at, bank_at, element_at, request_exit}
-use Rattle.ultra_block.specs.Phases.{arrive_all, combinations, has_request_room, request_before, admitted, arriving_request, entering, with_request, leaving_request, requests_by, arrivals_by, arrivals, lane_after_leaving, next_lane, without_pending, request_phase}
+use Rattle.ultra_block.specs.Places.{table, joined}
+use Rattle.ultra_block.specs.Machine.{Settings, Machine, size, last_stage, lane_at, replies_at, bank_at, element_at, request_exit}
+use Rattle.ultra_block.specs.Phases.{combinations, has_request_room, request_before, admitted, arriving_request, entering, with_request, leaving_request, requests_by, arrivals, lane_after_leaving, next_lane, request_phase}
 use Rattle.ultra_block.specs.Ranges.{AreInRange}
-use Rattle.ultra_block.specs.Routed.{IsByLine, IsEntryAt, IsRecordAt, IsReplyAt, IsPlacedAt, IsReplyOf, IsOwn, module_of, IsRouted}
-use Rattle.ultra_block.specs.Balance.{weight, count, count_option, total, passes, reply_passes, entry_passes, record_passes, lane_on_way, replies_on_way, bank_on_way, pending_on_way, on_way, IsBalanced}
-use Rattle.ultra_block.proofs.Each.{each-append, each-after_leaving, each-first, each-weaker, if_tested}
+use Rattle.ultra_block.specs.Routed.{IsEntryAt, IsRecordAt, IsReplyAt, IsPlacedAt, IsReplyOf, IsOwn, IsRouted}
+use Rattle.ultra_block.specs.Balance.{count, total, passes, reply_passes, entry_passes, record_passes, lane_on_way, replies_on_way, bank_on_way, pending_on_way, on_way, IsBalanced}
+use Rattle.ultra_block.proofs.Each.{each-append, each-after_leaving, each-first, if_tested}
 use Rattle.ultra_block.proofs.OnRoute.{some-request}
-use Rattle.ultra_block.proofs.Sums.{total_next, total_term, total_plus, total_same, table_same, table_plus, table_term}
+use Rattle.ultra_block.proofs.Sums.{total_next, total_term, table_same, table_plus, table_term}
 use Rattle.ultra_block.proofs.Counting.{is_reference, arrive_all_way}
 use Rattle.ultra_block.proofs.ReplyBalance.{opened_once}
 use Rattle.ultra_block.proofs.Routes.{routed-request_phase, turns_back, two_ports}
 use Rattle.ultra_block.proofs.RequestBalance as requests
 use Rattle.ultra_block.proofs.AtPlaces.{lane-request_phase, bank-request_phase, element-request_phase}
-use Rattle.ultra_serial.specs.Tree.{Tree, pair, Kept, tree_of}
+use Rattle.ultra_serial.specs.Tree.{pair, Kept}
 use Rattle.ultra_serial.specs.Log.{Issue}
 use Rattle.ultra_serial.specs.Legal.{Entry as Done}
 use Rattle.ultra_serial.proofs.Series.{sent}
-use Rattle.ultra_serial.proofs.Tidy.{old_records, is_marked, marked_in, marked_of, lanes_of, pending_of, up_to, IsTidy, that_is, arrive_all_marks, tidy-request_phase}
-use Rattle.ultra_serial.proofs.Forest.{find_record, record_at, position_of, built, built_leaf, built_next, built_clear, grown, same_built, IsSameBelow, found_record, found_partner}
+use Rattle.ultra_serial.proofs.Tidy.{old_records, is_marked, marked_in, lanes_of, IsTidy, that_is, arrive_all_marks, tidy-request_phase}
+use Rattle.ultra_serial.proofs.Forest.{find_record, record_at, position_of, built, built_next, built_clear, grown, same_built, found_record, found_partner}
 use Rattle.ultra_serial.proofs.Standing.{each_in, some_in, total_both, marked_within, marked_lanes, IsBelow, below_lane, below_stage, below_pending, once, clear, position_small}
 use Rattle.ultra_serial.proofs.Explained.{IsIn, IsExplained, bound, IsKept, IsKeptAt, IsAnswered, IsGiven, IsForest}
 use Rattle.ultra_serial.proofs.ReplyForest.{each_and, some_and}
 use Rattle.ultra_serial.proofs.Mentions.{mention, mentions, sum-table, in-table, trees_noted, unmentioned, combined_tree}
-use Rattle.ultra_serial.proofs.LaneForest.{unmarked_in, is_unmarked, marked_unmarked, lane_mentions, same_find, find_unique, in_counts, HasCombined, HadCombined, IsSingle, IsSaid, lane_said, lane_given}
+use Rattle.ultra_serial.proofs.LaneForest.{unmarked_in, is_unmarked, marked_unmarked, lane_mentions, same_find, find_unique, in_counts, HadCombined, IsSaid, lane_said, lane_given}
 
 not_zero : (s : ℕ) → (s == 0) ≡ false → 1 ≤ s
 not_zero s h = grind (arith, nat_tests)
@@ -135,12 +135,13 @@ module _ (c : Settings) (range : AreInRange c) (m : Machine) (w : IsRouted c m) 
     same_tree n p a hn hp h =
         same_built c m after is is a n p record { issue = refl; records = h }
         (λ s q u l e hq.
-            let x = position_of c s q a in
-            let small = position_small c range m b s q a (omega arith) hq in
-            let route = found_record q a (lane_at after s x).records u e (IsRecordAt c s x) (routed.records s x (omega arith) small) in
-            let counts = found_partner q a (lane_at after s x).records u e in
-            (route.1.reference.element,
-            record { issue = refl; records = λ i k. quiet_apart u.partner a s i route.1.reference.element (omega arith) k (lane_there u.partner a s x small (omega (arith, counts))) }))
+        let x = position_of c s q a in
+        let small = position_small c range m b s q a (omega arith) hq in
+        let route = found_record q a (lane_at after s x).records u e (IsRecordAt c s x) (routed.records s x (omega arith) small) in
+        let counts = found_partner q a (lane_at after s x).records u e in (
+          route.1.reference.element,
+          record { issue = refl; records = λ i k. quiet_apart u.partner a s i route.1.reference.element (omega arith) k (lane_there u.partner a s x small (omega (arith, counts))) },
+        ))
         hp
 
     module _ (ks : List Kept) (list : List Done) (f : IsForest c m ks is list) where
@@ -154,9 +155,9 @@ module _ (c : Settings) (range : AreInRange c) (m : Machine) (w : IsRouted c m) 
       pending_raised p n hp hn =
           each_in (λ (r : Request). IsOwn c p r × IsKeptAt c m is ks 0 r) (IsKeptAt c m is ks n) (element_at m p).interface.pending
           (λ r counts h.
-              let one = counts (passes (only r.pe r.cell)) (that_is r.pe r.cell) in
-              let there = total_term (size c) (λ q. pending_on_way (only r.pe r.cell) (element_at m q)) p hp in
-              raised 0 n r (omega arith) hn (rw h.0.0 hp) (below_pending c m (only r.pe r.cell) (omega (arith, one, there))) h.1)
+          let one = counts (passes (only r.pe r.cell)) (that_is r.pe r.cell) in
+          let there = total_term (size c) (λ q. pending_on_way (only r.pe r.cell) (element_at m q)) p hp in
+          raised 0 n r (omega arith) hn (rw h.0.0 hp) (below_pending c m (only r.pe r.cell) (omega (arith, one, there))) h.1)
           (each_and (IsOwn c p) (IsKeptAt c m is ks 0) (element_at m p).interface.pending (w.pending p hp) (f.pending p hp))
 
       queue_raised_by : (s x n : ℕ) (e : Entry) (marked : Bool) → s < c.stages → x < size c → suc s ≤ n → n ≤ c.stages → e.combined ≡ marked → e.request.pe < size c
@@ -307,13 +308,13 @@ module _ (c : Settings) (range : AreInRange c) (m : Machine) (w : IsRouted c m) 
           let one = all_parts (only p a) in
           let two = all_parts (only q a) in
           let made = combined_tree s x a p q (pair_of old.request.op new.op).old_first (built c m is s p a) (built c m is s q a) all_combined ks told_all
-              (omega (arith, one, lanes_once p a hp)) (omega (arith, two, lanes_once q a hq)) old_kept.tree new_here.tree in
+          (omega (arith, one, lanes_once p a hp)) (omega (arith, two, lanes_once q a hq)) old_kept.tree new_here.tree in
           let grows : built c after is (suc s) p a ≡ pair s x (built c m is s p a) (built c m is s q a) (pair_of old.request.op new.op).old_first =
-              built_next c after is s p a
-              ∙ (ap (λ z. grown s (position_of c s p a) (built c after is s p a) (λ v. built c after is s v a) z) at
-              ∙ rw (← old_tree, ← new_tree, route.line, old_kept.op, new_here.op) refl) in
+          built_next c after is s p a
+          ∙ (ap (λ z. grown s (position_of c s p a) (built c after is s p a) (λ v. built c after is s v a) z) at
+          ∙ rw (← old_tree, ← new_tree, route.line, old_kept.op, new_here.op) refl) in
           let sends : sent (pair s x (built c m is s p a) (built c m is s q a) (pair_of old.request.op new.op).old_first) ≡ (pair_of old.request.op new.op).sent =
-              ap (λ o. (pair_of o (sent (built c m is s q a))).sent) old_kept.op ∙ ap (λ o. (pair_of old.request.op o).sent) new_here.op in
+          ap (λ o. (pair_of o (sent (built c m is s q a))).sent) old_kept.op ∙ ap (λ o. (pair_of old.request.op o).sent) new_here.op in
           record { tree = made ∙ ap (λ t. Some t) (sym grows); op = ap (λ t. sent t) grows ∙ sends }
 
       -- each entry of a lane
@@ -334,7 +335,7 @@ module _ (c : Settings) (range : AreInRange c) (m : Machine) (w : IsRouted c m) 
           let record_route = in_holds (IsRecordAt c s x) (wait_record h.old h.new) (next_lane c m s x).records (rw (lane-request_phase c m s x hs hx) at (routed.records s x hs hx)) h.noted in
           let marked : e.combined ≡ true = rw h.entry refl in
           let pair_kept = pair_after s x h.old h.new hs hx (subst (λ v. IsEntryAt c s x v) h.entry route) h.cell h.old_kept h.new_kept h.noted h.told record_route
-              (subst (λ v. 1 ≤ lane_on_way (only v.request.pe v.request.cell) (lane_at after s x)) h.entry lane) in
+          (subst (λ v. 1 ≤ lane_on_way (only v.request.pe v.request.cell) (lane_at after s x)) h.entry lane) in
           by_mark s e true marked (subst (λ v. IsKeptAt c after is trees (suc s) v.request) (sym h.entry) pair_kept)
 
       queued_after : (s x : ℕ) → s < c.stages → x < size c → AllByRecursion (λ (e : Entry). IsKeptAt c after is trees (bound s e.combined) e.request) (next_lane c m s x).queue
@@ -363,10 +364,10 @@ module _ (c : Settings) (range : AreInRange c) (m : Machine) (w : IsRouted c m) 
       pending_after p hp =
           each_in (λ (r : Request). IsOwn c p r × IsKeptAt c m is ks 0 r) (IsKeptAt c after is trees 0) (element_at after p).interface.pending
           (λ r counts h.
-              let small : r.pe < size c = rw h.0.0 hp in
-              let one = counts (passes (only r.pe r.cell)) (that_is r.pe r.cell) in
-              let there = total_term (size c) (λ q. pending_on_way (only r.pe r.cell) (element_at after q)) p hp in
-              kept_outside 0 r (omega arith) small (lanes_empty r.pe r.cell small (omega (arith, one, there))) h.1)
+          let small : r.pe < size c = rw h.0.0 hp in
+          let one = counts (passes (only r.pe r.cell)) (that_is r.pe r.cell) in
+          let there = total_term (size c) (λ q. pending_on_way (only r.pe r.cell) (element_at after q)) p hp in
+          kept_outside 0 r (omega arith) small (lanes_empty r.pe r.cell small (omega (arith, one, there))) h.1)
           (each_and (IsOwn c p) (IsKeptAt c m is ks 0) (element_at after p).interface.pending (routed.pending p hp)
           (rw (element-request_phase c m p hp) (each-after_leaving (IsKeptAt c m is ks 0) (arriving_request c m 0 (shuffled c.stages p)) (element_at m p).interface.pending (f.pending p hp))))
 
@@ -382,11 +383,11 @@ module _ (c : Settings) (range : AreInRange c) (m : Machine) (w : IsRouted c m) 
       input_after k hk =
           some_in (λ (p : Placed). IsPlacedAt c k p × IsKeptAt c m is ks c.stages p.request) (λ (p : Placed). IsKeptAt c after is trees c.stages p.request) (bank_at after k).inp
           (λ p counts h.
-              let hp = h.0.0.reference.element in
-              let t = only p.request.pe p.request.cell in
-              let one = counts (λ (q : Placed). t q.request.pe q.request.cell) (that_is p.request.pe p.request.cell) in
-              let there = total_term (size c) (λ z. bank_on_way t (bank_at after z)) k hk in
-              kept_outside c.stages p.request (omega arith) hp (lanes_empty p.request.pe p.request.cell hp (omega (arith, one, there))) h.1)
+          let hp = h.0.0.reference.element in
+          let t = only p.request.pe p.request.cell in
+          let one = counts (λ (q : Placed). t q.request.pe q.request.cell) (that_is p.request.pe p.request.cell) in
+          let there = total_term (size c) (λ z. bank_on_way t (bank_at after z)) k hk in
+          kept_outside c.stages p.request (omega arith) hp (lanes_empty p.request.pe p.request.cell hp (omega (arith, one, there))) h.1)
           (some_and (IsPlacedAt c k) (λ (p : Placed). IsKeptAt c m is ks c.stages p.request) (bank_at after k).inp (routed.inputs k hk)
           (rw (bank-request_phase c m k hk) (input_with k (bank_at m k) (entering c m k) (f.inputs k hk) (entering_kept k hk))))
 
@@ -394,11 +395,11 @@ module _ (c : Settings) (range : AreInRange c) (m : Machine) (w : IsRouted c m) 
       output_after k hk =
           some_in (λ (r : ReplyMessage). IsReplyOf c k r × IsAnswered c m is list c.stages r) (IsAnswered c after is list c.stages) (bank_at after k).out
           (λ r counts h.
-              let hp = h.0.reference.element in
-              let t = only r.pe r.cell in
-              let one = counts (reply_passes t) (that_is r.pe r.cell) in
-              let there = total_term (size c) (λ z. bank_on_way t (bank_at after z)) k hk in
-              answered_outside c.stages r (omega arith) hp (lanes_empty r.pe r.cell hp (omega (arith, one, there))) h.1)
+          let hp = h.0.reference.element in
+          let t = only r.pe r.cell in
+          let one = counts (reply_passes t) (that_is r.pe r.cell) in
+          let there = total_term (size c) (λ z. bank_on_way t (bank_at after z)) k hk in
+          answered_outside c.stages r (omega arith) hp (lanes_empty r.pe r.cell hp (omega (arith, one, there))) h.1)
           (some_and (IsReplyOf c k) (IsAnswered c m is list c.stages) (bank_at after k).out (routed.outputs k hk)
           (rw (bank-request_phase c m k hk) (output_with k (bank_at m k) (entering c m k) (f.outputs k hk))))
 
@@ -410,11 +411,11 @@ module _ (c : Settings) (range : AreInRange c) (m : Machine) (w : IsRouted c m) 
       replies_after s v hs hv =
           each_in (λ (r : ReplyMessage). IsReplyAt c s v r × IsAnswered c m is list s r) (IsAnswered c after is list s) (replies_at after s v)
           (λ r counts h.
-              let hp = h.0.reference.element in
-              let t = only r.pe r.cell in
-              let one = counts (reply_passes t) (that_is r.pe r.cell) in
-              let there = table_term c.stages (size c) (λ i z. replies_on_way t (replies_at after i z)) s v hs hv in
-              answered_outside s r (omega (arith, hs)) hp (lanes_empty r.pe r.cell hp (omega (arith, one, there))) h.1)
+          let hp = h.0.reference.element in
+          let t = only r.pe r.cell in
+          let one = counts (reply_passes t) (that_is r.pe r.cell) in
+          let there = table_term c.stages (size c) (λ i z. replies_on_way t (replies_at after i z)) s v hs hv in
+          answered_outside s r (omega (arith, hs)) hp (lanes_empty r.pe r.cell hp (omega (arith, one, there))) h.1)
           (each_and (IsReplyAt c s v) (IsAnswered c m is list s) (replies_at after s v) (routed.replies s v hs hv) (rw (same_replies s v) (f.replies s v hs hv)))
 
       -- ---- records
@@ -430,13 +431,13 @@ module _ (c : Settings) (range : AreInRange c) (m : Machine) (w : IsRouted c m) 
       records_after s x hs hx =
           each_in (λ (u : WaitRecord). IsRecordAt c s x u × IsGiven c m is s u) (IsGiven c after is s) (lane_at after s x).records
           (λ u counts h.
-              let old = h.0.0.reference.element in
-              let new = h.0.1.reference.element in
-              let one = counts (λ (v : WaitRecord). is_reference u.pe u.cell v.pe v.cell) (that_is u.pe u.cell) in
-              let two = counts (record_passes (only u.partner u.cell)) (that_is u.partner u.cell) in
-              let first = same_tree s u.pe u.cell (omega (arith, hs)) old (λ i l. old_apart u.pe u.cell s x i old hs hx l one) in
-              let second = same_tree s u.partner u.cell (omega (arith, hs)) new (λ i l. quiet_apart u.partner u.cell s i new hs l (lane_there u.partner u.cell s x hx (omega (arith, two)))) in
-              record { old = rw (← first, ← second) h.1.old; new = rw (← first, ← second) h.1.new })
+          let old = h.0.0.reference.element in
+          let new = h.0.1.reference.element in
+          let one = counts (λ (v : WaitRecord). is_reference u.pe u.cell v.pe v.cell) (that_is u.pe u.cell) in
+          let two = counts (record_passes (only u.partner u.cell)) (that_is u.partner u.cell) in
+          let first = same_tree s u.pe u.cell (omega (arith, hs)) old (λ i l. old_apart u.pe u.cell s x i old hs hx l one) in
+          let second = same_tree s u.partner u.cell (omega (arith, hs)) new (λ i l. quiet_apart u.partner u.cell s i new hs l (lane_there u.partner u.cell s x hx (omega (arith, two)))) in
+          record { old = rw (← first, ← second) h.1.old; new = rw (← first, ← second) h.1.new })
           (each_and (IsRecordAt c s x) (IsGiven c m is s) (lane_at after s x).records (routed.records s x hs hx) (rw (lane-request_phase c m s x hs hx) (given s x hs hx)))
 
       pub forest-request_phase : IsForest c after trees is list

@@ -1,15 +1,12 @@
 -- worked orders: what the requests of small runs did, one after the other
-use Rattle.std.specs.Prelude.{◌≡◌, ℕ, List, [], ◌∷◌, refl}
+use Rattle.std.specs.Prelude.{◌≡◌, ℕ, [], ◌∷◌, refl}
 use Rattle.ultra_msg.specs.declared.Op.{Op}
 use Rattle.ultra_msg.specs.declared.Op.TheVariants.{Load, Store, Faa}
 use Rattle.ultra_msg.specs.declared.Reply.{Reply}
 use Rattle.ultra_msg.specs.declared.Reply.TheVariants.{Value, Ack}
-use Rattle.ultra_isa.specs.declared.Instr.{Instr}
-use Rattle.ultra_isa.specs.declared.Instr.TheVariants as instr
 use Rattle.ultra_block.specs.Places.{places}
-use Rattle.ultra_block.specs.Machine.{Settings, start}
+use Rattle.ultra_block.specs.Machine.{start}
 use Rattle.ultra_block.specs.Phases.{after, cycle, reply_phase, memory_phase, request_phase, processor_phase, arriving_reply, arriving_request}
-use Rattle.ultra_block.proofs.Runs.{settings}
 use Rattle.ultra_block.proofs.Pairs.{one_stage, add_one, five_at_first, load_and_store, add_and_store, store_and_add}
 use Rattle.ultra_block.proofs.Levels.{two_stages, add_number}
 use Rattle.ultra_serial.specs.Legal.{Entry}

@@ -1,18 +1,17 @@
 -- where a message stands there is no record of its reference from there on, and no other message of it anywhere
-use Rattle.std.proofs.Common.{◌≡◌, ◌≢◌, ℕ, zero, suc, ◌+◌, ◌-◌, ◌*◌, ◌^◌, ◌<◌, ◌≤◌, List, [], ◌∷◌, ◌++◌, Bool, true, false, refl, arith, sym, ◌∙◌, ap, subst, ◌⊎◌, ⊎_elim, inl, inr}
-use Rattle.std.specs.Prelude.{Option, Some, None, IfSome, slice_get, ◌==◌, ◌&&◌}
+use Rattle.std.proofs.Common.{◌≡◌, ◌≢◌, ℕ, zero, suc, ◌+◌, ◌<◌, ◌≤◌, List, [], ◌∷◌, Bool, true, arith, ap, ⊎_elim}
+use Rattle.std.specs.Prelude.{Option, Some, None, IfSome}
 use Rattle.std.specs.List.{AllByRecursion}
-use Rattle.std.proofs.lemmas.Bool.{eqb-true, cases_lt, cases_eq}
+use Rattle.std.proofs.lemmas.Bool.{cases_lt}
 use Rattle.ultra_switch.specs.declared.Entry.{Entry}
-use Rattle.ultra_switch.specs.declared.WaitRecord.{WaitRecord}
-use Rattle.ultra_block.specs.Machine.{Settings, Machine, size, lane_at, replies_at, bank_at, element_at}
+use Rattle.ultra_block.specs.Machine.{Settings, Machine, size, lane_at}
 use Rattle.ultra_block.specs.Ranges.{AreInRange}
-use Rattle.ultra_block.specs.Balance.{weight, count, count_option, total, passes, reply_passes, entry_passes, record_passes, lane_on_way, replies_on_way, bank_on_way, pending_on_way, opened_by, on_way, all_opened, IsBalanced}
-use Rattle.ultra_block.proofs.Sums.{total_none, total_next, total_term, table_term}
+use Rattle.ultra_block.specs.Balance.{count, count_option, total, entry_passes, lane_on_way, on_way, IsBalanced}
+use Rattle.ultra_block.proofs.Sums.{total_next, total_term}
 use Rattle.ultra_block.proofs.Counting.{is_reference}
 use Rattle.ultra_block.proofs.ReplyBalance.{opened_once}
 use Rattle.ultra_block.proofs.Routes.{route}
-use Rattle.ultra_serial.proofs.Tidy.{old_records, is_marked, marked_in, lanes_of, replies_of, marked_of, pending_of, up_to, IsTidy, total_longer, total_gain, total_most, marked_weight}
+use Rattle.ultra_serial.proofs.Tidy.{marked_in, lanes_of, replies_of, marked_of, pending_of, up_to, IsTidy, total_gain, total_most, marked_weight}
 use Rattle.ultra_serial.proofs.Forest.{record_at, position_of, find_none}
 
 -- ---- what stands in a list counts
@@ -32,11 +31,11 @@ pub total_both : (n : ℕ) (f : ℕ → ℕ) (j k : ℕ) → j < n → k < n →
 total_both zero f j k hj hk apart = absurd (omega (arith, hj))
 total_both (suc n) f j k hj hk apart =
     ⊎_elim (λ l. ⊎_elim (λ i. let rest = total_both n f j k l i apart in omega (arith, total_next n f))
-        (λ i. let same : f k ≡ f n = ap f (omega (arith, hk, i)) in
-        let rest = total_term n f j l in omega (arith, total_next n f)) (cases_lt k n))
+    (λ i. let same : f k ≡ f n = ap f (omega (arith, hk, i)) in
+    let rest = total_term n f j l in omega (arith, total_next n f)) (cases_lt k n))
     (λ l. let here : f j ≡ f n = ap f (omega (arith, hj, l)) in
-        let less : k < n = omega (arith, hj, hk, l, apart) in
-        let rest = total_term n f k less in omega (arith, total_next n f)) (cases_lt j n)
+    let less : k < n = omega (arith, hj, hk, l, apart) in
+    let rest = total_term n f k less in omega (arith, total_next n f)) (cases_lt j n)
 
 pub marked_within : (t : ℕ → ℕ → Bool) (es : List Entry) → marked_in t es ≤ count (entry_passes t) es
 marked_within t [] = omega arith

@@ -1,8 +1,8 @@
 -- the records of a reference stand below the place of its message: at most one at a stage, and none where the message still has to come, or has been on its way back
-use Rattle.std.proofs.Common.{◌≡◌, ◌≢◌, ℕ, zero, suc, ◌+◌, ◌-◌, ◌*◌, ◌^◌, ◌<◌, ◌≤◌, List, [], ◌∷◌, ◌++◌, Bool, true, false, refl, arith, sym, ◌∙◌, ap, subst, ◌⊎◌, ⊎_elim, inl, inr, length}
+use Rattle.std.proofs.Common.{◌≡◌, ℕ, zero, suc, ◌+◌, ◌-◌, ◌<◌, ◌≤◌, List, [], ◌∷◌, Bool, true, false, refl, arith, sym, ◌∙◌, ap, subst, ◌⊎◌, ⊎_elim, inl, inr, length}
 use Rattle.std.specs.Prelude.{Option, Some, None, IfSome, slice_get, ◌==◌, ◌&&◌, not, nat_lt}
 use Rattle.std.specs.List.{AllByRecursion}
-use Rattle.std.proofs.lemmas.Bool.{eqb-true, cases_lt, cases_eq}
+use Rattle.std.proofs.lemmas.Bool.{eqb-true, cases_lt}
 use Rattle.ultra_msg.specs.declared.Request.{Request}
 use Rattle.ultra_msg.specs.declared.ReplyMessage.{ReplyMessage}
 use Rattle.ultra_route.specs.Route.{line_of}
@@ -13,17 +13,17 @@ use Rattle.ultra_switch.specs.Split.{is_of, records_after}
 use Rattle.ultra_switch.specs.Queues.{request_of}
 use Rattle.ultra_isa.specs.declared.Instr.{Instr}
 use Rattle.ultra_block.specs.Places.{after_leaving}
-use Rattle.ultra_block.specs.Machine.{Settings, Machine, size, last_stage, lane_at, replies_at, bank_at, element_at, start}
-use Rattle.ultra_block.specs.Phases.{records_left, arrive_all, arriving_reply, leaving_reply, delivered, lane_after_split, reply_phase, memory_phase, request_phase, processor_phase, arriving_request, leaving_request, lane_after_leaving, arrivals, next_lane}
+use Rattle.ultra_block.specs.Machine.{Settings, Machine, size, lane_at, replies_at, element_at, start}
+use Rattle.ultra_block.specs.Phases.{records_left, arrive_all, arriving_reply, delivered, reply_phase, memory_phase, request_phase, processor_phase, leaving_request, lane_after_leaving, arrivals, next_lane}
 use Rattle.ultra_block.specs.Ranges.{AreInRange}
 use Rattle.ultra_block.specs.Routed.{IsByLine, IsRecordAt, module_of, IsRouted}
-use Rattle.ultra_block.specs.Balance.{weight, count, count_option, total, passes, reply_passes, entry_passes, lane_on_way, replies_on_way, bank_on_way, pending_on_way, opened_by, on_way, all_opened, IsBalanced}
-use Rattle.ultra_block.proofs.Each.{if_tested, each-weaker}
-use Rattle.ultra_block.proofs.Sums.{total_none, total_next, total_front, total_same, total_plus, total_zero, total_only, total_term, total_halves}
+use Rattle.ultra_block.specs.Balance.{weight, count, count_option, total, passes, reply_passes, lane_on_way, replies_on_way, pending_on_way, on_way, all_opened, IsBalanced}
+use Rattle.ultra_block.proofs.Each.{if_tested}
+use Rattle.ultra_block.proofs.Sums.{total_none, total_next, total_same, total_plus, total_only, total_halves}
 use Rattle.ultra_block.proofs.Counting.{both_true, is_reference, count-append}
-use Rattle.ultra_block.proofs.Neighbours.{itself, other}
+use Rattle.ultra_block.proofs.Neighbours.{itself}
 use Rattle.ultra_block.proofs.Routes.{arriving_reply_well}
-use Rattle.ultra_block.proofs.AtPlaces.{lane-start, element-start, lane-reply_phase, lane-request_phase}
+use Rattle.ultra_block.proofs.AtPlaces.{lane-start, lane-reply_phase, lane-request_phase}
 use Rattle.ultra_block.proofs.ReplyBalance as replies
 use Rattle.ultra_block.proofs.RequestBalance as requests
 use Rattle.ultra_block.proofs.Balanced as balanced
@@ -66,15 +66,15 @@ pub total_gain : (n : ℕ) (f g : ℕ → ℕ) (k : ℕ) → k < n → ((j : ℕ
 total_gain zero f g k h grows = absurd (omega (arith, h))
 total_gain (suc n) f g k h grows =
     ⊎_elim (λ l.
-        let rest = total_gain n f g k l (λ j a. grows j (omega arith)) in
-        let last = grows n (omega arith) in
-        omega (arith, total_next n f, total_next n g))
+    let rest = total_gain n f g k l (λ j a. grows j (omega arith)) in
+    let last = grows n (omega arith) in
+    omega (arith, total_next n f, total_next n g))
     (λ l.
-        let same : k ≡ n = omega (arith, h, l) in
-        let here : f k ≡ f n = ap f same in
-        let there : g k ≡ g n = ap g same in
-        let rest = total_most n f g (λ j a. grows j (omega arith)) in
-        omega (arith, total_next n f, total_next n g)) (cases_lt k n)
+    let same : k ≡ n = omega (arith, h, l) in
+    let here : f k ≡ f n = ap f same in
+    let there : g k ≡ g n = ap g same in
+    let rest = total_most n f g (λ j a. grows j (omega arith)) in
+    omega (arith, total_next n f, total_next n g)) (cases_lt k n)
 
 -- ---- counts
 -- the records whose old reference passes a test, and the marked entries
@@ -189,8 +189,19 @@ module _ (c : Settings) (range : AreInRange c) (m : Machine) where
     rows_up_to zero h =
         let one = lanes_row 0 h in
         let two = replies_row 0 h in
-        omega (arith, one, two, total_next 0 (λ i. lanes_of t c (reply_phase c m) i), total_next 0 (λ i. replies_of t c (reply_phase c m) i), total_next 0 (λ i. lanes_of t c m i), total_next 0 (λ i. replies_of t c m i),
-            total_none (λ i. lanes_of t c (reply_phase c m) i), total_none (λ i. replies_of t c (reply_phase c m) i), total_none (λ i. lanes_of t c m i), total_none (λ i. replies_of t c m i))
+        omega (
+          arith,
+          one,
+          two,
+          total_next 0 (λ i. lanes_of t c (reply_phase c m) i),
+          total_next 0 (λ i. replies_of t c (reply_phase c m) i),
+          total_next 0 (λ i. lanes_of t c m i),
+          total_next 0 (λ i. replies_of t c m i),
+          total_none (λ i. lanes_of t c (reply_phase c m) i),
+          total_none (λ i. replies_of t c (reply_phase c m) i),
+          total_none (λ i. lanes_of t c m i),
+          total_none (λ i. replies_of t c m i),
+        )
     rows_up_to (suc s) h =
         let rest = rows_up_to s (omega arith) in
         let one = lanes_row (suc s) h in
@@ -354,7 +365,7 @@ module _ (c : Settings) (range : AreInRange c) (m : Machine) where
     marks_leave s h =
         let sum = total_plus (size c) (λ x. marked_in t (lane_after_leaving c m s x).queue) (λ x. requests.leaving c range m t s x) in
         let each = total_most (size c) (λ x. marked_in t (lane_after_leaving c m s x).queue + requests.leaving c range m t s x) (λ x. marked_in t (lane_at m s x).queue)
-            (λ x l. marked_leaving t (leaving_request c m s x) (lane_at m s x).queue (requests.leaving_head c range m s x h l)) in
+        (λ x l. marked_leaving t (leaving_request c m s x) (lane_at m s x).queue (requests.leaving_head c range m s x h l)) in
         omega (arith, sum, each)
 
     marks_come : (s x : ℕ) → s < c.stages → x < size c → marked_left s + marked_in t (next_lane c m s x).queue ≤ marked_of t c (request_phase c m) s + marked_in t (lane_after_leaving c m s x).queue
@@ -367,12 +378,14 @@ module _ (c : Settings) (range : AreInRange c) (m : Machine) where
     opened_requested = requests.all_opened_as_before c range m t
 
   pub tidy-request_phase : IsTidy c m → IsTidy c (request_phase c m)
-  tidy-request_phase y = record { beyond = λ p a s x hs hx.
-      let t = is_reference p a in
-      let was = y.beyond p a s x hs hx in
-      let marks = arrive_all_marks t c.wait_places (lane_after_leaving c m s x) (arrivals c m s x) in
-      let now : old_records t (lane_at (request_phase c m) s x).records ≡ old_records t (next_lane c m s x).records = rw (lane-request_phase c m s x hs hx) refl in
-      omega (arith, was, marks, now, up_to_requested t s hs, marks_leave t s hs, marks_come t s x hs hx, opened_requested t) }
+  tidy-request_phase y = record {
+    beyond = λ p a s x hs hx.
+        let t = is_reference p a in
+        let was = y.beyond p a s x hs hx in
+        let marks = arrive_all_marks t c.wait_places (lane_after_leaving c m s x) (arrivals c m s x) in
+        let now : old_records t (lane_at (request_phase c m) s x).records ≡ old_records t (next_lane c m s x).records = rw (lane-request_phase c m s x hs hx) refl in
+        omega (arith, was, marks, now, up_to_requested t s hs, marks_leave t s hs, marks_come t s x hs hx, opened_requested t);
+  }
 
 -- ---- the other phases
 module _ (c : Settings) where
@@ -389,8 +402,10 @@ module _ (c : Settings) where
   tidy-processor_phase program m y = record { beyond = λ p a s x hs hx. processed program m y p a s x hs hx }
 
   pub tidy-start : IsTidy c (start c)
-  tidy-start = record { beyond = λ p a s x hs hx.
-      let t = is_reference p a in
-      let none : old_records t (lane_at (start c) s x).records ≡ 0 = rw (lane-start c s x hs hx) refl in
-      let all = up_to_all t c (start c) s hs in
-      omega (arith, none, all, (balanced.balanced-start c).balanced t) }
+  tidy-start = record {
+    beyond = λ p a s x hs hx.
+        let t = is_reference p a in
+        let none : old_records t (lane_at (start c) s x).records ≡ 0 = rw (lane-start c s x hs hx) refl in
+        let all = up_to_all t c (start c) s hs in
+        omega (arith, none, all, (balanced.balanced-start c).balanced t);
+  }

@@ -13,5 +13,4 @@ ghost use Rattle.ultra_serial.specs.Chain.{SerializationLaw};
 /// itself does nothing.
 pub fn serialization_law()
     ensures chained { SerializationLaw }
-{
-}
+{}
