@@ -20,7 +20,7 @@ both_false true b h = cc
 both_false false b h = (refl, h)
 
 -- what isn't open counts nothing
-none_open : (a : ℕ) (os : List OpenCell) → is_open a os ≡ false → count (λ (o : OpenCell). o.cell == a) os ≡ 0
+pub none_open : (a : ℕ) (os : List OpenCell) → is_open a os ≡ false → count (λ (o : OpenCell). o.cell == a) os ≡ 0
 none_open a [] e = refl
 none_open a (o ∷ os) e =
     let parts = both_false (o.cell == a) (is_open a os) e in
@@ -88,17 +88,17 @@ module _ (c : Settings) where
 
   -- ---- processors
   module _ (program : List Instr) (m : Machine) where
-    sends : (p : ℕ) → SendsInto (site c p) c.most_open (element_at m p).interface (step_at c program m p).interface (step_at c program m p).sent
+    pub sends : (p : ℕ) → SendsInto (site c p) c.most_open (element_at m p).interface (step_at c program m p).interface (step_at c program m p).sent
     sends p = (step_is (site c p) c.most_open (element_at m p).interface program (element_at m p).core).into
 
     -- as many messages more as open cells
-    element_step : (t : ℕ → ℕ → Bool) (p : ℕ) → p < size c
+    pub element_step : (t : ℕ → ℕ → Bool) (p : ℕ) → p < size c
         → pending_on_way t (element_at (processor_phase c program m) p) + opened_by t p (element_at m p) ≡ pending_on_way t (element_at m p) + opened_by t p (element_at (processor_phase c program m) p)
     element_step t p h =
         rw (element-processor_phase c program m p h)
         (sends_balanced t (site c p) c.most_open (element_at m p).interface (step_at c program m p).interface (step_at c program m p).sent (sends p))
 
-    all_elements : (t : ℕ → ℕ → Bool) → total (size c) (λ p. pending_on_way t (element_at (processor_phase c program m) p)) + all_opened t c m
+    pub all_elements : (t : ℕ → ℕ → Bool) → total (size c) (λ p. pending_on_way t (element_at (processor_phase c program m) p)) + all_opened t c m
         ≡ total (size c) (λ p. pending_on_way t (element_at m p)) + all_opened t c (processor_phase c program m)
     all_elements t =
         let after = total_plus (size c) (λ p. pending_on_way t (element_at (processor_phase c program m) p)) (λ p. opened_by t p (element_at m p)) in

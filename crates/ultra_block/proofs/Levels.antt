@@ -11,11 +11,11 @@ use Rattle.ultra_block.specs.Machine.{Settings, start}
 use Rattle.ultra_block.specs.Phases.{after, cycle, reply_phase, memory_phase, request_phase, processor_phase, arriving_reply, arriving_request}
 use Rattle.ultra_block.proofs.Runs.{settings, request, message, single, marked, kept, got, act, meeting, issue, queued, waiting, entering, leaving, replying, holdings, stand, summary}
 
-abbrev two_stages : Settings
+abbrev pub two_stages : Settings
 two_stages = settings 2 4 8 4 2 []
 
 -- processing element p adds p + 1 to cell 0
-abbrev add_number : List Instr
+abbrev pub add_number : List Instr
 add_number = instr.Number 2 ∷ instr.AddWord 2 2 1 ∷ instr.Faa 3 0 2 ∷ instr.Halt ∷ []
 
 two_level_tree_after_4 : holdings (after two_stages add_number 5) ≡

@@ -11,11 +11,11 @@ use Rattle.ultra_block.specs.Machine.{Settings, start}
 use Rattle.ultra_block.specs.Phases.{after, cycle, reply_phase, memory_phase, request_phase, processor_phase, arriving_reply, arriving_request}
 use Rattle.ultra_block.proofs.Runs.{settings, request, message, single, marked, kept, got, act, meeting, issue, pending, queued, waiting, entering, leaving, replying, holdings, stand, summary}
 
-abbrev one_stage : Settings
+abbrev pub one_stage : Settings
 one_stage = settings 1 4 8 4 2 []
 
 -- each adds 1 to cell 0
-abbrev add_one : List Instr
+abbrev pub add_one : List Instr
 add_one = instr.Set 1 0 ∷ instr.Set 2 1 ∷ instr.Faa 3 1 2 ∷ instr.Halt ∷ []
 
 combined_pair_after_0 : holdings (after one_stage add_one 1) ≡
@@ -120,11 +120,11 @@ unfolding after start cycle reply_phase memory_phase request_phase processor_pha
 uncombined_pair = refl
 
 -- cell 0 holds 5 at first
-abbrev five_at_first : Settings
+abbrev pub five_at_first : Settings
 five_at_first = settings 1 4 8 4 2 ((0, 5) ∷ [])
 
 -- processing element 0 loads cell 0, and 1 stores 7 into it
-abbrev load_and_store : List Instr
+abbrev pub load_and_store : List Instr
 load_and_store = instr.Set 2 7 ∷ instr.Number 1 ∷ instr.JumpIfNotZero 1 5 ∷ instr.Load 3 0 ∷ instr.Halt ∷ instr.Store 0 2 ∷ instr.Halt ∷ []
 
 load_then_store_after_4 : holdings (after five_at_first load_and_store 5) ≡
@@ -147,7 +147,7 @@ unfolding after start cycle reply_phase memory_phase request_phase processor_pha
 load_then_store = refl
 
 -- processing element 0 adds 3 to cell 0, and 1 stores 10 into it
-abbrev add_and_store : List Instr
+abbrev pub add_and_store : List Instr
 add_and_store = instr.Set 2 3 ∷ instr.Set 4 10 ∷ instr.Number 1 ∷ instr.JumpIfNotZero 1 6 ∷ instr.Faa 3 0 2 ∷ instr.Halt ∷ instr.Store 0 4 ∷ instr.Halt ∷ []
 
 store_then_faa_after_5 : holdings (after one_stage add_and_store 6) ≡
@@ -170,7 +170,7 @@ unfolding after start cycle reply_phase memory_phase request_phase processor_pha
 store_then_faa = refl
 
 -- processing element 0 stores 10 into cell 0, and 1 adds 3 to it
-abbrev store_and_add : List Instr
+abbrev pub store_and_add : List Instr
 store_and_add = instr.Set 2 3 ∷ instr.Set 4 10 ∷ instr.Number 1 ∷ instr.JumpIfNotZero 1 6 ∷ instr.Store 0 4 ∷ instr.Halt ∷ instr.Faa 3 0 2 ∷ instr.Halt ∷ []
 
 faa_then_store_after_5 : holdings (after one_stage store_and_add 6) ≡

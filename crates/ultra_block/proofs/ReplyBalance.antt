@@ -45,30 +45,30 @@ module _ (c : Settings) (range : AreInRange c) (m : Machine) where
   either_or_none true x y e = inl e
   either_or_none false x y e = inr refl
 
-  before_at_last : (s k : ℕ) → s ≡ last_stage c → reply_before c m s k ≡ (bank_at m k).out
+  pub before_at_last : (s k : ℕ) → s ≡ last_stage c → reply_before c m s k ≡ (bank_at m k).out
   before_at_last s k e =
       let f : Bool → Option ReplyMessage = λ b. elim b [ true ↦ (bank_at m k).out | false ↦ slice_get (replies_at m (s + 1) (shuffled c.stages k)) 0 ] in
       let here : (s == last_stage c) ≡ true = rw e (itself (last_stage c)) in
       ap f here
 
-  before_below : (s x : ℕ) → s < last_stage c → reply_before c m s x ≡ slice_get (replies_at m (s + 1) (shuffled c.stages x)) 0
+  pub before_below : (s x : ℕ) → s < last_stage c → reply_before c m s x ≡ slice_get (replies_at m (s + 1) (shuffled c.stages x)) 0
   before_below s x h =
       let f : Bool → Option ReplyMessage = λ b. elim b [ true ↦ (bank_at m x).out | false ↦ slice_get (replies_at m (s + 1) (shuffled c.stages x)) 0 ] in
       ap f (other s (last_stage c) (omega arith))
 
-  arriving_from : (s x : ℕ) (o : Option ReplyMessage) → reply_before c m s x ≡ o → (arriving_reply c m s x ≡ o) ⊎ (arriving_reply c m s x ≡ None)
+  pub arriving_from : (s x : ℕ) (o : Option ReplyMessage) → reply_before c m s x ≡ o → (arriving_reply c m s x ≡ o) ⊎ (arriving_reply c m s x ≡ None)
   unfolding arriving_reply
   arriving_from s x o e = either_or_none (has_reply_room c m s (x / 2)) (reply_before c m s x) o e
 
   -- what leaves a stage but the first comes to the stage before
-  leaving_next : (s y : ℕ) → leaving_reply c m (s + 1) y ≡ arriving_reply c m s (unshuffled c.stages y)
+  pub leaving_next : (s y : ℕ) → leaving_reply c m (s + 1) y ≡ arriving_reply c m s (unshuffled c.stages y)
   leaving_next s y =
       let f : Bool → Option ReplyMessage = λ b. elim b [ true ↦ slice_get (replies_at m (s + 1) y) 0 | false ↦ arriving_reply c m (s + 1 - 1) (unshuffled c.stages y) ] in
       let less : s + 1 - 1 ≡ s = omega arith in
       ap f (next_is s) ∙ ap (λ n. arriving_reply c m n (unshuffled c.stages y)) less
 
   -- what leaves a queue is its head or nothing
-  leaving_head : (s y : ℕ) → s < c.stages → y < size c → (leaving_reply c m s y ≡ slice_get (replies_at m s y) 0) ⊎ (leaving_reply c m s y ≡ None)
+  pub leaving_head : (s y : ℕ) → s < c.stages → y < size c → (leaving_reply c m s y ≡ slice_get (replies_at m s y) 0) ⊎ (leaving_reply c m s y ≡ None)
   leaving_head zero y hs hy = inl refl
   leaving_head (suc s) y hs hy =
       let next : suc s ≡ s + 1 = omega arith in
@@ -78,28 +78,28 @@ module _ (c : Settings) (range : AreInRange c) (m : Machine) where
       (rw (leaving_next s y) (arriving_from s x (slice_get (replies_at m (s + 1) y) 0) same))
 
   module _ (t : ℕ → ℕ → Bool) where
-    abbrev arriving : ℕ → ℕ → ℕ
+    abbrev pub arriving : ℕ → ℕ → ℕ
     arriving s x = count_option (reply_passes t) (arriving_reply c m s x)
 
-    abbrev leaving : ℕ → ℕ → ℕ
+    abbrev pub leaving : ℕ → ℕ → ℕ
     leaving s y = count_option (reply_passes t) (leaving_reply c m s y)
 
-    abbrev made : ℕ → ℕ → ℕ
+    abbrev pub made : ℕ → ℕ → ℕ
     made s x = replies_on_way t (replies_made (lane_at m s x).records (arriving_reply c m s x))
 
-    abbrev exits : ℕ → ℕ → ℕ → ℕ
+    abbrev pub exits : ℕ → ℕ → ℕ → ℕ
     exits s x y = replies_on_way t (replies_at_exit c m s x y)
 
-    abbrev exits_at : ℕ → ℕ → ℕ
+    abbrev pub exits_at : ℕ → ℕ → ℕ
     exits_at s y = exits s (2 * (y / 2)) y + exits s (2 * (y / 2) + 1) y
 
     -- ---- one place
-    lane_step : (s x : ℕ) → s < c.stages → x < size c → lane_on_way t (lane_at (reply_phase c m) s x) + made s x ≡ lane_on_way t (lane_at m s x) + arriving s x
+    pub lane_step : (s x : ℕ) → s < c.stages → x < size c → lane_on_way t (lane_at (reply_phase c m) s x) + made s x ≡ lane_on_way t (lane_at m s x) + arriving s x
     lane_step s x hs hx =
         let split = made_way t (lane_at m s x).records (arriving_reply c m s x) in
         rw (lane-reply_phase c m s x hs hx) (omega (arith, split))
 
-    queue_step : (s y : ℕ) → s < c.stages → y < size c → replies_on_way t (replies_at (reply_phase c m) s y) + leaving s y ≡ replies_on_way t (replies_at m s y) + exits_at s y
+    pub queue_step : (s y : ℕ) → s < c.stages → y < size c → replies_on_way t (replies_at (reply_phase c m) s y) + leaving s y ≡ replies_on_way t (replies_at m s y) + exits_at s y
     queue_step s y hs hy =
         let left = count-leaving (reply_passes t) (leaving_reply c m s y) (replies_at m s y) (leaving_head s y hs hy) in
         let rest = after_leaving (leaving_reply c m s y) (replies_at m s y) in
@@ -110,13 +110,13 @@ module _ (c : Settings) (range : AreInRange c) (m : Machine) where
         rw (replies-reply_phase c m s y hs hy) (omega (arith, left, outer, inner))
 
     -- the replies that come of a position go by its two neighbours
-    two_exits : (s x k : ℕ) → x / 2 ≡ k → made s x ≡ exits s x (2 * k) + exits s x (2 * k + 1)
+    pub two_exits : (s x k : ℕ) → x / 2 ≡ k → made s x ≡ exits s x (2 * k) + exits s x (2 * k + 1)
     two_exits s x k e =
         sym (count-filters (reply_passes t) (λ r. reply_exit c s x r == 2 * k) (λ r. reply_exit c s x r == 2 * k + 1) (replies_made (lane_at m s x).records (arriving_reply c m s x))
         (λ r. one_neighbour k (bit_of (last_stage c - s) r.pe) (reply_exit c s x r) (omega arith) (rw e refl)))
 
     -- ---- all places of a stage
-    exits_all : (s : ℕ) → total (size c) (λ y. exits_at s y) ≡ total (size c) (λ x. made s x)
+    pub exits_all : (s : ℕ) → total (size c) (λ y. exits_at s y) ≡ total (size c) (λ x. made s x)
     exits_all s =
         let half = 2 ^ (c.stages - 1) in
         let twice : size c ≡ 2 * half = sym (sizes c.stages range.some_stages range.most_stages).0 in
@@ -131,7 +131,7 @@ module _ (c : Settings) (range : AreInRange c) (m : Machine) where
         omega (arith, zero, one, even, odd)) in
         by_exit ∙ (each ∙ sym by_position)
 
-    leaving_all : (s : ℕ) → total (size c) (λ y. leaving (s + 1) y) ≡ total (size c) (λ x. arriving s x)
+    pub leaving_all : (s : ℕ) → total (size c) (λ y. leaving (s + 1) y) ≡ total (size c) (λ x. arriving s x)
     leaving_all s =
         total_same (size c) _ _ (λ y l. ap (λ (o : Option ReplyMessage). count_option (reply_passes t) o) (leaving_next s y))
         ∙ total_unshuffled c.stages range.some_stages range.most_stages (λ x. arriving s x)
@@ -163,7 +163,7 @@ module _ (c : Settings) (range : AreInRange c) (m : Machine) where
         let exit : total c.stages (λ s. total (size c) (λ y. exits_at s y)) ≡ total c.stages (λ s. total (size c) (λ x. made s x)) = total_same c.stages _ _ (λ s l. exits_all s) in
         omega (arith, after, before, each, exit)
 
-    all_banks : total (size c) (λ k. bank_on_way t (bank_at (reply_phase c m) k)) + total (size c) (λ k. arriving (last_stage c) k) ≡ total (size c) (λ k. bank_on_way t (bank_at m k))
+    pub all_banks : total (size c) (λ k. bank_on_way t (bank_at (reply_phase c m) k)) + total (size c) (λ k. arriving (last_stage c) k) ≡ total (size c) (λ k. bank_on_way t (bank_at m k))
     all_banks =
         let after = total_plus (size c) (λ k. bank_on_way t (bank_at (reply_phase c m) k)) (λ k. arriving (last_stage c) k) in
         let each : total (size c) (λ k. bank_on_way t (bank_at (reply_phase c m) k) + arriving (last_stage c) k) ≡ total (size c) (λ k. bank_on_way t (bank_at m k)) =
@@ -172,10 +172,10 @@ module _ (c : Settings) (range : AreInRange c) (m : Machine) where
         (left_bank t (bank_at m k) (arriving_reply c m (last_stage c) k) (arriving_from (last_stage c) k (bank_at m k).out (before_at_last (last_stage c) k refl)))) in
         sym after ∙ each
 
-    all_pending : total (size c) (λ p. pending_on_way t (element_at (reply_phase c m) p)) ≡ total (size c) (λ p. pending_on_way t (element_at m p))
+    pub all_pending : total (size c) (λ p. pending_on_way t (element_at (reply_phase c m) p)) ≡ total (size c) (λ p. pending_on_way t (element_at m p))
     all_pending = total_same (size c) _ _ (λ p h. rw (element-reply_phase c m p h) (delivered_pending t (element_at m p) (delivered c m p)))
 
-    all_delivered : total (size c) (λ p. count_option (reply_passes t) (delivered c m p)) ≡ total (size c) (λ y. leaving 0 y)
+    pub all_delivered : total (size c) (λ p. count_option (reply_passes t) (delivered c m p)) ≡ total (size c) (λ y. leaving 0 y)
     all_delivered = total_shuffled c.stages range.some_stages range.most_stages (λ y. leaving 0 y)
 
     -- a message less for each delivery
@@ -205,7 +205,7 @@ module _ (c : Settings) (range : AreInRange c) (m : Machine) where
         let once = opened_once p r.cell h in
         (k.1, omega (arith, head, there, even, once)))
 
-    all_closed : (t : ℕ → ℕ → Bool) → all_opened t c (reply_phase c m) + total (size c) (λ p. count_option (reply_passes t) (delivered c m p)) ≡ all_opened t c m
+    pub all_closed : (t : ℕ → ℕ → Bool) → all_opened t c (reply_phase c m) + total (size c) (λ p. count_option (reply_passes t) (delivered c m p)) ≡ all_opened t c m
     all_closed t =
         let after = total_plus (size c) (λ p. opened_by t p (element_at (reply_phase c m) p)) (λ p. count_option (reply_passes t) (delivered c m p)) in
         let each : total (size c) (λ p. opened_by t p (element_at (reply_phase c m) p) + count_option (reply_passes t) (delivered c m p)) ≡ all_opened t c m =

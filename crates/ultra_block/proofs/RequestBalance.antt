@@ -51,27 +51,27 @@ module _ (c : Settings) (range : AreInRange c) (m : Machine) where
   admitted_or_none s y None = inl refl
   admitted_or_none s y (Some r) = if_tested (has_request_room c m s (request_exit c s y r)) (λ (o : Option Request). (o ≡ Some r) ⊎ (o ≡ None)) (Some r) None (λ z. inl refl) (λ z. inr refl)
 
-  arriving_from : (s y : ℕ) (o : Option Request) → request_before c m s y ≡ o → (arriving_request c m s y ≡ o) ⊎ (arriving_request c m s y ≡ None)
+  pub arriving_from : (s y : ℕ) (o : Option Request) → request_before c m s y ≡ o → (arriving_request c m s y ≡ o) ⊎ (arriving_request c m s y ≡ None)
   unfolding arriving_request
   arriving_from s y o e = subst (λ z. (arriving_request c m s y ≡ z) ⊎ (arriving_request c m s y ≡ None)) e (admitted_or_none s y (request_before c m s y))
 
-  before_next : (s x : ℕ) → x < size c → request_before c m (s + 1) (shuffled c.stages x) ≡ request_of (slice_get (lane_at m s x).queue 0)
+  pub before_next : (s x : ℕ) → x < size c → request_before c m (s + 1) (shuffled c.stages x) ≡ request_of (slice_get (lane_at m s x).queue 0)
   before_next s x h =
       let y = shuffled c.stages x in
       let f : Bool → Option Request = λ b. elim b [ true ↦ slice_get (element_at m (unshuffled c.stages y)).interface.pending 0 | false ↦ request_of (slice_get (lane_at m (s + 1 - 1) (unshuffled c.stages y)).queue 0) ] in
       let less : s + 1 - 1 ≡ s = omega arith in
       ap f (next_is s) ∙ (ap (λ n. request_of (slice_get (lane_at m n (unshuffled c.stages y)).queue 0)) less ∙ ap (λ z. request_of (slice_get (lane_at m s z).queue 0)) (turns_back c range x h).back)
 
-  before_first : (p : ℕ) → p < size c → request_before c m 0 (shuffled c.stages p) ≡ slice_get (element_at m p).interface.pending 0
+  pub before_first : (p : ℕ) → p < size c → request_before c m 0 (shuffled c.stages p) ≡ slice_get (element_at m p).interface.pending 0
   before_first p h = ap (λ z. slice_get (element_at m z).interface.pending 0) (turns_back c range p h).back
 
-  leaving_at_last : (s x : ℕ) → s ≡ last_stage c → leaving_request c m s x ≡ entering c m x
+  pub leaving_at_last : (s x : ℕ) → s ≡ last_stage c → leaving_request c m s x ≡ entering c m x
   leaving_at_last s x e =
       let f : Bool → Option Request = λ b. elim b [ true ↦ entering c m x | false ↦ arriving_request c m (s + 1) (shuffled c.stages x) ] in
       let here : (s == last_stage c) ≡ true = rw e (itself (last_stage c)) in
       ap f here
 
-  leaving_below : (s x : ℕ) → s < last_stage c → leaving_request c m s x ≡ arriving_request c m (s + 1) (shuffled c.stages x)
+  pub leaving_below : (s x : ℕ) → s < last_stage c → leaving_request c m s x ≡ arriving_request c m (s + 1) (shuffled c.stages x)
   leaving_below s x h =
       let f : Bool → Option Request = λ b. elim b [ true ↦ entering c m x | false ↦ arriving_request c m (s + 1) (shuffled c.stages x) ] in
       ap f (other s (last_stage c) (omega arith))
@@ -83,7 +83,7 @@ module _ (c : Settings) (range : AreInRange c) (m : Machine) where
   abbrev IsHeadOrNone : ℕ → ℕ → Option Request → Type 0
   IsHeadOrNone s x o = (o ≡ request_of (slice_get (lane_at m s x).queue 0)) ⊎ (o ≡ None)
 
-  leaving_head : (s x : ℕ) → s < c.stages → x < size c → IsHeadOrNone s x (leaving_request c m s x)
+  pub leaving_head : (s x : ℕ) → s < c.stages → x < size c → IsHeadOrNone s x (leaving_request c m s x)
   leaving_head s x hs hx =
       if_tested (s == last_stage c) (λ o. IsHeadOrNone s x o) (entering c m x) (arriving_request c m (s + 1) (shuffled c.stages x))
       (λ z. let e : s ≡ last_stage c = eqb-true s (last_stage c) z in
@@ -91,23 +91,23 @@ module _ (c : Settings) (range : AreInRange c) (m : Machine) where
       (λ z. arriving_from (s + 1) (shuffled c.stages x) (request_of (slice_get (lane_at m s x).queue 0)) (before_next s x hx))
 
   module _ (t : ℕ → ℕ → Bool) where
-    abbrev arriving : ℕ → ℕ → ℕ
+    abbrev pub arriving : ℕ → ℕ → ℕ
     arriving s y = count_option (passes t) (arriving_request c m s y)
 
-    abbrev leaving : ℕ → ℕ → ℕ
+    abbrev pub leaving : ℕ → ℕ → ℕ
     leaving s x = count_option (passes t) (leaving_request c m s x)
 
-    abbrev enters : ℕ → ℕ
+    abbrev pub enters : ℕ → ℕ
     enters k = count_option (passes t) (entering c m k)
 
-    abbrev by_exit : ℕ → ℕ → ℕ → ℕ
+    abbrev pub by_exit : ℕ → ℕ → ℕ → ℕ
     by_exit s y x = count (passes t) (arrivals_by c m s y x)
 
-    abbrev arrivals_at : ℕ → ℕ → ℕ
+    abbrev pub arrivals_at : ℕ → ℕ → ℕ
     arrivals_at s x = by_exit s (2 * (x / 2)) x + by_exit s (2 * (x / 2) + 1) x
 
     -- ---- one place
-    lane_step : (s x : ℕ) → s < c.stages → x < size c → lane_on_way t (lane_at (request_phase c m) s x) + leaving s x ≡ lane_on_way t (lane_at m s x) + arrivals_at s x
+    pub lane_step : (s x : ℕ) → s < c.stages → x < size c → lane_on_way t (lane_at (request_phase c m) s x) + leaving s x ≡ lane_on_way t (lane_at m s x) + arrivals_at s x
     lane_step s x hs hx =
         let come = arrive_all_way t c.wait_places (lane_after_leaving c m s x) (arrivals c m s x) in
         let order = in_either_order t (m.cycles % 2 == 0) (arrivals_by c m s (2 * (x / 2)) x) (arrivals_by c m s (2 * (x / 2) + 1) x) in
@@ -122,7 +122,7 @@ module _ (c : Settings) (range : AreInRange c) (m : Machine) where
         (one_neighbour k (bit_of (last_stage c - s) (r.cell % size c)) (request_exit c s y r) (omega arith) (rw e refl))
 
     -- ---- all places of a stage
-    arrivals_all : (s : ℕ) → total (size c) (λ x. arrivals_at s x) ≡ total (size c) (λ y. arriving s y)
+    pub arrivals_all : (s : ℕ) → total (size c) (λ x. arrivals_at s x) ≡ total (size c) (λ y. arriving s y)
     arrivals_all s =
         let half = 2 ^ (c.stages - 1) in
         let twice : size c ≡ 2 * half = sym (sizes c.stages range.some_stages range.most_stages).0 in
@@ -137,7 +137,7 @@ module _ (c : Settings) (range : AreInRange c) (m : Machine) where
         omega (arith, zero, one, even, odd)) in
         by_position ∙ (each ∙ sym by_entry)
 
-    leaving_all : (s : ℕ) → s < last_stage c → total (size c) (λ x. leaving s x) ≡ total (size c) (λ y. arriving (s + 1) y)
+    pub leaving_all : (s : ℕ) → s < last_stage c → total (size c) (λ x. leaving s x) ≡ total (size c) (λ y. arriving (s + 1) y)
     leaving_all s h =
         total_same (size c) _ _ (λ x l. ap (λ (o : Option Request). count_option (passes t) o) (leaving_below s x h))
         ∙ total_shuffled c.stages range.some_stages range.most_stages (λ y. arriving (s + 1) y)
@@ -162,12 +162,12 @@ module _ (c : Settings) (range : AreInRange c) (m : Machine) where
         let come : total c.stages (λ s. total (size c) (λ x. arrivals_at s x)) ≡ total c.stages (λ s. total (size c) (λ y. arriving s y)) = total_same c.stages _ _ (λ s l. arrivals_all s) in
         omega (arith, after, before, each, come)
 
-    all_banks : total (size c) (λ k. bank_on_way t (bank_at (request_phase c m) k)) ≡ total (size c) (λ k. bank_on_way t (bank_at m k)) + total (size c) enters
+    pub all_banks : total (size c) (λ k. bank_on_way t (bank_at (request_phase c m) k)) ≡ total (size c) (λ k. bank_on_way t (bank_at m k)) + total (size c) enters
     all_banks =
         total_same (size c) _ _ (λ k h. rw (bank-request_phase c m k h) (entered_bank t c (bank_at m k) (bank_at m k).inp (request_of (slice_get (lane_at m (last_stage c) k).queue 0)) refl))
         ∙ total_plus (size c) (λ k. bank_on_way t (bank_at m k)) enters
 
-    all_pending : total (size c) (λ p. pending_on_way t (element_at (request_phase c m) p)) + total (size c) (λ y. arriving 0 y) ≡ total (size c) (λ p. pending_on_way t (element_at m p))
+    pub all_pending : total (size c) (λ p. pending_on_way t (element_at (request_phase c m) p)) + total (size c) (λ y. arriving 0 y) ≡ total (size c) (λ p. pending_on_way t (element_at m p))
     all_pending =
         let after = total_plus (size c) (λ p. pending_on_way t (element_at (request_phase c m) p)) (λ p. arriving 0 (shuffled c.stages p)) in
         let each : total (size c) (λ p. pending_on_way t (element_at (request_phase c m) p) + arriving 0 (shuffled c.stages p)) ≡ total (size c) (λ p. pending_on_way t (element_at m p)) =
@@ -186,7 +186,7 @@ module _ (c : Settings) (range : AreInRange c) (m : Machine) where
     pub on_way-request_phase : on_way t c (request_phase c m) ≡ on_way t c m
     on_way-request_phase = omega (arith, all_arriving, all_leaving, all_lanes, all_banks, all_pending, all_replies)
 
-    all_opened_as_before : all_opened t c (request_phase c m) ≡ all_opened t c m
+    pub all_opened_as_before : all_opened t c (request_phase c m) ≡ all_opened t c m
     all_opened_as_before = total_same (size c) _ _ (λ p h. rw (element-request_phase c m p h) refl)
 
   pub balanced-request_phase : IsBalanced c m → IsBalanced c (request_phase c m)

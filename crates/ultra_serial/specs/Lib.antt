@@ -1,0 +1,5 @@
+pub mod Tree
+pub mod Log
+pub mod Legal
+pub mod SerialList
+pub mod Chain

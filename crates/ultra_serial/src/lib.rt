@@ -1,0 +1,16 @@
+//! The serial order of what a machine's requests did, and what it is for such an order to explain a run.
+#![tactic(auto)]
+
+ghost use Rattle.ultra_serial.specs.Chain.{SerializationLaw};
+
+/// The serialization law, as this function's contract: for all settings in their ranges, every program and every
+/// number of cycles, the serial lists of the cycles so far are a chain. Each is a beginning of the next, and each
+/// explains the replies that were given and the cells: a request stands in it at most once, every answer is its
+/// entry's reply in a replay of the list, the replay ends with the cells, and a request that was answered before
+/// another was issued stands before it.
+///
+/// The serialization principle is that of the 1983 paper; the machine is this project's profile of it. The function
+/// itself does nothing.
+pub fn serialization_law()
+    ensures chained { SerializationLaw }
+{}
