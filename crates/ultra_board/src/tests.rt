@@ -1,0 +1,1 @@
+//! The board as its users see it.
