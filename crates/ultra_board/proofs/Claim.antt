@@ -1,7 +1,7 @@
 -- an add to claim keeps the rule
-use Rattle.std.proofs.Common.{◌≡◌, ℕ, ◌+◌, ◌%◌, ◌^◌, ◌<◌, ◌≤◌, ◌⊎◌, List, [], ◌∷◌, ◌++◌, true, false, length, set, refl, sym, ap, subst, arith, ⊎_elim, get_or-set_same, get_or-set_other, min, ◌∙◌, length-append}
+use Rattle.std.proofs.Common.{◌≡◌, ℕ, ◌+◌, ◌%◌, ◌^◌, ◌<◌, ◌≤◌, List, [], ◌∷◌, ◌++◌, true, false, length, set, refl, subst, arith, ⊎_elim, get_or-set_same, get_or-set_other, min, ◌∙◌, length-append}
 use Rattle.std.proofs.Math.ListN.{length-set}
-use Rattle.std.specs.Prelude.{slice_index, slice_set, Contains}
+use Rattle.std.specs.Prelude.{slice_index, slice_set}
 use lib.ListN.{get_elem?}
 use native.Mathlib.Decide.{dec_le}
 use mathlib.Core.Option.{some}
@@ -9,7 +9,7 @@ use Rattle.atomic_table.proofs.Lists.{at_set}
 use Rattle.atomic_table.specs.Table.{State}
 use Rattle.ultra_board.specs.declared.rule.View.{View}
 use Rattle.ultra_board.specs.declared.rule.Limits.{Limits}
-use Rattle.ultra_board.specs.View.{total, times, times_below, spent_places}
+use Rattle.ultra_board.specs.View.{total, times, spent_places}
 use Rattle.ultra_board.specs.Step.{AddsToClaim}
 use Rattle.ultra_board.specs.Rule.{IsKept, IsSoundView}
 use Rattle.ultra_board.proofs.Sums.{total-set, total-set_same, one-le-total, spent_places-beside}
@@ -134,6 +134,6 @@ module _ (k : Limits) (s : State ℕ View) (h : IsKept k s) (place : ℕ) (v : V
       let no_wrap : (n + 1) % 2 ^ 64 ≡ n + 1 = omega arith in
       let limit = ((h.views place v e).limits some_place).0 in
       elim (dec_le k.limit n) [
-        | yes le ↦ (record v { spent = true }, rw no_wrap (spent unspent some_place le), record { drawn = λ lt. absurd (omega arith); fresh = λ lt. absurd (omega arith); spent = λ q. refl })
-        | no ne ↦ let lt : n < k.limit = omega arith in (record v { drawn = v.drawn ++ n ∷ [] }, rw no_wrap (drawn some_place lt), record { drawn = λ q. refl; fresh = λ q. not_contained-times n v.drawn (fresh lt); spent = λ q. absurd (omega arith) })
+        | yes le ↦ (record v { spent = true }, rw no_wrap (spent unspent some_place le), record { drawn = λ lt. absurd (omega arith); fresh = λ lt. absurd (omega arith); unfinished = λ lt. absurd (omega arith); spent = λ q. refl })
+        | no ne ↦ let lt : n < k.limit = omega arith in (record v { drawn = v.drawn ++ n ∷ [] }, rw no_wrap (drawn some_place lt), record { drawn = λ q. refl; fresh = λ q. not_contained-times n v.drawn (fresh lt); unfinished = λ q. not_contained-times n v.finished (let none = fresh lt in let le = (h.views place v e).finished n in omega arith); spent = λ q. absurd (omega arith) })
       ]

@@ -1,5 +1,5 @@
 -- what the words are when one seat has all places
-use Rattle.std.proofs.Common.{◌≡◌, ℕ, zero, suc, ◌+◌, ◌<◌, ◌≤◌, List, [], ◌∷◌, true, length, refl, sym, ap, arith, min, ◌∙◌}
+use Rattle.std.proofs.Common.{◌≡◌, ℕ, zero, suc, ◌+◌, ◌≤◌, List, [], ◌∷◌, true, length, refl, sym, ap, arith, min, ◌∙◌}
 use Rattle.std.specs.Prelude.{slice_index}
 use lib.ListN.{get_elem?}
 use mathlib.Core.Option.{some, some-injective, some-ne-none}
@@ -7,7 +7,7 @@ use Rattle.atomic_table.specs.Table.{State, Final, Seen}
 use Rattle.ultra_board.specs.declared.rule.View.{View}
 use Rattle.ultra_board.specs.declared.rule.Limits.{Limits}
 use Rattle.ultra_board.specs.View.{total, times, times_below, spent_places}
-use Rattle.ultra_board.specs.Rule.{IsKept, IsSoundView}
+use Rattle.ultra_board.specs.Rule.{IsKept}
 use Rattle.ultra_board.proofs.Sums.{total-alone, spent_places-le}
 use Rattle.ultra_board.proofs.Times.{length-within_none}
 

@@ -1,5 +1,5 @@
 -- an add to done and a load of done keep the rule
-use Rattle.std.proofs.Common.{◌≡◌, ℕ, ◌+◌, ◌%◌, ◌^◌, ◌<◌, ◌≤◌, List, [], ◌∷◌, ◌++◌, true, length, set, refl, sym, ap, arith, get_or-set_same, get_or-set_other, min, ◌∙◌, length-append}
+use Rattle.std.proofs.Common.{◌≡◌, ℕ, ◌+◌, ◌%◌, ◌^◌, ◌<◌, ◌≤◌, List, [], ◌∷◌, ◌++◌, length, set, refl, arith, get_or-set_same, get_or-set_other, ◌∙◌, length-append}
 use Rattle.std.proofs.lemmas.List.{set-get_or}
 use Rattle.std.proofs.Math.ListN.{length-set}
 use Rattle.std.specs.Prelude.{slice_index, slice_set, Contains}
@@ -10,7 +10,7 @@ use Rattle.ultra_board.specs.declared.rule.View.{View}
 use Rattle.ultra_board.specs.declared.rule.Limits.{Limits}
 use Rattle.ultra_board.specs.View.{total, times, spent_places}
 use Rattle.ultra_board.specs.Step.{AddsToDone, LoadsDone}
-use Rattle.ultra_board.specs.Rule.{IsKept, IsSoundView}
+use Rattle.ultra_board.specs.Rule.{IsKept}
 use Rattle.ultra_board.proofs.Sums.{total-set, total-set_same, total-le_each, one-le-total}
 use Rattle.ultra_board.proofs.Times.{length-within, one_more_within, times-contained, times-not_contained}
 use Rattle.ultra_board.proofs.Claim.{all_sound}

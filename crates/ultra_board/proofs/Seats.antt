@@ -1,5 +1,5 @@
 -- a split, a join and the load that counts places keep the rule
-use Rattle.std.proofs.Common.{◌≡◌, ℕ, ◌+◌, ◌-◌, ◌<◌, ◌≤◌, ◌⊎◌, List, [], ◌∷◌, ◌++◌, Bool, true, false, length, set, refl, sym, ap, subst, arith, ⊎_elim, inl, inr, min, ◌∙◌, length-append}
+use Rattle.std.proofs.Common.{◌≡◌, ℕ, ◌+◌, ◌-◌, ◌<◌, ◌≤◌, ◌⊎◌, [], ◌∷◌, ◌++◌, Bool, true, false, length, set, refl, subst, arith, ⊎_elim, inl, inr, length-append}
 use Rattle.std.proofs.lemmas.List.{set-get_or}
 use Rattle.std.specs.Prelude.{slice_index, slice_set, if◌then◌else◌, ◌||◌}
 use lib.ListN.{get_elem?}

@@ -1,10 +1,10 @@
 -- sums over the views of all seats
-use Rattle.std.proofs.Common.{◌≡◌, ℕ, zero, suc, ◌+◌, ◌≤◌, List, [], ◌∷◌, ◌++◌, Bool, true, false, set, refl, sym, ap, arith}
+use Rattle.std.proofs.Common.{◌≡◌, ℕ, zero, suc, ◌+◌, ◌≤◌, List, [], ◌∷◌, ◌++◌, true, false, set, refl, sym, ap, arith}
 use Rattle.std.specs.Prelude.{if◌then◌else◌}
 use lib.ListN.{get_elem?}
 use mathlib.Core.Option.{some, some-injective, some-ne-none}
 use Rattle.ultra_board.specs.declared.rule.View.{View}
-use Rattle.ultra_board.specs.View.{total, spent_places, no_view}
+use Rattle.ultra_board.specs.View.{total, spent_places}
 
 -- one view changes
 pub total-set : (f : View → ℕ) (vs : List View) (place : ℕ) (v w : View) → get_elem? vs place ≡ some v → total f (set vs place w) + f v ≡ total f vs + f w

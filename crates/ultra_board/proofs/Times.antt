@@ -1,8 +1,8 @@
 -- how often numbers stand in lists
-use Rattle.std.proofs.Common.{◌≡◌, ℕ, zero, suc, ◌+◌, ◌<◌, ◌≤◌, List, [], ◌∷◌, ◌++◌, Bool, true, false, length, refl, sym, ap, arith, min, eq-eqb}
+use Rattle.std.proofs.Common.{◌≡◌, ℕ, zero, suc, ◌+◌, ◌<◌, ◌≤◌, List, [], ◌∷◌, ◌++◌, Bool, true, false, length, refl, ap, arith, min, eq-eqb}
 use Rattle.std.proofs.lemmas.Bool.{eqb-true}
 use Rattle.std.proofs.lemmas.Bool.Decides.{nat_tests}
-use Rattle.std.specs.Prelude.{◌==◌, nat_lt, Contains, slice_index_or}
+use Rattle.std.specs.Prelude.{◌==◌, Contains, slice_index_or}
 use native.Mathlib.Decide.{dec_le}
 use Rattle.ultra_board.specs.View.{one_if, times, times_below}
 

@@ -1,5 +1,5 @@
 -- what each kind of atomic step does to the view of the seat that steps, which is v before it and w after it. It finds n in its word. All of it is this project's profile
-use Rattle.std.specs.Prelude.{◌≡◌, ℕ, ◌+◌, ◌-◌, ◌<◌, ◌≤◌, List, [], ◌∷◌, ◌++◌, true, length, Contains}
+use Rattle.std.specs.Prelude.{◌≡◌, ℕ, ◌+◌, ◌-◌, ◌<◌, ◌≤◌, [], ◌∷◌, ◌++◌, true, length, Contains}
 use Rattle.atomic_table.specs.Table.{Me}
 use Rattle.ultra_board.specs.declared.TheConstants.{MOST_SEATS}
 use Rattle.ultra_board.specs.declared.rule.View.{View}
@@ -8,10 +8,11 @@ use Rattle.ultra_board.specs.declared.rule.View.{View}
 abbrev pub Tells : (View → ℕ → View → Type 0) → Me ℕ View → ℕ → Me ℕ View → Type 0
 Tells fact m n w = fact m.0 n w.0 × (w.1 ≡ m.1)
 
--- add to claim: an old value below the limit is drawn, for the first time; else the seat is spent
+-- add to claim: an old value below the limit is drawn, which wasn't drawn or finished before; else the seat is spent
 pub record AddsToClaim (v : View) (n : ℕ) (w : View) : Type 0 where
   pub drawn : n < v.limit → w ≡ record v { drawn = v.drawn ++ n ∷ [] }
   pub fresh : n < v.limit → ¬ Contains v.drawn n
+  pub unfinished : n < v.limit → ¬ Contains v.finished n
   pub spent : v.limit ≤ n → w ≡ record v { spent = true }
 
 -- add to done: the number i is finished, and the new value is seen

@@ -175,6 +175,8 @@ impl Board {
         ensures number { IfSome result (λ i. seat.new ≡ record seat.old { view = record seat.old.view { drawn = seat.old.view.drawn ++ i ∷ [] } }) }
         ensures below { IfSome result (λ i. i < seat.old.view.limit) }
         ensures fresh { IfSome result (λ i. ¬ Contains seat.old.view.drawn i) }
+        ensures drawn { IfSome result (λ i. Contains seat.new.view.drawn i) }
+        ensures unfinished { IfSome result (λ i. ¬ Contains seat.new.view.finished i) }
         ensures unspent { OnSome result (seat.old.view.spent ≡ false) }
         ensures none { IfNone result (seat.new ≡ record seat.old { view = record seat.old.view { spent = true } }) }
     {

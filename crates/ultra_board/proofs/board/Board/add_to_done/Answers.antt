@@ -1,4 +1,4 @@
-use Rattle.std.proofs.Common.{◌≡◌, ◌<◌, ◌∷◌, sym, ap, ◌∙◌, arith, refl, subst}
+use Rattle.std.proofs.Common.{sym, ap, ◌∙◌, arith, refl, subst}
 use Rattle.std.specs.Prelude.{Contains, slice_index}
 use Rattle.atomic_table.specs.Table.{keeps}
 use Rattle.ultra_board.specs.Step.{AddsToDone}

@@ -1,4 +1,4 @@
-use Rattle.std.proofs.Common.{◌≡◌, sym, ap, subst, ◌∙◌}
+use Rattle.std.proofs.Common.{sym, ap, subst, ◌∙◌}
 use Rattle.std.specs.Slots.{slots_items}
 use Rattle.ultra_board.proofs.Closing.{IsTotal, closing}
 use Rattle.ultra_board.proofs.board.Board.close.Goals as goal

@@ -1,4 +1,4 @@
-use Rattle.std.proofs.Common.{◌≡◌, ◌<◌, ◌≤◌, sym, ap, ◌∙◌, arith, refl, false}
+use Rattle.std.proofs.Common.{◌≤◌, sym, ap, ◌∙◌, arith, refl}
 use Rattle.atomic_table.specs.Table.{keeps}
 use Rattle.ultra_board.proofs.Claim.{adds_to_claim}
 use Rattle.ultra_board.proofs.board.Board.draw.Goals as goal

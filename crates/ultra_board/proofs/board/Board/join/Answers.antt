@@ -1,4 +1,4 @@
-use Rattle.std.proofs.Common.{◌≡◌, ◌<◌, ◌≤◌, sym, ap, ◌∙◌, arith, refl}
+use Rattle.std.proofs.Common.{◌≤◌, sym, ap, ◌∙◌, arith, refl}
 use Rattle.atomic_table.specs.Table.{keeps}
 use Rattle.ultra_board.proofs.Seats.{joins, counts_places}
 use Rattle.ultra_board.proofs.board.Board.join.Goals as goal

@@ -1,4 +1,4 @@
-use Rattle.std.proofs.Common.{◌≡◌, ◌<◌, ◌≤◌, sym, ap, ◌∙◌, arith, refl}
+use Rattle.std.proofs.Common.{◌≤◌, sym, ap, ◌∙◌, arith, refl}
 use Rattle.atomic_table.specs.Table.{keeps}
 use Rattle.ultra_board.proofs.Passes.{gives_back}
 use Rattle.ultra_board.proofs.board.Board.leave.Goals as goal

@@ -1,4 +1,4 @@
-use Rattle.std.proofs.Common.{◌≡◌, ◌<◌, sym, ap, ◌∙◌, arith, refl}
+use Rattle.std.proofs.Common.{sym, ap, ◌∙◌, arith, refl}
 use Rattle.atomic_table.specs.Table.{keeps}
 use Rattle.ultra_board.proofs.Done.{loads_done}
 use Rattle.ultra_board.proofs.board.Board.progress.Goals as goal

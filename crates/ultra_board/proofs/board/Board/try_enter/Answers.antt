@@ -1,4 +1,4 @@
-use Rattle.std.proofs.Common.{◌≡◌, ◌<◌, ◌≤◌, ◌+◌, sym, ap, ◌∙◌, arith, refl}
+use Rattle.std.proofs.Common.{◌≡◌, ◌≤◌, sym, ap, ◌∙◌, arith, refl}
 use Rattle.atomic_table.specs.Table.{keeps}
 use Rattle.ultra_board.proofs.Passes.{loads_passes, adds_to_passes, undoes_try}
 use Rattle.ultra_board.proofs.board.Board.try_enter.Goals as goal
