@@ -1,5 +1,5 @@
 -- what the words are when one seat has all places
-use Rattle.std.proofs.Common.{◌≡◌, ℕ, zero, suc, ◌+◌, ◌≤◌, List, [], ◌∷◌, true, length, refl, sym, ap, arith, min, ◌∙◌}
+use Rattle.std.proofs.Common.{◌≡◌, ℕ, zero, suc, ◌+◌, List, [], ◌∷◌, length, refl, sym, ap, arith, min, ◌∙◌}
 use Rattle.std.specs.Prelude.{slice_index}
 use lib.ListN.{get_elem?}
 use mathlib.Core.Option.{some, some-injective, some-ne-none}
@@ -7,20 +7,10 @@ use Rattle.atomic_table.specs.Table.{State, Final, Seen}
 use Rattle.ultra_board.specs.declared.rule.View.{View}
 use Rattle.ultra_board.specs.declared.rule.Limits.{Limits}
 use Rattle.ultra_board.specs.View.{total, times, times_below, spent_places}
+use Rattle.ultra_board.specs.Seat.{IsTotal}
 use Rattle.ultra_board.specs.Rule.{IsKept}
 use Rattle.ultra_board.proofs.Sums.{total-alone, spent_places-le}
 use Rattle.ultra_board.proofs.Times.{length-within_none}
-
--- the words claim, done and passes, where the view v has all places
-pub record IsTotal (v : View) (claim done passes : ℕ) : Type 0 where
-  pub claimed : min claim v.limit ≡ length v.drawn
-  pub spent : v.spent ≡ true → v.limit ≤ claim
-  pub most_claimed : claim ≤ v.limit + spent_places v
-  pub each_once : (i : ℕ) → times i v.drawn ≡ times_below i (length v.drawn)
-  pub finished : done ≡ length v.finished
-  pub finished_once : (i : ℕ) → times i v.finished ≤ times i v.drawn
-  pub held : passes ≡ v.held
-  pub bounded : v.held ≤ v.bound
 
 module _ (k : Limits) (s : State ℕ View) (h : IsKept k s) (place : ℕ) (v : View) (e : get_elem? s.views place ≡ some v) (all : v.places ≡ k.seats) (no_try : v.tries ≡ 0) where
   sole : (f : View → ℕ) → ((other : ℕ) (u : View) → get_elem? s.views other ≡ some u → u.places ≡ 0 → f u ≡ 0) → total f s.views ≡ f v

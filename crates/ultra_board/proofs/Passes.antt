@@ -97,7 +97,7 @@ module _ (k : Limits) (s : State ℕ View) (h : IsKept k s) (place : ℕ) (v : V
       let few_seats = h.limits.seats in
       omega arith
 
-  pub undoes_try : v.tries ≡ 1 → (w : View) × IsKept k record { words = slice_set s.words 2 ((slice_index s.words 2 + (2 ^ 64 - 1)) % 2 ^ 64); homes = s.homes; views = slice_set s.views place w } × SubtractsFromPasses v w
+  undoes_try : v.tries ≡ 1 → (w : View) × IsKept k record { words = slice_set s.words 2 ((slice_index s.words 2 + (2 ^ 64 - 1)) % 2 ^ 64); homes = s.homes; views = slice_set s.views place w } × SubtractsFromPasses v w
   undoes_try one =
       let n = slice_index s.words 2 in
       let mine = one-le-total (λ (v : View). v.held + v.tries) s.views place v e in
@@ -106,7 +106,7 @@ module _ (k : Limits) (s : State ℕ View) (h : IsKept k s) (place : ℕ) (v : V
       let less = one_less (omega arith) in
       (record v { tries = v.tries - 1 }, rw less (passes_become (n - 1) v.held (v.tries - 1) v.full v.adds (omega arith) (omega arith) (omega arith)), record { undone = λ q. refl; left = λ q. absurd (omega arith) })
 
-  pub gives_back : v.tries ≡ 0 → 0 < v.held → (w : View) × IsKept k record { words = slice_set s.words 2 ((slice_index s.words 2 + (2 ^ 64 - 1)) % 2 ^ 64); homes = s.homes; views = slice_set s.views place w } × SubtractsFromPasses v w
+  gives_back : v.tries ≡ 0 → 0 < v.held → (w : View) × IsKept k record { words = slice_set s.words 2 ((slice_index s.words 2 + (2 ^ 64 - 1)) % 2 ^ 64); homes = s.homes; views = slice_set s.views place w } × SubtractsFromPasses v w
   gives_back no_try some_pass =
       let n = slice_index s.words 2 in
       let mine = one-le-total (λ (v : View). v.held + v.tries) s.views place v e in
@@ -114,3 +114,6 @@ module _ (k : Limits) (s : State ℕ View) (h : IsKept k s) (place : ℕ) (v : V
       let within = h.bounded in
       let less = one_less (omega arith) in
       (record v { held = v.held - 1 }, rw less (passes_become (n - 1) (v.held - 1) v.tries v.full v.adds (omega arith) (omega arith) (omega arith)), record { undone = λ q. absurd (omega arith); left = λ q. refl })
+
+  pub subtracts_from_passes : 0 < v.held + v.tries → v.tries ≤ 1 → (w : View) × IsKept k record { words = slice_set s.words 2 ((slice_index s.words 2 + (2 ^ 64 - 1)) % 2 ^ 64); homes = s.homes; views = slice_set s.views place w } × SubtractsFromPasses v w
+  subtracts_from_passes some_pass one_try = elim (dec_le 1 v.tries) [ yes le ↦ undoes_try (omega arith) | no ne ↦ gives_back (omega arith) (omega arith) ]

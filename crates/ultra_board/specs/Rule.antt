@@ -3,7 +3,8 @@ use Rattle.std.specs.Prelude.{◌≡◌, ◌<◌, ◌≤◌, ℕ, ◌+◌, [], t
 use lib.ListN.{get_elem?}
 use mathlib.Core.Option.{some}
 use Rattle.atomic_table.specs.Table.{State}
-use Rattle.ultra_board.specs.declared.TheConstants.{CLAIM, DONE, PASSES, MOST_NUMBERS, MOST_PASSES, MOST_SEATS}
+use Rattle.ultra_board.specs.declared.TheConstants.{MOST_NUMBERS, MOST_PASSES, MOST_SEATS}
+use Rattle.ultra_board.specs.declared.words.TheConstants.{CLAIM, DONE, PASSES}
 use Rattle.ultra_board.specs.declared.rule.View.{View}
 use Rattle.ultra_board.specs.declared.rule.Limits.{Limits}
 use Rattle.ultra_board.specs.View.{times, times_below, total, spent_places}

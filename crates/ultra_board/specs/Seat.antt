@@ -1,10 +1,11 @@
 -- seats and boards as contracts see them
-use Rattle.std.specs.Prelude.{◌≡◌, ◌≤◌, ℕ, Bool, []}
+use Rattle.std.specs.Prelude.{◌≡◌, ◌≤◌, ℕ, ◌+◌, Bool, true, [], length, min}
 use Rattle.atomic_table.specs.Seated.{TableId}
 use Rattle.atomic_table.specs.Table.{Me}
 use Rattle.ultra_board.specs.declared.TheConstants.{MOST_SEATS}
 use Rattle.ultra_board.specs.declared.rule.View.{View}
 use Rattle.ultra_board.specs.declared.rule.Limits.{Limits}
+use Rattle.ultra_board.specs.View.{times, times_below, spent_places}
 
 -- a seat: which board it is of, and what it knows
 pub record Seated : Type 0 where
@@ -26,3 +27,14 @@ pub record IsSeat (limit bound places : ℕ) (spent : Bool) (me : Me ℕ View) :
   pub few_places : places ≤ MOST_SEATS
   pub no_try : me.0.tries ≡ 0
   pub no_slot : me.1 ≡ []
+
+-- what the words claim, done and passes are where the view v has all places
+pub record IsTotal (v : View) (claim done passes : ℕ) : Type 0 where
+  pub claimed : min claim v.limit ≡ length v.drawn
+  pub spent : v.spent ≡ true → v.limit ≤ claim
+  pub most_claimed : claim ≤ v.limit + spent_places v
+  pub each_once : (i : ℕ) → times i v.drawn ≡ times_below i (length v.drawn)
+  pub finished : done ≡ length v.finished
+  pub finished_once : (i : ℕ) → times i v.finished ≤ times i v.drawn
+  pub held : passes ≡ v.held
+  pub bounded : v.held ≤ v.bound

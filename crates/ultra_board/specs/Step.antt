@@ -38,11 +38,11 @@ pub record AddsToPasses (v : View) (n : ℕ) (w : View) : Type 0 where
   pub full : v.bound ≤ n → w ≡ record v { tries = v.tries + 1; full = v.full + 1; adds = v.adds + 1 }
 
 -- subtract from passes: a try that is under way is undone, and else one pass fewer is held
-pub record SubtractsFromPasses (v : View) (w : View) : Type 0 where
+pub record SubtractsFromPasses (v w : View) : Type 0 where
   pub undone : 0 < v.tries → w ≡ record v { tries = v.tries - 1 }
   pub left : v.tries ≡ 0 → w ≡ record v { held = v.held - 1 }
 
 -- a load of claim that looks at no value: nothing changes. No seat has more places than a board can have
-pub record CountsPlaces (v : View) (w : View) : Type 0 where
+pub record CountsPlaces (v w : View) : Type 0 where
   pub view : w ≡ v
   pub places : v.places ≤ MOST_SEATS

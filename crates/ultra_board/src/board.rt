@@ -1,15 +1,13 @@
 //! The board, and what a seat can do there.
-ghost use Rattle.std.specs.Prelude.{◌≡◌, ℕ, ◌+◌, ◌-◌, ◌<◌, ◌≤◌, ◌⊎◌, ◌↔◌, ◌++◌, [], ◌∷◌, true, false, min, length, Contains, IfOk, IfErr, OnOk, IsErr, IsErrOf, IfSome, OnSome, IfNone, IsTrue};
+ghost use Rattle.std.specs.Prelude.{◌≡◌, ℕ, ◌+◌, ◌-◌, ◌<◌, ◌≤◌, ◌⊎◌, ◌↔◌, ◌++◌, [], ◌∷◌, true, false, min, length, Contains, IfOk, IfErr, OnOk, IsErr, IsErrOf, IfSome, OnSome, IfNone};
+ghost use Rattle.std.specs.Bool.{OnTrue, OnFalse};
 ghost use Rattle.ultra_board.specs.View.{first_view, second_view, joined_view, times, times_below, spent_places};
 ghost use Rattle.ultra_board.specs.Rule.{IsWithinLimits};
 
-use crate::rule::{
-    AddToClaim, AddToDone, AddToPasses, BoardRule, Both, CountOfPlaces, Limits, LoadOfDone,
-    LoadOfPasses, Number, OnePlace, SubtractFromPasses, View,
-};
+use crate::rule::Limits;
 use crate::seat::Seat;
-use crate::{CLAIM, DONE, MOST_NUMBERS, MOST_PASSES, MOST_SEATS, PASSES};
-use atomic_table::Table;
+use crate::words::{Totals, Words};
+use crate::{MOST_NUMBERS, MOST_PASSES, MOST_SEATS};
 use std::alloc::{AllocError, Global};
 use std::marker::{Brand, Model};
 
@@ -32,34 +30,20 @@ impl From<AllocError> for BoardFault {
     }
 }
 
-/// What a board's words are when it is closed.
-#[derive(Clone, Copy, PartialEq, Eq, Debug, Drop)]
-pub struct Totals {
-    /// How often a number was asked for: past the limit by the asks that found none left.
-    pub claimed: u64,
-    /// How many numbers are finished.
-    pub finished: u64,
-    /// How many passes are held.
-    pub passes: u64,
-}
-
 /// A board of three words, on which the seats step (this project's profile). Threads share it by reference.
 ///
 /// Contracts see which board it is, and what it was opened with.
 #[derive(Drop)]
 pub struct Board {
-    table: Table<u64, View, Limits, BoardRule, Global>,
+    words: Words,
 }
 
 impl Model for Board {
-    ghost use Rattle.std.specs.Prelude.{◌≡◌};
     ghost use Rattle.ultra_board.specs.Seat.{Opened};
 
     ghost Value = { Opened };
 
-    ghost view = { λ b. record { id = b.table.shared.table_id; limits = b.table.shared.key } };
-
-    ghost invariant = { λ b. (b.table.shared.table_id.words ≡ 3) × (b.table.shared.table_id.slots ≡ 0) };
+    ghost view = { λ b. b.words };
 }
 
 impl Board {
@@ -88,7 +72,7 @@ impl Board {
             bound,
             seats,
         };
-        let (table, token) = Table::of_words(alloc, &[0, 0, 0], &limits)?;
+        let (words, token) = Words::open(alloc, &limits)?;
         let seat = Seat {
             token,
             limit,
@@ -96,7 +80,7 @@ impl Board {
             places: seats,
             spent: false,
         };
-        Ok((Board { table }, seat))
+        Ok((Board { words }, seat))
     }
 
     /// Splits a seat of this board in two: the second has one place and nothing else, the first keeps the rest. A spent seat makes two spent ones.
@@ -119,7 +103,7 @@ impl Board {
             places,
             spent,
         } = seat;
-        let other = self.table.shared.split_seat::<OnePlace>(&mut token);
+        let other = self.words.split(&mut token);
         let first = Seat {
             token,
             limit,
@@ -157,9 +141,8 @@ impl Board {
             places: other_places,
             spent: other_spent,
         } = other;
-        let shared = &self.table.shared;
-        shared.join_seat::<Both>(&mut token, other_token);
-        shared.load::<CountOfPlaces>(&mut token, CLAIM);
+        self.words.join(&mut token, other_token);
+        self.words.count_places(&mut token);
         Seat {
             token,
             limit,
@@ -183,10 +166,7 @@ impl Board {
         if seat.spent {
             return None;
         }
-        let number = self
-            .table
-            .shared
-            .fetch_add::<AddToClaim>(&mut seat.token, CLAIM, 1);
+        let number = self.words.add_to_claim(&mut seat.token);
         if number < seat.limit {
             Some(number)
         } else {
@@ -204,23 +184,7 @@ impl Board {
         ensures counted { seat.old.view.seen < seat.new.view.seen }
         ensures own { length seat.new.view.finished ≤ seat.new.view.seen }
     {
-        self.add_to_done::<Brand>(seat, number);
-    }
-
-    // As `finish`. The table is told by `N` which number is meant.
-    fn add_to_done<N: Number>(&self, seat: &mut Seat, number: u64)
-        requires board { seat.old.board ≡ self.now.id }
-        requires drawn { Contains seat.old.view.drawn number }
-        requires unfinished { ¬ Contains seat.old.view.finished number }
-        requires picked { number ≡ N.number }
-        ensures finished { seat.new ≡ record seat.old { view = record seat.old.view { finished = seat.old.view.finished ++ number ∷ []; seen = seat.new.view.seen } } }
-        ensures counted { seat.old.view.seen < seat.new.view.seen }
-        ensures own { length seat.new.view.finished ≤ seat.new.view.seen }
-    {
-        let _ = number;
-        self.table
-            .shared
-            .fetch_add::<AddToDone<N>>(&mut seat.token, DONE, 1);
+        self.words.add_to_done::<Brand>(&mut seat.token, number);
     }
 
     /// How many numbers all seats of this board have finished, at one moment of this call: no fewer than this seat found before, and no fewer than it finished itself.
@@ -230,7 +194,7 @@ impl Board {
         ensures later { seat.old.view.seen ≤ result }
         ensures own { length seat.old.view.finished ≤ result }
     {
-        self.table.shared.load::<LoadOfDone>(&mut seat.token, DONE)
+        self.words.load_done(&mut seat.token)
     }
 
     /// Tries to take a pass, by a test, an increment and a retest, and says whether it did. The seat holds none yet.
@@ -239,18 +203,17 @@ impl Board {
     pub fn try_enter(&self, seat: &mut Seat) -> bool
         requires board { seat.old.board ≡ self.now.id }
         requires no_pass { seat.old.view.held ≡ 0 }
-        ensures entered { result ≡ true → seat.new ≡ record seat.old { view = record seat.old.view { held = seat.old.view.held + 1; adds = seat.old.view.adds + 1 } } }
-        ensures refused { result ≡ false → seat.new ≡ record seat.old { view = record seat.old.view { full = seat.old.view.full + 1; adds = seat.new.view.adds } } }
+        ensures entered { OnTrue result (seat.new ≡ record seat.old { view = record seat.old.view { held = seat.old.view.held + 1; adds = seat.old.view.adds + 1 } }) }
+        ensures refused { OnFalse result (seat.new ≡ record seat.old { view = record seat.old.view { full = seat.old.view.full + 1; adds = seat.new.view.adds } }) }
         ensures one_add { seat.new.view.adds ≤ seat.old.view.adds + 1 }
     {
-        let shared = &self.table.shared;
-        if shared.load::<LoadOfPasses>(&mut seat.token, PASSES) >= seat.bound {
+        if self.words.load_passes(&mut seat.token) >= seat.bound {
             return false;
         }
-        if shared.fetch_add::<AddToPasses>(&mut seat.token, PASSES, 1) < seat.bound {
+        if self.words.add_to_passes(&mut seat.token) < seat.bound {
             return true;
         }
-        shared.fetch_sub::<SubtractFromPasses>(&mut seat.token, PASSES, 1);
+        self.words.subtract_from_passes(&mut seat.token);
         false
     }
 
@@ -260,9 +223,7 @@ impl Board {
         requires pass { 0 < seat.old.view.held }
         ensures { seat.new ≡ record seat.old { view = record seat.old.view { held = seat.old.view.held - 1 } } }
     {
-        self.table
-            .shared
-            .fetch_sub::<SubtractFromPasses>(&mut seat.token, PASSES, 1);
+        self.words.subtract_from_passes(&mut seat.token)
     }
 
     /// Closes the board, by the seat that has all its places, and gives what its words are.
@@ -278,7 +239,7 @@ impl Board {
         ensures passes { result.passes ≡ seat.view.held }
         ensures bounded { seat.view.held ≤ seat.view.bound }
     {
-        let Board { table } = self;
+        let Board { words } = self;
         let Seat {
             token,
             limit: _,
@@ -286,13 +247,6 @@ impl Board {
             places: _,
             spent: _,
         } = seat;
-        let closed = table.close_with(token);
-        let totals = Totals {
-            claimed: closed.word(CLAIM),
-            finished: closed.word(DONE),
-            passes: closed.word(PASSES),
-        };
-        closed.free();
-        totals
+        words.close(token)
     }
 }

@@ -11,10 +11,12 @@ mod rule;
 mod seat;
 #[cfg(test)]
 mod tests;
+mod words;
 
-pub use board::{Board, BoardFault, Totals};
+pub use board::{Board, BoardFault};
 pub use rule::{BoardRule, Limits, View};
 pub use seat::Seat;
+pub use words::Totals;
 
 /// The most numbers that a board can have.
 pub const MOST_NUMBERS: u64 = 1_000_000;
@@ -24,12 +26,3 @@ pub const MOST_PASSES: u64 = 64;
 
 /// The most seats that a board can have.
 pub const MOST_SEATS: u64 = 64;
-
-/// The word that is the next number to draw.
-pub(crate) const CLAIM: usize = 0;
-
-/// The word that is the count of the numbers finished.
-pub(crate) const DONE: usize = 1;
-
-/// The word that is the count of the passes held and of the tries under way.
-pub(crate) const PASSES: usize = 2;

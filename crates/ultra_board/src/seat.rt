@@ -1,7 +1,6 @@
 //! A seat at a board.
 
-use crate::rule::View;
-use atomic_table::Seat as Token;
+use crate::words::Token;
 use std::marker::Model;
 
 /// A seat at a board, with which one thread draws numbers, finishes them and takes passes. It may go to another thread.
@@ -9,7 +8,7 @@ use std::marker::Model;
 /// It counts for 1 to 64 places. Contracts see which board it is of and what it knows (`View`). A seat that is joined to another or that closes its board is used up. One that is dropped keeps its numbers, its passes and its places.
 #[derive(Drop)]
 pub struct Seat {
-    pub(crate) token: Token<u64, View>,
+    pub(crate) token: Token,
     pub(crate) limit: u64,
     pub(crate) bound: u64,
     pub(crate) places: u64,
