@@ -2,7 +2,7 @@
 use Rattle.std.proofs.Common.{◌≡◌, ℕ, zero, suc, ◌+◌, ◌<◌, ◌≤◌, List, [], ◌∷◌, ◌++◌, Bool, true, false, length, refl, ap, arith, min, eq-eqb}
 use Rattle.std.proofs.lemmas.Bool.{eqb-true}
 use Rattle.std.proofs.lemmas.Bool.Decides.{nat_tests}
-use Rattle.std.specs.Prelude.{◌==◌, Contains, slice_index_or}
+use Rattle.std.specs.Prelude.{nat_lt, ◌==◌, Contains, slice_index_or}
 use native.Mathlib.Decide.{dec_le}
 use Rattle.ultra_board.specs.View.{one_if, times, times_below}
 
@@ -22,6 +22,13 @@ times_below-more i n limit lt =
     let next : min (n + 1) limit ≡ n + 1 = omega arith in
     let this : min n limit ≡ n = omega arith in
     rw (next, this) (grind (arith, nat_tests))
+
+one_if-le : (b : Bool) → one_if b ≤ 1
+one_if-le true = omega arith
+one_if-le false = omega arith
+
+pub times_below-le : (i n : ℕ) → times_below i n ≤ 1
+times_below-le i n = one_if-le (nat_lt i n)
 
 -- n isn't below n
 pub times_below-itself : (n : ℕ) → times_below n n ≡ 0

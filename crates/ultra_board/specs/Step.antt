@@ -3,6 +3,7 @@ use Rattle.std.specs.Prelude.{◌≡◌, ℕ, ◌+◌, ◌-◌, ◌<◌, ◌≤�
 use Rattle.atomic_table.specs.Table.{Me}
 use Rattle.ultra_board.specs.declared.TheConstants.{MOST_SEATS}
 use Rattle.ultra_board.specs.declared.rule.View.{View}
+use Rattle.ultra_board.specs.View.{times}
 
 -- a step tells this of the views, and no slot is taken or given
 abbrev pub Tells : (View → ℕ → View → Type 0) → Me ℕ View → ℕ → Me ℕ View → Type 0
@@ -42,7 +43,8 @@ pub record SubtractsFromPasses (v w : View) : Type 0 where
   pub undone : 0 < v.tries → w ≡ record v { tries = v.tries - 1 }
   pub left : v.tries ≡ 0 → w ≡ record v { held = v.held - 1 }
 
--- a load of claim that looks at no value: nothing changes. No seat has more places than a board can have
-pub record CountsPlaces (v w : View) : Type 0 where
+-- load of claim, which looks at no value: nothing changes. A seat has no more places than a board can have, and no number is drawn twice
+pub record LoadsClaim (v w : View) : Type 0 where
   pub view : w ≡ v
   pub places : v.places ≤ MOST_SEATS
+  pub once : (i : ℕ) → times i v.drawn ≤ 1

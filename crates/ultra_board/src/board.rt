@@ -121,11 +121,12 @@ impl Board {
         Ok((first, second))
     }
 
-    /// Joins two seats of this board to one that knows and has what both did. It is spent if either was.
+    /// Joins two seats of this board to one that knows and has what both did. It is spent if either was. No number was drawn by both, or twice by one.
     pub fn join(&self, seat: Seat, other: Seat) -> Seat
         requires seat { seat.board ≡ self.now.id }
         requires other { other.board ≡ self.now.id }
-        ensures { result ≡ record seat { view = joined_view seat.view other.view } }
+        ensures joined { result ≡ record seat { view = joined_view seat.view other.view } }
+        ensures once { (i : ℕ) → times i (seat.view.drawn ++ other.view.drawn) ≤ 1 }
     {
         let Seat {
             mut token,
@@ -142,7 +143,7 @@ impl Board {
             spent: other_spent,
         } = other;
         self.words.join(&mut token, other_token);
-        self.words.count_places(&mut token);
+        self.words.load_claim(&mut token);
         Seat {
             token,
             limit,

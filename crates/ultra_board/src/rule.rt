@@ -124,13 +124,13 @@ impl Play<u64, View> for SubtractFromPasses {
     ghost then = { λ _ m n w. Tells (λ v _ u. SubtractsFromPasses v u) m n w };
 }
 
-/// A load of claim that looks at no value, and tells that a seat has no more places than a board.
-pub struct CountOfPlaces;
+/// A load of claim that looks at no value. It tells what the rule says of the seat's own view.
+pub struct LoadOfClaim;
 
-impl Play<u64, View> for CountOfPlaces {
-    ghost use Rattle.ultra_board.specs.Step.{Tells, CountsPlaces};
+impl Play<u64, View> for LoadOfClaim {
+    ghost use Rattle.ultra_board.specs.Step.{Tells, LoadsClaim};
 
-    ghost then = { λ _ m n w. Tells (λ v _ u. CountsPlaces v u) m n w };
+    ghost then = { λ _ m n w. Tells (λ v _ u. LoadsClaim v u) m n w };
 }
 
 /// How a seat is split: the second seat has one place and nothing else.

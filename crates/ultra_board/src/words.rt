@@ -2,11 +2,11 @@
 ghost use Rattle.std.specs.Prelude.{◌≡◌, ◌+◌, ◌-◌, ◌<◌, ◌≤◌, false, [], IfOk, Contains};
 ghost use Rattle.ultra_board.specs.Rule.{IsWithinLimits};
 ghost use Rattle.ultra_board.specs.Seat.{IsTotal};
-ghost use Rattle.ultra_board.specs.Step.{AddsToClaim, AddsToDone, LoadsDone, LoadsPasses, AddsToPasses, SubtractsFromPasses, CountsPlaces};
+ghost use Rattle.ultra_board.specs.Step.{AddsToClaim, AddsToDone, LoadsDone, LoadsPasses, AddsToPasses, SubtractsFromPasses, LoadsClaim};
 ghost use Rattle.ultra_board.specs.View.{first_view, second_view, joined_view};
 
 use crate::rule::{
-    AddToClaim, AddToDone, AddToPasses, BoardRule, Both, CountOfPlaces, Limits, LoadOfDone,
+    AddToClaim, AddToDone, AddToPasses, BoardRule, Both, Limits, LoadOfClaim, LoadOfDone,
     LoadOfPasses, Number, OnePlace, SubtractFromPasses, View,
 };
 use atomic_table::{Seat, Table};
@@ -134,12 +134,12 @@ impl Words {
     }
 
     /// Loads claim, and looks at no value.
-    pub(crate) fn count_places(&self, token: &mut Token)
+    pub(crate) fn load_claim(&self, token: &mut Token)
         requires { token.old.table_id ≡ self.now.id }
         ensures token { (token.new.table_id ≡ token.old.table_id) × (token.new.me.1 ≡ token.old.me.1) }
-        ensures step { CountsPlaces token.old.me.0 token.new.me.0 }
+        ensures step { LoadsClaim token.old.me.0 token.new.me.0 }
     {
-        self.table.shared.load::<CountOfPlaces>(token, CLAIM);
+        self.table.shared.load::<LoadOfClaim>(token, CLAIM);
     }
 
     /// Splits off a second seat with one place. It loads claim, and looks at no value.
