@@ -92,6 +92,7 @@ impl Board {
         ensures second { IfOk result (λ s. s.1 ≡ record seat { view = second_view seat.view }) }
         ensures refused { IfErr result (λ e. (e.0 ≡ seat) × (e.1 ≡ BoardFault.BadLimit)) }
         ensures one_place { IsErr result ↔ (seat.view.places ≡ 1) }
+        ensures more_places { OnOk result (2 ≤ seat.view.places) }
     {
         if seat.places < 2 {
             return Err((seat, BoardFault::BadLimit));
