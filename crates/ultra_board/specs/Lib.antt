@@ -1,0 +1,4 @@
+pub mod View
+pub mod Step
+pub mod Rule
+pub mod Seat

@@ -1,0 +1,28 @@
+//! A board from which many threads of the host draw jobs, without a lock.
+//!
+//! The board has three words. Claim is the next number to draw, done the count of the numbers finished, passes the count of the passes held and of the tries for one. A thread steps on them by single atomic steps, with a seat of its own, and seats are split and joined.
+//! One rule holds between any two steps of all threads: `BoardRule`. By it every number below the limit is drawn once, the numbers finished are counted, and no more passes are held than the bound allows.
+//!
+//! Nothing is said of which seat draws what, of the order in which seats step, or of whether a pass is ever free.
+#![tactic(auto)]
+
+mod board;
+mod rule;
+mod seat;
+#[cfg(test)]
+mod tests;
+mod words;
+
+pub use board::{Board, BoardFault};
+pub use rule::{BoardRule, Limits, View};
+pub use seat::Seat;
+pub use words::Totals;
+
+/// The most numbers that a board can have.
+pub const MOST_NUMBERS: u64 = 1_000_000;
+
+/// The most passes that a board can let be held at once.
+pub const MOST_PASSES: u64 = 64;
+
+/// The most seats that a board can have.
+pub const MOST_SEATS: u64 = 64;
