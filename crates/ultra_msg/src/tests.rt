@@ -14,7 +14,7 @@ struct Meeting {
     old_first: bool,
 }
 
-const MEETINGS: [Meeting; 5] = [
+const MEETINGS: [Meeting; 7] = [
     Meeting {
         run: "combined_pair",
         old: Op::Faa(1),
