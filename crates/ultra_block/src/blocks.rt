@@ -1,11 +1,14 @@
 //! The whole machine, cut into blocks.
 
 ghost use Rattle.std.specs.Prelude.{◌≡◌, ℕ, ◌+◌, ◌-◌, ◌^◌, ◌<◌, length, slice_index_or};
+ghost use Rattle.ultra_block.specs.Ported.{at_port};
+ghost use Rattle.ultra_block.specs.Machine.{lane_at, replies_at, bank_at, element_at};
 ghost use Rattle.ultra_block.specs.Phases.{cycle as next_cycle};
 
 use crate::block::Block;
 use crate::config::Config;
 use crate::cycle::make_cycle;
+use crate::element::ProcessingElement;
 use crate::element_unit::ElementUnit;
 use crate::home::Home;
 use crate::mail::Mail;
@@ -14,7 +17,9 @@ use crate::numbers::{element_number, module_number, switch_number};
 use crate::rooms::Rooms;
 use crate::switch_unit::SwitchUnit;
 use ultra_isa::Program;
+use ultra_mem::Module;
 use ultra_msg::Pe;
+use ultra_switch::{Ports, ToMm, ToPe};
 
 /// A whole machine, cut into blocks: its settings, its program, where each unit stands, and the blocks.
 ///
@@ -33,6 +38,7 @@ pub struct Blocks {
 impl Blocks {
     ghost use Rattle.ultra_block.specs.BlocksState.{machine_of, units_of_blocks, IsWhole};
     ghost use Rattle.ultra_block.specs.Cut.{no_home};
+    ghost use Rattle.ultra_block.specs.Elements.{element_of};
 
     /// The machine makes one cycle: replies, memory, requests, processors. It takes no memory and always succeeds.
     ///
@@ -113,4 +119,54 @@ impl Blocks {
         let home = self.home(element_number(self.config.net(), pe));
         self.blocks[home.block].element(home.index)
     }
+    /// The queue toward memory at a memory-side position of a stage, with its wait buffer. Stages count from 0, positions too.
+    pub fn lane(&self, stage: u32, position: u32) -> &ToMm
+        requires whole { IsWhole self.now }
+        requires stage { stage < self.now.config.stages }
+        requires position { position < 2 ^ self.now.config.stages }
+        ensures { result.now.lane ≡ lane_at (machine_of self.now) stage position }
+    {
+        let _even = self.config.net().size();
+        let unit = self.switch(stage, position / 2);
+        at(&unit.switch.to_mm, position % 2)
+    }
+
+    /// The queue toward the processing elements at a PE-side position of a stage.
+    pub fn reply_queue(&self, stage: u32, position: u32) -> &ToPe
+        requires whole { IsWhole self.now }
+        requires stage { stage < self.now.config.stages }
+        requires position { position < 2 ^ self.now.config.stages }
+        ensures { result.now.replies ≡ replies_at (machine_of self.now) stage position }
+    {
+        let _even = self.config.net().size();
+        let unit = self.switch(stage, position / 2);
+        at(&unit.switch.to_pe, position % 2)
+    }
+
+    /// A memory module, by its number.
+    pub fn bank(&self, number: u32) -> &Module
+        requires whole { IsWhole self.now }
+        requires number { number < 2 ^ self.now.config.stages }
+        ensures { result.now ≡ bank_at (machine_of self.now) number }
+    {
+        let unit = self.module(number);
+        &unit.bank
+    }
+
+    /// A processing element, by its number.
+    pub fn element(&self, pe: Pe) -> &ProcessingElement
+        requires whole { IsWhole self.now }
+        requires pe { pe < 2 ^ self.now.config.stages }
+        ensures { element_of result.now ≡ element_at (machine_of self.now) pe }
+    {
+        let unit = self.unit(pe);
+        &unit.element
+    }
+}
+
+/// What there is at a port, by its number.
+fn at<T>(ports: &Ports<T>, port: u32) -> &T
+    ensures { result.now ≡ at_port ports.now port }
+{
+    if port == 0 { &ports.zero } else { &ports.one }
 }

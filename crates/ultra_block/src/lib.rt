@@ -3,6 +3,7 @@
 
 mod block;
 mod blocks;
+mod building;
 mod config;
 mod cycle;
 mod element;
