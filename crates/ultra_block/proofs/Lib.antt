@@ -43,3 +43,4 @@ pub mod Housing
 pub mod Starting
 pub mod Filled
 pub mod UnitByUnit
+pub mod Ranged

@@ -28,3 +28,4 @@ pub mod Ready
 pub mod BlocksState
 pub mod Fresh
 pub mod Built
+pub mod Partition
