@@ -10,7 +10,8 @@ use Rattle.ultra_block.specs.Elements.{element_of}
 use Rattle.ultra_block.specs.declared.switch_unit.SwitchUnit.{SwitchUnit}
 use Rattle.ultra_block.specs.declared.module_unit.ModuleUnit.{ModuleUnit}
 use Rattle.ultra_block.specs.declared.element_unit.ElementUnit.{ElementUnit}
-use Rattle.ultra_block.specs.Whole.{Units, at_port, both, sized_lane, sized_replies, combined_in, whole, deliveries, servings, all_combined, issues, all_stops, Fit, FitsSwitch, FitsModule, FitsElement}
+use Rattle.ultra_block.specs.Ported.{at_port}
+use Rattle.ultra_block.specs.Whole.{Units, both, sized_lane, sized_replies, combined_in, whole, deliveries, servings, all_combined, issues, all_stops, Fit, FitsSwitch, FitsModule, FitsElement}
 use Rattle.ultra_block.proofs.AtUnits.{same_places, same_table, same_machine}
 
 pub record AreAlike (c : Settings) (u v : Units) : Type 0 where

@@ -14,7 +14,8 @@ use Rattle.ultra_block.specs.Machine.{Settings, Machine, Element, size, fresh_el
 use Rattle.ultra_block.specs.Phases as phase
 use Rattle.ultra_block.specs.SwitchSteps.{has_reply_room}
 use Rattle.ultra_block.specs.Elements.{element_of}
-use Rattle.ultra_block.specs.Whole.{Units, at_port, sized_lane, sized_replies, whole, Fit}
+use Rattle.ultra_block.specs.Ported.{at_port}
+use Rattle.ultra_block.specs.Whole.{Units, sized_lane, sized_replies, whole, Fit}
 use Rattle.ultra_block.proofs.Each.{places_at, table_at}
 
 -- ---- tests

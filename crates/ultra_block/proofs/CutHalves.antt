@@ -19,7 +19,8 @@ use Rattle.ultra_block.specs.ElementSteps as element
 use Rattle.ultra_block.specs.Tables.{written, without_replies_out, without_requests_out, without_reply_out, without_request_out, with_replies_in, with_reply_in, with_requests_in, with_request_in}
 use Rattle.ultra_block.specs.BlockState.{BlockState}
 use Rattle.ultra_block.specs.BlockSteps as block
-use Rattle.ultra_block.specs.Whole.{Units, at_port, Fit}
+use Rattle.ultra_block.specs.Ported.{at_port}
+use Rattle.ultra_block.specs.Whole.{Units, Fit}
 use Rattle.ultra_block.specs.Cut.{no_block, units_at, IsCut, AreDone}
 use Rattle.ultra_block.specs.declared.home.Home.{Home}
 use Rattle.ultra_block.specs.declared.switch_unit.SwitchUnit.{SwitchUnit}

@@ -39,3 +39,8 @@ pub mod Likewise
 pub mod Admitted
 pub mod CutCycle
 pub mod Together
+pub mod Housing
+pub mod Starting
+pub mod Filled
+pub mod UnitByUnit
+pub mod Ranged

@@ -12,7 +12,8 @@ use Rattle.ultra_block.specs.SwitchSteps as switch
 use Rattle.ultra_block.specs.ModuleSteps as bank
 use Rattle.ultra_block.specs.ElementSteps as element
 use Rattle.ultra_block.specs.Tables.{without_replies_out, without_requests_out, without_reply_out, without_request_out}
-use Rattle.ultra_block.specs.Whole.{Units, at_port}
+use Rattle.ultra_block.specs.Ported.{at_port}
+use Rattle.ultra_block.specs.Whole.{Units}
 use Rattle.ultra_block.specs.declared.switch_unit.SwitchUnit.{SwitchUnit}
 use Rattle.ultra_block.specs.declared.module_unit.ModuleUnit.{ModuleUnit}
 use Rattle.ultra_block.specs.declared.element_unit.ElementUnit.{ElementUnit}

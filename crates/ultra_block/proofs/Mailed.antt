@@ -13,7 +13,8 @@ use Rattle.ultra_block.specs.SwitchSteps.{position}
 use Rattle.ultra_block.specs.Tables.{Entry, written, switch_replies, module_replies, switch_requests, element_requests}
 use Rattle.ultra_block.specs.BlockState.{BlockState}
 use Rattle.ultra_block.specs.BlockSteps.{reply_entries, request_entries}
-use Rattle.ultra_block.specs.Whole.{Units, at_port, Fit}
+use Rattle.ultra_block.specs.Ported.{at_port}
+use Rattle.ultra_block.specs.Whole.{Units, Fit}
 use Rattle.ultra_block.specs.Cut.{no_block, units_of, switches_of, modules_of, elements_of, home_at, module_home, element_home, units_at, IsCut}
 use Rattle.ultra_block.specs.declared.home.Home.{Home}
 use Rattle.ultra_block.proofs.Standing.{number_small}

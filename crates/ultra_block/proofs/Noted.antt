@@ -13,7 +13,8 @@ use Rattle.ultra_block.specs.SwitchSteps.{has_reply_room, position}
 use Rattle.ultra_block.specs.Tables.{Entry, written, reply_rooms, request_rooms, module_rooms}
 use Rattle.ultra_block.specs.BlockState.{BlockState}
 use Rattle.ultra_block.specs.BlockSteps.{reply_notes, request_notes, module_notes}
-use Rattle.ultra_block.specs.Whole.{Units, at_port, sized_lane, Fit}
+use Rattle.ultra_block.specs.Ported.{at_port}
+use Rattle.ultra_block.specs.Whole.{Units, sized_lane, Fit}
 use Rattle.ultra_block.specs.Cut.{no_block, no_switch, no_module, no_element, units_of, standing, switches_of, modules_of, elements_of, home_at, module_home, element_home, units_at, IsCut, HasPlaces}
 use Rattle.ultra_block.specs.declared.home.Home.{Home}
 use Rattle.ultra_block.specs.declared.switch_unit.SwitchUnit.{SwitchUnit}

@@ -12,7 +12,8 @@ use Rattle.ultra_block.specs.SwitchSteps as switch
 use Rattle.ultra_block.specs.ModuleSteps as bank
 use Rattle.ultra_block.specs.ElementSteps as element
 use Rattle.ultra_block.specs.Tables.{without_replies_out, without_requests_out, without_reply_out, without_request_out}
-use Rattle.ultra_block.specs.Whole.{Units, at_port, sized_lane}
+use Rattle.ultra_block.specs.Ported.{at_port}
+use Rattle.ultra_block.specs.Whole.{Units, sized_lane}
 
 -- what was noted of the rooms is so
 pub record AreNoted (c : Settings) (u : Units) (rooms : RoomTable) : Type 0 where

@@ -21,7 +21,8 @@ use Rattle.ultra_block.specs.Halves.{ports, going_by, lane_after_reply, replies_
 use Rattle.ultra_block.specs.SwitchSteps as switch
 use Rattle.ultra_block.specs.ModuleSteps as bank
 use Rattle.ultra_block.specs.Elements.{element_of}
-use Rattle.ultra_block.specs.Whole.{Units, at_port, sized_lane, sized_replies, whole, deliveries, Fit}
+use Rattle.ultra_block.specs.Ported.{at_port}
+use Rattle.ultra_block.specs.Whole.{Units, sized_lane, sized_replies, whole, deliveries, Fit}
 use Rattle.ultra_block.proofs.AtUnits.{pick_true, pick_false, by_port, half_even, half_odd, rest_even, rest_odd, place_is, same_places, same_table, same_machine, lane_is, replies_is, bank_is, element_is, cycles_is, reply_room_is}
 use Rattle.ultra_block.proofs.Passing.{AreNoted, replies_sent, reply_on, replies_exchanged, replies_taken}
 

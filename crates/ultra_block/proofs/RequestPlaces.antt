@@ -21,7 +21,8 @@ use Rattle.ultra_block.specs.Halves.{ports, lane_without, lane_with, lane_with_b
 use Rattle.ultra_block.specs.SwitchSteps as switch
 use Rattle.ultra_block.specs.ElementSteps as element
 use Rattle.ultra_block.specs.Elements.{element_of}
-use Rattle.ultra_block.specs.Whole.{Units, at_port, both, sized_lane, sized_replies, combined_in, whole, all_combined, Fit}
+use Rattle.ultra_block.specs.Ported.{at_port}
+use Rattle.ultra_block.specs.Whole.{Units, both, sized_lane, sized_replies, combined_in, whole, all_combined, Fit}
 use Rattle.ultra_block.proofs.AtUnits.{pick_true, pick_false, by_port, half_even, half_odd, rest_even, rest_odd, place_is, same_places, same_table, same_machine, lane_is, replies_is, bank_is, element_is, cycles_is}
 use Rattle.ultra_block.proofs.Passing.{AreNoted, requests_sent, request_on, requests_exchanged, requests_taken}
 use Rattle.ultra_block.proofs.ReplyPlaces.{at_both, at_two, at_positions, same_test}

@@ -1,5 +1,5 @@
 -- a block after each half of a cycle, and what a half asks of it
-use Rattle.std.specs.Prelude.{ℕ, ◌+◌, ◌-◌, ◌<◌, ◌^◌, List, ◌++◌, Bool, Option, All, map}
+use Rattle.std.specs.Prelude.{ℕ, ◌+◌, ◌-◌, ◌<◌, ◌^◌, List, [], ◌∷◌, ◌++◌, Bool, Option, All, map}
 use Rattle.std.specs.List.{flat_map}
 use Rattle.ultra_msg.specs.declared.Request.{Request}
 use Rattle.ultra_msg.specs.declared.ReplyMessage.{ReplyMessage}
@@ -7,6 +7,9 @@ use Rattle.ultra_isa.specs.declared.Instr.{Instr}
 use Rattle.ultra_block.specs.RoomTable.{RoomTable}
 use Rattle.ultra_block.specs.MailTable.{MailTable}
 use Rattle.ultra_block.specs.Tables.{Entry, written, reply_rooms, request_rooms, module_rooms, switch_replies, module_replies, switch_requests, element_requests, without_replies_out, without_requests_out, without_reply_out, without_request_out, with_replies_in, with_reply_in, with_requests_in, with_request_in}
+use Rattle.ultra_block.specs.declared.switch_unit.SwitchUnit.{SwitchUnit}
+use Rattle.ultra_block.specs.declared.module_unit.ModuleUnit.{ModuleUnit}
+use Rattle.ultra_block.specs.declared.element_unit.ElementUnit.{ElementUnit}
 use Rattle.ultra_block.specs.BlockState.{BlockState}
 use Rattle.ultra_block.specs.SwitchSteps as switch
 use Rattle.ultra_block.specs.ModuleSteps as bank
@@ -87,3 +90,13 @@ posted_requests b = record b { switches = map without_requests_out b.switches; e
 
 abbrev pub fetches_requests : MailTable → BlockState → BlockState
 fetches_requests mail b = record b { switches = map (with_requests_in mail) b.switches; modules = map (with_request_in mail) b.modules }
+
+-- ---- a block with one unit more
+abbrev pub with_switch : BlockState → SwitchUnit → BlockState
+with_switch b u = record b { switches = b.switches ++ u ∷ [] }
+
+abbrev pub with_module : BlockState → ModuleUnit → BlockState
+with_module b u = record b { modules = b.modules ++ u ∷ [] }
+
+abbrev pub with_element : BlockState → ElementUnit → BlockState
+with_element b u = record b { elements = b.elements ++ u ∷ [] }

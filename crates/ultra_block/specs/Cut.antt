@@ -74,6 +74,11 @@ module _ {U : Type 0} (kind : BlockState → List U) where
     pub numbered : (k i : ℕ) (d : U) → k < length bs → i < length (units_of bs k) → number_of (slice_index_or (units_of bs k) i d) < count
     pub home : (k i : ℕ) (d : U) → k < length bs → i < length (units_of bs k) → home_of (number_of (slice_index_or (units_of bs k) i d)) ≡ record { block = k; index = i }
 
+  -- and each is as it was made
+  pub record AreNew (bs : List BlockState) (count : ℕ) (home_of : ℕ → Home) (number_of : U → ℕ) (none : U) (made : ℕ → U) : Type 0 where
+    pub home : AreHome bs count home_of number_of
+    pub as_new : (n : ℕ) → n < count → standing none bs (home_of n) ≡ made n
+
 abbrev pub switches_of : BlockState → List SwitchUnit
 switches_of b = b.switches
 

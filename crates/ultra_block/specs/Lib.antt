@@ -14,6 +14,7 @@ pub mod BlockState
 pub mod MailTable
 pub mod Tables
 pub mod BlockSteps
+pub mod Ported
 pub mod Whole
 pub mod Ranges
 pub mod Shape
@@ -25,3 +26,6 @@ pub mod Cut
 pub mod Cycle
 pub mod Ready
 pub mod BlocksState
+pub mod Fresh
+pub mod Built
+pub mod Partition

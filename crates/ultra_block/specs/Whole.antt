@@ -1,5 +1,5 @@
 -- the whole machine of which the units are given by their numbers
-use Rattle.std.specs.Prelude.{◌≡◌, ℕ, zero, suc, ◌+◌, ◌-◌, ◌/◌, ◌%◌, ◌^◌, ◌<◌, ◌≤◌, List, [], ◌∷◌, ◌++◌, Bool, Option, length}
+use Rattle.std.specs.Prelude.{◌≡◌, ℕ, ◌+◌, ◌-◌, ◌/◌, ◌%◌, ◌^◌, ◌<◌, ◌≤◌, List, [], ◌∷◌, ◌++◌, Bool, Option, length}
 use Rattle.ultra_msg.specs.declared.ReplyMessage.{ReplyMessage}
 use Rattle.ultra_msg.specs.declared.Event.{Event}
 use Rattle.ultra_switch.specs.declared.Ports.{Ports}
@@ -8,16 +8,12 @@ use Rattle.ultra_switch.specs.Queues.{SizedLane, SizedReplies}
 use Rattle.ultra_block.specs.Places.{places, table, present, joined}
 use Rattle.ultra_block.specs.Machine.{Settings, Machine, size, site}
 use Rattle.ultra_block.specs.Phases.{delivery, serving}
+use Rattle.ultra_block.specs.Ported.{at_port}
 use Rattle.ultra_block.specs.Elements.{element_of}
 use Rattle.ultra_block.specs.declared.Stop.{Stop}
 use Rattle.ultra_block.specs.declared.switch_unit.SwitchUnit.{SwitchUnit}
 use Rattle.ultra_block.specs.declared.module_unit.ModuleUnit.{ModuleUnit}
 use Rattle.ultra_block.specs.declared.element_unit.ElementUnit.{ElementUnit}
-
--- what there is at a port
-abbrev pub at_port : {X : Type 0} → Ports X → ℕ → X
-at_port p zero = p.zero
-at_port p (suc n) = p.one
 
 -- the units of a machine: its switches by stage and index, its modules and its processing elements
 pub record Units : Type 0 where

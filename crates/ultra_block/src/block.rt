@@ -1,6 +1,6 @@
 //! Blocks: some of the units of a machine.
 
-ghost use Rattle.std.specs.Prelude.{◌≡◌, ℕ, ◌<◌, length, slice_index_or};
+ghost use Rattle.std.specs.Prelude.{◌≡◌, ℕ, ◌<◌, OnOk, length, slice_index_or};
 
 use crate::element_unit::ElementUnit;
 use crate::exchange::{
@@ -17,6 +17,7 @@ use crate::passes::{
 };
 use crate::rooms::Rooms;
 use crate::switch_unit::SwitchUnit;
+use std::alloc::AllocError;
 use std::marker::Model;
 use ultra_isa::Program;
 
@@ -42,8 +43,11 @@ impl Model for Block {
 }
 
 impl Block {
-    ghost use Rattle.ultra_block.specs.BlockSteps.{CanExecute, CanTakeReplies, CanTakeRequests, executes, fetches_replies, fetches_requests, notes_rooms, posted_replies, posted_requests, posts_replies, posts_requests, sends_replies, sends_requests, serves, takes_replies, takes_requests};
+    ghost use Rattle.ultra_block.specs.BlockSteps.{CanExecute, CanTakeReplies, CanTakeRequests, executes, fetches_replies, fetches_requests, notes_rooms, posted_replies, posted_requests, posts_replies, posts_requests, sends_replies, sends_requests, serves, takes_replies, takes_requests, with_element, with_module, with_switch};
     ghost use Rattle.ultra_block.specs.Cut.{no_element, no_module, no_switch};
+    ghost use Rattle.ultra_block.specs.SwitchSteps as switch;
+    ghost use Rattle.ultra_block.specs.ModuleSteps as bank;
+    ghost use Rattle.ultra_block.specs.ElementSteps as element;
 
     /// Notes which of its switches, queues and modules have room.
     pub fn rooms(&self, rooms: &mut Rooms)
@@ -158,5 +162,53 @@ impl Block {
         ensures { result.now ≡ slice_index_or self.now.elements place no_element }
     {
         &self.elements[place]
+    }
+
+    /// How many switches the block has.
+    pub(crate) fn switch_count(&self) -> usize
+        ensures { result ≡ length self.now.switches }
+    {
+        self.switches.len()
+    }
+
+    /// Puts a switch at the end. An error says that memory was refused.
+    pub(crate) fn add_switch(&mut self, unit: SwitchUnit) -> Result<(), AllocError>
+        requires { switch.IsPlaced unit }
+        ensures { OnOk result (self.new ≡ with_switch self.old unit) }
+    {
+        self.switches.push(unit)?;
+        Ok(())
+    }
+
+    /// How many modules the block has.
+    pub(crate) fn module_count(&self) -> usize
+        ensures { result ≡ length self.now.modules }
+    {
+        self.modules.len()
+    }
+
+    /// Puts a module at the end. An error says that memory was refused.
+    pub(crate) fn add_module(&mut self, unit: ModuleUnit) -> Result<(), AllocError>
+        requires { bank.IsPlaced unit }
+        ensures { OnOk result (self.new ≡ with_module self.old unit) }
+    {
+        self.modules.push(unit)?;
+        Ok(())
+    }
+
+    /// How many processing elements the block has.
+    pub(crate) fn element_count(&self) -> usize
+        ensures { result ≡ length self.now.elements }
+    {
+        self.elements.len()
+    }
+
+    /// Puts a processing element at the end. An error says that memory was refused.
+    pub(crate) fn add_element(&mut self, unit: ElementUnit) -> Result<(), AllocError>
+        requires { element.IsPlaced unit }
+        ensures { OnOk result (self.new ≡ with_element self.old unit) }
+    {
+        self.elements.push(unit)?;
+        Ok(())
     }
 }

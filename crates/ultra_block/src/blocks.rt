@@ -1,11 +1,17 @@
 //! The whole machine, cut into blocks.
 
-ghost use Rattle.std.specs.Prelude.{◌≡◌, ℕ, ◌+◌, ◌-◌, ◌^◌, ◌<◌, length, slice_index_or};
+ghost use Rattle.std.specs.Prelude.{◌≡◌, ℕ, ◌+◌, ◌-◌, ◌^◌, ◌<◌, true, false, length, slice_index_or, nat_lt, IfOk, OnOk, IsErrOf, ◌↔◌};
+ghost use Rattle.std.specs.List.{list_all};
+ghost use Rattle.ultra_block.specs.Partition.{is_partition, unit_count};
+ghost use Rattle.ultra_block.specs.Ported.{at_port};
+ghost use Rattle.ultra_block.specs.Machine.{start, lane_at, replies_at, bank_at, element_at};
 ghost use Rattle.ultra_block.specs.Phases.{cycle as next_cycle};
 
 use crate::block::Block;
+use crate::building::{add_elements, add_modules, add_switches, empty_blocks};
 use crate::config::Config;
 use crate::cycle::make_cycle;
+use crate::element::ProcessingElement;
 use crate::element_unit::ElementUnit;
 use crate::home::Home;
 use crate::mail::Mail;
@@ -13,8 +19,36 @@ use crate::module_unit::ModuleUnit;
 use crate::numbers::{element_number, module_number, switch_number};
 use crate::rooms::Rooms;
 use crate::switch_unit::SwitchUnit;
+use std::alloc::{AllocError, Global};
+use thiserror::Error;
 use ultra_isa::Program;
+use ultra_mem::Module;
 use ultra_msg::Pe;
+use ultra_switch::{Ports, ToMm, ToPe};
+
+/// The most blocks that a machine is cut into.
+pub const MOST_BLOCKS: u8 = 64;
+
+/// Why a machine is not cut so.
+#[derive(Clone, Copy, PartialEq, Eq, Debug, Drop, Error)]
+pub enum PartitionFault {
+    /// Memory was refused.
+    #[error("no memory")]
+    NoMemory,
+    /// The partition does not name a block from 0 to 63 for each unit, and for no other.
+    #[error("bad partition")]
+    BadPartition,
+}
+
+impl From<AllocError> for PartitionFault {
+    ghost use Rattle.ultra_block.specs.declared.blocks.PartitionFault.TheVariants.{NoMemory};
+
+    ghost from_gives = { λ _ fault. fault ≡ NoMemory };
+
+    fn from(_: AllocError) -> PartitionFault {
+        PartitionFault::NoMemory
+    }
+}
 
 /// A whole machine, cut into blocks: its settings, its program, where each unit stands, and the blocks.
 ///
@@ -33,6 +67,46 @@ pub struct Blocks {
 impl Blocks {
     ghost use Rattle.ultra_block.specs.BlocksState.{machine_of, units_of_blocks, IsWhole};
     ghost use Rattle.ultra_block.specs.Cut.{no_home};
+    ghost use Rattle.ultra_block.specs.Elements.{element_of};
+
+    /// The machine of these settings and this program before its first cycle: all registers and cells are 0 but for the initial ones, and nothing is on its way. The partition names the block of each unit, 0 to 63: switches come first, then modules, then processing elements. Blocks may be empty.
+    ///
+    /// `BadPartition` says that the partition is not of this length, or that a block is above 63; it is found before memory is asked for. `NoMemory` says that memory was refused.
+    pub fn new(
+        alloc: Global,
+        config: &Config,
+        program: &Program,
+        partition: &[u8],
+    ) -> Result<Blocks, PartitionFault>
+        ensures whole { IfOk result (λ b. IsWhole b) }
+        ensures state { IfOk result (λ b. machine_of b ≡ start config.now) }
+        ensures settings { IfOk result (λ b. b.config ≡ config.now) }
+        ensures program { IfOk result (λ b. b.program ≡ program.now) }
+        ensures accepted { OnOk result (is_partition config.now partition.now ≡ true) }
+        ensures refused { IsErrOf result PartitionFault.BadPartition ↔ (is_partition config.now partition.now ≡ false) }
+    {
+        if !names_all_units(config, partition) {
+            return Err(PartitionFault::BadPartition);
+        }
+        let _valid = config.initial();
+        let net = config.net();
+        let switches = (net.stages() * (net.size() / 2)) as usize;
+        let size = net.size() as usize;
+        let mut blocks = empty_blocks(alloc, MOST_BLOCKS as usize)?;
+        let mut homes = Vec::new(alloc);
+        add_switches(alloc, config, partition, &mut blocks, &mut homes)?;
+        add_modules(alloc, config, partition, switches, &mut blocks, &mut homes)?;
+        add_elements(config, partition, switches + size, &mut blocks, &mut homes)?;
+        Ok(Blocks {
+            rooms: Rooms::new(alloc, net)?,
+            mail: Mail::new(alloc, (net.stages() as usize + 1) * size)?,
+            config: config.try_clone()?,
+            program: program.try_clone(alloc)?,
+            homes,
+            done: 0,
+            blocks,
+        })
+    }
 
     /// The machine makes one cycle: replies, memory, requests, processors. It takes no memory and always succeeds.
     ///
@@ -113,4 +187,77 @@ impl Blocks {
         let home = self.home(element_number(self.config.net(), pe));
         self.blocks[home.block].element(home.index)
     }
+    /// The queue toward memory at a memory-side position of a stage, with its wait buffer. Stages count from 0, positions too.
+    pub fn lane(&self, stage: u32, position: u32) -> &ToMm
+        requires whole { IsWhole self.now }
+        requires stage { stage < self.now.config.stages }
+        requires position { position < 2 ^ self.now.config.stages }
+        ensures { result.now.lane ≡ lane_at (machine_of self.now) stage position }
+    {
+        let _even = self.config.net().size();
+        let unit = self.switch(stage, position / 2);
+        at(&unit.switch.to_mm, position % 2)
+    }
+
+    /// The queue toward the processing elements at a PE-side position of a stage.
+    pub fn reply_queue(&self, stage: u32, position: u32) -> &ToPe
+        requires whole { IsWhole self.now }
+        requires stage { stage < self.now.config.stages }
+        requires position { position < 2 ^ self.now.config.stages }
+        ensures { result.now.replies ≡ replies_at (machine_of self.now) stage position }
+    {
+        let _even = self.config.net().size();
+        let unit = self.switch(stage, position / 2);
+        at(&unit.switch.to_pe, position % 2)
+    }
+
+    /// A memory module, by its number.
+    pub fn bank(&self, number: u32) -> &Module
+        requires whole { IsWhole self.now }
+        requires number { number < 2 ^ self.now.config.stages }
+        ensures { result.now ≡ bank_at (machine_of self.now) number }
+    {
+        let unit = self.module(number);
+        &unit.bank
+    }
+
+    /// A processing element, by its number.
+    pub fn element(&self, pe: Pe) -> &ProcessingElement
+        requires whole { IsWhole self.now }
+        requires pe { pe < 2 ^ self.now.config.stages }
+        ensures { element_of result.now ≡ element_at (machine_of self.now) pe }
+    {
+        let unit = self.unit(pe);
+        &unit.element
+    }
+}
+
+/// What there is at a port, by its number.
+fn at<T>(ports: &Ports<T>, port: u32) -> &T
+    ensures { result.now ≡ at_port ports.now port }
+{
+    if port == 0 { &ports.zero } else { &ports.one }
+}
+
+/// How many units a machine of these settings has.
+fn units_wanted(config: &Config) -> usize
+    ensures { result ≡ unit_count config.now }
+{
+    let net = config.net();
+    let stages = net.stages();
+    (stages * (net.size() / 2) + 2 * net.size()) as usize
+}
+
+/// Whether each is a block from 0 to 63.
+fn are_blocks(partition: &[u8]) -> bool
+    ensures { result ≡ list_all (λ (b : ℕ). nat_lt b 64) partition.now }
+{
+    partition.iter().all(|block| *block < MOST_BLOCKS)
+}
+
+/// Whether the partition names a block from 0 to 63 for each unit of a machine of these settings, and no more.
+fn names_all_units(config: &Config, partition: &[u8]) -> bool
+    ensures { result ≡ is_partition config.now partition.now }
+{
+    partition.len() == units_wanted(config) && are_blocks(partition)
 }

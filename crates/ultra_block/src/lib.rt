@@ -3,6 +3,7 @@
 
 mod block;
 mod blocks;
+mod building;
 mod config;
 mod cycle;
 mod element;
@@ -20,7 +21,7 @@ mod rooms;
 mod switch_unit;
 
 pub use block::Block;
-pub use blocks::Blocks;
+pub use blocks::{Blocks, MOST_BLOCKS, PartitionFault};
 pub use config::{Config, ConfigFault, Field, MOST_STAGES, RawSettings};
 pub use element::ProcessingElement;
 pub use home::Home;

@@ -1,5 +1,6 @@
 //! Where there is room at the start of a phase.
 
+ghost use Rattle.ultra_block.specs.Cut.{HasPlaces};
 ghost use Rattle.std.specs.Prelude.{◌≡◌, ℕ, ◌^◌, ◌*◌, ◌-◌, IfOk, false, slice_index_or, slice_set, replicate};
 
 use std::alloc::{AllocError, Global};
@@ -23,6 +24,19 @@ impl Model for Rooms {
 }
 
 impl Rooms {
+    /// Places for all switches, queues and modules of a network, where there is no room yet. An error says that their memory was refused.
+    pub(crate) fn new(alloc: Global, net: Net) -> Result<Rooms, AllocError>
+        ensures { IfOk result (λ r. HasPlaces net r) }
+    {
+        let stages = net.stages() as usize;
+        let size = net.size() as usize;
+        Ok(Rooms {
+            replies: vec![in alloc; false; stages * (size / 2)]?,
+            requests: vec![in alloc; false; stages * size]?,
+            modules: vec![in alloc; false; size]?,
+        })
+    }
+
     /// Whether the switch of this number has room for replies.
     pub(crate) fn has_reply_room(&self, number: usize) -> bool
         ensures { result ≡ slice_index_or self.now.replies number false }
