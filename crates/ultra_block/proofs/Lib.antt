@@ -17,3 +17,4 @@ pub mod RequestBalance
 pub mod Balanced
 pub mod Sound
 pub mod Interfaces
+pub mod Words

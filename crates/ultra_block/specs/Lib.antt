@@ -7,3 +7,4 @@ pub mod Capacity
 pub mod Routed
 pub mod Balance
 pub mod Sound
+pub mod Words
