@@ -1,7 +1,7 @@
 -- every phase keeps all that a machine holds to words
-use Rattle.std.proofs.Common.{◌≡◌, ℕ, zero, suc, ◌+◌, ◌-◌, ◌*◌, ◌/◌, ◌%◌, ◌^◌, ◌<◌, ◌≤◌, List, [], ◌∷◌, ◌++◌, Bool, true, false, refl, arith, sym, ◌∙◌, ap, subst, length, div-le_self}
-use Rattle.std.specs.Prelude.{Option, Some, None, IfSome, slice_get, slice_index, slice_set, replicate, ◌==◌, ◌&&◌, not, nat_lt, bit_and, if◌then◌else◌}
-use Rattle.std.specs.List.{AllByRecursion, filter}
+use Rattle.std.proofs.Common.{◌≡◌, ℕ, zero, suc, ◌+◌, ◌-◌, ◌*◌, ◌/◌, ◌%◌, ◌^◌, ◌<◌, ◌≤◌, List, [], ◌∷◌, Bool, true, false, refl, arith, length, div-le_self}
+use Rattle.std.specs.Prelude.{Option, Some, None, IfSome, slice_get, slice_index, slice_set, replicate, ◌==◌, nat_lt, if◌then◌else◌}
+use Rattle.std.specs.List.{AllByRecursion}
 use Rattle.ultra_msg.specs.declared.Op.{Op}
 use Rattle.ultra_msg.specs.declared.Op.TheVariants as op
 use Rattle.ultra_msg.specs.declared.Reply.{Reply}
@@ -22,19 +22,19 @@ use Rattle.ultra_switch.specs.Arrive.{Lane, Combination, entry, behind, can_comb
 use Rattle.ultra_switch.specs.Split.{is_of, records_after, replies_of, old_reply, new_reply}
 use Rattle.ultra_switch.specs.Queues.{request_of}
 use Rattle.ultra_mem.specs.declared.Placed.{Placed}
-use Rattle.ultra_mem.specs.Serve.{Bank, after_serving, serve, to_serve, value_at}
+use Rattle.ultra_mem.specs.Serve.{Bank, after_serving, serve, value_at}
 use Rattle.ultra_pni.specs.declared.Issue.{Issue}
 use Rattle.ultra_pni.specs.declared.Issue.TheVariants.{Sent, CellOpen, Full}
-use Rattle.ultra_pni.specs.Interface.{Interface, target_of, issue_of, after_issue}
+use Rattle.ultra_pni.specs.Interface.{Interface, target_of, issue_of}
 use Rattle.ultra_isa.specs.declared.Instr.{Instr}
 use Rattle.ultra_isa.specs.declared.Instr.TheVariants.{Set, Add, AddWord, Subtract, And, ShiftRight, IsBelow, IsEqual, JumpIfZero, JumpIfNotZero, Jump, Number, Size, Load, Store, Faa, Swap, Fence, Halt}
 use Rattle.ultra_isa.specs.declared.Activity.{Activity}
 use Rattle.ultra_isa.specs.declared.Activity.TheVariants as activity
-use Rattle.ultra_isa.specs.Instruction.{Site, Effect, sets, goes_on_at, refers, waits, halts, effect, minus}
-use Rattle.ultra_isa.specs.Step.{Core, Stepped, received, stays, faults, refers_as, refers_where, waits_where, does, runs_where, runs, runs_as, step_of, names_awaited}
+use Rattle.ultra_isa.specs.Instruction.{Site, Effect, sets, goes_on_at, refers, waits, halts, effect}
+use Rattle.ultra_isa.specs.Step.{Core, Stepped, received, refers_as, refers_where, waits_where, does, runs_where, runs, runs_as, step_of, names_awaited}
 use Rattle.ultra_isa.proofs.Steps.{SendsInto}
 use Rattle.ultra_block.specs.Machine.{Settings, Machine, Element, size, last_stage, site, start, given_value, lane_at, replies_at, bank_at, element_at, reply_exit, request_exit}
-use Rattle.ultra_block.specs.Phases.{deliver, delivered, without_reply, records_left, replies_made, arriving_reply, reply_before, has_reply_room, leaving_reply, replies_at_exit, next_replies, reply_phase, memory_phase, arrive_all, has_request_room, request_before, admitted, arriving_request, entering, with_request, requests_by, arrivals, lane_after_leaving, leaving_request, request_phase, stepped, step_at, processor_phase, cycle, after}
+use Rattle.ultra_block.specs.Phases.{deliver, delivered, without_reply, records_left, replies_made, arriving_reply, reply_before, has_reply_room, leaving_reply, replies_at_exit, next_replies, reply_phase, memory_phase, arrive_all, has_request_room, request_before, admitted, arriving_request, entering, with_request, requests_by, arrivals, lane_after_leaving, leaving_request, request_phase, step_at, processor_phase, cycle, after}
 use Rattle.ultra_block.specs.Ranges.{AreInRange}
 use Rattle.ultra_block.proofs.Each.{each-append, each-after_leaving, each-first, each-places, if_tested}
 use Rattle.ultra_block.proofs.OnRoute.{each-filter, some-request}
