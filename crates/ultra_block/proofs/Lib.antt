@@ -44,3 +44,4 @@ pub mod Starting
 pub mod Filled
 pub mod UnitByUnit
 pub mod Ranged
+pub mod Words

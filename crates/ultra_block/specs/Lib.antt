@@ -29,3 +29,4 @@ pub mod BlocksState
 pub mod Fresh
 pub mod Built
 pub mod Partition
+pub mod Words
