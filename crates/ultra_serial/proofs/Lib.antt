@@ -16,3 +16,4 @@ pub mod Issued
 pub mod Answered
 pub mod Lists
 pub mod Law
+pub mod Broken

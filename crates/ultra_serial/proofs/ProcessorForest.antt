@@ -97,11 +97,6 @@ pub unmentioned_leaf : (n p a : ℕ) (es : List Event) (is : List Issue) → men
 unmentioned_leaf n p a [] is h = refl
 unmentioned_leaf n p a (e ∷ es) is h = unmentioned_leaf n p a es (issues_after n is e) (omega (arith, h)) ∙ event_leaf n p a is e (omega (arith, h))
 
-in_mentions : (t : ℕ → ℕ → Bool) (e : Event) (es : List Event) → IsIn e es → mention t e ≤ mentions t es
-in_mentions t e [] h = absurd h
-in_mentions t e (u ∷ es) (inl z) = let same : mention t u ≡ mention t e = ap (λ v. mention t v) z in omega (arith, same)
-in_mentions t e (u ∷ es) (inr h) = let rest = in_mentions t e es h in omega (arith, rest)
-
 abbrev issued_leaf : Request → ℕ → Leaf
 issued_leaf r k = record { pe = r.pe; number = k; cell = r.cell; op = r.op }
 

@@ -58,15 +58,6 @@ leaves_for : (a s x : ℕ) (old new : Tree) (f : Bool) → AreFor a (leaves old)
 leaves_for a s x old new true h k = each-append (λ (l : Leaf). l.cell ≡ a) (leaves old) (leaves new) h k
 leaves_for a s x old new false h k = each-append (λ (l : Leaf). l.cell ≡ a) (leaves new) (leaves old) k h
 
-grown_for : (a s x : ℕ) (t : Tree) (f : ℕ → Tree) (o : Option WaitRecord) → AreFor a (leaves t) → ((q : ℕ) → AreFor a (leaves (f q))) → AreFor a (leaves (grown s x t f o))
-grown_for a s x t f None h g = h
-grown_for a s x t f (Some w) h g = leaves_for a s x t (f w.partner) (pair_of (sent t) (sent (f w.partner))).old_first h (g w.partner)
-
--- a message's tree is for its cell
-pub built_for : (c : Settings) (m : Machine) (is : List Issue) (b p a : ℕ) → AreFor a (leaves (built c m is b p a))
-built_for c m is zero p a = rw (built_leaf c m is p a) (refl, tt)
-built_for c m is (suc s) p a = rw (built_next c m is s p a) (grown_for a s (position_of c s p a) (built c m is s p a) (λ q. built c m is s q a) (record_at c m s p a) (built_for c m is s p a) (λ q. built_for c m is s q a))
-
 -- all leaves of a tree for a cell
 abbrev pub IsFor : ℕ → Tree → Type 0
 IsFor a (leaf l) = l.cell ≡ a

@@ -13,7 +13,7 @@ use Rattle.ultra_serial.specs.Legal.{Entry}
 use Rattle.ultra_serial.specs.SerialList.{history, serial_list}
 
 -- the request of this processing element and number, with its cell, operation and reply
-abbrev done : ℕ → ℕ → ℕ → Op → Reply → Entry
+abbrev pub done : ℕ → ℕ → ℕ → Op → Reply → Entry
 done p n a o r = record { pe = p; number = n; cell = a; op = o; reply = r }
 
 combined_pair : serial_list one_stage add_one 8 ≡ done 1 0 0 (Faa 1) (Value 0) ∷ done 0 0 0 (Faa 1) (Value 1) ∷ []

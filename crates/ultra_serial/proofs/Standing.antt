@@ -11,7 +11,7 @@ use Rattle.ultra_block.proofs.Sums.{total_next, total_term}
 use Rattle.ultra_block.proofs.Counting.{is_reference}
 use Rattle.ultra_block.proofs.ReplyBalance.{opened_once}
 use Rattle.ultra_block.proofs.Routes.{route}
-use Rattle.ultra_serial.proofs.Tidy.{marked_in, lanes_of, replies_of, marked_of, pending_of, up_to, IsTidy, total_gain, total_most, marked_weight}
+use Rattle.ultra_serial.proofs.Tidy.{marked_in, lanes_of, marked_of, pending_of, up_to, IsTidy, total_gain, total_most, marked_weight}
 use Rattle.ultra_serial.proofs.Forest.{record_at, position_of, find_none}
 
 -- ---- what stands in a list counts
@@ -68,12 +68,6 @@ module _ (c : Settings) (m : Machine) (t : ℕ → ℕ → Bool) where
       let next = total_next i (λ j. lanes_of t c m j) in
       let before = total_term i (λ j. lanes_of t c m j) s (omega arith) in
       omega (arith, l, next, before, marked_lanes i)
-
-  pub below_reply : (s : ℕ) → s < c.stages → 1 ≤ replies_of t c m s → IsBelow s
-  below_reply s hs l i h k =
-      let next = total_next i (λ j. lanes_of t c m j) in
-      let here = total_term (suc i) (λ j. replies_of t c m j) s (omega arith) in
-      omega (arith, l, next, here, marked_lanes i)
 
   pub below_pending : 1 ≤ pending_of t c m → IsBelow 0
   below_pending l i h k =
