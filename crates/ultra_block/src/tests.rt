@@ -80,7 +80,13 @@ fn four_are_one(rt: &impl Abort, blocks: &Blocks)
         cell: 0,
         op: Op::Faa(4),
     };
-    assert_eq!(rt; lane.entry(0), Entry { request, combined: true });
+    assert_eq!(rt;
+        lane.entry(0),
+        Entry {
+            request,
+            combined: true
+        }
+    );
     assert!(rt; lane.record_count() == 1);
     assert_eq!(rt; lane.record(0), record(2, 3, 2));
     let lane = blocks.lane(0, 0);
