@@ -1,6 +1,6 @@
 -- what the halves that take messages ask holds in a sound machine
-use Rattle.std.proofs.Common.{◌≡◌, ℕ, ◌+◌, ◌*◌, ◌-◌, ◌/◌, ◌%◌, ◌^◌, ◌<◌, ◌≤◌, List, [], ◌∷◌, Bool, true, false, refl, arith, ap, ◌∙◌, sym, subst, drop, length}
-use Rattle.std.specs.Prelude.{◌==◌, ◌&&◌, nat_le, Option, Some, None, IfSome, slice_get, IsTrue}
+use Rattle.std.proofs.Common.{◌≡◌, ℕ, ◌+◌, ◌*◌, ◌-◌, ◌/◌, ◌%◌, ◌^◌, ◌<◌, ◌≤◌, List, [], ◌∷◌, Bool, true, false, refl, arith, ap, ◌∙◌, sym, subst, length}
+use Rattle.std.specs.Prelude.{◌&&◌, nat_le, Option, Some, None, IfSome, slice_get, IsTrue}
 use Rattle.std.specs.List.{AllByRecursion}
 use Rattle.std.proofs.lemmas.Bool.{eqb-true}
 use Rattle.std.proofs.lemmas.Bool.Decides.{nat_tests}
@@ -9,17 +9,16 @@ use Rattle.std.proofs.Math.Nat.{div-lt_iff_lt-mul}
 use Rattle.ultra_msg.specs.declared.Request.{Request}
 use Rattle.ultra_msg.specs.declared.ReplyMessage.{ReplyMessage}
 use Rattle.ultra_msg.specs.declared.Event.{Event}
-use Rattle.ultra_route.specs.Route.{unshuffled, bit_of}
+use Rattle.ultra_route.specs.Route.{bit_of}
 use Rattle.ultra_route.proofs.Table.{sizes}
 use Rattle.ultra_switch.specs.declared.Entry.{Entry}
-use Rattle.ultra_switch.specs.Arrive.{Lane}
 use Rattle.ultra_switch.specs.Queues.{SizedLane, SizedReplies, request_of}
 use Rattle.ultra_mem.specs.declared.Placed.{Placed}
 use Rattle.ultra_mem.specs.Serve.{Bank}
 use Rattle.ultra_block.specs.declared.Stop.{Stop}
 use Rattle.ultra_block.specs.Places.{after_leaving}
-use Rattle.ultra_block.specs.Machine.{Settings, Machine, Element, size, last_stage, request_exit, lane_at, replies_at, bank_at, element_at}
-use Rattle.ultra_block.specs.Phases.{has_reply_room, reply_before, arriving_reply, delivered, has_request_room, request_before, admitted, arriving_request, entering}
+use Rattle.ultra_block.specs.Machine.{Settings, Machine, Element, size, last_stage, request_exit, lane_at, bank_at, element_at}
+use Rattle.ultra_block.specs.Phases.{has_reply_room, reply_before, arriving_reply, delivered, has_request_room, request_before, admitted, arriving_request}
 use Rattle.ultra_block.specs.Ranges.{AreInRange}
 use Rattle.ultra_block.specs.Routed.{IsEntryAt}
 use Rattle.ultra_block.specs.Sound.{IsSound}
@@ -28,8 +27,7 @@ use Rattle.ultra_block.specs.Halves.{replies_without, lane_without, has_room_for
 use Rattle.ultra_block.specs.SwitchSteps as switch
 use Rattle.ultra_block.specs.ModuleSteps as bank
 use Rattle.ultra_block.specs.ElementSteps as element
-use Rattle.ultra_block.specs.Elements.{element_of}
-use Rattle.ultra_block.specs.Whole.{Units, sized_lane, whole, Fit}
+use Rattle.ultra_block.specs.Whole.{Units, whole, Fit}
 use Rattle.ultra_block.proofs.Interfaces.{delivered_waiting}
 use Rattle.ultra_block.proofs.AtUnits.{half_even, half_odd, rest_even, rest_odd, lane_is, bank_is, element_is, reply_room_is}
 use Rattle.ultra_block.proofs.Passing.{AreNoted, replies_sent, replies_exchanged, requests_sent, requests_exchanged}
@@ -172,9 +170,10 @@ module _ (c : Settings) (u : Units) (n : ℕ) (events : List Event) (stops : Lis
 
   has_way : (s k y : ℕ) (r : Request) → s < c.stages → k < 2 ^ (c.stages - 1) → y / 2 ≡ k → has_request_room c m s (request_exit c s y r) ≡ true → switch.HasWay (requested.switch s k) r
   has_way s k y r hs hk e h =
-      let f = fit.switches s k hs hk in
-      (λ l. let by : leaves_by c.stages s 0 r ≡ true = rw (f.net, f.stage) at l in zero_way s k hs hk (goes_to s y (2 * k) 0 r (omega (arith, e)) by h),
-      λ l. let by : leaves_by c.stages s 1 r ≡ true = rw (f.net, f.stage) at l in one_way s k hs hk (goes_to s y (2 * k + 1) 1 r (omega (arith, e)) by h))
+      let f = fit.switches s k hs hk in (
+        λ l. let by : leaves_by c.stages s 0 r ≡ true = rw (f.net, f.stage) at l in zero_way s k hs hk (goes_to s y (2 * k) 0 r (omega (arith, e)) by h),
+        λ l. let by : leaves_by c.stages s 1 r ≡ true = rw (f.net, f.stage) at l in one_way s k hs hk (goes_to s y (2 * k + 1) 1 r (omega (arith, e)) by h),
+      )
 
   pub switch_takes_requests : (s k : ℕ) → s < c.stages → k < 2 ^ (c.stages - 1) → switch.CanTakeRequests (requested.switch s k)
   switch_takes_requests s k hs hk =

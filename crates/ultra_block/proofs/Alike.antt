@@ -1,9 +1,9 @@
 -- units that are the same by their numbers make up the same machine
-use Rattle.std.proofs.Common.{◌≡◌, ℕ, ◌+◌, ◌*◌, ◌-◌, ◌/◌, ◌%◌, ◌^◌, ◌<◌, ◌≤◌, List, refl, arith, ap, ◌∙◌, sym, subst}
+use Rattle.std.proofs.Common.{◌≡◌, ℕ, ◌-◌, ◌/◌, ◌%◌, ◌^◌, ◌<◌, ◌≤◌, List, refl, arith, ap, sym, subst}
 use Rattle.ultra_route.proofs.Table.{sizes}
 use Rattle.ultra_msg.specs.declared.Event.{Event}
 use Rattle.ultra_block.specs.declared.Stop.{Stop}
-use Rattle.ultra_block.specs.Places.{places, table, present, joined}
+use Rattle.ultra_block.specs.Places.{present, joined}
 use Rattle.ultra_block.specs.Machine.{Settings, size}
 use Rattle.ultra_block.specs.Phases.{delivery, serving}
 use Rattle.ultra_block.specs.Elements.{element_of}

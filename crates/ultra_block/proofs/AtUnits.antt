@@ -1,8 +1,7 @@
 -- the machine that some units make up, place by place
-use Rattle.std.proofs.Common.{◌≡◌, ℕ, zero, suc, ◌+◌, ◌*◌, ◌-◌, ◌/◌, ◌%◌, ◌^◌, ◌<◌, ◌≤◌, List, [], refl, arith, ap, ◌∙◌, sym, length, Bool, true, false, ◌⊎◌, ⊎_elim, inl, inr, subst}
-use Rattle.std.specs.Prelude.{◌∷◌, ◌&&◌, nat_le, map}
+use Rattle.std.proofs.Common.{◌≡◌, ℕ, zero, suc, ◌+◌, ◌*◌, ◌-◌, ◌/◌, ◌%◌, ◌^◌, ◌<◌, ◌≤◌, List, [], refl, arith, ap, ◌∙◌, Bool, true, false}
+use Rattle.std.specs.Prelude.{◌∷◌, map}
 use Rattle.std.specs.List.{range_with_len}
-use Rattle.ultra_switch.specs.declared.Ports.{Ports}
 use Rattle.ultra_switch.specs.Arrive.{Lane, empty_lane}
 use Rattle.ultra_mem.specs.Serve.{Bank, empty_bank}
 use Rattle.ultra_msg.specs.declared.ReplyMessage.{ReplyMessage}
@@ -14,7 +13,6 @@ use Rattle.ultra_block.specs.Machine.{Settings, Machine, Element, size, fresh_el
 use Rattle.ultra_block.specs.Phases as phase
 use Rattle.ultra_block.specs.SwitchSteps.{has_reply_room}
 use Rattle.ultra_block.specs.Elements.{element_of}
-use Rattle.ultra_block.specs.Ported.{at_port}
 use Rattle.ultra_block.specs.Whole.{Units, sized_lane, sized_replies, whole, Fit}
 use Rattle.ultra_block.proofs.Each.{places_at, table_at}
 

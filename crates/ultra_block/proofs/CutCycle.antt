@@ -1,31 +1,25 @@
 -- a cycle of all blocks is a cycle of the whole machine
-use Rattle.std.proofs.Common.{◌≡◌, ℕ, ◌+◌, ◌*◌, ◌-◌, ◌^◌, ◌<◌, ◌≤◌, List, [], ◌++◌, refl, arith, ap, ◌∙◌, sym, subst, length, get_or}
-use Rattle.std.specs.Prelude.{map, All}
+use Rattle.std.proofs.Common.{◌≡◌, ℕ, ◌+◌, ◌-◌, ◌^◌, ◌<◌, ◌≤◌, List, [], ◌++◌, refl, arith, ap, ◌∙◌, sym, subst, length, get_or}
+use Rattle.std.specs.Prelude.{All}
 use Rattle.std.specs.List.{flat_map}
 use Rattle.std.proofs.lemmas.List.{get_or_default}
 use Rattle.ultra_msg.specs.declared.Event.{Event}
 use Rattle.ultra_isa.specs.declared.Instr.{Instr}
-use Rattle.ultra_block.specs.declared.Stop.{Stop}
-use Rattle.ultra_block.specs.Machine.{Settings, Machine, size}
+use Rattle.ultra_block.specs.Machine.{Settings, Machine}
 use Rattle.ultra_block.specs.Phases as phase
-use Rattle.ultra_block.specs.Ranges.{AreInRange}
 use Rattle.ultra_block.specs.Sound.{IsSound}
 use Rattle.ultra_block.specs.RoomTable.{RoomTable}
 use Rattle.ultra_block.specs.MailTable.{MailTable}
 use Rattle.ultra_block.specs.SwitchSteps as switch
 use Rattle.ultra_block.specs.ModuleSteps as bank
 use Rattle.ultra_block.specs.ElementSteps as element
-use Rattle.ultra_block.specs.Tables.{written}
 use Rattle.ultra_block.specs.BlockState.{BlockState}
 use Rattle.ultra_block.specs.BlockSteps as block
-use Rattle.ultra_block.specs.Whole.{Units, whole, deliveries, servings, all_combined, issues, all_stops, Fit}
-use Rattle.ultra_block.specs.Cut.{no_block, no_switch, no_module, no_element, units_of, switches_of, modules_of, elements_of, units_at, IsCut, HasPlaces, HasLinks, AreDone}
+use Rattle.ultra_block.specs.Whole.{Units, whole, deliveries, servings, all_combined, issues, all_stops}
+use Rattle.ultra_block.specs.Cut.{no_block, no_switch, no_module, no_element, units_of, switches_of, modules_of, elements_of, units_at, HasPlaces, AreDone}
 use Rattle.ultra_block.specs.Cycle as cycle
 use Rattle.ultra_block.specs.Ready.{all_events, machine_from, IsReady}
 use Rattle.ultra_block.specs.declared.home.Home.{Home}
-use Rattle.ultra_block.specs.declared.switch_unit.SwitchUnit.{SwitchUnit}
-use Rattle.ultra_block.specs.declared.module_unit.ModuleUnit.{ModuleUnit}
-use Rattle.ultra_block.specs.declared.element_unit.ElementUnit.{ElementUnit}
 use Rattle.ultra_block.proofs.Sound.{sound-reply_phase, sound-memory_phase, cycle_is_sound}
 use Rattle.ultra_block.proofs.Entries.{length-written}
 use Rattle.ultra_block.proofs.Noted.{each_switch, each_module, each_element, all_noted}

@@ -1,14 +1,14 @@
 -- each half of a cycle, done to every block, is done to every unit by its number
-use Rattle.std.proofs.Common.{◌≡◌, ℕ, ◌+◌, ◌*◌, ◌-◌, ◌/◌, ◌%◌, ◌^◌, ◌<◌, ◌≤◌, List, Bool, refl, arith, ap, ◌∙◌, sym, subst, length, get_or}
+use Rattle.std.proofs.Common.{◌≡◌, ℕ, ◌+◌, ◌*◌, ◌^◌, ◌<◌, ◌≤◌, List, refl, arith, ap, ◌∙◌, sym, length, get_or}
 use Rattle.std.specs.Prelude.{map, Option, None}
 use Rattle.std.specs.List.{flat_map}
 use Rattle.std.proofs.lemmas.List.{map-id, length-map, get_or-map}
 use Rattle.ultra_msg.specs.declared.Request.{Request}
 use Rattle.ultra_msg.specs.declared.ReplyMessage.{ReplyMessage}
-use Rattle.ultra_route.specs.Route.{shuffled, unshuffled}
+use Rattle.ultra_route.specs.Route.{unshuffled}
 use Rattle.ultra_route.proofs.Table.{sizes, back}
 use Rattle.ultra_isa.specs.declared.Instr.{Instr}
-use Rattle.ultra_block.specs.Machine.{Settings, size}
+use Rattle.ultra_block.specs.Machine.{Settings}
 use Rattle.ultra_block.specs.RoomTable.{RoomTable}
 use Rattle.ultra_block.specs.MailTable.{MailTable}
 use Rattle.ultra_block.specs.Numbers.{place_number}
@@ -19,7 +19,6 @@ use Rattle.ultra_block.specs.ElementSteps as element
 use Rattle.ultra_block.specs.Tables.{written, without_replies_out, without_requests_out, without_reply_out, without_request_out, with_replies_in, with_reply_in, with_requests_in, with_request_in}
 use Rattle.ultra_block.specs.BlockState.{BlockState}
 use Rattle.ultra_block.specs.BlockSteps as block
-use Rattle.ultra_block.specs.Ported.{at_port}
 use Rattle.ultra_block.specs.Whole.{Units, Fit}
 use Rattle.ultra_block.specs.Cut.{no_block, units_at, IsCut, AreDone}
 use Rattle.ultra_block.specs.declared.home.Home.{Home}

@@ -1,19 +1,19 @@
 -- every half of a cycle keeps the numbers and sizes of the units
-use Rattle.std.proofs.Common.{◌≡◌, ℕ, ◌+◌, ◌-◌, ◌^◌, ◌<◌, ◌≤◌, List, refl, arith, ap, ◌∙◌, length}
+use Rattle.std.proofs.Common.{◌≡◌, ℕ, ◌+◌, ◌^◌, ◌≤◌, List, refl, arith, ◌∙◌, length}
 use Rattle.std.specs.Prelude.{Option, Some, None}
 use Rattle.ultra_msg.specs.declared.Request.{Request}
 use Rattle.ultra_msg.specs.declared.ReplyMessage.{ReplyMessage}
 use Rattle.ultra_isa.specs.declared.Instr.{Instr}
 use Rattle.ultra_mem.specs.Serve.{Bank}
 use Rattle.ultra_mem.proofs.Cells.{length-serve}
-use Rattle.ultra_block.specs.Machine.{Settings, size}
+use Rattle.ultra_block.specs.Machine.{Settings}
 use Rattle.ultra_block.specs.Phases.{without_reply, issues_after}
 use Rattle.ultra_block.specs.RoomTable.{RoomTable}
 use Rattle.ultra_block.specs.Halves.{bank_with}
 use Rattle.ultra_block.specs.ModuleSteps as bank
 use Rattle.ultra_block.specs.Elements.{delivered_to, step_at}
 use Rattle.ultra_block.specs.declared.element.ProcessingElement.{ProcessingElement}
-use Rattle.ultra_block.specs.Whole.{Units, Fit, FitsSwitch}
+use Rattle.ultra_block.specs.Whole.{Units, Fit}
 use Rattle.ultra_block.proofs.Passing.{replies_sent, replies_exchanged, replies_taken, served, requests_sent, requests_exchanged, requests_taken, executed}
 
 cells_without : (b : Bank) (o : Option ReplyMessage) → length (without_reply b o).cells ≡ length b.cells

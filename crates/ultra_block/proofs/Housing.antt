@@ -4,7 +4,7 @@ use Rattle.std.specs.Prelude.{All}
 use Rattle.std.proofs.lemmas.Bool.{cases_eq, cases_lt}
 use Rattle.std.proofs.lemmas.List.{get_or-set_same, get_or-set_other, length-set, length_push, get_or_append_left, get_or_push}
 use Rattle.ultra_block.specs.BlockState.{BlockState}
-use Rattle.ultra_block.specs.Cut.{no_block, units_of, standing, IsThere, AreHome, AreNew}
+use Rattle.ultra_block.specs.Cut.{no_block, units_of, standing, IsThere, AreNew}
 use Rattle.ultra_block.specs.declared.home.Home.{Home}
 
 -- what holds of each element and of one more
@@ -33,18 +33,18 @@ module _ {U : Type 0} (kind : BlockState → List U) (number_of : U → ℕ) (no
       old_at k i d h =
           ⊎_elim
           (λ (e : k ≡ b).
-              ap (λ k. get_or (units_of kind (set bs b new) k) i d) e ∙ ap (λ us. get_or us i d) (here ∙ more)
-              ∙ get_or_append_left (units_of kind bs b) (x ∷ []) d i (subst (λ k. i < length (units_of kind bs k)) e h)
-              ∙ ap (λ k. get_or (units_of kind bs k) i d) (sym e))
+          ap (λ k. get_or (units_of kind (set bs b new) k) i d) e ∙ ap (λ us. get_or us i d) (here ∙ more)
+          ∙ get_or_append_left (units_of kind bs b) (x ∷ []) d i (subst (λ k. i < length (units_of kind bs k)) e h)
+          ∙ ap (λ k. get_or (units_of kind bs k) i d) (sym e))
           (λ (e : k ≢ b). ap (λ us. get_or us i d) (elsewhere k e)) (cases_eq k b)
 
       longer : (k : ℕ) → length (units_of kind bs k) ≤ length (units_of kind (set bs b new) k)
       longer k =
           ⊎_elim
           (λ (e : k ≡ b).
-              let count : length (units_of kind (set bs b new) k) ≡ length (units_of kind bs b) + 1 = ap (λ k. length (units_of kind (set bs b new) k)) e ∙ ap (λ us. length us) (here ∙ more) ∙ length_push (units_of kind bs b) x in
-              let same : length (units_of kind bs k) ≡ length (units_of kind bs b) = ap (λ k. length (units_of kind bs k)) e in
-              omega (arith, count, same))
+          let count : length (units_of kind (set bs b new) k) ≡ length (units_of kind bs b) + 1 = ap (λ k. length (units_of kind (set bs b new) k)) e ∙ ap (λ us. length us) (here ∙ more) ∙ length_push (units_of kind bs b) x in
+          let same : length (units_of kind bs k) ≡ length (units_of kind bs b) = ap (λ k. length (units_of kind bs k)) e in
+          omega (arith, count, same))
           (λ (e : k ≢ b). let same : length (units_of kind (set bs b new) k) ≡ length (units_of kind bs k) = ap (λ us. length us) (elsewhere k e) in omega (arith, same)) (cases_eq k b)
 
       last_at : (d : U) → get_or (units_of kind (set bs b new) b) (length (units_of kind bs b)) d ≡ x
@@ -55,9 +55,9 @@ module _ {U : Type 0} (kind : BlockState → List U) (number_of : U → ℕ) (no
       old_or_new k i h =
           ⊎_elim
           (λ (e : k ≡ b).
-              let count : length (units_of kind (set bs b new) k) ≡ length (units_of kind bs b) + 1 = ap (λ k. length (units_of kind (set bs b new) k)) e ∙ ap (λ us. length us) (here ∙ more) ∙ length_push (units_of kind bs b) x in
-              let same : length (units_of kind bs k) ≡ length (units_of kind bs b) = ap (λ k. length (units_of kind bs k)) e in
-              ⊎_elim (λ l. inl (omega (arith, l, same))) (λ l. inr (e, omega (arith, l, h, count))) (cases_lt i (length (units_of kind bs b))))
+          let count : length (units_of kind (set bs b new) k) ≡ length (units_of kind bs b) + 1 = ap (λ k. length (units_of kind (set bs b new) k)) e ∙ ap (λ us. length us) (here ∙ more) ∙ length_push (units_of kind bs b) x in
+          let same : length (units_of kind bs k) ≡ length (units_of kind bs b) = ap (λ k. length (units_of kind bs k)) e in
+          ⊎_elim (λ l. inl (omega (arith, l, same))) (λ l. inr (e, omega (arith, l, h, count))) (cases_lt i (length (units_of kind bs b))))
           (λ (e : k ≢ b). let same : length (units_of kind (set bs b new) k) ≡ length (units_of kind bs k) = ap (λ us. length us) (elsewhere k e) in inl (omega (arith, h, same))) (cases_eq k b)
 
   -- the next unit is put into block b, at its end
@@ -82,9 +82,9 @@ module _ {U : Type 0} (kind : BlockState → List U) (number_of : U → ℕ) (no
         ⊎_elim
         (λ l. subst (λ u. P u k i) (sym (old_at bs b new there (fresh n) more k i d l)) (old k i d (omega (arith, hk, length-set bs b new)) l))
         (λ e.
-            let at_b : P (get_or (units_of kind after b) (length (units_of kind bs b)) d) b (length (units_of kind bs b)) = subst (λ u. P u b (length (units_of kind bs b))) (sym (last_at bs b new there (fresh n) more d)) new_one in
-            let at_i : P (get_or (units_of kind after b) i d) b i = subst (λ i. P (get_or (units_of kind after b) i d) b i) (sym e.1) at_b in
-            subst (λ k. P (get_or (units_of kind after k) i d) k i) (sym e.0) at_i)
+        let at_b : P (get_or (units_of kind after b) (length (units_of kind bs b)) d) b (length (units_of kind bs b)) = subst (λ u. P u b (length (units_of kind bs b))) (sym (last_at bs b new there (fresh n) more d)) new_one in
+        let at_i : P (get_or (units_of kind after b) i d) b i = subst (λ i. P (get_or (units_of kind after b) i d) b i) (sym e.1) at_b in
+        subst (λ k. P (get_or (units_of kind after k) i d) k i) (sym e.0) at_i)
         (old_or_new bs b new there (fresh n) more k i hi)
 
     pub put : Housed after (n + 1) next_home
@@ -103,11 +103,11 @@ module _ {U : Type 0} (kind : BlockState → List U) (number_of : U → ℕ) (no
       as_new = λ k h.
           ⊎_elim
           (λ (l : k < n).
-              ap (λ h. standing kind none after h) (same k l)
-              ∙ old_at bs b new there (fresh n) more (home_of k).block (home_of k).index none (w.home.there k l).index ∙ w.as_new k l)
+          ap (λ h. standing kind none after h) (same k l)
+          ∙ old_at bs b new there (fresh n) more (home_of k).block (home_of k).index none (w.home.there k l).index ∙ w.as_new k l)
           (λ l.
-              let e : k ≡ n = omega (arith, h, l) in
-              ap (λ k. standing kind none after (next_home k)) e ∙ ap (λ h. standing kind none after h) last ∙ last_at bs b new there (fresh n) more none ∙ ap fresh (sym e))
+          let e : k ≡ n = omega (arith, h, l) in
+          ap (λ k. standing kind none after (next_home k)) e ∙ ap (λ h. standing kind none after h) last ∙ last_at bs b new there (fresh n) more none ∙ ap fresh (sym e))
           (cases_lt k n);
     }
 

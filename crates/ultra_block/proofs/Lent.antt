@@ -1,7 +1,7 @@
 -- the elements of a `Vec` that were changed through a slice of it
-use Rattle.std.proofs.Common.{◌≡◌, ℕ, List, ◌++◌, refl, ap, ◌∙◌, sym, subst, length, take, drop, arith}
+use Rattle.std.proofs.Common.{◌≡◌, List, ◌++◌, ap, ◌∙◌, sym, subst, length, take, drop}
 use Rattle.std.specs.Prelude.{map, All, Vec}
-use Rattle.std.proofs.lemmas.List.{take_all, take_at, length-map}
+use Rattle.std.proofs.lemmas.List.{take_at, length-map}
 use Rattle.ultra_block.proofs.Mapped.{all-map}
 
 module _ {X Z : Type 0} (f : X → X) (v : Vec X Z) (s ws : List X) (value : s ≡ v.items) (len : length s ≡ v.len) (made : ws ≡ map f s) where

@@ -1,5 +1,5 @@
 -- what is done to units that are alike leaves them alike
-use Rattle.std.proofs.Common.{◌≡◌, ◌≢◌, ℕ, ◌+◌, ◌*◌, ◌-◌, ◌/◌, ◌%◌, ◌^◌, ◌<◌, ◌≤◌, Bool, true, false, refl, arith, ap, ◌∙◌, sym, ⊎_elim}
+use Rattle.std.proofs.Common.{◌≡◌, ◌≢◌, ℕ, ◌+◌, ◌*◌, ◌-◌, ◌/◌, ◌%◌, ◌^◌, ◌<◌, ◌≤◌, true, false, arith, ap, ◌∙◌, sym, ⊎_elim}
 use Rattle.std.specs.Prelude.{◌==◌, Option}
 use Rattle.std.proofs.lemmas.Bool.{eq-eqb, ne_eqb, cases_eq}
 use Rattle.ultra_msg.specs.declared.Request.{Request}
@@ -53,13 +53,13 @@ module _ (c : Settings) (low : 1 ≤ c.stages) (high : c.stages ≤ 6) (u v : Un
       let out : Units → Option ReplyMessage = λ w. at_port (w.switch l (y / 2)).replies_out (y % 2) in
       ⊎_elim
       (λ e.
-          let t : (l == c.stages) ≡ true = eq-eqb l c.stages e in
-          pick_true (l == c.stages) (u.bank x).reply_out (out u) t ∙ ap (λ (b : ModuleUnit). b.reply_out) (alike.modules x hx) ∙ sym (pick_true (l == c.stages) (v.bank x).reply_out (out v) t))
+      let t : (l == c.stages) ≡ true = eq-eqb l c.stages e in
+      pick_true (l == c.stages) (u.bank x).reply_out (out u) t ∙ ap (λ (b : ModuleUnit). b.reply_out) (alike.modules x hx) ∙ sym (pick_true (l == c.stages) (v.bank x).reply_out (out v) t))
       (λ (ne : l ≢ c.stages).
-          let t : (l == c.stages) ≡ false = ne_eqb l c.stages ne in
-          pick_false (l == c.stages) (u.bank x).reply_out (out u) t
-          ∙ ap (λ (w : SwitchUnit). at_port w.replies_out (y % 2)) (alike.switches l (y / 2) (omega (arith, hl, ne)) (half_small y b.entry_small))
-          ∙ sym (pick_false (l == c.stages) (v.bank x).reply_out (out v) t))
+      let t : (l == c.stages) ≡ false = ne_eqb l c.stages ne in
+      pick_false (l == c.stages) (u.bank x).reply_out (out u) t
+      ∙ ap (λ (w : SwitchUnit). at_port w.replies_out (y % 2)) (alike.switches l (y / 2) (omega (arith, hl, ne)) (half_small y b.entry_small))
+      ∙ sym (pick_false (l == c.stages) (v.bank x).reply_out (out v) t))
       (cases_eq l c.stages)
 
   same_in : (w x : SwitchUnit) (a b p q : Option ReplyMessage) → w ≡ x → a ≡ b → p ≡ q → let put : SwitchUnit → Option ReplyMessage → Option ReplyMessage → SwitchUnit = λ w o p. record (without_replies_out w) { replies_in = ports o p } in put w a p ≡ put x b q
@@ -83,13 +83,13 @@ module _ (c : Settings) (low : 1 ≤ c.stages) (high : c.stages ≤ 6) (u v : Un
       let out : Units → Option Request = λ w. at_port (w.switch (l - 1) (x / 2)).requests_out (x % 2) in
       ⊎_elim
       (λ e.
-          let t : (l == 0) ≡ true = eq-eqb l 0 e in
-          pick_true (l == 0) (u.element x).request_out (out u) t ∙ ap (λ (b : ElementUnit). b.request_out) (alike.elements x hx) ∙ sym (pick_true (l == 0) (v.element x).request_out (out v) t))
+      let t : (l == 0) ≡ true = eq-eqb l 0 e in
+      pick_true (l == 0) (u.element x).request_out (out u) t ∙ ap (λ (b : ElementUnit). b.request_out) (alike.elements x hx) ∙ sym (pick_true (l == 0) (v.element x).request_out (out v) t))
       (λ (ne : l ≢ 0).
-          let t : (l == 0) ≡ false = ne_eqb l 0 ne in
-          pick_false (l == 0) (u.element x).request_out (out u) t
-          ∙ ap (λ (w : SwitchUnit). at_port w.requests_out (x % 2)) (alike.switches (l - 1) (x / 2) (omega (arith, hl, ne)) (half_small x hx))
-          ∙ sym (pick_false (l == 0) (v.element x).request_out (out v) t))
+      let t : (l == 0) ≡ false = ne_eqb l 0 ne in
+      pick_false (l == 0) (u.element x).request_out (out u) t
+      ∙ ap (λ (w : SwitchUnit). at_port w.requests_out (x % 2)) (alike.switches (l - 1) (x / 2) (omega (arith, hl, ne)) (half_small x hx))
+      ∙ sym (pick_false (l == 0) (v.element x).request_out (out v) t))
       (cases_eq l 0)
 
   same_requests_in : (w x : SwitchUnit) (a b p q : Option Request) → w ≡ x → a ≡ b → p ≡ q → let put : SwitchUnit → Option Request → Option Request → SwitchUnit = λ w o p. record (without_requests_out w) { requests_in = ports o p } in put w a p ≡ put x b q

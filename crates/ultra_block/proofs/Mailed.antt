@@ -1,5 +1,5 @@
 -- what the units of a cut machine have put onto the links comes to the units at their other ends
-use Rattle.std.proofs.Common.{◌≡◌, ◌≢◌, ℕ, zero, suc, ◌+◌, ◌*◌, ◌-◌, ◌/◌, ◌%◌, ◌^◌, ◌<◌, ◌≤◌, List, [], ◌∷◌, ◌++◌, Bool, true, false, refl, arith, ap, ◌∙◌, sym, length, get_or, inl, inr, ⊎_elim, ◌⊎◌}
+use Rattle.std.proofs.Common.{◌≡◌, ◌≢◌, ℕ, ◌+◌, ◌*◌, ◌-◌, ◌/◌, ◌%◌, ◌^◌, ◌<◌, ◌≤◌, List, true, false, refl, arith, ap, ◌∙◌, sym, length, get_or, inl, inr, ⊎_elim}
 use Rattle.std.specs.Prelude.{◌==◌, Option, None}
 use Rattle.std.specs.List.{flat_map, AllByRecursion}
 use Rattle.std.proofs.lemmas.Bool.{eq-eqb, ne_eqb, cases_eq}
@@ -7,7 +7,7 @@ use Rattle.ultra_msg.specs.declared.Request.{Request}
 use Rattle.ultra_msg.specs.declared.ReplyMessage.{ReplyMessage}
 use Rattle.ultra_route.specs.Route.{shuffled, unshuffled}
 use Rattle.ultra_route.proofs.Table.{sizes, back}
-use Rattle.ultra_block.specs.Machine.{Settings, size}
+use Rattle.ultra_block.specs.Machine.{Settings}
 use Rattle.ultra_block.specs.Numbers.{switch_number, place_number}
 use Rattle.ultra_block.specs.SwitchSteps.{position}
 use Rattle.ultra_block.specs.Tables.{Entry, written, switch_replies, module_replies, switch_requests, element_requests}
@@ -21,7 +21,7 @@ use Rattle.ultra_block.proofs.Standing.{number_small}
 use Rattle.ultra_block.proofs.Each.{each-append}
 use Rattle.ultra_block.proofs.Entries.{IsRight, HasEntry, written_at, each_of, has_of, has-left, has-right, right_at}
 use Rattle.ultra_block.proofs.Noted.{right_switches, right_modules, right_elements, has_switch, has_module, has_element}
-use Rattle.ultra_block.proofs.AtUnits.{pick_true, pick_false, by_port, half_even, half_odd, rest_even, rest_odd, place_is}
+use Rattle.ultra_block.proofs.AtUnits.{pick_true, pick_false, by_port, half_even, half_odd, rest_even, rest_odd}
 use Rattle.ultra_block.proofs.Passing.{reply_on, request_on}
 
 module _ (c : Settings) (low : 1 ≤ c.stages) (high : c.stages ≤ 6) (homes : List Home) (bs : List BlockState) (cut : IsCut c.stages homes bs) (n : ℕ) (fit : Fit c n (units_at c.stages homes bs)) where
@@ -44,12 +44,12 @@ module _ (c : Settings) (low : 1 ≤ c.stages) (high : c.stages ≤ 6) (homes : 
       ∙ sym (pick_false (s == d) (u.bank (unshuffled d y)).reply_out (at_port (u.switch s (shuffled d (unshuffled d y) / 2)).replies_out (shuffled d (unshuffled d y) % 2)) t)
 
   out_even : (s k : ℕ) → s < d → k < 2 ^ (d - 1) → (u.switch s k).replies_out.zero ≡ reply_on c u s (unshuffled d (2 * k))
-  out_even s k hs hk = 
+  out_even s k hs hk =
       let two = (sizes d low high).0 in
       ap (λ i. at_port (u.switch s i).replies_out 0) (sym (half_even k)) ∙ ap (λ j. at_port (u.switch s (2 * k / 2)).replies_out j) (sym (rest_even k)) ∙ out_at s (2 * k) hs (omega (arith, two, hk))
 
   out_odd : (s k : ℕ) → s < d → k < 2 ^ (d - 1) → (u.switch s k).replies_out.one ≡ reply_on c u s (unshuffled d (2 * k + 1))
-  out_odd s k hs hk = 
+  out_odd s k hs hk =
       let two = (sizes d low high).0 in
       ap (λ i. at_port (u.switch s i).replies_out 1) (sym (half_odd k)) ∙ ap (λ j. at_port (u.switch s ((2 * k + 1) / 2)).replies_out j) (sym (rest_odd k)) ∙ out_at s (2 * k + 1) hs (omega (arith, two, hk))
 
@@ -76,42 +76,43 @@ module _ (c : Settings) (low : 1 ≤ c.stages) (high : c.stages ≤ 6) (homes : 
       each-append P (flat_map switch_replies (units_of switches_of bs b)) (flat_map module_replies (units_of modules_of bs b))
       (right_switches d low high homes bs cut P switch_replies
       (λ s k hs hk.
-          let w = u.switch s k in
-          let even = back d (2 * k) low high (omega (arith, two, hk)) in
-          let odd = back d (2 * k + 1) low high (omega (arith, two, hk)) in
-          (right_at (2 ^ d) v (place_number w.net w.stage (unshuffled w.net (position w 0)), w.replies_out.zero) s (unshuffled d (2 * k)) l x even.line_small hx (link_even s k hs hk) (out_even s k hs hk),
-          (right_at (2 ^ d) v (place_number w.net w.stage (unshuffled w.net (position w 1)), w.replies_out.one) s (unshuffled d (2 * k + 1)) l x odd.line_small hx (link_odd s k hs hk) (out_odd s k hs hk), tt))) b hb)
+      let w = u.switch s k in
+      let even = back d (2 * k) low high (omega (arith, two, hk)) in
+      let odd = back d (2 * k + 1) low high (omega (arith, two, hk)) in (
+        right_at (2 ^ d) v (place_number w.net w.stage (unshuffled w.net (position w 0)), w.replies_out.zero) s (unshuffled d (2 * k)) l x even.line_small hx (link_even s k hs hk) (out_even s k hs hk),
+        (right_at (2 ^ d) v (place_number w.net w.stage (unshuffled w.net (position w 1)), w.replies_out.one) s (unshuffled d (2 * k + 1)) l x odd.line_small hx (link_odd s k hs hk) (out_odd s k hs hk), tt),
+      )) b hb)
       (right_modules d low high homes bs cut P module_replies
       (λ k hk.
-          let w = u.bank k in
-          let f = fit.modules k hk in
-          (right_at (2 ^ d) v (place_number w.net w.net w.number, w.reply_out) d k l x hk hx (rw (f.net, f.number) refl) (bank_out k), tt)) b hb)
+      let w = u.bank k in
+      let f = fit.modules k hk in
+      (right_at (2 ^ d) v (place_number w.net w.net w.number, w.reply_out) d k l x hk hx (rw (f.net, f.number) refl) (bank_out k), tt)) b hb)
 
   replies_here : (l x : ℕ) → l ≤ d → x < 2 ^ d → HasEntry (place_number d l x) (flat_map reply_entries bs)
   replies_here l x hl hx =
       let m = place_number d l x in
       ⊎_elim
       (λ (e : l ≡ d).
-          let f = fit.modules x hx in
-          let h = module_home d homes x in
-          has_of m reply_entries bs h.block no_block (cut.modules.there x hx).block
-          (has-right m (flat_map switch_replies (units_of switches_of bs h.block)) (flat_map module_replies (units_of modules_of bs h.block))
-          (has_module d low high homes bs cut m module_replies x hx (inl (rw (f.net, f.number, e) refl)))))
+      let f = fit.modules x hx in
+      let h = module_home d homes x in
+      has_of m reply_entries bs h.block no_block (cut.modules.there x hx).block
+      (has-right m (flat_map switch_replies (units_of switches_of bs h.block)) (flat_map module_replies (units_of modules_of bs h.block))
+      (has_module d low high homes bs cut m module_replies x hx (inl (rw (f.net, f.number, e) refl)))))
       (λ (ne : l ≢ d).
-          let hs : l < d = omega (arith, hl, ne) in
-          let y = shuffled d x in
-          let b = back d x low high hx in
-          let hk = half_small y b.entry_small in
-          let k = switch_number d l (y / 2) in
-          let h = home_at d homes k in
-          let arrive : (j : ℕ) → y % 2 ≡ j → 2 * (y / 2) + j ≡ y = λ j e. omega (arith, e) in
-          let number : (z : ℕ) → z ≡ y → l * 2 ^ d + unshuffled d z ≡ m = λ z e. ap (λ z. l * 2 ^ d + unshuffled d z) e ∙ ap (λ x. l * 2 ^ d + x) b.back in
-          has_of m reply_entries bs h.block no_block (cut.switches.there k (number_small d (2 ^ (d - 1)) l (y / 2) hs hk)).block
-          (has-left m (flat_map switch_replies (units_of switches_of bs h.block)) (flat_map module_replies (units_of modules_of bs h.block))
-          (has_switch d low high homes bs cut m switch_replies l (y / 2) hs hk
-          (by_port (λ j. y % 2 ≡ j → HasEntry m (switch_replies (u.switch l (y / 2)))) (y % 2) (omega arith)
-          (λ e. inl (link_even l (y / 2) hs hk ∙ number (2 * (y / 2)) (omega (arith, e))))
-          (λ e. inr (inl (link_odd l (y / 2) hs hk ∙ number (2 * (y / 2) + 1) (omega (arith, e))))) refl))))
+      let hs : l < d = omega (arith, hl, ne) in
+      let y = shuffled d x in
+      let b = back d x low high hx in
+      let hk = half_small y b.entry_small in
+      let k = switch_number d l (y / 2) in
+      let h = home_at d homes k in
+      let arrive : (j : ℕ) → y % 2 ≡ j → 2 * (y / 2) + j ≡ y = λ j e. omega (arith, e) in
+      let number : (z : ℕ) → z ≡ y → l * 2 ^ d + unshuffled d z ≡ m = λ z e. ap (λ z. l * 2 ^ d + unshuffled d z) e ∙ ap (λ x. l * 2 ^ d + x) b.back in
+      has_of m reply_entries bs h.block no_block (cut.switches.there k (number_small d (2 ^ (d - 1)) l (y / 2) hs hk)).block
+      (has-left m (flat_map switch_replies (units_of switches_of bs h.block)) (flat_map module_replies (units_of modules_of bs h.block))
+      (has_switch d low high homes bs cut m switch_replies l (y / 2) hs hk
+      (by_port (λ j. y % 2 ≡ j → HasEntry m (switch_replies (u.switch l (y / 2)))) (y % 2) (omega arith)
+      (λ e. inl (link_even l (y / 2) hs hk ∙ number (2 * (y / 2)) (omega (arith, e))))
+      (λ e. inr (inl (link_odd l (y / 2) hs hk ∙ number (2 * (y / 2) + 1) (omega (arith, e))))) refl))))
       (cases_eq l d)
 
   link_small : (l x : ℕ) → l ≤ d → x < 2 ^ d → place_number d l x < (d + 1) * 2 ^ d
@@ -160,39 +161,40 @@ module _ (c : Settings) (low : 1 ≤ c.stages) (high : c.stages ≤ 6) (homes : 
       each-append P (flat_map switch_requests (units_of switches_of bs b)) (flat_map element_requests (units_of elements_of bs b))
       (right_switches d low high homes bs cut P switch_requests
       (λ s k hs hk.
-          let w = u.switch s k in
-          (right_at (2 ^ d) v (place_number w.net (w.stage + 1) (position w 0), w.requests_out.zero) (s + 1) (2 * k) l x (omega (arith, two, hk)) hx (way_even s k hs hk) (sent_even s k),
-          (right_at (2 ^ d) v (place_number w.net (w.stage + 1) (position w 1), w.requests_out.one) (s + 1) (2 * k + 1) l x (omega (arith, two, hk)) hx (way_odd s k hs hk) (sent_odd s k), tt))) b hb)
+      let w = u.switch s k in (
+        right_at (2 ^ d) v (place_number w.net (w.stage + 1) (position w 0), w.requests_out.zero) (s + 1) (2 * k) l x (omega (arith, two, hk)) hx (way_even s k hs hk) (sent_even s k),
+        (right_at (2 ^ d) v (place_number w.net (w.stage + 1) (position w 1), w.requests_out.one) (s + 1) (2 * k + 1) l x (omega (arith, two, hk)) hx (way_odd s k hs hk) (sent_odd s k), tt),
+      )) b hb)
       (right_elements d low high homes bs cut P element_requests
       (λ p hp.
-          let w = u.element p in
-          let f = fit.elements p hp in
-          (right_at (2 ^ d) v (place_number w.net 0 w.pe, w.request_out) 0 p l x hp hx (rw (f.net, f.pe) refl) refl, tt)) b hb)
+      let w = u.element p in
+      let f = fit.elements p hp in
+      (right_at (2 ^ d) v (place_number w.net 0 w.pe, w.request_out) 0 p l x hp hx (rw (f.net, f.pe) refl) refl, tt)) b hb)
 
   requests_here : (l x : ℕ) → l ≤ d → x < 2 ^ d → HasEntry (place_number d l x) (flat_map request_entries bs)
   requests_here l x hl hx =
       let m = place_number d l x in
       ⊎_elim
       (λ (e : l ≡ 0).
-          let f = fit.elements x hx in
-          let h = element_home d homes x in
-          has_of m request_entries bs h.block no_block (cut.elements.there x hx).block
-          (has-right m (flat_map switch_requests (units_of switches_of bs h.block)) (flat_map element_requests (units_of elements_of bs h.block))
-          (has_element d low high homes bs cut m element_requests x hx (inl (rw (f.net, f.pe, e) refl)))))
+      let f = fit.elements x hx in
+      let h = element_home d homes x in
+      has_of m request_entries bs h.block no_block (cut.elements.there x hx).block
+      (has-right m (flat_map switch_requests (units_of switches_of bs h.block)) (flat_map element_requests (units_of elements_of bs h.block))
+      (has_element d low high homes bs cut m element_requests x hx (inl (rw (f.net, f.pe, e) refl)))))
       (λ (ne : l ≢ 0).
-          let s = l - 1 in
-          let e : s + 1 ≡ l = omega (arith, ne) in
-          let hs : s < d = omega (arith, hl, ne) in
-          let hk = half_small x hx in
-          let k = switch_number d s (x / 2) in
-          let h = home_at d homes k in
-          let number : (z : ℕ) → z ≡ x → (s + 1) * 2 ^ d + z ≡ m = λ z a. ap (λ l. l * 2 ^ d + z) e ∙ ap (λ z. l * 2 ^ d + z) a in
-          has_of m request_entries bs h.block no_block (cut.switches.there k (number_small d (2 ^ (d - 1)) s (x / 2) hs hk)).block
-          (has-left m (flat_map switch_requests (units_of switches_of bs h.block)) (flat_map element_requests (units_of elements_of bs h.block))
-          (has_switch d low high homes bs cut m switch_requests s (x / 2) hs hk
-          (by_port (λ j. x % 2 ≡ j → HasEntry m (switch_requests (u.switch s (x / 2)))) (x % 2) (omega arith)
-          (λ a. inl (way_even s (x / 2) hs hk ∙ number (2 * (x / 2)) (omega (arith, a))))
-          (λ a. inr (inl (way_odd s (x / 2) hs hk ∙ number (2 * (x / 2) + 1) (omega (arith, a))))) refl))))
+      let s = l - 1 in
+      let e : s + 1 ≡ l = omega (arith, ne) in
+      let hs : s < d = omega (arith, hl, ne) in
+      let hk = half_small x hx in
+      let k = switch_number d s (x / 2) in
+      let h = home_at d homes k in
+      let number : (z : ℕ) → z ≡ x → (s + 1) * 2 ^ d + z ≡ m = λ z a. ap (λ l. l * 2 ^ d + z) e ∙ ap (λ z. l * 2 ^ d + z) a in
+      has_of m request_entries bs h.block no_block (cut.switches.there k (number_small d (2 ^ (d - 1)) s (x / 2) hs hk)).block
+      (has-left m (flat_map switch_requests (units_of switches_of bs h.block)) (flat_map element_requests (units_of elements_of bs h.block))
+      (has_switch d low high homes bs cut m switch_requests s (x / 2) hs hk
+      (by_port (λ j. x % 2 ≡ j → HasEntry m (switch_requests (u.switch s (x / 2)))) (x % 2) (omega arith)
+      (λ a. inl (way_even s (x / 2) hs hk ∙ number (2 * (x / 2)) (omega (arith, a))))
+      (λ a. inr (inl (way_odd s (x / 2) hs hk ∙ number (2 * (x / 2) + 1) (omega (arith, a))))) refl))))
       (cases_eq l 0)
 
   pub requests_mailed : (t : List (Option Request)) → length t ≡ (d + 1) * 2 ^ d → (l x : ℕ) → l ≤ d → x < 2 ^ d

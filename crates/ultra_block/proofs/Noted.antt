@@ -1,11 +1,10 @@
 -- what the units of a cut machine have noted of their rooms is so
-use Rattle.std.proofs.Common.{◌≡◌, ℕ, ◌+◌, ◌*◌, ◌-◌, ◌/◌, ◌%◌, ◌^◌, ◌<◌, ◌≤◌, List, [], ◌∷◌, Bool, false, refl, arith, ap, ◌∙◌, sym, subst, length, get_or, inl, inr, add-zero}
-use Rattle.std.specs.Prelude.{zero}
+use Rattle.std.proofs.Common.{◌≡◌, ℕ, ◌+◌, ◌*◌, ◌-◌, ◌/◌, ◌%◌, ◌^◌, ◌<◌, ◌≤◌, List, Bool, false, refl, arith, ap, ◌∙◌, subst, length, get_or, inl, inr}
 use Rattle.std.specs.List.{flat_map, AllByRecursion}
 use Rattle.std.proofs.lemmas.Nat.{div-add-mod', pow_pos}
 use Rattle.std.proofs.Math.Nat.{div-lt_iff_lt-mul}
 use Rattle.ultra_route.proofs.Table.{sizes}
-use Rattle.ultra_block.specs.Machine.{Settings, size, is_nothing}
+use Rattle.ultra_block.specs.Machine.{Settings, is_nothing}
 use Rattle.ultra_block.specs.Numbers.{switch_number, place_number}
 use Rattle.ultra_block.specs.Halves.{has_place_for}
 use Rattle.ultra_block.specs.RoomTable.{RoomTable}
@@ -13,7 +12,6 @@ use Rattle.ultra_block.specs.SwitchSteps.{has_reply_room, position}
 use Rattle.ultra_block.specs.Tables.{Entry, written, reply_rooms, request_rooms, module_rooms}
 use Rattle.ultra_block.specs.BlockState.{BlockState}
 use Rattle.ultra_block.specs.BlockSteps.{reply_notes, request_notes, module_notes}
-use Rattle.ultra_block.specs.Ported.{at_port}
 use Rattle.ultra_block.specs.Whole.{Units, sized_lane, Fit}
 use Rattle.ultra_block.specs.Cut.{no_block, no_switch, no_module, no_element, units_of, standing, switches_of, modules_of, elements_of, home_at, module_home, element_home, units_at, IsCut, HasPlaces}
 use Rattle.ultra_block.specs.declared.home.Home.{Home}
@@ -22,7 +20,7 @@ use Rattle.ultra_block.specs.declared.module_unit.ModuleUnit.{ModuleUnit}
 use Rattle.ultra_block.specs.declared.element_unit.ElementUnit.{ElementUnit}
 use Rattle.ultra_block.proofs.Standing.{number_small}
 use Rattle.ultra_block.proofs.Entries.{IsRight, HasEntry, written_at, each_of, has_of, right_at, right_of}
-use Rattle.ultra_block.proofs.AtUnits.{by_port, half_even, half_odd, rest_even, rest_odd, place_is}
+use Rattle.ultra_block.proofs.AtUnits.{by_port, half_even, half_odd, rest_even, rest_odd}
 use Rattle.ultra_block.proofs.Passing.{AreNoted}
 
 module _ (d : ℕ) (low : 1 ≤ d) (high : d ≤ 6) (homes : List Home) (bs : List BlockState) (cut : IsCut d homes bs) where
@@ -43,7 +41,7 @@ module _ (d : ℕ) (low : 1 ≤ d) (high : d ≤ 6) (homes : List Home) (bs : Li
       let row : m / half < d = (div-lt_iff_lt-mul some).1 small in
       let column : m % half < half = omega (arith, some) in
       let same : there.switch (m / half) (m % half) ≡ w =
-          ap (λ h. standing switches_of no_switch bs h) (ap (λ m. home_at d homes m) number ∙ cut.switches.home b i no_switch hb hi) in
+      ap (λ h. standing switches_of no_switch bs h) (ap (λ m. home_at d homes m) number ∙ cut.switches.home b i no_switch hb hi) in
       subst P same (all (m / half) (m % half) row column)
 
   pub each_module : (P : ModuleUnit → Type 0) → ((k : ℕ) → k < 2 ^ d → P (there.bank k)) → (b i : ℕ) → b < length bs → i < length (units_of modules_of bs b) → P (get_or (units_of modules_of bs b) i no_module)
@@ -105,9 +103,9 @@ module _ (c : Settings) (low : 1 ≤ c.stages) (high : c.stages ≤ 6) (homes : 
       (each_of (IsRight l (v s k)) reply_notes bs no_block
       (right_switches d low high homes bs cut (IsRight l (v s k)) reply_rooms
       (λ s' k' hs' hk'.
-          let w = u.switch s' k' in
-          let f' = fit.switches s' k' hs' hk' in
-          (right_at (2 ^ (d - 1)) v (switch_number w.net w.stage w.index, has_reply_room w) s' k' s k hk' hk (rw (f'.net, f'.stage, f'.index) refl) refl, tt))))
+      let w = u.switch s' k' in
+      let f' = fit.switches s' k' hs' hk' in
+      (right_at (2 ^ (d - 1)) v (switch_number w.net w.stage w.index, has_reply_room w) s' k' s k hk' hk (rw (f'.net, f'.stage, f'.index) refl) refl, tt))))
       (has_of l reply_notes bs h.block no_block (cut.switches.there l (number_small d (2 ^ (d - 1)) s k hs hk)).block
       (has_switch d low high homes bs cut l reply_rooms s k hs hk (inl (rw (f.net, f.stage, f.index) refl))))
 
@@ -127,10 +125,11 @@ module _ (c : Settings) (low : 1 ≤ c.stages) (high : c.stages ≤ 6) (homes : 
       (each_of (IsRight l (v s x)) request_notes bs no_block
       (right_switches d low high homes bs cut (IsRight l (v s x)) request_rooms
       (λ s' k' hs' hk'.
-          let w = u.switch s' k' in
-          let f' = fit.switches s' k' hs' hk' in
-          (right_at (2 ^ d) v (place_number w.net w.stage (position w 0), has_place_for 2 w.switch.to_mm.zero) s' (2 * k') s x (omega (arith, two, hk')) hx (rw (f'.net, f'.stage, f'.index) (omega arith)) (rw (half_even k', rest_even k') refl),
-          (right_at (2 ^ d) v (place_number w.net w.stage (position w 1), has_place_for 2 w.switch.to_mm.one) s' (2 * k' + 1) s x (omega (arith, two, hk')) hx (rw (f'.net, f'.stage, f'.index) refl) (rw (half_odd k', rest_odd k') refl), tt)))))
+      let w = u.switch s' k' in
+      let f' = fit.switches s' k' hs' hk' in (
+        right_at (2 ^ d) v (place_number w.net w.stage (position w 0), has_place_for 2 w.switch.to_mm.zero) s' (2 * k') s x (omega (arith, two, hk')) hx (rw (f'.net, f'.stage, f'.index) (omega arith)) (rw (half_even k', rest_even k') refl),
+        (right_at (2 ^ d) v (place_number w.net w.stage (position w 1), has_place_for 2 w.switch.to_mm.one) s' (2 * k' + 1) s x (omega (arith, two, hk')) hx (rw (f'.net, f'.stage, f'.index) refl) (rw (half_odd k', rest_odd k') refl), tt),
+      ))))
       (has_of l request_notes bs h.block no_block (cut.switches.there m (number_small d (2 ^ (d - 1)) s (x / 2) hs hk)).block
       (has_switch d low high homes bs cut l request_rooms s (x / 2) hs hk
       (by_port (λ j. x % 2 ≡ j → HasEntry l (request_rooms w0)) (x % 2) (omega arith)

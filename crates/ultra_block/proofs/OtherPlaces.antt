@@ -1,18 +1,17 @@
 -- modules that serve make up the definition's memory phase, and processors that execute its processor phase
-use Rattle.std.proofs.Common.{◌≡◌, ℕ, ◌+◌, ◌<◌, ◌≤◌, List, ◌++◌, refl, ap, ◌∙◌, sym}
-use Rattle.std.specs.Prelude.{Option}
+use Rattle.std.proofs.Common.{◌≡◌, ℕ, ◌+◌, ◌<◌, List, ◌++◌, refl, ap, ◌∙◌, sym}
 use Rattle.ultra_msg.specs.declared.Event.{Event}
-use Rattle.ultra_mem.specs.Serve.{Bank, serve, served as acts}
+use Rattle.ultra_mem.specs.Serve.{serve, served as acts}
 use Rattle.ultra_isa.specs.declared.Instr.{Instr}
 use Rattle.ultra_isa.specs.Step.{Stepped, step_of}
 use Rattle.ultra_block.specs.declared.Stop.{Stop}
-use Rattle.ultra_block.specs.Places.{places, present}
+use Rattle.ultra_block.specs.Places.{present}
 use Rattle.ultra_block.specs.Machine.{Settings, Machine, Element, size, site, bank_at, element_at}
 use Rattle.ultra_block.specs.Phases.{serving, memory_phase, stepped, issue_event, stop_of, processor_phase, step_at}
 use Rattle.ultra_block.specs.Elements as element
 use Rattle.ultra_block.specs.Elements.{element_of}
 use Rattle.ultra_block.specs.Whole.{Units, whole, servings, issues, all_stops, Fit}
-use Rattle.ultra_block.proofs.AtUnits.{same_places, same_machine, bank_is, element_is, cycles_is}
+use Rattle.ultra_block.proofs.AtUnits.{same_places, same_machine, bank_is, element_is}
 use Rattle.ultra_block.proofs.Passing.{served, executed}
 
 module _ (c : Settings) (u : Units) (n : ℕ) (events : List Event) (stops : List Stop) where

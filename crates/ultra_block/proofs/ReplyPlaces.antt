@@ -1,6 +1,6 @@
 -- replies that are sent, exchanged and taken make up the definition's reply phase
-use Rattle.std.proofs.Common.{◌≡◌, ◌≢◌, ℕ, zero, suc, ◌+◌, ◌*◌, ◌-◌, ◌/◌, ◌%◌, ◌^◌, ◌<◌, ◌≤◌, List, [], ◌∷◌, ◌++◌, Bool, true, false, refl, arith, ap, ◌∙◌, sym, cond, ◌⊎◌, ⊎_elim, inl, inr}
-use Rattle.std.specs.Prelude.{◌==◌, Option, Some, None, slice_get}
+use Rattle.std.proofs.Common.{◌≡◌, ◌≢◌, ℕ, ◌+◌, ◌*◌, ◌-◌, ◌/◌, ◌%◌, ◌^◌, ◌<◌, ◌≤◌, List, [], ◌∷◌, ◌++◌, Bool, true, false, refl, arith, ap, ◌∙◌, sym, cond, ⊎_elim}
+use Rattle.std.specs.Prelude.{◌==◌, Option, None, slice_get}
 use Rattle.std.specs.List.{filter}
 use Rattle.std.proofs.lemmas.Bool.{eq-eqb, ne_eqb, cases_eq}
 use Rattle.ultra_msg.specs.declared.ReplyMessage.{ReplyMessage}
@@ -10,11 +10,9 @@ use Rattle.ultra_route.proofs.Table.{sizes, back}
 use Rattle.ultra_switch.specs.declared.Ports.{Ports}
 use Rattle.ultra_switch.specs.declared.WaitRecord.{WaitRecord}
 use Rattle.ultra_switch.specs.Arrive.{Lane}
-use Rattle.ultra_switch.specs.Queues.{SizedReplies}
 use Rattle.ultra_block.specs.declared.Stop.{Stop}
-use Rattle.ultra_block.specs.Places.{places, table, present, after_leaving}
-use Rattle.ultra_mem.specs.Serve.{Bank}
-use Rattle.ultra_block.specs.Machine.{Settings, Machine, Element, size, last_stage, reply_exit, lane_at, replies_at, bank_at, element_at}
+use Rattle.ultra_block.specs.Places.{places, present, after_leaving}
+use Rattle.ultra_block.specs.Machine.{Settings, Machine, size, last_stage, reply_exit, replies_at, bank_at, element_at}
 use Rattle.ultra_block.specs.Phases.{delivery, deliver, without_reply, records_left, replies_made, has_reply_room, reply_before, arriving_reply, leaving_reply, replies_at_exit, next_replies, lane_after_split, delivered, reply_phase}
 use Rattle.ultra_block.specs.RoomTable.{RoomTable, where_room, reply_room, reply_goes}
 use Rattle.ultra_block.specs.Halves.{ports, going_by, lane_after_reply, replies_without, with_arrived}
@@ -23,7 +21,7 @@ use Rattle.ultra_block.specs.ModuleSteps as bank
 use Rattle.ultra_block.specs.Elements.{element_of}
 use Rattle.ultra_block.specs.Ported.{at_port}
 use Rattle.ultra_block.specs.Whole.{Units, sized_lane, sized_replies, whole, deliveries, Fit}
-use Rattle.ultra_block.proofs.AtUnits.{pick_true, pick_false, by_port, half_even, half_odd, rest_even, rest_odd, place_is, same_places, same_table, same_machine, lane_is, replies_is, bank_is, element_is, cycles_is, reply_room_is}
+use Rattle.ultra_block.proofs.AtUnits.{pick_true, pick_false, by_port, half_even, half_odd, rest_even, rest_odd, place_is, same_places, same_table, same_machine, lane_is, replies_is, bank_is, element_is, reply_room_is}
 use Rattle.ultra_block.proofs.Passing.{AreNoted, replies_sent, reply_on, replies_exchanged, replies_taken}
 
 -- ---- at a port
@@ -80,7 +78,7 @@ module _ (c : Settings) (u : Units) (n : ℕ) (events : List Event) (stops : Lis
       let r = room_noted (s - 1) x (omega (arith, hs, hz)) b.line_small in
       let head : ℕ → ℕ → Option ReplyMessage = λ s y. slice_get (replies_at m s y) 0 in
       let before : reply_before c m (s - 1) x ≡ head s y =
-          pick_false (s - 1 == last_stage c) (bank_at m x).out (head (s - 1 + 1) (shuffled c.stages x)) l ∙ ap (λ s. head s (shuffled c.stages x)) e ∙ ap (λ y. head s y) b.forth in
+      pick_false (s - 1 == last_stage c) (bank_at m x).out (head (s - 1 + 1) (shuffled c.stages x)) l ∙ ap (λ s. head s (shuffled c.stages x)) e ∙ ap (λ y. head s y) b.forth in
       ap (λ b. where_room b (head s y)) (pick_false (s == 0) true (reply_room rooms c.stages (s - 1) x) t ∙ r)
       ∙ ap (λ o. where_room (has_reply_room c m (s - 1) (x / 2)) o) (sym before)
       ∙ arriving_where (s - 1) x
@@ -110,7 +108,7 @@ module _ (c : Settings) (u : Units) (n : ℕ) (events : List Event) (stops : Lis
       let r = room_noted (last_stage c) k (omega (arith, low)) hk in
       let t : (last_stage c == last_stage c) ≡ true = eq-eqb (last_stage c) (last_stage c) refl in
       let before : reply_before c m (last_stage c) k ≡ (u.bank k).bank.out =
-          pick_true (last_stage c == last_stage c) (bank_at m k).out (slice_get (replies_at m (last_stage c + 1) (shuffled c.stages k)) 0) t ∙ ap (λ b. b.out) (bank_is c u n events stops k hk) in
+      pick_true (last_stage c == last_stage c) (bank_at m k).out (slice_get (replies_at m (last_stage c + 1) (shuffled c.stages k)) 0) t ∙ ap (λ b. b.out) (bank_is c u n events stops k hk) in
       rw (f.net, f.number, r) (ap (λ o. where_room (has_reply_room c m (last_stage c) (k / 2)) o) (sym before) ∙ arriving_where (last_stage c) k)
 
   -- ---- what comes
@@ -187,8 +185,8 @@ module _ (c : Settings) (u : Units) (n : ℕ) (events : List Event) (stops : Lis
       let f = fit.switches s k hs (half_small y hy) in
       let two = (sizes c.stages low high).0 in
       let left : at_port w.switch.to_pe j ≡ replies_without (sized_replies u s y) (leaving_reply c m s y) =
-          at_both (λ j q. replies_without q (switch.reply_leaving rooms v j q)) v.switch.to_pe j (omega arith)
-          ∙ ap (λ o. replies_without (sized_replies u s y) o) (leaving_is s y hs hy) in
+      at_both (λ j q. replies_without q (switch.reply_leaving rooms v j q)) v.switch.to_pe j (omega arith)
+      ∙ ap (λ o. replies_without (sized_replies u s y) o) (leaving_is s y hs hy) in
       let even = made_at s (2 * k) y v.switch.to_mm.zero.lane.records (reply_on c sent (s + 1) (2 * k)) hs (omega (arith, two, hy)) (omega arith) (lane_even s k) (comes s (2 * k) hs (omega (arith, two, hy))) in
       let odd = made_at s (2 * k + 1) y v.switch.to_mm.one.lane.records (reply_on c sent (s + 1) (2 * k + 1)) hs (omega (arith, two, hy)) (omega arith) (lane_odd s k) (comes s (2 * k + 1) hs (omega (arith, two, hy))) in
       let queue : List ReplyMessage → List ReplyMessage → List ReplyMessage → List ReplyMessage = λ q a b. q ++ a ++ b in

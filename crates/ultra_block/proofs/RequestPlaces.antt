@@ -1,8 +1,7 @@
 -- requests that are sent, exchanged and taken make up the definition's request phase
-use Rattle.std.proofs.Common.{◌≡◌, ◌≢◌, ℕ, zero, suc, ◌+◌, ◌*◌, ◌-◌, ◌/◌, ◌%◌, ◌^◌, ◌<◌, ◌≤◌, List, [], ◌∷◌, ◌++◌, Bool, true, false, refl, arith, ap, ◌∙◌, sym, ◌⊎◌, ⊎_elim, inl, inr, append_assoc}
+use Rattle.std.proofs.Common.{◌≡◌, ◌≢◌, ℕ, ◌+◌, ◌*◌, ◌-◌, ◌/◌, ◌%◌, ◌^◌, ◌<◌, ◌≤◌, List, [], ◌∷◌, ◌++◌, Bool, true, false, refl, arith, ap, ◌∙◌, sym, ⊎_elim, append_assoc}
 use Rattle.std.specs.Prelude.{◌==◌, Option, Some, None, slice_get}
 use Rattle.std.proofs.lemmas.Bool.{eq-eqb, ne_eqb, cases_eq}
-use Rattle.std.proofs.lemmas.List.{append-nil}
 use Rattle.ultra_msg.specs.declared.Request.{Request}
 use Rattle.ultra_msg.specs.declared.Event.{Event}
 use Rattle.ultra_route.specs.Route.{shuffled, unshuffled, bit_of}
@@ -13,19 +12,19 @@ use Rattle.ultra_switch.specs.Queues.{SizedLane, request_of}
 use Rattle.ultra_mem.specs.declared.Placed.{Placed}
 use Rattle.ultra_mem.specs.Serve.{Bank}
 use Rattle.ultra_block.specs.declared.Stop.{Stop}
-use Rattle.ultra_block.specs.Places.{places, table, present, joined, after_leaving}
-use Rattle.ultra_block.specs.Machine.{Settings, Machine, Element, size, last_stage, request_exit, is_nothing, lane_at, replies_at, bank_at, element_at}
+use Rattle.ultra_block.specs.Places.{present, joined, after_leaving}
+use Rattle.ultra_block.specs.Machine.{Settings, Machine, Element, size, last_stage, is_nothing, lane_at, bank_at, element_at}
 use Rattle.ultra_block.specs.Phases.{without_pending, with_request, arrive_all, combination, combinations, has_request_room, request_before, admitted, arriving_request, entering, leaving_request, requests_by, arrivals_by, arrivals, lane_after_leaving, next_lane, request_phase}
 use Rattle.ultra_block.specs.RoomTable.{RoomTable, where_room, exit_of, request_room, module_room, request_sent, request_from}
-use Rattle.ultra_block.specs.Halves.{ports, lane_without, lane_with, lane_with_both, leaves_by, coming_to, first_of, second_of, combination_event, combined_at, combined_both, bank_with, has_place_for}
+use Rattle.ultra_block.specs.Halves.{ports, lane_without, lane_with, lane_with_both, leaves_by, coming_to, first_of, second_of, combination_event, combined_at, combined_both, bank_with}
 use Rattle.ultra_block.specs.SwitchSteps as switch
 use Rattle.ultra_block.specs.ElementSteps as element
 use Rattle.ultra_block.specs.Elements.{element_of}
 use Rattle.ultra_block.specs.Ported.{at_port}
-use Rattle.ultra_block.specs.Whole.{Units, both, sized_lane, sized_replies, combined_in, whole, all_combined, Fit}
-use Rattle.ultra_block.proofs.AtUnits.{pick_true, pick_false, by_port, half_even, half_odd, rest_even, rest_odd, place_is, same_places, same_table, same_machine, lane_is, replies_is, bank_is, element_is, cycles_is}
+use Rattle.ultra_block.specs.Whole.{Units, both, sized_lane, combined_in, whole, all_combined, Fit}
+use Rattle.ultra_block.proofs.AtUnits.{pick_true, pick_false, by_port, place_is, same_places, same_table, same_machine, lane_is, bank_is, element_is, cycles_is}
 use Rattle.ultra_block.proofs.Passing.{AreNoted, requests_sent, request_on, requests_exchanged, requests_taken}
-use Rattle.ultra_block.proofs.ReplyPlaces.{at_both, at_two, at_positions, same_test}
+use Rattle.ultra_block.proofs.ReplyPlaces.{at_both, same_test}
 
 -- ---- what goes first in a cycle and what second
 pub first_at : {X Y : Type 0} (b : Bool) (f : X → List Y) (p : Ports X) → elim b [ true ↦ f p.zero ++ f p.one | false ↦ f p.one ++ f p.zero ] ≡ f (elim b [ true ↦ p.zero | false ↦ p.one ]) ++ f (elim b [ true ↦ p.one | false ↦ p.zero ])
@@ -123,7 +122,7 @@ module _ (c : Settings) (u : Units) (n : ℕ) (events : List Event) (stops : Lis
       let b = back c.stages p low high hp in
       let y = shuffled c.stages p in
       let before : request_before c m 0 y ≡ pending_head p =
-          ap (λ p. slice_get (element_at m p).interface.pending 0) b.back ∙ ap (λ (e : Element). slice_get e.interface.pending 0) (element_is c u n events stops p hp) in
+      ap (λ p. slice_get (element_at m p).interface.pending 0) b.back ∙ ap (λ (e : Element). slice_get e.interface.pending 0) (element_is c u n events stops p hp) in
       rw (f.net, f.pe) (sent_is 0 y (pending_head p) (omega (arith, low)) b.entry_small ∙ ap (λ o. admitted c m 0 y o) (sym before) ∙ arriving_as 0 y)
 
   -- the first request of the last stage enters its module
@@ -144,9 +143,9 @@ module _ (c : Settings) (u : Units) (n : ℕ) (events : List Event) (stops : Lis
       let e : s + 1 - 1 ≡ s = omega arith in
       let head : ℕ → ℕ → Option Request = λ s x. request_of (slice_get (lane_at m s x).queue 0) in
       let before : request_before c m (s + 1) y ≡ queue_head s x =
-          pick_false (s + 1 == 0) (slice_get (element_at m (unshuffled c.stages y)).interface.pending 0) (head (s + 1 - 1) (unshuffled c.stages y)) z
-          ∙ ap (λ s. head s (unshuffled c.stages y)) e ∙ ap (λ x. head s x) b.back
-          ∙ ap (λ (l : Lane). request_of (slice_get l.queue 0)) (lane_is c u n events stops s x (omega (arith, hs)) hx) in
+      pick_false (s + 1 == 0) (slice_get (element_at m (unshuffled c.stages y)).interface.pending 0) (head (s + 1 - 1) (unshuffled c.stages y)) z
+      ∙ ap (λ s. head s (unshuffled c.stages y)) e ∙ ap (λ x. head s x) b.back
+      ∙ ap (λ (l : Lane). request_of (slice_get l.queue 0)) (lane_is c u n events stops s x (omega (arith, hs)) hx) in
       sent_is (s + 1) y (queue_head s x) hs b.entry_small ∙ ap (λ o. admitted c m (s + 1) y o) (sym before) ∙ arriving_as (s + 1) y
 
   leaves : (s x : ℕ) → s < c.stages → x < size c → request_from rooms c.stages s x (queue_head s x) ≡ leaving_request c m s x
@@ -155,15 +154,15 @@ module _ (c : Settings) (u : Units) (n : ℕ) (events : List Event) (stops : Lis
       let on : Option Request = arriving_request c m (s + 1) (shuffled c.stages x) in
       ⊎_elim
       (λ e.
-          let t : (s == last_stage c) ≡ true = eq-eqb s (last_stage c) e in
-          pick_true (s == last_stage c) (where_room (module_room rooms x) (queue_head s x)) go t
-          ∙ ap (λ s. where_room (module_room rooms x) (queue_head s x)) e ∙ last_sends x hx
-          ∙ sym (pick_true (s == last_stage c) (entering c m x) on t))
+      let t : (s == last_stage c) ≡ true = eq-eqb s (last_stage c) e in
+      pick_true (s == last_stage c) (where_room (module_room rooms x) (queue_head s x)) go t
+      ∙ ap (λ s. where_room (module_room rooms x) (queue_head s x)) e ∙ last_sends x hx
+      ∙ sym (pick_true (s == last_stage c) (entering c m x) on t))
       (λ h.
-          let t : (s == last_stage c) ≡ false = ne_eqb s (last_stage c) h in
-          pick_false (s == last_stage c) (where_room (module_room rooms x) (queue_head s x)) go t
-          ∙ next_sends s x (omega (arith, hs, h)) hx
-          ∙ sym (pick_false (s == last_stage c) (entering c m x) on t))
+      let t : (s == last_stage c) ≡ false = ne_eqb s (last_stage c) h in
+      pick_false (s == last_stage c) (where_room (module_room rooms x) (queue_head s x)) go t
+      ∙ next_sends s x (omega (arith, hs, h)) hx
+      ∙ sym (pick_false (s == last_stage c) (entering c m x) on t))
       (cases_eq s (last_stage c))
 
   abbrev sent : Units

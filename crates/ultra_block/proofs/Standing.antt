@@ -1,11 +1,10 @@
 -- the units that stand in blocks, after each unit was changed
-use Rattle.std.proofs.Common.{◌≡◌, ℕ, ◌+◌, ◌*◌, ◌-◌, ◌^◌, ◌<◌, ◌≤◌, List, [], refl, arith, ap, ◌∙◌, sym, subst, length, get_or}
+use Rattle.std.proofs.Common.{◌≡◌, ℕ, ◌+◌, ◌*◌, ◌-◌, ◌^◌, ◌<◌, ◌≤◌, List, arith, ap, ◌∙◌, sym, subst, length, get_or}
 use Rattle.std.specs.Prelude.{map}
 use Rattle.std.proofs.Math.Nat.{mul-le-mul_right}
 use Rattle.std.proofs.lemmas.List.{length-map, get_or-map}
 use Rattle.ultra_block.specs.Numbers.{switch_number}
 use Rattle.ultra_block.specs.BlockState.{BlockState}
-use Rattle.ultra_block.specs.Whole.{Units}
 use Rattle.ultra_block.specs.declared.home.Home.{Home}
 use Rattle.ultra_block.specs.declared.switch_unit.SwitchUnit.{SwitchUnit}
 use Rattle.ultra_block.specs.declared.module_unit.ModuleUnit.{ModuleUnit}

@@ -1,23 +1,20 @@
 -- units as they are before the first cycle make up the definition's machine at the start
-use Rattle.std.proofs.Common.{◌≡◌, ℕ, zero, suc, ◌+◌, ◌*◌, ◌-◌, ◌/◌, ◌%◌, ◌^◌, ◌<◌, ◌≤◌, List, [], ◌∷◌, ◌++◌, refl, arith, ap, ◌∙◌, sym, subst, length, append_assoc}
+use Rattle.std.proofs.Common.{◌≡◌, ℕ, zero, suc, ◌+◌, ◌*◌, ◌%◌, ◌≤◌, List, [], ◌∷◌, ◌++◌, refl, arith, ap, ◌∙◌, sym, append_assoc}
 use Rattle.std.specs.Prelude.{Option, None, map}
 use Rattle.std.specs.List.{range_with_len}
 use Rattle.ultra_msg.specs.declared.Event.{Event}
 use Rattle.ultra_switch.specs.Arrive.{empty_lane}
 use Rattle.ultra_switch.specs.Queues.{empty_requests, empty_replies}
-use Rattle.ultra_block.specs.declared.Stop.{Stop}
 use Rattle.ultra_block.specs.Places.{places, table, present, joined}
-use Rattle.ultra_block.specs.Machine.{Settings, size, fresh_element, given_value, start}
-use Rattle.ultra_block.specs.Phases.{delivery, serving}
+use Rattle.ultra_block.specs.Machine.{Settings, size, given_value, start}
 use Rattle.ultra_block.specs.Halves.{ports}
-use Rattle.ultra_block.specs.Elements.{element_of}
-use Rattle.ultra_block.specs.Fresh.{new_cells, new_switch, new_module, new_element}
+use Rattle.ultra_block.specs.Fresh.{new_switch, new_module, new_element}
 use Rattle.ultra_block.specs.Ported.{at_port}
 use Rattle.ultra_block.specs.Whole.{Units, both, sized_lane, sized_replies, combined_in, whole, deliveries, servings, all_combined, issues, all_stops, Fit}
 use Rattle.ultra_block.specs.Ready.{all_events, machine_from}
 use Rattle.ultra_block.proofs.Each.{length-places}
-use Rattle.ultra_block.proofs.AtUnits.{by_port, same_places, same_table, same_machine}
-use Rattle.ultra_block.proofs.Alike.{AreAlike, whole_alike, deliveries_alike, servings_alike, combined_alike, issues_alike, stops_alike, fit_alike}
+use Rattle.ultra_block.proofs.AtUnits.{by_port, same_table, same_machine}
+use Rattle.ultra_block.proofs.Alike.{AreAlike, whole_alike, deliveries_alike, servings_alike, combined_alike, issues_alike, stops_alike}
 
 -- ---- nothing is told of nothing
 none_present : {X : Type 0} (a n : ℕ) → present (map (λ (k : ℕ). let o : Option X = None in o) (range_with_len a n)) ≡ []

@@ -5,8 +5,8 @@ use Rattle.std.proofs.lemmas.List.{take_at}
 use Rattle.ultra_block.specs.RoomTable.{RoomTable}
 use Rattle.ultra_block.specs.MailTable.{MailTable}
 use Rattle.ultra_block.specs.BlockState.{BlockState}
-use Rattle.ultra_block.specs.BlockSteps.{sends_replies, posted_replies, fetches_replies, takes_replies, serves, sends_requests, posted_requests, fetches_requests, takes_requests}
-use Rattle.ultra_block.specs.Cycle.{noted, mailed_replies, mailed_requests, exchanged_replies, exchanged_requests, first_rooms, with_replies_sent, with_replies_come, first_mail, with_memory_served, second_rooms, with_requests_sent, with_requests_come, second_mail}
+use Rattle.ultra_block.specs.BlockSteps.{sends_replies, posted_replies, fetches_replies, takes_replies, serves, sends_requests, posted_requests, fetches_requests}
+use Rattle.ultra_block.specs.Cycle.{noted, mailed_replies, mailed_requests, exchanged_replies, exchanged_requests, with_replies_sent, with_replies_come, first_mail, with_memory_served, second_rooms, with_requests_sent, with_requests_come, second_mail}
 
 -- a `Vec` whose elements were all written through a slice of it
 pub held : {X Z : Type 0} (v : Vec X Z) (s ws : List X) → length ws ≡ length s → length s ≡ v.len → take v.len (ws ++ drop (length ws) v.items) ≡ ws

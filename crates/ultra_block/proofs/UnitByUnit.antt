@@ -1,10 +1,9 @@
 -- one unit more is put into its block
-use Rattle.std.proofs.Common.{◌≡◌, ◌≢◌, ℕ, ◌+◌, ◌*◌, ◌-◌, ◌/◌, ◌%◌, ◌^◌, ◌<◌, ◌≤◌, List, [], ◌∷◌, ◌++◌, refl, arith, ap, ◌∙◌, sym, subst, length, get_or, set, replicate, ⊎_elim}
-use Rattle.std.specs.Prelude.{All}
+use Rattle.std.proofs.Common.{◌≡◌, ◌≢◌, ℕ, ◌+◌, ◌*◌, ◌-◌, ◌%◌, ◌^◌, ◌<◌, List, [], ◌∷◌, ◌++◌, refl, arith, ap, ◌∙◌, sym, subst, length, get_or, set, replicate, ⊎_elim}
 use Rattle.std.proofs.lemmas.Bool.{cases_eq}
 use Rattle.std.proofs.lemmas.Nat.{div-add-mod', div-mul-add, mod-mul-add}
 use Rattle.std.proofs.lemmas.List.{get_or-set_same, get_or-set_other, length-set, length_push, get_or_append_left, get_or_push, get_or-replicate, length-replicate}
-use Rattle.ultra_block.specs.Machine.{Settings, size, start}
+use Rattle.ultra_block.specs.Machine.{Settings, start}
 use Rattle.ultra_block.specs.Numbers.{switch_number}
 use Rattle.ultra_block.specs.BlockState.{BlockState}
 use Rattle.ultra_block.specs.BlockSteps.{with_switch, with_module, with_element}
@@ -15,7 +14,7 @@ use Rattle.ultra_block.specs.Ranges.{AreInRange}
 use Rattle.ultra_block.specs.Sound.{IsSound}
 use Rattle.ultra_block.specs.RoomTable.{RoomTable}
 use Rattle.ultra_block.specs.MailTable.{MailTable}
-use Rattle.ultra_block.specs.Cut.{no_block, no_switch, no_module, no_element, AreDone, switches_of, modules_of, elements_of, units_of, home_at, module_home, element_home, units_at, IsCut, HasPlaces, HasLinks}
+use Rattle.ultra_block.specs.Cut.{no_block, no_switch, no_module, no_element, AreDone, switches_of, modules_of, elements_of, home_at, module_home, element_home, units_at, HasPlaces, HasLinks}
 use Rattle.ultra_block.specs.declared.home.Home.{Home}
 use Rattle.ultra_block.specs.declared.switch_unit.SwitchUnit.{SwitchUnit}
 use Rattle.ultra_block.specs.declared.module_unit.ModuleUnit.{ModuleUnit}
@@ -101,35 +100,35 @@ module _ (c : Settings) (homes : List Home) (bs : List BlockState) (b : ℕ) (th
 pub none_built : (c : Settings) (n : ℕ) → AreBuilt c 0 0 0 [] (replicate n no_block)
 unfolding AreDone
 none_built c n =
-  let empty : (k : ℕ) → k < length (replicate n no_block) → get_or (replicate n no_block) k no_block ≡ no_block = λ k h. get_or-replicate n k no_block no_block (omega (arith, h, length-replicate n no_block)) in
-  record {
-  some_switches = record {
-    home = record {
-      there = λ k h. absurd (omega (arith, h));
-      numbered = λ k i d hk hi. absurd (let e = ap (λ b. length b.switches) (empty k hk) in omega (arith, hi, e));
-      home = λ k i d hk hi. absurd (let e = ap (λ b. length b.switches) (empty k hk) in omega (arith, hi, e));
-    };
-    as_new = λ k h. absurd (omega (arith, h));
-  };
-  some_modules = record {
-    home = record {
-      there = λ k h. absurd (omega (arith, h));
-      numbered = λ k i d hk hi. absurd (let e = ap (λ b. length b.modules) (empty k hk) in omega (arith, hi, e));
-      home = λ k i d hk hi. absurd (let e = ap (λ b. length b.modules) (empty k hk) in omega (arith, hi, e));
-    };
-    as_new = λ k h. absurd (omega (arith, h));
-  };
-  some_elements = record {
-    home = record {
-      there = λ k h. absurd (omega (arith, h));
-      numbered = λ k i d hk hi. absurd (let e = ap (λ b. length b.elements) (empty k hk) in omega (arith, hi, e));
-      home = λ k i d hk hi. absurd (let e = ap (λ b. length b.elements) (empty k hk) in omega (arith, hi, e));
-    };
-    as_new = λ k h. absurd (omega (arith, h));
-  };
-  done = λ k h. ap (λ b. b.done) (empty k h);
-  count = refl;
-}
+    let empty : (k : ℕ) → k < length (replicate n no_block) → get_or (replicate n no_block) k no_block ≡ no_block = λ k h. get_or-replicate n k no_block no_block (omega (arith, h, length-replicate n no_block)) in
+    record {
+      some_switches = record {
+        home = record {
+          there = λ k h. absurd (omega (arith, h));
+          numbered = λ k i d hk hi. absurd (let e = ap (λ b. length b.switches) (empty k hk) in omega (arith, hi, e));
+          home = λ k i d hk hi. absurd (let e = ap (λ b. length b.switches) (empty k hk) in omega (arith, hi, e));
+        };
+        as_new = λ k h. absurd (omega (arith, h));
+      };
+      some_modules = record {
+        home = record {
+          there = λ k h. absurd (omega (arith, h));
+          numbered = λ k i d hk hi. absurd (let e = ap (λ b. length b.modules) (empty k hk) in omega (arith, hi, e));
+          home = λ k i d hk hi. absurd (let e = ap (λ b. length b.modules) (empty k hk) in omega (arith, hi, e));
+        };
+        as_new = λ k h. absurd (omega (arith, h));
+      };
+      some_elements = record {
+        home = record {
+          there = λ k h. absurd (omega (arith, h));
+          numbered = λ k i d hk hi. absurd (let e = ap (λ b. length b.elements) (empty k hk) in omega (arith, hi, e));
+          home = λ k i d hk hi. absurd (let e = ap (λ b. length b.elements) (empty k hk) in omega (arith, hi, e));
+        };
+        as_new = λ k h. absurd (omega (arith, h));
+      };
+      done = λ k h. ap (λ b. b.done) (empty k h);
+      count = refl;
+    }
 
 -- ---- all units
 module _ (c : Settings) (range : AreInRange c) (homes : List Home) (bs : List BlockState) (rooms : RoomTable) (mail : MailTable) (w : AreBuilt c (c.stages * 2 ^ (c.stages - 1)) (2 ^ c.stages) (2 ^ c.stages) homes bs) (places : HasPlaces c.stages rooms) (links : HasLinks c.stages mail) where

@@ -1,5 +1,4 @@
 -- the whole machine that some blocks hold
-use Rattle.std.specs.Prelude.{ℕ}
 use Rattle.ultra_block.specs.Machine.{Machine}
 use Rattle.ultra_block.specs.Whole.{Units}
 use Rattle.ultra_block.specs.Cut.{units_at}

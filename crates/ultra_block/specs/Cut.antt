@@ -1,8 +1,7 @@
 -- the whole machine cut into blocks
-use Rattle.std.specs.Prelude.{◌≡◌, ℕ, ◌+◌, ◌*◌, ◌-◌, ◌^◌, ◌<◌, List, [], Option, None, length, slice_index_or}
+use Rattle.std.specs.Prelude.{◌≡◌, ℕ, ◌+◌, ◌*◌, ◌-◌, ◌^◌, ◌<◌, List, [], None, length, slice_index_or}
 use Rattle.ultra_switch.specs.Queues.{empty_requests, empty_replies}
 use Rattle.ultra_mem.specs.Serve.{empty_bank}
-use Rattle.ultra_block.specs.Machine.{Settings, size, site, fresh_element}
 use Rattle.ultra_isa.specs.Step.{fresh_core}
 use Rattle.ultra_pni.specs.Interface.{empty_interface}
 use Rattle.ultra_block.specs.Numbers.{switch_number, module_number, element_number}

@@ -1,5 +1,5 @@
 -- a processing element of a block after each half of a cycle
-use Rattle.std.specs.Prelude.{ℕ, ◌-◌, ◌<◌, ◌^◌, List, length, Option, Some, None, slice_get}
+use Rattle.std.specs.Prelude.{◌-◌, ◌<◌, ◌^◌, List, length, Option, None, slice_get}
 use Rattle.std.specs.Option.{ForSome}
 use Rattle.ultra_msg.specs.declared.Request.{Request}
 use Rattle.ultra_route.specs.Route.{shuffled}

@@ -1,5 +1,5 @@
 -- what the definition of the whole machine sees of a processing element
-use Rattle.std.specs.Prelude.{ℕ, List, Option}
+use Rattle.std.specs.Prelude.{List, Option}
 use Rattle.ultra_isa.specs.declared.Instr.{Instr}
 use Rattle.ultra_isa.specs.Step.{Stepped, step_of}
 use Rattle.ultra_block.specs.Places.{after_leaving}

@@ -1,5 +1,5 @@
 -- the units of a machine before its first cycle
-use Rattle.std.specs.Prelude.{ℕ, ◌+◌, ◌*◌, ◌^◌, List, [], None}
+use Rattle.std.specs.Prelude.{ℕ, ◌+◌, ◌*◌, List, None}
 use Rattle.ultra_switch.specs.Queues.{empty_requests, empty_replies}
 use Rattle.ultra_mem.specs.Serve.{Bank}
 use Rattle.ultra_pni.specs.Interface.{empty_interface}

@@ -7,7 +7,6 @@ use Rattle.ultra_msg.specs.declared.Event.{Event}
 use Rattle.ultra_msg.specs.declared.Event.TheVariants.{Delivered, Served, Combined, Issued}
 use Rattle.ultra_msg.specs.Pair.{pair_of}
 use Rattle.ultra_route.specs.Route.{shuffled, unshuffled}
-use Rattle.ultra_switch.specs.declared.Entry.{Entry}
 use Rattle.ultra_switch.specs.declared.WaitRecord.{WaitRecord}
 use Rattle.ultra_switch.specs.Arrive.{Lane, Combination, combine_within, arrive}
 use Rattle.ultra_switch.specs.Queues.{request_of}

@@ -1,5 +1,5 @@
 -- which places have room: those of a machine of d stages, by their numbers
-use Rattle.std.specs.Prelude.{ℕ, ◌+◌, ◌-◌, ◌*◌, ◌/◌, ◌%◌, ◌^◌, List, Bool, true, false, ◌==◌, Option, Some, None, slice_index_or}
+use Rattle.std.specs.Prelude.{ℕ, ◌+◌, ◌-◌, ◌/◌, ◌%◌, ◌^◌, List, Bool, true, false, ◌==◌, Option, Some, None, slice_index_or}
 use Rattle.ultra_msg.specs.declared.Request.{Request}
 use Rattle.ultra_route.specs.Route.{shuffled, unshuffled, with_lowest, bit_of}
 use Rattle.ultra_block.specs.Numbers.{switch_number, place_number}

@@ -1,10 +1,8 @@
 -- a switch of a block after each half of a cycle
-use Rattle.std.specs.Prelude.{ℕ, ◌+◌, ◌-◌, ◌*◌, ◌<◌, ◌^◌, Bool, true, false, ◌==◌, ◌&&◌, IsTrue, Option, Some, None, slice_get}
+use Rattle.std.specs.Prelude.{ℕ, ◌+◌, ◌-◌, ◌*◌, ◌<◌, ◌^◌, Bool, ◌&&◌, IsTrue, Option, None, slice_get}
 use Rattle.std.specs.Option.{ForSome}
 use Rattle.ultra_msg.specs.declared.Request.{Request}
 use Rattle.ultra_msg.specs.declared.ReplyMessage.{ReplyMessage}
-use Rattle.ultra_msg.specs.declared.Event.{Event}
-use Rattle.ultra_switch.specs.declared.Ports.{Ports}
 use Rattle.ultra_switch.specs.Queues.{SizedLane, SizedReplies, request_of}
 use Rattle.ultra_block.specs.RoomTable.{RoomTable, where_room, reply_goes, request_from}
 use Rattle.ultra_block.specs.Halves.{ports, replies_without, has_room_for, lane_after_reply, with_arrived, lane_without, has_place_for, leaves_by, first_of, second_of, combined_both, lane_with_both}

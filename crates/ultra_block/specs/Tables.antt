@@ -1,5 +1,5 @@
 -- tables by number that units write their entries into: where there is room, and the messages between the units
-use Rattle.std.specs.Prelude.{ℕ, ◌+◌, ◌*◌, List, [], ◌∷◌, Bool, Option, Some, None, slice_index_or, slice_set}
+use Rattle.std.specs.Prelude.{ℕ, ◌+◌, List, [], ◌∷◌, Bool, Option, None, slice_index_or, slice_set}
 use Rattle.ultra_msg.specs.declared.Request.{Request}
 use Rattle.ultra_msg.specs.declared.ReplyMessage.{ReplyMessage}
 use Rattle.ultra_route.specs.Route.{unshuffled}
@@ -55,10 +55,6 @@ switch_requests u =
 
 abbrev pub element_requests : ElementUnit → List (Entry (Option Request))
 element_requests u = (place_number u.net 0 u.pe, u.request_out) ∷ []
-
-
-
-
 
 -- ---- a unit without what it has sent
 abbrev pub without_replies_out : SwitchUnit → SwitchUnit

@@ -1,9 +1,7 @@
 -- the whole machine of which the units are given by their numbers
-use Rattle.std.specs.Prelude.{◌≡◌, ℕ, ◌+◌, ◌-◌, ◌/◌, ◌%◌, ◌^◌, ◌<◌, ◌≤◌, List, [], ◌∷◌, ◌++◌, Bool, Option, length}
-use Rattle.ultra_msg.specs.declared.ReplyMessage.{ReplyMessage}
+use Rattle.std.specs.Prelude.{◌≡◌, ℕ, ◌-◌, ◌/◌, ◌%◌, ◌^◌, ◌<◌, ◌≤◌, List, [], ◌∷◌, Option, length}
 use Rattle.ultra_msg.specs.declared.Event.{Event}
 use Rattle.ultra_switch.specs.declared.Ports.{Ports}
-use Rattle.ultra_switch.specs.Arrive.{Lane}
 use Rattle.ultra_switch.specs.Queues.{SizedLane, SizedReplies}
 use Rattle.ultra_block.specs.Places.{places, table, present, joined}
 use Rattle.ultra_block.specs.Machine.{Settings, Machine, size, site}

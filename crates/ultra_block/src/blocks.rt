@@ -1,12 +1,13 @@
 //! The whole machine, cut into blocks.
 
-ghost use Rattle.std.specs.Prelude.{◌≡◌, ℕ, ◌+◌, ◌-◌, ◌^◌, ◌<◌, true, false, length, slice_index_or, nat_lt, IfOk, OnOk, IsErrOf, ◌↔◌};
+ghost use Rattle.std.specs.Prelude.{◌≡◌, ℕ, ◌+◌, ◌-◌, ◌/◌, ◌%◌, ◌^◌, ◌<◌, true, false, length, slice_index_or, nat_lt, IfOk, OnOk, IsErrOf, ◌↔◌};
 ghost use Rattle.std.specs.List.{list_all};
 ghost use Rattle.ultra_block.specs.Partition.{is_partition, unit_count};
 ghost use Rattle.ultra_block.specs.Ported.{at_port};
 ghost use Rattle.ultra_block.specs.Machine.{start, lane_at, replies_at, bank_at, element_at};
 ghost use Rattle.ultra_block.specs.Phases.{cycle as next_cycle};
 
+use crate::Stop;
 use crate::block::Block;
 use crate::building::{add_elements, add_modules, add_switches, empty_blocks};
 use crate::config::Config;
@@ -22,8 +23,8 @@ use crate::switch_unit::SwitchUnit;
 use std::alloc::{AllocError, Global};
 use thiserror::Error;
 use ultra_isa::Program;
-use ultra_mem::Module;
-use ultra_msg::Pe;
+use ultra_mem::{Module, Served};
+use ultra_msg::{Event, Pe, ReplyMessage};
 use ultra_switch::{Ports, ToMm, ToPe};
 
 /// The most blocks that a machine is cut into.
@@ -82,6 +83,7 @@ impl Blocks {
         ensures state { IfOk result (λ b. machine_of b ≡ start config.now) }
         ensures settings { IfOk result (λ b. b.config ≡ config.now) }
         ensures program { IfOk result (λ b. b.program ≡ program.now) }
+        ensures done { IfOk result (λ b. b.done ≡ 0) }
         ensures accepted { OnOk result (is_partition config.now partition.now ≡ true) }
         ensures refused { IsErrOf result PartitionFault.BadPartition ↔ (is_partition config.now partition.now ≡ false) }
     {
@@ -229,6 +231,52 @@ impl Blocks {
     {
         let unit = self.unit(pe);
         &unit.element
+    }
+    /// What was delivered to a processing element in the last cycle.
+    pub fn delivered(&self, pe: Pe) -> Option<ReplyMessage>
+        requires whole { IsWhole self.now }
+        requires pe { pe < 2 ^ self.now.config.stages }
+        ensures { result ≡ ((units_of_blocks self.now).element pe).delivered }
+    {
+        self.unit(pe).delivered
+    }
+
+    /// What a module served in the last cycle.
+    pub fn served(&self, number: u32) -> Option<Served>
+        requires whole { IsWhole self.now }
+        requires number { number < 2 ^ self.now.config.stages }
+        ensures { result ≡ ((units_of_blocks self.now).bank number).served }
+    {
+        self.module(number).served
+    }
+
+    /// What combined in the last cycle in the queue toward memory at a position of a stage, in the order of the arrivals.
+    pub fn combined(&self, stage: u32, position: u32) -> Ports<Option<Event>>
+        requires whole { IsWhole self.now }
+        requires stage { stage < self.now.config.stages }
+        requires position { position < 2 ^ self.now.config.stages }
+        ensures { result ≡ at_port ((units_of_blocks self.now).switch stage (position / 2)).combined (position % 2) }
+    {
+        let _even = self.config.net().size();
+        *at(&self.switch(stage, position / 2).combined, position % 2)
+    }
+
+    /// What a processing element issued in the last cycle.
+    pub fn issued(&self, pe: Pe) -> Option<Event>
+        requires whole { IsWhole self.now }
+        requires pe { pe < 2 ^ self.now.config.stages }
+        ensures { result ≡ ((units_of_blocks self.now).element pe).issue }
+    {
+        self.unit(pe).issue
+    }
+
+    /// How a processing element faulted in the last cycle, if it did.
+    pub fn stop(&self, pe: Pe) -> Option<Stop>
+        requires whole { IsWhole self.now }
+        requires pe { pe < 2 ^ self.now.config.stages }
+        ensures { result ≡ ((units_of_blocks self.now).element pe).stop }
+    {
+        self.unit(pe).stop
     }
 }
 

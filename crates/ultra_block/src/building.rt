@@ -58,13 +58,31 @@ fn new_switch(
         net: config.net(),
         stage,
         index,
-        replies_in: Ports { zero: None, one: None },
-        replies_out: Ports { zero: None, one: None },
-        requests_in: Ports { zero: None, one: None },
-        requests_out: Ports { zero: None, one: None },
+        replies_in: Ports {
+            zero: None,
+            one: None,
+        },
+        replies_out: Ports {
+            zero: None,
+            one: None,
+        },
+        requests_in: Ports {
+            zero: None,
+            one: None,
+        },
+        requests_out: Ports {
+            zero: None,
+            one: None,
+        },
         combined: Ports {
-            zero: Ports { zero: None, one: None },
-            one: Ports { zero: None, one: None },
+            zero: Ports {
+                zero: None,
+                one: None,
+            },
+            one: Ports {
+                zero: None,
+                one: None,
+            },
         },
         switch,
     })
@@ -77,7 +95,13 @@ fn new_module(alloc: Global, config: &Config, number: u32) -> Result<ModuleUnit,
 {
     let mut bank = Module::new(alloc, config.cells()).map_err(|_| AllocError)?;
     let net = config.net();
-    fill(&mut bank, net.size(), number, config.cells(), config.initial());
+    fill(
+        &mut bank,
+        net.size(),
+        number,
+        config.cells(),
+        config.initial(),
+    );
     Ok(ModuleUnit {
         net,
         number,

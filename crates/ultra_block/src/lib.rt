@@ -19,6 +19,8 @@ mod replies;
 mod requests;
 mod rooms;
 mod switch_unit;
+#[cfg(test)]
+mod tests;
 
 pub use block::Block;
 pub use blocks::{Blocks, MOST_BLOCKS, PartitionFault};

@@ -112,15 +112,7 @@ impl SwitchUnit {
         let to_mm = &mut self.switch.to_mm;
         self.combined = Ports {
             zero: take_both(&mut to_mm.zero, net, stage, 0, position, first, second),
-            one: take_both(
-                &mut to_mm.one,
-                net,
-                stage,
-                1,
-                position + 1,
-                first,
-                second,
-            ),
+            one: take_both(&mut to_mm.one, net, stage, 1, position + 1, first, second),
         };
     }
 

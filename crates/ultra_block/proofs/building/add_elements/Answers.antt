@@ -1,4 +1,4 @@
-use Rattle.std.proofs.Common.{◌≡◌, ◌+◌, ◌*◌, ◌-◌, ◌^◌, ◌<◌, [], ◌∷◌, ◌++◌, arith, ap, ◌∙◌, sym, subst, length, get_or, set}
+use Rattle.std.proofs.Common.{◌+◌, ◌*◌, ◌-◌, ◌^◌, ◌<◌, [], ◌∷◌, ◌++◌, arith, ap, ◌∙◌, sym, subst, length, get_or, set}
 use Rattle.std.proofs.lemmas.List.{length-set}
 use Rattle.ultra_block.specs.BlockSteps.{with_element}
 use Rattle.ultra_block.specs.Built.{AreBuilt}

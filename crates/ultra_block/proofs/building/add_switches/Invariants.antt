@@ -1,4 +1,4 @@
-use Rattle.std.proofs.Common.{◌≡◌, ◌*◌, ◌-◌, ◌^◌, length}
+use Rattle.std.proofs.Common.{◌≡◌, length}
 use Rattle.ultra_block.specs.Built.{AreBuilt}
 use Rattle.ultra_block.proofs.building.add_switches.Given as goal
 

@@ -1,6 +1,5 @@
 use Rattle.std.proofs.Common.{◌≡◌, take}
 use Rattle.std.specs.List.{flat_map}
-use Rattle.ultra_block.specs.RoomTable.{RoomTable}
 use Rattle.ultra_block.specs.Tables.{written}
 use Rattle.ultra_block.specs.BlockSteps.{module_notes, reply_notes, request_notes}
 use Rattle.ultra_block.proofs.every_block.note_rooms.Given as goal

@@ -13,8 +13,9 @@ loop-block-preserved c =
     let i = c.loop-block.block-index in
     let v = c.block-item.result in
     let h : i < length us = omega arith in
-    let blocks = c.loop-block.invariant.0 in
-    (stepped posted_replies us vs i c.post_replies.new.self v h blocks c.post_replies.ensures.block,
-    c.post_replies.ensures.mail
-    ∙ ap (λ (m : MailTable). record m { replies = written (reply_entries (get_or vs i v)) m.replies }) c.loop-block.invariant.1
-    ∙ ap (λ t. record c.args.mail.now { replies = t }) (written_next reply_entries posted_replies us vs i v c.args.mail.now.replies h blocks))
+    let blocks = c.loop-block.invariant.0 in (
+      stepped posted_replies us vs i c.post_replies.new.self v h blocks c.post_replies.ensures.block,
+      c.post_replies.ensures.mail
+          ∙ ap (λ (m : MailTable). record m { replies = written (reply_entries (get_or vs i v)) m.replies }) c.loop-block.invariant.1
+          ∙ ap (λ t. record c.args.mail.now { replies = t }) (written_next reply_entries posted_replies us vs i v c.args.mail.now.replies h blocks),
+    )

@@ -13,8 +13,9 @@ loop-block-preserved c =
     let i = c.loop-block.block-index in
     let v = c.block-item.result in
     let h : i < length us = omega arith in
-    let blocks = c.loop-block.invariant.0 in
-    (stepped posted_requests us vs i c.post_requests.new.self v h blocks c.post_requests.ensures.block,
-    c.post_requests.ensures.mail
-    ∙ ap (λ (m : MailTable). record m { requests = written (request_entries (get_or vs i v)) m.requests }) c.loop-block.invariant.1
-    ∙ ap (λ t. record c.args.mail.now { requests = t }) (written_next request_entries posted_requests us vs i v c.args.mail.now.requests h blocks))
+    let blocks = c.loop-block.invariant.0 in (
+      stepped posted_requests us vs i c.post_requests.new.self v h blocks c.post_requests.ensures.block,
+      c.post_requests.ensures.mail
+          ∙ ap (λ (m : MailTable). record m { requests = written (request_entries (get_or vs i v)) m.requests }) c.loop-block.invariant.1
+          ∙ ap (λ t. record c.args.mail.now { requests = t }) (written_next request_entries posted_requests us vs i v c.args.mail.now.requests h blocks),
+    )

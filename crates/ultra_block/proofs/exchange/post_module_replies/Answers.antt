@@ -12,8 +12,9 @@ loop-unit-preserved c =
     let i = c.loop-unit.unit-index in
     let v = c.unit-item.result in
     let h : i < length us = omega arith in
-    let units = c.loop-unit.invariant.0 in
-    (stepped without_reply_out us vs i c.post_replies.new.self v h units c.post_replies.ensures.unit,
-    c.post_replies.ensures.mail
-    ∙ ap (λ (m : MailTable). record m { replies = written (module_replies (get_or vs i v)) m.replies }) c.loop-unit.invariant.1
-    ∙ ap (λ t. record c.args.mail.now { replies = t }) (written_next module_replies without_reply_out us vs i v c.args.mail.now.replies h units))
+    let units = c.loop-unit.invariant.0 in (
+      stepped without_reply_out us vs i c.post_replies.new.self v h units c.post_replies.ensures.unit,
+      c.post_replies.ensures.mail
+          ∙ ap (λ (m : MailTable). record m { replies = written (module_replies (get_or vs i v)) m.replies }) c.loop-unit.invariant.1
+          ∙ ap (λ t. record c.args.mail.now { replies = t }) (written_next module_replies without_reply_out us vs i v c.args.mail.now.replies h units),
+    )

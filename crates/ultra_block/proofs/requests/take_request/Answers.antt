@@ -1,7 +1,7 @@
-use Rattle.std.proofs.Common.{◌≡◌, ◌∙◌, ap, sym}
+use Rattle.std.proofs.Common.{◌≡◌, ap, sym}
 use Rattle.ultra_switch.specs.Arrive.{combine_within, after_arrival}
 use Rattle.ultra_switch.specs.Queues.{SizedLane}
-use Rattle.ultra_block.proofs.Arrivals.{arrive_longer, combined_event, no_combination}
+use Rattle.ultra_block.proofs.Arrivals.{arrive_longer, combined_event}
 use Rattle.ultra_block.proofs.requests.take_request.Goals as goal
 
 pub returns-in-CombinedWith-clause-combined : goal.returns-in-CombinedWith-clause-combined

@@ -1,4 +1,4 @@
-use Rattle.std.proofs.Common.{◌≡◌, ◌+◌, List, ap, ◌∙◌, sym, subst}
+use Rattle.std.proofs.Common.{◌+◌, List, ap, ◌∙◌, sym, subst}
 use Rattle.std.specs.Prelude.{All}
 use Rattle.ultra_block.specs.RoomTable.{RoomTable}
 use Rattle.ultra_block.specs.MailTable.{MailTable}
@@ -30,7 +30,7 @@ pub returns-clause-state : goal.returns-clause-state
 returns-clause-state c =
     let b = c.args.self.now in
     let new = held b.blocks c.as_mut_slice.result.now c.make_cycle.new.blocks c.make_cycle.auto.blocks c.as_mut_slice.ensures.len
-        ∙ c.make_cycle.ensures.blocks ∙ ap (λ bs. with_steps_made bs b.rooms b.mail b.program) c.as_mut_slice.ensures.value in
+    ∙ c.make_cycle.ensures.blocks ∙ ap (λ bs. with_steps_made bs b.rooms b.mail b.program) c.as_mut_slice.ensures.value in
     ap (λ bs. machine_from b.config (units_at b.config.stages b.homes.items bs) (b.done + 1)) new
     ∙ cycle_is b.config b.homes.items b.done b.blocks.items b.rooms b.mail c.requires.whole b.program
 
@@ -38,7 +38,7 @@ pub returns-clause-whole : goal.returns-clause-whole
 returns-clause-whole c =
     let b = c.args.self.now in
     let new = held b.blocks c.as_mut_slice.result.now c.make_cycle.new.blocks c.make_cycle.auto.blocks c.as_mut_slice.ensures.len
-        ∙ c.make_cycle.ensures.blocks ∙ ap (λ bs. with_steps_made bs b.rooms b.mail b.program) c.as_mut_slice.ensures.value in
+    ∙ c.make_cycle.ensures.blocks ∙ ap (λ bs. with_steps_made bs b.rooms b.mail b.program) c.as_mut_slice.ensures.value in
     let rooms = c.make_cycle.ensures.rooms ∙ ap (λ bs. second_rooms bs b.rooms b.mail) c.as_mut_slice.ensures.value in
     let mail = c.make_cycle.ensures.mail ∙ ap (λ bs. second_mail bs b.rooms b.mail) c.as_mut_slice.ensures.value in
     let P : List BlockState → RoomTable → MailTable → Type 0 = λ bs r m. IsReady b.config b.homes.items (b.done + 1) bs r m in

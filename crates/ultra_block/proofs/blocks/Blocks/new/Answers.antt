@@ -1,8 +1,5 @@
 use Rattle.std.proofs.Common.{◌≡◌, ◌+◌, ◌*◌, ◌^◌, [], refl, ap, ◌∙◌, sym, subst, length}
-use Rattle.std.specs.Prelude.{Option, None}
 use Rattle.std.proofs.lemmas.List.{length-replicate}
-use Rattle.ultra_msg.specs.declared.Request.{Request}
-use Rattle.ultra_msg.specs.declared.ReplyMessage.{ReplyMessage}
 use Rattle.ultra_block.specs.Built.{AreBuilt}
 use Rattle.ultra_block.specs.Cut.{units_at, HasLinks, HasPlaces}
 use Rattle.ultra_block.specs.MailTable.{MailTable}
