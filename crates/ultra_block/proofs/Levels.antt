@@ -9,7 +9,7 @@ use Rattle.ultra_isa.specs.declared.Activity.TheVariants.{Halted}
 use Rattle.ultra_block.specs.Places.{places}
 use Rattle.ultra_block.specs.Machine.{Settings, start}
 use Rattle.ultra_block.specs.Phases.{after, cycle, reply_phase, memory_phase, request_phase, processor_phase, arriving_reply, arriving_request}
-use Rattle.ultra_block.proofs.Runs.{settings, request, message, single, marked, kept, got, act, meeting, issue, queued, waiting, entering, leaving, replying, holdings, stand, summary}
+use Rattle.ultra_block.proofs.Runs.{settings, request, message, single, marked, kept, got, act, meeting, issuing, queued, waiting, entering, leaving, replying, holdings, stand, summary}
 
 abbrev pub two_stages : Settings
 two_stages = settings 2 4 8 4 2 []
@@ -47,10 +47,10 @@ two_level_tree_after_8 = refl
 
 two_level_tree : summary two_stages add_number 10 ≡ record {
   issues =
-      issue 2 (request 0 0 (Faa 1)) 0
-      ∷ issue 2 (request 1 0 (Faa 2)) 0
-      ∷ issue 2 (request 2 0 (Faa 3)) 0
-      ∷ issue 2 (request 3 0 (Faa 4)) 0
+      issuing 2 (request 0 0 (Faa 1)) 0
+      ∷ issuing 2 (request 1 0 (Faa 2)) 0
+      ∷ issuing 2 (request 2 0 (Faa 3)) 0
+      ∷ issuing 2 (request 3 0 (Faa 4)) 0
       ∷ [];
   meetings =
       meeting 3 0 0 0 2 0 true
@@ -94,13 +94,13 @@ marked_once_after_6 = refl
 
 marked_once : summary two_stages load_then_add 13 ≡ record {
   issues =
-      issue 3 (request 0 0 (Faa 1)) 0
-      ∷ issue 3 (request 1 2 Load) 0
-      ∷ issue 3 (request 2 3 Load) 0
-      ∷ issue 3 (request 3 4 Load) 0
-      ∷ issue 4 (request 1 0 (Faa 2)) 1
-      ∷ issue 4 (request 2 0 (Faa 3)) 1
-      ∷ issue 4 (request 3 0 (Faa 4)) 1
+      issuing 3 (request 0 0 (Faa 1)) 0
+      ∷ issuing 3 (request 1 2 Load) 0
+      ∷ issuing 3 (request 2 3 Load) 0
+      ∷ issuing 3 (request 3 4 Load) 0
+      ∷ issuing 4 (request 1 0 (Faa 2)) 1
+      ∷ issuing 4 (request 2 0 (Faa 3)) 1
+      ∷ issuing 4 (request 3 0 (Faa 4)) 1
       ∷ [];
   meetings = meeting 5 0 2 0 3 1 true ∷ meeting 6 1 0 0 0 2 true ∷ [];
   acts =
@@ -162,14 +162,14 @@ identity_not_cell_after_6 = refl
 
 identity_not_cell : summary two_stages two_loads 16 ≡ record {
   issues =
-      issue 1 (request 0 0 Load) 0
-      ∷ issue 1 (request 1 1 Load) 0
-      ∷ issue 1 (request 2 2 Load) 0
-      ∷ issue 1 (request 3 3 Load) 0
-      ∷ issue 2 (request 1 0 Load) 1
-      ∷ issue 2 (request 2 0 Load) 1
-      ∷ issue 2 (request 3 0 Load) 1
-      ∷ issue 8 (request 0 0 Load) 1
+      issuing 1 (request 0 0 Load) 0
+      ∷ issuing 1 (request 1 1 Load) 0
+      ∷ issuing 1 (request 2 2 Load) 0
+      ∷ issuing 1 (request 3 3 Load) 0
+      ∷ issuing 2 (request 1 0 Load) 1
+      ∷ issuing 2 (request 2 0 Load) 1
+      ∷ issuing 2 (request 3 0 Load) 1
+      ∷ issuing 8 (request 0 0 Load) 1
       ∷ [];
   meetings = meeting 3 0 2 0 3 1 true ∷ meeting 4 1 0 0 2 3 true ∷ [];
   acts =
@@ -242,18 +242,18 @@ frontmost_after_8 = refl
 
 frontmost : summary five_request_places three_cells 16 ≡ record {
   issues =
-      issue 2 (request 0 0 (Store 0)) 0
-      ∷ issue 2 (request 1 0 (Store 0)) 0
-      ∷ issue 2 (request 2 0 (Store 0)) 0
-      ∷ issue 2 (request 3 0 (Store 0)) 0
-      ∷ issue 3 (request 0 25 (Faa 25)) 1
-      ∷ issue 3 (request 1 25 (Faa 25)) 1
-      ∷ issue 3 (request 2 25 (Faa 25)) 1
-      ∷ issue 3 (request 3 25 (Faa 25)) 1
-      ∷ issue 4 (request 0 5 (Store 0)) 2
-      ∷ issue 4 (request 1 5 (Store 0)) 2
-      ∷ issue 4 (request 2 5 (Store 0)) 2
-      ∷ issue 4 (request 3 5 (Store 0)) 2
+      issuing 2 (request 0 0 (Store 0)) 0
+      ∷ issuing 2 (request 1 0 (Store 0)) 0
+      ∷ issuing 2 (request 2 0 (Store 0)) 0
+      ∷ issuing 2 (request 3 0 (Store 0)) 0
+      ∷ issuing 3 (request 0 25 (Faa 25)) 1
+      ∷ issuing 3 (request 1 25 (Faa 25)) 1
+      ∷ issuing 3 (request 2 25 (Faa 25)) 1
+      ∷ issuing 3 (request 3 25 (Faa 25)) 1
+      ∷ issuing 4 (request 0 5 (Store 0)) 2
+      ∷ issuing 4 (request 1 5 (Store 0)) 2
+      ∷ issuing 4 (request 2 5 (Store 0)) 2
+      ∷ issuing 4 (request 3 5 (Store 0)) 2
       ∷ [];
   meetings =
       meeting 3 0 0 0 2 0 true

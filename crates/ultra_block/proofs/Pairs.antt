@@ -9,7 +9,7 @@ use Rattle.ultra_isa.specs.declared.Activity.TheVariants.{Halted}
 use Rattle.ultra_block.specs.Places.{places}
 use Rattle.ultra_block.specs.Machine.{Settings, start}
 use Rattle.ultra_block.specs.Phases.{after, cycle, reply_phase, memory_phase, request_phase, processor_phase, arriving_reply, arriving_request}
-use Rattle.ultra_block.proofs.Runs.{settings, request, message, single, marked, kept, got, act, meeting, issue, pending, queued, waiting, entering, leaving, replying, holdings, stand, summary}
+use Rattle.ultra_block.proofs.Runs.{settings, request, message, single, marked, kept, got, act, meeting, issuing, pending, queued, waiting, entering, leaving, replying, holdings, stand, summary}
 
 abbrev pub one_stage : Settings
 one_stage = settings 1 4 8 4 2 []
@@ -69,7 +69,7 @@ unfolding after start cycle reply_phase memory_phase request_phase processor_pha
 combined_pair_after_7 = refl
 
 combined_pair : summary one_stage add_one 8 ≡ record {
-  issues = issue 2 (request 0 0 (Faa 1)) 0 ∷ issue 2 (request 1 0 (Faa 1)) 0 ∷ [];
+  issues = issuing 2 (request 0 0 (Faa 1)) 0 ∷ issuing 2 (request 1 0 (Faa 1)) 0 ∷ [];
   meetings = meeting 3 0 0 0 1 0 true ∷ [];
   acts = act 5 0 (request 1 0 (Faa 2)) (Value 0) 2 ∷ [];
   deliveries = got 7 0 0 (Value 1) ∷ got 7 1 0 (Value 0) ∷ [];
@@ -108,7 +108,7 @@ unfolding after start cycle reply_phase memory_phase request_phase processor_pha
 uncombined_pair_after_3 = refl
 
 uncombined_pair : summary without_wait_places add_one 9 ≡ record {
-  issues = issue 2 (request 0 0 (Faa 1)) 0 ∷ issue 2 (request 1 0 (Faa 1)) 0 ∷ [];
+  issues = issuing 2 (request 0 0 (Faa 1)) 0 ∷ issuing 2 (request 1 0 (Faa 1)) 0 ∷ [];
   meetings = [];
   acts = act 5 0 (request 1 0 (Faa 1)) (Value 0) 1 ∷ act 6 0 (request 0 0 (Faa 1)) (Value 1) 2 ∷ [];
   deliveries = got 7 1 0 (Value 0) ∷ got 8 0 0 (Value 1) ∷ [];
@@ -135,7 +135,7 @@ unfolding after start cycle reply_phase memory_phase request_phase processor_pha
 load_then_store_after_4 = refl
 
 load_then_store : summary five_at_first load_and_store 9 ≡ record {
-  issues = issue 3 (request 0 0 Load) 0 ∷ issue 3 (request 1 0 (Store 7)) 0 ∷ [];
+  issues = issuing 3 (request 0 0 Load) 0 ∷ issuing 3 (request 1 0 (Store 7)) 0 ∷ [];
   meetings = meeting 4 0 0 0 0 1 false ∷ [];
   acts = act 6 0 (request 0 0 (Store 7)) Ack 7 ∷ [];
   deliveries = got 8 0 0 (Value 7) ∷ got 8 1 0 Ack ∷ [];
@@ -158,7 +158,7 @@ unfolding after start cycle reply_phase memory_phase request_phase processor_pha
 store_then_faa_after_5 = refl
 
 store_then_faa : summary one_stage add_and_store 10 ≡ record {
-  issues = issue 4 (request 0 0 (Faa 3)) 0 ∷ issue 4 (request 1 0 (Store 10)) 0 ∷ [];
+  issues = issuing 4 (request 0 0 (Faa 3)) 0 ∷ issuing 4 (request 1 0 (Store 10)) 0 ∷ [];
   meetings = meeting 5 0 0 0 1 0 true ∷ [];
   acts = act 7 0 (request 1 0 (Store 13)) Ack 13 ∷ [];
   deliveries = got 9 0 0 (Value 10) ∷ got 9 1 0 Ack ∷ [];
@@ -181,7 +181,7 @@ unfolding after start cycle reply_phase memory_phase request_phase processor_pha
 faa_then_store_after_5 = refl
 
 faa_then_store : summary one_stage store_and_add 10 ≡ record {
-  issues = issue 4 (request 0 0 (Store 10)) 0 ∷ issue 4 (request 1 0 (Faa 3)) 0 ∷ [];
+  issues = issuing 4 (request 0 0 (Store 10)) 0 ∷ issuing 4 (request 1 0 (Faa 3)) 0 ∷ [];
   meetings = meeting 5 0 0 0 1 0 false ∷ [];
   acts = act 7 0 (request 1 0 (Store 13)) Ack 13 ∷ [];
   deliveries = got 9 0 0 Ack ∷ got 9 1 0 (Value 10) ∷ [];

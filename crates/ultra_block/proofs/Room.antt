@@ -9,7 +9,7 @@ use Rattle.ultra_isa.specs.declared.Activity.TheVariants.{Running, Halted}
 use Rattle.ultra_block.specs.Places.{places}
 use Rattle.ultra_block.specs.Machine.{Settings, start}
 use Rattle.ultra_block.specs.Phases.{after, cycle, reply_phase, memory_phase, request_phase, processor_phase, arriving_reply, arriving_request}
-use Rattle.ultra_block.proofs.Runs.{settings, request, message, single, marked, kept, got, act, meeting, issue, queued, waiting, entering, leaving, replying, holdings, stand, stands, summary}
+use Rattle.ultra_block.proofs.Runs.{settings, request, message, single, marked, kept, got, act, meeting, issuing, queued, waiting, entering, leaving, replying, holdings, stand, stands, summary}
 
 abbrev one_wait_place : Settings
 one_wait_place = settings 1 4 8 1 2 []
@@ -29,10 +29,10 @@ wait_buffer_full_after_4 = refl
 
 wait_buffer_full : summary one_wait_place cells_0_and_2 10 ≡ record {
   issues =
-      issue 2 (request 0 0 (Faa 1)) 0
-      ∷ issue 2 (request 1 0 (Faa 1)) 0
-      ∷ issue 3 (request 0 2 (Faa 1)) 1
-      ∷ issue 3 (request 1 2 (Faa 1)) 1
+      issuing 2 (request 0 0 (Faa 1)) 0
+      ∷ issuing 2 (request 1 0 (Faa 1)) 0
+      ∷ issuing 3 (request 0 2 (Faa 1)) 1
+      ∷ issuing 3 (request 1 2 (Faa 1)) 1
       ∷ [];
   meetings = meeting 3 0 0 0 1 0 true ∷ [];
   acts =
@@ -114,10 +114,10 @@ narrow_request_queues_after_8 = refl
 
 narrow_request_queues : summary two_request_places add_one 14 ≡ record {
   issues =
-      issue 2 (request 0 0 (Faa 1)) 0
-      ∷ issue 2 (request 1 0 (Faa 1)) 0
-      ∷ issue 2 (request 2 0 (Faa 1)) 0
-      ∷ issue 2 (request 3 0 (Faa 1)) 0
+      issuing 2 (request 0 0 (Faa 1)) 0
+      ∷ issuing 2 (request 1 0 (Faa 1)) 0
+      ∷ issuing 2 (request 2 0 (Faa 1)) 0
+      ∷ issuing 2 (request 3 0 (Faa 1)) 0
       ∷ [];
   meetings = [];
   acts =
@@ -181,10 +181,10 @@ narrow_reply_queues_after_8 = refl
 
 narrow_reply_queues : summary four_reply_places cells_0_and_1 10 ≡ record {
   issues =
-      issue 2 (request 0 0 (Faa 1)) 0
-      ∷ issue 2 (request 1 0 (Faa 1)) 0
-      ∷ issue 3 (request 0 1 (Faa 1)) 1
-      ∷ issue 3 (request 1 1 (Faa 1)) 1
+      issuing 2 (request 0 0 (Faa 1)) 0
+      ∷ issuing 2 (request 1 0 (Faa 1)) 0
+      ∷ issuing 3 (request 0 1 (Faa 1)) 1
+      ∷ issuing 3 (request 1 1 (Faa 1)) 1
       ∷ [];
   meetings = meeting 3 0 0 0 1 0 true ∷ meeting 4 0 1 1 0 1 true ∷ [];
   acts = act 5 0 (request 1 0 (Faa 2)) (Value 0) 2 ∷ act 6 1 (request 0 1 (Faa 2)) (Value 0) 2 ∷ [];
@@ -210,10 +210,10 @@ wide_reply_queues_after_7 = refl
 
 wide_reply_queues : summary eight_reply_places cells_0_and_1 9 ≡ record {
   issues =
-      issue 2 (request 0 0 (Faa 1)) 0
-      ∷ issue 2 (request 1 0 (Faa 1)) 0
-      ∷ issue 3 (request 0 1 (Faa 1)) 1
-      ∷ issue 3 (request 1 1 (Faa 1)) 1
+      issuing 2 (request 0 0 (Faa 1)) 0
+      ∷ issuing 2 (request 1 0 (Faa 1)) 0
+      ∷ issuing 3 (request 0 1 (Faa 1)) 1
+      ∷ issuing 3 (request 1 1 (Faa 1)) 1
       ∷ [];
   meetings = meeting 3 0 0 0 1 0 true ∷ meeting 4 0 1 1 0 1 true ∷ [];
   acts = act 5 0 (request 1 0 (Faa 2)) (Value 0) 2 ∷ act 6 1 (request 0 1 (Faa 2)) (Value 0) 2 ∷ [];
@@ -251,10 +251,10 @@ one_open_after_8 = refl
 
 one_open : summary one_open_cell cells_0_and_1 13 ≡ record {
   issues =
-      issue 2 (request 0 0 (Faa 1)) 0
-      ∷ issue 2 (request 1 0 (Faa 1)) 0
-      ∷ issue 7 (request 0 1 (Faa 1)) 1
-      ∷ issue 7 (request 1 1 (Faa 1)) 1
+      issuing 2 (request 0 0 (Faa 1)) 0
+      ∷ issuing 2 (request 1 0 (Faa 1)) 0
+      ∷ issuing 7 (request 0 1 (Faa 1)) 1
+      ∷ issuing 7 (request 1 1 (Faa 1)) 1
       ∷ [];
   meetings = meeting 3 0 0 0 1 0 true ∷ meeting 8 0 1 1 0 1 true ∷ [];
   acts = act 5 0 (request 1 0 (Faa 2)) (Value 0) 2 ∷ act 10 1 (request 0 1 (Faa 2)) (Value 0) 2 ∷ [];

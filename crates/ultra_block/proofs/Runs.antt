@@ -52,8 +52,8 @@ act n k r answer now = record { cycle = n; event = Served k r answer now }
 abbrev pub meeting : ℕ → ℕ → ℕ → ℕ → ℕ → ℕ → Bool → Dated
 meeting n s x a old new old_first = record { cycle = n; event = Combined s x a old new old_first }
 
-abbrev pub issue : ℕ → Request → ℕ → Dated
-issue n r number = record { cycle = n; event = Issued r number }
+abbrev pub issuing : ℕ → Request → ℕ → Dated
+issuing n r number = record { cycle = n; event = Issued r number }
 
 abbrev pub is_delivery : Dated → Bool
 is_delivery d = elim d.event [ Delivered m ↦ true | Served k r v w ↦ false | Combined s x a p q o ↦ false | Issued r i ↦ false ]

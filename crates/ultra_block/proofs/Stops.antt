@@ -10,7 +10,7 @@ use Rattle.ultra_isa.specs.declared.Activity.TheVariants.{Running, Halted, Fault
 use Rattle.ultra_block.specs.Places.{places}
 use Rattle.ultra_block.specs.Machine.{Settings, start}
 use Rattle.ultra_block.specs.Phases.{after, cycle, reply_phase, memory_phase, request_phase, processor_phase, arriving_reply, arriving_request}
-use Rattle.ultra_block.proofs.Runs.{settings, request, marked, kept, got, act, meeting, issue, pending, queued, waiting, holdings, stand, stands, summary}
+use Rattle.ultra_block.proofs.Runs.{settings, request, marked, kept, got, act, meeting, issuing, pending, queued, waiting, holdings, stand, stands, summary}
 
 abbrev one_stage : Settings
 one_stage = settings 1 4 8 4 2 []
@@ -29,7 +29,7 @@ open_cell_stall_place_after_7 = refl
 
 -- the second issue stalls in cycles 4 to 7, since the cell is open
 open_cell_stall : summary one_stage twice_one_cell 14 ≡ record {
-  issues = issue 3 (request 0 0 (Faa 1)) 0 ∷ issue 8 (request 0 0 (Faa 1)) 1 ∷ [];
+  issues = issuing 3 (request 0 0 (Faa 1)) 0 ∷ issuing 8 (request 0 0 (Faa 1)) 1 ∷ [];
   meetings = [];
   acts = act 6 0 (request 0 0 (Faa 1)) (Value 0) 1 ∷ act 11 0 (request 0 0 (Faa 1)) (Value 1) 2 ∷ [];
   deliveries = got 8 0 0 (Value 0) ∷ got 13 0 0 (Value 1) ∷ [];
@@ -56,7 +56,7 @@ unfolding after start cycle reply_phase memory_phase request_phase processor_pha
 wraparound_after_3 = refl
 
 wraparound : summary one_at_first add_greatest 8 ≡ record {
-  issues = issue 2 (request 0 0 (Faa 4294967295)) 0 ∷ issue 2 (request 1 0 (Faa 4294967295)) 0 ∷ [];
+  issues = issuing 2 (request 0 0 (Faa 4294967295)) 0 ∷ issuing 2 (request 1 0 (Faa 4294967295)) 0 ∷ [];
   meetings = meeting 3 0 0 0 1 0 true ∷ [];
   acts = act 5 0 (request 1 0 (Faa 4294967294)) (Value 1) 4294967295 ∷ [];
   deliveries = got 7 0 0 (Value 0) ∷ got 7 1 0 (Value 1) ∷ [];
@@ -114,7 +114,7 @@ unfolding after start cycle reply_phase memory_phase request_phase processor_pha
 address_fault_after_3 = refl
 
 address_fault : summary one_cell beyond 9 ≡ record {
-  issues = issue 3 (request 0 0 (Faa 1)) 0 ∷ [];
+  issues = issuing 3 (request 0 0 (Faa 1)) 0 ∷ [];
   meetings = [];
   acts = act 6 0 (request 0 0 (Faa 1)) (Value 0) 1 ∷ [];
   deliveries = got 8 0 0 (Value 0) ∷ [];
