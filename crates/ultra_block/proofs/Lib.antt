@@ -45,3 +45,4 @@ pub mod Filled
 pub mod UnitByUnit
 pub mod Ranged
 pub mod Words
+pub mod Quiet

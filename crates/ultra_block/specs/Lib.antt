@@ -30,3 +30,4 @@ pub mod Fresh
 pub mod Built
 pub mod Partition
 pub mod Words
+pub mod Quiet

@@ -4,7 +4,7 @@ ghost use Rattle.std.specs.Prelude.{◌≡◌, ℕ, ◌+◌, ◌-◌, ◌/◌, �
 ghost use Rattle.std.specs.List.{list_all};
 ghost use Rattle.ultra_block.specs.Partition.{is_partition, unit_count};
 ghost use Rattle.ultra_block.specs.Ported.{at_port};
-ghost use Rattle.ultra_block.specs.Machine.{start, lane_at, replies_at, bank_at, element_at};
+ghost use Rattle.ultra_block.specs.Machine.{start, lane_at, replies_at, bank_at, element_at, is_quiet};
 ghost use Rattle.ultra_block.specs.Phases.{cycle as next_cycle};
 
 use crate::Stop;
@@ -14,6 +14,7 @@ use crate::config::Config;
 use crate::cycle::make_cycle;
 use crate::element::ProcessingElement;
 use crate::element_unit::ElementUnit;
+use crate::every_block::are_quiet;
 use crate::home::Home;
 use crate::mail::Mail;
 use crate::module_unit::ModuleUnit;
@@ -136,6 +137,14 @@ impl Blocks {
         ensures { result ≡ self.now.done }
     {
         self.done
+    }
+
+    /// Whether every processing element has halted or faulted, and nothing is on its way or open. It looks no further than the first unit of which this is not so.
+    pub fn is_quiet(&self) -> bool
+        requires whole { IsWhole self.now }
+        ensures { result ≡ is_quiet (machine_of self.now) }
+    {
+        are_quiet(self.blocks.as_slice())
     }
 
     /// The machine's settings.

@@ -1,7 +1,8 @@
 //! Each half of a cycle, done to every block.
 
 ghost use Rattle.std.specs.Prelude.{◌≡◌, All, map};
-ghost use Rattle.std.specs.List.{flat_map};
+ghost use Rattle.std.specs.List.{flat_map, list_all};
+ghost use Rattle.ultra_block.specs.Quiet.{quiet_block};
 ghost use Rattle.ultra_block.specs.Tables.{written};
 ghost use Rattle.ultra_block.specs.BlockSteps.{CanExecute, CanTakeReplies, CanTakeRequests, executes, fetches_replies, fetches_requests, module_notes, posted_replies, posted_requests, reply_entries, reply_notes, request_entries, request_notes, sends_replies, sends_requests, serves, takes_replies, takes_requests};
 
@@ -130,4 +131,11 @@ pub(crate) fn exchange_requests(blocks: &mut [Block], mail: &mut Mail)
 {
     post_requests(blocks, mail);
     fetch_requests(blocks, mail);
+}
+
+/// Whether each block is quiet.
+pub(crate) fn are_quiet(blocks: &[Block]) -> bool
+    ensures { result ≡ list_all quiet_block blocks.now }
+{
+    blocks.iter().all(|block| block.is_quiet())
 }
