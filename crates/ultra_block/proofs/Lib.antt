@@ -37,8 +37,9 @@ pub mod Fitting
 pub mod CutHalves
 pub mod Likewise
 pub mod Admitted
+pub mod Exchanged
 pub mod CutCycle
-pub mod Together
+pub mod Course
 pub mod Housing
 pub mod Starting
 pub mod Filled

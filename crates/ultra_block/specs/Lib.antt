@@ -31,3 +31,5 @@ pub mod Built
 pub mod Partition
 pub mod Words
 pub mod Quiet
+pub mod Making
+pub mod Course

@@ -8,6 +8,7 @@ use crate::exchange::{
     note_modules, note_switches, post_element_requests, post_module_replies, post_switch_replies,
     post_switch_requests,
 };
+use crate::half::Half;
 use crate::mail::Mail;
 use crate::module_unit::ModuleUnit;
 use crate::passes::{
@@ -46,6 +47,7 @@ impl Model for Block {
 impl Block {
     ghost use Rattle.ultra_block.specs.BlockSteps.{CanExecute, CanTakeReplies, CanTakeRequests, executes, fetches_replies, fetches_requests, notes_rooms, posted_replies, posted_requests, posts_replies, posts_requests, sends_replies, sends_requests, serves, takes_replies, takes_requests, with_element, with_module, with_switch};
     ghost use Rattle.ultra_block.specs.Cut.{no_element, no_module, no_switch};
+    ghost use Rattle.ultra_block.specs.Making.{CanMake, made};
     ghost use Rattle.ultra_block.specs.Quiet.{quiet_block};
     ghost use Rattle.ultra_block.specs.SwitchSteps as switch;
     ghost use Rattle.ultra_block.specs.ModuleSteps as bank;
@@ -107,6 +109,21 @@ impl Block {
     {
         execute_elements(self.elements.as_mut_slice(), program);
         self.done += 1;
+    }
+
+    /// Makes this half of a cycle, with the rooms that were noted before it and the machine's program. What it asks is what the half asks.
+    pub fn make(&mut self, half: Half, rooms: &Rooms, program: &Program)
+        requires { CanMake half self.old }
+        ensures { self.new ≡ made half rooms.now program.now self.old }
+    {
+        match half {
+            Half::SendReplies => self.send_replies(rooms),
+            Half::TakeReplies => self.take_replies(),
+            Half::Serve => self.serve(),
+            Half::SendRequests => self.send_requests(rooms),
+            Half::TakeRequests => self.take_requests(),
+            Half::Execute => self.execute(program),
+        }
     }
 
     /// Puts the replies that leave onto their links.
