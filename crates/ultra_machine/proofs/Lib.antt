@@ -1,14 +1,2 @@
-pub mod Counts
-pub mod Balance
-pub mod Going
-pub mod Forms
-pub mod Combined
-pub mod Longer
-pub mod InitialCells
-pub mod OneCycle
-pub mod Conditions
-pub mod Quiet
-pub mod Filled
-pub mod Start
-pub mod WholeCycle
-pub mod Together
+pub mod Listed
+pub mod OneBlock

@@ -1,12 +1,2 @@
-pub mod Flow
-pub mod Sound
-pub mod Halves
-pub mod TwoPorts
-pub mod Units
-pub mod Sent
-pub mod Fit
-pub mod Valid
-pub mod Accepted
 pub mod Running
 pub mod Machines
-pub mod Fresh

@@ -1,6 +1,7 @@
 //! A list whose places are made once.
 
-ghost use Rattle.std.specs.Prelude.{◌≡◌, ◌<◌, [], ◌∷◌, ◌++◌, length, IfOk};
+ghost use Rattle.std.specs.Prelude.{◌≡◌, ◌+◌, ◌≤◌, ◌<◌, [], ◌∷◌, ◌++◌, length, IfOk};
+ghost use Rattle.ultra_block.specs.Places.{present};
 
 use std::alloc::{AllocError, Global};
 use std::marker::Model;
@@ -31,14 +32,17 @@ impl<T, const PLACES: usize> FixedList<T, PLACES> {
         })
     }
 
-    /// Puts an item at the end. There has to be a free place.
-    pub fn push(&mut self, item: T)
+    /// Puts an item at the end, if there is one. There has to be a free place.
+    pub fn extend(&mut self, item: Option<T>)
     where
         T: Drop,
         requires { length self.old < PLACES }
-        ensures { self.new ≡ self.old ++ item ∷ [] }
+        ensures value { self.new ≡ self.old ++ present (item ∷ []) }
+        ensures count { length self.new ≤ length self.old + 1 }
     {
-        self.items.push(item).unwrap();
+        if let Some(item) = item {
+            self.items.push(item).unwrap();
+        }
     }
 
     /// Takes all items away.

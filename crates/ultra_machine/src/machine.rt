@@ -1,33 +1,29 @@
 //! The whole machine.
 
-ghost use Rattle.std.specs.Prelude.{◌≡◌, ℕ, ◌+◌, ◌-◌, ◌^◌, ◌<◌, length, IfOk};
+ghost use Rattle.std.specs.Prelude.{◌≡◌, ℕ, ◌+◌, ◌-◌, ◌^◌, ◌<◌, ◌≤◌, ◌↔◌, true, false, length, IfOk, OnOk, IfErr};
 ghost use Rattle.ultra_block.specs.Machine.{start, is_quiet as quiet, lane_at, replies_at, bank_at, element_at};
 ghost use Rattle.ultra_block.specs.Phases.{cycle as next_cycle};
-ghost use Rattle.ultra_machine.specs.TwoPorts.{at_port};
+ghost use Rattle.ultra_block.specs.Elements.{element_of};
+ghost use Rattle.ultra_block.specs.Partition.{is_partition, unit_count};
+ghost use Rattle.ultra_block.specs.BlocksState.{machine_of, IsWhole};
 
-use crate::building::new_units;
-use crate::config::Config;
 use crate::fixed_list::FixedList;
-use crate::requests::in_order;
-use crate::units::{ProcessingElement, Requests, Units};
-use crate::{Events, Stops};
+use crate::last_cycle::{list_events, list_stops};
+use crate::{Events, MOST_UNITS, Stops};
 use std::alloc::{AllocError, Global};
 use std::marker::Model;
-use ultra_block::Stop;
+use ultra_block::{Blocks, Config, PartitionFault, ProcessingElement, Stop};
 use ultra_isa::Program;
 use ultra_mem::Module;
-use ultra_msg::Event;
-use ultra_switch::{Ports, ToMm, ToPe};
+use ultra_msg::{Event, Pe};
+use ultra_switch::{ToMm, ToPe};
 
 /// A machine: its settings, its program, and its units as they stand after some cycles.
 ///
-/// Today it has one stage: two processing elements, one switch and two modules.
+/// All units are in one block. `into_blocks` cuts the machine otherwise.
 #[derive(Drop)]
 pub struct Machine {
-    config: Config,
-    program: Program,
-    units: Units,
-    done: u32,
+    blocks: Blocks,
     events: Events,
     stops: Stops,
 }
@@ -45,20 +41,14 @@ impl Model for Machine {
 }
 
 impl Machine {
-    ghost use Rattle.ultra_machine.specs.Units.{element_of};
-
     /// The machine of these settings and this program before its first cycle: all registers and cells are 0 but for the initial ones, and nothing is on its way.
     ///
     /// It keeps copies of its own. An error says that memory was refused.
     pub fn new(alloc: Global, config: &Config, program: &Program) -> Result<Machine, AllocError>
         ensures { IfOk result (λ m. m ≡ record { settings = config.now; program = program.now; state = start config.now }) }
     {
-        let _only_one_stage = config.stages();
         Ok(Machine {
-            units: new_units(alloc, config)?,
-            config: config.try_clone()?,
-            program: program.try_clone(alloc)?,
-            done: 0,
+            blocks: in_one_block(alloc, config, program)?,
             events: FixedList::new(alloc)?,
             stops: FixedList::new(alloc)?,
         })
@@ -71,35 +61,23 @@ impl Machine {
         requires { self.old.state.cycles < 2 ^ 32 - 1 }
         ensures { self.new ≡ record self.old { state = next_cycle self.old.settings self.old.program self.old.state } }
     {
-        let net = self.config.net();
-        self.events.clear();
-        self.stops.clear();
-        let has_room = self.units.has_reply_room();
-        let replies = self.units.send_replies(has_room);
-        self.units.take_replies(net, replies, &mut self.events);
-        self.units.serve(&mut self.events);
-        let rooms = self.units.request_rooms();
-        let Requests { entering, arriving } = self.units.send_requests(net, rooms);
-        let (first, second) = in_order(self.done, arriving);
-        self.units
-            .take_requests(net, entering, first, second, &mut self.events);
-        self.units
-            .execute(&self.program, &mut self.events, &mut self.stops);
-        self.done += 1;
+        self.blocks.cycle();
+        list_events(&self.blocks, &mut self.events);
+        list_stops(&self.blocks, &mut self.stops);
     }
 
     /// How many cycles the machine has made.
     pub fn done(&self) -> u32
         ensures { result ≡ self.now.state.cycles }
     {
-        self.done
+        self.blocks.done()
     }
 
     /// The machine's settings.
     pub fn config(&self) -> &Config
         ensures { result.now ≡ self.now.settings }
     {
-        &self.config
+        self.blocks.config()
     }
 
     /// What happened in the last cycle: deliveries by processing element, servings by module, combinations by stage, position and arrival, issues by processing element.
@@ -117,52 +95,67 @@ impl Machine {
     }
 
     /// The queue toward memory at a memory-side position of a stage, with its wait buffer. Stages count from 0, positions too.
-    pub fn lane(&self, stage: usize, position: usize) -> &ToMm
+    pub fn lane(&self, stage: u32, position: u32) -> &ToMm
         requires stage { stage < self.now.settings.stages }
         requires position { position < 2 ^ self.now.settings.stages }
         ensures { result.now.lane ≡ lane_at self.now.state stage position }
     {
-        let _ = stage;
-        at(&self.units.switch.to_mm, position)
+        self.blocks.lane(stage, position)
     }
 
     /// The queue toward the processing elements at a PE-side position of a stage.
-    pub fn reply_queue(&self, stage: usize, position: usize) -> &ToPe
+    pub fn reply_queue(&self, stage: u32, position: u32) -> &ToPe
         requires stage { stage < self.now.settings.stages }
         requires position { position < 2 ^ self.now.settings.stages }
         ensures { result.now.replies ≡ replies_at self.now.state stage position }
     {
-        let _ = stage;
-        at(&self.units.switch.to_pe, position)
+        self.blocks.reply_queue(stage, position)
     }
 
     /// A memory module, by its number.
-    pub fn bank(&self, number: usize) -> &Module
+    pub fn bank(&self, number: u32) -> &Module
         requires { number < 2 ^ self.now.settings.stages }
         ensures { result.now ≡ bank_at self.now.state number }
     {
-        at(&self.units.modules, number)
+        self.blocks.bank(number)
     }
 
     /// A processing element, by its number.
-    pub fn element(&self, pe: usize) -> &ProcessingElement
+    pub fn element(&self, pe: Pe) -> &ProcessingElement
         requires { pe < 2 ^ self.now.settings.stages }
         ensures { element_of result.now ≡ element_at self.now.state pe }
     {
-        at(&self.units.elements, pe)
+        self.blocks.element(pe)
     }
 
     /// Whether every processing element has halted or faulted, and nothing is on its way or open.
     pub fn is_quiet(&self) -> bool
         ensures { result ≡ quiet self.now.state }
     {
-        self.units.are_quiet()
+        self.blocks.is_quiet()
     }
 }
 
-/// What there is at a port, by its number.
-fn at<T>(ports: &Ports<T>, port: usize) -> &T
-    ensures { result.now ≡ at_port ports.now port }
+/// The machine before its first cycle, with all units in block 0. An error says that memory was refused.
+fn in_one_block(alloc: Global, config: &Config, program: &Program) -> Result<Blocks, AllocError>
+    ensures whole { IfOk result (λ b. IsWhole b) }
+    ensures state { IfOk result (λ b. machine_of b ≡ start config.now) }
+    ensures settings { IfOk result (λ b. b.config ≡ config.now) }
+    ensures program { IfOk result (λ b. b.program ≡ program.now) }
 {
-    if port == 0 { &ports.zero } else { &ports.one }
+    let all_in_one = [0; MOST_UNITS];
+    match Blocks::new(alloc, config, program, &all_in_one[..units(config)]) {
+        Ok(blocks) => Ok(blocks),
+        Err(PartitionFault::NoMemory) => Err(AllocError),
+        Err(PartitionFault::BadPartition) => unreachable!(),
+    }
+}
+
+/// How many units a machine of these settings has.
+fn units(config: &Config) -> usize
+    ensures value { result ≡ unit_count config.now }
+    ensures few { result ≤ MOST_UNITS }
+{
+    let net = config.net();
+    (net.stages() * (net.size() / 2) + 2 * net.size()) as usize
 }

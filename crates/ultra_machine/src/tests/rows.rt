@@ -1,0 +1,302 @@
+//! Worked runs of two stages. All requests are for cell 0, but in the last.
+
+use super::{add_number, add_one, defaults, machine, program, register, run};
+use crate::{Machine, RawSettings};
+use std::alloc::Global;
+use std::process::Abort;
+use std::test::Fail;
+use ultra_isa::{Instr, Program};
+use ultra_msg::{Event, Give, Op, Pe, Reply, ReplyMessage, Request, Word};
+use ultra_switch::{Entry, WaitRecord};
+
+fn faa(pe: Pe, word: Word) -> Request {
+    Request {
+        pe,
+        cell: 0,
+        op: Op::Faa(word),
+    }
+}
+
+fn answer(pe: Pe, word: Word) -> ReplyMessage {
+    ReplyMessage {
+        pe,
+        cell: 0,
+        reply: Reply::Value(word),
+    }
+}
+
+/// Makes so many cycles. In the last of them the processing elements issue their first requests: each adds this word.
+fn issue(rt: &impl Abort, machine: &mut Machine, cycles: u32, wanted: &[(Pe, Word)]) {
+    run(rt, machine, cycles);
+    let mut events = machine.events().iter();
+    for &(pe, word) in wanted {
+        let event = Event::Issued {
+            request: faa(pe, word),
+            number: 0,
+        };
+        assert_eq!(rt; events.next(), Some(&event));
+    }
+    assert!(rt; events.next().is_none());
+}
+
+/// Makes so many cycles. In the last of them requests combine: at this stage and position, that of the first processing element with that of the second.
+fn combine(rt: &impl Abort, machine: &mut Machine, cycles: u32, wanted: &[(u32, u32, Pe, Pe)]) {
+    run(rt, machine, cycles);
+    let mut events = machine.events().iter();
+    for &(stage, position, old, new) in wanted {
+        let event = Event::Combined {
+            stage,
+            position,
+            cell: 0,
+            old,
+            new,
+            old_first: true,
+        };
+        assert_eq!(rt; events.next(), Some(&event));
+    }
+    assert!(rt; events.next().is_none());
+}
+
+/// Makes so many cycles. In the last of them processing elements get these values, and module 0 serves requests: that of a processing element which adds a word, with the value before and after.
+fn answer_and_serve(
+    rt: &impl Abort,
+    machine: &mut Machine,
+    cycles: u32,
+    answers: &[(Pe, Word)],
+    acts: &[(Pe, Word, Word, Word)],
+) {
+    run(rt, machine, cycles);
+    let mut events = machine.events().iter();
+    for &(pe, word) in answers {
+        let event = Event::Delivered(answer(pe, word));
+        assert_eq!(rt; events.next(), Some(&event));
+    }
+    for &(pe, word, old, now) in acts {
+        let event = Event::Served {
+            module: 0,
+            request: faa(pe, word),
+            reply: Reply::Value(old),
+            now,
+        };
+        assert_eq!(rt; events.next(), Some(&event));
+    }
+    assert!(rt; events.next().is_none());
+}
+
+/// What stands in the queue toward memory at a position of a stage: requests of processing elements for a cell, and whether each has combined there.
+fn queue_is(
+    rt: &impl Abort,
+    machine: &Machine,
+    stage: u32,
+    position: u32,
+    wanted: &[(Pe, u32, Op, bool)],
+) {
+    assert!(rt; stage < machine.config().stages());
+    assert!(rt; position < machine.config().net().size());
+    let lane = machine.lane(stage, position);
+    assert_eq!(rt; lane.len(), wanted.len());
+    for (index, &(pe, cell, op, combined)) in wanted.iter().enumerate() {
+        assert!(rt; index < lane.len());
+        let request = Request { pe, cell, op };
+        assert_eq!(rt; lane.entry(index), Entry { request, combined });
+    }
+}
+
+/// The only record in the wait buffer at a position of a stage.
+fn record_is(rt: &impl Abort, machine: &Machine, stage: u32, position: u32, wanted: WaitRecord) {
+    assert!(rt; stage < machine.config().stages());
+    assert!(rt; position < machine.config().net().size());
+    let lane = machine.lane(stage, position);
+    assert!(rt; lane.record_count() == 1);
+    assert_eq!(rt; lane.record(0), wanted);
+}
+
+/// The only reply in the queue toward the processing elements at a position of a stage: its processing element and its value.
+fn reply_is(rt: &impl Abort, machine: &Machine, stage: u32, position: u32, wanted: (Pe, Word)) {
+    assert!(rt; stage < machine.config().stages());
+    assert!(rt; position < machine.config().net().size());
+    let queue = machine.reply_queue(stage, position);
+    assert!(rt; queue.len() == 1);
+    assert_eq!(rt; queue.reply(0), answer(wanted.0, wanted.1));
+}
+
+/// The value of cell 0 at the end.
+fn ends_with(rt: &impl Abort, machine: &Machine, word: Word) {
+    assert!(rt; machine.is_quiet());
+    assert!(rt; machine.config().net().size() > 0);
+    assert_eq!(rt; machine.bank(0).peek(0), Some(word));
+}
+
+/// A record of requests for cell 0, of which the second gets so much more than the first.
+fn kept(pe: Pe, partner: Pe, more: Word) -> WaitRecord {
+    WaitRecord {
+        pe,
+        cell: 0,
+        give_old: Give::Same,
+        partner,
+        give_new: Give::Plus(more),
+    }
+}
+
+#[test]
+fn two_level_tree(rt: HostRuntime) -> Result<(), Fail> {
+    let program = add_number(rt.alloc())?;
+    let mut machine = machine(rt.alloc(), &defaults(rt.alloc(), 2), &program)?;
+    four_become_one(&rt, &mut machine);
+    one_becomes_four(&rt, &mut machine);
+    ends_with(&rt, &machine, 10);
+    Ok(())
+}
+
+fn four_become_one(rt: &impl Abort, machine: &mut Machine) {
+    issue(rt, machine, 3, &[(0, 1), (1, 2), (2, 3), (3, 4)]);
+    combine(rt, machine, 1, &[(0, 0, 2, 0), (0, 2, 3, 1)]);
+    combine(rt, machine, 1, &[(1, 0, 2, 3)]);
+    queue_is(rt, machine, 1, 0, &[(2, 0, Op::Faa(10), true)]);
+    record_is(rt, machine, 0, 0, kept(2, 0, 3));
+    record_is(rt, machine, 0, 2, kept(3, 1, 4));
+    record_is(rt, machine, 1, 0, kept(2, 3, 4));
+}
+
+fn one_becomes_four(rt: &impl Abort, machine: &mut Machine) {
+    answer_and_serve(rt, machine, 2, &[], &[(2, 10, 0, 10)]);
+    run(rt, machine, 1);
+    reply_is(rt, machine, 1, 0, (2, 0));
+    reply_is(rt, machine, 1, 1, (3, 4));
+    run(rt, machine, 1);
+    reply_is(rt, machine, 0, 0, (0, 3));
+    reply_is(rt, machine, 0, 1, (2, 0));
+    reply_is(rt, machine, 0, 2, (1, 8));
+    reply_is(rt, machine, 0, 3, (3, 4));
+    answer_and_serve(rt, machine, 1, &[(0, 3), (1, 8), (2, 0), (3, 4)], &[]);
+}
+
+/// A queue takes a request only when it is empty.
+#[test]
+fn narrow_request_queues(rt: HostRuntime) -> Result<(), Fail> {
+    let raw = RawSettings {
+        request_places: Some(2),
+        wait_places: Some(0),
+        ..defaults(rt.alloc(), 2)
+    };
+    let program = add_one(rt.alloc())?;
+    let mut machine = machine(rt.alloc(), &raw, &program)?;
+    answer_and_serve(&rt, &mut machine, 7, &[], &[(2, 1, 0, 1)]);
+    answer_and_serve(&rt, &mut machine, 1, &[], &[(3, 1, 1, 2)]);
+    answer_and_serve(&rt, &mut machine, 2, &[(2, 0)], &[(1, 1, 2, 3)]);
+    answer_and_serve(&rt, &mut machine, 1, &[(3, 1)], &[(0, 1, 3, 4)]);
+    answer_and_serve(&rt, &mut machine, 2, &[(1, 2)], &[]);
+    answer_and_serve(&rt, &mut machine, 1, &[(0, 3)], &[]);
+    ends_with(&rt, &machine, 4);
+    Ok(())
+}
+
+/// Processing element p adds p + 1 to cell 0, and all but 0 load cell p + 1 before.
+fn load_then_add(alloc: Global) -> Result<Program, Fail> {
+    let (number, zero, more) = (register(1), register(3), register(5));
+    program(vec![in alloc;
+        Instr::Number(number),
+        Instr::AddWord(more, number, 1),
+        Instr::JumpIfZero(number, 4),
+        Instr::Load(register(6), more),
+        Instr::Faa(register(7), zero, more),
+        Instr::Halt,
+    ]?)
+}
+
+/// A request that has combined in a queue takes no second partner there.
+#[test]
+fn marked_once(rt: HostRuntime) -> Result<(), Fail> {
+    let program = load_then_add(rt.alloc())?;
+    let mut machine = machine(rt.alloc(), &defaults(rt.alloc(), 2), &program)?;
+    run(&rt, &mut machine, 7);
+    queue_is(
+        &rt,
+        &machine,
+        1,
+        0,
+        &[(0, 0, Op::Faa(4), true), (3, 0, Op::Faa(6), false)],
+    );
+    answer_and_serve(&rt, &mut machine, 2, &[], &[(0, 4, 0, 4)]);
+    answer_and_serve(&rt, &mut machine, 1, &[], &[(3, 6, 4, 10)]);
+    answer_and_serve(&rt, &mut machine, 2, &[(0, 0)], &[]);
+    answer_and_serve(&rt, &mut machine, 1, &[(1, 8), (2, 1), (3, 4)], &[]);
+    Ok(())
+}
+
+/// Processing element p loads cell p, and then cell 0.
+fn two_loads(alloc: Global) -> Result<Program, Fail> {
+    let (zero, number) = (register(0), register(1));
+    program(vec![in alloc;
+        Instr::Number(number),
+        Instr::Load(register(13), number),
+        Instr::Load(register(8), zero),
+        Instr::Halt,
+    ]?)
+}
+
+/// The reply to 0 for cell 0 passes the record of 2 for cell 0.
+#[test]
+fn identity_not_cell(rt: HostRuntime) -> Result<(), Fail> {
+    let program = two_loads(rt.alloc())?;
+    let mut machine = machine(rt.alloc(), &defaults(rt.alloc(), 2), &program)?;
+    run(&rt, &mut machine, 7);
+    reply_is(&rt, &machine, 1, 0, (0, 0));
+    let record = WaitRecord {
+        pe: 2,
+        cell: 0,
+        give_old: Give::Same,
+        partner: 3,
+        give_new: Give::Same,
+    };
+    record_is(&rt, &machine, 1, 0, record);
+    Ok(())
+}
+
+/// Each stores 0 into cell 0, adds 25 to cell 25, and stores 0 into cell 5.
+fn three_cells(alloc: Global) -> Result<Program, Fail> {
+    let (five, zero, more) = (register(5), register(6), register(8));
+    program(vec![in alloc;
+        Instr::Set(five, 5),
+        Instr::Set(more, 25),
+        Instr::Store(register(7), zero),
+        Instr::Faa(register(13), more, more),
+        Instr::Store(five, zero),
+        Instr::Halt,
+    ]?)
+}
+
+/// Of two entries that could combine, the front one does.
+#[test]
+fn frontmost(rt: HostRuntime) -> Result<(), Fail> {
+    let raw = RawSettings {
+        request_places: Some(5),
+        wait_places: Some(1),
+        most_open: Some(3),
+        ..defaults(rt.alloc(), 2)
+    };
+    let program = three_cells(rt.alloc())?;
+    let mut machine = machine(rt.alloc(), &raw, &program)?;
+    run(&rt, &mut machine, 9);
+    let store = Op::Store(0);
+    queue_is(
+        &rt,
+        &machine,
+        1,
+        1,
+        &[
+            (3, 5, store, true),
+            (2, 5, store, false),
+            (1, 5, store, false),
+        ],
+    );
+    let record = WaitRecord {
+        pe: 3,
+        cell: 5,
+        give_old: Give::Ack,
+        partner: 0,
+        give_new: Give::Ack,
+    };
+    record_is(&rt, &machine, 1, 1, record);
+    Ok(())
+}
