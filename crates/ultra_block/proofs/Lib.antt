@@ -37,6 +37,7 @@ pub mod Fitting
 pub mod CutHalves
 pub mod Likewise
 pub mod Admitted
+pub mod OfKind
 pub mod CutCycle
 pub mod Together
 pub mod Housing
