@@ -16,7 +16,7 @@ use Rattle.ultra_block.specs.ElementSteps as element
 use Rattle.ultra_block.specs.BlockState.{BlockState}
 use Rattle.ultra_block.specs.BlockSteps as block
 use Rattle.ultra_block.specs.Whole.{Units, whole, deliveries, servings, all_combined, issues, all_stops}
-use Rattle.ultra_block.specs.Cut.{no_block, no_switch, no_module, no_element, units_of, switches_of, modules_of, elements_of, units_at, HasPlaces, AreDone}
+use Rattle.ultra_block.specs.Cut.{no_block, no_switch, no_module, no_element, units_of, switches_of, modules_of, elements_of, units_at, HasPlaces, HasLinks, AreDone}
 use Rattle.ultra_block.specs.Cycle as cycle
 use Rattle.ultra_block.specs.Kinds.{is_combination}
 use Rattle.ultra_block.specs.Ready.{all_events, machine_from, IsReady}
@@ -24,11 +24,12 @@ use Rattle.ultra_block.specs.declared.home.Home.{Home}
 use Rattle.ultra_block.proofs.Sound.{sound-reply_phase, sound-memory_phase, cycle_is_sound}
 use Rattle.ultra_block.proofs.Entries.{length-written}
 use Rattle.ultra_block.proofs.Noted.{each_switch, each_module, each_element, all_noted}
-use Rattle.ultra_block.proofs.Passing.{AreNoted, replies_sent, replies_exchanged, replies_taken, served, requests_sent, requests_exchanged, requests_taken, executed}
+use Rattle.ultra_block.proofs.Passing.{AreNoted, replies_sent, replies_exchanged, replies_taken, served, requests_sent, requests_exchanged, requests_taken, exchanged, executed}
 use Rattle.ultra_block.proofs.Alike.{AreAlike, whole_alike, deliveries_alike, servings_alike, combined_alike, issues_alike, stops_alike, kinds_alike}
-use Rattle.ultra_block.proofs.Likewise.{and_then, replies_taken_likewise, replies_exchanged_likewise, requests_taken_likewise, requests_exchanged_likewise}
+use Rattle.ultra_block.proofs.Likewise.{and_then, replies_taken_likewise, requests_taken_likewise, exchanged_likewise}
 use Rattle.ultra_block.proofs.Admitted.{switch_takes_replies, element_takes_replies, switch_takes_requests, module_takes_requests}
-use Rattle.ultra_block.proofs.CutHalves.{Stands, StandsAs, replies_sent_there, replies_exchanged_there, replies_taken_there, served_there, requests_sent_there, requests_exchanged_there, requests_taken_there, executed_there}
+use Rattle.ultra_block.proofs.CutHalves.{Stands, StandsAs, replies_sent_there, replies_taken_there, served_there, requests_sent_there, requests_taken_there, executed_there}
+use Rattle.ultra_block.proofs.Exchanged.{exchanged_there, still_linked}
 use Rattle.ultra_block.proofs.OfKind.{combined_kinds, issue_kinds}
 use Rattle.ultra_block.proofs.ReplyPlaces.{replied_is}
 use Rattle.ultra_block.proofs.RequestPlaces.{requested_is}
@@ -36,11 +37,21 @@ use Rattle.ultra_block.proofs.OtherPlaces.{served_is, executed_is}
 
 -- ---- what happened is kept by the later halves
 module _ (c : Settings) (u : Units) where
-  delivered_kept : (n : ℕ) (rooms : RoomTable) → deliveries c (requests_taken n (requests_exchanged c (requests_sent rooms u))) ≡ deliveries c u
+  -- with the replies nothing else changes that the machine is made of, nor with the requests
+  only_replies : (n : ℕ) → whole c (replies_taken (exchanged c u)) n (deliveries c (replies_taken (exchanged c u))) [] ≡ whole c (replies_taken (replies_exchanged c u)) n (deliveries c (replies_taken (replies_exchanged c u))) []
+  unfolding whole deliveries
+  only_replies n = refl
+
+  only_requests : (n : ℕ) (events : List Event)
+      → whole c (requests_taken n (exchanged c u)) n (events ++ all_combined c (requests_taken n (exchanged c u))) [] ≡ whole c (requests_taken n (requests_exchanged c u)) n (events ++ all_combined c (requests_taken n (requests_exchanged c u))) []
+  unfolding whole all_combined
+  only_requests n events = refl
+
+  delivered_kept : (n : ℕ) (rooms : RoomTable) → deliveries c (requests_taken n (exchanged c (requests_sent rooms u))) ≡ deliveries c u
   unfolding deliveries
   delivered_kept n rooms = refl
 
-  served_kept : (n : ℕ) (rooms : RoomTable) → servings c (requests_taken n (requests_exchanged c (requests_sent rooms u))) ≡ servings c u
+  served_kept : (n : ℕ) (rooms : RoomTable) → servings c (requests_taken n (exchanged c (requests_sent rooms u))) ≡ servings c u
   unfolding servings
   served_kept n rooms = refl
 
@@ -117,11 +128,11 @@ module _ (c : Settings) (homes : List Home) (n : ℕ) (bs : List BlockState) (ro
   as1 : StandsAs c low high homes n (replies_sent rooms1 (at bs)) b1
   as1 = replies_sent_there c low high homes n bs rooms1 stands0
 
-  as2 : StandsAs c low high homes n (replies_exchanged c (at b1)) b2
-  as2 = replies_exchanged_there c low high homes n b1 as1.stands mail1 mail.replies ready.links.replies refl
+  as2 : StandsAs c low high homes n (exchanged c (at b1)) b2
+  as2 = exchanged_there c low high homes n b1 as1.stands mail ready.links
 
-  come2 : AreAlike c (at b2) (replies_exchanged c (replies_sent rooms1 (at bs)))
-  come2 = and_then c (at b2) (replies_exchanged c (at b1)) (replies_exchanged c (replies_sent rooms1 (at bs))) as2.alike (replies_exchanged_likewise c low high (at b1) (replies_sent rooms1 (at bs)) as1.alike)
+  come2 : AreAlike c (at b2) (exchanged c (replies_sent rooms1 (at bs)))
+  come2 = and_then c (at b2) (exchanged c (at b1)) (exchanged c (replies_sent rooms1 (at bs))) as2.alike (exchanged_likewise c low high (at b1) (replies_sent rooms1 (at bs)) as1.alike)
 
   pub can_take_replies : All block.CanTakeReplies b2
   can_take_replies =
@@ -129,23 +140,28 @@ module _ (c : Settings) (homes : List Home) (n : ℕ) (bs : List BlockState) (ro
       (λ k hk. record {
         switches = every switch.CanTakeReplies no_switch (units_of switches_of b2 k)
             (λ i hi. each_switch c.stages low high homes b2 as2.stands.cut switch.CanTakeReplies
-            (λ s j hs hj. subst (λ w. switch.CanTakeReplies w) (sym (come2.switches s j hs hj)) (switch_takes_replies c (at bs) n (all_events c (at bs)) (all_stops c (at bs)) low high ready.fit rooms1 noted0 ready.range s j hs hj)) k i hk hi);
+            (λ s j hs hj.
+            let can = switch_takes_replies c (at bs) n (all_events c (at bs)) (all_stops c (at bs)) low high ready.fit rooms1 noted0 ready.range s j hs hj in
+            subst (λ w. switch.CanTakeReplies w) (sym (come2.switches s j hs hj)) record { zero = can.zero; one = can.one }) k i hk hi);
         elements = every element.CanTakeReplies no_element (units_of elements_of b2 k)
             (λ i hi. each_element c.stages low high homes b2 as2.stands.cut element.CanTakeReplies
-            (λ p hp. subst (λ e. element.CanTakeReplies e) (sym (come2.elements p hp)) (element_takes_replies c (at bs) n (all_events c (at bs)) (all_stops c (at bs)) low high ready.fit rooms1 noted0 ready.range ready.sound p hp)) k i hk hi);
+            (λ p hp.
+            let can = element_takes_replies c (at bs) n (all_events c (at bs)) (all_stops c (at bs)) low high ready.fit rooms1 noted0 ready.range ready.sound p hp in
+            subst (λ e. element.CanTakeReplies e) (sym (come2.elements p hp)) record { waiting = can.waiting }) k i hk hi);
       })
 
   as3 : StandsAs c low high homes n (replies_taken (at b2)) b3
   as3 = replies_taken_there c low high homes n b2 as2.stands
 
-  taken3 : AreAlike c (at b3) (replies_taken (replies_exchanged c (replies_sent rooms1 (at bs))))
-  taken3 = and_then c (at b3) (replies_taken (at b2)) (replies_taken (replies_exchanged c (replies_sent rooms1 (at bs)))) as3.alike (replies_taken_likewise c low high (at b2) (replies_exchanged c (replies_sent rooms1 (at bs))) come2)
+  taken3 : AreAlike c (at b3) (replies_taken (exchanged c (replies_sent rooms1 (at bs))))
+  taken3 = and_then c (at b3) (replies_taken (at b2)) (replies_taken (exchanged c (replies_sent rooms1 (at bs)))) as3.alike (replies_taken_likewise c low high (at b2) (exchanged c (replies_sent rooms1 (at bs))) come2)
 
   is3 : whole c (at b3) n (deliveries c (at b3)) [] ≡ phase.reply_phase c m0
   is3 =
-      let v = replies_taken (replies_exchanged c (replies_sent rooms1 (at bs))) in
+      let v = replies_taken (exchanged c (replies_sent rooms1 (at bs))) in
       whole_alike c low high (at b3) v taken3 n (deliveries c (at b3)) []
       ∙ ap (λ es. whole c v n es []) (deliveries_alike c low high (at b3) v taken3)
+      ∙ only_replies c (replies_sent rooms1 (at bs)) n
       ∙ replied_is c (at bs) n (all_events c (at bs)) (all_stops c (at bs)) low high ready.fit rooms1 noted0
 
   -- ---- memory
@@ -180,11 +196,14 @@ module _ (c : Settings) (homes : List Home) (n : ℕ) (bs : List BlockState) (ro
   as5 : StandsAs c low high homes n (requests_sent rooms2 (at b4)) b5
   as5 = requests_sent_there c low high homes n b4 rooms2 as4.stands
 
-  as6 : StandsAs c low high homes n (requests_exchanged c (at b5)) b6
-  as6 = requests_exchanged_there c low high homes n b5 as5.stands (cycle.second_mail bs rooms mail) mail.requests ready.links.requests refl
+  links1 : HasLinks c.stages mail1
+  links1 = still_linked c low high homes n b1 as1.stands mail ready.links
 
-  come6 : AreAlike c (at b6) (requests_exchanged c (requests_sent rooms2 (at b4)))
-  come6 = and_then c (at b6) (requests_exchanged c (at b5)) (requests_exchanged c (requests_sent rooms2 (at b4))) as6.alike (requests_exchanged_likewise c low high (at b5) (requests_sent rooms2 (at b4)) as5.alike)
+  as6 : StandsAs c low high homes n (exchanged c (at b5)) b6
+  as6 = exchanged_there c low high homes n b5 as5.stands mail1 links1
+
+  come6 : AreAlike c (at b6) (exchanged c (requests_sent rooms2 (at b4)))
+  come6 = and_then c (at b6) (exchanged c (at b5)) (exchanged c (requests_sent rooms2 (at b4))) as6.alike (exchanged_likewise c low high (at b5) (requests_sent rooms2 (at b4)) as5.alike)
 
   pub can_take_requests : All block.CanTakeRequests b6
   can_take_requests =
@@ -192,25 +211,30 @@ module _ (c : Settings) (homes : List Home) (n : ℕ) (bs : List BlockState) (ro
       (λ k hk. record {
         switches = every switch.CanTakeRequests no_switch (units_of switches_of b6 k)
             (λ i hi. each_switch c.stages low high homes b6 as6.stands.cut switch.CanTakeRequests
-            (λ s j hs hj. subst (λ w. switch.CanTakeRequests w) (sym (come6.switches s j hs hj)) (switch_takes_requests c (at b4) n events4 [] low high as4.stands.fit rooms2 noted4 ready.range s j hs hj)) k i hk hi);
+            (λ s j hs hj.
+            let can = switch_takes_requests c (at b4) n events4 [] low high as4.stands.fit rooms2 noted4 ready.range s j hs hj in
+            subst (λ w. switch.CanTakeRequests w) (sym (come6.switches s j hs hj)) record { zero = can.zero; one = can.one }) k i hk hi);
         modules = every bank.CanTakeRequests no_module (units_of modules_of b6 k)
             (λ i hi. each_module c.stages low high homes b6 as6.stands.cut bank.CanTakeRequests
-            (λ j hj. subst (λ b. bank.CanTakeRequests b) (sym (come6.modules j hj)) (module_takes_requests c (at b4) n events4 [] low high as4.stands.fit rooms2 noted4 ready.range sound4 j hj)) k i hk hi);
+            (λ j hj.
+            let can = module_takes_requests c (at b4) n events4 [] low high as4.stands.fit rooms2 noted4 ready.range sound4 j hj in
+            subst (λ b. bank.CanTakeRequests b) (sym (come6.modules j hj)) record { within = can.within; empty = can.empty }) k i hk hi);
       })
 
   as7 : StandsAs c low high homes n (requests_taken n (at b6)) b7
   as7 = requests_taken_there c low high homes n b6 as6.stands
 
   abbrev v7 : Units
-  v7 = requests_taken n (requests_exchanged c (requests_sent rooms2 (at b4)))
+  v7 = requests_taken n (exchanged c (requests_sent rooms2 (at b4)))
 
   taken7 : AreAlike c (at b7) v7
-  taken7 = and_then c (at b7) (requests_taken n (at b6)) v7 as7.alike (requests_taken_likewise c low high (at b6) (requests_exchanged c (requests_sent rooms2 (at b4))) come6 n)
+  taken7 = and_then c (at b7) (requests_taken n (at b6)) v7 as7.alike (requests_taken_likewise c low high (at b6) (exchanged c (requests_sent rooms2 (at b4))) come6 n)
 
   is7 : whole c (at b7) n (events4 ++ all_combined c (at b7)) [] ≡ phase.request_phase c (phase.memory_phase c (phase.reply_phase c m0))
   is7 =
       whole_alike c low high (at b7) v7 taken7 n (events4 ++ all_combined c (at b7)) []
       ∙ ap (λ es. whole c v7 n (events4 ++ es) []) (combined_alike c low high (at b7) v7 taken7)
+      ∙ only_requests c (requests_sent rooms2 (at b4)) n events4
       ∙ requested_is c (at b4) n events4 [] low high as4.stands.fit rooms2 noted4
       ∙ ap (λ m. phase.request_phase c m) is4
 
@@ -278,12 +302,9 @@ module _ (c : Settings) (homes : List Home) (n : ℕ) (bs : List BlockState) (ro
         requests = length-written (flat_map block.request_notes b4) rooms1.requests ∙ places1.requests;
         modules = length-written (flat_map block.module_notes b4) rooms1.modules ∙ places1.modules;
       };
-      links = record {
-        replies = length-written (flat_map block.reply_entries b1) mail.replies ∙ ready.links.replies;
-        requests = length-written (flat_map block.request_entries b5) mail.requests ∙ ready.links.requests;
-      };
+      links = still_linked c low high homes n b5 as5.stands mail1 links1;
       kinds = kinds_alike c low high (at b8) v8 as8.alike record {
-        combined = subst (λ es. AllByRecursion (λ e. is_combination e ≡ true) es) (sym (executed_combined c (at b7) program ∙ combined_alike c low high (at b7) v7 taken7)) (combined_kinds c (requests_exchanged c (requests_sent rooms2 (at b4))) n);
+        combined = subst (λ es. AllByRecursion (λ e. is_combination e ≡ true) es) (sym (executed_combined c (at b7) program ∙ combined_alike c low high (at b7) v7 taken7)) (combined_kinds c (exchanged c (requests_sent rooms2 (at b4))) n);
         issued = issue_kinds c (at b7) program;
       };
       sound = subst (λ m. IsSound c m) (sym cycle_is) (cycle_is_sound c ready.range program m0 ready.sound);

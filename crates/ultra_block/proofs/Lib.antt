@@ -38,11 +38,13 @@ pub mod CutHalves
 pub mod Likewise
 pub mod Admitted
 pub mod OfKind
+pub mod Exchanged
 pub mod CutCycle
-pub mod Together
+pub mod Course
 pub mod Housing
 pub mod Starting
 pub mod Filled
 pub mod UnitByUnit
 pub mod Ranged
 pub mod Words
+pub mod Quiet

@@ -19,7 +19,7 @@ use Rattle.ultra_block.specs.declared.module_unit.ModuleUnit.{ModuleUnit}
 use Rattle.ultra_block.specs.declared.element_unit.ElementUnit.{ElementUnit}
 use Rattle.ultra_block.proofs.AtUnits.{pick_true, pick_false}
 use Rattle.ultra_block.proofs.Alike.{AreAlike}
-use Rattle.ultra_block.proofs.Passing.{reply_on, replies_exchanged, replies_taken, request_on, requests_exchanged, requests_taken}
+use Rattle.ultra_block.proofs.Passing.{reply_on, replies_exchanged, replies_taken, request_on, requests_exchanged, requests_taken, exchanged}
 
 pub and_then : (c : Settings) (u v w : Units) → AreAlike c u v → AreAlike c v w → AreAlike c u w
 and_then c u v w a b = record {
@@ -109,3 +109,7 @@ module _ (c : Settings) (low : 1 ≤ c.stages) (high : c.stages ≤ 6) (u v : Un
         ap (λ b. put b (request_on u c.stages k)) (alike.modules k hk) ∙ ap (λ o. put (v.bank k) o) (request_alike c.stages k (omega arith) hk);
     elements = λ p hp. ap (λ e. without_request_out e) (alike.elements p hp);
   }
+
+module _ (c : Settings) (low : 1 ≤ c.stages) (high : c.stages ≤ 6) (u v : Units) (alike : AreAlike c u v) where
+  pub exchanged_likewise : AreAlike c (exchanged c u) (exchanged c v)
+  exchanged_likewise = requests_exchanged_likewise c low high (replies_exchanged c u) (replies_exchanged c v) (replies_exchanged_likewise c low high u v alike)

@@ -63,6 +63,10 @@ requests_exchanged c u = record {
   element = λ p. without_request_out (u.element p);
 }
 
+-- both kinds of messages
+abbrev pub exchanged : Settings → Units → Units
+exchanged c u = requests_exchanged c (replies_exchanged c u)
+
 abbrev pub requests_taken : ℕ → Units → Units
 requests_taken n u = record u { switch = λ s k. switch.takes_requests n (u.switch s k); bank = λ k. bank.takes_requests (u.bank k) }
 

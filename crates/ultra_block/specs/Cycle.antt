@@ -29,6 +29,13 @@ exchanged_replies bs mail = map (fetches_replies (mailed_replies bs mail)) (map 
 abbrev pub exchanged_requests : List BlockState → MailTable → List BlockState
 exchanged_requests bs mail = map (fetches_requests (mailed_requests bs mail)) (map posted_requests bs)
 
+-- every message has: replies and then requests, of which either kind is on its way
+abbrev pub exchanged : List BlockState → MailTable → List BlockState
+exchanged bs mail = exchanged_requests (exchanged_replies bs mail) (mailed_replies bs mail)
+
+abbrev pub mailed : List BlockState → MailTable → MailTable
+mailed bs mail = mailed_requests (exchanged_replies bs mail) (mailed_replies bs mail)
+
 module _ (bs : List BlockState) (rooms : RoomTable) (mail : MailTable) where
   -- ---- replies and memory
   abbrev pub first_rooms : RoomTable
@@ -38,10 +45,10 @@ module _ (bs : List BlockState) (rooms : RoomTable) (mail : MailTable) where
   with_replies_sent = map (sends_replies first_rooms) bs
 
   abbrev pub with_replies_come : List BlockState
-  with_replies_come = exchanged_replies with_replies_sent mail
+  with_replies_come = exchanged with_replies_sent mail
 
   abbrev pub first_mail : MailTable
-  first_mail = mailed_replies with_replies_sent mail
+  first_mail = mailed with_replies_sent mail
 
   abbrev pub with_replies_taken : List BlockState
   with_replies_taken = map takes_replies with_replies_come
@@ -57,10 +64,10 @@ module _ (bs : List BlockState) (rooms : RoomTable) (mail : MailTable) where
   with_requests_sent = map (sends_requests second_rooms) with_memory_served
 
   abbrev pub with_requests_come : List BlockState
-  with_requests_come = exchanged_requests with_requests_sent first_mail
+  with_requests_come = exchanged with_requests_sent first_mail
 
   abbrev pub second_mail : MailTable
-  second_mail = mailed_requests with_requests_sent first_mail
+  second_mail = mailed with_requests_sent first_mail
 
   abbrev pub with_requests_taken : List BlockState
   with_requests_taken = map takes_requests with_requests_come

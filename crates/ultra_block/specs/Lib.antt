@@ -31,3 +31,6 @@ pub mod Fresh
 pub mod Built
 pub mod Partition
 pub mod Words
+pub mod Quiet
+pub mod Making
+pub mod Course

@@ -8,12 +8,14 @@ use crate::exchange::{
     note_modules, note_switches, post_element_requests, post_module_replies, post_switch_replies,
     post_switch_requests,
 };
+use crate::half::Half;
 use crate::mail::Mail;
 use crate::module_unit::ModuleUnit;
 use crate::passes::{
-    execute_elements, send_element_requests, send_module_replies, send_switch_replies,
-    send_switch_requests, serve_modules, take_element_replies, take_module_requests,
-    take_switch_replies, take_switch_requests,
+    are_elements_quiet, are_modules_quiet, are_switches_quiet, execute_elements,
+    send_element_requests, send_module_replies, send_switch_replies, send_switch_requests,
+    serve_modules, take_element_replies, take_module_requests, take_switch_replies,
+    take_switch_requests,
 };
 use crate::rooms::Rooms;
 use crate::switch_unit::SwitchUnit;
@@ -45,6 +47,8 @@ impl Model for Block {
 impl Block {
     ghost use Rattle.ultra_block.specs.BlockSteps.{CanExecute, CanTakeReplies, CanTakeRequests, executes, fetches_replies, fetches_requests, notes_rooms, posted_replies, posted_requests, posts_replies, posts_requests, sends_replies, sends_requests, serves, takes_replies, takes_requests, with_element, with_module, with_switch};
     ghost use Rattle.ultra_block.specs.Cut.{no_element, no_module, no_switch};
+    ghost use Rattle.ultra_block.specs.Making.{CanMake, made};
+    ghost use Rattle.ultra_block.specs.Quiet.{quiet_block};
     ghost use Rattle.ultra_block.specs.SwitchSteps as switch;
     ghost use Rattle.ultra_block.specs.ModuleSteps as bank;
     ghost use Rattle.ultra_block.specs.ElementSteps as element;
@@ -107,6 +111,21 @@ impl Block {
         self.done += 1;
     }
 
+    /// Makes this half of a cycle, with the rooms that were noted before it and the machine's program. What it asks is what the half asks.
+    pub fn make(&mut self, half: Half, rooms: &Rooms, program: &Program)
+        requires { CanMake half self.old }
+        ensures { self.new ≡ made half rooms.now program.now self.old }
+    {
+        match half {
+            Half::SendReplies => self.send_replies(rooms),
+            Half::TakeReplies => self.take_replies(),
+            Half::Serve => self.serve(),
+            Half::SendRequests => self.send_requests(rooms),
+            Half::TakeRequests => self.take_requests(),
+            Half::Execute => self.execute(program),
+        }
+    }
+
     /// Puts the replies that leave onto their links.
     pub(crate) fn post_replies(&mut self, mail: &mut Mail)
         ensures block { self.new ≡ posted_replies self.old }
@@ -140,6 +159,16 @@ impl Block {
         fetch_switch_requests(self.switches.as_mut_slice(), mail);
         fetch_module_requests(self.modules.as_mut_slice(), mail);
     }
+
+    /// Whether each of its units is quiet: it looks no further than the first that is not.
+    pub(crate) fn is_quiet(&self) -> bool
+        ensures { result ≡ quiet_block self.now }
+    {
+        are_switches_quiet(self.switches.as_slice())
+            && are_modules_quiet(self.modules.as_slice())
+            && are_elements_quiet(self.elements.as_slice())
+    }
+
     /// The switch at this place of the block.
     pub(crate) fn switch(&self, place: usize) -> &SwitchUnit
         requires { place < length self.now.switches }

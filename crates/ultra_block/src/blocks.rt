@@ -1,19 +1,20 @@
 //! The whole machine, cut into blocks.
 
-ghost use Rattle.std.specs.Prelude.{◌≡◌, ℕ, ◌+◌, ◌-◌, ◌/◌, ◌%◌, ◌^◌, ◌<◌, true, false, length, slice_index_or, nat_lt, IfOk, OnOk, IsErrOf, ◌↔◌};
+ghost use Rattle.std.specs.Prelude.{◌≡◌, ℕ, ◌+◌, ◌-◌, ◌/◌, ◌%◌, ◌^◌, ◌<◌, [], true, false, length, map, slice_index_or, nat_lt, All, IfOk, OnOk, IsErrOf, ◌↔◌};
 ghost use Rattle.std.specs.List.{list_all};
 ghost use Rattle.ultra_block.specs.Partition.{is_partition, unit_count};
 ghost use Rattle.ultra_block.specs.Ported.{at_port};
-ghost use Rattle.ultra_block.specs.Machine.{start, lane_at, replies_at, bank_at, element_at};
+ghost use Rattle.ultra_block.specs.Machine.{start, lane_at, replies_at, bank_at, element_at, is_quiet};
 ghost use Rattle.ultra_block.specs.Phases.{cycle as next_cycle};
 
 use crate::Stop;
 use crate::block::Block;
 use crate::building::{add_elements, add_modules, add_switches, empty_blocks};
 use crate::config::Config;
-use crate::cycle::make_cycle;
 use crate::element::ProcessingElement;
 use crate::element_unit::ElementUnit;
+use crate::every_block::{are_quiet, exchange, make_half, note_rooms};
+use crate::half::Half;
 use crate::home::Home;
 use crate::mail::Mail;
 use crate::module_unit::ModuleUnit;
@@ -21,6 +22,7 @@ use crate::numbers::{element_number, module_number, switch_number};
 use crate::rooms::Rooms;
 use crate::switch_unit::SwitchUnit;
 use std::alloc::{AllocError, Global};
+use std::mem;
 use thiserror::Error;
 use ultra_isa::Program;
 use ultra_mem::{Module, Served};
@@ -68,6 +70,8 @@ pub struct Blocks {
 impl Blocks {
     ghost use Rattle.ultra_block.specs.BlocksState.{machine_of, units_of_blocks, IsWhole};
     ghost use Rattle.ultra_block.specs.Cut.{no_home};
+    ghost use Rattle.ultra_block.specs.Cycle.{exchanged, mailed, noted};
+    ghost use Rattle.ultra_block.specs.Making.{CanMake, made};
     ghost use Rattle.ultra_block.specs.Elements.{element_of};
 
     /// The machine of these settings and this program before its first cycle: all registers and cells are 0 but for the initial ones, and nothing is on its way. The partition names the block of each unit, 0 to 63: switches come first, then modules, then processing elements. Blocks may be empty.
@@ -122,12 +126,72 @@ impl Blocks {
         ensures program { self.new.program ≡ self.old.program }
         ensures done { self.new.done ≡ self.old.done + 1 }
     {
-        make_cycle(
-            self.blocks.as_mut_slice(),
-            &mut self.rooms,
-            &mut self.mail,
-            &self.program,
-        );
+        self.note_rooms();
+        self.make(Half::SendReplies);
+        self.exchange();
+        self.make(Half::TakeReplies);
+        self.make(Half::Serve);
+        self.note_rooms();
+        self.make(Half::SendRequests);
+        self.exchange();
+        self.make(Half::TakeRequests);
+        self.make(Half::Execute);
+        self.end_cycle();
+    }
+
+    /// Every block notes its rooms: the first step of a cycle, and again the one before requests are sent.
+    pub fn note_rooms(&mut self)
+        ensures { self.new ≡ record self.old { rooms = noted self.old.blocks.items self.old.rooms } }
+    {
+        note_rooms(self.blocks.as_slice(), &mut self.rooms);
+    }
+
+    /// The rooms that the blocks have noted last.
+    pub fn rooms(&self) -> &Rooms
+        ensures { result.now ≡ self.now.rooms }
+    {
+        &self.rooms
+    }
+
+    /// Every block makes this half of a cycle. What it asks of each block is what the half asks.
+    fn make(&mut self, half: Half)
+        requires { All (CanMake half) self.old.blocks.items }
+        ensures blocks { self.new.blocks.items ≡ map (made half self.old.rooms self.old.program) self.old.blocks.items }
+        ensures rest { self.new ≡ record self.old { blocks = self.new.blocks } }
+    {
+        make_half(self.blocks.as_mut_slice(), half, &self.rooms, &self.program);
+    }
+
+    /// The blocks themselves, of which none are left: whoever makes the halves of a cycle puts them back.
+    pub fn take_blocks(&mut self) -> Vec<Block>
+        ensures taken { result ≡ self.old.blocks }
+        ensures none { self.new.blocks.items ≡ [] }
+        ensures rest { self.new ≡ record self.old { blocks = self.new.blocks } }
+    {
+        let none = Vec::new(*self.blocks.allocator());
+        mem::replace(&mut self.blocks, none)
+    }
+
+    /// Puts blocks in the place of those that it has.
+    pub fn put_blocks(&mut self, blocks: Vec<Block>)
+        ensures { self.new ≡ record self.old { blocks = blocks } }
+    {
+        self.blocks = blocks;
+    }
+
+    /// Each message that has left a unit comes to the one at the other end of its link: replies after they were sent, and requests after they were. Where nothing has been sent, nothing comes.
+    pub fn exchange(&mut self)
+        ensures blocks { self.new.blocks.items ≡ exchanged self.old.blocks.items self.old.mail }
+        ensures rest { self.new ≡ record self.old { blocks = self.new.blocks; mail = mailed self.old.blocks.items self.old.mail } }
+    {
+        exchange(self.blocks.as_mut_slice(), &mut self.mail);
+    }
+
+    /// Counts a cycle whose halves are all made: the last step of a cycle. The cycles that are done have to be fewer than `2^32 - 1`.
+    pub fn end_cycle(&mut self)
+        requires { self.old.done < 2 ^ 32 - 1 }
+        ensures { self.new ≡ record self.old { done = self.old.done + 1 } }
+    {
         self.done += 1;
     }
 
@@ -136,6 +200,14 @@ impl Blocks {
         ensures { result ≡ self.now.done }
     {
         self.done
+    }
+
+    /// Whether every processing element has halted or faulted, and nothing is on its way or open. It looks no further than the first unit of which this is not so.
+    pub fn is_quiet(&self) -> bool
+        requires whole { IsWhole self.now }
+        ensures { result ≡ is_quiet (machine_of self.now) }
+    {
+        are_quiet(self.blocks.as_slice())
     }
 
     /// The machine's settings.

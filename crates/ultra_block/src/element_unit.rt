@@ -28,6 +28,7 @@ pub struct ElementUnit {
 
 impl ElementUnit {
     ghost use Rattle.ultra_block.specs.ElementSteps.{CanExecute, CanTakeReplies, IsPlaced, executes, sends_requests, takes_replies};
+    ghost use Rattle.ultra_block.specs.Quiet.{quiet_element};
     ghost use Rattle.ultra_block.specs.Tables.{element_requests, with_reply_in, without_request_out, written};
 
     /// A reply that has come is delivered.
@@ -67,6 +68,13 @@ impl ElementUnit {
             Step::Fault(fault) => Some(Stop { pe: self.pe, fault }),
             Step::Done | Step::Issued | Step::Stalled | Step::Halted => None,
         };
+    }
+
+    /// Whether it has halted or faulted, no cell is open, and no request waits.
+    pub(crate) fn is_quiet(&self) -> bool
+        ensures { result ≡ quiet_element self.now }
+    {
+        self.element.is_quiet()
     }
 
     /// The number of the link from the processing element.

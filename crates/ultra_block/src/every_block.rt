@@ -1,78 +1,35 @@
-//! Each half of a cycle, done to every block.
+//! Each half of a cycle, and the exchange of messages, done to every block.
 
 ghost use Rattle.std.specs.Prelude.{◌≡◌, All, map};
-ghost use Rattle.std.specs.List.{flat_map};
+ghost use Rattle.std.specs.List.{flat_map, list_all};
+ghost use Rattle.ultra_block.specs.Quiet.{quiet_block};
 ghost use Rattle.ultra_block.specs.Tables.{written};
-ghost use Rattle.ultra_block.specs.BlockSteps.{CanExecute, CanTakeReplies, CanTakeRequests, executes, fetches_replies, fetches_requests, module_notes, posted_replies, posted_requests, reply_entries, reply_notes, request_entries, request_notes, sends_replies, sends_requests, serves, takes_replies, takes_requests};
+ghost use Rattle.ultra_block.specs.BlockSteps.{fetches_replies, fetches_requests, posted_replies, posted_requests, reply_entries, request_entries};
+ghost use Rattle.ultra_block.specs.Cycle.{exchanged, exchanged_replies, exchanged_requests, mailed, mailed_replies, mailed_requests, noted};
+ghost use Rattle.ultra_block.specs.Making.{CanMake, made};
 
 use crate::block::Block;
+use crate::half::Half;
 use crate::mail::Mail;
 use crate::rooms::Rooms;
 use ultra_isa::Program;
 
 /// Every block notes its rooms.
 pub(crate) fn note_rooms(blocks: &[Block], rooms: &mut Rooms)
-    ensures { rooms.new ≡ record { replies = written (flat_map reply_notes blocks.now) rooms.old.replies; requests = written (flat_map request_notes blocks.now) rooms.old.requests; modules = written (flat_map module_notes blocks.now) rooms.old.modules } }
+    ensures { rooms.new ≡ noted blocks.now rooms.old }
 {
     for block in blocks {
         block.rooms(rooms);
     }
 }
 
-/// Every block sends its replies.
-pub(crate) fn send_replies(blocks: &mut [Block], rooms: &Rooms)
-    ensures { blocks.new ≡ map (sends_replies rooms.now) blocks.old }
+/// Every block makes this half of a cycle.
+pub(crate) fn make_half(blocks: &mut [Block], half: Half, rooms: &Rooms, program: &Program)
+    requires { All (CanMake half) blocks.old }
+    ensures { blocks.new ≡ map (made half rooms.now program.now) blocks.old }
 {
     for block in blocks.iter_mut() {
-        block.send_replies(rooms);
-    }
-}
-
-/// Every block takes the replies that have come.
-pub(crate) fn take_replies(blocks: &mut [Block])
-    requires { All CanTakeReplies blocks.old }
-    ensures { blocks.new ≡ map takes_replies blocks.old }
-{
-    for block in blocks.iter_mut() {
-        block.take_replies();
-    }
-}
-
-/// Every module serves.
-pub(crate) fn serve(blocks: &mut [Block])
-    ensures { blocks.new ≡ map serves blocks.old }
-{
-    for block in blocks.iter_mut() {
-        block.serve();
-    }
-}
-
-/// Every block sends its requests.
-pub(crate) fn send_requests(blocks: &mut [Block], rooms: &Rooms)
-    ensures { blocks.new ≡ map (sends_requests rooms.now) blocks.old }
-{
-    for block in blocks.iter_mut() {
-        block.send_requests(rooms);
-    }
-}
-
-/// Every block takes the requests that have come.
-pub(crate) fn take_requests(blocks: &mut [Block])
-    requires { All CanTakeRequests blocks.old }
-    ensures { blocks.new ≡ map takes_requests blocks.old }
-{
-    for block in blocks.iter_mut() {
-        block.take_requests();
-    }
-}
-
-/// Every processing element makes one step of the program.
-pub(crate) fn execute(blocks: &mut [Block], program: &Program)
-    requires { All CanExecute blocks.old }
-    ensures { blocks.new ≡ map (executes program.now) blocks.old }
-{
-    for block in blocks.iter_mut() {
-        block.execute(program);
+        block.make(half, rooms, program);
     }
 }
 
@@ -115,19 +72,35 @@ fn post_requests(blocks: &mut [Block], mail: &mut Mail)
 }
 
 /// Each reply that has left a unit comes to the one at the other end of its link.
-pub(crate) fn exchange_replies(blocks: &mut [Block], mail: &mut Mail)
-    ensures mail { mail.new ≡ record mail.old { replies = written (flat_map reply_entries blocks.old) mail.old.replies } }
-    ensures blocks { blocks.new ≡ map (fetches_replies mail.new) (map posted_replies blocks.old) }
+fn exchange_replies(blocks: &mut [Block], mail: &mut Mail)
+    ensures mail { mail.new ≡ mailed_replies blocks.old mail.old }
+    ensures blocks { blocks.new ≡ exchanged_replies blocks.old mail.old }
 {
     post_replies(blocks, mail);
     fetch_replies(blocks, mail);
 }
 
 /// Each request that has left a unit comes to the one at the other end of its link.
-pub(crate) fn exchange_requests(blocks: &mut [Block], mail: &mut Mail)
-    ensures mail { mail.new ≡ record mail.old { requests = written (flat_map request_entries blocks.old) mail.old.requests } }
-    ensures blocks { blocks.new ≡ map (fetches_requests mail.new) (map posted_requests blocks.old) }
+fn exchange_requests(blocks: &mut [Block], mail: &mut Mail)
+    ensures mail { mail.new ≡ mailed_requests blocks.old mail.old }
+    ensures blocks { blocks.new ≡ exchanged_requests blocks.old mail.old }
 {
     post_requests(blocks, mail);
     fetch_requests(blocks, mail);
+}
+
+/// Each message that has left a unit comes to the one at the other end of its link.
+pub(crate) fn exchange(blocks: &mut [Block], mail: &mut Mail)
+    ensures mail { mail.new ≡ mailed blocks.old mail.old }
+    ensures blocks { blocks.new ≡ exchanged blocks.old mail.old }
+{
+    exchange_replies(blocks, mail);
+    exchange_requests(blocks, mail);
+}
+
+/// Whether each block is quiet.
+pub(crate) fn are_quiet(blocks: &[Block]) -> bool
+    ensures { result ≡ list_all quiet_block blocks.now }
+{
+    blocks.iter().all(|block| block.is_quiet())
 }

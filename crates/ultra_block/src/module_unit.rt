@@ -24,6 +24,7 @@ pub struct ModuleUnit {
 
 impl ModuleUnit {
     ghost use Rattle.ultra_block.specs.ModuleSteps.{CanTakeRequests, IsPlaced, sends_replies, serves, takes_requests};
+    ghost use Rattle.ultra_block.specs.Quiet.{quiet_module};
     ghost use Rattle.ultra_block.specs.Tables.{module_replies, noted_module, with_request_in, without_reply_out, written};
 
     /// The reply that waits leaves, if the switch of the last stage has room.
@@ -59,6 +60,13 @@ impl ModuleUnit {
         ensures { rooms.new ≡ noted_module self.now rooms.old }
     {
         rooms.note_module(self.number as usize, self.bank.request().is_none());
+    }
+
+    /// Whether its two registers are empty.
+    pub(crate) fn is_quiet(&self) -> bool
+        ensures { result ≡ quiet_module self.now }
+    {
+        self.bank.request().is_none() && self.bank.reply().is_none()
     }
 
     /// The number of the link to the module.

@@ -1,6 +1,8 @@
 //! Each half of a cycle, over several units of a kind.
 
 ghost use Rattle.std.specs.Prelude.{◌≡◌, All, map};
+ghost use Rattle.std.specs.List.{list_all};
+ghost use Rattle.ultra_block.specs.Quiet.{quiet_element, quiet_module, quiet_switch};
 ghost use Rattle.ultra_block.specs.SwitchSteps as switch;
 ghost use Rattle.ultra_block.specs.ModuleSteps as bank;
 ghost use Rattle.ultra_block.specs.ElementSteps as element;
@@ -110,4 +112,25 @@ pub(crate) fn execute_elements(units: &mut [ElementUnit], program: &Program)
     for unit in units.iter_mut() {
         unit.execute(program);
     }
+}
+
+/// Whether nothing is in any of these switches.
+pub(crate) fn are_switches_quiet(units: &[SwitchUnit]) -> bool
+    ensures { result ≡ list_all quiet_switch units.now }
+{
+    units.iter().all(|unit| unit.is_quiet())
+}
+
+/// Whether nothing is in the registers of any of these modules.
+pub(crate) fn are_modules_quiet(units: &[ModuleUnit]) -> bool
+    ensures { result ≡ list_all quiet_module units.now }
+{
+    units.iter().all(|unit| unit.is_quiet())
+}
+
+/// Whether each of these processing elements has stopped, with no cell open and no request waiting.
+pub(crate) fn are_elements_quiet(units: &[ElementUnit]) -> bool
+    ensures { result ≡ list_all quiet_element units.now }
+{
+    units.iter().all(|unit| unit.is_quiet())
 }

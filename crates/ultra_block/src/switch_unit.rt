@@ -35,6 +35,7 @@ pub struct SwitchUnit {
 
 impl SwitchUnit {
     ghost use Rattle.ultra_block.specs.SwitchSteps.{CanTakeReplies, CanTakeRequests, IsPlaced, position, sends_replies, sends_requests, takes_replies, takes_requests};
+    ghost use Rattle.ultra_block.specs.Quiet.{quiet_switch};
     ghost use Rattle.ultra_block.specs.Tables.{noted_switch, switch_replies, switch_requests, with_replies_in, with_requests_in, without_replies_out, without_requests_out, written};
 
     /// Whether the first reply of the queue at this PE-side port can go on.
@@ -130,6 +131,14 @@ impl SwitchUnit {
         rooms.note_requests(number, zero.has_room());
         let number = place_number(self.net, self.stage, 2 * self.index + 1);
         rooms.note_requests(number, one.has_room());
+    }
+
+    /// Whether nothing is in its queues and wait buffers.
+    pub(crate) fn is_quiet(&self) -> bool
+        ensures { result ≡ quiet_switch self.now }
+    {
+        let Switch { to_mm, to_pe } = &self.switch;
+        to_mm.zero.is_idle() && to_mm.one.is_idle() && to_pe.zero.is_empty() && to_pe.one.is_empty()
     }
 
     /// The number of the link by which replies of this PE-side port leave, and requests come to it.
