@@ -3,20 +3,19 @@ use Rattle.std.specs.Prelude.{◌≡◌, ℕ, List, [], ◌∷◌, ◌++◌, ◌
 use Rattle.ultra_msg.specs.Bytes.{IsBeginning}
 use Rattle.ultra_isa.specs.declared.Instr.{Instr}
 use Rattle.ultra_block.specs.Machine.{Settings}
-use Rattle.ultra_machine.specs.declared.config.RawSettings.{RawSettings}
-use Rattle.ultra_machine.specs.Accepted.{first_bad, settings_of}
+use Rattle.ultra_block.specs.declared.config.RawSettings.{RawSettings}
+use Rattle.ultra_block.specs.Accepted.{first_bad, settings_of}
 use Rattle.ultra.specs.declared.settings.SettingsFault.TheVariants as settings
 use Rattle.ultra.specs.SettingsText as settings_text
 use Rattle.ultra.specs.SettingsText.{Gives}
 use Rattle.ultra_asm.specs.Words.{text_words}
 use Rattle.ultra_asm.specs.ProgramText.{IsProgramText, IsFirstFault}
 use Rattle.ultra_asm.specs.Listing.{listing_text}
-use Rattle.ultra.specs.declared.command_line.Command.{Command}
 use Rattle.ultra.specs.declared.command_line.Command.TheVariants.{Run, List as ListOf}
 use Rattle.ultra.specs.declared.command_line.Parsed.{Parsed}
 use Rattle.ultra.specs.declared.command_line.Parsed.TheVariants as parsed
 use Rattle.ultra.specs.declared.failure.Failure.{Failure}
-use Rattle.ultra.specs.declared.failure.Failure.TheVariants.{Usage, NotWords, NotRead, NotToml, BadField, UnknownKey, NotUtf8, BadLine, NoMemory, NotWritten}
+use Rattle.ultra.specs.declared.failure.Failure.TheVariants.{Usage, NotRead, NotToml, BadField, UnknownKey, NotUtf8, BadLine, NoMemory, NotWritten}
 use Rattle.ultra.specs.Account.{File, file_of}
 use Rattle.ultra_trace.specs.Trace.{trace}
 

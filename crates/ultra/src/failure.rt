@@ -6,7 +6,7 @@ ghost use Rattle.ultra.specs.Failure.{kind_text, path_text, status_of, text_of};
 
 use itoa::Buffer;
 use ultra_asm::AsmFaultKind;
-use ultra_machine::Field;
+use ultra_block::Field;
 use ultra_msg::{Sink, SinkFault, write_all, write_pieces};
 
 /// Why a command failed. A path is that of the file at fault, as the command names it.

@@ -11,8 +11,8 @@ use crate::source::{Source, SourceFault};
 use std::alloc::Global;
 use std::str;
 use ultra_asm::{AsmFault, AsmFaultKind, assemble};
+use ultra_block::Config;
 use ultra_isa::Program;
-use ultra_machine::Config;
 
 /// The bytes of the file at a path.
 pub fn read_file<'p, F: Source>(

@@ -217,6 +217,56 @@ fn traces_of_all_operations_are_written(rt: HostRuntime) -> Result<(), Fail> {
     Ok(())
 }
 
+/// Runs of machines of two stages.
+#[test]
+fn traces_of_two_stages_are_written(rt: HostRuntime) -> Result<(), Fail> {
+    for (settings, program, trace) in [
+        ("stages = 2", ADDS_ONE, traces::FOUR_TO_ONE_CELL),
+        (
+            "stages = 2",
+            "pid r2\naddi r2 r2 1\nfaa r3 r0 r2\nhalt\n",
+            traces::TWO_LEVEL_TREE,
+        ),
+        (
+            "stages = 2\nrequest_places = 2\nwait_places = 0",
+            ADDS_ONE,
+            traces::NARROW_REQUEST_QUEUES,
+        ),
+        (
+            "stages = 2",
+            "pid r1\naddi r5 r1 1\njz r1 a\nld r6 r5\na:\nfaa r7 r3 r5\nhalt\n",
+            traces::MARKED_ONCE,
+        ),
+        (
+            "stages = 2",
+            "pid r1\nld r13 r1\nld r8 r0\nhalt\n",
+            traces::IDENTITY_NOT_CELL,
+        ),
+        (
+            "stages = 2\nrequest_places = 5\nwait_places = 1\nopen = 3",
+            "li r5 5\nli r8 25\nst r7 r6\nfaa r13 r8 r8\nst r5 r6\nhalt\n",
+            traces::FRONTMOST,
+        ),
+    ] {
+        check_run(&rt, settings.as_bytes(), program.as_bytes(), (0, trace, ""))?;
+    }
+    Ok(())
+}
+
+/// A machine of any number of stages is quiet after one cycle of `halt`.
+#[test]
+fn all_numbers_of_stages_run(rt: HostRuntime) -> Result<(), Fail> {
+    for (stages, size) in [(1, 2), (2, 4), (3, 8), (4, 16), (5, 32), (6, 64)] {
+        let settings = format!(in rt.alloc(); "stages = {stages}")?;
+        let mut trace = String::from_str(rt.alloc(), "ultra trace 2\ncycle 0\nend quiet\n")?;
+        for pe in 0..size {
+            trace.push_str(format!(in rt.alloc(); "pe {pe} halted 0\n")?.as_str())?;
+        }
+        check_run(&rt, settings.as_bytes(), b"halt", (0, trace.as_str(), ""))?;
+    }
+    Ok(())
+}
+
 /// Asserts what `ultra list p.s` does with a program: its status, and what it writes to standard output and standard error.
 fn check_list<R: AllocGlobal + Abort>(
     rt: &R,
@@ -287,7 +337,6 @@ fn longest_program_is_listed(rt: HostRuntime) -> Result<(), Fail> {
 fn settings_are_refused(rt: HostRuntime) -> Result<(), Fail> {
     for (settings, line) in [
         ("stages = 0", "ultra: c.toml: bad stages\n"),
-        ("stages = 2", "ultra: c.toml: bad stages\n"),
         ("stages = 7", "ultra: c.toml: bad stages\n"),
         ("", "ultra: c.toml: bad stages\n"),
         (

@@ -1,5 +1,6 @@
 -- units that are the same by their numbers make up the same machine
-use Rattle.std.proofs.Common.{◌≡◌, ℕ, ◌-◌, ◌/◌, ◌%◌, ◌^◌, ◌<◌, ◌≤◌, List, refl, arith, ap, sym, subst}
+use Rattle.std.proofs.Common.{◌≡◌, ℕ, ◌-◌, ◌/◌, ◌%◌, ◌^◌, ◌<◌, ◌≤◌, List, true, refl, arith, ap, sym, subst}
+use Rattle.std.specs.List.{AllByRecursion}
 use Rattle.ultra_route.proofs.Table.{sizes}
 use Rattle.ultra_msg.specs.declared.Event.{Event}
 use Rattle.ultra_block.specs.declared.Stop.{Stop}
@@ -12,6 +13,7 @@ use Rattle.ultra_block.specs.declared.module_unit.ModuleUnit.{ModuleUnit}
 use Rattle.ultra_block.specs.declared.element_unit.ElementUnit.{ElementUnit}
 use Rattle.ultra_block.specs.Ported.{at_port}
 use Rattle.ultra_block.specs.Whole.{Units, both, sized_lane, sized_replies, combined_in, whole, deliveries, servings, all_combined, issues, all_stops, Fit, FitsSwitch, FitsModule, FitsElement}
+use Rattle.ultra_block.specs.Kinds.{is_combination, is_issue, AreOfKind}
 use Rattle.ultra_block.proofs.AtUnits.{same_places, same_table, same_machine}
 
 pub record AreAlike (c : Settings) (u v : Units) : Type 0 where
@@ -52,6 +54,12 @@ module _ (c : Settings) (low : 1 ≤ c.stages) (high : c.stages ≤ 6) (u v : Un
   pub stops_alike : all_stops c u ≡ all_stops c v
   unfolding all_stops
   stops_alike = ap (λ os. present os) (same_places (size c) (λ p. (u.element p).stop) (λ p. (v.element p).stop) (λ p hp. ap (λ (e : ElementUnit). e.stop) (alike.elements p hp)))
+
+  pub kinds_alike : AreOfKind c v → AreOfKind c u
+  kinds_alike k = record {
+    combined = subst (λ es. AllByRecursion (λ e. is_combination e ≡ true) es) (sym combined_alike) k.combined;
+    issued = subst (λ es. AllByRecursion (λ e. is_issue e ≡ true) es) (sym issues_alike) k.issued;
+  }
 
   pub fit_alike : (n : ℕ) → Fit c n v → Fit c n u
   fit_alike n f = record {

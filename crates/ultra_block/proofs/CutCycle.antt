@@ -1,7 +1,7 @@
 -- a cycle of all blocks is a cycle of the whole machine
-use Rattle.std.proofs.Common.{◌≡◌, ℕ, ◌+◌, ◌-◌, ◌^◌, ◌<◌, ◌≤◌, List, [], ◌++◌, refl, arith, ap, ◌∙◌, sym, subst, length, get_or}
+use Rattle.std.proofs.Common.{◌≡◌, ℕ, ◌+◌, ◌-◌, ◌^◌, ◌<◌, ◌≤◌, List, [], ◌++◌, true, refl, arith, ap, ◌∙◌, sym, subst, length, get_or}
 use Rattle.std.specs.Prelude.{All}
-use Rattle.std.specs.List.{flat_map}
+use Rattle.std.specs.List.{flat_map, AllByRecursion}
 use Rattle.std.proofs.lemmas.List.{get_or_default}
 use Rattle.ultra_msg.specs.declared.Event.{Event}
 use Rattle.ultra_isa.specs.declared.Instr.{Instr}
@@ -18,17 +18,19 @@ use Rattle.ultra_block.specs.BlockSteps as block
 use Rattle.ultra_block.specs.Whole.{Units, whole, deliveries, servings, all_combined, issues, all_stops}
 use Rattle.ultra_block.specs.Cut.{no_block, no_switch, no_module, no_element, units_of, switches_of, modules_of, elements_of, units_at, HasPlaces, HasLinks, AreDone}
 use Rattle.ultra_block.specs.Cycle as cycle
+use Rattle.ultra_block.specs.Kinds.{is_combination}
 use Rattle.ultra_block.specs.Ready.{all_events, machine_from, IsReady}
 use Rattle.ultra_block.specs.declared.home.Home.{Home}
 use Rattle.ultra_block.proofs.Sound.{sound-reply_phase, sound-memory_phase, cycle_is_sound}
 use Rattle.ultra_block.proofs.Entries.{length-written}
 use Rattle.ultra_block.proofs.Noted.{each_switch, each_module, each_element, all_noted}
 use Rattle.ultra_block.proofs.Passing.{AreNoted, replies_sent, replies_exchanged, replies_taken, served, requests_sent, requests_exchanged, requests_taken, exchanged, executed}
-use Rattle.ultra_block.proofs.Alike.{AreAlike, whole_alike, deliveries_alike, servings_alike, combined_alike, issues_alike, stops_alike}
+use Rattle.ultra_block.proofs.Alike.{AreAlike, whole_alike, deliveries_alike, servings_alike, combined_alike, issues_alike, stops_alike, kinds_alike}
 use Rattle.ultra_block.proofs.Likewise.{and_then, replies_taken_likewise, requests_taken_likewise, exchanged_likewise}
 use Rattle.ultra_block.proofs.Admitted.{switch_takes_replies, element_takes_replies, switch_takes_requests, module_takes_requests}
 use Rattle.ultra_block.proofs.CutHalves.{Stands, StandsAs, replies_sent_there, replies_taken_there, served_there, requests_sent_there, requests_taken_there, executed_there}
 use Rattle.ultra_block.proofs.Exchanged.{exchanged_there, still_linked}
+use Rattle.ultra_block.proofs.OfKind.{combined_kinds, issue_kinds}
 use Rattle.ultra_block.proofs.ReplyPlaces.{replied_is}
 use Rattle.ultra_block.proofs.RequestPlaces.{requested_is}
 use Rattle.ultra_block.proofs.OtherPlaces.{served_is, executed_is}
@@ -301,5 +303,9 @@ module _ (c : Settings) (homes : List Home) (n : ℕ) (bs : List BlockState) (ro
         modules = length-written (flat_map block.module_notes b4) rooms1.modules ∙ places1.modules;
       };
       links = still_linked c low high homes n b5 as5.stands mail1 links1;
+      kinds = kinds_alike c low high (at b8) v8 as8.alike record {
+        combined = subst (λ es. AllByRecursion (λ e. is_combination e ≡ true) es) (sym (executed_combined c (at b7) program ∙ combined_alike c low high (at b7) v7 taken7)) (combined_kinds c (exchanged c (requests_sent rooms2 (at b4))) n);
+        issued = issue_kinds c (at b7) program;
+      };
       sound = subst (λ m. IsSound c m) (sym cycle_is) (cycle_is_sound c ready.range program m0 ready.sound);
     }

@@ -37,6 +37,7 @@ pub mod Fitting
 pub mod CutHalves
 pub mod Likewise
 pub mod Admitted
+pub mod OfKind
 pub mod Exchanged
 pub mod CutCycle
 pub mod Course

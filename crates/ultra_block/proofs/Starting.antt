@@ -1,7 +1,7 @@
 -- units as they are before the first cycle make up the definition's machine at the start
-use Rattle.std.proofs.Common.{◌≡◌, ℕ, zero, suc, ◌+◌, ◌*◌, ◌%◌, ◌≤◌, List, [], ◌∷◌, ◌++◌, refl, arith, ap, ◌∙◌, sym, append_assoc}
+use Rattle.std.proofs.Common.{◌≡◌, ℕ, zero, suc, ◌+◌, ◌*◌, ◌%◌, ◌≤◌, List, [], ◌∷◌, ◌++◌, true, refl, arith, ap, ◌∙◌, sym, subst, append_assoc}
 use Rattle.std.specs.Prelude.{Option, None, map}
-use Rattle.std.specs.List.{range_with_len}
+use Rattle.std.specs.List.{range_with_len, AllByRecursion}
 use Rattle.ultra_msg.specs.declared.Event.{Event}
 use Rattle.ultra_switch.specs.Arrive.{empty_lane}
 use Rattle.ultra_switch.specs.Queues.{empty_requests, empty_replies}
@@ -11,6 +11,7 @@ use Rattle.ultra_block.specs.Halves.{ports}
 use Rattle.ultra_block.specs.Fresh.{new_switch, new_module, new_element}
 use Rattle.ultra_block.specs.Ported.{at_port}
 use Rattle.ultra_block.specs.Whole.{Units, both, sized_lane, sized_replies, combined_in, whole, deliveries, servings, all_combined, issues, all_stops, Fit}
+use Rattle.ultra_block.specs.Kinds.{is_combination, is_issue, AreOfKind}
 use Rattle.ultra_block.specs.Ready.{all_events, machine_from}
 use Rattle.ultra_block.proofs.Each.{length-places}
 use Rattle.ultra_block.proofs.AtUnits.{by_port, same_table, same_machine}
@@ -64,15 +65,29 @@ module _ (c : Settings) where
       let none : Option Event = None in
       by_port (λ j. both (at_port (ports (ports none none) (ports none none)) j) ≡ []) (x % 2) (omega arith) refl refl
 
+  no_combined : all_combined c new_units ≡ []
+  unfolding all_combined
+  no_combined =
+      ap (λ es. joined (joined es)) (same_table c.stages (size c) (λ s x. combined_in new_units s x) (λ s x. []) (λ s x hs hx. combined_new s x)) ∙ all_rows c.stages (size c)
+
+  no_issues : issues c new_units ≡ []
+  unfolding issues
+  no_issues = nothing_present (size c)
+
+  pub kinds_new : AreOfKind c new_units
+  kinds_new = record {
+    combined = subst (λ es. AllByRecursion (λ e. is_combination e ≡ true) es) (sym no_combined) tt;
+    issued = subst (λ es. AllByRecursion (λ e. is_issue e ≡ true) es) (sym no_issues) tt;
+  }
+
   events_new : all_events c new_units ≡ []
-  unfolding deliveries servings all_combined issues
+  unfolding deliveries servings
   events_new =
       let join : List Event → List Event → List Event → List Event → List Event = λ a b d e. a ++ b ++ d ++ e in
       ap (λ a. join a (servings c new_units) (all_combined c new_units) (issues c new_units)) (nothing_present (size c))
       ∙ ap (λ b. join [] b (all_combined c new_units) (issues c new_units)) (nothing_present (size c))
-      ∙ ap (λ d. join [] [] d (issues c new_units))
-      (ap (λ es. joined (joined es)) (same_table c.stages (size c) (λ s x. combined_in new_units s x) (λ s x. []) (λ s x hs hx. combined_new s x)) ∙ all_rows c.stages (size c))
-      ∙ ap (λ e. join [] [] [] e) (nothing_present (size c))
+      ∙ ap (λ d. join [] [] d (issues c new_units)) no_combined
+      ∙ ap (λ e. join [] [] [] e) no_issues
 
   stops_new : all_stops c new_units ≡ []
   unfolding all_stops

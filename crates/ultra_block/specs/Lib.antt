@@ -24,6 +24,7 @@ pub mod Balance
 pub mod Sound
 pub mod Cut
 pub mod Cycle
+pub mod Kinds
 pub mod Ready
 pub mod BlocksState
 pub mod Fresh

@@ -1,5 +1,5 @@
 -- how many cycles a trace has
-use Rattle.std.proofs.Common.{ℕ, zero, suc, ◌≡◌, ◌+◌, ◌-◌, ◌≤◌, ◌<◌, inl, inr, List, ◌∷◌, ◌++◌, Bool, true, false, Some, None, refl, sym, ◌∙◌, ap, arith, add-one, cond}
+use Rattle.std.proofs.Common.{ℕ, zero, suc, ◌≡◌, ◌+◌, ◌-◌, ◌≤◌, ◌<◌, ◌⊎◌, inl, inr, List, ◌∷◌, ◌++◌, Bool, true, false, ◌||◌, Some, None, refl, sym, ◌∙◌, ap, arith, add-one, cond}
 use Rattle.std.specs.List.{find, range_with_len, flat_map}
 use Rattle.std.specs.Option.{unwrap_or}
 use Rattle.std.proofs.Math.Nat.{eq-or-lt_of_le}
@@ -7,12 +7,15 @@ use Rattle.std.proofs.lemmas.Bool.{cases_lt}
 use Rattle.std.proofs.lemmas.List.Concat.{flat_map-append}
 use Rattle.ultra_isa.specs.declared.Instr.{Instr}
 use Rattle.ultra_block.specs.Machine.{Settings, Machine, start, is_quiet}
+use Rattle.ultra_block.specs.declared.blocks.Blocks.{Blocks}
+use Rattle.ultra_block.specs.BlocksState.{machine_of, IsWhole}
 use Rattle.ultra_block.specs.Phases.{after, cycle, reply_phase, memory_phase, request_phase, processor_phase}
 use Rattle.ultra_trace.specs.declared.page.Page.{Page}
 use Rattle.ultra_trace.specs.Page.{Writes}
-use Rattle.ultra_machine.specs.Running.{Running}
+use Rattle.ultra_trace.specs.Run.{IsAfter}
 use Rattle.ultra_trace.specs.Trace.{by_number, cycle_text, cycles_text, cycle_count, all_cycles_text, last_state, end_text}
 use Rattle.ultra_trace.proofs.Writing.{either, writes_failed, writes_spent}
+use Rattle.ultra_trace.proofs.Told.{cycles_are}
 
 -- ---- the first number of a range that passes a test
 module _ (test : ℕ → Bool) where
@@ -56,17 +59,31 @@ module _ (c : Settings) (program : List Instr) where
   cycles_after zero = refl
   cycles_after (suc n) = cycles_next (after c program n) ∙ rw (cycles_after n, add-one) refl
 
-abbrev pub running_after : Running → ℕ → Running
-running_after v n = record v { state = after v.settings v.program n }
+-- ---- the blocks after so many cycles
+module _ (c : Settings) (program : List Instr) (n : ℕ) where
+  -- a cycle more
+  pub next_after : (old new : Blocks) → IsAfter c program n old → machine_of new ≡ cycle old.config old.program (machine_of old) → IsWhole new → new.config ≡ old.config → new.program ≡ old.program → IsAfter c program (n + 1) new
+  next_after old new a state whole settings instructions = record {
+    whole = whole;
+    settings = settings ∙ a.settings;
+    instructions = instructions ∙ a.instructions;
+    state =
+        state ∙ ap (λ d. cycle d old.program (machine_of old)) a.settings ∙ ap (λ is. cycle c is (machine_of old)) a.instructions
+        ∙ ap (λ m. cycle c program m) a.state ∙ sym (after_next c program n);
+  }
 
-pub running_start : (v : Running) → v.state ≡ start v.settings → v ≡ running_after v 0
-running_start v e = rw (after_none v.settings v.program, ← e) refl
+  pub done_after : (b : Blocks) → IsAfter c program n b → b.done ≡ n
+  done_after b a = sym (cycles_are b) ∙ ap (λ m. m.cycles) a.state ∙ cycles_after c program n
 
-pub running_next : (v old new : Running) (n : ℕ) → old ≡ running_after v n → new ≡ record old { state = cycle old.settings old.program old.state } → new ≡ running_after v (n + 1)
-running_next v old new n e f = rw (after_next v.settings v.program n) (rw e at f)
+  pub quiet_after : (b : Blocks) → IsAfter c program n b → is_quiet (after c program n) ≡ is_quiet (machine_of b)
+  quiet_after b a = ap (λ m. is_quiet m) (sym a.state)
 
-pub quiet_is : (v w : Running) (n : ℕ) (b : Bool) → w ≡ running_after v n → b ≡ is_quiet w.state → is_quiet (after v.settings v.program n) ≡ b
-quiet_is v w n b e f = sym (f ∙ ap (λ x. is_quiet x.state) e)
+  -- the lines of the last cycle, and those at the end
+  pub cycle_after : (b : Blocks) → IsAfter c program n b → cycle_text b.config (machine_of b) ≡ cycle_text c (after c program n)
+  cycle_after b a = ap (λ d. cycle_text d (machine_of b)) a.settings ∙ ap (λ m. cycle_text c m) a.state
+
+  pub end_after : (b : Blocks) → IsAfter c program n b → end_text b.config (machine_of b) ≡ end_text c (after c program n)
+  end_after b a = ap (λ d. end_text d (machine_of b)) a.settings ∙ ap (λ m. end_text c m) a.state
 
 -- where the machine is busy after so many cycles, from the first on
 abbrev pub IsBusy : Settings → List Instr → ℕ → Type 0
@@ -108,25 +125,64 @@ first_lines line n m h =
     (flat_map line (range_with_len (0 + n) k), ap (flat_map line) parts ∙ flat_map-append line (range_with_len 0 n) (range_with_len (0 + n) k))
 
 -- ---- what has been written at the end, and the machine then
-module _ (v : Running) where
-  pub all_written : (n : ℕ) {S : Type 0} {taken : S → List ℕ} {failures : S → ℕ} {s t : Page S} → cycle_count v.settings v.program ≡ n → Writes taken failures (cycles_text v.settings v.program n) s t → Writes taken failures (all_cycles_text v.settings v.program) s t
+one_of : (a b : Bool) → (a || b) ≡ true → (a ≡ true) ⊎ (b ≡ true)
+one_of true b h = inl refl
+one_of false b h = inr h
+
+none_of : (a b : Bool) → (a || b) ≡ false → a ≡ false
+none_of true b h = absurd cc
+none_of false b h = refl
+
+module _ (c : Settings) (program : List Instr) where
+  all_written : (n : ℕ) {S : Type 0} {taken : S → List ℕ} {failures : S → ℕ} {s t : Page S} → cycle_count c program ≡ n → Writes taken failures (cycles_text c program n) s t → Writes taken failures (all_cycles_text c program) s t
   unfolding all_cycles_text
   all_written n e w = rw e w
 
+module _ (c : Settings) (program : List Instr) (n : ℕ) where
   -- after a fault the cycles that are missing don't matter
-  pub missing_cycles : (n : ℕ) {S : Type 0} {taken : S → List ℕ} {failures : S → ℕ} {s t : Page S} → IsBusy v.settings v.program n → n < v.settings.cycles → t.failed ≡ true → Writes taken failures (cycles_text v.settings v.program (n + 1)) s t → Writes taken failures (all_cycles_text v.settings v.program) s t
+  missing_cycles : {S : Type 0} {taken : S → List ℕ} {failures : S → ℕ} {s t : Page S} → IsBusy c program n → n < c.cycles → t.failed ≡ true → Writes taken failures (cycles_text c program (n + 1)) s t → Writes taken failures (all_cycles_text c program) s t
   unfolding all_cycles_text
-  missing_cycles n h p f w =
-      let first = first_lines (λ k. cycle_text v.settings (after v.settings v.program (k + 1))) (n + 1) (cycle_count v.settings v.program) (count_beyond v.settings v.program n h p) in
+  missing_cycles h p f w =
+      let first = first_lines (λ k. cycle_text c (after c program (k + 1))) (n + 1) (cycle_count c program) (count_beyond c program n h p) in
       rw first.1 (writes_failed first.0 f w)
 
-  pub last_is : (n : ℕ) (w : Running) → cycle_count v.settings v.program ≡ n → w ≡ running_after v n → w ≡ record v { state = last_state v.settings v.program }
-  unfolding last_state
-  last_is n w e f = rw e f
+  -- where the machine is quiet or the sink has failed, the cycle was the last
+  module _ (b : Blocks) (a : IsAfter c program (n + 1) b) (h : IsBusy c program n) (p : n < c.cycles) where
+    counted : is_quiet (machine_of b) ≡ true → cycle_count c program ≡ n + 1
+    counted q = count_quiet c program n h p (quiet_after c program (n + 1) b a ∙ q)
 
+    pub last_written : {S : Type 0} {taken : S → List ℕ} {failures : S → ℕ} {s t : Page S} → (is_quiet (machine_of b) || t.failed) ≡ true → Writes taken failures (cycles_text c program (n + 1)) s t → Writes taken failures (all_cycles_text c program) s t
+    last_written {t = t} over w = elim (one_of (is_quiet (machine_of b)) t.failed over) [
+      | inl q ↦ all_written c program (n + 1) (counted q) w
+      | inr f ↦ missing_cycles h p f w
+    ]
+
+    pub last_machine : (failed : Bool) → (is_quiet (machine_of b) || failed) ≡ true → failed ≡ false → IsAfter c program (cycle_count c program) b
+    last_machine failed over f = elim (one_of (is_quiet (machine_of b)) failed over) [
+      | inl q ↦ rw (counted q) a
+      | inr g ↦ absurd cc
+    ]
+
+    -- and else it goes on
+    pub still_busy : (failed : Bool) → (is_quiet (machine_of b) || failed) ≡ false → IsBusy c program (n + 1)
+    still_busy failed over = busy_more c program n h (quiet_after c program (n + 1) b a ∙ none_of (is_quiet (machine_of b)) failed over)
+
+  -- where the settings allow no more, that was the last
+  module _ (all : n ≡ c.cycles) (h : IsBusy c program n) where
+    limit : cycle_count c program ≡ n
+    limit = rw all (count_limit c program (rw all at h))
+
+    pub limit_written : {S : Type 0} {taken : S → List ℕ} {failures : S → ℕ} {s t : Page S} → Writes taken failures (cycles_text c program n) s t → Writes taken failures (all_cycles_text c program) s t
+    limit_written w = all_written c program n limit w
+
+    pub limit_machine : (b : Blocks) → IsAfter c program n b → IsAfter c program (cycle_count c program) b
+    limit_machine b a = rw limit a
+
+module _ (c : Settings) (program : List Instr) where
   -- the lines at the end; after a fault it doesn't matter which
-  pub end_written : (w : Running) {S : Type 0} {taken : S → List ℕ} {failures : S → ℕ} {s t : Page S} → (s.failed ≡ false → w ≡ record v { state = last_state v.settings v.program }) → Writes taken failures (end_text w.settings w.state) s t → Writes taken failures (end_text v.settings (last_state v.settings v.program)) s t
-  end_written w {s = s} h p = elim (either s.failed) [
-    | inl e ↦ writes_spent (end_text v.settings (last_state v.settings v.program)) e p
-    | inr e ↦ rw (h e) at p
+  pub end_written : (b : Blocks) {S : Type 0} {taken : S → List ℕ} {failures : S → ℕ} {s t : Page S} → (s.failed ≡ false → IsAfter c program (cycle_count c program) b) → Writes taken failures (end_text b.config (machine_of b)) s t → Writes taken failures (end_text c (last_state c program)) s t
+  unfolding last_state
+  end_written b {s = s} h w = elim (either s.failed) [
+    | inl e ↦ writes_spent (end_text c (after c program (cycle_count c program))) e w
+    | inr e ↦ rw (end_after c program (cycle_count c program) b (h e)) at w
   ]

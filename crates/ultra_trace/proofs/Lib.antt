@@ -2,4 +2,5 @@ pub mod Writing
 pub mod Count
 pub mod Listed
 pub mod Numbered
+pub mod Told
 pub mod WorkedTraces

@@ -35,6 +35,11 @@ act_line (Issued r n) = []
 abbrev pub fault_line : Stop → List ℕ
 fault_line s = codes "fault " ++ decimal s.pe ++ codes " " ++ fault_text s.fault ++ newline
 
+-- what is written of what may be there
+abbrev pub if_there : {X : Type 0} → (X → List ℕ) → Option X → List ℕ
+if_there text None = []
+if_there text (Some x) = text x
+
 -- ---- what stands where after the cycle; an empty place has no line
 abbrev pub place_line : {X : Type 0} → List ℕ → (X → List ℕ) → List X → List ℕ
 place_line name text [] = []

@@ -13,7 +13,7 @@ use ultra_switch::{ToMm, ToPe};
 
 impl<'s, S: Sink> Page<'s, S> {
     /// Writes the line of a processing element's requests that are not yet in the network, as `pni 0: 0@5 faa 1`.
-    pub fn put_pni(&mut self, pe: usize, interface: &Pni)
+    pub fn put_pni(&mut self, pe: u32, interface: &Pni)
         ensures { Writes S.taken S.failures (pni_line pe interface.now.interface.pending) self.old self.new }
     {
         let count = interface.pending_count();
@@ -28,7 +28,7 @@ impl<'s, S: Sink> Page<'s, S> {
     }
 
     /// Writes the line of a queue toward memory, at a memory-side position of a stage, as `req 0 1: 1@0 faa 2 *`.
-    pub fn put_req(&mut self, stage: usize, position: usize, queue: &ToMm)
+    pub fn put_req(&mut self, stage: u32, position: u32, queue: &ToMm)
         ensures { Writes S.taken S.failures (req_line stage position queue.now.lane.queue) self.old self.new }
     {
         let count = queue.len();
@@ -43,7 +43,7 @@ impl<'s, S: Sink> Page<'s, S> {
     }
 
     /// Writes the line of a wait buffer, at a memory-side position of a stage, as `wait 0 1: 1@0 same 0 plus 1`.
-    pub fn put_wait(&mut self, stage: usize, position: usize, queue: &ToMm)
+    pub fn put_wait(&mut self, stage: u32, position: u32, queue: &ToMm)
         ensures { Writes S.taken S.failures (wait_line stage position queue.now.lane.records) self.old self.new }
     {
         let count = queue.record_count();
@@ -58,7 +58,7 @@ impl<'s, S: Sink> Page<'s, S> {
     }
 
     /// Writes the line of the request that waits for a module, as `inp 0: 1@0 faa 2`.
-    pub fn put_inp(&mut self, module: usize, bank: &Module)
+    pub fn put_inp(&mut self, module: u32, bank: &Module)
         ensures { Writes S.taken S.failures (inp_line «module» bank.now.inp) self.old self.new }
     {
         if let Some(request) = bank.request() {
@@ -69,7 +69,7 @@ impl<'s, S: Sink> Page<'s, S> {
     }
 
     /// Writes the line of the reply that waits to leave a module, as `out 0: 1@0 = 0`.
-    pub fn put_out(&mut self, module: usize, bank: &Module)
+    pub fn put_out(&mut self, module: u32, bank: &Module)
         ensures { Writes S.taken S.failures (out_line «module» bank.now.out) self.old self.new }
     {
         if let Some(message) = bank.reply() {
@@ -80,7 +80,7 @@ impl<'s, S: Sink> Page<'s, S> {
     }
 
     /// Writes the line of a queue toward the processing elements, at a PE-side position of a stage, as `rep 0 1: 1@0 = 0`.
-    pub fn put_rep(&mut self, stage: usize, position: usize, queue: &ToPe)
+    pub fn put_rep(&mut self, stage: u32, position: u32, queue: &ToPe)
         ensures { Writes S.taken S.failures (rep_line stage position queue.now.replies) self.old self.new }
     {
         let count = queue.len();
@@ -95,7 +95,7 @@ impl<'s, S: Sink> Page<'s, S> {
     }
 
     /// Writes the beginning of the line of a module's or processing element's place.
-    fn put_unit(&mut self, word: &[u8], unit: usize)
+    fn put_unit(&mut self, word: &[u8], unit: u32)
         ensures { Writes S.taken S.failures (unit_name word.now unit ++ codes ": ") self.old self.new }
     {
         self.put(word);
@@ -105,7 +105,7 @@ impl<'s, S: Sink> Page<'s, S> {
     }
 
     /// Writes the beginning of the line of a place of a stage.
-    fn put_place(&mut self, word: &[u8], stage: usize, position: usize)
+    fn put_place(&mut self, word: &[u8], stage: u32, position: u32)
         ensures { Writes S.taken S.failures (stage_name word.now stage position ++ codes ": ") self.old self.new }
     {
         self.put(word);

@@ -2,7 +2,7 @@
 use Rattle.std.proofs.Common.{◌≡◌, ◌∙◌, List, ◌++◌, ◌∷◌, [], append_assoc, ap, inl, inr, refl}
 use Rattle.std.proofs.lemmas.Result.{err_from_is_err_and}
 use Rattle.ultra.specs.Account.{file_of}
-use Rattle.ultra.specs.Outcome.{traffic, RunFails, refused_settings, unread_program, refused_program, stopped}
+use Rattle.ultra.specs.Outcome.{traffic, refused_settings, unread_program, refused_program, stopped}
 use Rattle.ultra.proofs.run.run.Goals as goal
 
 -- a list with one more element, and then another

@@ -1,5 +1,5 @@
 use Rattle.ultra_trace.proofs.Writing.{◌then◌}
 use Rattle.ultra_trace.proofs.page.Page.put_got.Goals as goal
 
-pub returns-in-Delivered : goal.returns-in-Delivered
-returns-in-Delivered g c = rw c.in-Delivered.is (c.put.ensures then c.put_message.ensures then c.put-in-Delivered.ensures)
+pub returns-in-Some : goal.returns-in-Some
+returns-in-Some g c = rw c.in-Some.is (c.put.ensures then c.put_message.ensures then c.put-in-Some.ensures)

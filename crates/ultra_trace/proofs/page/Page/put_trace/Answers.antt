@@ -6,5 +6,6 @@ use Rattle.ultra_trace.proofs.page.Page.put_trace.Goals as goal
 pub returns : goal.returns
 unfolding trace
 returns g c =
+    let first = c.args.blocks.now in
     c.put.ensures then c.put_cycles.ensures.writes
-    then end_written c.args.machine.now c.put_cycles.new.machine c.put_cycles.ensures.end c.put_end.ensures
+    then end_written first.config first.program c.put_cycles.new.blocks c.put_cycles.ensures.end c.put_end.ensures

@@ -1,0 +1,4 @@
+pid r1
+ld r13 r1
+ld r8 r0
+halt
