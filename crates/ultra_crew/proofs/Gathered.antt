@@ -60,54 +60,62 @@ module _ (rooms : RoomTable) (program : List Instr) (c : ℕ) (h : Half) where
   named_all k n (b ∷ bs) within zero d below = record { cycle = refl; half = refl; block = omega arith }
   named_all k n (b ∷ bs) within (suc i) d below = named_all (k + 1) n bs (omega arith) i d (omega arith)
 
-  pub team_can : (workers w : ℕ) (bs : List BlockState) → All (CanMake h) bs → All CanBeMade (team workers w (tasks_from c h 0 bs))
-  team_can workers w bs can = All-filter (is_of_worker workers w) CanBeMade (tasks_from c h 0 bs) (can_all 0 bs can)
-
-  pub results_named : (workers w : ℕ) (bs : List BlockState) → All (IsOf c h (length bs)) (map (task_made rooms program) (team workers w (tasks_from c h 0 bs)))
-  results_named workers w bs =
-      All-map (IsOf c h (length bs)) (task_made rooms program) (team workers w (tasks_from c h 0 bs))
-      (λ k d below. let t = All-filter (is_of_worker workers w) (IsOf c h (length bs)) (tasks_from c h 0 bs) (named_all 0 (length bs) bs (omega arith)) k d below in record { cycle = t.cycle; half = t.half; block = t.block })
-
-  -- ---- all workers have done their tasks
   first_of_some : (rs : List (Vec Task Global)) → 1 ≤ length rs → Vec Task Global
   first_of_some [] some = absurd (omega arith)
   first_of_some (r ∷ rs) some = r
 
-  module _ (workers : ℕ) (some_worker : 1 ≤ workers) (bs : List BlockState) (done : List (Vec Task Global)) (count : length done ≡ workers) (each : (w : ℕ) (d : Vec Task Global) → w < workers → (get_or done w d).items ≡ map (task_made rooms program) (team workers w (tasks_from c h 0 bs))) where
-    right_there : (l : ℕ) (v : Vec Task Global) → l < length bs → AllByRecursion (IsRight l (Some (after (get_or bs l no_block)))) (flat_map (λ r. map result_of r.items) done)
-    right_there l v below =
-        each_of (IsRight l (Some (after (get_or bs l no_block)))) (λ r. map result_of r.items) done v
-        (λ w low. subst (λ ts. AllByRecursion (IsRight l (Some (after (get_or bs l no_block)))) (map result_of ts)) (sym (each w v (omega arith)))
-        (right (is_of_worker workers w) 0 bs l (get_or bs l no_block) (λ i e inside same. get_or_default bs i e no_block inside ∙ ap (λ n. get_or bs n no_block) (omega arith))))
+  -- ---- all tasks are dealt to the teams
+  module _ (workers : ℕ) (some_worker : 1 ≤ workers) (bs : List BlockState) (teams : List (Vec Task Global)) (many : length teams ≡ workers) (dealt : (w : ℕ) (d : Vec Task Global) → w < workers → (get_or teams w d).items ≡ team workers w (tasks_from c h 0 bs)) where
+    pub teams_can : All (CanMake h) bs → (w : ℕ) (d : Vec Task Global) → w < length teams → All CanBeMade (get_or teams w d).items
+    teams_can can w d below =
+        subst (λ ts. All CanBeMade ts) (sym (dealt w d (omega arith)))
+        (All-filter (is_of_worker workers w) CanBeMade (tasks_from c h 0 bs) (can_all 0 bs can))
 
-    has_one : (l : ℕ) (v : Vec Task Global) → l < length bs → HasEntry l (flat_map (λ r. map result_of r.items) done)
-    has_one l v below =
-        let mine : l % workers < workers = omega arith in
-        let e : 0 + l ≡ l = omega arith in
-        has_of l (λ r. map result_of r.items) done (l % workers) v (omega arith)
-        (subst (λ ts. HasEntry l (map result_of ts)) (sym (each (l % workers) v mine))
-        (subst (λ n. HasEntry n (results (is_of_worker workers (n % workers)) 0 bs)) e (there workers 0 bs l below)))
+    -- ---- and the teams have done them
+    module _ (done : List (Vec Task Global)) (as_many : length done ≡ length teams) (each : (w : ℕ) (d : Vec Task Global) → w < length teams → (get_or done w d).items ≡ map (task_made rooms program) (get_or teams w d).items) (n : ℕ) (all : length bs ≡ n) where
+      results_are : (w : ℕ) (d : Vec Task Global) → w < workers → (get_or done w d).items ≡ map (task_made rooms program) (team workers w (tasks_from c h 0 bs))
+      results_are w d below = each w d (omega arith) ∙ ap (λ ts. map (task_made rooms program) ts) (dealt w d below)
 
-    -- each place has the block of its number after the half
-    at_place : (l : ℕ) (d : Option BlockState) (v : Vec Task Global) → l < length bs → get_or (placed (length bs) done) l d ≡ Some (after (get_or bs l no_block))
-    at_place l d v below =
-        let wide : l < length (replicate (length bs) None) = omega (arith, below, length-replicate {A = Option BlockState} (length bs) None) in
-        written_at (flat_map (λ r. map result_of r.items) done) (replicate (length bs) None) l (Some (after (get_or bs l no_block))) d wide (right_there l v below) (has_one l v below)
+      pub results_named : All (λ r. All (IsOf c h n) r.items) done
+      results_named w d below =
+          subst (λ ts. All (IsOf c h n) ts) (sym (results_are w d (omega arith)))
+          (All-map (IsOf c h n) (task_made rooms program) (team workers w (tasks_from c h 0 bs))
+          (λ k e inside. let t = All-filter (is_of_worker workers w) (IsOf c h n) (tasks_from c h 0 bs) (named_all 0 n bs (omega arith)) k e inside in record { cycle = t.cycle; half = t.half; block = t.block }))
 
-    one_team : Vec Task Global
-    one_team = first_of_some done (omega arith)
+      right_there : (l : ℕ) (v : Vec Task Global) → l < n → AllByRecursion (IsRight l (Some (after (get_or bs l no_block)))) (flat_map (λ r. map result_of r.items) done)
+      right_there l v below =
+          each_of (IsRight l (Some (after (get_or bs l no_block)))) (λ r. map result_of r.items) done v
+          (λ w low. subst (λ ts. AllByRecursion (IsRight l (Some (after (get_or bs l no_block)))) (map result_of ts)) (sym (results_are w v (omega arith)))
+          (right (is_of_worker workers w) 0 bs l (get_or bs l no_block) (λ i e inside same. get_or_default bs i e no_block inside ∙ ap (λ k. get_or bs k no_block) (omega arith))))
 
-    pub all_full : All IsSome (placed (length bs) done)
-    all_full l d below = subst (λ o. IsSome o) (sym (at_place l d one_team (subst (λ n. l < n) (length-placed (length bs) done) below))) refl
+      has_one : (l : ℕ) (v : Vec Task Global) → l < n → HasEntry l (flat_map (λ r. map result_of r.items) done)
+      has_one l v below =
+          let mine : l % workers < workers = omega arith in
+          let e : 0 + l ≡ l = omega arith in
+          has_of l (λ r. map result_of r.items) done (l % workers) v (omega arith)
+          (subst (λ ts. HasEntry l (map result_of ts)) (sym (results_are (l % workers) v mine))
+          (subst (λ k. HasEntry k (results (is_of_worker workers (k % workers)) 0 bs)) e (there workers 0 bs l (omega arith))))
 
-    -- so the blocks in their places are all blocks after the half
-    pub all_made : (vs : List BlockState) → map Some vs ≡ placed (length bs) done → vs ≡ map after bs
-    all_made vs e =
-        let full : length vs ≡ length bs = sym (length-map vs Some) ∙ ap length e ∙ length-placed (length bs) done in
-        same_lists vs (map after bs) (full ∙ sym (length-map bs after))
-        (λ k d below.
-        let within : k < length bs = omega arith in
-        let same : Some (get_or vs k d) ≡ Some (get_or (map after bs) k d) =
-        sym (get_or-map Some vs k d None below) ∙ ap (λ (os : List (Option BlockState)). get_or os k None) e ∙ at_place k None one_team within
-        ∙ ap (λ (b : BlockState). Some b) (sym (get_or-map after bs k no_block d within)) in
-        cc)
+      -- each place has the block of its number after the half
+      at_place : (l : ℕ) (d : Option BlockState) (v : Vec Task Global) → l < n → get_or (placed n done) l d ≡ Some (after (get_or bs l no_block))
+      at_place l d v below =
+          let wide : l < length (replicate n None) = omega (arith, below, length-replicate {A = Option BlockState} n None) in
+          written_at (flat_map (λ r. map result_of r.items) done) (replicate n None) l (Some (after (get_or bs l no_block))) d wide (right_there l v below) (has_one l v below)
+
+      one_team : Vec Task Global
+      one_team = first_of_some done (omega arith)
+
+      pub all_full : All IsSome (placed n done)
+      all_full l d below = subst (λ o. IsSome o) (sym (at_place l d one_team (subst (λ k. l < k) (length-placed n done) below))) refl
+
+      -- so the blocks in their places are all blocks after the half
+      pub all_made : (vs : List BlockState) → map Some vs ≡ placed n done → vs ≡ map after bs
+      all_made vs e =
+          let full : length vs ≡ n = sym (length-map vs Some) ∙ ap length e ∙ length-placed n done in
+          same_lists vs (map after bs) (full ∙ sym all ∙ sym (length-map bs after))
+          (λ k d below.
+          let within : k < n = omega arith in
+          let same : Some (get_or vs k d) ≡ Some (get_or (map after bs) k d) =
+          sym (get_or-map Some vs k d None below) ∙ ap (λ (os : List (Option BlockState)). get_or os k None) e ∙ at_place k None one_team within
+          ∙ ap (λ (b : BlockState). Some b) (sym (get_or-map after bs k no_block d (omega arith))) in
+          cc)

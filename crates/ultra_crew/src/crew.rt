@@ -31,6 +31,10 @@ pub enum CrewFault {
 }
 
 impl From<AllocError> for CrewFault {
+    ghost use Rattle.ultra_crew.specs.declared.crew.CrewFault.TheVariants.{NoMemory};
+
+    ghost from_gives = { λ _ fault. fault ≡ NoMemory };
+
     fn from(_: AllocError) -> CrewFault {
         CrewFault::NoMemory
     }

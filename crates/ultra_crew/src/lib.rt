@@ -7,6 +7,8 @@ mod gate;
 mod places;
 mod task;
 mod teams;
+#[cfg(test)]
+mod tests;
 
 pub use crew::{Crew, CrewFault, MOST_WORKERS, cycle_alone};
 pub use gate::Gate;
