@@ -1,0 +1,4 @@
+pub mod Pushed
+pub mod Dealt
+pub mod Placed
+pub mod Gathered

@@ -1,0 +1,281 @@
+//! Machines whose cycles are made by several workers.
+
+ghost use Rattle.std.specs.Prelude.{◌≡◌, ◌+◌, ◌<◌, ◌≤◌, IfOk};
+ghost use Rattle.ultra_block.specs.BlocksState.{IsWhole};
+
+use crate::{Crew, CrewFault, Gate, cycle_alone};
+use std::alloc::Global;
+use std::process::Abort;
+use std::sync::Wait;
+use std::sync::atomic::{AtomicU64, Ordering};
+use std::test::Fail;
+use std::thread::{self, Threads};
+use ultra_block::{Blocks, Config, Half, ProcessingElement, RawSettings};
+use ultra_isa::{Instr, Program};
+use ultra_mem::Module;
+use ultra_msg::{Register, Reply};
+use ultra_switch::{ToMm, ToPe};
+
+/// The default settings with so many stages.
+fn settings(alloc: Global, stages: i64) -> Result<Config, Fail> {
+    let raw = RawSettings {
+        stages: Some(stages),
+        request_places: Some(4),
+        reply_places: Some(8),
+        wait_places: Some(4),
+        most_open: Some(2),
+        cells: Some(16),
+        cycles: Some(1000),
+        initial: Some(Vec::new(alloc)),
+    };
+    Ok(Config::new(alloc, &raw)?)
+}
+
+/// Each processing element adds its number and 1 to cell 0.
+fn add_numbers(alloc: Global) -> Result<Program, Fail> {
+    let register = |number| Register::new(number).ok_or("no register");
+    let (zero, two, three) = (register(0)?, register(2)?, register(3)?);
+    let list = vec![in alloc;
+        Instr::Number(two),
+        Instr::AddWord(two, two, 1),
+        Instr::Faa(three, zero, two),
+        Instr::Halt,
+    ]?;
+    match Program::new(list) {
+        Ok(program) => Ok(program),
+        Err(_) => Err(Fail::from("no program")),
+    }
+}
+
+/// A gate that counts its calls.
+#[derive(Drop)]
+struct Counter {
+    calls: AtomicU64,
+}
+
+impl Gate for Counter {
+    fn before<R: Wait>(&self, _rt: &R, _cycle: u32, _half: Half, _block: usize) {
+        self.calls.fetch_add(1, Ordering::SeqCst);
+    }
+}
+
+/// A gate that holds the worker of block 0 up, 1,000 turns each time.
+struct Holdup;
+
+impl Gate for Holdup {
+    fn before<R: Wait>(&self, _rt: &R, _cycle: u32, _half: Half, block: usize) {
+        if block == 0 {
+            for _ in 0..1000 {
+                thread::yield_now();
+            }
+        }
+    }
+}
+
+/// A gate at which the workers of blocks 0 and 1 meet: each raises a flag, by the number of the half, and waits for the other's, 10,000,000 turns at most.
+#[derive(Drop)]
+struct Meeting {
+    flags: [AtomicU64; 2],
+    missed: AtomicU64,
+}
+
+impl Meeting {
+    fn new() -> Meeting {
+        Meeting {
+            flags: [AtomicU64::new(0), AtomicU64::new(0)],
+            missed: AtomicU64::new(0),
+        }
+    }
+
+    /// The worker of a block comes as the one of this number, and waits for the other.
+    fn come(&self, mine: &AtomicU64, other: &AtomicU64, number: u64) {
+        if mine.swap(number, Ordering::SeqCst).saturating_add(1) != number {
+            self.missed.fetch_add(1, Ordering::SeqCst);
+        }
+        for _ in 0..10_000_000 {
+            if other.load(Ordering::SeqCst) >= number {
+                return;
+            }
+            thread::yield_now();
+        }
+        self.missed.fetch_add(1, Ordering::SeqCst);
+    }
+}
+
+impl Gate for Meeting {
+    fn before<R: Wait>(&self, _rt: &R, cycle: u32, half: Half, block: usize) {
+        let number = u64::from(cycle) * 6 + u64::from(half as u8) + 1;
+        match block {
+            0 => self.come(&self.flags[0], &self.flags[1], number),
+            1 => self.come(&self.flags[1], &self.flags[0], number),
+            _ => (),
+        }
+    }
+}
+
+/// So many cycles, each by these workers.
+fn make_cycles<R: Threads + Wait + Sync, G: Gate + Sync>(
+    rt: &R,
+    alloc: Global,
+    blocks: Blocks,
+    workers: usize,
+    gate: &G,
+    count: u32,
+) -> Result<Blocks, CrewFault>
+    requires whole { IsWhole blocks }
+    requires done { blocks.done ≡ 0 }
+    requires count { count < 1000 }
+    requires some_worker { 1 ≤ workers }
+    requires most_workers { workers ≤ 64 }
+{
+    let mut blocks = blocks;
+    for _ in 0..count {
+        blocks = Crew::cycle(rt, alloc, blocks, workers, gate)?;
+    }
+    Ok(blocks)
+}
+
+/// Two blocks with work and two workers: in every half each worker waits for the other at the gate. So a crew that makes all blocks in one thread passes all proofs, and fails here: the turns run out.
+#[test]
+fn gate_meets(rt: HostRuntime) -> Result<(), Fail> {
+    let config = settings(rt.alloc(), 1)?;
+    let program = add_numbers(rt.alloc())?;
+    let blocks = Blocks::new(rt.alloc(), &config, &program, &[0, 1, 0, 1, 0])?;
+    let meeting = Meeting::new();
+    let _ = make_cycles(&rt, rt.alloc(), blocks, 2, &meeting, 8)?;
+    let [first, second] = &meeting.flags;
+    assert_eq!(rt; first.load(Ordering::SeqCst), 48);
+    assert_eq!(rt; second.load(Ordering::SeqCst), 48);
+    assert_eq!(rt; meeting.missed.load(Ordering::SeqCst), 0);
+    Ok(())
+}
+
+fn same_requests(rt: &impl Abort, a: &ToMm, b: &ToMm) {
+    assert_eq!(rt; a.len(), b.len());
+    for index in 0..a.len() {
+        assert_eq!(rt; a.entry(index), b.entry(index));
+    }
+    assert_eq!(rt; a.record_count(), b.record_count());
+    for index in 0..a.record_count() {
+        assert_eq!(rt; a.record(index), b.record(index));
+    }
+}
+
+fn same_replies(rt: &impl Abort, a: &ToPe, b: &ToPe) {
+    assert_eq!(rt; a.len(), b.len());
+    for index in 0..a.len() {
+        assert_eq!(rt; a.reply(index), b.reply(index));
+    }
+}
+
+fn same_module(rt: &impl Abort, a: &Module, b: &Module) {
+    assert_eq!(rt; a.request(), b.request());
+    assert_eq!(rt; a.reply(), b.reply());
+    for offset in 0..16 {
+        assert_eq!(rt; a.peek(offset), b.peek(offset));
+    }
+}
+
+fn same_element(rt: &impl Abort, a: &ProcessingElement, b: &ProcessingElement) {
+    assert_eq!(rt; a.issued, b.issued);
+    assert_eq!(rt; a.processor.place(), b.processor.place());
+    assert_eq!(rt; a.processor.activity(), b.processor.activity());
+    assert_eq!(rt; a.interface.open_count(), b.interface.open_count());
+    assert_eq!(rt; a.interface.head(), b.interface.head());
+    for number in 0..16 {
+        let Some(register) = Register::new(number) else {
+            panic!(rt; "no register")
+        };
+        assert_eq!(rt;
+            a.processor.register(register),
+            b.processor.register(register)
+        );
+    }
+}
+
+/// Two machines of the same settings have the same places, and the same happened in their last cycles.
+fn same_places(rt: &impl Abort, a: &Blocks, b: &Blocks)
+    requires a { IsWhole a.now }
+    requires b { IsWhole b.now }
+    requires settings { b.now.config ≡ a.now.config }
+{
+    assert_eq!(rt; a.done(), b.done());
+    let net = a.config().net();
+    for stage in 0..net.stages() {
+        for position in 0..net.size() {
+            same_requests(rt, a.lane(stage, position), b.lane(stage, position));
+            same_replies(
+                rt,
+                a.reply_queue(stage, position),
+                b.reply_queue(stage, position),
+            );
+        }
+    }
+    for number in 0..net.size() {
+        same_module(rt, a.bank(number), b.bank(number));
+        same_element(rt, a.element(number), b.element(number));
+        assert_eq!(rt; a.delivered(number), b.delivered(number));
+        assert_eq!(rt; a.served(number), b.served(number));
+        assert_eq!(rt; a.issued(number), b.issued(number));
+        assert_eq!(rt; a.stop(number), b.stop(number));
+    }
+}
+
+/// In cycle 9 every processing element gets its own value, and cell 0 holds the sum.
+fn all_are_answered(rt: &impl Abort, blocks: &Blocks)
+    requires { IsWhole blocks.now }
+{
+    assert!(rt; blocks.config().stages() == 2);
+    let values = [
+        blocks.delivered(0),
+        blocks.delivered(1),
+        blocks.delivered(2),
+        blocks.delivered(3),
+    ];
+    let replies = values.map(|value| value.map(|message| message.reply));
+    let wanted = [3, 8, 0, 4].map(|word| Some(Reply::Value(word)));
+    assert_eq!(rt; replies, wanted);
+    assert_eq!(rt; blocks.bank(0).peek(0), Some(10));
+}
+
+/// Ten cycles by these workers, beside the same machine in one block and without them: after each cycle their places are the same.
+fn goes_as_alone<R: Threads + Wait + Sync + Abort + AllocGlobal, G: Gate + Sync>(
+    rt: &R,
+    partition: &[u8],
+    workers: usize,
+    gate: &G,
+) -> Result<(), Fail>
+    requires some_worker { 1 ≤ workers }
+    requires most_workers { workers ≤ 64 }
+{
+    let config = settings(rt.alloc(), 2)?;
+    let program = add_numbers(rt.alloc())?;
+    let mut alone = Blocks::new(rt.alloc(), &config, &program, &[0; 12])?;
+    let mut blocks = Blocks::new(rt.alloc(), &config, &program, partition)?;
+    for _ in 0..10u32 {
+        cycle_alone(&mut alone);
+        blocks = Crew::cycle(rt, rt.alloc(), blocks, workers, gate)?;
+        same_places(rt, &alone, &blocks);
+    }
+    all_are_answered(rt, &blocks);
+    Ok(())
+}
+
+#[test]
+fn any_workers(rt: HostRuntime) -> Result<(), Fail> {
+    let gate = Counter {
+        calls: AtomicU64::new(0),
+    };
+    let switches_apart = [5, 5, 5, 5, 0, 0, 0, 0, 0, 0, 0, 0];
+    for workers in [1, 2, 3, 64] {
+        goes_as_alone(&rt, &switches_apart, workers, &gate)?;
+    }
+    // 64 blocks, 6 halves and 10 cycles, by each crew of more than one
+    assert_eq!(rt; gate.calls.load(Ordering::SeqCst), 3 * 64 * 6 * 10);
+    Ok(())
+}
+
+#[test]
+fn one_worker_late(rt: HostRuntime) -> Result<(), Fail> {
+    goes_as_alone(&rt, &[0, 1, 2, 0, 1, 2, 0, 1, 2, 0, 1, 2], 3, &Holdup)
+}
