@@ -3,6 +3,7 @@
 ghost use Rattle.std.specs.Prelude.{◌≡◌, ◌<◌};
 ghost use Rattle.ultra.specs.Account.{files_in, failures_in};
 
+mod partitions;
 mod traces;
 
 use super::*;
