@@ -1,5 +1,5 @@
 -- units that are the same by their numbers make up the same machine
-use Rattle.std.proofs.Common.{◌≡◌, ℕ, ◌-◌, ◌/◌, ◌%◌, ◌^◌, ◌<◌, ◌≤◌, List, true, refl, arith, ap, sym, subst}
+use Rattle.std.proofs.Common.{◌≡◌, ℕ, ◌-◌, ◌/◌, ◌%◌, ◌^◌, ◌<◌, ◌≤◌, List, ◌++◌, true, refl, arith, ap, ◌∙◌, sym, subst}
 use Rattle.std.specs.List.{AllByRecursion}
 use Rattle.ultra_route.proofs.Table.{sizes}
 use Rattle.ultra_msg.specs.declared.Event.{Event}
@@ -14,6 +14,7 @@ use Rattle.ultra_block.specs.declared.element_unit.ElementUnit.{ElementUnit}
 use Rattle.ultra_block.specs.Ported.{at_port}
 use Rattle.ultra_block.specs.Whole.{Units, both, sized_lane, sized_replies, combined_in, whole, deliveries, servings, all_combined, issues, all_stops, Fit, FitsSwitch, FitsModule, FitsElement}
 use Rattle.ultra_block.specs.Kinds.{is_combination, is_issue, AreOfKind}
+use Rattle.ultra_block.specs.Ready.{all_events, machine_from}
 use Rattle.ultra_block.proofs.AtUnits.{same_places, same_table, same_machine}
 
 pub record AreAlike (c : Settings) (u v : Units) : Type 0 where
@@ -67,3 +68,14 @@ module _ (c : Settings) (low : 1 ≤ c.stages) (high : c.stages ≤ 6) (u v : Un
     modules = λ k hk. subst (λ b. FitsModule c k b) (sym (alike.modules k hk)) (f.modules k hk);
     elements = λ p hp. subst (λ e. FitsElement c n p e) (sym (alike.elements p hp)) (f.elements p hp);
   }
+
+  pub machine_alike : (n : ℕ) → machine_from c u n ≡ machine_from c v n
+  machine_alike n =
+      let join : List Event → List Event → List Event → List Event → List Event = λ a b d e. a ++ b ++ d ++ e in
+      whole_alike n (all_events c u) (all_stops c u)
+      ∙ ap (λ es. whole c v n es (all_stops c u))
+      (ap (λ x. join x (servings c u) (all_combined c u) (issues c u)) deliveries_alike
+      ∙ ap (λ x. join (deliveries c v) x (all_combined c u) (issues c u)) servings_alike
+      ∙ ap (λ x. join (deliveries c v) (servings c v) x (issues c u)) combined_alike
+      ∙ ap (λ x. join (deliveries c v) (servings c v) (all_combined c v) x) issues_alike)
+      ∙ ap (λ ss. whole c v n (all_events c v) ss) stops_alike

@@ -1,5 +1,5 @@
 -- what holds of each element of a list, and what stands at a place of a list or table that is given place by place
-use Rattle.std.proofs.Common.{◌≡◌, ℕ, List, [], ◌∷◌, ◌++◌, Bool, true, false, refl, arith}
+use Rattle.std.proofs.Common.{◌≡◌, ℕ, List, [], ◌∷◌, ◌++◌, Bool, true, false, refl, arith, ap, ◌∙◌}
 use Rattle.std.specs.Prelude.{Option, Some, None, IfSome, slice_index_or, slice_get, ◌<◌, ◌+◌, zero, suc, map, drop, length}
 use Rattle.std.specs.List.{AllByRecursion, range_with_len}
 use Rattle.std.proofs.lemmas.List.FromFn.{get_or-map-range_with_len, length-map-range_with_len}
@@ -66,6 +66,22 @@ table_at m n f s x d hs hx = rw (places_at m (λ s. places n (λ x. f s x)) s []
 pub length-places : {X : Type 0} (n : ℕ) (f : ℕ → X) → length (places n f) ≡ n
 unfolding places
 length-places n f = length-map-range_with_len f 0 n
+
+more_from : {X : Type 0} (f : ℕ → X) (a n : ℕ) → map f (range_with_len a (suc n)) ≡ map f (range_with_len a n) ++ f (a + n) ∷ []
+more_from f a zero = let e : a ≡ a + 0 = omega arith in ap (λ k. f k ∷ []) e
+more_from f a (suc n) = let e : a + 1 + n ≡ a + suc n = omega arith in ap (λ xs. f a ∷ xs) (more_from f (a + 1) n) ∙ ap (λ k. f a ∷ map f (range_with_len (a + 1) n) ++ f k ∷ []) e
+
+pub places_none : {X : Type 0} (f : ℕ → X) → places 0 f ≡ []
+unfolding places
+places_none f = refl
+
+-- one place more
+pub places_more : {X : Type 0} (n : ℕ) (f : ℕ → X) → places (n + 1) f ≡ places n f ++ f n ∷ []
+unfolding places
+places_more n f =
+    let next : n + 1 ≡ suc n = omega arith in
+    let here : 0 + n ≡ n = omega arith in
+    ap (λ k. map f (range_with_len 0 k)) next ∙ more_from f 0 n ∙ ap (λ k. map f (range_with_len 0 n) ++ f k ∷ []) here
 
 -- what holds at each place below n holds of each element
 each-from : {X : Type 0} (P : X → Type 0) (f : ℕ → X) (a n : ℕ) → ((k : ℕ) → k < a + n → P (f k)) → AllByRecursion P (map f (range_with_len a n))

@@ -13,3 +13,7 @@ module _ {X Z : Type 0} (f : X → X) (v : Vec X Z) (s ws : List X) (value : s �
   -- what the change keeps of each element
   pub kept : (P : X → Type 0) → ((x : X) → P x → P (f x)) → All P v.items → All P (take v.len (ws ++ drop (length ws) v.items))
   kept P k a = subst (λ xs. All P xs) (sym written_back) (all-map f P v.items k a)
+
+-- also where all were written otherwise
+pub held : {X Z : Type 0} (v : Vec X Z) (s ws : List X) → length ws ≡ length s → length s ≡ v.len → take v.len (ws ++ drop (length ws) v.items) ≡ ws
+held v s ws e k = take_at ws (drop (length ws) v.items) v.len (e ∙ k)

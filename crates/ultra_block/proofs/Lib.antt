@@ -48,3 +48,6 @@ pub mod UnitByUnit
 pub mod Ranged
 pub mod Words
 pub mod Quiet
+pub mod Parted
+pub mod Recut
+pub mod TakenApart

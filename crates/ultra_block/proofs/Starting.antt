@@ -15,7 +15,7 @@ use Rattle.ultra_block.specs.Kinds.{is_combination, is_issue, AreOfKind}
 use Rattle.ultra_block.specs.Ready.{all_events, machine_from}
 use Rattle.ultra_block.proofs.Each.{length-places}
 use Rattle.ultra_block.proofs.AtUnits.{by_port, same_table, same_machine}
-use Rattle.ultra_block.proofs.Alike.{AreAlike, whole_alike, deliveries_alike, servings_alike, combined_alike, issues_alike, stops_alike}
+use Rattle.ultra_block.proofs.Alike.{AreAlike, machine_alike}
 
 -- ---- nothing is told of nothing
 none_present : {X : Type 0} (a n : ℕ) → present (map (λ (k : ℕ). let o : Option X = None in o) (range_with_len a n)) ≡ []
@@ -110,13 +110,4 @@ module _ (c : Settings) where
 
   -- units that are alike make up the same
   pub starts_alike : 1 ≤ c.stages → c.stages ≤ 6 → (u : Units) → AreAlike c u new_units → machine_from c u 0 ≡ start c
-  starts_alike low high u a =
-      let join : List Event → List Event → List Event → List Event → List Event = λ a b d e. a ++ b ++ d ++ e in
-      whole_alike c low high u new_units a 0 (all_events c u) (all_stops c u)
-      ∙ ap (λ es. whole c new_units 0 es (all_stops c u))
-      (ap (λ x. join x (servings c u) (all_combined c u) (issues c u)) (deliveries_alike c low high u new_units a)
-      ∙ ap (λ x. join (deliveries c new_units) x (all_combined c u) (issues c u)) (servings_alike c low high u new_units a)
-      ∙ ap (λ x. join (deliveries c new_units) (servings c new_units) x (issues c u)) (combined_alike c low high u new_units a)
-      ∙ ap (λ x. join (deliveries c new_units) (servings c new_units) (all_combined c new_units) x) (issues_alike c low high u new_units a))
-      ∙ ap (λ ss. whole c new_units 0 (all_events c new_units) ss) (stops_alike c low high u new_units a)
-      ∙ starts
+  starts_alike low high u a = machine_alike c low high u new_units a 0 ∙ starts

@@ -6,7 +6,7 @@ use Rattle.ultra_msg.specs.declared.ReplyMessage.{ReplyMessage}
 use Rattle.ultra_isa.specs.declared.Instr.{Instr}
 use Rattle.ultra_block.specs.RoomTable.{RoomTable}
 use Rattle.ultra_block.specs.MailTable.{MailTable}
-use Rattle.ultra_block.specs.Tables.{Entry, written, reply_rooms, request_rooms, module_rooms, switch_replies, module_replies, switch_requests, element_requests, without_replies_out, without_requests_out, without_reply_out, without_request_out, with_replies_in, with_reply_in, with_requests_in, with_request_in}
+use Rattle.ultra_block.specs.Tables.{Entry, written, reply_rooms, request_rooms, module_rooms, switch_replies, module_replies, switch_requests, element_requests, without_replies_out, without_requests_out, without_reply_out, without_request_out, with_replies_in, with_reply_in, with_requests_in, with_request_in, numbered_switch, numbered_module, numbered_element}
 use Rattle.ultra_block.specs.declared.switch_unit.SwitchUnit.{SwitchUnit}
 use Rattle.ultra_block.specs.declared.module_unit.ModuleUnit.{ModuleUnit}
 use Rattle.ultra_block.specs.declared.element_unit.ElementUnit.{ElementUnit}
@@ -100,3 +100,13 @@ with_module b u = record b { modules = b.modules ++ u ∷ [] }
 
 abbrev pub with_element : BlockState → ElementUnit → BlockState
 with_element b u = record b { elements = b.elements ++ u ∷ [] }
+
+-- ---- its units at their numbers
+abbrev pub switches_apart : BlockState → List (Entry (Option SwitchUnit))
+switches_apart b = flat_map numbered_switch b.switches
+
+abbrev pub modules_apart : BlockState → List (Entry (Option ModuleUnit))
+modules_apart b = flat_map numbered_module b.modules
+
+abbrev pub elements_apart : BlockState → List (Entry (Option ElementUnit))
+elements_apart b = flat_map numbered_element b.elements

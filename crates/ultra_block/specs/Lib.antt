@@ -34,3 +34,4 @@ pub mod Words
 pub mod Quiet
 pub mod Making
 pub mod Course
+pub mod Parted

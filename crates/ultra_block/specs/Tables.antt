@@ -1,5 +1,5 @@
 -- tables by number that units write their entries into: where there is room, and the messages between the units
-use Rattle.std.specs.Prelude.{ℕ, ◌+◌, List, [], ◌∷◌, Bool, Option, None, slice_index_or, slice_set}
+use Rattle.std.specs.Prelude.{ℕ, ◌+◌, List, [], ◌∷◌, Bool, Option, Some, None, slice_index_or, slice_set}
 use Rattle.ultra_msg.specs.declared.Request.{Request}
 use Rattle.ultra_msg.specs.declared.ReplyMessage.{ReplyMessage}
 use Rattle.ultra_route.specs.Route.{unshuffled}
@@ -96,3 +96,13 @@ noted_switch u rooms = record rooms { replies = written (reply_rooms u) rooms.re
 
 abbrev pub noted_module : ModuleUnit → RoomTable → RoomTable
 noted_module u rooms = record rooms { modules = written (module_rooms u) rooms.modules }
+
+-- ---- a unit at its number, where a machine is taken apart
+abbrev pub numbered_switch : SwitchUnit → List (Entry (Option SwitchUnit))
+numbered_switch u = (switch_number u.net u.stage u.index, Some u) ∷ []
+
+abbrev pub numbered_module : ModuleUnit → List (Entry (Option ModuleUnit))
+numbered_module u = (u.number, Some u) ∷ []
+
+abbrev pub numbered_element : ElementUnit → List (Entry (Option ElementUnit))
+numbered_element u = (u.pe, Some u) ∷ []

@@ -2,6 +2,7 @@
 
 ghost use Rattle.std.specs.Prelude.{◌≡◌, ℕ, ◌<◌, OnOk, length, slice_index_or};
 
+use crate::apart::{gather_elements, gather_modules, gather_switches};
 use crate::element_unit::ElementUnit;
 use crate::exchange::{
     fetch_element_replies, fetch_module_requests, fetch_switch_replies, fetch_switch_requests,
@@ -45,7 +46,8 @@ impl Model for Block {
 }
 
 impl Block {
-    ghost use Rattle.ultra_block.specs.BlockSteps.{CanExecute, CanTakeReplies, CanTakeRequests, executes, fetches_replies, fetches_requests, notes_rooms, posted_replies, posted_requests, posts_replies, posts_requests, sends_replies, sends_requests, serves, takes_replies, takes_requests, with_element, with_module, with_switch};
+    ghost use Rattle.ultra_block.specs.BlockSteps.{CanExecute, CanTakeReplies, CanTakeRequests, executes, fetches_replies, fetches_requests, notes_rooms, posted_replies, posted_requests, posts_replies, posts_requests, sends_replies, sends_requests, serves, switches_apart, modules_apart, elements_apart, takes_replies, takes_requests, with_element, with_module, with_switch};
+    ghost use Rattle.ultra_block.specs.Tables.{written};
     ghost use Rattle.ultra_block.specs.Cut.{no_element, no_module, no_switch};
     ghost use Rattle.ultra_block.specs.Making.{CanMake, made};
     ghost use Rattle.ultra_block.specs.Quiet.{quiet_block};
@@ -167,6 +169,22 @@ impl Block {
         are_switches_quiet(self.switches.as_slice())
             && are_modules_quiet(self.modules.as_slice())
             && are_elements_quiet(self.elements.as_slice())
+    }
+
+    /// Its units go to the places of their numbers.
+    pub(crate) fn take_apart(
+        self,
+        switches: &mut [Option<SwitchUnit>],
+        modules: &mut [Option<ModuleUnit>],
+        elements: &mut [Option<ElementUnit>],
+    )
+        ensures switches { switches.new ≡ written (switches_apart self) switches.old }
+        ensures modules { modules.new ≡ written (modules_apart self) modules.old }
+        ensures elements { elements.new ≡ written (elements_apart self) elements.old }
+    {
+        gather_switches(self.switches, switches);
+        gather_modules(self.modules, modules);
+        gather_elements(self.elements, elements);
     }
 
     /// The switch at this place of the block.

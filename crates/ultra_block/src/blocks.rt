@@ -1,6 +1,6 @@
 //! The whole machine, cut into blocks.
 
-ghost use Rattle.std.specs.Prelude.{◌≡◌, ℕ, ◌+◌, ◌-◌, ◌/◌, ◌%◌, ◌^◌, ◌<◌, [], true, false, length, map, slice_index_or, nat_lt, All, IfOk, OnOk, IsErrOf, ◌↔◌};
+ghost use Rattle.std.specs.Prelude.{◌≡◌, ℕ, ◌+◌, ◌-◌, ◌/◌, ◌%◌, ◌^◌, ◌<◌, [], true, false, length, map, slice_index_or, nat_lt, All, IfErr, IfOk, OnOk, IsErrOf, ◌↔◌};
 ghost use Rattle.std.specs.List.{list_all};
 ghost use Rattle.ultra_block.specs.Partition.{is_partition, unit_count};
 ghost use Rattle.ultra_block.specs.Ported.{at_port};
@@ -8,9 +8,11 @@ ghost use Rattle.ultra_block.specs.Machine.{start, lane_at, replies_at, bank_at,
 ghost use Rattle.ultra_block.specs.Phases.{cycle as next_cycle};
 
 use crate::Stop;
+use crate::apart::{Parts, gather};
 use crate::block::Block;
 use crate::building::{add_elements, add_modules, add_switches, empty_blocks};
 use crate::config::Config;
+use crate::cutting::Room;
 use crate::element::ProcessingElement;
 use crate::element_unit::ElementUnit;
 use crate::every_block::{are_quiet, exchange, make_half, note_rooms};
@@ -70,6 +72,7 @@ pub struct Blocks {
 impl Blocks {
     ghost use Rattle.ultra_block.specs.BlocksState.{machine_of, units_of_blocks, IsWhole};
     ghost use Rattle.ultra_block.specs.Cut.{no_home};
+    ghost use Rattle.ultra_block.specs.Partition.{block_of};
     ghost use Rattle.ultra_block.specs.Cycle.{exchanged, mailed, noted};
     ghost use Rattle.ultra_block.specs.Making.{CanMake, made};
     ghost use Rattle.ultra_block.specs.Elements.{element_of};
@@ -110,6 +113,58 @@ impl Blocks {
             program: program.try_clone(alloc)?,
             homes,
             done: 0,
+            blocks,
+        })
+    }
+
+    /// The same machine, cut by another partition: its units are moved, and everything stays as it is. The partition names the block of each unit as for `new`.
+    ///
+    /// `BadPartition` says that it is not one; it is found before memory is asked for. `NoMemory` says that memory was refused. With either the same blocks are given back.
+    pub fn recut(self, alloc: Global, partition: &[u8]) -> Result<Blocks, (Blocks, PartitionFault)>
+        requires whole { IsWhole self }
+        ensures whole { IfOk result (λ b. IsWhole b) }
+        ensures state { IfOk result (λ b. machine_of b ≡ machine_of self) }
+        ensures settings { IfOk result (λ b. b.config ≡ self.config) }
+        ensures program { IfOk result (λ b. b.program ≡ self.program) }
+        ensures done { IfOk result (λ b. b.done ≡ self.done) }
+        ensures homes { IfOk result (λ b. map block_of b.homes.items ≡ partition.now) }
+        ensures accepted { OnOk result (is_partition self.config partition.now ≡ true) }
+        ensures refused { IfErr result (λ e. (e.1 ≡ PartitionFault.BadPartition) ↔ (is_partition self.config partition.now ≡ false)) }
+        ensures given_back { IfErr result (λ e. e.0 ≡ self) }
+    {
+        if !names_all_units(&self.config, partition) {
+            return Err((self, PartitionFault::BadPartition));
+        }
+        let net = self.config.net();
+        let Ok(room) = Room::new(alloc, net, partition) else {
+            return Err((self, PartitionFault::NoMemory));
+        };
+        let Ok(mut parts) = Parts::empty(alloc, net) else {
+            return Err((self, PartitionFault::NoMemory));
+        };
+        let Blocks {
+            config,
+            program,
+            homes: _,
+            rooms,
+            mail,
+            done,
+            blocks,
+        } = self;
+        gather(
+            blocks,
+            parts.switches.as_mut_slice(),
+            parts.modules.as_mut_slice(),
+            parts.elements.as_mut_slice(),
+        );
+        let (homes, blocks) = room.cut(net, partition, parts, done);
+        Ok(Blocks {
+            config,
+            program,
+            homes,
+            rooms,
+            mail,
+            done,
             blocks,
         })
     }

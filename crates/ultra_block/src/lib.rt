@@ -1,10 +1,12 @@
 //! The whole machine: its definition, its settings, and the blocks into which it may be cut.
 #![tactic(auto)]
 
+mod apart;
 mod block;
 mod blocks;
 mod building;
 mod config;
+mod cutting;
 mod element;
 mod element_unit;
 mod every_block;
