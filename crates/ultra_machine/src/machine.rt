@@ -1,10 +1,10 @@
 //! The whole machine.
 
-ghost use Rattle.std.specs.Prelude.{◌≡◌, ℕ, ◌+◌, ◌-◌, ◌^◌, ◌<◌, ◌≤◌, ◌↔◌, true, false, length, IfOk, OnOk, IfErr};
+ghost use Rattle.std.specs.Prelude.{◌≡◌, ◌-◌, ◌^◌, ◌<◌, ◌≤◌, ◌↔◌, true, false, map, IfOk, OnOk, IfErr};
 ghost use Rattle.ultra_block.specs.Machine.{start, is_quiet as quiet, lane_at, replies_at, bank_at, element_at};
 ghost use Rattle.ultra_block.specs.Phases.{cycle as next_cycle};
 ghost use Rattle.ultra_block.specs.Elements.{element_of};
-ghost use Rattle.ultra_block.specs.Partition.{is_partition, unit_count};
+ghost use Rattle.ultra_block.specs.Partition.{block_of, is_partition, unit_count};
 ghost use Rattle.ultra_block.specs.BlocksState.{machine_of, IsWhole};
 
 use crate::fixed_list::FixedList;
@@ -64,6 +64,42 @@ impl Machine {
         self.blocks.cycle();
         list_events(&self.blocks, &mut self.events);
         list_stops(&self.blocks, &mut self.stops);
+    }
+
+    /// The same machine, cut into blocks: the partition names the block of each unit, 0 to 63. Switches come first, by stage, then modules, then processing elements. Blocks may be empty.
+    ///
+    /// `BadPartition` says that the partition is not of this length, or that a block is above 63; it is found before memory is asked for. `NoMemory` says that memory was refused. With either the same machine is given back.
+    pub fn into_blocks(
+        self,
+        alloc: Global,
+        partition: &[u8],
+    ) -> Result<Blocks, (Machine, PartitionFault)>
+        ensures whole { IfOk result (λ b. IsWhole b) }
+        ensures state { IfOk result (λ b. machine_of b ≡ self.state) }
+        ensures settings { IfOk result (λ b. b.config ≡ self.settings) }
+        ensures program { IfOk result (λ b. b.program ≡ self.program) }
+        ensures done { IfOk result (λ b. b.done ≡ self.state.cycles) }
+        ensures homes { IfOk result (λ b. map block_of b.homes.items ≡ partition.now) }
+        ensures accepted { OnOk result (is_partition self.settings partition.now ≡ true) }
+        ensures refused { IfErr result (λ e. (e.1 ≡ PartitionFault.BadPartition) ↔ (is_partition self.settings partition.now ≡ false)) }
+        ensures given_back { IfErr result (λ e. e.0 ≡ self) }
+    {
+        let Machine {
+            blocks,
+            events,
+            stops,
+        } = self;
+        match blocks.recut(alloc, partition) {
+            Ok(blocks) => Ok(blocks),
+            Err((blocks, fault)) => {
+                let machine = Machine {
+                    blocks,
+                    events,
+                    stops,
+                };
+                Err((machine, fault))
+            }
+        }
     }
 
     /// How many cycles the machine has made.
