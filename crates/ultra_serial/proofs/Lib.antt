@@ -22,3 +22,4 @@ pub mod CellsHeld
 pub mod Stacks
 pub mod Turns
 pub mod Cycles
+pub mod Numbers

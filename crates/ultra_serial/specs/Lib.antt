@@ -7,3 +7,4 @@ pub mod ByPair
 pub mod Memory
 pub mod Waiting
 pub mod Following
+pub mod Recording

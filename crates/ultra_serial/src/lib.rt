@@ -4,6 +4,7 @@
 mod by_pair;
 mod history;
 mod memory;
+mod recording;
 mod records;
 mod waiting;
 
@@ -11,6 +12,7 @@ ghost use Rattle.ultra_serial.specs.Chain.{SerializationLaw};
 
 pub use history::{OrderFault, order};
 pub use memory::SerialMemory;
+pub use recording::log;
 pub use records::{Answer, Entry, Issue, Leaf, Log, SerialList};
 
 /// The serialization law, as this function's contract: for all settings in their ranges, every program and every
