@@ -23,3 +23,4 @@ pub mod Stacks
 pub mod Turns
 pub mod Cycles
 pub mod Numbers
+pub mod Explaining

@@ -8,3 +8,5 @@ pub mod Memory
 pub mod Waiting
 pub mod Following
 pub mod Recording
+pub mod Breach
+pub mod Examined

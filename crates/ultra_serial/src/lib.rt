@@ -2,6 +2,8 @@
 #![tactic(auto)]
 
 mod by_pair;
+mod checking;
+mod examining;
 mod history;
 mod memory;
 mod recording;
@@ -10,6 +12,7 @@ mod waiting;
 
 ghost use Rattle.ultra_serial.specs.Chain.{SerializationLaw};
 
+pub use checking::{BreachKind, CheckFault, check};
 pub use history::{OrderFault, order};
 pub use memory::SerialMemory;
 pub use recording::log;
