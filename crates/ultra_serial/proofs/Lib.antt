@@ -17,3 +17,10 @@ pub mod Answered
 pub mod Lists
 pub mod Law
 pub mod Broken
+pub mod ByPair
+pub mod CellsHeld
+pub mod Stacks
+pub mod Turns
+pub mod Cycles
+pub mod Numbers
+pub mod Explaining

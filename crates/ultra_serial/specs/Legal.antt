@@ -1,18 +1,10 @@
 -- what it is for a list of requests to explain what a machine did: the serialization principle of the 1983 paper. It knows no network, and of operations only what they do to a cell
 use Rattle.std.specs.Prelude.{◌≡◌, ◌<◌, ℕ, List, [], ◌∷◌, map, true, false, ◌==◌, Some, slice_get}
-use Rattle.ultra_msg.specs.declared.Op.{Op}
 use Rattle.ultra_msg.specs.declared.Reply.{Reply}
 use Rattle.ultra_msg.specs.Act.{act}
 use Rattle.ultra_serial.specs.Tree.{Leaf}
+pub use Rattle.ultra_serial.specs.declared.records.Entry.{Entry}
 use Rattle.ultra_serial.specs.Log.{Issue, Answer, Log}
-
--- a request of a serial list, with its reply
-pub record Entry : Type 0 where
-  pub pe : ℕ
-  pub number : ℕ
-  pub cell : ℕ
-  pub op : Op
-  pub reply : Reply
 
 -- the request of an entry, and a request with its reply
 abbrev pub request_of : Entry → Leaf

@@ -3,3 +3,10 @@ pub mod Log
 pub mod Legal
 pub mod SerialList
 pub mod Chain
+pub mod ByPair
+pub mod Memory
+pub mod Waiting
+pub mod Following
+pub mod Recording
+pub mod Breach
+pub mod Examined

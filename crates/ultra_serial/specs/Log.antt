@@ -1,29 +1,19 @@
 -- what a machine issued and answered, with names and cycles
 use Rattle.std.specs.Prelude.{ℕ, List, [], ◌∷◌, ◌++◌, Bool, true, false, ◌&&◌, ◌==◌}
-use Rattle.ultra_msg.specs.declared.Op.{Op}
-use Rattle.ultra_msg.specs.declared.Reply.{Reply}
 use Rattle.ultra_msg.specs.declared.Event.{Event}
 use Rattle.ultra_msg.specs.declared.Event.TheVariants.{Delivered, Served, Combined, Issued}
-
--- a request was issued; its name is its processing element with its number among that one's issues
-pub record Issue : Type 0 where
-  pub pe : ℕ
-  pub number : ℕ
-  pub cell : ℕ
-  pub op : Op
-  pub cycle : ℕ
-
--- a request was answered
-pub record Answer : Type 0 where
-  pub pe : ℕ
-  pub number : ℕ
-  pub reply : Reply
-  pub cycle : ℕ
+pub use Rattle.ultra_serial.specs.declared.records.Issue.{Issue}
+pub use Rattle.ultra_serial.specs.declared.records.Answer.{Answer}
+use Rattle.ultra_serial.specs.declared.records.Log as program
 
 -- both by cycle, then by processing element
 pub record Log : Type 0 where
   pub issues : List Issue
   pub answers : List Answer
+
+-- the log that a program holds
+abbrev pub log_of : program.Log → Log
+log_of l = record { issues = l.issues.items; answers = l.answers.items }
 
 abbrev pub empty_log : Log
 empty_log = record { issues = []; answers = [] }

@@ -1,17 +1,10 @@
 -- the trees of combined requests, as the events of a machine make them
 use Rattle.std.specs.Prelude.{ℕ, ◌+◌, List, [], ◌∷◌, ◌++◌, Bool, true, false, ◌&&◌, ◌==◌, Option, Some, None, max}
-use Rattle.ultra_msg.specs.declared.Op.{Op}
 use Rattle.ultra_msg.specs.declared.Event.{Event}
 use Rattle.ultra_msg.specs.declared.Event.TheVariants.{Delivered, Served, Combined, Issued}
+pub use Rattle.ultra_serial.specs.declared.records.Leaf.{Leaf}
 
--- a request as its processing element issued it, with its number among that one's issues
-pub record Leaf : Type 0 where
-  pub pe : ℕ
-  pub number : ℕ
-  pub cell : ℕ
-  pub op : Op
-
--- a request, or two trees that met at a stage and position, with the word of which comes first
+-- a request as it was issued, or two trees that met at a stage and position, with the word of which comes first
 pub data Tree : Type 0 where
   leaf : Leaf → Tree
   pair : (stage position : ℕ) → (old new : Tree) → (old_first : Bool) → Tree

@@ -1,7 +1,24 @@
 //! The serial order of what a machine's requests did, and what it is for such an order to explain a run.
 #![tactic(auto)]
 
+mod by_pair;
+mod checking;
+mod examining;
+mod history;
+mod memory;
+mod recording;
+mod records;
+#[cfg(test)]
+mod tests;
+mod waiting;
+
 ghost use Rattle.ultra_serial.specs.Chain.{SerializationLaw};
+
+pub use checking::{BreachKind, CheckFault, check};
+pub use history::{OrderFault, order};
+pub use memory::SerialMemory;
+pub use recording::log;
+pub use records::{Answer, Entry, Issue, Leaf, Log, SerialList};
 
 /// The serialization law, as this function's contract: for all settings in their ranges, every program and every
 /// number of cycles, the serial lists of the cycles so far are a chain. Each is a beginning of the next, and each

@@ -1,0 +1,61 @@
+-- what is served and noted, one after the other
+use Rattle.std.proofs.Common.{◌≡◌, ℕ, ◌+◌, ◌<◌, List, [], ◌∷◌, ◌++◌, length, take, get_or, Option, Some, None, refl, sym, ap, ◌∙◌}
+use Rattle.std.specs.Prelude.{option_map}
+use Rattle.std.specs.Global.{Vec}
+use Rattle.std.proofs.lemmas.List.{take_more}
+use Rattle.ultra_msg.specs.declared.Op.TheVariants.{Load}
+use Rattle.ultra_msg.specs.declared.Event.{Event}
+use Rattle.ultra_msg.specs.declared.Event.TheVariants.{Delivered}
+use Rattle.ultra_msg.specs.declared.Reply.TheVariants.{Value}
+use Rattle.ultra_msg.specs.Act.{act}
+use Rattle.ultra_serial.specs.Tree.{Tree, Leaf, leaves, trees_after, leaves_of, served_leaves}
+use Rattle.ultra_serial.specs.Legal.{Cells, with_cell, given, answered_by, cells_after, replayed}
+use Rattle.ultra_serial.specs.SerialList.{History, noted, after_event}
+use Rattle.ultra_serial.specs.Memory.{cell_in}
+use Rattle.ultra_serial.specs.Waiting.{Keeps, items_in}
+use Rattle.ultra_serial.specs.declared.history.Serving.{Serving}
+use Rattle.ultra_serial.specs.Following.{Follows}
+use Rattle.ultra_serial.proofs.MemoryForest.{noted-append}
+use Rattle.ultra_serial.proofs.Replays.{replayed-append}
+
+pub cells_after-append : (m : Cells) (xs ys : List Leaf) → cells_after m (xs ++ ys) ≡ cells_after (cells_after m xs) ys
+cells_after-append m [] ys = refl
+cells_after-append m (x ∷ xs) ys = cells_after-append (with_cell m x.cell (act x.op (m x.cell)).0) xs ys
+
+module _ (m : Cells) (ls : List Leaf) (k : ℕ) (d : Leaf) (h : k < length ls) where
+  abbrev next : Leaf
+  next = get_or ls k d
+
+  abbrev now : Cells
+  now = cells_after m (take k ls)
+
+  pub replayed_more : replayed m (take (k + 1) ls) ≡ replayed m (take k ls) ++ answered_by next (act next.op (now next.cell)).1 ∷ []
+  replayed_more = ap (λ xs. replayed m xs) (take_more ls k d h) ∙ replayed-append m (take k ls) (next ∷ [])
+
+  pub cells_more : cells_after m (take (k + 1) ls) ≡ with_cell now next.cell (act next.op (now next.cell)).0
+  cells_more = ap (λ xs. cells_after m xs) (take_more ls k d h) ∙ cells_after-append m (take k ls) (next ∷ [])
+
+-- one event more
+pub noted_more : (n : ℕ) (es : List Event) (h : History) (k : ℕ) (d : Event) → k < length es → noted n (take (k + 1) es) h ≡ after_event n (noted n (take k es) h) (get_or es k d)
+noted_more n es h k d l = ap (λ xs. noted n xs h) (take_more es k d l) ∙ noted-append n (take k es) (get_or es k d ∷ []) h
+
+-- where no default matters
+abbrev pub some_leaf : Leaf
+some_leaf = record { pe = 0; number = 0; cell = 0; op = Load }
+
+abbrev pub some_event : Event
+some_event = Delivered record { pe = 0; cell = 0; reply = Value 0 }
+
+-- requests act after those before them
+pub serving_more : (initial : List (ℕ × ℕ)) (s t : Serving) (n : ℕ) (h : History) (ls : List Leaf) (e : Event) → served_leaves h.trees e ≡ ls → Follows initial s h → Keeps t.waiting (trees_after h.trees e)
+    → cell_in t.memory ≡ cells_after (cell_in s.memory) ls → t.order.items ≡ s.order.items ++ replayed (cell_in s.memory) ls → Follows initial t (after_event n h e)
+serving_more initial s t n h ls e same f w c o = record {
+  waiting = w;
+  cells = c ∙ (ap (λ (m : Cells). cells_after m ls) f.cells ∙ (sym (cells_after-append (given initial) h.order ls) ∙ ap (λ us. cells_after (given initial) (h.order ++ us)) (sym same)));
+  order = o ∙ (ap (λ es. es ++ replayed (cell_in s.memory) ls) f.order ∙ (ap (λ (m : Cells). replayed (given initial) h.order ++ replayed m ls) f.cells
+      ∙ (sym (replayed-append (given initial) h.order ls) ∙ ap (λ us. replayed (given initial) (h.order ++ us)) (sym same))));
+}
+
+pub leaves_taken : (o : Option Tree) (r : Option (Vec Leaf)) (v : Vec Leaf) → items_in r ≡ option_map leaves o → r ≡ Some v → leaves_of o ≡ v.items
+leaves_taken None r v e s = let z : Some v.items ≡ None = ap items_in (sym s) ∙ e in absurd cc
+leaves_taken (Some t) r v e s = let z : Some v.items ≡ Some (leaves t) = ap items_in (sym s) ∙ e in let y : leaves t ≡ v.items = cc in y

@@ -1,0 +1,180 @@
+//! Whether a serial list explains a log.
+
+ghost use Rattle.std.specs.Prelude.{◌≡◌, ◌<◌, ℕ, true, false, Some, None, IfOk, OnOk, IfErr, IfSome, slice_get};
+ghost use Rattle.ultra_serial.specs.declared.records.Answer.{Answer as AnswerOf};
+ghost use Rattle.ultra_serial.specs.declared.records.Entry.{Entry as EntryOf};
+ghost use Rattle.ultra_serial.specs.Log.{log_of};
+ghost use Rattle.ultra_serial.specs.Legal.{Cells, given, Has, IsAnswerTo, IsLegal};
+ghost use Rattle.ultra_serial.specs.Memory.{cell_in};
+ghost use Rattle.ultra_serial.specs.Breach.{cells_past, ExplainsFault};
+ghost use Rattle.ultra_serial.specs.Examined.{AreExplained, IsFirstMissing, IsFine, IsWrongAt};
+
+use crate::examining::{after_issues, fault_of, is_answer_to};
+use crate::memory::SerialMemory;
+use crate::{Answer, Entry, Log};
+use std::alloc::{AllocError, Global};
+use ultra_msg::{Cell, Word};
+
+/// What is wrong with a list.
+#[derive(Clone, Copy, PartialEq, Eq, Debug, Drop)]
+pub enum BreachKind {
+    /// An entry was not issued with this cell and operation.
+    NotIssued,
+    /// The name of an entry stands before it too.
+    Repeated,
+    /// A request that was answered stands nowhere in the list.
+    Missing,
+    /// A replay of the list gives an entry another reply than its own.
+    WrongReplay,
+    /// The machine answered an entry otherwise.
+    WrongAnswer,
+    /// A replay of the list leaves a cell with another value.
+    WrongCell,
+    /// An entry was answered in a cycle that isn't after the issue of an entry before it.
+    TooLate,
+}
+
+/// Why a list is not accepted.
+#[derive(Clone, Copy, PartialEq, Eq, Debug, Drop)]
+pub enum CheckFault {
+    /// Memory was refused.
+    NoMemory,
+    /// The list doesn't explain the log: what is wrong, and the index of the entry, of the log's answer (`Missing`) or of the cell (`WrongCell`).
+    Breach(BreachKind, usize),
+}
+
+impl From<AllocError> for CheckFault {
+    ghost use Rattle.ultra_serial.specs.declared.checking.CheckFault.TheVariants.{NoMemory};
+
+    ghost from_gives = { λ _ fault. fault ≡ NoMemory };
+
+    fn from(_: AllocError) -> CheckFault {
+        CheckFault::NoMemory
+    }
+}
+
+/// Whether a list explains what a log tells of a run from the initial cells to the last cells (each cell by its address and value; of an address that stands twice the last value counts, and the others hold 0): `Ok` exactly where it does.
+///
+/// Else the fault is the first one. The entries are examined one by one, each for `NotIssued`, `Repeated`, `WrongReplay`, `WrongAnswer` and `TooLate`; then the log's answers for `Missing`; then the cells by address. `NoMemory` means that memory was refused, which may stand in place of another answer.
+pub fn check(
+    alloc: Global,
+    initial: &[(Cell, Word)],
+    log: &Log,
+    cells: &[(Cell, Word)],
+    list: &[Entry],
+) -> Result<(), CheckFault>
+    ensures legal { OnOk result (IsLegal (given initial.now) (log_of log.now) (given cells.now) list.now) }
+    ensures breach { IfErr result (ExplainsFault (given initial.now) (log_of log.now) (given cells.now) list.now) }
+{
+    let memory = replay(alloc, initial, log, list)?;
+    if let Some(index) = first_missing(log.answers.as_slice(), list) {
+        return Err(CheckFault::Breach(BreachKind::Missing, index));
+    }
+    let wanted = SerialMemory::new(alloc, cells)?;
+    let of_initial = lowest_given(&memory, &wanted, initial, None);
+    let of_cells = lowest_given(&memory, &wanted, cells, of_initial);
+    if let Some(cell) = lowest_used(&memory, &wanted, list, of_cells) {
+        return Err(CheckFault::Breach(BreachKind::WrongCell, cell as usize));
+    }
+    Ok(())
+}
+
+/// The memory after all entries have acted, if none of them has a fault.
+fn replay(
+    alloc: Global,
+    initial: &[(Cell, Word)],
+    log: &Log,
+    list: &[Entry],
+) -> Result<SerialMemory, CheckFault>
+    ensures cells { IfOk result (λ m. cell_in m ≡ cells_past (given initial.now) list.now) }
+    ensures explained { OnOk result (AreExplained (given initial.now) (log_of log.now) list.now) }
+    ensures breach { (final : Cells) → IfErr result (ExplainsFault (given initial.now) (log_of log.now) final list.now) }
+{
+    let mut memory = SerialMemory::new(alloc, initial)?;
+    let mut from = 0;
+    for (index, entry) in list.iter().enumerate() {
+        let before = &list[..index];
+        if let Some(kind) = fault_of(log, before, from, &mut memory, entry)? {
+            return Err(CheckFault::Breach(kind, index));
+        }
+        from = after_issues(log.issues.as_slice(), entry, from);
+    }
+    Ok(memory)
+}
+
+/// The first answer whose name stands nowhere in the list.
+fn first_missing(answers: &[Answer], list: &[Entry]) -> Option<usize>
+    ensures none { result ≡ None → (a : AnswerOf) → Has answers.now a → (e : EntryOf) × Has list.now e × IsAnswerTo e a }
+    ensures some { IfSome result (λ n. IsFirstMissing answers.now list.now n) }
+{
+    for (index, answer) in answers.iter().enumerate() {
+        if !is_listed(answer, list) {
+            return Some(index);
+        }
+    }
+    None
+}
+
+/// Whether an answer's name stands in the list.
+fn is_listed(answer: &Answer, list: &[Entry]) -> bool
+    ensures yes { result ≡ true → (e : EntryOf) × Has list.now e × IsAnswerTo e answer.now }
+    ensures no { result ≡ false → (e : EntryOf) → Has list.now e → IsAnswerTo e answer.now → ⊥ }
+{
+    for entry in list {
+        if is_answer_to(answer, entry) {
+            return true;
+        }
+    }
+    false
+}
+
+/// The lowest address at which two memories differ, among these and what was found before.
+fn lowest_given(
+    left: &SerialMemory,
+    right: &SerialMemory,
+    given: &[(Cell, Word)],
+    lowest: Option<Cell>,
+) -> Option<Cell>
+    ensures kept { (a : ℕ) → IsFine (cell_in left.now) (cell_in right.now) lowest a → IsFine (cell_in left.now) (cell_in right.now) result a }
+    ensures covered { (k : ℕ) (i : ℕ × ℕ) → slice_get given.now k ≡ Some i → IsFine (cell_in left.now) (cell_in right.now) result i.0 }
+    ensures wrong { IsWrongAt (cell_in left.now) (cell_in right.now) lowest → IsWrongAt (cell_in left.now) (cell_in right.now) result }
+{
+    let mut found = lowest;
+    for (cell, _) in given {
+        found = lower(left, right, *cell, found);
+    }
+    found
+}
+
+/// The lowest address at which two memories differ, among those of the entries and what was found before.
+fn lowest_used(
+    left: &SerialMemory,
+    right: &SerialMemory,
+    list: &[Entry],
+    lowest: Option<Cell>,
+) -> Option<Cell>
+    ensures kept { (a : ℕ) → IsFine (cell_in left.now) (cell_in right.now) lowest a → IsFine (cell_in left.now) (cell_in right.now) result a }
+    ensures covered { (k : ℕ) (e : EntryOf) → slice_get list.now k ≡ Some e → IsFine (cell_in left.now) (cell_in right.now) result e.cell }
+    ensures wrong { IsWrongAt (cell_in left.now) (cell_in right.now) lowest → IsWrongAt (cell_in left.now) (cell_in right.now) result }
+{
+    let mut found = lowest;
+    for entry in list {
+        found = lower(left, right, entry.cell, found);
+    }
+    found
+}
+
+/// The lower of an address that was found before and this one, if the memories differ at it.
+fn lower(left: &SerialMemory, right: &SerialMemory, cell: Cell, found: Option<Cell>) -> Option<Cell>
+    ensures kept { (a : ℕ) → IsFine (cell_in left.now) (cell_in right.now) found a → IsFine (cell_in left.now) (cell_in right.now) result a }
+    ensures covered { IsFine (cell_in left.now) (cell_in right.now) result cell }
+    ensures wrong { IsWrongAt (cell_in left.now) (cell_in right.now) found → IsWrongAt (cell_in left.now) (cell_in right.now) result }
+{
+    if left.value(cell) == right.value(cell) {
+        return found;
+    }
+    match found {
+        Some(other) if other <= cell => Some(other),
+        _ => Some(cell),
+    }
+}

@@ -1,0 +1,135 @@
+//! What is wrong with one entry of a serial list.
+
+ghost use Rattle.std.specs.Prelude.{◌≡◌, ◌≢◌, ◌<◌, ◌≤◌, ◌+◌, ◌⊎◌, true, false, IfOk, OnOk};
+ghost use Rattle.ultra_msg.specs.Act.{act as effect};
+ghost use Rattle.ultra_serial.specs.declared.records.Issue.{Issue as IssueOf};
+ghost use Rattle.ultra_serial.specs.declared.records.Answer.{Answer as AnswerOf};
+ghost use Rattle.ultra_serial.specs.declared.records.Entry.{Entry as EntryOf};
+ghost use Rattle.ultra_serial.specs.Log.{log_of};
+ghost use Rattle.ultra_serial.specs.Legal.{Has, IsIssueNamed, IsAnswerTo, IsIssueOf, with_cell};
+ghost use Rattle.ultra_serial.specs.Memory.{cell_in};
+ghost use Rattle.ultra_serial.specs.Breach.{HasNameOf};
+ghost use Rattle.ultra_serial.specs.Examined.{Finds};
+
+use crate::checking::BreachKind;
+use crate::memory::SerialMemory;
+use crate::{Answer, Entry, Issue, Log};
+use std::alloc::AllocError;
+
+/// The first fault of an entry that stands after others, if it has one: their requests have acted on the memory, and all of them were issued before the cycle `from`.
+pub(crate) fn fault_of(
+    log: &Log,
+    before: &[Entry],
+    from: u64,
+    memory: &mut SerialMemory,
+    entry: &Entry,
+) -> Result<Option<BreachKind>, AllocError>
+    ensures finds { IfOk result (λ found. Finds (log_of log.now) before.now from (cell_in memory.old) entry.now found) }
+    ensures acted { IfOk result (λ found. found ≡ None → cell_in memory.new ≡ with_cell (cell_in memory.old) entry.now.cell (effect entry.now.op (cell_in memory.old entry.now.cell)).0) }
+{
+    if !is_issued(log.issues.as_slice(), entry) {
+        return Ok(Some(BreachKind::NotIssued));
+    }
+    if is_repeated(before, entry) {
+        return Ok(Some(BreachKind::Repeated));
+    }
+    let reply = memory.act(entry.cell, entry.op)?;
+    if reply != entry.reply {
+        return Ok(Some(BreachKind::WrongReplay));
+    }
+    if is_answered_otherwise(log.answers.as_slice(), entry) {
+        return Ok(Some(BreachKind::WrongAnswer));
+    }
+    if is_answered_before(log.answers.as_slice(), entry, from) {
+        return Ok(Some(BreachKind::TooLate));
+    }
+    Ok(None)
+}
+
+/// Whether the entry is one of the issues, with its cell and operation.
+fn is_issued(issues: &[Issue], entry: &Entry) -> bool
+    ensures yes { result ≡ true → (i : IssueOf) × Has issues.now i × IsIssueOf entry.now i }
+    ensures no { result ≡ false → (i : IssueOf) → Has issues.now i → IsIssueOf entry.now i → ⊥ }
+{
+    for issue in issues {
+        if is_issue_of(issue, entry) {
+            return true;
+        }
+    }
+    false
+}
+
+/// Whether an issue is that of the entry, with its cell and operation.
+fn is_issue_of(issue: &Issue, entry: &Entry) -> bool
+    ensures yes { result ≡ true → IsIssueOf entry.now issue.now }
+    ensures no { result ≡ false → IsIssueOf entry.now issue.now → ⊥ }
+{
+    issue.pe == entry.pe
+        && issue.number == entry.number
+        && issue.cell == entry.cell
+        && issue.op == entry.op
+}
+
+/// Whether an entry of this name stands among those before.
+fn is_repeated(before: &[Entry], entry: &Entry) -> bool
+    ensures yes { result ≡ true → (f : EntryOf) × Has before.now f × HasNameOf f entry.now }
+    ensures no { result ≡ false → (f : EntryOf) → Has before.now f → HasNameOf f entry.now → ⊥ }
+{
+    for other in before {
+        if other.pe == entry.pe && other.number == entry.number {
+            return true;
+        }
+    }
+    false
+}
+
+/// Whether the entry has an answer that isn't its reply.
+fn is_answered_otherwise(answers: &[Answer], entry: &Entry) -> bool
+    ensures yes { result ≡ true → (a : AnswerOf) × Has answers.now a × IsAnswerTo entry.now a × (a.reply ≢ entry.now.reply) }
+    ensures no { result ≡ false → (a : AnswerOf) → Has answers.now a → IsAnswerTo entry.now a → a.reply ≡ entry.now.reply }
+{
+    for answer in answers {
+        if is_answer_to(answer, entry) && answer.reply != entry.reply {
+            return true;
+        }
+    }
+    false
+}
+
+/// Whether the entry has an answer of an earlier cycle than `from`.
+fn is_answered_before(answers: &[Answer], entry: &Entry, from: u64) -> bool
+    ensures yes { result ≡ true → (a : AnswerOf) × Has answers.now a × IsAnswerTo entry.now a × (a.cycle < from) }
+    ensures no { result ≡ false → (a : AnswerOf) → Has answers.now a → IsAnswerTo entry.now a → from ≤ a.cycle }
+{
+    for answer in answers {
+        if is_answer_to(answer, entry) && u64::from(answer.cycle) < from {
+            return true;
+        }
+    }
+    false
+}
+
+/// Whether an answer has the entry's name.
+pub(crate) fn is_answer_to(answer: &Answer, entry: &Entry) -> bool
+    ensures yes { result ≡ true → IsAnswerTo entry.now answer.now }
+    ensures no { result ≡ false → IsAnswerTo entry.now answer.now → ⊥ }
+{
+    answer.pe == entry.pe && answer.number == entry.number
+}
+
+/// The first cycle that isn't before `from` and comes after each issue of the entry's name.
+pub(crate) fn after_issues(issues: &[Issue], entry: &Entry, from: u64) -> u64
+    requires { from ≤ 4294967296 }
+    ensures small { result ≤ 4294967296 }
+    ensures no_less { from ≤ result }
+    ensures above { (i : IssueOf) → Has issues.now i → IsIssueNamed entry.now i → i.cycle < result }
+    ensures reached { (result ≡ from) ⊎ ((i : IssueOf) × Has issues.now i × IsIssueNamed entry.now i × (i.cycle + 1 ≡ result)) }
+{
+    let mut after = from;
+    for issue in issues {
+        if issue.pe == entry.pe && issue.number == entry.number && after <= u64::from(issue.cycle) {
+            after = u64::from(issue.cycle) + 1;
+        }
+    }
+    after
+}

@@ -1,0 +1,111 @@
+//! When the requests of a run were issued and answered.
+
+ghost use Rattle.std.specs.Prelude.{◌≡◌, ℕ, ◌∷◌, ◌++◌, ◌≤◌, List, IfOk, OnOk};
+ghost use Rattle.ultra_serial.specs.Log.{Log as LogKept, empty_log, log_of, latest_number, logged};
+ghost use Rattle.ultra_serial.specs.SerialList.{history};
+ghost use Rattle.ultra_serial.specs.Recording.{Records, logged_all};
+
+use crate::by_pair::ListsByPair;
+use crate::history::OrderFault;
+use crate::{Answer, Issue, Log};
+use std::alloc::{AllocError, Global};
+use ultra_isa::Program;
+use ultra_machine::{Config, Machine};
+use ultra_msg::{Cell, Event, Pe};
+
+/// What was issued and answered so far.
+#[derive(Drop)]
+pub(crate) struct Recording {
+    log: Log,
+    /// The numbers of the issues of each processing element for each cell.
+    numbers: ListsByPair<u32>,
+}
+
+impl Recording {
+    /// Before the first cycle.
+    fn new(alloc: Global) -> Recording
+        ensures { Records result empty_log }
+    {
+        Recording {
+            log: Log {
+                issues: Vec::new(alloc),
+                answers: Vec::new(alloc),
+            },
+            numbers: ListsByPair::new(alloc),
+        }
+    }
+
+    /// What happened in a cycle.
+    fn note_all(&mut self, cycle: u32, events: &[Event]) -> Result<(), AllocError>
+        ensures { OnOk result ((l : LogKept) → Records self.old l → Records self.new (logged_all cycle events.now l)) }
+    {
+        for event in events {
+            self.note(cycle, event)?;
+        }
+        Ok(())
+    }
+
+    /// An event of a cycle.
+    fn note(&mut self, cycle: u32, event: &Event) -> Result<(), AllocError>
+        ensures { OnOk result ((l : LogKept) → Records self.old l → Records self.new (logged cycle l event.now)) }
+    {
+        match *event {
+            Event::Delivered(message) => {
+                let number = self.latest_number(message.pe, message.cell);
+                self.log.answers.push(Answer {
+                    pe: message.pe,
+                    number,
+                    reply: message.reply,
+                    cycle,
+                })?;
+            }
+            Event::Served { .. } => {}
+            Event::Combined { .. } => {}
+            Event::Issued { request, number } => {
+                self.numbers.push((request.pe, request.cell), number)?;
+                self.log.issues.push(Issue {
+                    pe: request.pe,
+                    number,
+                    cell: request.cell,
+                    op: request.op,
+                    cycle,
+                })?;
+            }
+        }
+        Ok(())
+    }
+
+    /// The number of the latest issue of a processing element for a cell, or 0 where there is none.
+    fn latest_number(&self, pe: Pe, cell: Cell) -> u32
+        ensures { (l : LogKept) → Records self.now l → result ≡ latest_number pe cell l.issues 0 }
+    {
+        self.numbers.get((pe, cell)).last().copied().unwrap_or(0)
+    }
+
+    /// The log.
+    fn into_log(self) -> Log
+        ensures { log_of result ≡ log_of self.log }
+    {
+        let Recording { log, numbers: _ } = self;
+        log
+    }
+}
+
+/// What a run of so many cycles, at most 1,000,000, issued and answered. `NoMemory` means that memory was refused.
+pub fn log(
+    alloc: Global,
+    config: &Config,
+    program: &Program,
+    cycles: u32,
+) -> Result<Log, OrderFault>
+    requires { cycles ≤ 1000000 }
+    ensures { IfOk result (λ log. log_of log ≡ (history config.now program.now cycles).log) }
+{
+    let mut machine = Machine::new(alloc, config, program)?;
+    let mut recording = Recording::new(alloc);
+    for cycle in 0..cycles {
+        machine.cycle();
+        recording.note_all(cycle, machine.events())?;
+    }
+    Ok(recording.into_log())
+}

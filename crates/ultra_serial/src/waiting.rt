@@ -1,0 +1,91 @@
+//! The requests that are on their way to memory.
+
+ghost use Rattle.std.specs.Prelude.{◌≡◌, ℕ, List, [], ◌∷◌, ◌++◌, IfOk, OnOk, option_map};
+ghost use Rattle.ultra_msg.specs.declared.Event.TheVariants.{Combined, Issued};
+ghost use Rattle.ultra_serial.specs.Tree.{Tree, leaves as leaves_in, Kept, kept, tree_of, without, trees_after};
+ghost use Rattle.ultra_serial.specs.Waiting.{Keeps, items_in};
+
+use crate::Leaf;
+use crate::by_pair::ListsByPair;
+use std::alloc::{AllocError, Global};
+use ultra_msg::{Cell, Pe, Request};
+
+/// The requests that are on their way to memory, each as the leaves of its tree in serial order.
+#[derive(Drop)]
+pub(crate) struct Waiting {
+    alloc: Global,
+    chains: ListsByPair<Vec<Leaf>>,
+}
+
+impl Waiting {
+    /// No requests.
+    pub fn new(alloc: Global) -> Waiting
+        ensures { Keeps result [] }
+    {
+        Waiting {
+            alloc,
+            chains: ListsByPair::new(alloc),
+        }
+    }
+
+    /// A request was issued.
+    pub fn issue(&mut self, request: Request, number: u32) -> Result<(), AllocError>
+        ensures { OnOk result ((ks : List Kept) → Keeps self.old ks → Keeps self.new (trees_after ks (Issued request number))) }
+    {
+        let leaf = Leaf {
+            pe: request.pe,
+            number,
+            cell: request.cell,
+            op: request.op,
+        };
+        let leaves = vec![in self.alloc; leaf]?;
+        self.put(request.pe, request.cell, leaves)?;
+        Ok(())
+    }
+
+    /// The requests of two elements for a cell have combined; what is sent for both is the old one's.
+    pub fn combine(
+        &mut self,
+        cell: Cell,
+        old: Pe,
+        new: Pe,
+        old_first: bool,
+    ) -> Result<(), AllocError>
+        ensures { OnOk result ((ks : List Kept) (s x : ℕ) → Keeps self.old ks → Keeps self.new (trees_after ks (Combined s x cell old new old_first))) }
+    {
+        let of_old = self.take(old, cell);
+        let of_new = self.take(new, cell);
+        if let (Some(of_old), Some(of_new)) = (of_old, of_new) {
+            let leaves = if old_first {
+                joined(of_old, of_new)?
+            } else {
+                joined(of_new, of_old)?
+            };
+            self.put(old, cell, leaves)?;
+        }
+        Ok(())
+    }
+
+    /// Takes the leaves of the request of an element for a cell, if there is one.
+    pub fn take(&mut self, pe: Pe, cell: Cell) -> Option<Vec<Leaf>>
+        ensures kept { (ks : List Kept) → Keeps self.old ks → Keeps self.new (without pe cell ks) }
+        ensures taken { (ks : List Kept) → Keeps self.old ks → items_in result ≡ option_map leaves_in (tree_of pe cell ks) }
+    {
+        self.chains.pop((pe, cell))
+    }
+
+    /// Keeps leaves as those of the request of an element for a cell.
+    fn put(&mut self, pe: Pe, cell: Cell, leaves: Vec<Leaf>) -> Result<(), AllocError>
+        ensures { OnOk result ((ks : List Kept) (t : Tree) → Keeps self.old ks → leaves.items ≡ leaves_in t → Keeps self.new (kept pe cell t ∷ ks)) }
+    {
+        self.chains.push((pe, cell), leaves)
+    }
+}
+
+/// Leaves, and then others.
+fn joined(mut first: Vec<Leaf>, second: Vec<Leaf>) -> Result<Vec<Leaf>, AllocError>
+    ensures { IfOk result (λ v. v.items ≡ first.items ++ second.items) }
+{
+    first.extend_from_slice(second.as_slice())?;
+    Ok(first)
+}
