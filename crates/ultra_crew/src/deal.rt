@@ -7,14 +7,14 @@ use crate::task::{Name, Task};
 use std::alloc::{AllocError, Global};
 use ultra_block::{Block, Half};
 
-/// As many teams of tasks as there are workers, all empty. An error says that memory was refused.
-fn empty_teams(alloc: Global, workers: usize) -> Result<Vec<Vec<Task>>, AllocError>
+/// As many teams of tasks as there are workers, all empty, each with room for so many. An error says that memory was refused.
+fn empty_teams(alloc: Global, workers: usize, room: usize) -> Result<Vec<Vec<Task>>, AllocError>
     ensures count { IfOk result (λ v. length v.items ≡ workers) }
     ensures empty { IfOk result (λ v. (w : ℕ) (d : _) → w < workers → (slice_index_or v.items w d).items ≡ []) }
 {
     let mut teams = Vec::with_capacity(alloc, workers)?;
     for _ in 0..workers {
-        teams.push(Vec::new(alloc))?;
+        teams.push(Vec::with_capacity(alloc, room)?)?;
     }
     Ok(teams)
 }
@@ -31,7 +31,7 @@ pub(crate) fn deal(
     ensures count { IfOk result (λ v. length v.items ≡ workers) }
     ensures teams { IfOk result (λ v. (w : ℕ) (d : _) → w < workers → (slice_index_or v.items w d).items ≡ team workers w (tasks_from cycle half 0 blocks.items)) }
 {
-    let mut teams = empty_teams(alloc, workers)?;
+    let mut teams = empty_teams(alloc, workers, blocks.len().div_ceil(workers))?;
     let mut number = 0;
     for block in blocks {
         let name = Name {

@@ -93,7 +93,7 @@ impl Meeting {
             self.missed.fetch_add(1, Ordering::SeqCst);
         }
         for _ in 0..10_000_000 {
-            if other.load(Ordering::SeqCst) >= number {
+            if other.load(Ordering::SeqCst) >= number || self.missed.load(Ordering::SeqCst) > 0 {
                 return;
             }
             thread::yield_now();
@@ -135,7 +135,7 @@ fn make_cycles<R: Threads + Wait + Sync, G: Gate + Sync>(
     Ok(blocks)
 }
 
-/// Two blocks with work and two workers: in every half each worker waits for the other at the gate. So a crew that makes all blocks in one thread passes all proofs, and fails here: the turns run out.
+/// Two blocks with work and two workers: in every half each worker waits for the other at the gate. A crew that makes all blocks in one thread is proved all the same, and fails here, as was tried: the turns run out, or no flag is raised where it calls no gate.
 #[test]
 fn gate_meets(rt: HostRuntime) -> Result<(), Fail> {
     let config = settings(rt.alloc(), 1)?;
@@ -278,4 +278,18 @@ fn any_workers(rt: HostRuntime) -> Result<(), Fail> {
 #[test]
 fn one_worker_late(rt: HostRuntime) -> Result<(), Fail> {
     goes_as_alone(&rt, &[0, 1, 2, 0, 1, 2, 0, 1, 2, 0, 1, 2], 3, &Holdup)
+}
+
+/// A single cycle, short enough to refuse each of its allocations in turn: the gate is called for each block in each half.
+#[test]
+fn one_cycle_by_two(rt: HostRuntime) -> Result<(), Fail> {
+    let config = settings(rt.alloc(), 1)?;
+    let program = add_numbers(rt.alloc())?;
+    let blocks = Blocks::new(rt.alloc(), &config, &program, &[0, 1, 0, 1, 0])?;
+    let gate = Counter {
+        calls: AtomicU64::new(0),
+    };
+    let _ = make_cycles(&rt, rt.alloc(), blocks, 2, &gate, 1)?;
+    assert_eq!(rt; gate.calls.load(Ordering::SeqCst), 64 * 6);
+    Ok(())
 }
