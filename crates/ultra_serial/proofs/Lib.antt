@@ -22,5 +22,6 @@ pub mod CellsHeld
 pub mod Stacks
 pub mod Turns
 pub mod Cycles
+pub mod Rest
 pub mod Numbers
 pub mod Explaining

@@ -123,6 +123,9 @@ pub fn order(
     for _ in 0..cycles {
         machine.cycle();
         serving.note_all(machine.events())?;
+        if machine.is_quiet() {
+            break;
+        }
     }
     Ok(serving.into_order())
 }

@@ -106,6 +106,9 @@ pub fn log(
     for cycle in 0..cycles {
         machine.cycle();
         recording.note_all(cycle, machine.events())?;
+        if machine.is_quiet() {
+            break;
+        }
     }
     Ok(recording.into_log())
 }
