@@ -23,10 +23,10 @@ get_push [] y (suc k) x e = absurd cc
 get_push (z ∷ zs) y zero x e = inl (omega arith, e)
 get_push (z ∷ zs) y (suc k) x e = ⊎_elim (λ h. inl (omega (arith, h.0), h.1)) (λ h. inr (omega (arith, h.0), h.1)) (get_push zs y k x e)
 
-has_push : {X : Type 0} (xs : List X) (y x : X) → Has (xs ++ y ∷ []) x → Has xs x ⊎ (y ≡ x)
+pub has_push : {X : Type 0} (xs : List X) (y x : X) → Has (xs ++ y ∷ []) x → Has xs x ⊎ (y ≡ x)
 has_push xs y x h = ⊎_elim (λ p. inl (h.0, p.1)) (λ p. inr p.1) (get_push xs y h.0 x h.1)
 
-get_last : {X : Type 0} (xs : List X) (y : X) → slice_get (xs ++ y ∷ []) (length xs) ≡ Some y
+pub get_last : {X : Type 0} (xs : List X) (y : X) → slice_get (xs ++ y ∷ []) (length xs) ≡ Some y
 get_last [] y = refl
 get_last (z ∷ zs) y = get_last zs y
 

@@ -25,3 +25,4 @@ pub mod Cycles
 pub mod Rest
 pub mod Numbers
 pub mod Explaining
+pub mod ByName

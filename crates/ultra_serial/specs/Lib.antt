@@ -4,6 +4,7 @@ pub mod Legal
 pub mod SerialList
 pub mod Chain
 pub mod ByPair
+pub mod ByName
 pub mod Memory
 pub mod Waiting
 pub mod Following

@@ -1,14 +1,16 @@
 //! Whether a serial list explains a log.
 
-ghost use Rattle.std.specs.Prelude.{◌≡◌, ◌<◌, ℕ, true, false, Some, None, IfOk, OnOk, IfErr, IfSome, slice_get};
+ghost use Rattle.std.specs.Prelude.{◌≡◌, ◌<◌, ℕ, List, true, false, Some, None, IfOk, OnOk, IfErr, IfSome, slice_get};
 ghost use Rattle.ultra_serial.specs.declared.records.Answer.{Answer as AnswerOf};
 ghost use Rattle.ultra_serial.specs.declared.records.Entry.{Entry as EntryOf};
-ghost use Rattle.ultra_serial.specs.Log.{log_of};
+ghost use Rattle.ultra_serial.specs.Log.{Log as LogOf, log_of};
 ghost use Rattle.ultra_serial.specs.Legal.{Cells, given, Has, IsAnswerTo, IsLegal};
 ghost use Rattle.ultra_serial.specs.Memory.{cell_in};
 ghost use Rattle.ultra_serial.specs.Breach.{cells_past, ExplainsFault};
-ghost use Rattle.ultra_serial.specs.Examined.{AreExplained, IsFirstMissing, IsFine, IsWrongAt};
+ghost use Rattle.ultra_serial.specs.Examined.{AreExplained, IsListed, IsFirstMissing, IsFine, IsWrongAt};
+ghost use Rattle.ultra_serial.specs.ByName.{Holds};
 
+use crate::by_name::ByName;
 use crate::examining::{after_issues, fault_of, is_answer_to};
 use crate::memory::SerialMemory;
 use crate::{Answer, Entry, Log};
@@ -66,8 +68,8 @@ pub fn check(
     ensures legal { OnOk result (IsLegal (given initial.now) (log_of log.now) (given cells.now) list.now) }
     ensures breach { IfErr result (ExplainsFault (given initial.now) (log_of log.now) (given cells.now) list.now) }
 {
-    let memory = replay(alloc, initial, log, list)?;
-    if let Some(index) = first_missing(log.answers.as_slice(), list) {
+    let (memory, names) = replay(alloc, initial, log, list)?;
+    if let Some(index) = first_missing(log.answers.as_slice(), &names) {
         return Err(CheckFault::Breach(BreachKind::Missing, index));
     }
     let wanted = SerialMemory::new(alloc, cells)?;
@@ -79,36 +81,39 @@ pub fn check(
     Ok(())
 }
 
-/// The memory after all entries have acted, if none of them has a fault.
+/// The memory after all entries have acted, and all by name, if none of the entries has a fault.
 fn replay(
     alloc: Global,
     initial: &[(Cell, Word)],
     log: &Log,
     list: &[Entry],
-) -> Result<SerialMemory, CheckFault>
-    ensures cells { IfOk result (λ m. cell_in m ≡ cells_past (given initial.now) list.now) }
+) -> Result<(SerialMemory, ByName), CheckFault>
+    ensures cells { IfOk result (λ r. cell_in r.0 ≡ cells_past (given initial.now) list.now) }
+    ensures names { IfOk result (λ r. Holds r.1 (log_of log.now) list.now) }
     ensures explained { OnOk result (AreExplained (given initial.now) (log_of log.now) list.now) }
     ensures breach { (final : Cells) → IfErr result (ExplainsFault (given initial.now) (log_of log.now) final list.now) }
 {
     let mut memory = SerialMemory::new(alloc, initial)?;
+    let mut names = ByName::new(alloc, log)?;
     let mut from = 0;
     for (index, entry) in list.iter().enumerate() {
-        let before = &list[..index];
-        if let Some(kind) = fault_of(log, before, from, &mut memory, entry)? {
+        if let Some(kind) = fault_of(&names, from, &mut memory, entry)? {
             return Err(CheckFault::Breach(kind, index));
         }
-        from = after_issues(log.issues.as_slice(), entry, from);
+        let issues = names.issues.get((entry.pe, entry.number));
+        from = after_issues(issues, entry, from);
+        names.add(*entry)?;
     }
-    Ok(memory)
+    Ok((memory, names))
 }
 
-/// The first answer whose name stands nowhere in the list.
-fn first_missing(answers: &[Answer], list: &[Entry]) -> Option<usize>
-    ensures none { result ≡ None → (a : AnswerOf) → Has answers.now a → (e : EntryOf) × Has list.now e × IsAnswerTo e a }
-    ensures some { IfSome result (λ n. IsFirstMissing answers.now list.now n) }
+/// The first answer whose name stands nowhere among the entries.
+fn first_missing(answers: &[Answer], names: &ByName) -> Option<usize>
+    ensures none { (log : LogOf) (list : List EntryOf) → Holds names.now log list → result ≡ None → (a : AnswerOf) → Has answers.now a → IsListed list a }
+    ensures some { (log : LogOf) (list : List EntryOf) → Holds names.now log list → IfSome result (λ n. IsFirstMissing answers.now list n) }
 {
     for (index, answer) in answers.iter().enumerate() {
-        if !is_listed(answer, list) {
+        if !is_listed(answer, names.entries.get((answer.pe, answer.number))) {
             return Some(index);
         }
     }

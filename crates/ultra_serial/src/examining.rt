@@ -1,46 +1,51 @@
 //! What is wrong with one entry of a serial list.
 
-ghost use Rattle.std.specs.Prelude.{◌≡◌, ◌≢◌, ◌<◌, ◌≤◌, ◌+◌, ◌⊎◌, true, false, IfOk, OnOk};
+ghost use Rattle.std.specs.Prelude.{◌≡◌, ◌≢◌, ◌<◌, ◌≤◌, ◌+◌, ◌⊎◌, List, true, false, IfOk};
 ghost use Rattle.ultra_msg.specs.Act.{act as effect};
 ghost use Rattle.ultra_serial.specs.declared.records.Issue.{Issue as IssueOf};
 ghost use Rattle.ultra_serial.specs.declared.records.Answer.{Answer as AnswerOf};
 ghost use Rattle.ultra_serial.specs.declared.records.Entry.{Entry as EntryOf};
-ghost use Rattle.ultra_serial.specs.Log.{log_of};
+ghost use Rattle.ultra_serial.specs.Log.{Log as LogOf};
 ghost use Rattle.ultra_serial.specs.Legal.{Has, IsIssueNamed, IsAnswerTo, IsIssueOf, with_cell};
 ghost use Rattle.ultra_serial.specs.Memory.{cell_in};
 ghost use Rattle.ultra_serial.specs.Breach.{HasNameOf};
 ghost use Rattle.ultra_serial.specs.Examined.{Finds};
+ghost use Rattle.ultra_serial.specs.ByName.{Holds};
 
+use crate::by_name::ByName;
 use crate::checking::BreachKind;
 use crate::memory::SerialMemory;
-use crate::{Answer, Entry, Issue, Log};
+use crate::{Answer, Entry, Issue};
 use std::alloc::AllocError;
 
-/// The first fault of an entry that stands after others, if it has one: their requests have acted on the memory, and all of them were issued before the cycle `from`.
+/// The first fault of an entry that stands after those that are known by name, if it has one: their requests have acted on the memory, and all of them were issued before the cycle `from`.
 pub(crate) fn fault_of(
-    log: &Log,
-    before: &[Entry],
+    names: &ByName,
     from: u64,
     memory: &mut SerialMemory,
     entry: &Entry,
 ) -> Result<Option<BreachKind>, AllocError>
-    ensures finds { IfOk result (λ found. Finds (log_of log.now) before.now from (cell_in memory.old) entry.now found) }
+    ensures finds { (log : LogOf) (before : List EntryOf) → Holds names.now log before → IfOk result (λ found. Finds log before from (cell_in memory.old) entry.now found) }
     ensures acted { IfOk result (λ found. found ≡ None → cell_in memory.new ≡ with_cell (cell_in memory.old) entry.now.cell (effect entry.now.op (cell_in memory.old entry.now.cell)).0) }
 {
-    if !is_issued(log.issues.as_slice(), entry) {
+    let name = (entry.pe, entry.number);
+    let issues = names.issues.get(name);
+    let others = names.entries.get(name);
+    let answers = names.answers.get(name);
+    if !is_issued(issues, entry) {
         return Ok(Some(BreachKind::NotIssued));
     }
-    if is_repeated(before, entry) {
+    if is_repeated(others, entry) {
         return Ok(Some(BreachKind::Repeated));
     }
     let reply = memory.act(entry.cell, entry.op)?;
     if reply != entry.reply {
         return Ok(Some(BreachKind::WrongReplay));
     }
-    if is_answered_otherwise(log.answers.as_slice(), entry) {
+    if is_answered_otherwise(answers, entry) {
         return Ok(Some(BreachKind::WrongAnswer));
     }
-    if is_answered_before(log.answers.as_slice(), entry, from) {
+    if is_answered_before(answers, entry, from) {
         return Ok(Some(BreachKind::TooLate));
     }
     Ok(None)

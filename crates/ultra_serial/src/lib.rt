@@ -1,6 +1,7 @@
 //! The serial order of what a machine's requests did, and what it is for such an order to explain a run.
 #![tactic(auto)]
 
+mod by_name;
 mod by_pair;
 mod checking;
 mod examining;

@@ -17,7 +17,7 @@ returns-in-Some-clause-breach c =
     let log = log_of c.args.log.now in
     let final = given c.args.cells.now in
     let list = c.args.list.now in
-    told initial log final list Missing c.in-Some.index (first_missing_fault initial log final list c.in_ok-memory.ensures.explained c.in-Some.index (rw c.as_slice.ensures.value at c.in-Some.ensures.some))
+    told initial log final list Missing c.in-Some.index (first_missing_fault initial log final list c.in_ok-memory.ensures.explained c.in-Some.index (rw c.as_slice.ensures.value at c.in-Some.ensures.some log list c.in_ok-memory.ensures.names))
 
 pub returns-in-Some-lowest_used-clause-breach : goal.returns-in-Some-lowest_used-clause-breach
 returns-in-Some-lowest_used-clause-breach c =
@@ -28,7 +28,7 @@ returns-in-Some-lowest_used-clause-breach c =
     let r = cell_in c.in_ok-memory.memory in
     let w = cell_in c.in_ok-wanted.wanted in
     let cell = c.in-Some-lowest_used.cell in
-    let listed = rw c.as_slice.ensures.value at (c.first_missing.ensures.none c.in_default.is) in
+    let listed = rw c.as_slice.ensures.value at (c.first_missing.ensures.none log list c.in_ok-memory.ensures.names c.in_default.is) in
     let wrong : IsWrongAt r w c.lowest_used.result = c.lowest_used.ensures.wrong (c.lowest_given-of_cells.ensures.wrong (c.lowest_given-of_initial.ensures.wrong tt)) in
     let fine = fine_everywhere is cs list r w c.lowest_used.result c.in_ok-memory.ensures.cells c.in_ok-wanted.ensures
     (λ k i at. c.lowest_used.ensures.kept i.0 (c.lowest_given-of_cells.ensures.kept i.0 (c.lowest_given-of_initial.ensures.covered k i at)))
@@ -46,7 +46,7 @@ returns-clause-legal c =
     let log = log_of c.args.log.now in
     let r = cell_in c.in_ok-memory.memory in
     let w = cell_in c.in_ok-wanted.wanted in
-    let listed = rw c.as_slice.ensures.value at (c.first_missing.ensures.none c.in_default.is) in
+    let listed = rw c.as_slice.ensures.value at (c.first_missing.ensures.none log list c.in_ok-memory.ensures.names c.in_default.is) in
     let fine = fine_everywhere is cs list r w c.lowest_used.result c.in_ok-memory.ensures.cells c.in_ok-wanted.ensures
     (λ k i at. c.lowest_used.ensures.kept i.0 (c.lowest_given-of_cells.ensures.kept i.0 (c.lowest_given-of_initial.ensures.covered k i at)))
     (λ k i at. c.lowest_used.ensures.kept i.0 (c.lowest_given-of_cells.ensures.covered k i at))

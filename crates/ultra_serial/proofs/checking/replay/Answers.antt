@@ -10,6 +10,8 @@ use Rattle.ultra_serial.specs.Memory.{cell_in}
 use Rattle.ultra_serial.specs.Breach.{cells_past}
 use Rattle.ultra_serial.specs.Examined.{Finds, IsFirstAfter, AreExplained}
 use Rattle.ultra_serial.proofs.Explaining.{past_more, explained_more, first_more, first_fault, told}
+use Rattle.ultra_serial.specs.ByName.{Holds}
+use Rattle.ultra_serial.proofs.ByName.{all_above, one_reached}
 use Rattle.ultra_serial.proofs.checking.replay.Goals as goal
 
 abbrev some_entry : Entry
@@ -25,7 +27,7 @@ returns-in-Some-clause-breach c = λ final.
     let before = take n xs in
     let from = c.loop-index.from in
     let kind = c.in-Some.kind in
-    let found : Finds log before from (cell_in c.loop-index.memory) e (Some kind) = rw c.in-Some.is at c.in_ok-kind.ensures.finds in
+    let found : Finds log before from (cell_in c.loop-index.memory) e (Some kind) = rw c.in-Some.is at c.in_ok-kind.ensures.finds log before c.loop-index.invariant.names in
     told initial log final xs kind n (first_fault initial log final xs n from e (slice_get-get_or xs n some_entry (omega arith)) c.loop-index.invariant.explained c.loop-index.invariant.first kind
     (subst (λ (m : Cells). Finds log before from m e (Some kind)) c.loop-index.invariant.cells found))
 
@@ -39,8 +41,10 @@ loop-index-preserved c =
     let before = take n xs in
     let from = c.loop-index.from in
     let now = c.after_issues-from.result in
+    let b = c.loop-index.names in
+    let is = c.get-issues.result.now in
     let grown = take_more xs n some_entry (omega arith) in
-    let found : Finds log before from (cell_in c.loop-index.memory) e None = rw c.in_default.is at c.in_ok-kind.ensures.finds in
+    let found : Finds log before from (cell_in c.loop-index.memory) e None = rw c.in_default.is at c.in_ok-kind.ensures.finds log before c.loop-index.invariant.names in
     let finds = subst (λ (m : Cells). Finds log before from m e None) c.loop-index.invariant.cells found in
     record {
       explained = subst (λ us. AreExplained initial log us) (sym grown) (explained_more initial log before from e c.loop-index.invariant.explained finds c.loop-index.invariant.first);
@@ -50,6 +54,8 @@ loop-index-preserved c =
           ∙ (sym (past_more initial log before from e) ∙ ap (λ us. cells_past initial us) (sym grown)));
       first = subst (λ us. IsFirstAfter log us now) (sym grown)
           (first_more initial log before from e c.loop-index.invariant.first now c.after_issues-from.ensures.no_less
-          (rw c.as_slice.ensures.value at c.after_issues-from.ensures.above) (rw c.as_slice.ensures.value at c.after_issues-from.ensures.reached));
+          (all_above b log before c.loop-index.invariant.names e is c.get-issues.ensures now c.after_issues-from.ensures.above)
+          (one_reached b log before c.loop-index.invariant.names e is c.get-issues.ensures from now c.after_issues-from.ensures.reached));
+      names = subst (λ us. Holds c.add.new.self log us) (sym grown) (c.in_ok-add.ensures log before c.loop-index.invariant.names);
       small = c.after_issues-from.ensures.small;
     }

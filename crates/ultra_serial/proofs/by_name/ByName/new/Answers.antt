@@ -1,0 +1,11 @@
+use Rattle.ultra_serial.specs.ByPair.{list_of}
+use Rattle.ultra_serial.specs.Legal.{Entry}
+use Rattle.ultra_serial.proofs.ByName.{none_by_name}
+use Rattle.ultra_serial.proofs.by_name.ByName.new.Goals as goal
+
+pub returns : goal.returns
+returns c = record {
+  issues = rw c.as_slice.ensures.value at c.in_ok-issues_by_name.ensures;
+  answers = rw c.as_slice-2.ensures.value at c.in_ok-answers_by_name.ensures;
+  entries = none_by_name (λ (e : Entry). e.pe) (λ (e : Entry). e.number) (list_of c.new.result.lists) c.new.ensures;
+}
