@@ -11,10 +11,11 @@ use Rattle.ultra_block.specs.declared.blocks.Blocks.{Blocks}
 use Rattle.ultra_block.specs.BlocksState.{machine_of, IsWhole}
 use Rattle.ultra_block.specs.Phases.{after, cycle, reply_phase, memory_phase, request_phase, processor_phase}
 use Rattle.ultra_trace.specs.declared.page.Page.{Page}
-use Rattle.ultra_trace.specs.Page.{Writes}
+use Rattle.ultra_trace.specs.Page.{Writes, WritesBeginning}
 use Rattle.ultra_trace.specs.Run.{IsAfter}
 use Rattle.ultra_trace.specs.Trace.{by_number, cycle_text, cycles_text, cycle_count, all_cycles_text, last_state, end_text}
 use Rattle.ultra_trace.proofs.Writing.{either, writes_failed, writes_spent}
+use Rattle.ultra_trace.proofs.Numbered.{writes_number}
 use Rattle.ultra_trace.proofs.Told.{cycles_are}
 
 -- ---- the first number of a range that passes a test
@@ -133,18 +134,34 @@ none_of : (a b : Bool) → (a || b) ≡ false → a ≡ false
 none_of true b h = absurd cc
 none_of false b h = refl
 
+pub not_second : (a b : Bool) → (a || b) ≡ false → b ≡ false
+not_second true b h = absurd cc
+not_second false b h = h
+
 module _ (c : Settings) (program : List Instr) where
   all_written : (n : ℕ) {S : Type 0} {taken : S → List ℕ} {failures : S → ℕ} {s t : Page S} → cycle_count c program ≡ n → Writes taken failures (cycles_text c program n) s t → Writes taken failures (all_cycles_text c program) s t
   unfolding all_cycles_text
   all_written n e w = rw e w
 
 module _ (c : Settings) (program : List Instr) (n : ℕ) where
+  -- the lines of a cycle more
+  pub cycle_written : (b : Blocks) → IsAfter c program (n + 1) b → {S : Type 0} {taken : S → List ℕ} {failures : S → ℕ} {s t u : Page S} → Writes taken failures (cycles_text c program n) s t → Writes taken failures (cycle_text b.config (machine_of b)) t u → Writes taken failures (cycles_text c program (n + 1)) s u
+  cycle_written b now v w = writes_number (λ k. cycle_text c (after c program (k + 1))) n v (rw (cycle_after c program (n + 1) b now) at w)
+
   -- after a fault the cycles that are missing don't matter
   missing_cycles : {S : Type 0} {taken : S → List ℕ} {failures : S → ℕ} {s t : Page S} → IsBusy c program n → n < c.cycles → t.failed ≡ true → Writes taken failures (cycles_text c program (n + 1)) s t → Writes taken failures (all_cycles_text c program) s t
   unfolding all_cycles_text
   missing_cycles h p f w =
       let first = first_lines (λ k. cycle_text c (after c program (k + 1))) (n + 1) (cycle_count c program) (count_beyond c program n h p) in
       rw first.1 (writes_failed first.0 f w)
+
+  -- the cycles so far are the first of the trace
+  pub first_written : {S : Type 0} {taken : S → List ℕ} {failures : S → ℕ} {s t : Page S} → IsBusy c program n → n < c.cycles → Writes taken failures (cycles_text c program n) s t → WritesBeginning taken failures (all_cycles_text c program) s t
+  unfolding all_cycles_text
+  first_written h p w =
+      let beyond = count_beyond c program n h p in
+      let first = first_lines (λ k. cycle_text c (after c program (k + 1))) n (cycle_count c program) (omega (arith, beyond)) in
+      (cycles_text c program n, (first.0, sym first.1), w)
 
   -- where the machine is quiet or the sink has failed, the cycle was the last
   module _ (b : Blocks) (a : IsAfter c program (n + 1) b) (h : IsBusy c program n) (p : n < c.cycles) where

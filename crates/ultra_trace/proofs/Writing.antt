@@ -89,6 +89,25 @@ pub at_ok : {T E P : Type 0} (r : Result T E) → IsOk r → OnOk r P → P
 at_ok (Ok x) ok p = p
 at_ok (Err e) ok p = absurd cc
 
+-- on an empty page all that was written has been taken where nothing is left, and a beginning of it after a fault
+pub all_taken : (bytes : List ℕ) (s t : State) → s.waiting ≡ [] → t.failed ≡ false → t.waiting ≡ [] → Wrote bytes s t → t.taken ≡ s.taken ++ bytes
+all_taken bytes s t b g e w = sym (append-nil t.taken) ∙ rw (b, e, append-nil s.taken) at (w.whole g).0
+
+pub beginning_taken : (bytes : List ℕ) (s t : State) → s.waiting ≡ [] → s.failed ≡ false → t.failed ≡ true → Wrote bytes s t → IsBeginning t.taken (s.taken ++ bytes)
+beginning_taken bytes s t b f g w = rw (b, append-nil s.taken) at (w.beginning f g).0
+
+-- and where the sink hasn't failed, a beginning of all that begins with what was written
+pub part_taken : (part bytes : List ℕ) (s t : State) → s.waiting ≡ [] → t.failed ≡ false → IsBeginning part bytes → Wrote part s t → IsBeginning t.taken (s.taken ++ bytes)
+part_taken part bytes s t b f (rest, e) w = (
+  t.waiting ++ rest,
+  sym (append_assoc t.taken t.waiting rest) ∙ ap (λ x. x ++ rest) (w.whole f).0 ∙ rw (b, append-nil s.taken) (append_assoc s.taken part rest) ∙ ap (λ x. s.taken ++ x) e,
+)
+
+-- a part of the middle, after the first bytes
+pub begins_within : (first part middle last : List ℕ) → IsBeginning part middle → IsBeginning (first ++ part) (first ++ (middle ++ last))
+begins_within first part middle last (rest, e) =
+    (rest ++ last, append_assoc first part (rest ++ last) ∙ ap (λ x. first ++ x) (sym (append_assoc part rest last) ∙ ap (λ x. x ++ last) e))
+
 -- what a whole text has become where the page is finished
 pub record Ended {T E : Type 0} (r : Result T E) (bytes : List ℕ) (old_taken new_taken : List ℕ) (old_failures new_failures : ℕ) : Type 0 where
   pub ok : OnOk r (new_taken ≡ old_taken ++ bytes)
@@ -98,7 +117,7 @@ pub record Ended {T E : Type 0} (r : Result T E) (bytes : List ℕ) (old_taken n
 
 pub ended : {T E : Type 0} (r : Result T E) (bytes : List ℕ) (s t : State) → s.waiting ≡ [] → s.failed ≡ false → Wrote bytes s t → OnOk r (t.failed ≡ false) → OnOk r (t.waiting ≡ []) → OnErr r (t.failed ≡ true) → Ended r bytes s.taken t.taken s.failures t.failures
 ended (Ok x) bytes s t b f w g e h = record {
-  ok = sym (append-nil t.taken) ∙ rw (b, e, append-nil s.taken) at (w.whole g).0;
+  ok = all_taken bytes s t b g e w;
   still = (w.whole g).1;
   err = tt;
   counted = tt;
@@ -106,6 +125,6 @@ ended (Ok x) bytes s t b f w g e h = record {
 ended (Err x) bytes s t b f w g e h = record {
   ok = tt;
   still = tt;
-  err = rw (b, append-nil s.taken) at (w.beginning f h).0;
+  err = beginning_taken bytes s t b f h w;
   counted = (w.beginning f h).1;
 }

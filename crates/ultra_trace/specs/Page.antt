@@ -28,3 +28,7 @@ module _ {S : Type 0} (taken : S → List ℕ) (failures : S → ℕ) where
   pub record Writes (bytes : List ℕ) (old new : Page S) : Type 0 where
     pub same_reference : new.sink.ghost_name ≡ old.sink.ghost_name
     pub wrote : Wrote bytes (state_of old) (state_of new)
+
+  -- a beginning of the bytes was written
+  abbrev pub WritesBeginning : List ℕ → Page S → Page S → Type 0
+  WritesBeginning bytes old new = (part : List ℕ) × IsBeginning part bytes × Writes part old new

@@ -6,8 +6,11 @@ mod ending;
 mod events;
 mod page;
 mod places;
-mod run;
+mod running;
+#[cfg(test)]
+mod tests;
 mod texts;
+mod together;
 
 pub use cycle::write_cycle;
-pub use run::{RunFault, run_alone};
+pub use running::{RunFault, run, run_alone};

@@ -1,9 +1,6 @@
-use Rattle.std.proofs.Common.{◌+◌, arith, sym}
-use Rattle.ultra_block.specs.Phases.{after}
-use Rattle.ultra_trace.specs.Trace.{cycle_text}
+use Rattle.std.proofs.Common.{arith, sym}
 use Rattle.ultra_trace.proofs.Writing.{writes_nothing}
-use Rattle.ultra_trace.proofs.Numbered.{writes_number}
-use Rattle.ultra_trace.proofs.Count.{next_after, done_after, cycle_after, busy_none, last_written, last_machine, still_busy, limit_written, limit_machine}
+use Rattle.ultra_trace.proofs.Count.{next_after, done_after, cycle_written, busy_none, last_written, last_machine, still_busy, limit_written, limit_machine}
 use Rattle.ultra_trace.proofs.page.Page.put_cycles.Goals as goal
 
 pub loop-init : goal.loop-init
@@ -24,8 +21,7 @@ returns-then-put_and_judge-clause-writes g c =
     let n = c.loop.counter in
     let made = c.cycle.ensures in
     let now = next_after first.config first.program n c.loop.blocks c.cycle.new.self c.loop.invariant.state made.state made.whole made.settings made.program in
-    let one = rw (cycle_after first.config first.program (n + 1) c.cycle.new.self now) at c.put_and_judge.ensures.writes in
-    let written = writes_number (λ k. cycle_text first.config (after first.config first.program (k + 1))) n c.loop.invariant.writes one in
+    let written = cycle_written first.config first.program n c.cycle.new.self now c.loop.invariant.writes c.put_and_judge.ensures.writes in
     last_written first.config first.program n c.cycle.new.self now c.loop.invariant.busy (omega arith) (sym c.if-put_and_judge.ensures.over) written
 
 pub returns-then-put_and_judge-clause-end : goal.returns-then-put_and_judge-clause-end
@@ -42,10 +38,9 @@ loop-preserved g c =
     let n = c.loop.counter in
     let made = c.cycle.ensures in
     let now = next_after first.config first.program n c.loop.blocks c.cycle.new.self c.loop.invariant.state made.state made.whole made.settings made.program in
-    let one = rw (cycle_after first.config first.program (n + 1) c.cycle.new.self now) at c.put_and_judge.ensures.writes in
     record {
       state = now;
-      writes = writes_number (λ k. cycle_text first.config (after first.config first.program (k + 1))) n c.loop.invariant.writes one;
+      writes = cycle_written first.config first.program n c.cycle.new.self now c.loop.invariant.writes c.put_and_judge.ensures.writes;
       busy = still_busy first.config first.program n c.cycle.new.self now c.loop.invariant.busy (omega arith) c.put_and_judge.new.self.failed (sym c.if-put_and_judge.ensures.over);
     }
 

@@ -7,5 +7,5 @@ pub returns : goal.returns
 unfolding trace
 returns g c =
     let first = c.args.blocks.now in
-    c.put.ensures then c.put_cycles.ensures.writes
+    c.put_first_line.ensures then c.put_cycles.ensures.writes
     then end_written first.config first.program c.put_cycles.new.blocks c.put_cycles.ensures.end c.put_end.ensures

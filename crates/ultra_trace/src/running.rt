@@ -1,18 +1,23 @@
 //! The trace of a run, from the start of a machine to the end.
 
-ghost use Rattle.std.specs.Prelude.{◌≡◌, ◌+◌, ◌*◌, ◌<◌, ◌≤◌, [], ◌++◌, ◌||◌, true, false, OnOk, OnErr, IfOk, IfErr};
+ghost use Rattle.std.specs.Prelude.{◌≡◌, ◌≢◌, ◌+◌, ◌*◌, ◌<◌, ◌≤◌, [], ◌++◌, ◌||◌, true, false, codes, OnOk, OnErr, IfOk, IfErr};
 ghost use Rattle.ultra_msg.specs.Bytes.{IsBeginning};
 ghost use Rattle.ultra_block.specs.Machine.{start as at_start, is_quiet as quiet};
 ghost use Rattle.ultra_block.specs.Partition.{is_partition};
 ghost use Rattle.ultra_block.specs.BlocksState.{machine_of, IsWhole};
 ghost use Rattle.ultra_trace.specs.Trace.{cycle_count, cycle_text, all_cycles_text, trace};
-ghost use Rattle.ultra_trace.specs.declared.run.RunFault.TheVariants.{Write, NoMemory};
-ghost use Rattle.ultra_trace.specs.Run.{sink_faults, IsAfter};
+ghost use Rattle.ultra_trace.specs.declared.running.RunFault.TheVariants.{Write, NoMemory, NoThread};
+ghost use Rattle.ultra_trace.specs.Run.{fault_of_crew, sink_faults, IsAfter};
+ghost use Rattle.ultra_trace.specs.Text.{newline};
 ghost use Rattle.ultra_trace.specs.Page.{Writes};
 
 use super::page::Page;
+use super::together::write_trace_together;
 use std::alloc::{AllocError, Global};
+use std::sync::Wait;
+use std::thread::Threads;
 use ultra_block::{Blocks, Config, PartitionFault};
+use ultra_crew::{CrewFault, Gate};
 use ultra_isa::Program;
 use ultra_msg::{Sink, SinkFault};
 
@@ -23,6 +28,8 @@ pub enum RunFault {
     Write,
     /// Memory was refused.
     NoMemory,
+    /// A thread could not be started.
+    NoThread,
 }
 
 impl From<SinkFault> for RunFault {
@@ -41,9 +48,49 @@ impl From<AllocError> for RunFault {
     }
 }
 
-/// Runs a program on a machine of these settings, and writes the trace to the sink. After a fault the sink has taken a beginning of it.
+impl From<CrewFault> for RunFault {
+    ghost from_gives = { λ fault run_fault. run_fault ≡ fault_of_crew fault };
+
+    fn from(fault: CrewFault) -> RunFault {
+        match fault {
+            CrewFault::NoThread => RunFault::NoThread,
+            CrewFault::NoMemory => RunFault::NoMemory,
+        }
+    }
+}
+
+/// Runs a program on a machine of these settings by so many workers, 1 to 64, and writes the trace to the sink: the same bytes for every number of workers and every gate. After a fault the sink has taken a beginning of it.
 ///
-/// Memory is asked for only before the first byte is written.
+/// Unit `u` of the machine stands in block `u` modulo the number of workers, and its cycles are made by `Crew::cycle`. With one worker the run is `run_alone`, and no gate is called. Several workers ask for memory and threads in each cycle. The call may wait, and in every end the threads that were started are joined.
+///
+/// `Write` says that the sink failed, `NoMemory` that memory was refused, and `NoThread` that a thread could not be started, which is never answered with one worker.
+pub fn run<R: Threads + Wait + Sync, G: Gate + Sync, S: Sink>(
+    rt: &R,
+    alloc: Global,
+    config: &Config,
+    program: &Program,
+    workers: usize,
+    gate: &G,
+    sink: &mut S,
+) -> Result<(), RunFault>
+    requires some_worker { 1 ≤ workers }
+    requires most_workers { workers ≤ 64 }
+    ensures ok { OnOk result (S.taken sink.new ≡ S.taken sink.old ++ trace config.now program.now) }
+    ensures still { OnOk result (S.failures sink.new ≡ S.failures sink.old) }
+    ensures err { OnErr result (IsBeginning (S.taken sink.new) (S.taken sink.old ++ trace config.now program.now)) }
+    ensures counted { IfErr result (λ e. S.failures sink.new ≡ S.failures sink.old + sink_faults e) }
+    ensures alone { workers ≡ 1 → IfErr result (λ e. e ≢ NoThread) }
+{
+    if workers == 1 {
+        return run_alone(alloc, config, program, sink);
+    }
+    let blocks = new_blocks(alloc, config, program, workers as u8)?;
+    write_trace_together(rt, alloc, blocks, workers, gate, sink)
+}
+
+/// Runs a program on a machine of these settings in the caller's thread, and writes the trace to the sink. After a fault the sink has taken a beginning of it.
+///
+/// `Write` says that the sink failed, and `NoMemory` that memory was refused; it is asked for only before the first byte is written. `NoThread` is never answered.
 pub fn run_alone<S: Sink>(
     alloc: Global,
     config: &Config,
@@ -54,6 +101,7 @@ pub fn run_alone<S: Sink>(
     ensures still { OnOk result (S.failures sink.new ≡ S.failures sink.old) }
     ensures err { OnErr result (IsBeginning (S.taken sink.new) (S.taken sink.old ++ trace config.now program.now)) }
     ensures counted { IfErr result (λ e. S.failures sink.new ≡ S.failures sink.old + sink_faults e) }
+    ensures alone { IfErr result (λ e. e ≢ NoThread) }
 {
     let mut blocks = new_blocks(alloc, config, program, 1)?;
     write_trace(&mut blocks, sink)?;
@@ -127,9 +175,16 @@ impl<'s, S: Sink> Page<'s, S> {
         requires { IsAfter blocks.old.config blocks.old.program 0 blocks.old }
         ensures { Writes S.taken S.failures (trace blocks.old.config blocks.old.program) self.old self.new }
     {
-        self.put(b"ultra trace 2\n");
+        self.put_first_line();
         self.put_cycles(blocks);
         self.put_end(blocks);
+    }
+
+    /// Writes the first line, which names the format.
+    pub fn put_first_line(&mut self)
+        ensures { Writes S.taken S.failures (codes "ultra trace 2" ++ newline) self.old self.new }
+    {
+        self.put(b"ultra trace 2\n");
     }
 
     /// Runs a machine from its start to the end of its trace, and writes all cycles. It ends early where the sink fails.
@@ -148,7 +203,7 @@ impl<'s, S: Sink> Page<'s, S> {
     }
 
     /// Writes the lines of the last cycle, and says whether the trace ends with it before the settings' limit: where the machine is quiet, or the sink has failed.
-    fn put_and_judge(&mut self, blocks: &Blocks) -> bool
+    pub fn put_and_judge(&mut self, blocks: &Blocks) -> bool
         requires whole { IsWhole blocks.now }
         requires some { 0 < blocks.now.done }
         ensures writes { Writes S.taken S.failures (cycle_text blocks.now.config (machine_of blocks.now)) self.old self.new }
@@ -160,7 +215,7 @@ impl<'s, S: Sink> Page<'s, S> {
 }
 
 /// How many cycles the settings allow.
-fn most_cycles(blocks: &Blocks) -> u32
+pub fn most_cycles(blocks: &Blocks) -> u32
     ensures value { result ≡ blocks.now.config.cycles }
     ensures small { result ≤ 1000000 }
 {

@@ -1,6 +1,6 @@
 use Rattle.std.proofs.Common.{◌≡◌, true, length, nat_lt}
 use Rattle.std.specs.List.{list_all}
-use Rattle.ultra_trace.proofs.run.dealt_out.Given as goal
+use Rattle.ultra_trace.proofs.running.dealt_out.Given as goal
 
 abbrev pub invariant-loop-unit : goal.invariant-loop-unit
 invariant-loop-unit l = record {

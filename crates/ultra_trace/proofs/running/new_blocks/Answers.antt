@@ -1,6 +1,6 @@
 use Rattle.std.proofs.Common.{sym, ◌∙◌}
 use Rattle.ultra_trace.proofs.Count.{after_none}
-use Rattle.ultra_trace.proofs.run.new_blocks.Goals as goal
+use Rattle.ultra_trace.proofs.running.new_blocks.Goals as goal
 
 pub returns-in-Ok : goal.returns-in-Ok
 returns-in-Ok c =

@@ -1,0 +1,14 @@
+use Rattle.std.proofs.Common.{◌≡◌, false}
+use Rattle.ultra_trace.specs.Page.{Writes}
+use Rattle.ultra_trace.specs.Run.{IsAfter}
+use Rattle.ultra_trace.specs.Trace.{cycles_text}
+use Rattle.ultra_trace.proofs.Count.{IsBusy}
+use Rattle.ultra_trace.proofs.page.Page.put_cycles_together.Given as goal
+
+abbrev pub invariant-loop : goal.invariant-loop
+invariant-loop g l = record {
+  state : IsAfter l.initial.blocks.config l.initial.blocks.program l.counter l.blocks;
+  writes : Writes g.S.Sink.taken g.S.Sink.failures (cycles_text l.initial.blocks.config l.initial.blocks.program l.counter) l.initial.self l.self;
+  busy : IsBusy l.initial.blocks.config l.initial.blocks.program l.counter;
+  sound : l.self.failed ≡ false;
+}
