@@ -1,5 +1,6 @@
 pub mod Account
 pub mod Source
 pub mod Failure
+pub mod Order
 pub mod Outcome
 pub mod SettingsText

@@ -11,12 +11,13 @@ use Rattle.ultra.specs.SettingsText.{Gives}
 use Rattle.ultra_asm.specs.Words.{text_words}
 use Rattle.ultra_asm.specs.ProgramText.{IsProgramText, IsFirstFault}
 use Rattle.ultra_asm.specs.Listing.{listing_text}
-use Rattle.ultra.specs.declared.command_line.Command.TheVariants.{Run, List as ListOf}
+use Rattle.ultra.specs.declared.command_line.Command.TheVariants.{Run, Order, List as ListOf}
 use Rattle.ultra.specs.declared.command_line.Parsed.{Parsed}
 use Rattle.ultra.specs.declared.command_line.Parsed.TheVariants as parsed
 use Rattle.ultra.specs.declared.failure.Failure.{Failure}
 use Rattle.ultra.specs.declared.failure.Failure.TheVariants.{Usage, NotRead, NotToml, BadField, UnknownKey, NotUtf8, BadLine, NoMemory, NotWritten}
 use Rattle.ultra.specs.Account.{File, file_of}
+use Rattle.ultra.specs.Order.{order_of}
 use Rattle.ultra_trace.specs.Trace.{trace}
 
 -- one of the program's statuses: done, a usage fault, refused input, no memory, a failed write
@@ -71,28 +72,37 @@ ExplainsProgram path text (BadLine p l k) = (p.now ≡ path) × IsFirstFault (te
 ExplainsProgram path text NoMemory = ⊤
 ExplainsProgram path text _ = ⊥
 
+-- two files were read, and they give these settings and this program
+pub record Gave (conf prog : List ℕ) (old new : List File) (c : Settings) (p : List Instr) : Type 0 where
+  pub settings_bytes : List ℕ
+  pub program_bytes : List ℕ
+  pub accepted : IsAccepted settings_bytes c
+  pub assembled : IsProgramOf program_bytes p
+  pub files : new ≡ old ++ file_of conf settings_bytes ∷ file_of prog program_bytes ∷ []
+
+-- why two files give no settings and program: the first is accepted or refused before the second is read
+pub data GaveNothing (conf prog : List ℕ) (old new : List File) (f : Failure) : Type 0 where
+  unread_settings : IsUnread conf f → new ≡ old → GaveNothing conf prog old new f
+  refused_settings : (text : List ℕ) → ExplainsSettings conf text f → new ≡ old ++ file_of conf text ∷ [] → GaveNothing conf prog old new f
+  unread_program : (text : List ℕ) (c : Settings) → IsAccepted text c → IsUnread prog f → new ≡ old ++ file_of conf text ∷ [] → GaveNothing conf prog old new f
+  refused_program : (text program_text : List ℕ) (c : Settings) → IsAccepted text c → ExplainsProgram prog program_text f → new ≡ old ++ file_of conf text ∷ file_of prog program_text ∷ [] → GaveNothing conf prog old new f
+
 -- why a run ended early
 abbrev pub IsStopped : Failure → Type 0
 IsStopped f = (f ≡ NoMemory) ⊎ (f ≡ NotWritten)
 
--- two files were read, and the trace of their settings and program was written
-pub record WroteTrace (conf prog : List ℕ) (old new : Traffic) : Type 0 where
-  pub settings_bytes : List ℕ
-  pub program_bytes : List ℕ
-  pub settings : Settings
-  pub program : List Instr
-  pub accepted : IsAccepted settings_bytes settings
-  pub assembled : IsProgramOf program_bytes program
-  pub files : new.files ≡ old.files ++ file_of conf settings_bytes ∷ file_of prog program_bytes ∷ []
-  pub written : new.written ≡ old.written ++ trace settings program
+module _ (text : Settings → List Instr → List ℕ) where
+  -- two files were read, and the text of their settings and program was written
+  pub record WroteText (conf prog : List ℕ) (old new : Traffic) : Type 0 where
+    pub settings : Settings
+    pub program : List Instr
+    pub gave : Gave conf prog old.files new.files settings program
+    pub written : new.written ≡ old.written ++ text settings program
 
--- how a run fails: each file is accepted or refused before the next is read, and both before a byte is written
-pub data RunFails (conf prog : List ℕ) (old new : Traffic) (f : Failure) : Type 0 where
-  unread_settings : IsUnread conf f → new ≡ old → RunFails conf prog old new f
-  refused_settings : (text : List ℕ) → ExplainsSettings conf text f → new ≡ with_files old (file_of conf text ∷ []) → RunFails conf prog old new f
-  unread_program : (text : List ℕ) (c : Settings) → IsAccepted text c → IsUnread prog f → new ≡ with_files old (file_of conf text ∷ []) → RunFails conf prog old new f
-  refused_program : (text program_text : List ℕ) (c : Settings) → IsAccepted text c → ExplainsProgram prog program_text f → new ≡ with_files old (file_of conf text ∷ file_of prog program_text ∷ []) → RunFails conf prog old new f
-  stopped : (text program_text : List ℕ) (c : Settings) (p : List Instr) → IsAccepted text c → IsProgramOf program_text p → IsStopped f → new.files ≡ old.files ++ file_of conf text ∷ file_of prog program_text ∷ [] → IsBeginning new.written (old.written ++ trace c p) → RunFails conf prog old new f
+  -- how that fails: both files are accepted before a byte is written
+  pub data TextFails (conf prog : List ℕ) (old new : Traffic) (f : Failure) : Type 0 where
+    refused : GaveNothing conf prog old.files new.files f → new.written ≡ old.written → TextFails conf prog old new f
+    stopped : (c : Settings) (p : List Instr) → Gave conf prog old.files new.files c p → IsStopped f → IsBeginning new.written (old.written ++ text c p) → TextFails conf prog old new f
 
 -- a file was read, and the canonical text of its program was written
 pub record WroteListing (prog : List ℕ) (old new : Traffic) : Type 0 where
@@ -110,7 +120,8 @@ pub data ListFails (prog : List ℕ) (old new : Traffic) (f : Failure) : Type 0 
 
 -- what was asked for was done
 abbrev pub Obeyed : Parsed → Traffic → Traffic → Type 0
-Obeyed (parsed.Command (Run conf prog)) old new = WroteTrace conf.now prog.now old new
+Obeyed (parsed.Command (Run conf prog)) old new = WroteText trace conf.now prog.now old new
+Obeyed (parsed.Command (Order conf prog)) old new = WroteText order_of conf.now prog.now old new
 Obeyed (parsed.Command (ListOf prog)) old new = WroteListing prog.now old new
 Obeyed (parsed.Help text) old new = new ≡ record old { written = old.written ++ string_bytes text }
 Obeyed (parsed.Usage text) old new = ⊥
@@ -118,7 +129,8 @@ Obeyed parsed.NoMemory old new = ⊥
 
 -- how it wasn't done
 abbrev pub NotObeyed : Parsed → Traffic → Traffic → Failure → Type 0
-NotObeyed (parsed.Command (Run conf prog)) old new f = RunFails conf.now prog.now old new f
+NotObeyed (parsed.Command (Run conf prog)) old new f = TextFails trace conf.now prog.now old new f
+NotObeyed (parsed.Command (Order conf prog)) old new f = TextFails order_of conf.now prog.now old new f
 NotObeyed (parsed.Command (ListOf prog)) old new f = ListFails prog.now old new f
 NotObeyed (parsed.Help text) old new f = (f ≡ NotWritten) × (new.files ≡ old.files) × IsBeginning new.written (old.written ++ string_bytes text)
 NotObeyed (parsed.Usage text) old new f = (f ≡ Usage text) × (new ≡ old)

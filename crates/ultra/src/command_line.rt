@@ -14,6 +14,13 @@ pub enum Command<'w> {
         /// The path of the program's text.
         program: &'w str,
     },
+    /// To write the serial order of a run: `ultra order CONF PROG`.
+    Order {
+        /// The path of the settings.
+        settings: &'w str,
+        /// The path of the program's text.
+        program: &'w str,
+    },
     /// To write the canonical text of a program: `ultra list PROG`.
     List {
         /// The path of the program's text.
@@ -58,13 +65,8 @@ fn shown(alloc: Global, error: &clap::Error) -> Result<String, AllocError> {
 
 /// The command of the words.
 fn command_in<'w>(alloc: Global, words: &'w [&'w str]) -> Result<Command<'w>, clap::Error> {
-    let settings = Arg::new(alloc, "CONF")
-        .help("The settings of the machine, a TOML file")
-        .required(true);
-    let run = clap::Command::new(alloc, "run")
-        .about("Writes the trace of a run")
-        .arg(settings)?
-        .arg(program_argument(alloc))?;
+    let run = command_on_a_run(alloc, "run", "Writes the trace of a run")?;
+    let order = command_on_a_run(alloc, "order", "Writes the serial order of a run")?;
     let list = clap::Command::new(alloc, "list")
         .about("Writes the canonical text of a program")
         .arg(program_argument(alloc))?;
@@ -72,23 +74,39 @@ fn command_in<'w>(alloc: Global, words: &'w [&'w str]) -> Result<Command<'w>, cl
         .about("Simulates the NYU Ultracomputer cycle by cycle")
         .subcommand_required(true)
         .subcommand(run)?
+        .subcommand(order)?
         .subcommand(list)?;
     let matches = ultra.try_get_matches_from_mut(words)?;
-    if let Some(("run", run)) = matches.subcommand() {
-        if let (Some(settings), Some(program)) = (run.get_str("CONF"), run.get_str("PROG")) {
-            return Ok(Command::Run { settings, program });
-        }
-    }
-    if let Some(("list", list)) = matches.subcommand() {
-        if let Some(program) = list.get_str("PROG") {
-            return Ok(Command::List { program });
+    if let Some((name, files)) = matches.subcommand() {
+        match (name, files.get_str("CONF"), files.get_str("PROG")) {
+            ("run", Some(settings), Some(program)) => return Ok(Command::Run { settings, program }),
+            ("order", Some(settings), Some(program)) => {
+                return Ok(Command::Order { settings, program });
+            }
+            ("list", None, Some(program)) => return Ok(Command::List { program }),
+            _ => {}
         }
     }
     Err(ultra.error(ErrorKind::MissingSubcommand, "no command")?)
 }
 
+/// A command of this name with the files of a run: its settings, and its program.
+fn command_on_a_run<'c>(
+    alloc: Global,
+    name: &'c str,
+    about: &'c str,
+) -> Result<clap::Command<'c>, AllocError> {
+    let settings = Arg::new(alloc, "CONF")
+        .help("The settings of the machine, a TOML file")
+        .required(true);
+    clap::Command::new(alloc, name)
+        .about(about)
+        .arg(settings)?
+        .arg(program_argument(alloc))
+}
+
 /// The argument that names the program's text.
-fn program_argument(alloc: Global) -> Arg<'static> {
+fn program_argument<'c>(alloc: Global) -> Arg<'c> {
     Arg::new(alloc, "PROG")
         .help("The program of the processing elements")
         .required(true)
@@ -114,14 +132,29 @@ mod tests {
     }
 
     #[test]
+    fn an_order_is_asked_for(rt: HostRuntime) -> Result<(), Fail> {
+        let words = ["ultra", "order", "c.toml", "p.s"];
+        let Parsed::Command(command) = parse(rt.alloc(), &words) else {
+            return Err("no command".into());
+        };
+        let wanted = Command::Order {
+            settings: "c.toml",
+            program: "p.s",
+        };
+        assert!(rt; command == wanted);
+        Ok(())
+    }
+
+    #[test]
     fn wrong_words_are_usage_faults(rt: HostRuntime) -> Result<(), Fail> {
-        let rows: [&[&str]; 7] = [
+        let rows: [&[&str]; 8] = [
             &["ultra"],
             &["ultra", "run"],
             &["ultra", "run", "c.toml"],
             &["ultra", "run", "c.toml", "p.s", "x"],
             &["ultra", "run", "c.toml", "p.s", "--workers", "2"],
-            &["ultra", "order", "c.toml", "p.s"],
+            &["ultra", "order", "c.toml"],
+            &["ultra", "explain", "c.toml", "p.s"],
             &["ultra", "--version"],
         ];
         for words in rows {

@@ -5,9 +5,11 @@ ghost use Rattle.ultra_msg.specs.Bytes.{IsBeginning, Writes};
 ghost use Rattle.ultra.specs.Failure.{kind_text, path_text, status_of, text_of};
 
 use itoa::Buffer;
+use std::alloc::AllocError;
 use ultra_asm::AsmFaultKind;
 use ultra_block::Field;
 use ultra_msg::{Sink, SinkFault, write_all, write_pieces};
+use ultra_serial::OrderFault;
 
 /// Why a command failed. A path is that of the file at fault, as the command names it.
 #[derive(Drop)]
@@ -36,6 +38,28 @@ pub enum Failure<'a> {
     NoMemory,
     /// Standard output failed.
     NotWritten,
+}
+
+impl<'a> From<AllocError> for Failure<'a> {
+    ghost use Rattle.ultra.specs.declared.failure.Failure.TheVariants.{NoMemory};
+
+    ghost from_gives = { λ _ failure. failure ≡ NoMemory };
+
+    fn from(_: AllocError) -> Failure<'a> {
+        Failure::NoMemory
+    }
+}
+
+impl<'a> From<OrderFault> for Failure<'a> {
+    ghost use Rattle.ultra.specs.declared.failure.Failure.TheVariants.{NoMemory};
+
+    ghost from_gives = { λ _ failure. failure ≡ NoMemory };
+
+    fn from(fault: OrderFault) -> Failure<'a> {
+        match fault {
+            OrderFault::NoMemory => Failure::NoMemory,
+        }
+    }
 }
 
 impl Failure<'_> {

@@ -3,7 +3,7 @@
 ghost use Rattle.std.specs.Prelude.{◌≡◌, ◌+◌, [], ◌∷◌, ◌++◌, IfOk, IfErr, OnOk, OnErr};
 ghost use Rattle.ultra.specs.Account.{file_of};
 ghost use Rattle.ultra.specs.Failure.{read_failures};
-ghost use Rattle.ultra.specs.Outcome.{IsAccepted, IsProgramOf, IsUnread, ExplainsSettings, ExplainsProgram};
+ghost use Rattle.ultra.specs.Outcome.{IsAccepted, IsProgramOf, IsUnread, ExplainsSettings, ExplainsProgram, Gave, GaveNothing};
 
 use crate::failure::Failure;
 use crate::settings::{SettingsFault, settings_from};
@@ -13,6 +13,34 @@ use std::str;
 use ultra_asm::{AsmFault, AsmFaultKind, assemble};
 use ultra_block::Config;
 use ultra_isa::Program;
+
+/// The settings and the program that two files give.
+#[derive(Drop)]
+pub struct Inputs {
+    /// The settings of the machine.
+    pub config: Config,
+    /// The program of the processing elements.
+    pub program: Program,
+}
+
+/// The settings and the program of the files at two paths. The settings are accepted before the program is read.
+pub fn read_inputs<'p, F: Source>(
+    alloc: Global,
+    settings_path: &'p str,
+    program_path: &'p str,
+    source: &mut F,
+) -> Result<Inputs, Failure<'p>>
+    ensures ok { IfOk result (λ inputs. Gave settings_path.now program_path.now (F.files source.old) (F.files source.new) inputs.config inputs.program) }
+    ensures err { IfErr result (GaveNothing settings_path.now program_path.now (F.files source.old) (F.files source.new)) }
+    ensures still { OnOk result (F.failures source.new ≡ F.failures source.old) }
+    ensures counted { IfErr result (λ f. F.failures source.new ≡ F.failures source.old + read_failures f) }
+{
+    let settings = read_file(alloc, settings_path, source)?;
+    let config = accept_settings(alloc, settings_path, settings.as_slice())?;
+    let text = read_file(alloc, program_path, source)?;
+    let program = accept_program(alloc, program_path, text.as_slice())?;
+    Ok(Inputs { config, program })
+}
 
 /// The bytes of the file at a path.
 pub fn read_file<'p, F: Source>(
@@ -34,11 +62,7 @@ pub fn read_file<'p, F: Source>(
 }
 
 /// The settings that the bytes of a file give, once they are accepted.
-pub fn accept_settings<'p>(
-    alloc: Global,
-    path: &'p str,
-    bytes: &[u8],
-) -> Result<Config, Failure<'p>>
+fn accept_settings<'p>(alloc: Global, path: &'p str, bytes: &[u8]) -> Result<Config, Failure<'p>>
     ensures ok { IfOk result (IsAccepted bytes.now) }
     ensures err { IfErr result (ExplainsSettings path.now bytes.now) }
 {

@@ -13,6 +13,7 @@ mod command_line;
 mod failure;
 mod inputs;
 mod list;
+mod order;
 mod run;
 mod settings;
 mod source;
@@ -78,6 +79,9 @@ fn obey<'w, F: Source, O: Sink>(
     match parsed {
         Parsed::Command(Command::Run { settings, program }) => {
             run::run(alloc, settings, program, source, out)
+        }
+        Parsed::Command(Command::Order { settings, program }) => {
+            order::order(alloc, settings, program, source, out)
         }
         Parsed::Command(Command::List { program }) => list::list(alloc, program, source, out),
         Parsed::Help(text) => match write_all(out, text.as_bytes()) {

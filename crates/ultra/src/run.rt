@@ -2,10 +2,11 @@
 
 ghost use Rattle.std.specs.Prelude.{◌≡◌, ◌+◌, IfErr, OnOk};
 ghost use Rattle.ultra.specs.Failure.{read_failures, write_failures};
-ghost use Rattle.ultra.specs.Outcome.{traffic, WroteTrace, RunFails};
+ghost use Rattle.ultra.specs.Outcome.{traffic, WroteText, TextFails};
+ghost use Rattle.ultra_trace.specs.Trace.{trace};
 
 use crate::failure::Failure;
-use crate::inputs::{accept_program, accept_settings, read_file};
+use crate::inputs::{Inputs, read_inputs};
 use crate::source::Source;
 use std::alloc::Global;
 use ultra_msg::Sink;
@@ -19,19 +20,16 @@ pub fn run<'p, F: Source, O: Sink>(
     source: &mut F,
     out: &mut O,
 ) -> Result<(), Failure<'p>>
-    ensures ok { OnOk result (WroteTrace settings_path.now program_path.now
+    ensures ok { OnOk result (WroteText trace settings_path.now program_path.now
         (traffic (F.files source.old) (O.taken out.old)) (traffic (F.files source.new) (O.taken out.new))) }
-    ensures err { IfErr result (RunFails settings_path.now program_path.now
+    ensures err { IfErr result (TextFails trace settings_path.now program_path.now
         (traffic (F.files source.old) (O.taken out.old)) (traffic (F.files source.new) (O.taken out.new))) }
     ensures read_still { OnOk result (F.failures source.new ≡ F.failures source.old) }
     ensures read_counted { IfErr result (λ f. F.failures source.new ≡ F.failures source.old + read_failures f) }
     ensures write_still { OnOk result (O.failures out.new ≡ O.failures out.old) }
     ensures write_counted { IfErr result (λ f. O.failures out.new ≡ O.failures out.old + write_failures f) }
 {
-    let settings = read_file(alloc, settings_path, source)?;
-    let config = accept_settings(alloc, settings_path, settings.as_slice())?;
-    let text = read_file(alloc, program_path, source)?;
-    let program = accept_program(alloc, program_path, text.as_slice())?;
+    let Inputs { config, program } = read_inputs(alloc, settings_path, program_path, source)?;
     match run_alone(alloc, &config, &program, out) {
         Ok(()) => Ok(()),
         Err(RunFault::Write) => Err(Failure::NotWritten),

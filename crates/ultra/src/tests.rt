@@ -3,6 +3,7 @@
 ghost use Rattle.std.specs.Prelude.{◌≡◌, ◌<◌};
 ghost use Rattle.ultra.specs.Account.{files_in, failures_in};
 
+mod orders;
 mod partitions;
 mod traces;
 
@@ -116,19 +117,50 @@ fn call<'t, R: AllocGlobal>(
 
 const RUN: [&str; 4] = ["ultra", "run", "c.toml", "p.s"];
 
-/// Asserts what `ultra run c.toml p.s` does with settings and a program: its status, and what it writes to standard output and standard error.
+const ORDER: [&str; 4] = ["ultra", "order", "c.toml", "p.s"];
+
+/// Asserts what a command does with settings and a program: its status, and what it writes to standard output and standard error.
+fn check_command<R: AllocGlobal + Abort>(
+    rt: &R,
+    words: &[&str],
+    settings: &[u8],
+    program: &[u8],
+    wanted: (u8, &str, &str),
+) -> Result<(), Fail> {
+    let files = [("c.toml", settings), ("p.s", program)];
+    let ended = call(rt, words, &files);
+    assert_eq!(rt; ended.err.text()?, wanted.2);
+    assert_eq!(rt; ended.out.text()?, wanted.1);
+    assert_eq!(rt; ended.status, wanted.0);
+    Ok(())
+}
+
+/// Asserts what `ultra run c.toml p.s` does with settings and a program.
 fn check_run<R: AllocGlobal + Abort>(
     rt: &R,
     settings: &[u8],
     program: &[u8],
     wanted: (u8, &str, &str),
 ) -> Result<(), Fail> {
-    let files = [("c.toml", settings), ("p.s", program)];
-    let ended = call(rt, &RUN, &files);
-    assert_eq!(rt; ended.err.text()?, wanted.2);
-    assert_eq!(rt; ended.out.text()?, wanted.1);
-    assert_eq!(rt; ended.status, wanted.0);
-    Ok(())
+    check_command(rt, &RUN, settings, program, wanted)
+}
+
+/// Asserts which trace and which serial order a run has.
+fn check_worked<R: AllocGlobal + Abort>(
+    rt: &R,
+    settings: &str,
+    program: &str,
+    trace: &str,
+    order: &str,
+) -> Result<(), Fail> {
+    check_run(rt, settings.as_bytes(), program.as_bytes(), (0, trace, ""))?;
+    check_command(
+        rt,
+        &ORDER,
+        settings.as_bytes(),
+        program.as_bytes(),
+        (0, order, ""),
+    )
 }
 
 /// A fetch-and-add of 1 to cell 0.
@@ -138,118 +170,154 @@ const ADDS_ONE: &str = "li r1 0\nli r2 1\nfaa r3 r1 r2\nhalt\n";
 const ADDS_TWICE: &str = "li r1 1\nli r2 1\nfaa r3 r0 r2\nfaa r4 r1 r2\nhalt\n";
 
 #[test]
-fn traces_are_written(rt: HostRuntime) -> Result<(), Fail> {
+fn traces_and_orders_are_written(rt: HostRuntime) -> Result<(), Fail> {
     let adds_most = "li r1 0\nli r2 4294967295\nfaa r3 r1 r2\nhalt\n";
     let adds_to_two = "li r1 2\nli r2 1\nfaa r3 r0 r2\nfaa r4 r1 r2\nhalt\n";
-    for (settings, program, trace) in [
-        ("stages = 1", ADDS_ONE, traces::COMBINED_PAIR),
+    for (settings, program, trace, order) in [
+        (
+            "stages = 1",
+            ADDS_ONE,
+            traces::COMBINED_PAIR,
+            orders::COMBINED_PAIR,
+        ),
         (
             "stages = 1\nwait_places = 0",
             ADDS_ONE,
             traces::UNCOMBINED_PAIR,
+            orders::UNCOMBINED_PAIR,
         ),
         (
             "stages = 1\ninitial = [[0, 1]]",
             adds_most,
             traces::WRAPAROUND,
+            orders::WRAPAROUND,
         ),
         (
             "stages = 1\nwait_places = 1",
             adds_to_two,
             traces::WAIT_BUFFER_FULL,
+            orders::WAIT_BUFFER_FULL,
         ),
         (
             "stages = 1\nreply_places = 4",
             ADDS_TWICE,
             traces::NARROW_REPLY_QUEUES,
+            orders::NARROW_REPLY_QUEUES,
         ),
-        ("stages = 1", "halt\n", traces::HALT),
-        ("stages = 1", "", traces::EMPTY),
-        ("stages = 1\nopen = 1", ADDS_TWICE, traces::ONE_OPEN),
-        ("stages = 1\ncycles = 4", ADDS_ONE, traces::CYCLE_LIMIT),
+        ("stages = 1", "halt\n", traces::HALT, orders::HALT),
+        ("stages = 1", "", traces::EMPTY, orders::EMPTY),
+        (
+            "stages = 1\nopen = 1",
+            ADDS_TWICE,
+            traces::ONE_OPEN,
+            orders::ONE_OPEN,
+        ),
+        (
+            "stages = 1\ncycles = 4",
+            ADDS_ONE,
+            traces::CYCLE_LIMIT,
+            orders::CYCLE_LIMIT,
+        ),
     ] {
-        check_run(&rt, settings.as_bytes(), program.as_bytes(), (0, trace, ""))?;
+        check_worked(&rt, settings, program, trace, order)?;
     }
     Ok(())
 }
 
 /// Runs with all operations, jumps and labels.
 #[test]
-fn traces_of_all_operations_are_written(rt: HostRuntime) -> Result<(), Fail> {
-    for (settings, program, trace) in [
+fn traces_and_orders_of_all_operations_are_written(rt: HostRuntime) -> Result<(), Fail> {
+    for (settings, program, trace, order) in [
         (
             "stages = 1\ninitial = [[0, 5]]",
             "li r2 7\npid r1\njnz r1 w\nld r3 r0\nhalt\nw:\nst r0 r2\nhalt\n",
             traces::LOAD_THEN_STORE,
+            orders::LOAD_THEN_STORE,
         ),
         (
             "stages = 1",
             "li r2 3\nli r4 10\npid r1\njnz r1 w\nfaa r3 r0 r2\nhalt\nw:\nst r0 r4\nhalt\n",
             traces::STORE_THEN_FAA,
+            orders::STORE_THEN_FAA,
         ),
         (
             "stages = 1",
             "pid r1\njnz r1 end\nli r2 1\nfaa r3 r0 r2\nfaa r4 r0 r2\nend:\nhalt\n",
             traces::OPEN_CELL_STALL,
+            orders::OPEN_CELL_STALL,
         ),
         (
             "stages = 1\ncells = 1",
             "pid r1\nadd r1 r1 r1\nli r2 1\nfaa r3 r1 r2\nhalt\n",
             traces::ADDRESS_FAULT,
+            orders::ADDRESS_FAULT,
         ),
         (
             "stages = 1",
             "li r2 3\nli r4 10\npid r1\njnz r1 w\nst r0 r4\nhalt\nw:\nfaa r3 r0 r2\nhalt\n",
             traces::FAA_THEN_STORE,
+            orders::FAA_THEN_STORE,
         ),
         (
             "stages = 1",
             "pid r1\naddi r2 r1 7\nswap r3 r0 r2\nhalt\n",
             traces::TWO_SWAPS,
+            orders::TWO_SWAPS,
         ),
         (
             "stages = 1\ninitial = [[0, 5]]",
             "li r2 3\nli r4 10\npid r1\njnz r1 w\nfaa r3 r0 r2\nhalt\nw:\nswap r3 r0 r4\nhalt\n",
             traces::SWAP_THEN_FAA,
+            orders::SWAP_THEN_FAA,
         ),
     ] {
-        check_run(&rt, settings.as_bytes(), program.as_bytes(), (0, trace, ""))?;
+        check_worked(&rt, settings, program, trace, order)?;
     }
     Ok(())
 }
 
 /// Runs of machines of two stages.
 #[test]
-fn traces_of_two_stages_are_written(rt: HostRuntime) -> Result<(), Fail> {
-    for (settings, program, trace) in [
-        ("stages = 2", ADDS_ONE, traces::FOUR_TO_ONE_CELL),
+fn traces_and_orders_of_two_stages_are_written(rt: HostRuntime) -> Result<(), Fail> {
+    for (settings, program, trace, order) in [
+        (
+            "stages = 2",
+            ADDS_ONE,
+            traces::FOUR_TO_ONE_CELL,
+            orders::FOUR_TO_ONE_CELL,
+        ),
         (
             "stages = 2",
             "pid r2\naddi r2 r2 1\nfaa r3 r0 r2\nhalt\n",
             traces::TWO_LEVEL_TREE,
+            orders::TWO_LEVEL_TREE,
         ),
         (
             "stages = 2\nrequest_places = 2\nwait_places = 0",
             ADDS_ONE,
             traces::NARROW_REQUEST_QUEUES,
+            orders::NARROW_REQUEST_QUEUES,
         ),
         (
             "stages = 2",
             "pid r1\naddi r5 r1 1\njz r1 a\nld r6 r5\na:\nfaa r7 r3 r5\nhalt\n",
             traces::MARKED_ONCE,
+            orders::MARKED_ONCE,
         ),
         (
             "stages = 2",
             "pid r1\nld r13 r1\nld r8 r0\nhalt\n",
             traces::IDENTITY_NOT_CELL,
+            orders::IDENTITY_NOT_CELL,
         ),
         (
             "stages = 2\nrequest_places = 5\nwait_places = 1\nopen = 3",
             "li r5 5\nli r8 25\nst r7 r6\nfaa r13 r8 r8\nst r5 r6\nhalt\n",
             traces::FRONTMOST,
+            orders::FRONTMOST,
         ),
     ] {
-        check_run(&rt, settings.as_bytes(), program.as_bytes(), (0, trace, ""))?;
+        check_worked(&rt, settings, program, trace, order)?;
     }
     Ok(())
 }
@@ -404,6 +472,73 @@ fn programs_are_refused(rt: HostRuntime) -> Result<(), Fail> {
     )
 }
 
+/// Inputs that `ultra order c.toml p.s` refuses.
+#[test]
+fn orders_are_refused(rt: HostRuntime) -> Result<(), Fail> {
+    for (settings, program, line) in [
+        ("stages = 0", "halt", "ultra: c.toml: bad stages\n"),
+        ("stages", "halt", "ultra: c.toml: not toml\n"),
+        (
+            "stages = 1\nworkers = 2",
+            "halt",
+            "ultra: c.toml: unknown key\n",
+        ),
+        (
+            "stages = 1",
+            "halt\nfoo\n",
+            "ultra: p.s: line 2: unknown word\n",
+        ),
+    ] {
+        check_command(
+            &rt,
+            &ORDER,
+            settings.as_bytes(),
+            program.as_bytes(),
+            (3, "", line),
+        )?;
+    }
+    Ok(())
+}
+
+/// The program of `long_orders_are_written_in_pieces`: one processing element loads cell 0 so often.
+fn many_loads<R: AllocGlobal>(rt: &R, count: usize) -> Result<String, Fail> {
+    let mut program = String::from_str(rt.alloc(), "pid r1\njnz r1 end\n")?;
+    program.push_str("ld r3 r0\n".repeat(rt.alloc(), count)?.as_str())?;
+    program.push_str("end:\nhalt\n")?;
+    Ok(program)
+}
+
+/// An order of more bytes than are written at once; then where standard output fails at its second write.
+#[test]
+fn long_orders_are_written_in_pieces(rt: HostRuntime) -> Result<(), Fail> {
+    let settings = b"stages = 1\ncycles = 3000";
+    let program = many_loads(&rt, 300)?;
+    let mut order = String::new(rt.alloc());
+    for number in 0..300 {
+        order.push_str(format!(in rt.alloc(); "0.{number} load 0 = 0\n")?.as_str())?;
+    }
+    let wanted = (0, order.as_str(), "");
+    check_command(&rt, &ORDER, settings, program.as_bytes(), wanted)?;
+    let files: [(&str, &[u8]); 2] = [("c.toml", settings), ("p.s", program.as_bytes())];
+    let mut shelf = Shelf {
+        files: &files,
+        account: Account::Opened,
+    };
+    let mut out = Tray {
+        bytes: Vec::new(rt.alloc()),
+        failures: Account::Opened,
+        most: usize::MAX,
+        sound_writes: 1,
+    };
+    let mut err = Tray::new(rt.alloc());
+    let status = main_with(&rt, &ORDER, &mut shelf, &mut out, &mut err);
+    assert_eq!(rt; status, 5);
+    assert_eq!(rt; err.text()?, "ultra: write failed\n");
+    assert!(rt; order.as_str().starts_with(out.text()?));
+    assert!(rt; out.bytes.len() >= 4096);
+    Ok(())
+}
+
 /// Files are read in the order of the words, and each is accepted before the next is read.
 #[test]
 fn files_are_read_in_order(rt: HostRuntime) -> Result<(), Fail> {
@@ -433,7 +568,7 @@ fn wrong_words_are_usage_faults(rt: HostRuntime) -> Result<(), Fail> {
         &["ultra", "run", "c.toml"],
         &["ultra", "run", "c.toml", "p.s", "q.s"],
         &["ultra", "run", "c.toml", "p.s", "--workers", "2"],
-        &["ultra", "order", "c.toml", "p.s"],
+        &["ultra", "order", "c.toml"],
         &["ultra", "explain", "c.toml", "p.s"],
         &["ultra", "list"],
         &[
@@ -458,7 +593,12 @@ fn wrong_words_are_usage_faults(rt: HostRuntime) -> Result<(), Fail> {
 #[test]
 fn help_goes_to_standard_output(rt: HostRuntime) -> Result<(), Fail> {
     let ended = call(&rt, &["ultra", "--help"], &[]);
-    assert!(rt; ended.out.text()?.contains("Usage: ultra"));
+    let text = ended.out.text()?;
+    assert!(rt; text.contains("Usage: ultra"), "{text}");
+    for command in ["run", "order", "list"] {
+        let line = format!(in rt.alloc(); "\n  {command} ")?;
+        assert!(rt; text.contains(line.as_str()), "{text}");
+    }
     assert!(rt; ended.err.bytes.is_empty());
     assert_eq!(rt; ended.status, 0);
     Ok(())
@@ -488,6 +628,8 @@ fn short_failing_sink<R: AllocGlobal + Abort>(rt: &R, words: &[&str]) -> Result<
 fn a_beginning_is_written_to_a_short_failing_sink(rt: HostRuntime) -> Result<(), Fail> {
     let trace = short_failing_sink(&rt, &RUN)?;
     assert_eq!(rt; trace.as_str(), "ultra tr");
+    let order = short_failing_sink(&rt, &ORDER)?;
+    assert_eq!(rt; order.as_str(), "1.0 faa ");
     let help = short_failing_sink(&rt, &["ultra", "--help"])?;
     assert_eq!(rt; help.len(), 8);
     Ok(())

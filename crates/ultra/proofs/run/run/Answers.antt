@@ -1,49 +1,18 @@
 -- how each exit of a run is one of the ways in which a run fails
-use Rattle.std.proofs.Common.{◌≡◌, ◌∙◌, List, ◌++◌, ◌∷◌, [], append_assoc, ap, inl, inr, refl}
+use Rattle.std.proofs.Common.{inl, inr, refl}
 use Rattle.std.proofs.lemmas.Result.{err_from_is_err_and}
-use Rattle.ultra.specs.Account.{file_of}
-use Rattle.ultra.specs.Outcome.{traffic, refused_settings, unread_program, refused_program, stopped}
+use Rattle.ultra.specs.Outcome.{refused, stopped}
 use Rattle.ultra.proofs.run.run.Goals as goal
-
--- a list with one more element, and then another
-one_then_one : {A : Type 0} (x y : A) (xs ys zs : List A) → ys ≡ xs ++ x ∷ [] → zs ≡ ys ++ y ∷ [] → zs ≡ xs ++ x ∷ y ∷ []
-one_then_one x y xs ys zs e f = f ∙ ap (λ us. us ++ y ∷ []) e ∙ append_assoc xs (x ∷ []) (y ∷ [])
 
 pub returns-in_err-config-clause-err : goal.returns-in_err-config-clause-err
 returns-in_err-config-clause-err g c =
-    let p = err_from_is_err_and c.from_residual-in_err-config.result c.from_residual-in_err-config.ensures.1 in
-    let text = c.as_slice.result.now in
-    let e : g.F.Source.files c.read_file.new.source ≡ g.F.Source.files c.args.source.now ++ file_of c.args.settings_path.now text ∷ [] = rw c.as_slice.ensures.value c.in_ok-settings.ensures.ok in
-    rw (p.1, p.2) (refused_settings text c.in_err-config.ensures.err (ap (λ files. traffic files (g.O.Sink.taken c.args.out.now)) e))
-
-pub returns-in_err-text-clause-err : goal.returns-in_err-text-clause-err
-returns-in_err-text-clause-err g c =
-    let p = err_from_is_err_and c.from_residual-in_err-text.result c.from_residual-in_err-text.ensures.1 in
-    let text = c.as_slice.result.now in
-    let e : g.F.Source.files c.read_file-2.new.source ≡ g.F.Source.files c.args.source.now ++ file_of c.args.settings_path.now text ∷ [] = rw (c.as_slice.ensures.value, c.in_err-text.ensures.none) c.in_ok-settings.ensures.ok in
-    rw (p.1, p.2) (unread_program text c.in_ok-config.config c.in_ok-config.ensures.ok c.in_err-text.ensures.err (ap (λ files. traffic files (g.O.Sink.taken c.args.out.now)) e))
-
-pub returns-in_err-program-clause-err : goal.returns-in_err-program-clause-err
-returns-in_err-program-clause-err g c =
-    let p = err_from_is_err_and c.from_residual-in_err-program.result c.from_residual-in_err-program.ensures.1 in
-    let text = c.as_slice.result.now in
-    let program_text = c.as_slice-2.result.now in
-    let e : g.F.Source.files c.read_file.new.source ≡ g.F.Source.files c.args.source.now ++ file_of c.args.settings_path.now text ∷ [] = rw c.as_slice.ensures.value c.in_ok-settings.ensures.ok in
-    let f : g.F.Source.files c.read_file-2.new.source ≡ g.F.Source.files c.read_file.new.source ++ file_of c.args.program_path.now program_text ∷ [] = rw c.as_slice-2.ensures.value c.in_ok-text.ensures.ok in
-    rw (p.1, p.2) (refused_program text program_text c.in_ok-config.config c.in_ok-config.ensures.ok c.in_err-program.ensures.err (ap (λ files. traffic files (g.O.Sink.taken c.args.out.now)) (one_then_one _ _ _ _ _ e f)))
+    let p = err_from_is_err_and c.from_residual.result c.from_residual.ensures.1 in
+    rw (p.1, p.2) (refused c.in_err-config.ensures.err refl)
 
 pub returns-in-Err-Write-clause-err : goal.returns-in-Err-Write-clause-err
 returns-in-Err-Write-clause-err g c =
-    let text = c.as_slice.result.now in
-    let program_text = c.as_slice-2.result.now in
-    let e : g.F.Source.files c.read_file.new.source ≡ g.F.Source.files c.args.source.now ++ file_of c.args.settings_path.now text ∷ [] = rw c.as_slice.ensures.value c.in_ok-settings.ensures.ok in
-    let f : g.F.Source.files c.read_file-2.new.source ≡ g.F.Source.files c.read_file.new.source ++ file_of c.args.program_path.now program_text ∷ [] = rw c.as_slice-2.ensures.value c.in_ok-text.ensures.ok in
-    stopped text program_text c.in_ok-config.config c.in_ok-program.program c.in_ok-config.ensures.ok c.in_ok-program.ensures.ok (inr refl) (one_then_one _ _ _ _ _ e f) c.in-Err-Write.ensures.err
+    stopped c.in_ok-config.field-0.config c.in_ok-config.field-0.program c.in_ok-config.ensures.ok (inr refl) c.in-Err-Write.ensures.err
 
 pub returns-clause-err : goal.returns-clause-err
 returns-clause-err g c =
-    let text = c.as_slice.result.now in
-    let program_text = c.as_slice-2.result.now in
-    let e : g.F.Source.files c.read_file.new.source ≡ g.F.Source.files c.args.source.now ++ file_of c.args.settings_path.now text ∷ [] = rw c.as_slice.ensures.value c.in_ok-settings.ensures.ok in
-    let f : g.F.Source.files c.read_file-2.new.source ≡ g.F.Source.files c.read_file.new.source ++ file_of c.args.program_path.now program_text ∷ [] = rw c.as_slice-2.ensures.value c.in_ok-text.ensures.ok in
-    stopped text program_text c.in_ok-config.config c.in_ok-program.program c.in_ok-config.ensures.ok c.in_ok-program.ensures.ok (inl refl) (one_then_one _ _ _ _ _ e f) c.in-Err-NoMemory.ensures.err
+    stopped c.in_ok-config.field-0.config c.in_ok-config.field-0.program c.in_ok-config.ensures.ok (inl refl) c.in-Err-NoMemory.ensures.err
