@@ -33,6 +33,7 @@ pub fn run<'p, F: Source, O: Sink>(
     match run_alone(alloc, &config, &program, out) {
         Ok(()) => Ok(()),
         Err(RunFault::Write) => Err(Failure::NotWritten),
+        Err(RunFault::NoThread) => unreachable!(),
         Err(RunFault::NoMemory) => Err(Failure::NoMemory),
     }
 }
