@@ -5,14 +5,15 @@ use Rattle.ultra_block.specs.RoomTable.{RoomTable}
 use Rattle.ultra_block.specs.MailTable.{MailTable}
 use Rattle.ultra_block.specs.BlockState.{BlockState}
 use Rattle.ultra_block.specs.Making.{CanMake, made}
-use Rattle.ultra_block.specs.Cycle.{noted, exchanged, mailed, first_rooms, first_mail, with_replies_come, with_requests_come, with_requests_taken, with_steps_made, second_rooms, second_mail}
+use Rattle.ultra_block.specs.Cycle.{noted, exchanged, first_rooms, with_replies_sent, with_replies_come, with_requests_sent, with_requests_come, with_requests_taken, with_steps_made, second_rooms}
+use Rattle.ultra_block.specs.Exchange.{CanExchange}
 use Rattle.ultra_block.specs.Phases.{cycle as next_cycle}
 use Rattle.ultra_block.specs.BlocksState.{machine_of, IsWhole}
 use Rattle.ultra_block.specs.Course.{IsAt}
 use Rattle.ultra_block.specs.declared.half.Half.{Half}
 use Rattle.ultra_block.specs.declared.half.Half.TheVariants.{SendReplies, TakeReplies, Serve, SendRequests, TakeRequests, Execute}
 use Rattle.ultra_block.specs.declared.blocks.Blocks.{Blocks}
-use Rattle.ultra_block.proofs.CutCycle.{can_take_replies, can_take_requests, can_execute, cycle_is, ready_again}
+use Rattle.ultra_block.proofs.CutCycle.{can_exchange_replies, can_exchange_requests, can_take_replies, can_take_requests, can_execute, cycle_is, ready_again}
 
 -- ---- the steps
 abbrev pub AfterNotes : Blocks → Blocks → Type 0
@@ -24,17 +25,14 @@ BlocksAlone b new = new ≡ record b { blocks = new.blocks }
 abbrev pub AfterHalf : Half → Blocks → Blocks → Type 0
 AfterHalf half b new = new.blocks.items ≡ map (made half b.rooms b.program) b.blocks.items
 
-abbrev pub MailAlone : Blocks → Blocks → Type 0
-MailAlone b new = new ≡ record b { blocks = new.blocks; mail = mailed b.blocks.items b.mail }
-
 abbrev pub AfterExchange : Blocks → Blocks → Type 0
 AfterExchange b new = new.blocks.items ≡ exchanged b.blocks.items b.mail
 
-pub at_first : (old : Blocks) → IsAt old old.blocks.items old.rooms old.mail old
+pub at_first : (old : Blocks) → IsAt old old.blocks.items old.rooms old
 at_first old = record { config = refl; program = refl; homes = refl; done = refl; blocks = refl; rooms = refl; mail = refl }
 
-module _ {old b : Blocks} {bs : List BlockState} {rooms : RoomTable} {mail : MailTable} (at : IsAt old bs rooms mail b) (new : Blocks) where
-  pub after_notes : AfterNotes b new → IsAt old bs (noted bs rooms) mail new
+module _ {old b : Blocks} {bs : List BlockState} {rooms : RoomTable} (at : IsAt old bs rooms b) (new : Blocks) where
+  pub after_notes : AfterNotes b new → IsAt old bs (noted bs rooms) new
   after_notes e = record {
     config = ap (λ (x : Blocks). x.config) e ∙ at.config;
     program = ap (λ (x : Blocks). x.program) e ∙ at.program;
@@ -45,7 +43,7 @@ module _ {old b : Blocks} {bs : List BlockState} {rooms : RoomTable} {mail : Mai
     mail = ap (λ (x : Blocks). x.mail) e ∙ at.mail;
   }
 
-  pub after_half : (half : Half) → BlocksAlone b new → AfterHalf half b new → IsAt old (map (made half rooms old.program) bs) rooms mail new
+  pub after_half : (half : Half) → BlocksAlone b new → AfterHalf half b new → IsAt old (map (made half rooms old.program) bs) rooms new
   after_half half e f = record {
     config = ap (λ (x : Blocks). x.config) e ∙ at.config;
     program = ap (λ (x : Blocks). x.program) e ∙ at.program;
@@ -56,7 +54,7 @@ module _ {old b : Blocks} {bs : List BlockState} {rooms : RoomTable} {mail : Mai
     mail = ap (λ (x : Blocks). x.mail) e ∙ at.mail;
   }
 
-  pub after_exchange : MailAlone b new → AfterExchange b new → IsAt old (exchanged bs mail) rooms (mailed bs mail) new
+  pub after_exchange : BlocksAlone b new → AfterExchange b new → IsAt old (exchanged bs old.mail) rooms new
   after_exchange e f = record {
     config = ap (λ (x : Blocks). x.config) e ∙ at.config;
     program = ap (λ (x : Blocks). x.program) e ∙ at.program;
@@ -64,22 +62,35 @@ module _ {old b : Blocks} {bs : List BlockState} {rooms : RoomTable} {mail : Mai
     done = ap (λ (x : Blocks). x.done) e ∙ at.done;
     blocks = f ∙ ap (λ xs. exchanged xs b.mail) at.blocks ∙ ap (λ m. exchanged bs m) at.mail;
     rooms = ap (λ (x : Blocks). x.rooms) e ∙ at.rooms;
-    mail = ap (λ (x : Blocks). x.mail) e ∙ ap (λ xs. mailed xs b.mail) at.blocks ∙ ap (λ m. mailed bs m) at.mail;
+    mail = ap (λ (x : Blocks). x.mail) e ∙ at.mail;
   }
 
 -- ---- several steps: rooms are noted, replies are sent and exchanged
-pub replies_come : (old noting sent come : Blocks) → AfterNotes old noting → BlocksAlone noting sent → AfterHalf SendReplies noting sent → MailAlone sent come → AfterExchange sent come
-    → IsAt old (with_replies_come old.blocks.items old.rooms old.mail) (first_rooms old.blocks.items old.rooms old.mail) (first_mail old.blocks.items old.rooms old.mail) come
+pub replies_leave : (old noting sent : Blocks) → AfterNotes old noting → BlocksAlone noting sent → AfterHalf SendReplies noting sent
+    → IsAt old (with_replies_sent old.blocks.items old.rooms old.mail) (first_rooms old.blocks.items old.rooms old.mail) sent
+replies_leave old noting sent n s s' = after_half (after_notes (at_first old) noting n) sent SendReplies s s'
+
+pub replies_come : (old noting sent come : Blocks) → AfterNotes old noting → BlocksAlone noting sent → AfterHalf SendReplies noting sent → BlocksAlone sent come → AfterExchange sent come
+    → IsAt old (with_replies_come old.blocks.items old.rooms old.mail) (first_rooms old.blocks.items old.rooms old.mail) come
 replies_come old noting sent come n s s' x x' = after_exchange (after_half (after_notes (at_first old) noting n) sent SendReplies s s') come x x'
 
 -- replies are taken, modules serve, rooms are noted, requests are sent and exchanged
 pub requests_come : (old come taken memory noting sent asked : Blocks)
-    → IsAt old (with_replies_come old.blocks.items old.rooms old.mail) (first_rooms old.blocks.items old.rooms old.mail) (first_mail old.blocks.items old.rooms old.mail) come
+    → IsAt old (with_replies_come old.blocks.items old.rooms old.mail) (first_rooms old.blocks.items old.rooms old.mail) come
     → BlocksAlone come taken → AfterHalf TakeReplies come taken → BlocksAlone taken memory → AfterHalf Serve taken memory
-    → AfterNotes memory noting → BlocksAlone noting sent → AfterHalf SendRequests noting sent → MailAlone sent asked → AfterExchange sent asked
-    → IsAt old (with_requests_come old.blocks.items old.rooms old.mail) (second_rooms old.blocks.items old.rooms old.mail) (second_mail old.blocks.items old.rooms old.mail) asked
+    → AfterNotes memory noting → BlocksAlone noting sent → AfterHalf SendRequests noting sent → BlocksAlone sent asked → AfterExchange sent asked
+    → IsAt old (with_requests_come old.blocks.items old.rooms old.mail) (second_rooms old.blocks.items old.rooms old.mail) asked
 requests_come old come taken memory noting sent asked at t t' v v' n s s' x x' =
     after_exchange (after_half (after_notes (after_half (after_half at taken TakeReplies t t') memory Serve v v') noting n) sent SendRequests s s') asked x x'
+
+-- replies are taken, modules serve, rooms are noted, requests are sent
+pub requests_leave : (old come taken memory noting sent : Blocks)
+    → IsAt old (with_replies_come old.blocks.items old.rooms old.mail) (first_rooms old.blocks.items old.rooms old.mail) come
+    → BlocksAlone come taken → AfterHalf TakeReplies come taken → BlocksAlone taken memory → AfterHalf Serve taken memory
+    → AfterNotes memory noting → BlocksAlone noting sent → AfterHalf SendRequests noting sent
+    → IsAt old (with_requests_sent old.blocks.items old.rooms old.mail) (second_rooms old.blocks.items old.rooms old.mail) sent
+requests_leave old come taken memory noting sent at t t' v v' n s s' =
+    after_half (after_notes (after_half (after_half at taken TakeReplies t t') memory Serve v v') noting n) sent SendRequests s s'
 
 -- ---- what each half asks: in the course of a cycle it is so
 module _ (old b : Blocks) (whole : IsWhole old) where
@@ -92,17 +103,25 @@ module _ (old b : Blocks) (whole : IsWhole old) where
   abbrev mail : MailTable
   mail = old.mail
 
-  pub replies_may_come : (r : RoomTable) (m : MailTable) → IsAt old (with_replies_come bs rooms mail) r m b → All (CanMake TakeReplies) b.blocks.items
-  replies_may_come r m at = subst (λ xs. All (CanMake TakeReplies) xs) (sym at.blocks) (can_take_replies old.config old.homes.items old.done bs rooms mail whole)
+  pub replies_may_be_exchanged : (r : RoomTable) → IsAt old (with_replies_sent bs rooms mail) r b → CanExchange b.config.stages b.homes.items b.blocks.items b.mail
+  replies_may_be_exchanged r at =
+      rw (at.config, ap (λ v. v.items) at.homes, at.blocks, at.mail) (can_exchange_replies old.config old.homes.items old.done bs rooms mail whole)
 
-  pub requests_may_come : (r : RoomTable) (m : MailTable) → IsAt old (with_requests_come bs rooms mail) r m b → All (CanMake TakeRequests) b.blocks.items
-  requests_may_come r m at = subst (λ xs. All (CanMake TakeRequests) xs) (sym at.blocks) (can_take_requests old.config old.homes.items old.done bs rooms mail whole)
+  pub requests_may_be_exchanged : (r : RoomTable) → IsAt old (with_requests_sent bs rooms mail) r b → CanExchange b.config.stages b.homes.items b.blocks.items b.mail
+  requests_may_be_exchanged r at =
+      rw (at.config, ap (λ v. v.items) at.homes, at.blocks, at.mail) (can_exchange_requests old.config old.homes.items old.done bs rooms mail whole)
 
-  pub steps_may_be_made : old.done < 2 ^ 32 - 1 → (r : RoomTable) (m : MailTable) → IsAt old (with_requests_taken bs rooms mail) r m b → All (CanMake Execute) b.blocks.items
-  steps_may_be_made h r m at = subst (λ xs. All (CanMake Execute) xs) (sym at.blocks) (can_execute old.config old.homes.items old.done bs rooms mail whole h)
+  pub replies_may_come : (r : RoomTable) → IsAt old (with_replies_come bs rooms mail) r b → All (CanMake TakeReplies) b.blocks.items
+  replies_may_come r at = subst (λ xs. All (CanMake TakeReplies) xs) (sym at.blocks) (can_take_replies old.config old.homes.items old.done bs rooms mail whole)
+
+  pub requests_may_come : (r : RoomTable) → IsAt old (with_requests_come bs rooms mail) r b → All (CanMake TakeRequests) b.blocks.items
+  requests_may_come r at = subst (λ xs. All (CanMake TakeRequests) xs) (sym at.blocks) (can_take_requests old.config old.homes.items old.done bs rooms mail whole)
+
+  pub steps_may_be_made : old.done < 2 ^ 32 - 1 → (r : RoomTable) → IsAt old (with_requests_taken bs rooms mail) r b → All (CanMake Execute) b.blocks.items
+  steps_may_be_made h r at = subst (λ xs. All (CanMake Execute) xs) (sym at.blocks) (can_execute old.config old.homes.items old.done bs rooms mail whole h)
 
   -- ---- the end of the cycle
-  module _ (new : Blocks) (at : IsAt old (with_steps_made bs rooms mail old.program) (second_rooms bs rooms mail) (second_mail bs rooms mail) b) (counted : new ≡ record b { done = b.done + 1 }) where
+  module _ (new : Blocks) (at : IsAt old (with_steps_made bs rooms mail old.program) (second_rooms bs rooms mail) b) (counted : new ≡ record b { done = b.done + 1 }) where
     homes_same : new.homes.items ≡ old.homes.items
     homes_same = ap (λ (x : Blocks). x.homes.items) counted ∙ ap (λ v. v.items) at.homes
 
@@ -121,7 +140,7 @@ module _ (old b : Blocks) (whole : IsWhole old) where
     rooms_now : new.rooms ≡ second_rooms bs rooms mail
     rooms_now = ap (λ (x : Blocks). x.rooms) counted ∙ at.rooms
 
-    mail_now : new.mail ≡ second_mail bs rooms mail
+    mail_now : new.mail ≡ mail
     mail_now = ap (λ (x : Blocks). x.mail) counted ∙ at.mail
 
     pub makes_cycle : machine_of new ≡ next_cycle old.config old.program (machine_of old)

@@ -16,20 +16,25 @@ use Rattle.ultra_block.specs.ElementSteps as element
 use Rattle.ultra_block.specs.BlockState.{BlockState}
 use Rattle.ultra_block.specs.BlockSteps as block
 use Rattle.ultra_block.specs.Whole.{Units, whole, deliveries, servings, all_combined, issues, all_stops}
-use Rattle.ultra_block.specs.Cut.{no_block, no_switch, no_module, no_element, units_of, switches_of, modules_of, elements_of, units_at, HasPlaces, HasLinks, AreDone}
+use Rattle.ultra_block.specs.Cut.{no_block, no_switch, no_module, no_element, units_of, switches_of, modules_of, elements_of, units_at, HasPlaces, AreDone}
+use Rattle.ultra_block.specs.Boxes.{AreClear}
+use Rattle.ultra_block.specs.Exchange.{CanExchange}
 use Rattle.ultra_block.specs.Cycle as cycle
 use Rattle.ultra_block.specs.Kinds.{is_combination}
 use Rattle.ultra_block.specs.Ready.{all_events, machine_from, IsReady}
 use Rattle.ultra_block.specs.declared.home.Home.{Home}
+use Rattle.ultra_block.specs.declared.switch_unit.SwitchUnit.{SwitchUnit}
+use Rattle.ultra_block.specs.declared.module_unit.ModuleUnit.{ModuleUnit}
+use Rattle.ultra_block.specs.declared.element_unit.ElementUnit.{ElementUnit}
 use Rattle.ultra_block.proofs.Sound.{sound-reply_phase, sound-memory_phase, cycle_is_sound}
-use Rattle.ultra_block.proofs.Entries.{length-written}
-use Rattle.ultra_block.proofs.Noted.{each_switch, each_module, each_element, all_noted}
+use Rattle.ultra_block.proofs.Boxes.{clear_after_replies, clear_after_requests, clear_after_steps, clear_alike, housed, await_replies, await_requests}
+use Rattle.ultra_block.proofs.Noted.{each_switch, each_module, each_element, all_noted, still_places}
 use Rattle.ultra_block.proofs.Passing.{AreNoted, replies_sent, replies_exchanged, replies_taken, served, requests_sent, requests_exchanged, requests_taken, exchanged, executed}
 use Rattle.ultra_block.proofs.Alike.{AreAlike, whole_alike, deliveries_alike, servings_alike, combined_alike, issues_alike, stops_alike, kinds_alike}
 use Rattle.ultra_block.proofs.Likewise.{and_then, replies_taken_likewise, requests_taken_likewise, exchanged_likewise}
 use Rattle.ultra_block.proofs.Admitted.{switch_takes_replies, element_takes_replies, switch_takes_requests, module_takes_requests}
 use Rattle.ultra_block.proofs.CutHalves.{Stands, StandsAs, replies_sent_there, replies_taken_there, served_there, requests_sent_there, requests_taken_there, executed_there}
-use Rattle.ultra_block.proofs.Exchanged.{exchanged_there, still_linked}
+use Rattle.ultra_block.proofs.Exchanged.{exchanged_there}
 use Rattle.ultra_block.proofs.OfKind.{combined_kinds, issue_kinds}
 use Rattle.ultra_block.proofs.ReplyPlaces.{replied_is}
 use Rattle.ultra_block.proofs.RequestPlaces.{requested_is}
@@ -72,6 +77,10 @@ module _ (c : Settings) (u : Units) where
   unfolding deliveries
   served_deliveries = refl
 
+-- what modules do to units that are alike is alike
+served_likewise : (c : Settings) (u v : Units) → AreAlike c u v → AreAlike c (served u) (served v)
+served_likewise c u v a = record { switches = a.switches; modules = λ k hk. ap (λ b. bank.serves b) (a.modules k hk); elements = a.elements }
+
 every : {X : Type 0} (P : X → Type 0) (none : X) (xs : List X) → ((k : ℕ) → k < length xs → P (get_or xs k none)) → All P xs
 every P none xs f k d h = subst P (get_or_default xs k none d h) (f k h)
 
@@ -112,9 +121,6 @@ module _ (c : Settings) (homes : List Home) (n : ℕ) (bs : List BlockState) (ro
   abbrev rooms2 : RoomTable
   rooms2 = cycle.second_rooms bs rooms mail
 
-  abbrev mail1 : MailTable
-  mail1 = cycle.first_mail bs rooms mail
-
   abbrev m0 : Machine
   m0 = machine_from c (at bs) n
 
@@ -133,6 +139,14 @@ module _ (c : Settings) (homes : List Home) (n : ℕ) (bs : List BlockState) (ro
 
   come2 : AreAlike c (at b2) (exchanged c (replies_sent rooms1 (at bs)))
   come2 = and_then c (at b2) (exchanged c (at b1)) (exchanged c (replies_sent rooms1 (at bs))) as2.alike (exchanged_likewise c low high (at b1) (replies_sent rooms1 (at bs)) as1.alike)
+
+  pub can_exchange_replies : CanExchange c.stages homes b1 mail
+  can_exchange_replies = record {
+    housed = housed c low high homes n b1 as1.stands ready.count;
+    replies = await_replies c low high homes n b1 as1.stands (at bs) (λ s k hs hk. ap (λ (w : SwitchUnit). w.replies_in) (as1.alike.switches s k hs hk)) (λ p hp. ap (λ (e : ElementUnit). e.reply_in) (as1.alike.elements p hp)) ready.boxes;
+    requests = await_requests c low high homes n b1 as1.stands (at bs) (λ s k hs hk. ap (λ (w : SwitchUnit). w.requests_in) (as1.alike.switches s k hs hk)) (λ k hk. ap (λ (b : ModuleUnit). b.request_in) (as1.alike.modules k hk)) ready.boxes;
+    links = ready.links;
+  }
 
   pub can_take_replies : All block.CanTakeReplies b2
   can_take_replies =
@@ -184,11 +198,7 @@ module _ (c : Settings) (homes : List Home) (n : ℕ) (bs : List BlockState) (ro
 
   -- ---- requests
   places1 : HasPlaces c.stages rooms1
-  places1 = record {
-    replies = length-written (flat_map block.reply_notes bs) rooms.replies ∙ ready.places.replies;
-    requests = length-written (flat_map block.request_notes bs) rooms.requests ∙ ready.places.requests;
-    modules = length-written (flat_map block.module_notes bs) rooms.modules ∙ ready.places.modules;
-  }
+  places1 = still_places c low high homes bs ready.cut n ready.fit rooms ready.places
 
   noted4 : AreNoted c (at b4) rooms2
   noted4 = all_noted c low high homes b4 as4.stands.cut n as4.stands.fit rooms1 places1
@@ -196,14 +206,25 @@ module _ (c : Settings) (homes : List Home) (n : ℕ) (bs : List BlockState) (ro
   as5 : StandsAs c low high homes n (requests_sent rooms2 (at b4)) b5
   as5 = requests_sent_there c low high homes n b4 rooms2 as4.stands
 
-  links1 : HasLinks c.stages mail1
-  links1 = still_linked c low high homes n b1 as1.stands mail ready.links
-
   as6 : StandsAs c low high homes n (exchanged c (at b5)) b6
-  as6 = exchanged_there c low high homes n b5 as5.stands mail1 links1
+  as6 = exchanged_there c low high homes n b5 as5.stands mail ready.links
 
   come6 : AreAlike c (at b6) (exchanged c (requests_sent rooms2 (at b4)))
   come6 = and_then c (at b6) (exchanged c (at b5)) (exchanged c (requests_sent rooms2 (at b4))) as6.alike (exchanged_likewise c low high (at b5) (requests_sent rooms2 (at b4)) as5.alike)
+
+  clear4 : AreClear c (at b4)
+  clear4 =
+      let taken = clear_after_replies c low high (at bs) rooms1 ready.boxes in
+      clear_alike c low high (at b4) (served (at b3)) as4.alike
+      (clear_alike c low high (served (at b3)) (served (replies_taken (exchanged c (replies_sent rooms1 (at bs))))) (served_likewise c (at b3) (replies_taken (exchanged c (replies_sent rooms1 (at bs)))) taken3) taken)
+
+  pub can_exchange_requests : CanExchange c.stages homes b5 mail
+  can_exchange_requests = record {
+    housed = housed c low high homes n b5 as5.stands ready.count;
+    replies = await_replies c low high homes n b5 as5.stands (at b4) (λ s k hs hk. ap (λ (w : SwitchUnit). w.replies_in) (as5.alike.switches s k hs hk)) (λ p hp. ap (λ (e : ElementUnit). e.reply_in) (as5.alike.elements p hp)) clear4;
+    requests = await_requests c low high homes n b5 as5.stands (at b4) (λ s k hs hk. ap (λ (w : SwitchUnit). w.requests_in) (as5.alike.switches s k hs hk)) (λ k hk. ap (λ (b : ModuleUnit). b.request_in) (as5.alike.modules k hk)) clear4;
+    links = ready.links;
+  }
 
   pub can_take_requests : All block.CanTakeRequests b6
   can_take_requests =
@@ -290,19 +311,16 @@ module _ (c : Settings) (homes : List Home) (n : ℕ) (bs : List BlockState) (ro
         ∙ executed_is c (at b7) n (events4 ++ all_combined c (at b7)) [] as7.stands.fit program
         ∙ ap (λ m. phase.processor_phase c program m) is7
 
-    pub ready_again : IsReady c homes (n + 1) b8 rooms2 (cycle.second_mail bs rooms mail)
+    pub ready_again : IsReady c homes (n + 1) b8 rooms2 mail
     ready_again = record {
       range = ready.range;
       count = ready.count;
       cut = as8.stands.cut;
       fit = as8.stands.fit;
       done = as8.stands.done;
-      places = record {
-        replies = length-written (flat_map block.reply_notes b4) rooms1.replies ∙ places1.replies;
-        requests = length-written (flat_map block.request_notes b4) rooms1.requests ∙ places1.requests;
-        modules = length-written (flat_map block.module_notes b4) rooms1.modules ∙ places1.modules;
-      };
-      links = still_linked c low high homes n b5 as5.stands mail1 links1;
+      places = still_places c low high homes b4 as4.stands.cut n as4.stands.fit rooms1 places1;
+      links = ready.links;
+      boxes = clear_alike c low high (at b8) v8 as8.alike (clear_after_steps c low high (at b7) program (clear_alike c low high (at b7) v7 taken7 (clear_after_requests c low high (at b4) rooms2 n clear4)));
       kinds = kinds_alike c low high (at b8) v8 as8.alike record {
         combined = subst (λ es. AllByRecursion (λ e. is_combination e ≡ true) es) (sym (executed_combined c (at b7) program ∙ combined_alike c low high (at b7) v7 taken7)) (combined_kinds c (exchanged c (requests_sent rooms2 (at b4))) n);
         issued = issue_kinds c (at b7) program;

@@ -1,5 +1,5 @@
 -- each half of a cycle, done to every block, is done to every unit by its number
-use Rattle.std.proofs.Common.{◌≡◌, ℕ, ◌+◌, ◌*◌, ◌^◌, ◌<◌, ◌≤◌, List, refl, arith, ap, ◌∙◌, sym, length, get_or}
+use Rattle.std.proofs.Common.{◌≡◌, ℕ, ◌+◌, ◌*◌, ◌^◌, ◌<◌, ◌≤◌, List, refl, arith, ap, ◌∙◌, sym, length, get_or, replicate}
 use Rattle.std.specs.Prelude.{map, Option, None}
 use Rattle.std.specs.List.{flat_map}
 use Rattle.std.proofs.lemmas.List.{map-id, length-map, get_or-map}
@@ -35,10 +35,10 @@ use Rattle.ultra_block.proofs.Mailed.{link_even, link_odd, way_even, way_odd, re
 pub acts_send_replies : (bs : List BlockState) (rooms : RoomTable) → ActsOn bs (block.sends_replies rooms) (switch.sends_replies rooms) (bank.sends_replies rooms) (λ e. e)
 acts_send_replies bs rooms = record { switches = λ k h. refl; modules = λ k h. refl; elements = λ k h. sym (map-id (get_or bs k no_block).elements); stage = λ w. refl; index = λ w. refl; number = λ b. refl; pe = λ e. refl }
 
-acts_post_replies : (bs : List BlockState) → ActsOn bs block.posted_replies without_replies_out without_reply_out (λ e. e)
+pub acts_post_replies : (bs : List BlockState) → ActsOn bs block.posted_replies without_replies_out without_reply_out (λ e. e)
 acts_post_replies bs = record { switches = λ k h. refl; modules = λ k h. refl; elements = λ k h. sym (map-id (get_or bs k no_block).elements); stage = λ w. refl; index = λ w. refl; number = λ b. refl; pe = λ e. refl }
 
-acts_fetch_replies : (bs : List BlockState) (mail : MailTable) → ActsOn bs (block.fetches_replies mail) (with_replies_in mail) (λ b. b) (with_reply_in mail)
+pub acts_fetch_replies : (bs : List BlockState) (mail : MailTable) → ActsOn bs (block.fetches_replies mail) (with_replies_in mail) (λ b. b) (with_reply_in mail)
 acts_fetch_replies bs mail = record { switches = λ k h. refl; modules = λ k h. sym (map-id (get_or bs k no_block).modules); elements = λ k h. refl; stage = λ w. refl; index = λ w. refl; number = λ b. refl; pe = λ e. refl }
 
 acts_take_replies : (bs : List BlockState) → ActsOn bs block.takes_replies switch.takes_replies (λ b. b) element.takes_replies
@@ -50,10 +50,10 @@ acts_serve bs = record { switches = λ k h. sym (map-id (get_or bs k no_block).s
 acts_send_requests : (bs : List BlockState) (rooms : RoomTable) → ActsOn bs (block.sends_requests rooms) (switch.sends_requests rooms) (λ b. b) (element.sends_requests rooms)
 acts_send_requests bs rooms = record { switches = λ k h. refl; modules = λ k h. sym (map-id (get_or bs k no_block).modules); elements = λ k h. refl; stage = λ w. refl; index = λ w. refl; number = λ b. refl; pe = λ e. refl }
 
-acts_post_requests : (bs : List BlockState) → ActsOn bs block.posted_requests without_requests_out (λ b. b) without_request_out
+pub acts_post_requests : (bs : List BlockState) → ActsOn bs block.posted_requests without_requests_out (λ b. b) without_request_out
 acts_post_requests bs = record { switches = λ k h. refl; modules = λ k h. sym (map-id (get_or bs k no_block).modules); elements = λ k h. refl; stage = λ w. refl; index = λ w. refl; number = λ b. refl; pe = λ e. refl }
 
-acts_fetch_requests : (bs : List BlockState) (mail : MailTable) → ActsOn bs (block.fetches_requests mail) (with_requests_in mail) (with_request_in mail) (λ e. e)
+pub acts_fetch_requests : (bs : List BlockState) (mail : MailTable) → ActsOn bs (block.fetches_requests mail) (with_requests_in mail) (with_request_in mail) (λ e. e)
 acts_fetch_requests bs mail = record { switches = λ k h. refl; modules = λ k h. refl; elements = λ k h. sym (map-id (get_or bs k no_block).elements); stage = λ w. refl; index = λ w. refl; number = λ b. refl; pe = λ e. refl }
 
 acts_execute : (bs : List BlockState) (program : List Instr) → ActsOn bs (block.executes program) (λ w. w) (λ b. b) (element.executes program)
@@ -157,9 +157,9 @@ module _ (c : Settings) (low : 1 ≤ c.stages) (high : c.stages ≤ 6) (homes : 
     abbrev asked : List BlockState
     asked = map block.posted_requests bs
 
-    module _ (t : List (Option ReplyMessage)) (long : length t ≡ (d + 1) * 2 ^ d) (is : mail.replies ≡ written (flat_map block.reply_entries bs) t) where
+    module _ (t : List (Option ReplyMessage)) (empty : t ≡ replicate ((d + 1) * 2 ^ d) None) (is : mail.replies ≡ written (flat_map block.reply_entries bs) t) where
       on_link : (l x : ℕ) → l ≤ d → x < 2 ^ d → get_or mail.replies (place_number d l x) None ≡ reply_on c (at bs) l x
-      on_link l x hl hx = ap (λ t. get_or t (place_number d l x) None) is ∙ replies_mailed c low high homes bs st.cut n st.fit t long l x hl hx
+      on_link l x hl hx = ap (λ t. get_or t (place_number d l x) None) is ∙ replies_mailed c low high homes bs st.cut n st.fit t empty l x hl hx
 
       replies_alike : AreAlike c (at (map (block.fetches_replies mail) posted)) (replies_exchanged c (at bs))
       replies_alike = record {
@@ -193,9 +193,9 @@ module _ (c : Settings) (low : 1 ≤ c.stages) (high : c.stages ≤ 6) (homes : 
         alike = replies_alike;
       }
 
-    module _ (t : List (Option Request)) (long : length t ≡ (d + 1) * 2 ^ d) (is : mail.requests ≡ written (flat_map block.request_entries bs) t) where
+    module _ (t : List (Option Request)) (empty : t ≡ replicate ((d + 1) * 2 ^ d) None) (is : mail.requests ≡ written (flat_map block.request_entries bs) t) where
       on_way : (l x : ℕ) → l ≤ d → x < 2 ^ d → get_or mail.requests (place_number d l x) None ≡ request_on (at bs) l x
-      on_way l x hl hx = ap (λ t. get_or t (place_number d l x) None) is ∙ requests_mailed c low high homes bs st.cut n st.fit t long l x hl hx
+      on_way l x hl hx = ap (λ t. get_or t (place_number d l x) None) is ∙ requests_mailed c low high homes bs st.cut n st.fit t empty l x hl hx
 
       requests_alike : AreAlike c (at (map (block.fetches_requests mail) asked)) (requests_exchanged c (at bs))
       requests_alike = record {

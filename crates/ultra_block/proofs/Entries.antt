@@ -1,6 +1,6 @@
 -- what a table says after several units wrote their entries: what was written there
-use Rattle.std.proofs.Common.{◌≡◌, ◌≢◌, ℕ, zero, suc, ◌+◌, ◌*◌, ◌/◌, ◌%◌, ◌<◌, List, [], ◌∷◌, ◌++◌, refl, arith, ap, ◌∙◌, sym, length, get_or, set, ◌⊎◌, ⊎_elim, inl, inr}
-use Rattle.std.specs.List.{flat_map, AllByRecursion}
+use Rattle.std.proofs.Common.{◌≡◌, ◌≢◌, ℕ, zero, suc, ◌+◌, ◌*◌, ◌/◌, ◌%◌, ◌<◌, List, [], ◌∷◌, ◌++◌, Bool, true, false, cond, refl, arith, ap, ◌∙◌, sym, length, get_or, set, ◌⊎◌, ⊎_elim, inl, inr}
+use Rattle.std.specs.List.{flat_map, filter, AllByRecursion}
 use Rattle.std.proofs.lemmas.Bool.{cases_eq}
 use Rattle.std.proofs.lemmas.Nat.{div-mul-add, mod-mul-add}
 use Rattle.std.proofs.lemmas.List.{get_or-set_same, get_or-set_other, length-set}
@@ -26,7 +26,7 @@ set_right e t l v d h r (inl a) =
 set_right e t l v d h r (inr k) =
     ⊎_elim (λ a. ap (λ k. get_or (set t k e.1) l d) a ∙ get_or-set_same t l e.1 d h ∙ r a) (λ (b : e.0 ≢ l). get_or-set_other t e.0 l e.1 d (λ x. b (sym x)) ∙ k) (cases_eq e.0 l)
 
-written_keeps : {X : Type 0} (es : List (Entry X)) (t : List X) (l : ℕ) (v d : X) → l < length t → AllByRecursion (IsRight l v) es → get_or t l d ≡ v → get_or (written es t) l d ≡ v
+pub written_keeps : {X : Type 0} (es : List (Entry X)) (t : List X) (l : ℕ) (v d : X) → l < length t → AllByRecursion (IsRight l v) es → get_or t l d ≡ v → get_or (written es t) l d ≡ v
 written_keeps [] t l v d h a k = k
 written_keeps (e ∷ es) t l v d h a k =
     let long : l < length (set t e.0 e.1) = omega (arith, h, length-set t e.0 e.1) in
@@ -40,6 +40,34 @@ written_at (e ∷ es) t l v d h a (inl x) =
 written_at (e ∷ es) t l v d h a (inr x) =
     let long : l < length (set t e.0 e.1) = omega (arith, h, length-set t e.0 e.1) in
     written_at es (set t e.0 e.1) l v d long a.1 x
+
+-- where the table says so already, no entry is wanted
+pub written_where : {X : Type 0} (es : List (Entry X)) (t : List X) (l : ℕ) (v d : X) → l < length t → AllByRecursion (IsRight l v) es → HasEntry l es ⊎ (get_or t l d ≡ v) → get_or (written es t) l d ≡ v
+written_where es t l v d h a (inl x) = written_at es t l v d h a x
+written_where es t l v d h a (inr k) = written_keeps es t l v d h a k
+
+-- ---- of some entries only those that pass a test
+module _ {X : Type 0} (p : Entry X → Bool) where
+  pass_each : (P : Entry X → Type 0) (b : Bool) (e : Entry X) (fs : List (Entry X)) → P e → AllByRecursion P fs → AllByRecursion P (cond b (e ∷ fs) fs)
+  pass_each P true e fs h a = (h, a)
+  pass_each P false e fs h a = a
+
+  pub each_passing : (P : Entry X → Type 0) (es : List (Entry X)) → AllByRecursion P es → AllByRecursion P (filter p es)
+  each_passing P [] a = tt
+  each_passing P (e ∷ es) a = pass_each P (p e) e (filter p es) a.0 (each_passing P es a.1)
+
+  pass_here : (l : ℕ) (b : Bool) (e : Entry X) (fs : List (Entry X)) → b ≡ true → e.0 ≡ l → HasEntry l (cond b (e ∷ fs) fs)
+  pass_here l true e fs t h = inl h
+  pass_here l false e fs t h = cc
+
+  pass_later : (l : ℕ) (b : Bool) (e : Entry X) (fs : List (Entry X)) → HasEntry l fs → HasEntry l (cond b (e ∷ fs) fs)
+  pass_later l true e fs x = inr x
+  pass_later l false e fs x = x
+
+  pub has_passing : (l : ℕ) (v : X) (es : List (Entry X)) → AllByRecursion (IsRight l v) es → HasEntry l es → ((e : Entry X) → e.1 ≡ v → p e ≡ true) → HasEntry l (filter p es)
+  has_passing l v [] a x t = absurd x
+  has_passing l v (e ∷ es) a (inl x) t = pass_here l (p e) e (filter p es) (t e (a.0 x)) x
+  has_passing l v (e ∷ es) a (inr x) t = pass_later l (p e) e (filter p es) (has_passing l v es a.1 x t)
 
 -- ---- of several units
 pub each_of : {X Y : Type 0} (P : Y → Type 0) (g : X → List Y) (xs : List X) (d : X) → ((i : ℕ) → i < length xs → AllByRecursion P (g (get_or xs i d))) → AllByRecursion P (flat_map g xs)

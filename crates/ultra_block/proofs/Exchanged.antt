@@ -1,14 +1,11 @@
 -- the exchange of all messages between the blocks is that between the units
 use Rattle.std.proofs.Common.{ℕ, ◌≤◌, List, refl, ◌∙◌}
-use Rattle.std.specs.List.{flat_map}
 use Rattle.ultra_block.specs.Machine.{Settings}
 use Rattle.ultra_block.specs.MailTable.{MailTable}
 use Rattle.ultra_block.specs.BlockState.{BlockState}
-use Rattle.ultra_block.specs.BlockSteps.{reply_entries, request_entries}
 use Rattle.ultra_block.specs.Cut.{units_at, HasLinks}
 use Rattle.ultra_block.specs.Cycle as cycle
 use Rattle.ultra_block.specs.declared.home.Home.{Home}
-use Rattle.ultra_block.proofs.Entries.{length-written}
 use Rattle.ultra_block.proofs.Passing.{replies_exchanged, exchanged}
 use Rattle.ultra_block.proofs.Likewise.{and_then, requests_exchanged_likewise}
 use Rattle.ultra_block.proofs.CutHalves.{Stands, StandsAs, replies_exchanged_there, requests_exchanged_there}
@@ -20,16 +17,9 @@ module _ (c : Settings) (low : 1 ≤ c.stages) (high : c.stages ≤ 6) (homes : 
   pub exchanged_there : StandsAs c low high homes n (exchanged c (units_at c.stages homes bs)) (cycle.exchanged bs mail)
   exchanged_there =
       let come = cycle.exchanged_replies bs mail in
-      let asked = requests_exchanged_there c low high homes n come answered.stands (cycle.mailed bs mail) mail.requests links.requests refl in
+      let asked = requests_exchanged_there c low high homes n come answered.stands (cycle.mailed_requests come mail) mail.requests links.requests refl in
       record {
         stands = asked.stands;
         alike = and_then c (units_at c.stages homes (cycle.exchanged bs mail)) _ (exchanged c (units_at c.stages homes bs)) asked.alike
             (requests_exchanged_likewise c low high (units_at c.stages homes come) (replies_exchanged c (units_at c.stages homes bs)) answered.alike);
       }
-
-  -- there are as many links as before
-  pub still_linked : HasLinks c.stages (cycle.mailed bs mail)
-  still_linked = record {
-    replies = length-written (flat_map reply_entries bs) mail.replies ∙ links.replies;
-    requests = length-written (flat_map request_entries (cycle.exchanged_replies bs mail)) mail.requests ∙ links.requests;
-  }

@@ -1,3 +1,4 @@
+pub mod IdleSet
 pub mod Each
 pub mod AtPlaces
 pub mod Runs
@@ -51,3 +52,8 @@ pub mod Quiet
 pub mod Parted
 pub mod Recut
 pub mod TakenApart
+pub mod Rest
+pub mod Sparse
+pub mod Boxes
+pub mod Delivered
+pub mod Fetched

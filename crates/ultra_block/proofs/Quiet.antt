@@ -19,7 +19,8 @@ use Rattle.ultra_block.specs.Numbers.{switch_number}
 use Rattle.ultra_block.specs.RoomTable.{RoomTable}
 use Rattle.ultra_block.specs.MailTable.{MailTable}
 use Rattle.ultra_block.specs.Ready.{machine_from, IsReady}
-use Rattle.ultra_block.specs.Quiet.{has_none, quiet_lane, quiet_switch, quiet_module, quiet_element, quiet_block}
+use Rattle.ultra_block.specs.Rest.{has_none}
+use Rattle.ultra_block.specs.Quiet.{quiet_lane, quiet_switch, quiet_module, quiet_element, quiet_block}
 use Rattle.ultra_block.specs.declared.home.Home.{Home}
 use Rattle.ultra_block.specs.declared.switch_unit.SwitchUnit.{SwitchUnit}
 use Rattle.ultra_block.specs.declared.element_unit.ElementUnit.{ElementUnit}

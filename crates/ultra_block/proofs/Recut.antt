@@ -34,6 +34,8 @@ use Rattle.ultra_block.specs.declared.element_unit.ElementUnit.{ElementUnit}
 use Rattle.ultra_block.proofs.Each.{places_at, length-places}
 use Rattle.ultra_block.proofs.Quiet.{right_true}
 use Rattle.ultra_block.proofs.Standing.{number_small}
+use Rattle.ultra_block.specs.Boxes.{AreClear}
+use Rattle.ultra_block.proofs.Boxes.{clear_alike}
 use Rattle.ultra_block.proofs.Alike.{AreAlike, fit_alike, kinds_alike, machine_alike}
 use Rattle.ultra_block.proofs.TakenApart.{count_switches_apart, count_modules_apart, count_elements_apart, switch_apart, module_apart, element_apart, switches_there, modules_there, elements_there}
 use Rattle.ultra_block.proofs.Parted.{count_switches, count_modules, count_elements, settled}
@@ -176,8 +178,8 @@ module _ (c : Settings) (range : AreInRange c) (ps : List ℕ) (all : length ps 
   pub same_machine : machine_from c (units_at d homes bs) n ≡ machine_from c u n
   same_machine = machine_alike c range.some_stages range.most_stages (units_at d homes bs) u same_units n
 
-  pub cut_ready : (rooms : RoomTable) (mail : MailTable) → HasPlaces d rooms → HasLinks d mail → AreOfKind c u → IsSound c (machine_from c u n) → IsReady c homes n bs rooms mail
-  cut_ready rooms mail places links kinds sound = record {
+  pub cut_ready : (rooms : RoomTable) (mail : MailTable) → HasPlaces d rooms → HasLinks d mail → AreClear c u → AreOfKind c u → IsSound c (machine_from c u n) → IsReady c homes n bs rooms mail
+  cut_ready rooms mail places links boxes kinds sound = record {
     range = range;
     count = ap (λ hs. length hs) cut.homes ∙ length-append (first ++ second) third ∙ omega (arith, long_both, long_third);
     cut = record { switches = new_switches.home; modules = new_modules.home; elements = new_elements.home };
@@ -185,6 +187,7 @@ module _ (c : Settings) (range : AreInRange c) (ps : List ℕ) (all : length ps 
     done = cut.done;
     places = places;
     links = links;
+    boxes = clear_alike c range.some_stages range.most_stages (units_at d homes bs) u same_units boxes;
     kinds = kinds_alike c range.some_stages range.most_stages (units_at d homes bs) u same_units kinds;
     sound = subst (λ m. IsSound c m) (sym same_machine) sound;
   }
@@ -254,4 +257,4 @@ module _ (b : Blocks) (old : IsWhole b) (parts : Parts) (sw : parts.switches.ite
 
     pub recut_whole : IsReady c homes b.done new b.rooms b.mail
     recut_whole = cut_ready c old.range ps (partition_count c ps is) (partition_small c ps is) b.done (units_of_blocks b) old.fit parts.switches.items parts.modules.items parts.elements.items count_sw count_mo count_el is_sw is_mo is_el homes new cut
-        b.rooms b.mail old.places old.links old.kinds old.sound
+        b.rooms b.mail old.places old.links old.boxes old.kinds old.sound

@@ -11,6 +11,7 @@ use Rattle.ultra_block.specs.Halves.{ports}
 use Rattle.ultra_block.specs.Fresh.{new_switch, new_module, new_element}
 use Rattle.ultra_block.specs.Ported.{at_port}
 use Rattle.ultra_block.specs.Whole.{Units, both, sized_lane, sized_replies, combined_in, whole, deliveries, servings, all_combined, issues, all_stops, Fit}
+use Rattle.ultra_block.specs.Boxes.{AreClear}
 use Rattle.ultra_block.specs.Kinds.{is_combination, is_issue, AreOfKind}
 use Rattle.ultra_block.specs.Ready.{all_events, machine_from}
 use Rattle.ultra_block.proofs.Each.{length-places}
@@ -73,6 +74,14 @@ module _ (c : Settings) where
   no_issues : issues c new_units ≡ []
   unfolding issues
   no_issues = nothing_present (size c)
+
+  -- and nothing comes or leaves
+  pub clear_new : AreClear c new_units
+  clear_new = record {
+    switches = λ s k hs hk. record { replies_in = refl; replies_out = refl; requests_in = refl; requests_out = refl };
+    modules = λ k hk. record { request_in = refl; reply_out = refl };
+    elements = λ p hp. record { reply_in = refl; request_out = refl };
+  }
 
   pub kinds_new : AreOfKind c new_units
   kinds_new = record {

@@ -22,7 +22,8 @@ use Rattle.ultra_block.specs.declared.element_unit.ElementUnit.{ElementUnit}
 use Rattle.ultra_block.proofs.Housing.{put, keep}
 use Rattle.ultra_block.proofs.Standing.{number_small}
 use Rattle.ultra_block.proofs.Alike.{AreAlike, fit_alike, kinds_alike}
-use Rattle.ultra_block.proofs.Starting.{new_units, starts_alike, fit_new, kinds_new}
+use Rattle.ultra_block.proofs.Boxes.{clear_alike}
+use Rattle.ultra_block.proofs.Starting.{clear_new, new_units, starts_alike, fit_new, kinds_new}
 use Rattle.ultra_block.proofs.Sound.{sound-start}
 
 -- a block that is changed has still made no cycle
@@ -154,6 +155,7 @@ module _ (c : Settings) (range : AreInRange c) (homes : List Home) (bs : List Bl
     done = w.done;
     places = places;
     links = links;
+    boxes = clear_alike c range.some_stages range.most_stages (units_at c.stages homes bs) (new_units c) all_new (clear_new c);
     kinds = kinds_alike c range.some_stages range.most_stages (units_at c.stages homes bs) (new_units c) all_new (kinds_new c);
     sound = subst (λ m. IsSound c m) (sym built_starts) (sound-start c range);
   }

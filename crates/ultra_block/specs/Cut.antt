@@ -1,5 +1,5 @@
 -- the whole machine cut into blocks
-use Rattle.std.specs.Prelude.{◌≡◌, ℕ, ◌+◌, ◌*◌, ◌-◌, ◌^◌, ◌<◌, List, [], None, length, slice_index_or}
+use Rattle.std.specs.Prelude.{◌≡◌, ℕ, ◌+◌, ◌*◌, ◌-◌, ◌^◌, ◌<◌, List, [], None, length, replicate, slice_index_or}
 use Rattle.ultra_switch.specs.Queues.{empty_requests, empty_replies}
 use Rattle.ultra_mem.specs.Serve.{empty_bank}
 use Rattle.ultra_isa.specs.Step.{fresh_core}
@@ -111,15 +111,16 @@ module _ (d : ℕ) (homes : List Home) where
     pub modules : AreHome modules_of bs (2 ^ d) (λ k. module_home k) (λ b. b.number)
     pub elements : AreHome elements_of bs (2 ^ d) (λ p. element_home p) (λ e. e.pe)
 
--- the tables of rooms have a place for each switch, queue and module of d stages, those of messages one for each link
+-- the tables of rooms have a place for each switch, queue and module of d stages
 pub record HasPlaces (d : ℕ) (rooms : RoomTable) : Type 0 where
   pub replies : length rooms.replies ≡ d * 2 ^ (d - 1)
   pub requests : length rooms.requests ≡ d * 2 ^ d
   pub modules : length rooms.modules ≡ 2 ^ d
 
+-- the tables of messages have a place for each link, and nothing is on it
 pub record HasLinks (d : ℕ) (mail : MailTable) : Type 0 where
-  pub replies : length mail.replies ≡ (d + 1) * 2 ^ d
-  pub requests : length mail.requests ≡ (d + 1) * 2 ^ d
+  pub replies : mail.replies ≡ replicate ((d + 1) * 2 ^ d) None
+  pub requests : mail.requests ≡ replicate ((d + 1) * 2 ^ d) None
 
 -- every block has made n cycles
 unfoldable pub AreDone : ℕ → List BlockState → Type 0

@@ -4,16 +4,16 @@ use Rattle.std.specs.List.{flat_map}
 use Rattle.ultra_isa.specs.declared.Instr.{Instr}
 use Rattle.ultra_block.specs.RoomTable.{RoomTable}
 use Rattle.ultra_block.specs.MailTable.{MailTable}
-use Rattle.ultra_block.specs.Tables.{written}
+use Rattle.ultra_block.specs.Tables.{written, all_open}
 use Rattle.ultra_block.specs.BlockState.{BlockState}
 use Rattle.ultra_block.specs.BlockSteps.{reply_notes, request_notes, module_notes, reply_entries, request_entries, sends_replies, posted_replies, fetches_replies, takes_replies, serves, sends_requests, posted_requests, fetches_requests, takes_requests, executes}
 
--- what all blocks note of their rooms, and put onto the links
+-- what all blocks note of their rooms, where before all had room; and what they put onto the links
 abbrev pub noted : List BlockState → RoomTable → RoomTable
 noted bs rooms = record {
-  replies = written (flat_map reply_notes bs) rooms.replies;
-  requests = written (flat_map request_notes bs) rooms.requests;
-  modules = written (flat_map module_notes bs) rooms.modules;
+  replies = written (flat_map reply_notes bs) (all_open rooms.replies);
+  requests = written (flat_map request_notes bs) (all_open rooms.requests);
+  modules = written (flat_map module_notes bs) (all_open rooms.modules);
 }
 
 abbrev pub mailed_replies : List BlockState → MailTable → MailTable
@@ -29,12 +29,9 @@ exchanged_replies bs mail = map (fetches_replies (mailed_replies bs mail)) (map 
 abbrev pub exchanged_requests : List BlockState → MailTable → List BlockState
 exchanged_requests bs mail = map (fetches_requests (mailed_requests bs mail)) (map posted_requests bs)
 
--- every message has: replies and then requests, of which either kind is on its way
+-- every message has: replies and then requests, of which either kind is on its way. The links are then as empty as before
 abbrev pub exchanged : List BlockState → MailTable → List BlockState
-exchanged bs mail = exchanged_requests (exchanged_replies bs mail) (mailed_replies bs mail)
-
-abbrev pub mailed : List BlockState → MailTable → MailTable
-mailed bs mail = mailed_requests (exchanged_replies bs mail) (mailed_replies bs mail)
+exchanged bs mail = exchanged_requests (exchanged_replies bs mail) mail
 
 module _ (bs : List BlockState) (rooms : RoomTable) (mail : MailTable) where
   -- ---- replies and memory
@@ -46,9 +43,6 @@ module _ (bs : List BlockState) (rooms : RoomTable) (mail : MailTable) where
 
   abbrev pub with_replies_come : List BlockState
   with_replies_come = exchanged with_replies_sent mail
-
-  abbrev pub first_mail : MailTable
-  first_mail = mailed with_replies_sent mail
 
   abbrev pub with_replies_taken : List BlockState
   with_replies_taken = map takes_replies with_replies_come
@@ -64,10 +58,7 @@ module _ (bs : List BlockState) (rooms : RoomTable) (mail : MailTable) where
   with_requests_sent = map (sends_requests second_rooms) with_memory_served
 
   abbrev pub with_requests_come : List BlockState
-  with_requests_come = exchanged with_requests_sent first_mail
-
-  abbrev pub second_mail : MailTable
-  second_mail = mailed with_requests_sent first_mail
+  with_requests_come = exchanged with_requests_sent mail
 
   abbrev pub with_requests_taken : List BlockState
   with_requests_taken = map takes_requests with_requests_come

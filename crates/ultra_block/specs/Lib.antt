@@ -35,3 +35,8 @@ pub mod Quiet
 pub mod Making
 pub mod Course
 pub mod Parted
+pub mod IdleSet
+pub mod Rest
+pub mod Boxes
+pub mod Exchange
+pub mod Arriving

@@ -1,16 +1,14 @@
 -- the units of which nothing is on its way or open, and which have stopped
-use Rattle.std.specs.Prelude.{List, Bool, ◌&&◌, ◌==◌, length}
+use Rattle.std.specs.Prelude.{List, Bool, ◌&&◌}
 use Rattle.std.specs.List.{list_all}
 use Rattle.ultra_switch.specs.Queues.{SizedLane}
 use Rattle.ultra_isa.specs.Step.{has_stopped}
 use Rattle.ultra_block.specs.Machine.{is_nothing}
+use Rattle.ultra_block.specs.Rest.{has_none}
 use Rattle.ultra_block.specs.BlockState.{BlockState}
 use Rattle.ultra_block.specs.declared.switch_unit.SwitchUnit.{SwitchUnit}
 use Rattle.ultra_block.specs.declared.module_unit.ModuleUnit.{ModuleUnit}
 use Rattle.ultra_block.specs.declared.element_unit.ElementUnit.{ElementUnit}
-
-abbrev pub has_none : {X : Type 0} → List X → Bool
-has_none xs = length xs == 0
 
 abbrev pub quiet_lane : SizedLane → Bool
 quiet_lane l = has_none l.lane.queue && has_none l.lane.records

@@ -1,5 +1,6 @@
 -- tables by number that units write their entries into: where there is room, and the messages between the units
-use Rattle.std.specs.Prelude.{ℕ, ◌+◌, List, [], ◌∷◌, Bool, Option, Some, None, slice_index_or, slice_set}
+use Rattle.std.specs.Prelude.{ℕ, ◌+◌, List, [], ◌∷◌, Bool, true, not, Option, Some, None, map, slice_index_or, slice_set}
+use Rattle.std.specs.List.{filter}
 use Rattle.ultra_msg.specs.declared.Request.{Request}
 use Rattle.ultra_msg.specs.declared.ReplyMessage.{ReplyMessage}
 use Rattle.ultra_route.specs.Route.{unshuffled}
@@ -22,39 +23,53 @@ abbrev pub written : {X : Type 0} → List (Entry X) → List X → List X
 written [] t = t
 written (e ∷ es) t = written es (slice_set t e.0 e.1)
 
+-- a table that says of each place that it has room
+abbrev pub all_open : List Bool → List Bool
+all_open t = map (λ _. true) t
+
+-- of the entries of places, those of places without room; of the entries of links, those with a message
+abbrev pub closed : List (Entry Bool) → List (Entry Bool)
+closed es = filter (λ (e : Entry Bool). not e.1) es
+
+abbrev pub sent : {X : Type 0} → List (Entry (Option X)) → List (Entry (Option X))
+sent {X} es = filter (λ (e : Entry (Option X)). not (is_nothing e.1)) es
+
 -- ---- what a unit writes
--- whether the switch has room for replies, and its queues toward memory for requests
+-- that the switch has no room for replies, and a queue of it toward memory none for requests
 abbrev pub reply_rooms : SwitchUnit → List (Entry Bool)
-reply_rooms u = (switch_number u.net u.stage u.index, has_reply_room u) ∷ []
+reply_rooms u = closed ((switch_number u.net u.stage u.index, has_reply_room u) ∷ [])
 
 abbrev pub request_rooms : SwitchUnit → List (Entry Bool)
 request_rooms u =
-    (place_number u.net u.stage (position u 0), has_place_for 2 u.switch.to_mm.zero)
+    closed
+    ((place_number u.net u.stage (position u 0), has_place_for 2 u.switch.to_mm.zero)
     ∷ (place_number u.net u.stage (position u 1), has_place_for 2 u.switch.to_mm.one)
-    ∷ []
+    ∷ [])
 
--- whether the module's register for requests is empty
+-- that a request stands in the module's register
 abbrev pub module_rooms : ModuleUnit → List (Entry Bool)
-module_rooms u = (u.number, is_nothing u.bank.inp) ∷ []
+module_rooms u = closed ((u.number, is_nothing u.bank.inp) ∷ [])
 
 -- replies go over the link that the requests come by
 abbrev pub switch_replies : SwitchUnit → List (Entry (Option ReplyMessage))
 switch_replies u =
-    (place_number u.net u.stage (unshuffled u.net (position u 0)), u.replies_out.zero)
+    sent
+    ((place_number u.net u.stage (unshuffled u.net (position u 0)), u.replies_out.zero)
     ∷ (place_number u.net u.stage (unshuffled u.net (position u 1)), u.replies_out.one)
-    ∷ []
+    ∷ [])
 
 abbrev pub module_replies : ModuleUnit → List (Entry (Option ReplyMessage))
-module_replies u = (place_number u.net u.net u.number, u.reply_out) ∷ []
+module_replies u = sent ((place_number u.net u.net u.number, u.reply_out) ∷ [])
 
 abbrev pub switch_requests : SwitchUnit → List (Entry (Option Request))
 switch_requests u =
-    (place_number u.net (u.stage + 1) (position u 0), u.requests_out.zero)
+    sent
+    ((place_number u.net (u.stage + 1) (position u 0), u.requests_out.zero)
     ∷ (place_number u.net (u.stage + 1) (position u 1), u.requests_out.one)
-    ∷ []
+    ∷ [])
 
 abbrev pub element_requests : ElementUnit → List (Entry (Option Request))
-element_requests u = (place_number u.net 0 u.pe, u.request_out) ∷ []
+element_requests u = sent ((place_number u.net 0 u.pe, u.request_out) ∷ [])
 
 -- ---- a unit without what it has sent
 abbrev pub without_replies_out : SwitchUnit → SwitchUnit

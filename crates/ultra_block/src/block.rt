@@ -1,15 +1,16 @@
 //! Blocks: some of the units of a machine.
 
-ghost use Rattle.std.specs.Prelude.{◌≡◌, ℕ, ◌<◌, OnOk, length, slice_index_or};
+ghost use Rattle.std.specs.Prelude.{◌≡◌, ℕ, ◌<◌, OnOk, length, slice_index_or, slice_set};
+ghost use Rattle.ultra_block.specs.Rest.{IsNoneIdle};
 
 use crate::apart::{gather_elements, gather_modules, gather_switches};
 use crate::element_unit::ElementUnit;
 use crate::exchange::{
-    fetch_element_replies, fetch_module_requests, fetch_switch_replies, fetch_switch_requests,
     note_modules, note_switches, post_element_requests, post_module_replies, post_switch_replies,
     post_switch_requests,
 };
 use crate::half::Half;
+use crate::idle_set::IdleSet;
 use crate::mail::Mail;
 use crate::module_unit::ModuleUnit;
 use crate::passes::{
@@ -23,6 +24,7 @@ use crate::switch_unit::SwitchUnit;
 use std::alloc::AllocError;
 use std::marker::Model;
 use ultra_isa::Program;
+use ultra_msg::{ReplyMessage, Request};
 
 /// Some of the units of a machine, with what comes to them and leaves them: any switches, modules and processing elements, or none.
 ///
@@ -33,21 +35,44 @@ pub struct Block {
     pub(crate) switches: Vec<SwitchUnit>,
     pub(crate) modules: Vec<ModuleUnit>,
     pub(crate) elements: Vec<ElementUnit>,
+    pub(crate) idle: Idle,
+}
+
+/// Which units of a block are known to be at rest, by their places there: no half of a cycle looks at them.
+#[derive(Clone, Copy, Drop)]
+pub(crate) struct Idle {
+    switches: IdleSet,
+    modules: IdleSet,
+    elements: IdleSet,
+}
+
+impl Idle {
+    /// Of no unit it is known.
+    pub(crate) fn none() -> Idle
+        ensures { IsNoneIdle result }
+    {
+        Idle {
+            switches: IdleSet::new(),
+            modules: IdleSet::new(),
+            elements: IdleSet::new(),
+        }
+    }
 }
 
 impl Model for Block {
-    ghost use Rattle.ultra_block.specs.BlockState.{BlockState, ArePlaced};
+    ghost use Rattle.ultra_block.specs.BlockState.{BlockState, AreKept};
 
     ghost Value = { BlockState };
 
     ghost view = { λ b. record { done = b.done; switches = b.switches.items; modules = b.modules.items; elements = b.elements.items } };
 
-    ghost invariant = { λ b. ArePlaced record { done = b.done; switches = b.switches.items; modules = b.modules.items; elements = b.elements.items } };
+    ghost invariant = { λ b. AreKept b.idle.switches b.idle.modules b.idle.elements record { done = b.done; switches = b.switches.items; modules = b.modules.items; elements = b.elements.items } };
 }
 
 impl Block {
-    ghost use Rattle.ultra_block.specs.BlockSteps.{CanExecute, CanTakeReplies, CanTakeRequests, executes, fetches_replies, fetches_requests, notes_rooms, posted_replies, posted_requests, posts_replies, posts_requests, sends_replies, sends_requests, serves, switches_apart, modules_apart, elements_apart, takes_replies, takes_requests, with_element, with_module, with_switch};
+    ghost use Rattle.ultra_block.specs.BlockSteps.{CanExecute, CanTakeReplies, CanTakeRequests, executes, notes_rooms, posted_replies, posted_requests, posts_replies, posts_requests, sends_replies, sends_requests, serves, switches_apart, modules_apart, elements_apart, takes_replies, takes_requests, with_element, with_module, with_switch};
     ghost use Rattle.ultra_block.specs.Tables.{written};
+    ghost use Rattle.ultra_block.specs.Arriving.{with_reply, with_reply_at, with_request, with_request_at};
     ghost use Rattle.ultra_block.specs.Cut.{no_element, no_module, no_switch};
     ghost use Rattle.ultra_block.specs.Making.{CanMake, made};
     ghost use Rattle.ultra_block.specs.Quiet.{quiet_block};
@@ -59,16 +84,16 @@ impl Block {
     pub fn rooms(&self, rooms: &mut Rooms)
         ensures { rooms.new ≡ notes_rooms self.now rooms.old }
     {
-        note_switches(self.switches.as_slice(), rooms);
-        note_modules(self.modules.as_slice(), rooms);
+        note_switches(self.switches.as_slice(), &self.idle.switches, rooms);
+        note_modules(self.modules.as_slice(), &self.idle.modules, rooms);
     }
 
     /// Replies leave the switches and modules, where there is room.
     pub fn send_replies(&mut self, rooms: &Rooms)
         ensures { self.new ≡ sends_replies rooms.now self.old }
     {
-        send_switch_replies(self.switches.as_mut_slice(), rooms);
-        send_module_replies(self.modules.as_mut_slice(), rooms);
+        send_switch_replies(self.switches.as_mut_slice(), &self.idle.switches, rooms);
+        send_module_replies(self.modules.as_mut_slice(), &self.idle.modules, rooms);
     }
 
     /// The replies that have come are delivered to the processing elements, or split and passed on by the switches. They have to have room, and the cell of each that is delivered has to be open.
@@ -76,23 +101,23 @@ impl Block {
         requires { CanTakeReplies self.old }
         ensures { self.new ≡ takes_replies self.old }
     {
-        take_switch_replies(self.switches.as_mut_slice());
-        take_element_replies(self.elements.as_mut_slice());
+        take_switch_replies(self.switches.as_mut_slice(), &self.idle.switches);
+        take_element_replies(self.elements.as_mut_slice(), &self.idle.elements);
     }
 
     /// Each module serves the request that waits, if no reply is in its way.
     pub fn serve(&mut self)
         ensures { self.new ≡ serves self.old }
     {
-        serve_modules(self.modules.as_mut_slice());
+        serve_modules(self.modules.as_mut_slice(), &self.idle.modules);
     }
 
     /// Requests leave the switches and processing elements, where there is room.
     pub fn send_requests(&mut self, rooms: &Rooms)
         ensures { self.new ≡ sends_requests rooms.now self.old }
     {
-        send_switch_requests(self.switches.as_mut_slice(), rooms);
-        send_element_requests(self.elements.as_mut_slice(), rooms);
+        send_switch_requests(self.switches.as_mut_slice(), &self.idle.switches, rooms);
+        send_element_requests(self.elements.as_mut_slice(), &self.idle.elements, rooms);
     }
 
     /// The requests that have come go into the queues of the switches, port 0 first in even cycles and port 1 first in odd ones, and into the registers of the modules. They have to have room.
@@ -100,8 +125,12 @@ impl Block {
         requires { CanTakeRequests self.old }
         ensures { self.new ≡ takes_requests self.old }
     {
-        take_switch_requests(self.switches.as_mut_slice(), self.done);
-        take_module_requests(self.modules.as_mut_slice());
+        take_switch_requests(
+            self.switches.as_mut_slice(),
+            &mut self.idle.switches,
+            self.done,
+        );
+        take_module_requests(self.modules.as_mut_slice(), &mut self.idle.modules);
     }
 
     /// Each processing element makes one step of the program. The cycles that are done have to be fewer than `2^32 - 1`.
@@ -109,7 +138,11 @@ impl Block {
         requires { CanExecute self.old }
         ensures { self.new ≡ executes program.now self.old }
     {
-        execute_elements(self.elements.as_mut_slice(), program);
+        execute_elements(
+            self.elements.as_mut_slice(),
+            &mut self.idle.elements,
+            program,
+        );
         self.done += 1;
     }
 
@@ -133,16 +166,26 @@ impl Block {
         ensures block { self.new ≡ posted_replies self.old }
         ensures mail { mail.new ≡ posts_replies self.old mail.old }
     {
-        post_switch_replies(self.switches.as_mut_slice(), mail);
-        post_module_replies(self.modules.as_mut_slice(), mail);
+        post_switch_replies(self.switches.as_mut_slice(), &self.idle.switches, mail);
+        post_module_replies(self.modules.as_mut_slice(), &self.idle.modules, mail);
     }
 
-    /// Gets the replies that come, from their links.
-    pub(crate) fn fetch_replies(&mut self, mail: &Mail)
-        ensures { self.new ≡ fetches_replies mail.now self.old }
+    /// A reply comes to a port of the switch at this place.
+    pub(crate) fn bring_reply(&mut self, place: usize, port: u32, reply: ReplyMessage)
+        requires { place < length self.old.switches }
+        ensures { self.new ≡ record self.old { switches = slice_set self.old.switches place (with_reply_at port reply (slice_index_or self.old.switches place no_switch)) } }
     {
-        fetch_switch_replies(self.switches.as_mut_slice(), mail);
-        fetch_element_replies(self.elements.as_mut_slice(), mail);
+        self.idle.switches.remove(place);
+        self.switches[place].bring_reply(port, reply);
+    }
+
+    /// A reply comes to the processing element at this place.
+    pub(crate) fn bring_reply_to_element(&mut self, place: usize, reply: ReplyMessage)
+        requires { place < length self.old.elements }
+        ensures { self.new ≡ record self.old { elements = slice_set self.old.elements place (with_reply reply (slice_index_or self.old.elements place no_element)) } }
+    {
+        self.idle.elements.remove(place);
+        self.elements[place].bring_reply(reply);
     }
 
     /// Puts the requests that leave onto their links.
@@ -150,16 +193,26 @@ impl Block {
         ensures block { self.new ≡ posted_requests self.old }
         ensures mail { mail.new ≡ posts_requests self.old mail.old }
     {
-        post_switch_requests(self.switches.as_mut_slice(), mail);
-        post_element_requests(self.elements.as_mut_slice(), mail);
+        post_switch_requests(self.switches.as_mut_slice(), &self.idle.switches, mail);
+        post_element_requests(self.elements.as_mut_slice(), &self.idle.elements, mail);
     }
 
-    /// Gets the requests that come, from their links.
-    pub(crate) fn fetch_requests(&mut self, mail: &Mail)
-        ensures { self.new ≡ fetches_requests mail.now self.old }
+    /// A request comes to a port of the switch at this place.
+    pub(crate) fn bring_request(&mut self, place: usize, port: u32, request: Request)
+        requires { place < length self.old.switches }
+        ensures { self.new ≡ record self.old { switches = slice_set self.old.switches place (with_request_at port request (slice_index_or self.old.switches place no_switch)) } }
     {
-        fetch_switch_requests(self.switches.as_mut_slice(), mail);
-        fetch_module_requests(self.modules.as_mut_slice(), mail);
+        self.idle.switches.remove(place);
+        self.switches[place].bring_request(port, request);
+    }
+
+    /// A request comes to the module at this place.
+    pub(crate) fn bring_request_to_module(&mut self, place: usize, request: Request)
+        requires { place < length self.old.modules }
+        ensures { self.new ≡ record self.old { modules = slice_set self.old.modules place (with_request request (slice_index_or self.old.modules place no_module)) } }
+    {
+        self.idle.modules.remove(place);
+        self.modules[place].bring_request(request);
     }
 
     /// Whether each of its units is quiet: it looks no further than the first that is not.
@@ -223,7 +276,9 @@ impl Block {
         requires { switch.IsPlaced unit }
         ensures { OnOk result (self.new ≡ with_switch self.old unit) }
     {
+        let place = self.switches.len();
         self.switches.push(unit)?;
+        self.idle.switches.remove(place);
         Ok(())
     }
 
@@ -239,7 +294,9 @@ impl Block {
         requires { bank.IsPlaced unit }
         ensures { OnOk result (self.new ≡ with_module self.old unit) }
     {
+        let place = self.modules.len();
         self.modules.push(unit)?;
+        self.idle.modules.remove(place);
         Ok(())
     }
 
@@ -255,7 +312,9 @@ impl Block {
         requires { element.IsPlaced unit }
         ensures { OnOk result (self.new ≡ with_element self.old unit) }
     {
+        let place = self.elements.len();
         self.elements.push(unit)?;
+        self.idle.elements.remove(place);
         Ok(())
     }
 }

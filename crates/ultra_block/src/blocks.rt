@@ -73,7 +73,8 @@ impl Blocks {
     ghost use Rattle.ultra_block.specs.BlocksState.{machine_of, units_of_blocks, IsWhole};
     ghost use Rattle.ultra_block.specs.Cut.{no_home};
     ghost use Rattle.ultra_block.specs.Partition.{block_of};
-    ghost use Rattle.ultra_block.specs.Cycle.{exchanged, mailed, noted};
+    ghost use Rattle.ultra_block.specs.Cycle.{exchanged, noted};
+    ghost use Rattle.ultra_block.specs.Exchange.{CanExchange};
     ghost use Rattle.ultra_block.specs.Making.{CanMake, made};
     ghost use Rattle.ultra_block.specs.Elements.{element_of};
 
@@ -235,11 +236,20 @@ impl Blocks {
     }
 
     /// Each message that has left a unit comes to the one at the other end of its link: replies after they were sent, and requests after they were. Where nothing has been sent, nothing comes.
+    ///
+    /// Each unit has to stand at its home and to have taken what came to it last; in the course of a cycle it is so.
     pub fn exchange(&mut self)
+        requires { CanExchange self.old.config.stages self.old.homes.items self.old.blocks.items self.old.mail }
         ensures blocks { self.new.blocks.items ≡ exchanged self.old.blocks.items self.old.mail }
-        ensures rest { self.new ≡ record self.old { blocks = self.new.blocks; mail = mailed self.old.blocks.items self.old.mail } }
+        ensures rest { self.new ≡ record self.old { blocks = self.new.blocks } }
     {
-        exchange(self.blocks.as_mut_slice(), &mut self.mail);
+        let net = self.config.net();
+        exchange(
+            self.blocks.as_mut_slice(),
+            self.homes.as_slice(),
+            net,
+            &mut self.mail,
+        );
     }
 
     /// Counts a cycle whose halves are all made: the last step of a cycle. The cycles that are done have to be fewer than `2^32 - 1`.

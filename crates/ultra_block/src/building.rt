@@ -10,7 +10,7 @@ ghost use Rattle.ultra_block.specs.SwitchSteps as switch;
 ghost use Rattle.ultra_block.specs.ModuleSteps as bank;
 ghost use Rattle.ultra_block.specs.ElementSteps as element;
 
-use crate::block::Block;
+use crate::block::{Block, Idle};
 use crate::config::Config;
 use crate::element::ProcessingElement;
 use crate::element_unit::ElementUnit;
@@ -202,6 +202,7 @@ fn empty_block(alloc: Global) -> Block
         switches: Vec::new(alloc),
         modules: Vec::new(alloc),
         elements: Vec::new(alloc),
+        idle: Idle::none(),
     }
 }
 

@@ -15,7 +15,7 @@ ghost use Rattle.ultra_block.specs.declared.element_unit.ElementUnit.{ElementUni
 ghost use Rattle.ultra_block.specs.Parted.{AreCut, AreFilled, AreParted, AreThere, HasRoom, home_in, share};
 
 use crate::apart::Parts;
-use crate::block::Block;
+use crate::block::{Block, Idle};
 use crate::building::empty_blocks;
 use crate::element_unit::ElementUnit;
 use crate::home::Home;
@@ -113,6 +113,7 @@ fn fill(
             switches: take_list(&mut switches[place]),
             modules: take_list(&mut modules[place]),
             elements: take_list(&mut elements[place]),
+            idle: Idle::none(),
         };
     }
 }

@@ -29,7 +29,9 @@ pub struct ElementUnit {
 impl ElementUnit {
     ghost use Rattle.ultra_block.specs.ElementSteps.{CanExecute, CanTakeReplies, IsPlaced, executes, sends_requests, takes_replies};
     ghost use Rattle.ultra_block.specs.Quiet.{quiet_element};
-    ghost use Rattle.ultra_block.specs.Tables.{element_requests, with_reply_in, without_request_out, written};
+    ghost use Rattle.ultra_block.specs.Rest.{element_rests};
+    ghost use Rattle.ultra_block.specs.Arriving.{with_reply};
+    ghost use Rattle.ultra_block.specs.Tables.{element_requests, without_request_out, written};
 
     /// A reply that has come is delivered.
     pub(crate) fn take_replies(&mut self)
@@ -91,14 +93,31 @@ impl ElementUnit {
         ensures unit { self.new ≡ without_request_out self.old }
         ensures mail { mail.new ≡ record mail.old { requests = written (element_requests self.old) mail.old.requests } }
     {
-        mail.post_request(self.link(), self.request_out.take());
+        mail.requests.post(self.link(), self.request_out.take());
     }
 
-    /// Gets the reply that comes, from its link.
-    pub(crate) fn fetch_replies(&mut self, mail: &Mail)
-        requires { IsPlaced self.old }
-        ensures { self.new ≡ with_reply_in mail.now self.old }
+    /// A reply comes to it.
+    pub(crate) fn bring_reply(&mut self, reply: ReplyMessage)
+        ensures { self.new ≡ with_reply reply self.old }
     {
-        self.reply_in = mail.reply(self.link());
+        self.reply_in = Some(reply);
+    }
+
+    /// Whether no half of a cycle would change it: it has stopped, no request of it waits, nothing comes or leaves, and nothing has happened in the last cycle.
+    pub(crate) fn is_at_rest(&self) -> bool
+        ensures { result ≡ element_rests self.now }
+    {
+        let ProcessingElement {
+            processor,
+            interface,
+            ..
+        } = &self.element;
+        let has_ended = processor.has_stopped() && interface.pending_count() == 0;
+        has_ended
+            && self.reply_in.is_none()
+            && self.request_out.is_none()
+            && self.delivered.is_none()
+            && self.issue.is_none()
+            && self.stop.is_none()
     }
 }

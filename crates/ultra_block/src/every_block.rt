@@ -4,20 +4,26 @@ ghost use Rattle.std.specs.Prelude.{◌≡◌, All, map};
 ghost use Rattle.std.specs.List.{flat_map, list_all};
 ghost use Rattle.ultra_block.specs.Quiet.{quiet_block};
 ghost use Rattle.ultra_block.specs.Tables.{written};
-ghost use Rattle.ultra_block.specs.BlockSteps.{fetches_replies, fetches_requests, posted_replies, posted_requests, reply_entries, request_entries};
-ghost use Rattle.ultra_block.specs.Cycle.{exchanged, exchanged_replies, exchanged_requests, mailed, mailed_replies, mailed_requests, noted};
+ghost use Rattle.ultra_block.specs.BlockSteps.{posted_replies, posted_requests, reply_entries, request_entries};
+ghost use Rattle.ultra_block.specs.Cycle.{exchanged, exchanged_replies, exchanged_requests, noted};
+ghost use Rattle.ultra_block.specs.Cut.{HasLinks};
+ghost use Rattle.ultra_block.specs.Exchange.{AreHoused, AwaitReplies, AwaitRequests, CanExchange};
 ghost use Rattle.ultra_block.specs.Making.{CanMake, made};
 
 use crate::block::Block;
+use crate::delivery::{deliver_replies, deliver_requests};
 use crate::half::Half;
+use crate::home::Home;
 use crate::mail::Mail;
 use crate::rooms::Rooms;
 use ultra_isa::Program;
+use ultra_route::Net;
 
 /// Every block notes its rooms.
 pub(crate) fn note_rooms(blocks: &[Block], rooms: &mut Rooms)
     ensures { rooms.new ≡ noted blocks.now rooms.old }
 {
+    rooms.open_all();
     for block in blocks {
         block.rooms(rooms);
     }
@@ -30,24 +36,6 @@ pub(crate) fn make_half(blocks: &mut [Block], half: Half, rooms: &Rooms, program
 {
     for block in blocks.iter_mut() {
         block.make(half, rooms, program);
-    }
-}
-
-/// Every block gets the replies that come, from their links.
-fn fetch_replies(blocks: &mut [Block], mail: &Mail)
-    ensures { blocks.new ≡ map (fetches_replies mail.now) blocks.old }
-{
-    for block in blocks.iter_mut() {
-        block.fetch_replies(mail);
-    }
-}
-
-/// Every block gets the requests that come, from their links.
-fn fetch_requests(blocks: &mut [Block], mail: &Mail)
-    ensures { blocks.new ≡ map (fetches_requests mail.now) blocks.old }
-{
-    for block in blocks.iter_mut() {
-        block.fetch_requests(mail);
     }
 }
 
@@ -72,30 +60,37 @@ fn post_requests(blocks: &mut [Block], mail: &mut Mail)
 }
 
 /// Each reply that has left a unit comes to the one at the other end of its link.
-fn exchange_replies(blocks: &mut [Block], mail: &mut Mail)
-    ensures mail { mail.new ≡ mailed_replies blocks.old mail.old }
+fn exchange_replies(blocks: &mut [Block], homes: &[Home], net: Net, mail: &mut Mail)
+    requires housed { AreHoused net homes.now blocks.old }
+    requires ready { AwaitReplies blocks.old }
+    requires links { HasLinks net mail.old }
+    ensures mail { mail.new ≡ mail.old }
     ensures blocks { blocks.new ≡ exchanged_replies blocks.old mail.old }
 {
     post_replies(blocks, mail);
-    fetch_replies(blocks, mail);
+    deliver_replies(blocks, homes, net, mail);
 }
 
 /// Each request that has left a unit comes to the one at the other end of its link.
-fn exchange_requests(blocks: &mut [Block], mail: &mut Mail)
-    ensures mail { mail.new ≡ mailed_requests blocks.old mail.old }
+fn exchange_requests(blocks: &mut [Block], homes: &[Home], net: Net, mail: &mut Mail)
+    requires housed { AreHoused net homes.now blocks.old }
+    requires ready { AwaitRequests blocks.old }
+    requires links { HasLinks net mail.old }
+    ensures mail { mail.new ≡ mail.old }
     ensures blocks { blocks.new ≡ exchanged_requests blocks.old mail.old }
 {
     post_requests(blocks, mail);
-    fetch_requests(blocks, mail);
+    deliver_requests(blocks, homes, net, mail);
 }
 
 /// Each message that has left a unit comes to the one at the other end of its link.
-pub(crate) fn exchange(blocks: &mut [Block], mail: &mut Mail)
-    ensures mail { mail.new ≡ mailed blocks.old mail.old }
+pub(crate) fn exchange(blocks: &mut [Block], homes: &[Home], net: Net, mail: &mut Mail)
+    requires { CanExchange net homes.now blocks.old mail.old }
+    ensures mail { mail.new ≡ mail.old }
     ensures blocks { blocks.new ≡ exchanged blocks.old mail.old }
 {
-    exchange_replies(blocks, mail);
-    exchange_requests(blocks, mail);
+    exchange_replies(blocks, homes, net, mail);
+    exchange_requests(blocks, homes, net, mail);
 }
 
 /// Whether each block is quiet.

@@ -1,7 +1,9 @@
 //! The messages on the links between the units, while they are exchanged.
 
-ghost use Rattle.std.specs.Prelude.{◌≡◌, ℕ, IfOk, None, slice_index_or, slice_set, replicate};
+ghost use Rattle.std.specs.Prelude.{◌≡◌, ℕ, IfNone, IfOk, IfSome, None, length, replicate, slice_index_or, slice_set};
+ghost use Rattle.ultra_block.specs.MailTable.{AreEmptyFrom, IsNextLink};
 
+use crate::links::Links;
 use std::alloc::{AllocError, Global};
 use std::marker::Model;
 use ultra_msg::{ReplyMessage, Request};
@@ -9,8 +11,8 @@ use ultra_msg::{ReplyMessage, Request};
 /// What is on each link of the network between the half of a cycle that sends and the half that takes, by the number of the link. The places are made once.
 #[derive(Drop)]
 pub struct Mail {
-    replies: Vec<Option<ReplyMessage>>,
-    requests: Vec<Option<Request>>,
+    pub(crate) replies: Links<ReplyMessage>,
+    pub(crate) requests: Links<Request>,
 }
 
 impl Model for Mail {
@@ -18,7 +20,7 @@ impl Model for Mail {
 
     ghost Value = { MailTable };
 
-    ghost view = { λ m. record { replies = m.replies.items; requests = m.requests.items } };
+    ghost view = { λ m. record { replies = m.replies; requests = m.requests } };
 }
 
 impl Mail {
@@ -27,48 +29,40 @@ impl Mail {
         ensures { IfOk result (λ m. m ≡ record { replies = replicate links None; requests = replicate links None }) }
     {
         Ok(Mail {
-            replies: vec![in alloc; None; links]?,
-            requests: vec![in alloc; None; links]?,
+            replies: Links::new(alloc, links)?,
+            requests: Links::new(alloc, links)?,
         })
     }
 
-    /// Puts what a unit has sent onto a link.
-    pub(crate) fn post_reply(&mut self, link: usize, reply: Option<ReplyMessage>)
-        ensures { self.new ≡ record self.old { replies = slice_set self.old.replies link reply } }
+    /// The first link from `from` on that may have a reply.
+    pub(crate) fn next_reply(&self, from: usize) -> Option<usize>
+        ensures some { IfSome result (λ link. IsNextLink self.now.replies from link) }
+        ensures none { IfNone result (AreEmptyFrom self.now.replies from (length self.now.replies)) }
     {
-        if link < self.replies.len() {
-            self.replies[link] = reply;
-        }
+        self.replies.next(from)
     }
 
-    /// Puts what a unit has sent onto a link.
-    pub(crate) fn post_request(&mut self, link: usize, request: Option<Request>)
-        ensures { self.new ≡ record self.old { requests = slice_set self.old.requests link request } }
+    /// Takes the reply from a link, or nothing where there is no such link.
+    pub(crate) fn take_reply(&mut self, link: usize) -> Option<ReplyMessage>
+        ensures value { result ≡ slice_index_or self.old.replies link None }
+        ensures rest { self.new ≡ record self.old { replies = slice_set self.old.replies link None } }
     {
-        if link < self.requests.len() {
-            self.requests[link] = request;
-        }
+        self.replies.take(link)
     }
 
-    /// What is on a link, or nothing where there is no such link.
-    pub(crate) fn reply(&self, link: usize) -> Option<ReplyMessage>
-        ensures { result ≡ slice_index_or self.now.replies link None }
+    /// The first link from `from` on that may have a request.
+    pub(crate) fn next_request(&self, from: usize) -> Option<usize>
+        ensures some { IfSome result (λ link. IsNextLink self.now.requests from link) }
+        ensures none { IfNone result (AreEmptyFrom self.now.requests from (length self.now.requests)) }
     {
-        if link < self.replies.len() {
-            self.replies[link]
-        } else {
-            None
-        }
+        self.requests.next(from)
     }
 
-    /// What is on a link, or nothing where there is no such link.
-    pub(crate) fn request(&self, link: usize) -> Option<Request>
-        ensures { result ≡ slice_index_or self.now.requests link None }
+    /// Takes the request from a link, or nothing where there is no such link.
+    pub(crate) fn take_request(&mut self, link: usize) -> Option<Request>
+        ensures value { result ≡ slice_index_or self.old.requests link None }
+        ensures rest { self.new ≡ record self.old { requests = slice_set self.old.requests link None } }
     {
-        if link < self.requests.len() {
-            self.requests[link]
-        } else {
-            None
-        }
+        self.requests.take(link)
     }
 }

@@ -25,7 +25,9 @@ pub struct ModuleUnit {
 impl ModuleUnit {
     ghost use Rattle.ultra_block.specs.ModuleSteps.{CanTakeRequests, IsPlaced, sends_replies, serves, takes_requests};
     ghost use Rattle.ultra_block.specs.Quiet.{quiet_module};
-    ghost use Rattle.ultra_block.specs.Tables.{module_replies, noted_module, with_request_in, without_reply_out, written};
+    ghost use Rattle.ultra_block.specs.Rest.{module_rests};
+    ghost use Rattle.ultra_block.specs.Arriving.{with_request};
+    ghost use Rattle.ultra_block.specs.Tables.{module_replies, noted_module, without_reply_out, written};
 
     /// The reply that waits leaves, if the switch of the last stage has room.
     pub(crate) fn send_replies(&mut self, rooms: &Rooms)
@@ -83,14 +85,21 @@ impl ModuleUnit {
         ensures unit { self.new ≡ without_reply_out self.old }
         ensures mail { mail.new ≡ record mail.old { replies = written (module_replies self.old) mail.old.replies } }
     {
-        mail.post_reply(self.link(), self.reply_out.take());
+        mail.replies.post(self.link(), self.reply_out.take());
     }
 
-    /// Gets the request that comes, from its link.
-    pub(crate) fn fetch_requests(&mut self, mail: &Mail)
-        requires { IsPlaced self.old }
-        ensures { self.new ≡ with_request_in mail.now self.old }
+    /// A request comes to it.
+    pub(crate) fn bring_request(&mut self, request: Request)
+        ensures { self.new ≡ with_request request self.old }
     {
-        self.request_in = mail.request(self.link());
+        self.request_in = Some(request);
+    }
+
+    /// Whether no half of a cycle would change it: its registers are empty, nothing comes or leaves, and it served nothing in the last cycle.
+    pub(crate) fn is_at_rest(&self) -> bool
+        ensures { result ≡ module_rests self.now }
+    {
+        let registers = self.bank.request().is_none() && self.bank.reply().is_none();
+        registers && self.request_in.is_none() && self.reply_out.is_none() && self.served.is_none()
     }
 }

@@ -1,7 +1,8 @@
 //! Where there is room at the start of a phase.
 
 ghost use Rattle.ultra_block.specs.Cut.{HasPlaces};
-ghost use Rattle.std.specs.Prelude.{◌≡◌, ℕ, ◌^◌, ◌*◌, ◌-◌, IfOk, false, slice_index_or, slice_set, replicate};
+ghost use Rattle.std.specs.Prelude.{◌≡◌, ℕ, ◌^◌, ◌*◌, ◌-◌, ◌∷◌, [], IfOk, false, slice_index_or, replicate};
+ghost use Rattle.ultra_block.specs.Tables.{all_open, closed, written};
 
 use std::alloc::{AllocError, Global};
 use std::marker::Model;
@@ -58,31 +59,52 @@ impl Rooms {
         number_of(self.modules.as_slice(), number)
     }
 
-    /// Notes whether the switch of this number has room for replies.
+    /// Notes of every switch, queue and module that it has room.
+    pub(crate) fn open_all(&mut self)
+        ensures { self.new ≡ record { replies = all_open self.old.replies; requests = all_open self.old.requests; modules = all_open self.old.modules } }
+    {
+        open_places(self.replies.as_mut_slice());
+        open_places(self.requests.as_mut_slice());
+        open_places(self.modules.as_mut_slice());
+    }
+
+    /// Notes of the switch of this number if it has no room for replies.
     pub(crate) fn note_replies(&mut self, number: usize, has_room: bool)
-        ensures { self.new ≡ record self.old { replies = slice_set self.old.replies number has_room } }
+        ensures { self.new ≡ record self.old { replies = written (closed ((number, has_room) ∷ [])) self.old.replies } }
     {
-        if number < self.replies.len() {
-            self.replies[number] = has_room;
-        }
+        close_unless(has_room, self.replies.as_mut_slice(), number);
     }
 
-    /// Notes whether the queue toward memory of this number has room for requests.
+    /// Notes of the queue toward memory of this number if it has no room for requests.
     pub(crate) fn note_requests(&mut self, number: usize, has_room: bool)
-        ensures { self.new ≡ record self.old { requests = slice_set self.old.requests number has_room } }
+        ensures { self.new ≡ record self.old { requests = written (closed ((number, has_room) ∷ [])) self.old.requests } }
     {
-        if number < self.requests.len() {
-            self.requests[number] = has_room;
-        }
+        close_unless(has_room, self.requests.as_mut_slice(), number);
     }
 
-    /// Notes whether the module of this number takes a request.
+    /// Notes of the module of this number if it takes no request.
     pub(crate) fn note_module(&mut self, number: usize, has_room: bool)
-        ensures { self.new ≡ record self.old { modules = slice_set self.old.modules number has_room } }
+        ensures { self.new ≡ record self.old { modules = written (closed ((number, has_room) ∷ [])) self.old.modules } }
     {
-        if number < self.modules.len() {
-            self.modules[number] = has_room;
-        }
+        close_unless(has_room, self.modules.as_mut_slice(), number);
+    }
+}
+
+/// All places have room.
+fn open_places(notes: &mut [bool])
+    ensures { notes.new ≡ all_open notes.old }
+{
+    for note in notes.iter_mut() {
+        *note = true;
+    }
+}
+
+/// The place of this number has no room, if it is so and there is one.
+fn close_unless(has_room: bool, notes: &mut [bool], number: usize)
+    ensures { notes.new ≡ written (closed ((number, has_room) ∷ [])) notes.old }
+{
+    if !has_room && number < notes.len() {
+        notes[number] = false;
     }
 }
 

@@ -4,6 +4,7 @@ ghost use Rattle.std.specs.Prelude.{◌≡◌, ℕ, ◌-◌, ◌+◌, ◌*◌, �
 ghost use Rattle.ultra_route.specs.Route.{unshuffled};
 ghost use Rattle.ultra_block.specs.Numbers.{place_number};
 ghost use Rattle.ultra_block.specs.RoomTable.{reply_goes};
+ghost use Rattle.ultra_block.specs.Rest.{is_nothing_at};
 
 use crate::mail::Mail;
 use crate::numbers::{place_number, switch_number};
@@ -36,7 +37,9 @@ pub struct SwitchUnit {
 impl SwitchUnit {
     ghost use Rattle.ultra_block.specs.SwitchSteps.{CanTakeReplies, CanTakeRequests, IsPlaced, position, sends_replies, sends_requests, takes_replies, takes_requests};
     ghost use Rattle.ultra_block.specs.Quiet.{quiet_switch};
-    ghost use Rattle.ultra_block.specs.Tables.{noted_switch, switch_replies, switch_requests, with_replies_in, with_requests_in, without_replies_out, without_requests_out, written};
+    ghost use Rattle.ultra_block.specs.Rest.{has_all_rooms, has_empty_boxes, has_empty_queues, has_not_combined, switch_rests};
+    ghost use Rattle.ultra_block.specs.Arriving.{with_reply_at, with_request_at};
+    ghost use Rattle.ultra_block.specs.Tables.{noted_switch, switch_replies, switch_requests, without_replies_out, without_requests_out, written};
 
     /// Whether the first reply of the queue at this PE-side port can go on.
     fn reply_goes(&self, rooms: &Rooms, port: u32) -> bool
@@ -172,22 +175,11 @@ impl SwitchUnit {
         ensures unit { self.new ≡ without_replies_out self.old }
         ensures mail { mail.new ≡ record mail.old { replies = written (switch_replies self.old) mail.old.replies } }
     {
-        mail.post_reply(self.link_in(0), self.replies_out.zero);
-        mail.post_reply(self.link_in(1), self.replies_out.one);
+        mail.replies.post(self.link_in(0), self.replies_out.zero);
+        mail.replies.post(self.link_in(1), self.replies_out.one);
         self.replies_out = Ports {
             zero: None,
             one: None,
-        };
-    }
-
-    /// Gets the replies that come, from their links.
-    pub(crate) fn fetch_replies(&mut self, mail: &Mail)
-        requires { IsPlaced self.old }
-        ensures { self.new ≡ with_replies_in mail.now self.old }
-    {
-        self.replies_in = Ports {
-            zero: mail.reply(self.link_out(0)),
-            one: mail.reply(self.link_out(1)),
         };
     }
 
@@ -197,22 +189,89 @@ impl SwitchUnit {
         ensures unit { self.new ≡ without_requests_out self.old }
         ensures mail { mail.new ≡ record mail.old { requests = written (switch_requests self.old) mail.old.requests } }
     {
-        mail.post_request(self.link_out(0), self.requests_out.zero);
-        mail.post_request(self.link_out(1), self.requests_out.one);
+        mail.requests.post(self.link_out(0), self.requests_out.zero);
+        mail.requests.post(self.link_out(1), self.requests_out.one);
         self.requests_out = Ports {
             zero: None,
             one: None,
         };
     }
 
-    /// Gets the requests that come, from their links.
-    pub(crate) fn fetch_requests(&mut self, mail: &Mail)
-        requires { IsPlaced self.old }
-        ensures { self.new ≡ with_requests_in mail.now self.old }
+    /// A reply comes to this memory-side port.
+    pub(crate) fn bring_reply(&mut self, port: u32, reply: ReplyMessage)
+        ensures { self.new ≡ with_reply_at port reply self.old }
     {
-        self.requests_in = Ports {
-            zero: mail.request(self.link_in(0)),
-            one: mail.request(self.link_in(1)),
-        };
+        if port == 0 {
+            self.replies_in.zero = Some(reply);
+        } else {
+            self.replies_in.one = Some(reply);
+        }
     }
+
+    /// A request comes to this PE-side port.
+    pub(crate) fn bring_request(&mut self, port: u32, request: Request)
+        ensures { self.new ≡ with_request_at port request self.old }
+    {
+        if port == 0 {
+            self.requests_in.zero = Some(request);
+        } else {
+            self.requests_in.one = Some(request);
+        }
+    }
+
+    /// Whether no half of a cycle would change it: nothing is in its queues or comes or leaves, nothing has combined in the last cycle, and it has room.
+    pub(crate) fn is_at_rest(&self) -> bool
+        ensures { result ≡ switch_rests self.now }
+    {
+        self.has_empty_queues()
+            && self.has_empty_boxes()
+            && self.has_all_rooms()
+            && self.has_not_combined()
+    }
+
+    /// Whether its queues are empty.
+    fn has_empty_queues(&self) -> bool
+        ensures { result ≡ has_empty_queues self.now }
+    {
+        let Switch { to_mm, to_pe } = &self.switch;
+        to_mm.zero.len() == 0
+            && to_mm.one.len() == 0
+            && to_pe.zero.is_empty()
+            && to_pe.one.is_empty()
+    }
+
+    /// Whether nothing comes to it and nothing leaves it.
+    fn has_empty_boxes(&self) -> bool
+        ensures { result ≡ has_empty_boxes self.now }
+    {
+        is_nothing_at(&self.replies_in)
+            && is_nothing_at(&self.replies_out)
+            && is_nothing_at(&self.requests_in)
+            && is_nothing_at(&self.requests_out)
+    }
+
+    /// Whether there is room for all that may come to it.
+    fn has_all_rooms(&self) -> bool
+        ensures { result ≡ has_all_rooms self.now }
+    {
+        let Switch { to_mm, to_pe } = &self.switch;
+        to_pe.zero.has_room()
+            && to_pe.one.has_room()
+            && to_mm.zero.has_room()
+            && to_mm.one.has_room()
+    }
+
+    /// Whether nothing has combined in the last cycle.
+    fn has_not_combined(&self) -> bool
+        ensures { result ≡ has_not_combined self.now }
+    {
+        is_nothing_at(&self.combined.zero) && is_nothing_at(&self.combined.one)
+    }
+}
+
+/// Whether there is nothing at either port.
+fn is_nothing_at<T>(ports: &Ports<Option<T>>) -> bool
+    ensures { result ≡ is_nothing_at ports.now }
+{
+    ports.zero.is_none() && ports.one.is_none()
 }

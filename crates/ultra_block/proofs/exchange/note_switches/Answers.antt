@@ -1,17 +1,33 @@
-use Rattle.std.proofs.Common.{◌<◌, arith, ap, ◌∙◌, length, get_or}
-use Rattle.ultra_block.specs.RoomTable.{RoomTable}
+use Rattle.std.proofs.Common.{ap, ◌∙◌, arith, get_or}
 use Rattle.ultra_block.specs.Tables.{noted_switch, reply_rooms, request_rooms}
-use Rattle.ultra_block.proofs.Written.{same_rooms, written_more}
+use Rattle.ultra_block.specs.Rest.{switch_rests}
+use Rattle.ultra_block.specs.Cut.{no_switch}
+use Rattle.ultra_block.proofs.Rest.{rests_noting_replies, rests_noting_requests}
+use Rattle.ultra_block.proofs.Sparse.{rest_from, next_writes, all_written}
+use Rattle.ultra_block.proofs.Written.{same_rooms}
 use Rattle.ultra_block.proofs.exchange.note_switches.Goals as goal
 
-pub loop-unit-preserved : goal.loop-unit-preserved
-loop-unit-preserved c =
+pub loop-next-preserved : goal.loop-next-preserved
+loop-next-preserved c =
     let us = c.args.units.now in
-    let i = c.loop-unit.unit-index in
-    let v = c.unit-item.result in
-    let h : i < length us = omega arith in
-    let rooms = c.args.rooms.now in
-    c.note_rooms.ensures
-    ∙ ap (λ u. noted_switch u c.loop-unit.rooms) c.unit-item.is
-    ∙ ap (λ (r : RoomTable). noted_switch (get_or us i v) r) c.loop-unit.invariant
-    ∙ same_rooms rooms _ _ _ _ (written_more reply_rooms us i v rooms.replies h) (written_more request_rooms us i v rooms.requests h)
+    let old = c.args.rooms.now in
+    let from = rest_from switch_rests c.args.idle.now us c.requires.idle c.loop-next.place in
+    let within = c.in-Some.ensures.some.within in
+    record {
+      rooms =
+          c.note_rooms.ensures ∙ ap (λ u. noted_switch u c.loop-next.rooms) c.index-units-next.is ∙ ap (λ r. noted_switch (get_or us c.in-Some.next c.index-units-next.result) r) c.loop-next.invariant.rooms
+          ∙ same_rooms old _ _ _ _
+          (next_writes reply_rooms switch_rests rests_noting_replies c.args.idle.now us c.loop-next.place old.replies from c.in-Some.next c.index-units-next.result c.in-Some.ensures.some)
+          (next_writes request_rooms switch_rests rests_noting_requests c.args.idle.now us c.loop-next.place old.requests from c.in-Some.next c.index-units-next.result c.in-Some.ensures.some);
+      within = omega (arith, within);
+    }
+
+pub returns : goal.returns
+returns c =
+    let us = c.args.units.now in
+    let old = c.args.rooms.now in
+    let from = rest_from switch_rests c.args.idle.now us c.requires.idle c.loop-next.place in
+    c.loop-next.invariant.rooms
+    ∙ same_rooms old _ _ _ _
+    (all_written reply_rooms switch_rests rests_noting_replies c.args.idle.now us c.loop-next.place old.replies from no_switch c.loop-next.invariant.within c.in_default.ensures.none)
+    (all_written request_rooms switch_rests rests_noting_requests c.args.idle.now us c.loop-next.place old.requests from no_switch c.loop-next.invariant.within c.in_default.ensures.none)

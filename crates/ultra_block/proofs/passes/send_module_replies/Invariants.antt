@@ -1,7 +1,10 @@
-use Rattle.std.proofs.Common.{◌≡◌}
+use Rattle.std.proofs.Common.{◌-◌, length}
 use Rattle.ultra_block.specs.ModuleSteps.{sends_replies}
-use Rattle.ultra_block.proofs.Mapped.{changed}
+use Rattle.ultra_block.proofs.Sparse.{AreChanged}
 use Rattle.ultra_block.proofs.passes.send_module_replies.Given as goal
 
-abbrev pub invariant-loop-unit : goal.invariant-loop-unit
-invariant-loop-unit l = l.units ≡ changed (sends_replies l.rooms) l.unit-index l.initial.units
+abbrev pub invariant-loop-next : goal.invariant-loop-next
+invariant-loop-next l = AreChanged (sends_replies l.rooms) l.place l.initial.units l.units
+
+abbrev pub decreases-loop-next : goal.decreases-loop-next
+decreases-loop-next l = length l.initial.units - l.place

@@ -1,9 +1,16 @@
-use Rattle.std.proofs.Common.{arith}
 use Rattle.ultra_block.specs.SwitchSteps.{sends_requests}
-use Rattle.ultra_block.proofs.Mapped.{stepped}
+use Rattle.ultra_block.specs.Rest.{switch_rests}
+use Rattle.ultra_block.specs.Cut.{no_switch}
+use Rattle.ultra_block.proofs.Rest.{rests_sending_requests}
+use Rattle.ultra_block.proofs.Sparse.{rest_from, next_changed, all_changed}
 use Rattle.ultra_block.proofs.passes.send_switch_requests.Goals as goal
 
-pub loop-unit-preserved : goal.loop-unit-preserved
-loop-unit-preserved c =
-    stepped (sends_requests c.args.rooms.now) c.args.units.now c.loop-unit.units c.loop-unit.unit-index c.send_requests.new.self c.unit-item.result
-    (omega arith) c.loop-unit.invariant c.send_requests.ensures
+pub loop-next-preserved : goal.loop-next-preserved
+loop-next-preserved c =
+    next_changed (sends_requests c.args.rooms.now) switch_rests (rests_sending_requests c.args.rooms.now) c.args.idle.now c.args.units.now c.loop-next.units c.loop-next.place c.loop-next.invariant (rest_from switch_rests c.args.idle.now c.args.units.now c.requires.idle c.loop-next.place)
+    c.in-Some.next c.send_requests.new.self c.index-units-next.result c.in-Some.ensures.some c.send_requests.ensures
+
+pub returns : goal.returns
+returns c =
+    all_changed (sends_requests c.args.rooms.now) switch_rests (rests_sending_requests c.args.rooms.now) c.args.idle.now c.args.units.now c.loop-next.units c.loop-next.place c.loop-next.invariant (rest_from switch_rests c.args.idle.now c.args.units.now c.requires.idle c.loop-next.place)
+    no_switch c.in_default.ensures.none

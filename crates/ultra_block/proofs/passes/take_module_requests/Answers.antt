@@ -1,12 +1,38 @@
-use Rattle.std.proofs.Common.{arith}
-use Rattle.ultra_block.specs.ModuleSteps.{CanTakeRequests, takes_requests}
-use Rattle.ultra_block.proofs.Mapped.{holds_next, stepped}
+use Rattle.std.proofs.Common.{◌≡◌, true, refl, ap, ◌∙◌, sym, subst}
+use Rattle.ultra_block.specs.ModuleSteps.{takes_requests, CanTakeRequests}
+use Rattle.ultra_block.specs.IdleSet.{is_idle}
+use Rattle.ultra_block.specs.Rest.{module_rests}
+use Rattle.ultra_block.specs.Cut.{no_module}
+use Rattle.ultra_block.proofs.Rest.{module_rests_taking}
+use Rattle.ultra_block.proofs.Sparse.{rest_still, rest-set, next_changed, next_holds, all_changed}
 use Rattle.ultra_block.proofs.passes.take_module_requests.Goals as goal
-
-pub loop-unit-preserved : goal.loop-unit-preserved
-loop-unit-preserved c =
-    stepped takes_requests c.args.units.now c.loop-unit.units c.loop-unit.unit-index c.take_requests.new.self c.unit-item.result
-    (omega arith) c.loop-unit.invariant c.take_requests.ensures
+use Rattle.ultra_block.proofs.passes.take_module_requests.Goals.{then-is_at_rest, else-is_at_rest}
 
 pub take_requests-requires : goal.take_requests-requires
-take_requests-requires c = holds_next takes_requests CanTakeRequests c.args.units.now c.loop-unit.units c.loop-unit.unit-index c.unit-item.result (omega arith) c.loop-unit.invariant c.requires
+take_requests-requires c =
+    next_holds takes_requests module_rests module_rests_taking c.loop-next.idle c.args.units.now c.loop-next.units c.loop-next.place c.loop-next.invariant.units (rest_still takes_requests module_rests c.loop-next.idle c.args.units.now c.loop-next.units c.loop-next.place c.loop-next.invariant.units c.loop-next.invariant.idle)
+    CanTakeRequests c.in-Some.next c.index-units-next.result c.in-Some.ensures.some c.requires.room
+
+pub loop-next-preserved : goal.loop-next-preserved
+loop-next-preserved c =
+    let put = rest-set module_rests c.loop-next.idle in
+    record {
+      units =
+          next_changed takes_requests module_rests module_rests_taking c.loop-next.idle c.args.units.now c.loop-next.units c.loop-next.place c.loop-next.invariant.units (rest_still takes_requests module_rests c.loop-next.idle c.args.units.now c.loop-next.units c.loop-next.place c.loop-next.invariant.units c.loop-next.invariant.idle)
+          c.in-Some.next c.take_requests.new.self c.index-units-next.result c.in-Some.ensures.some c.take_requests.ensures;
+      idle = elim c.if-is_at_rest.branch [
+        | then-is_at_rest w ↦
+            put c.if-is_at_rest.idle c.loop-next.units c.in-Some.next c.take_requests.new.self c.loop-next.invariant.idle
+            (λ k ne. ap (λ s. is_idle s k) w.idle-is ∙ w.insert.ensures.others k ne)
+            (λ h. sym c.is_at_rest.ensures ∙ w.if-is_at_rest.true)
+        | else-is_at_rest w ↦
+            put c.if-is_at_rest.idle c.loop-next.units c.in-Some.next c.take_requests.new.self c.loop-next.invariant.idle
+            (λ k ne. ap (λ s. is_idle s k) w.idle-is)
+            (λ h. let busy = c.in-Some.ensures.some.busy in let is = ap (λ s. is_idle s c.in-Some.next) w.idle-is in cc)
+      ];
+    }
+
+pub returns-clause-units : goal.returns-clause-units
+returns-clause-units c =
+    all_changed takes_requests module_rests module_rests_taking c.loop-next.idle c.args.units.now c.loop-next.units c.loop-next.place c.loop-next.invariant.units (rest_still takes_requests module_rests c.loop-next.idle c.args.units.now c.loop-next.units c.loop-next.place c.loop-next.invariant.units c.loop-next.invariant.idle)
+    no_module c.in_default.ensures.none

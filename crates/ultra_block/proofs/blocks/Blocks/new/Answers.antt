@@ -1,5 +1,5 @@
-use Rattle.std.proofs.Common.{◌≡◌, ◌+◌, ◌*◌, ◌^◌, [], refl, ap, ◌∙◌, sym, subst, length}
-use Rattle.std.proofs.lemmas.List.{length-replicate}
+use Rattle.std.proofs.Common.{◌≡◌, ◌+◌, ◌*◌, ◌^◌, [], refl, ap, ◌∙◌, sym, subst, replicate}
+use Rattle.std.specs.Prelude.{None}
 use Rattle.ultra_block.specs.Built.{AreBuilt}
 use Rattle.ultra_block.specs.Cut.{units_at, HasLinks, HasPlaces}
 use Rattle.ultra_block.specs.MailTable.{MailTable}
@@ -18,8 +18,8 @@ returns-clause-whole c =
     let config = c.args.config.now in
     let number : (c.stages-2.result + 1) * c.size-size.result ≡ (config.stages + 1) * 2 ^ config.stages = rw (c.stages-2.ensures.value, c.size-size.ensures.value, c.net-net.ensures) refl in
     let links : HasLinks config.stages c.in_ok-new-2.field-0 = record {
-      replies = ap (λ (m : MailTable). length m.replies) c.in_ok-new-2.ensures ∙ length-replicate _ _ ∙ number;
-      requests = ap (λ (m : MailTable). length m.requests) c.in_ok-new-2.ensures ∙ length-replicate _ _ ∙ number;
+      replies = ap (λ (m : MailTable). m.replies) c.in_ok-new-2.ensures ∙ ap (λ n. replicate n None) number;
+      requests = ap (λ (m : MailTable). m.requests) c.in_ok-new-2.ensures ∙ ap (λ n. replicate n None) number;
     } in
     let places : HasPlaces config.stages c.in_ok-new.field-0 = subst (λ d. HasPlaces d c.in_ok-new.field-0) c.net-net.ensures c.in_ok-new.ensures in
     subst (λ s. IsReady s c.add_elements.new.homes.items 0 c.add_elements.new.blocks.items c.in_ok-new.field-0 c.in_ok-new-2.field-0) (sym c.in_ok-try_clone.ensures)
@@ -30,8 +30,8 @@ returns-clause-state c =
     let config = c.args.config.now in
     let number : (c.stages-2.result + 1) * c.size-size.result ≡ (config.stages + 1) * 2 ^ config.stages = rw (c.stages-2.ensures.value, c.size-size.ensures.value, c.net-net.ensures) refl in
     let links : HasLinks config.stages c.in_ok-new-2.field-0 = record {
-      replies = ap (λ (m : MailTable). length m.replies) c.in_ok-new-2.ensures ∙ length-replicate _ _ ∙ number;
-      requests = ap (λ (m : MailTable). length m.requests) c.in_ok-new-2.ensures ∙ length-replicate _ _ ∙ number;
+      replies = ap (λ (m : MailTable). m.replies) c.in_ok-new-2.ensures ∙ ap (λ n. replicate n None) number;
+      requests = ap (λ (m : MailTable). m.requests) c.in_ok-new-2.ensures ∙ ap (λ n. replicate n None) number;
     } in
     let places : HasPlaces config.stages c.in_ok-new.field-0 = subst (λ d. HasPlaces d c.in_ok-new.field-0) c.net-net.ensures c.in_ok-new.ensures in
     ap (λ s. machine_from s (units_at s.stages c.add_elements.new.homes.items c.add_elements.new.blocks.items) 0) c.in_ok-try_clone.ensures

@@ -1,7 +1,0 @@
-use Rattle.std.proofs.Common.{◌≡◌}
-use Rattle.ultra_block.specs.BlockSteps.{fetches_replies}
-use Rattle.ultra_block.proofs.Mapped.{changed}
-use Rattle.ultra_block.proofs.every_block.fetch_replies.Given as goal
-
-abbrev pub invariant-loop-block : goal.invariant-loop-block
-invariant-loop-block l = l.blocks ≡ changed (fetches_replies l.mail) l.block-index l.initial.blocks
