@@ -1,6 +1,6 @@
 //! The whole machine, cut into blocks.
 
-ghost use Rattle.std.specs.Prelude.{◌≡◌, ℕ, ◌+◌, ◌-◌, ◌/◌, ◌%◌, ◌^◌, ◌<◌, [], true, false, length, map, slice_index_or, nat_lt, All, IfErr, IfOk, OnOk, IsErrOf, ◌↔◌};
+ghost use Rattle.std.specs.Prelude.{◌≡◌, ℕ, ◌+◌, ◌-◌, ◌/◌, ◌%◌, ◌^◌, ◌<◌, ◌≤◌, [], true, false, length, map, slice_index_or, nat_lt, All, IfErr, IfOk, OnOk, IsErrOf, ◌↔◌};
 ghost use Rattle.std.specs.List.{list_all};
 ghost use Rattle.ultra_block.specs.Partition.{is_partition, unit_count};
 ghost use Rattle.ultra_block.specs.Ported.{at_port};
@@ -102,7 +102,7 @@ impl Blocks {
         let net = config.net();
         let switches = (net.stages() * (net.size() / 2)) as usize;
         let size = net.size() as usize;
-        let mut blocks = empty_blocks(alloc, MOST_BLOCKS as usize)?;
+        let mut blocks = empty_blocks(alloc, blocks_named(partition))?;
         let mut homes = Vec::new(alloc);
         add_switches(alloc, config, partition, &mut blocks, &mut homes)?;
         add_modules(alloc, config, partition, switches, &mut blocks, &mut homes)?;
@@ -431,6 +431,25 @@ fn units_wanted(config: &Config) -> usize
     let net = config.net();
     let stages = net.stages();
     (stages * (net.size() / 2) + 2 * net.size()) as usize
+}
+
+/// How many blocks a partition names: one more than the last of them.
+fn blocks_named(partition: &[u8]) -> usize
+    ensures { All (λ (b : ℕ). b < result) partition.now }
+{
+    let mut count = 0;
+    for block in partition {
+        count = larger(count, *block as usize + 1);
+    }
+    count
+}
+
+/// The larger of two numbers.
+fn larger(a: usize, b: usize) -> usize
+    ensures first { a ≤ result }
+    ensures second { b ≤ result }
+{
+    if a < b { b } else { a }
 }
 
 /// Whether each is a block from 0 to 63.

@@ -11,7 +11,7 @@ use Rattle.ultra_block.proofs.blocks.Blocks.new.Goals as goal
 pub add_switches-requires-clause-built : goal.add_switches-requires-clause-built
 add_switches-requires-clause-built c =
     subst (λ hs. AreBuilt c.args.config.now 0 0 0 hs c.in_ok-blocks.blocks.items) (sym c.new-homes.ensures.items)
-    (subst (λ bs. AreBuilt c.args.config.now 0 0 0 [] bs) (sym c.in_ok-blocks.ensures) (none_built c.args.config.now 64))
+    (subst (λ bs. AreBuilt c.args.config.now 0 0 0 [] bs) (sym c.in_ok-blocks.ensures) (none_built c.args.config.now c.blocks_named.result))
 
 pub returns-clause-whole : goal.returns-clause-whole
 returns-clause-whole c =
