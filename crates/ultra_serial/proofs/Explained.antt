@@ -1,5 +1,5 @@
 -- what the messages of a machine say, by their trees: a request sends what its tree sends, a reply answers the leaves of its tree, a record gives as its pair does
-use Rattle.std.proofs.Common.{◌≡◌, ℕ, suc, ◌<◌, List, [], ◌∷◌, ◌++◌, Bool, true, false, ◌⊎◌, inl, inr}
+use Rattle.std.proofs.Common.{◌≡◌, ℕ, suc, ◌<◌, ◌≤◌, List, [], ◌∷◌, ◌++◌, Bool, true, false, arith, ◌⊎◌, inl, inr}
 use Rattle.std.specs.Prelude.{Some, IfSome}
 use Rattle.std.specs.List.{AllByRecursion}
 use Rattle.ultra_msg.specs.declared.Reply.{Reply}
@@ -43,6 +43,10 @@ explained_more list more (pair s x old new f) r h = (explained_more list more ol
 abbrev pub bound : ℕ → Bool → ℕ
 bound s true = suc s
 bound s false = s
+
+pub bound_small : (n s : ℕ) (marked : Bool) → s < n → bound s marked ≤ n
+bound_small n s true h = omega (arith, h)
+bound_small n s false h = omega (arith, h)
 
 module _ (c : Settings) (m : Machine) (is : List Issue) where
   -- a request's tree is kept, and sends what it asks

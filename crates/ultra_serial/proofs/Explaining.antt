@@ -13,8 +13,7 @@ use Rattle.ultra_serial.specs.Legal.{Entry, Cells, Has, with_cell, given_over, g
 use Rattle.ultra_serial.specs.Breach.{cells_past, IsFaulty, IsBreach, part, turn, IsFirstBreach, ExplainsFault}
 use Rattle.ultra_serial.specs.Examined.{WasIssued, IsNew, IsReplayed, IsAgreed, Finds, IsFirstAfter, AreExplained, IsListed, IsFirstMissing, IsFine}
 use Rattle.ultra_serial.proofs.Lists.{get_left}
-use Rattle.ultra_serial.proofs.Replays.{replayed-append, with_other}
-use Rattle.ultra_serial.proofs.Turns.{cells_after-append}
+use Rattle.ultra_serial.proofs.Replays.{cells-append, replayed-append, with_other}
 
 -- ---- places of a list with one element more
 get_push : {X : Type 0} (xs : List X) (y : X) (k : ℕ) (x : X) → slice_get (xs ++ y ∷ []) k ≡ Some x → ((k < length xs) × (slice_get xs k ≡ Some x)) ⊎ ((k ≡ length xs) × (y ≡ x))
@@ -48,7 +47,7 @@ requests es = map (λ (e : Entry). request_of e) es
 -- ---- an entry more that is without fault
 module _ (initial : Cells) (log : Log) (xs : List Entry) (from : ℕ) (e : Entry) where
   pub past_more : cells_past initial (xs ++ e ∷ []) ≡ with_cell (cells_past initial xs) e.cell (act e.op (cells_past initial xs e.cell)).0
-  past_more = ap (λ ls. cells_after initial ls) (map-append (λ (e : Entry). request_of e) xs (e ∷ [])) ∙ cells_after-append initial (requests xs) (request_of e ∷ [])
+  past_more = ap (λ ls. cells_after initial ls) (map-append (λ (e : Entry). request_of e) xs (e ∷ [])) ∙ cells-append initial (requests xs) (request_of e ∷ [])
 
   module _ (h : AreExplained initial log xs) (f : Finds log xs from (cells_past initial xs) e None) (b : IsFirstAfter log xs from) where
     replies_more : replayed initial (requests (xs ++ e ∷ [])) ≡ xs ++ e ∷ []

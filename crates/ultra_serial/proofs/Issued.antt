@@ -2,7 +2,7 @@
 use Rattle.std.proofs.Common.{◌≡◌, ◌≢◌, ℕ, suc, ◌+◌, ◌<◌, ◌≤◌, List, [], ◌∷◌, Bool, false, refl, arith, sym, ◌∙◌, ap, ◌⊎◌, ⊎_elim, inl, inr}
 use Rattle.std.specs.Prelude.{Option, Some, None, IfSome}
 use Rattle.std.specs.List.{AllByRecursion}
-use Rattle.std.proofs.lemmas.Bool.{cases_lt}
+use Rattle.std.proofs.lemmas.Bool.{cases_lt, cases_Bool}
 use Rattle.std.proofs.lemmas.List.{append-nil}
 use Rattle.ultra_msg.specs.declared.Request.{Request}
 use Rattle.ultra_msg.specs.declared.Event.{Event}
@@ -22,7 +22,7 @@ use Rattle.ultra_block.proofs.AtPlaces.{element-processor_phase}
 use Rattle.ultra_serial.specs.Tree.{Leaf, leaves, Kept, trees_after}
 use Rattle.ultra_serial.specs.Log.{Issue}
 use Rattle.ultra_serial.specs.SerialList.{History, noted, after_event}
-use Rattle.ultra_serial.proofs.Tidy.{is_that, true_or_false}
+use Rattle.ultra_serial.proofs.Tidy.{is_that}
 use Rattle.ultra_serial.proofs.Mentions.{sum_of, sum-places, trees_noted, noted_trees}
 use Rattle.ultra_serial.proofs.RequestForest.{in_holds}
 use Rattle.ultra_serial.proofs.ProcessorForest.{issues_after, issues_noted, noted_issues}
@@ -167,7 +167,7 @@ module _ (c : Settings) (program : List Instr) (m : Machine) where
         let known = in_holds (IsEarlier c m n) z.0 h.log.issues g.issues z.1 in
         let here : (element_at m z.0.pe).issued ≡ (element_at m p).issued = ap (λ q. (element_at m q).issued) (z.2 ∙ that.0) in
         absurd (omega (arith, known.number, z.3, that.1, here)))
-        (λ e. e) (true_or_false (is_named p (element_at m p).issued l))
+        (λ e. e) (cases_Bool (is_named p (element_at m p).issued l))
 
     none_named : (p : ℕ) (ls : List Leaf) → AreLogged h.log.issues ls → count (is_named p (element_at m p).issued) ls ≡ 0
     none_named p ls z = count-none (is_named p (element_at m p).issued) ls (each-weaker (IsLogged h.log.issues) (λ l. is_named p (element_at m p).issued l ≡ false) ls (λ l v. unnamed p l v) z)
@@ -192,11 +192,11 @@ module _ (c : Settings) (program : List Instr) (m : Machine) where
       new_apart : (q : ℕ) (e : Element) (o : Option Request) → ((r : Request) → o ≡ Some r → r.pe ≡ q) → q ≢ p → new_some (issue_event e o) ≡ 0
       new_apart q e None own apart = refl
       new_apart q e (Some r) own apart =
-          ⊎_elim (λ z. absurd (apart (sym (own r refl) ∙ (is_that p k r.pe e.issued z).0))) (λ z. rw z refl) (true_or_false (is_reference p k r.pe e.issued))
+          ⊎_elim (λ z. absurd (apart (sym (own r refl) ∙ (is_that p k r.pe e.issued z).0))) (λ z. rw z refl) (cases_Bool (is_reference p k r.pe e.issued))
 
       new_is : (e : Element) (o : Option Request) → (new_some (issue_event e o) ≡ 0) ⊎ ((new_some (issue_event e o) ≤ 1) × (k ≡ e.issued))
       new_is e None = inl refl
-      new_is e (Some r) = ⊎_elim (λ z. inr (rw z (omega arith), sym (is_that p k r.pe e.issued z).1)) (λ z. inl (rw z refl)) (true_or_false (is_reference p k r.pe e.issued))
+      new_is e (Some r) = ⊎_elim (λ z. inr (rw z (omega arith), sym (is_that p k r.pe e.issued z).1)) (λ z. inl (rw z refl)) (cases_Bool (is_reference p k r.pe e.issued))
 
       new_by : (sum_of (new_leaf (is_named p k)) all_issued ≡ 0) ⊎ ((sum_of (new_leaf (is_named p k)) all_issued ≤ 1) × (k ≡ (element_at m p).issued))
       new_by =

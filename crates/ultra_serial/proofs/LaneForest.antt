@@ -19,7 +19,7 @@ use Rattle.ultra_block.proofs.Counting.{both_true, count-append, is_reference}
 use Rattle.ultra_serial.specs.Tree.{Kept}
 use Rattle.ultra_serial.specs.Log.{Issue}
 use Rattle.ultra_serial.proofs.Series.{sent}
-use Rattle.ultra_serial.proofs.Tidy.{old_records, marked_in}
+use Rattle.ultra_serial.proofs.Tidy.{old_records, marked_in, zero_weight}
 use Rattle.ultra_serial.proofs.Forest.{find_record, built}
 use Rattle.ultra_serial.proofs.Explained.{IsIn, in-append, in-append_right, IsKeptAt, IsGiven}
 use Rattle.ultra_serial.proofs.Mentions.{mention, mentions, sum-append}
@@ -119,10 +119,6 @@ find_append : (p a : ℕ) (ws : List WaitRecord) (v : WaitRecord) → is_referen
 find_append p a [] v h = let f : Bool → Option WaitRecord = λ b. elim b [ true ↦ Some v | false ↦ None ] in sym (ap f h)
 find_append p a (u ∷ ws) v h = let f : Option WaitRecord → Option WaitRecord = λ o. elim (is_reference p a u.pe u.cell) [ true ↦ Some u | false ↦ o ] in ap f (find_append p a ws v h)
 
-weight_zero : (b : Bool) → weight b ≤ 0 → b ≡ false
-weight_zero true h = absurd (omega (arith, h))
-weight_zero false h = refl
-
 arrived_records : (p a : ℕ) (l : Lane) (r : Request) (o : Option Combination) → old_records (is_reference p a) l.records ≤ old_records (is_reference p a) (after_arrival l r o).records
 arrived_records p a l r None = omega arith
 arrived_records p a l r (Some c) = omega (arith, count-append (λ (w : WaitRecord). is_reference p a w.pe w.cell) l.records (wait_record c.old r ∷ []))
@@ -135,7 +131,7 @@ arrived_find : (p a : ℕ) (l : Lane) (r : Request) (o : Option Combination) →
 arrived_find p a l r None h = refl
 arrived_find p a l r (Some c) h =
     let more = count-append (λ (w : WaitRecord). is_reference p a w.pe w.cell) l.records (wait_record c.old r ∷ []) in
-    find_append p a l.records (wait_record c.old r) (weight_zero (is_reference p a c.old.request.pe c.old.request.cell) (omega (arith, more, h)))
+    find_append p a l.records (wait_record c.old r) (zero_weight (is_reference p a c.old.request.pe c.old.request.cell) (omega (arith, more, h)))
 
 pub same_find : (p a w : ℕ) (l : Lane) (rs : List Request) → old_records (is_reference p a) (arrive_all w l rs).records ≤ old_records (is_reference p a) l.records → find_record p a l.records ≡ find_record p a (arrive_all w l rs).records
 same_find p a w l [] h = refl

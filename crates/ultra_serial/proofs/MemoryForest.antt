@@ -38,7 +38,7 @@ use Rattle.ultra_serial.proofs.Forest.{built, built_leaf, built_next, built_prop
 use Rattle.ultra_serial.proofs.Standing.{each_in, some_in, once}
 use Rattle.ultra_serial.proofs.Explained.{IsExplained, explained_more, bound, IsKeptAt, IsAnswered, IsGiven, IsForest}
 use Rattle.ultra_serial.proofs.ReplyForest.{each_and, some_and}
-use Rattle.ultra_serial.proofs.Mentions.{mention, mentions, sum_of, sum-places, noted_trees, unmentioned, without_other}
+use Rattle.ultra_serial.proofs.Mentions.{mentions, mention_some, present_mentions, sum-places, noted_trees, unmentioned, without_other}
 use Rattle.ultra_serial.proofs.Replays.{AreFor, cells-append, replayed-append, explained_right, cell_after, cell_kept, built_is_for, for_leaves, replay_explains}
 
 -- the history after an event, if there is one
@@ -233,29 +233,20 @@ module _ (c : Settings) (range : AreInRange c) (m : Machine) (shape : HasShape c
       abbrev inputs_on_way : Bank → ℕ
       inputs_on_way v = count_option (λ (p : Placed). t p.request.pe p.request.cell) v.inp
 
-      abbrev mention_some : Option Event → ℕ
-      mention_some None = 0
-      mention_some (Some e) = mention t e
-
-      present_mentions : (os : List (Option Event)) → mentions t (present os) ≡ sum_of (λ o. mention_some o) os
-      present_mentions [] = refl
-      present_mentions (None ∷ os) = omega (arith, present_mentions os)
-      present_mentions (Some e ∷ os) = omega (arith, present_mentions os)
-
       taken_of : (k : ℕ) (v : Bank) (i : Option Placed) (o : Option ReplyMessage) → v.inp ≡ i → v.out ≡ o
-          → let s : Option Placed = elim o [ None ↦ i | Some r ↦ None ] in mention_some (serving k (act_of v s)) + inputs_on_way (after_serving v s) ≡ inputs_on_way v
+          → let s : Option Placed = elim o [ None ↦ i | Some r ↦ None ] in mention_some t (serving k (act_of v s)) + inputs_on_way (after_serving v s) ≡ inputs_on_way v
       taken_of k v i (Some r) e d = omega arith
       taken_of k v None None e d = omega arith
       taken_of k v (Some p) None e d = rw e (omega arith)
 
-      taken_at : (k : ℕ) → k < size c → mention_some (event_at k) + inputs_on_way (bank_at after k) ≡ inputs_on_way (bank_at m k)
+      taken_at : (k : ℕ) → k < size c → mention_some t (event_at k) + inputs_on_way (bank_at after k) ≡ inputs_on_way (bank_at m k)
       taken_at k h = rw (bank-memory_phase c m k h) (taken_of k (bank_at m k) (bank_at m k).inp (bank_at m k).out refl refl)
 
       all_taken : mentions t all_served + total (size c) (λ k. inputs_on_way (bank_at after k)) ≡ total (size c) (λ k. inputs_on_way (bank_at m k))
       all_taken =
-          let named = present_mentions (places (size c) event_at) ∙ sum-places (λ o. mention_some o) (size c) event_at in
-          let sum = total_plus (size c) (λ k. mention_some (event_at k)) (λ k. inputs_on_way (bank_at after k)) in
-          let each = total_same (size c) (λ k. mention_some (event_at k) + inputs_on_way (bank_at after k)) (λ k. inputs_on_way (bank_at m k)) taken_at in
+          let named = present_mentions t (places (size c) event_at) ∙ sum-places (mention_some t) (size c) event_at in
+          let sum = total_plus (size c) (λ k. mention_some t (event_at k)) (λ k. inputs_on_way (bank_at after k)) in
+          let each = total_same (size c) (λ k. mention_some t (event_at k) + inputs_on_way (bank_at after k)) (λ k. inputs_on_way (bank_at m k)) taken_at in
           omega (arith, named, sum, each)
 
       inputs_within : total (size c) (λ k. inputs_on_way (bank_at m k)) ≤ total (size c) (λ k. bank_on_way t (bank_at m k))

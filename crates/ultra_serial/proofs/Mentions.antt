@@ -4,13 +4,13 @@ use Rattle.std.specs.Prelude.{Option, Some, None}
 use Rattle.std.specs.List.{range_with_len}
 use Rattle.ultra_msg.specs.declared.Event.{Event}
 use Rattle.ultra_msg.specs.declared.Event.TheVariants.{Delivered, Served, Combined, Issued}
-use Rattle.ultra_block.specs.Places.{places, table, joined}
+use Rattle.ultra_block.specs.Places.{places, table, joined, present}
 use Rattle.ultra_block.specs.Balance.{weight, total}
 use Rattle.ultra_block.proofs.Sums.{total_none, total_front, total_same}
 use Rattle.ultra_block.proofs.Counting.{is_reference}
 use Rattle.ultra_serial.specs.Tree.{Tree, pair, Kept, kept, is_under, tree_of, without, paired, trees_after}
 use Rattle.ultra_serial.specs.SerialList.{History, noted, after_event}
-use Rattle.ultra_serial.proofs.Tidy.{is_that, that_is}
+use Rattle.ultra_serial.proofs.Tidy.{is_that, that_is, zero_weight}
 use Rattle.ultra_serial.proofs.Explained.{IsIn, in-append, in-append_right}
 
 -- how often an event names a reference whose tree it changes
@@ -49,6 +49,16 @@ pub sum-places : {X : Type 0} (g : X → ℕ) (n : ℕ) (f : ℕ → X) → sum_
 unfolding places
 sum-places g n f = sum-from g f n 0 ∙ total_same n _ _ (λ k l. ap (λ j. g (f j)) (omega arith))
 
+-- over the events that there are
+abbrev pub mention_some : (ℕ → ℕ → Bool) → Option Event → ℕ
+mention_some t None = 0
+mention_some t (Some e) = mention t e
+
+pub present_mentions : (t : ℕ → ℕ → Bool) (os : List (Option Event)) → mentions t (present os) ≡ sum_of (mention_some t) os
+present_mentions t [] = refl
+present_mentions t (None ∷ os) = omega (arith, present_mentions t os)
+present_mentions t (Some e ∷ os) = omega (arith, present_mentions t os)
+
 -- over all places of a table
 pub sum-table : {X : Type 0} (g : X → ℕ) (m n : ℕ) (f : ℕ → ℕ → List X) → sum_of g (joined (joined (table m n f))) ≡ total m (λ s. total n (λ x. sum_of g (f s x)))
 sum-table g m n f =
@@ -85,10 +95,6 @@ trees_noted (e ∷ es) ks = trees_noted es (trees_after ks e)
 pub noted_trees : (n : ℕ) (es : List Event) (h : History) → (noted n es h).trees ≡ trees_noted es h.trees
 noted_trees n [] h = refl
 noted_trees n (e ∷ es) h = noted_trees n es (after_event n h e)
-
-zero_weight : (b : Bool) → weight b ≤ 0 → b ≡ false
-zero_weight true h = absurd (omega (arith, h))
-zero_weight false h = refl
 
 -- the tree of another reference stays
 under_other : (p a : ℕ) (k : Kept) (ks : List Kept) → is_reference p a k.pe k.cell ≡ false → tree_of p a (k ∷ ks) ≡ tree_of p a ks

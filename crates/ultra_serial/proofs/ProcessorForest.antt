@@ -2,6 +2,7 @@
 use Rattle.std.proofs.Common.{◌≡◌, ◌≢◌, ℕ, ◌<◌, ◌≤◌, List, [], ◌∷◌, ◌++◌, Bool, true, false, refl, arith, sym, ◌∙◌, ap, subst, ⊎_elim, inl, inr}
 use Rattle.std.specs.Prelude.{Option, Some, None, IfSome, ◌==◌}
 use Rattle.std.specs.List.{AllByRecursion}
+use Rattle.std.proofs.lemmas.Bool.{cases_Bool}
 use Rattle.ultra_msg.specs.declared.Op.{Op}
 use Rattle.ultra_msg.specs.declared.Op.TheVariants.{Load}
 use Rattle.ultra_msg.specs.declared.Request.{Request}
@@ -32,12 +33,12 @@ use Rattle.ultra_serial.specs.Log.{Issue, latest_number, is_issue_for}
 use Rattle.ultra_serial.specs.Legal.{Entry as Done}
 use Rattle.ultra_serial.specs.SerialList.{History, noted, after_event}
 use Rattle.ultra_serial.proofs.Series.{sent}
-use Rattle.ultra_serial.proofs.Tidy.{old_records, lanes_of, IsTidy, that_is, is_that, true_or_false}
+use Rattle.ultra_serial.proofs.Tidy.{old_records, lanes_of, IsTidy, that_is, is_that, zero_weight}
 use Rattle.ultra_serial.proofs.Forest.{latest_op, leaf_of, record_at, position_of, built, built_leaf, same_built, found_record, found_partner}
 use Rattle.ultra_serial.proofs.Standing.{each_in, some_in, marked_lanes, position_small}
-use Rattle.ultra_serial.proofs.Explained.{IsIn, IsExplained, bound, IsKeptAt, IsAnswered, IsGiven, IsForest}
+use Rattle.ultra_serial.proofs.Explained.{IsIn, IsExplained, bound, bound_small, IsKeptAt, IsAnswered, IsGiven, IsForest}
 use Rattle.ultra_serial.proofs.ReplyForest.{each_and, some_and}
-use Rattle.ultra_serial.proofs.Mentions.{mention, mentions, sum_of, sum-places, in-places, trees_noted, unmentioned}
+use Rattle.ultra_serial.proofs.Mentions.{mention, mentions, mention_some, present_mentions, sum-places, in-places, trees_noted, unmentioned}
 
 -- ---- the issues after events
 abbrev pub issues_after : ℕ → List Issue → Event → List Issue
@@ -82,10 +83,6 @@ leaf_by p a is i false e =
     let n : latest_number p a (is ++ i ∷ []) 0 ≡ latest_number p a is 0 = number-append p a is i 0 ∙ ap f e in
     let o : latest_op p a (is ++ i ∷ []) Load ≡ latest_op p a is Load = op-append p a is i Load ∙ ap g e in
     rw (n, o) refl
-
-zero_weight : (b : Bool) → weight b ≤ 0 → b ≡ false
-zero_weight true h = absurd (omega (arith, h))
-zero_weight false h = refl
 
 event_leaf : (n p a : ℕ) (is : List Issue) (e : Event) → mention (is_reference p a) e ≤ 0 → leaf_of (issues_after n is e) p a ≡ leaf_of is p a
 event_leaf n p a is (Delivered r) h = refl
@@ -137,26 +134,17 @@ module _ (c : Settings) (range : AreInRange c) (program : List Instr) (m : Machi
 
   -- ---- how often a reference is issued
   module _ (t : ℕ → ℕ → Bool) where
-    abbrev mention_some : Option Event → ℕ
-    mention_some None = 0
-    mention_some (Some e) = mention t e
-
-    present_mentions : (os : List (Option Event)) → mentions t (present os) ≡ sum_of (λ o. mention_some o) os
-    present_mentions [] = refl
-    present_mentions (None ∷ os) = omega (arith, present_mentions os)
-    present_mentions (Some e ∷ os) = omega (arith, present_mentions os)
-
-    all_mentions : mentions t all_issued ≡ total (size c) (λ p. mention_some (event_at p))
-    all_mentions = present_mentions (places (size c) event_at) ∙ sum-places (λ o. mention_some o) (size c) event_at
+    all_mentions : mentions t all_issued ≡ total (size c) (λ p. mention_some t (event_at p))
+    all_mentions = present_mentions t (places (size c) event_at) ∙ sum-places (mention_some t) (size c) event_at
 
   issued_by : (q a p : ℕ) (i j : Interface) (e : Element) (o : Option Request) → p ≢ q → SendsInto (site c p) c.most_open i j o → mention_some (is_reference q a) (issue_event e o) ≡ 0
   issued_by q a p i j e None apart h = refl
   issued_by q a p i j e (Some r) apart h =
-      ⊎_elim (λ k. absurd (apart (sym h.0 ∙ (is_that q a r.pe r.cell k).0))) (λ k. rw k refl) (true_or_false (is_reference q a r.pe r.cell))
+      ⊎_elim (λ k. absurd (apart (sym h.0 ∙ (is_that q a r.pe r.cell k).0))) (λ k. rw k refl) (cases_Bool (is_reference q a r.pe r.cell))
 
   at_most_one : (q a : ℕ) (e : Element) (o : Option Request) → mention_some (is_reference q a) (issue_event e o) ≤ 1
   at_most_one q a e None = omega arith
-  at_most_one q a e (Some r) = ⊎_elim (λ k. rw k (omega arith)) (λ k. rw k (omega arith)) (true_or_false (is_reference q a r.pe r.cell))
+  at_most_one q a e (Some r) = ⊎_elim (λ k. rw k (omega arith)) (λ k. rw k (omega arith)) (cases_Bool (is_reference q a r.pe r.cell))
 
   only_by : (q a : ℕ) → q < size c → mentions (is_reference q a) all_issued ≡ mention_some (is_reference q a) (event_at q)
   only_by q a hq =
@@ -174,7 +162,7 @@ module _ (c : Settings) (range : AreInRange c) (program : List Instr) (m : Machi
       let cell : r.cell ≡ a = (is_that q a r.pe r.cell k).1 in
       let none : count (λ (v : OpenCell). v.cell == a) i.opened ≡ 0 = rw (← cell) (none_open r.cell i.opened h.2) in
       absurd (omega (arith, none, l)))
-      (λ k. rw k (omega arith)) (true_or_false (is_reference q a r.pe r.cell))
+      (λ k. rw k (omega arith)) (cases_Bool (is_reference q a r.pe r.cell))
 
   -- a reference that is on its way isn't issued
   not_issued : (q a : ℕ) → q < size c → 1 ≤ on_way (is_reference q a) c m → mentions (is_reference q a) all_issued ≤ 0
@@ -249,10 +237,6 @@ module _ (c : Settings) (range : AreInRange c) (program : List Instr) (m : Machi
         rw (element-processor_phase c program m p hp)
         (pending_by p (step_at c program m p).interface (sent_by p) hp (sends c program m p) (issue_there p (sent_by p) (in-places event_at (size c) p hp)))
 
-    bound_small : (s : ℕ) (marked : Bool) → s < c.stages → bound s marked ≤ c.stages
-    bound_small s true h = omega (arith, h)
-    bound_small s false h = omega (arith, h)
-
     queued_after : (s x : ℕ) → s < c.stages → x < size c → AllByRecursion (λ (e : Entry). IsKeptAt c after issues trees (bound s e.combined) e.request) (lane_at m s x).queue
     queued_after s x hs hx =
         each_in (λ (e : Entry). IsEntryAt c s x e × IsKeptAt c m is ks (bound s e.combined) e.request) (λ (e : Entry). IsKeptAt c after issues trees (bound s e.combined) e.request) (lane_at m s x).queue
@@ -260,7 +244,7 @@ module _ (c : Settings) (range : AreInRange c) (program : List Instr) (m : Machi
         let t = is_reference e.request.pe e.request.cell in
         let one = counts (entry_passes t) (that_is e.request.pe e.request.cell) in
         let there = table_term c.stages (size c) (λ i z. lane_on_way t (lane_at m i z)) s x hs hx in
-        kept_after (bound s e.combined) e.request (bound_small s e.combined hs) h.0.reference.element (omega (arith, one, there)) h.1)
+        kept_after (bound s e.combined) e.request (bound_small c.stages s e.combined hs) h.0.reference.element (omega (arith, one, there)) h.1)
         (each_and (IsEntryAt c s x) (λ (e : Entry). IsKeptAt c m is ks (bound s e.combined) e.request) (lane_at m s x).queue (w.requests s x hs hx) (f.queued s x hs hx))
 
     input_after : (k : ℕ) → k < size c → IfSome (bank_at m k).inp (λ (p : Placed). IsKeptAt c after issues trees c.stages p.request)

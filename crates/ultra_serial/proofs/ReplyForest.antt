@@ -29,10 +29,10 @@ use Rattle.ultra_serial.specs.Tree.{Kept}
 use Rattle.ultra_serial.specs.Log.{Issue}
 use Rattle.ultra_serial.specs.Legal.{Entry as Done}
 use Rattle.ultra_serial.proofs.Series.{sent}
-use Rattle.ultra_serial.proofs.Tidy.{old_records, lanes_of, replies_of as stage_replies, IsTidy, total_most, is_that, that_is, comes, lanes_row, replies_row, tidy-reply_phase}
+use Rattle.ultra_serial.proofs.Tidy.{old_records, lanes_of, replies_of as stage_replies, IsTidy, total_most, is_that, that_is, zero_weight, comes, lanes_row, replies_row, tidy-reply_phase}
 use Rattle.ultra_serial.proofs.Forest.{find_record, record_at, position_of, built, built_leaf, built_next, grown, same_built, found_record, found_is, found_partner}
 use Rattle.ultra_serial.proofs.Standing.{each_in, some_in, total_both, marked_lanes, once, position_small}
-use Rattle.ultra_serial.proofs.Explained.{IsExplained, bound, IsKeptAt, IsAnswered, IsGiven, IsForest}
+use Rattle.ultra_serial.proofs.Explained.{IsExplained, bound, bound_small, IsKeptAt, IsAnswered, IsGiven, IsForest}
 
 -- ---- lists
 pub each_and : {X : Type 0} (P Q : X → Type 0) (xs : List X) → AllByRecursion P xs → AllByRecursion Q xs → AllByRecursion (λ x. P x × Q x) xs
@@ -79,13 +79,9 @@ find_after : (p a : ℕ) (r : ReplyMessage) (ws : List WaitRecord) → is_refere
 find_after p a r [] h = refl
 find_after p a r (w ∷ ws) h = find_step p a r w ws (is_of r w) refl h (find_after p a r ws h)
 
-none_weight : (b : Bool) → weight b ≤ 0 → b ≡ false
-none_weight true h = absurd (omega (arith, h))
-none_weight false h = refl
-
 find_left : (p a : ℕ) (ws : List WaitRecord) (o : Option ReplyMessage) → count_option (reply_passes (is_reference p a)) o ≤ 0 → find_record p a ws ≡ find_record p a (records_left ws o)
 find_left p a ws None h = refl
-find_left p a ws (Some r) h = sym (find_after p a r ws (none_weight (is_reference p a r.pe r.cell) h))
+find_left p a ws (Some r) h = sym (find_after p a r ws (zero_weight (is_reference p a r.pe r.cell) h))
 
 -- what becomes of a reply, by the record that it finds
 abbrev made_by : ReplyMessage → Option WaitRecord → List ReplyMessage
@@ -213,10 +209,6 @@ module _ (c : Settings) (range : AreInRange c) (m : Machine) (w : IsRouted c m) 
       pending_said p e None h = each_in (IsKeptAt c m is ks 0) (IsKeptAt c after is ks 0) e.interface.pending (λ r counts k. kept_leaf r k) h
       pending_said p e (Some v) h = each_in (IsKeptAt c m is ks 0) (IsKeptAt c after is ks 0) e.interface.pending (λ r counts k. kept_leaf r k) h
 
-      bound_small : (s : ℕ) (marked : Bool) → s < c.stages → bound s marked ≤ c.stages
-      bound_small s true h = omega (arith, h)
-      bound_small s false h = omega (arith, h)
-
       queued_said : (s x : ℕ) → s < c.stages → x < size c → AllByRecursion (λ (e : Entry). IsKeptAt c after is ks (bound s e.combined) e.request) (lane_at m s x).queue
       queued_said s x hs hx =
           each_in (λ (e : Entry). IsEntryAt c s x e × IsKeptAt c m is ks (bound s e.combined) e.request) (λ (e : Entry). IsKeptAt c after is ks (bound s e.combined) e.request) (lane_at m s x).queue
@@ -226,7 +218,7 @@ module _ (c : Settings) (range : AreInRange c) (m : Machine) (w : IsRouted c m) 
           let one = counts (entry_passes t) (that_is e.request.pe e.request.cell) in
           let there = total_term (size c) (λ z. lane_on_way t (lane_at after s z)) x hx in
           let lane : 1 ≤ lane_on_way t (lane_at after s x) = rw (lane-reply_phase c m s x hs hx) (omega (arith, one)) in
-          let small = bound_small s e.combined hs in
+          let small = bound_small c.stages s e.combined hs in
           kept_moved (bound s e.combined) e.request small hp (λ i l. still_lanes e.request.pe e.request.cell s i hp hs (omega (arith, l, small)) (omega (arith, there, lane))) k.1)
           (each_and (IsEntryAt c s x) (λ (e : Entry). IsKeptAt c m is ks (bound s e.combined) e.request) (lane_at m s x).queue (w.requests s x hs hx) (f.queued s x hs hx))
 

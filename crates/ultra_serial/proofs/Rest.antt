@@ -22,16 +22,12 @@ use Rattle.ultra_block.specs.Places.{places, table, in_table, present, joined}
 use Rattle.ultra_block.specs.Machine.{Settings, Machine, Element, fresh_element, size, site, last_stage, start, lane_at, replies_at, bank_at, element_at, is_empty, is_nothing, is_quiet}
 use Rattle.ultra_block.specs.Phases.{delivery, serving, issue_event, combinations, has_reply_room, reply_before, arriving_reply, leaving_reply, replies_at_exit, next_replies, lane_after_split, delivered, without_reply, deliver, request_before, arriving_request, entering, with_request, leaving_request, arrivals_by, arrivals, lane_after_leaving, next_lane, without_pending, step_at, stepped, reply_phase, memory_phase, request_phase, processor_phase, cycle, after}
 use Rattle.ultra_block.proofs.Each.{each-places, each-joined, if_tested, length-places}
-use Rattle.ultra_block.proofs.Quiet.{right_true}
+use Rattle.ultra_block.proofs.Counting.{both_true}
 use Rattle.ultra_block.proofs.AtPlaces.{element-reply_phase, element-request_phase, element-processor_phase}
 use Rattle.ultra_serial.specs.Legal.{given, replayed}
 use Rattle.ultra_serial.specs.SerialList.{History, noted, history, serial_list}
 
 -- ---- tests
-left_true : (a b : Bool) → (a && b) ≡ true → a ≡ true
-left_true true b h = refl
-left_true false b h = h
-
 nothing_in : {X : Type 0} (xs : List X) → is_empty xs ≡ true → xs ≡ []
 nothing_in [] h = refl
 nothing_in (x ∷ xs) h = absurd cc
@@ -69,9 +65,9 @@ none_there n f h = present_none (places n f) (each-places (λ o. o ≡ None) n f
 held : {X : Type 0} (t : X → Bool) (d : X) (xs : List X) (k : ℕ) → (k < length xs) ⊎ (t d ≡ true) → list_all t xs ≡ true → t (slice_index_or xs k d) ≡ true
 held t d [] k (inl l) h = absurd (omega (arith, l))
 held t d [] k (inr e) h = e
-held t d (x ∷ xs) zero e h = left_true (t x) (list_all t xs) h
-held t d (x ∷ xs) (suc k) (inl l) h = held t d xs k (inl (omega (arith, l))) (right_true (t x) (list_all t xs) h)
-held t d (x ∷ xs) (suc k) (inr e) h = held t d xs k (inr e) (right_true (t x) (list_all t xs) h)
+held t d (x ∷ xs) zero e h = (both_true (t x) (list_all t xs) h).0
+held t d (x ∷ xs) (suc k) (inl l) h = held t d xs k (inl (omega (arith, l))) (both_true (t x) (list_all t xs) h).1
+held t d (x ∷ xs) (suc k) (inr e) h = held t d xs k (inr e) (both_true (t x) (list_all t xs) h).1
 
 -- ---- at rest: nothing is on its way or open
 pub record IsAtRest (c : Settings) (m : Machine) : Type 0 where
@@ -82,7 +78,7 @@ pub record IsAtRest (c : Settings) (m : Machine) : Type 0 where
   pub stopped : (p : ℕ) → p < size c → has_stopped (element_at m p).core.activity ≡ true
 
 idle_lane : (l : Lane) → (is_empty l.queue && is_empty l.records) ≡ true → l ≡ empty_lane
-idle_lane l h = rw (nothing_in l.queue (left_true (is_empty l.queue) (is_empty l.records) h), nothing_in l.records (right_true (is_empty l.queue) (is_empty l.records) h)) refl
+idle_lane l h = rw (nothing_in l.queue (both_true (is_empty l.queue) (is_empty l.records) h).0, nothing_in l.records (both_true (is_empty l.queue) (is_empty l.records) h).1) refl
 
 idle_interface : (i : Interface) → is_empty i.opened ≡ true → is_empty i.pending ≡ true → i ≡ empty_interface
 idle_interface i o p = rw (nothing_in i.opened o, nothing_in i.pending p) refl
@@ -103,8 +99,8 @@ and_parts false b d h = absurd cc
 all_closed : (es : List Element) → list_all rests es ≡ true → list_all closed_up es ≡ true
 all_closed [] h = refl
 all_closed (e ∷ es) h =
-    let here = and_parts (has_stopped e.core.activity) (is_empty e.interface.opened) (is_empty e.interface.pending) (left_true (rests e) (list_all rests es) h) in
-    rw (here.1) (all_closed es (right_true (rests e) (list_all rests es) h))
+    let here = and_parts (has_stopped e.core.activity) (is_empty e.interface.opened) (is_empty e.interface.pending) (both_true (rests e) (list_all rests es) h).0 in
+    rw (here.1) (all_closed es (both_true (rests e) (list_all rests es) h).1)
 
 module _ (c : Settings) where
   quiet_parts : (a b d e : Bool) → (a && b && d && e) ≡ true → (a ≡ true) × (b ≡ true) × (d ≡ true) × (e ≡ true)
@@ -126,12 +122,12 @@ module _ (c : Settings) where
         lanes = λ s x. idle_lane (lane_at m s x) (held idle empty_lane (slice_index_or m.lanes s []) x (inr refl) (held (λ (ls : List Lane). list_all idle ls) [] m.lanes s (inr refl) h.0));
         replies = λ s y. nothing_in (replies_at m s y) (held none [] (slice_index_or m.replies s []) y (inr refl) (held (λ (qs : List (List ReplyMessage)). list_all none qs) [] m.replies s (inr refl) h.1));
         banks = λ k. record {
-          no_request = nothing_there (bank_at m k).inp (left_true (is_nothing (bank_at m k).inp) (is_nothing (bank_at m k).out) (bank k));
-          no_reply = nothing_there (bank_at m k).out (right_true (is_nothing (bank_at m k).inp) (is_nothing (bank_at m k).out) (bank k));
+          no_request = nothing_there (bank_at m k).inp (both_true (is_nothing (bank_at m k).inp) (is_nothing (bank_at m k).out) (bank k)).0;
+          no_reply = nothing_there (bank_at m k).out (both_true (is_nothing (bank_at m k).inp) (is_nothing (bank_at m k).out) (bank k)).1;
         };
         interfaces = λ p.
             let i = (element_at m p).interface in
-            idle_interface i (left_true (is_empty i.opened) (is_empty i.pending) (closed p)) (right_true (is_empty i.opened) (is_empty i.pending) (closed p));
+            idle_interface i (both_true (is_empty i.opened) (is_empty i.pending) (closed p)).0 (both_true (is_empty i.opened) (is_empty i.pending) (closed p)).1;
         stopped = λ p l.
             let e = element_at m p in
             (and_parts (has_stopped e.core.activity) (is_empty e.interface.opened) (is_empty e.interface.pending) (held rests fresh_element m.elements p (inl (omega (arith, l, long))) h.3)).0;

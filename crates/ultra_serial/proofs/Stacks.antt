@@ -2,13 +2,13 @@
 use Rattle.std.proofs.Common.{◌≡◌, ℕ, List, [], ◌∷◌, ◌++◌, length, map, Bool, true, false, refl, arith, sym, ap, subst, ◌∙◌, ⊎_elim, Option, Some, None, option_to_list}
 use Rattle.std.specs.Prelude.{option_map, IfNone}
 use Rattle.std.specs.Global.{Vec}
+use Rattle.std.proofs.lemmas.Bool.{cases_Bool}
 use Rattle.std.proofs.lemmas.List.{same_from_push, append-nil, length_push}
 use Rattle.ultra_serial.specs.Tree.{Tree, pair, Leaf, leaves, Kept, kept, is_under, tree_of, without, paired}
 use Rattle.ultra_serial.specs.ByPair.{is_pair, list_of, with_item}
 use Rattle.ultra_serial.specs.declared.waiting.Waiting.{Waiting}
 use Rattle.ultra_serial.specs.Waiting.{stacked, chains_of, Keeps, items_in}
 use Rattle.ultra_serial.proofs.ByPair.{same_pair}
-use Rattle.ultra_serial.proofs.Tidy.{true_or_false}
 
 module _ (p a : ℕ) (k : Kept) (ks : List Kept) where
   tree_at : Bool → Option Tree
@@ -61,7 +61,7 @@ stack_top p a (k ∷ ks) o e =
     (λ h.
     stack_later p a k ks h ∙ (stack_top p a ks o (sym (tree_later p a k ks h) ∙ e)
     ∙ ap (λ us. topped us o) (sym (ap (λ us. stacked p a us) (rest_later p a k ks h) ∙ stack_later p a k (without p a ks) h))))
-    (true_or_false (is_under p a k))
+    (cases_Bool (is_under p a k))
 
 nothing_taken : (p a : ℕ) (ks : List Kept) → tree_of p a ks ≡ None → without p a ks ≡ ks
 nothing_taken p a [] e = refl
@@ -69,7 +69,7 @@ nothing_taken p a (k ∷ ks) e =
     ⊎_elim
     (λ h. let some = sym (tree_here p a k ks h) ∙ e in absurd cc)
     (λ h. rest_later p a k ks h ∙ ap (λ us. k ∷ us) (nothing_taken p a ks (sym (tree_later p a k ks h) ∙ e)))
-    (true_or_false (is_under p a k))
+    (cases_Bool (is_under p a k))
 
 -- ---- other identities keep theirs
 stack_other : (p a q b : ℕ) → is_pair p a q b ≡ false → (ks : List Kept) → stacked q b (without p a ks) ≡ stacked q b ks
@@ -82,7 +82,7 @@ stack_other p a q b other (k ∷ ks) =
     ap (λ us. stacked q b us) (rest_here p a k ks h) ∙ sym (stack_later q b k ks apart))
     (λ h.
     ap (λ us. stacked q b us) (rest_later p a k ks h) ∙ ap (λ us. with_item (is_under q b k) us (leaves k.tree)) (stack_other p a q b other ks))
-    (true_or_false (is_under p a k))
+    (cases_Bool (is_under p a k))
 
 -- ---- the last of what is kept under an identity is taken
 chain_append : (vs us : List (Vec Leaf)) → map (λ (v : Vec Leaf). v.items) (vs ++ us) ≡ map (λ (v : Vec Leaf). v.items) vs ++ map (λ (v : Vec Leaf). v.items) us
@@ -122,7 +122,7 @@ module _ (w v : Waiting) (p a : ℕ) (ks : List Kept) (keeps : Keeps w ks) where
         let at = same_pair p a q b h in
         ap (λ i. chains_of v i b) (sym at.0) ∙ (ap (λ i. chains_of v p i) (sym at.1) ∙ ((took r (tree_of p a ks) refl taken empty).1 ∙ (ap (λ i. stacked i a (without p a ks)) at.0 ∙ ap (λ i. stacked q i (without p a ks)) at.1))))
         (λ h. ap (λ vs. map (λ (v : Vec Leaf). v.items) vs) (others q b h) ∙ (keeps q b ∙ sym (stack_other p a q b h ks)))
-        (true_or_false (is_pair p a q b))
+        (cases_Bool (is_pair p a q b))
 
 -- ---- two that were taken are put back as one
 abbrev pub in_turn : Bool → List Leaf → List Leaf → List Leaf

@@ -2,7 +2,7 @@
 use Rattle.std.proofs.Common.{◌≡◌, ℕ, zero, suc, ◌+◌, ◌-◌, ◌<◌, ◌≤◌, List, [], ◌∷◌, Bool, true, false, refl, arith, sym, ◌∙◌, ap, subst, ◌⊎◌, ⊎_elim, inl, inr, length}
 use Rattle.std.specs.Prelude.{Option, Some, None, IfSome, slice_get, ◌==◌, ◌&&◌, not, nat_lt}
 use Rattle.std.specs.List.{AllByRecursion}
-use Rattle.std.proofs.lemmas.Bool.{eqb-true, cases_lt}
+use Rattle.std.proofs.lemmas.Bool.{eqb-true, cases_lt, cases_Bool}
 use Rattle.ultra_msg.specs.declared.Request.{Request}
 use Rattle.ultra_msg.specs.declared.ReplyMessage.{ReplyMessage}
 use Rattle.ultra_route.specs.Route.{line_of}
@@ -45,6 +45,10 @@ is_that p a q b e = let parts = both_true (q == p) (b == a) e in (eqb-true q p p
 pub that_is : (p a : ℕ) → is_reference p a p a ≡ true
 that_is p a = rw (itself p, itself a) refl
 
+pub zero_weight : (b : Bool) → weight b ≤ 0 → b ≡ false
+zero_weight true h = absurd (omega (arith, h))
+zero_weight false h = refl
+
 pub total_longer : (n m : ℕ) (f : ℕ → ℕ) → n ≤ m → total n f ≤ total m f
 total_longer n m f h =
     let halves = total_halves n (m - n) m f (omega arith) in
@@ -56,10 +60,6 @@ total_most (suc n) f g h =
     let last = h n (omega arith) in
     let rest = total_most n f g (λ j a. h j (omega arith)) in
     omega (arith, total_next n f, total_next n g)
-
-pub true_or_false : (b : Bool) → (b ≡ true) ⊎ (b ≡ false)
-true_or_false true = inl refl
-true_or_false false = inr refl
 
 -- one term grows, and no other falls
 pub total_gain : (n : ℕ) (f g : ℕ → ℕ) (k : ℕ) → k < n → ((j : ℕ) → j < n → g j ≤ f j) → total n g + f k ≤ total n f + g k
@@ -228,7 +228,7 @@ module _ (c : Settings) (range : AreInRange c) (m : Machine) where
     arriving_line_if p a s x None h l = absurd (omega (arith, l))
     arriving_line_if p a s x (Some r) h l =
         ⊎_elim (λ e. let that = is_that p a r.pe r.cell e in rw (← that.0, ← that.1) h.line)
-        (λ e. absurd (omega (arith, l, rw e at l))) (true_or_false (is_reference p a r.pe r.cell))
+        (λ e. absurd (omega (arith, l, rw e at l))) (cases_Bool (is_reference p a r.pe r.cell))
 
     -- a reply that arrives, too
     pub arriving_line : (p a s x : ℕ) → s < c.stages → x < size c → 1 ≤ replies.arriving c range m (is_reference p a) s x → line_of c.stages (s + 1) p (module_of c a) ≡ x
@@ -374,9 +374,6 @@ module _ (c : Settings) (range : AreInRange c) (m : Machine) where
         let now : marked_of t c (request_phase c m) s ≡ total (size c) (λ z. marked_in t (next_lane c m s z).queue) = total_same (size c) _ _ (λ z hz. rw (lane-request_phase c m s z hs hz) refl) in
         omega (arith, gain, now)
 
-    opened_requested : all_opened t c (request_phase c m) ≡ all_opened t c m
-    opened_requested = requests.all_opened_as_before c range m t
-
   pub tidy-request_phase : IsTidy c m → IsTidy c (request_phase c m)
   tidy-request_phase y = record {
     beyond = λ p a s x hs hx.
@@ -384,7 +381,7 @@ module _ (c : Settings) (range : AreInRange c) (m : Machine) where
         let was = y.beyond p a s x hs hx in
         let marks = arrive_all_marks t c.wait_places (lane_after_leaving c m s x) (arrivals c m s x) in
         let now : old_records t (lane_at (request_phase c m) s x).records ≡ old_records t (next_lane c m s x).records = rw (lane-request_phase c m s x hs hx) refl in
-        omega (arith, was, marks, now, up_to_requested t s hs, marks_leave t s hs, marks_come t s x hs hx, opened_requested t);
+        omega (arith, was, marks, now, up_to_requested t s hs, marks_leave t s hs, marks_come t s x hs hx, requests.all_opened_as_before c range m t);
   }
 
 -- ---- the other phases

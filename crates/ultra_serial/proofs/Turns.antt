@@ -1,5 +1,5 @@
 -- what is served and noted, one after the other
-use Rattle.std.proofs.Common.{◌≡◌, ℕ, ◌+◌, ◌<◌, List, [], ◌∷◌, ◌++◌, length, take, get_or, Option, Some, None, refl, sym, ap, ◌∙◌}
+use Rattle.std.proofs.Common.{◌≡◌, ℕ, ◌+◌, ◌<◌, List, [], ◌∷◌, ◌++◌, length, take, get_or, Option, Some, None, sym, ap, ◌∙◌}
 use Rattle.std.specs.Prelude.{option_map}
 use Rattle.std.specs.Global.{Vec}
 use Rattle.std.proofs.lemmas.List.{take_more}
@@ -16,11 +16,7 @@ use Rattle.ultra_serial.specs.Waiting.{Keeps, items_in}
 use Rattle.ultra_serial.specs.declared.history.Serving.{Serving}
 use Rattle.ultra_serial.specs.Following.{Follows}
 use Rattle.ultra_serial.proofs.MemoryForest.{noted-append}
-use Rattle.ultra_serial.proofs.Replays.{replayed-append}
-
-pub cells_after-append : (m : Cells) (xs ys : List Leaf) → cells_after m (xs ++ ys) ≡ cells_after (cells_after m xs) ys
-cells_after-append m [] ys = refl
-cells_after-append m (x ∷ xs) ys = cells_after-append (with_cell m x.cell (act x.op (m x.cell)).0) xs ys
+use Rattle.ultra_serial.proofs.Replays.{cells-append, replayed-append}
 
 module _ (m : Cells) (ls : List Leaf) (k : ℕ) (d : Leaf) (h : k < length ls) where
   abbrev next : Leaf
@@ -33,7 +29,7 @@ module _ (m : Cells) (ls : List Leaf) (k : ℕ) (d : Leaf) (h : k < length ls) w
   replayed_more = ap (λ xs. replayed m xs) (take_more ls k d h) ∙ replayed-append m (take k ls) (next ∷ [])
 
   pub cells_more : cells_after m (take (k + 1) ls) ≡ with_cell now next.cell (act next.op (now next.cell)).0
-  cells_more = ap (λ xs. cells_after m xs) (take_more ls k d h) ∙ cells_after-append m (take k ls) (next ∷ [])
+  cells_more = ap (λ xs. cells_after m xs) (take_more ls k d h) ∙ cells-append m (take k ls) (next ∷ [])
 
 -- one event more
 pub noted_more : (n : ℕ) (es : List Event) (h : History) (k : ℕ) (d : Event) → k < length es → noted n (take (k + 1) es) h ≡ after_event n (noted n (take k es) h) (get_or es k d)
@@ -51,7 +47,7 @@ pub serving_more : (initial : List (ℕ × ℕ)) (s t : Serving) (n : ℕ) (h : 
     → cell_in t.memory ≡ cells_after (cell_in s.memory) ls → t.order.items ≡ s.order.items ++ replayed (cell_in s.memory) ls → Follows initial t (after_event n h e)
 serving_more initial s t n h ls e same f w c o = record {
   waiting = w;
-  cells = c ∙ (ap (λ (m : Cells). cells_after m ls) f.cells ∙ (sym (cells_after-append (given initial) h.order ls) ∙ ap (λ us. cells_after (given initial) (h.order ++ us)) (sym same)));
+  cells = c ∙ (ap (λ (m : Cells). cells_after m ls) f.cells ∙ (sym (cells-append (given initial) h.order ls) ∙ ap (λ us. cells_after (given initial) (h.order ++ us)) (sym same)));
   order = o ∙ (ap (λ es. es ++ replayed (cell_in s.memory) ls) f.order ∙ (ap (λ (m : Cells). replayed (given initial) h.order ++ replayed m ls) f.cells
       ∙ (sym (replayed-append (given initial) h.order ls) ∙ ap (λ us. replayed (given initial) (h.order ++ us)) (sym same))));
 }

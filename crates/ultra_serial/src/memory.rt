@@ -3,7 +3,7 @@
 ghost use Rattle.std.specs.Prelude.{◌≡◌, IfOk, OnOk, OnErr};
 ghost use Rattle.ultra_msg.specs.Act.{act as effect};
 ghost use Rattle.ultra_serial.specs.Legal.{given, with_cell};
-ghost use Rattle.ultra_serial.specs.Memory.{cell_in};
+ghost use Rattle.ultra_serial.specs.Memory.{value_in, cell_in};
 
 use std::alloc::{AllocError, Global};
 use std::collections::BTreeMap;
@@ -54,6 +54,7 @@ impl SerialMemory {
         ensures reply { IfOk result (λ r. r ≡ (effect op (cell_in self.old cell)).1) }
         ensures cells { OnOk result (cell_in self.new ≡ with_cell (cell_in self.old) cell (effect op (cell_in self.old cell)).0) }
         ensures unchanged { OnErr result (self.new ≡ self.old) }
+        ensures absent { OnErr result (value_in self.old cell ≡ None) }
     {
         let old = self.value(cell);
         let (new, reply) = match op {
@@ -70,6 +71,7 @@ impl SerialMemory {
     fn set(&mut self, cell: Cell, word: Word) -> Result<(), AllocError>
         ensures cells { OnOk result (cell_in self.new ≡ with_cell (cell_in self.old) cell word) }
         ensures unchanged { OnErr result (self.new ≡ self.old) }
+        ensures absent { OnErr result (value_in self.old cell ≡ None) }
     {
         self.cells.insert(cell, word)?;
         Ok(())

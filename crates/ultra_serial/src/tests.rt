@@ -145,18 +145,23 @@ fn order_of(alloc: Global, program: &Program, cycles: u32) -> Result<SerialList,
     Ok(order(alloc, &config, program, cycles)?)
 }
 
-/// What is wrong with a list of the two additions.
-fn breach(
+/// Asserts what is wrong with a list of the two additions, where cell 0 ends with this value.
+fn check_breach(
     rt: &impl Abort,
     alloc: Global,
     log: &Log,
     cell: Word,
     list: &[Entry],
     expected: (BreachKind, usize),
-) {
-    let cells: [(Cell, Word); 1] = [(0, cell)];
-    let found = check(alloc, &[], log, &cells, list);
-    assert_eq!(rt; found, Err(CheckFault::Breach(expected.0, expected.1)));
+) -> Result<(), Fail> {
+    match check(alloc, &[], log, &[(0, cell)], list) {
+        Err(CheckFault::Breach(kind, index)) => {
+            assert_eq!(rt; (kind, index), expected);
+            Ok(())
+        }
+        Err(refused) => Err(Fail::from(refused)),
+        Ok(()) => Err(Fail::from("the list is accepted")),
+    }
 }
 
 #[test]
@@ -232,77 +237,39 @@ fn log_of_a_pair(rt: HostRuntime) -> Result<(), Fail> {
     let expected = log_with(rt.alloc(), 1, 2, 7)?;
     assert_eq!(rt; found.issues.as_slice(), expected.issues.as_slice());
     assert_eq!(rt; found.answers.as_slice(), expected.answers.as_slice());
-    assert_eq!(rt;
-        check(rt.alloc(), &[], &found, &[(0, 2)], &in_order()),
-        Ok(())
-    );
+    check(rt.alloc(), &[], &found, &[(0, 2)], &in_order())?;
     Ok(())
 }
 
+/// The two entries the other way round, and the second left out.
 #[test]
 fn broken_lists(rt: HostRuntime) -> Result<(), Fail> {
     let alloc = rt.alloc();
     let log = log_with(alloc, 1, 2, 7)?;
     let [first, second] = in_order();
-    let loads = done(1, Op::Load, Reply::Value(0));
-    breach(
-        &rt,
-        alloc,
-        &log,
-        2,
-        &[loads, second],
-        (BreachKind::NotIssued, 0),
-    );
-    breach(
-        &rt,
-        alloc,
-        &log,
-        2,
-        &[first, second, first],
-        (BreachKind::Repeated, 2),
-    );
-    let late = done(0, Op::Faa(1), Reply::Value(1));
-    let early = done(1, Op::Faa(1), Reply::Value(0));
-    breach(
-        &rt,
-        alloc,
-        &log,
-        2,
-        &[late, early],
-        (BreachKind::WrongReplay, 0),
-    );
-    breach(&rt, alloc, &log, 1, &[first], (BreachKind::Missing, 0));
-    breach(
-        &rt,
-        alloc,
-        &log,
-        3,
-        &[first, second],
-        (BreachKind::WrongCell, 0),
-    );
-    Ok(())
+    let turned = (BreachKind::WrongReplay, 0);
+    check_breach(&rt, alloc, &log, 2, &[second, first], turned)?;
+    let left_out = (BreachKind::Missing, 0);
+    check_breach(&rt, alloc, &log, 2, &[first], left_out)
 }
 
+/// The list of the two additions, or its log, with one change.
 #[test]
-fn broken_logs(rt: HostRuntime) -> Result<(), Fail> {
+fn changes_are_found(rt: HostRuntime) -> Result<(), Fail> {
     let alloc = rt.alloc();
-    let answered_otherwise = log_with(alloc, 5, 2, 7)?;
-    breach(
-        &rt,
-        alloc,
-        &answered_otherwise,
-        2,
-        &in_order(),
-        (BreachKind::WrongAnswer, 1),
-    );
-    let too_late = log_with(alloc, 1, 7, 9)?;
-    breach(
-        &rt,
-        alloc,
-        &too_late,
-        2,
-        &in_order(),
-        (BreachKind::TooLate, 1),
-    );
-    Ok(())
+    let log = log_with(alloc, 1, 2, 7)?;
+    let [first, second] = in_order();
+    let loads = done(1, Op::Load, Reply::Value(0));
+    let not_issued = (BreachKind::NotIssued, 0);
+    check_breach(&rt, alloc, &log, 2, &[loads, second], not_issued)?;
+    let repeated = (BreachKind::Repeated, 2);
+    check_breach(&rt, alloc, &log, 2, &[first, second, first], repeated)?;
+    let other_answer = log_with(alloc, 5, 2, 7)?;
+    let wrong_answer = (BreachKind::WrongAnswer, 1);
+    check_breach(&rt, alloc, &other_answer, 2, &in_order(), wrong_answer)?;
+    let wrong_cell = (BreachKind::WrongCell, 0);
+    check_breach(&rt, alloc, &log, 3, &in_order(), wrong_cell)?;
+    let later = log_with(alloc, 1, 7, 9)?;
+    let too_late = (BreachKind::TooLate, 1);
+    check_breach(&rt, alloc, &later, 2, &in_order(), too_late)
 }
