@@ -10,10 +10,16 @@ mod traces;
 use super::*;
 use crate::account::Account;
 use crate::source::SourceFault;
+use std::alloc::Global;
 use std::process::Abort;
 use std::str;
 use std::test::Fail;
 use ultra_msg::SinkFault;
+
+/// What a test takes of the host.
+trait Host: AllocGlobal + Abort + Threads + Wait + Sync {}
+
+impl<R: AllocGlobal + Abort + Threads + Wait + Sync> Host for R {}
 
 /// Files in memory, by their paths.
 #[derive(Drop)]
@@ -100,11 +106,7 @@ struct Ended {
 }
 
 /// Calls the program over files in memory.
-fn call<'t, R: AllocGlobal>(
-    rt: &R,
-    words: &'t [&'t str],
-    files: &'t [(&'t str, &'t [u8])],
-) -> Ended {
+fn call<'t, R: Host>(rt: &R, words: &'t [&'t str], files: &'t [(&'t str, &'t [u8])]) -> Ended {
     let mut shelf = Shelf {
         files,
         account: Account::Opened,
@@ -119,8 +121,11 @@ const RUN: [&str; 4] = ["ultra", "run", "c.toml", "p.s"];
 
 const ORDER: [&str; 4] = ["ultra", "order", "c.toml", "p.s"];
 
+/// A run by three workers.
+const RUN_BY_THREE: [&str; 6] = ["ultra", "run", "c.toml", "p.s", "--workers", "3"];
+
 /// Asserts what a command does with settings and a program: its status, and what it writes to standard output and standard error.
-fn check_command<R: AllocGlobal + Abort>(
+fn check_command<R: Host>(
     rt: &R,
     words: &[&str],
     settings: &[u8],
@@ -136,7 +141,7 @@ fn check_command<R: AllocGlobal + Abort>(
 }
 
 /// Asserts what `ultra run c.toml p.s` does with settings and a program.
-fn check_run<R: AllocGlobal + Abort>(
+fn check_run<R: Host>(
     rt: &R,
     settings: &[u8],
     program: &[u8],
@@ -146,7 +151,7 @@ fn check_run<R: AllocGlobal + Abort>(
 }
 
 /// Asserts which trace and which serial order a run has.
-fn check_worked<R: AllocGlobal + Abort>(
+fn check_worked<R: Host>(
     rt: &R,
     settings: &str,
     program: &str,
@@ -322,6 +327,18 @@ fn traces_and_orders_of_two_stages_are_written(rt: HostRuntime) -> Result<(), Fa
     Ok(())
 }
 
+/// The trace is the same for every number of workers.
+#[test]
+fn traces_do_not_depend_on_workers(rt: HostRuntime) -> Result<(), Fail> {
+    let program = b"pid r2\naddi r2 r2 1\nfaa r3 r0 r2\nhalt\n";
+    for workers in ["1", "2", "3", "64"] {
+        let words = ["ultra", "run", "c.toml", "p.s", "--workers", workers];
+        let wanted = (0, traces::TWO_LEVEL_TREE, "");
+        check_command(&rt, &words, b"stages = 2", program, wanted)?;
+    }
+    Ok(())
+}
+
 /// A machine of any number of stages is quiet after one cycle of `halt`.
 #[test]
 fn all_numbers_of_stages_run(rt: HostRuntime) -> Result<(), Fail> {
@@ -337,11 +354,7 @@ fn all_numbers_of_stages_run(rt: HostRuntime) -> Result<(), Fail> {
 }
 
 /// Asserts what `ultra list p.s` does with a program: its status, and what it writes to standard output and standard error.
-fn check_list<R: AllocGlobal + Abort>(
-    rt: &R,
-    program: &[u8],
-    wanted: (u8, &str, &str),
-) -> Result<(), Fail> {
+fn check_list<R: Host>(rt: &R, program: &[u8], wanted: (u8, &str, &str)) -> Result<(), Fail> {
     let files = [("p.s", program)];
     let ended = call(rt, &["ultra", "list", "p.s"], &files);
     assert_eq!(rt; ended.err.text()?, wanted.2);
@@ -559,15 +572,24 @@ fn files_are_read_in_order(rt: HostRuntime) -> Result<(), Fail> {
     Ok(())
 }
 
+/// Asserts that the words are a usage fault, though the files are there, and that its text says this.
+fn check_usage_fault<R: Host>(rt: &R, words: &[&str], told: &str) -> Result<(), Fail> {
+    let files: [(&str, &[u8]); 2] = [("c.toml", b"stages = 1"), ("p.s", b"halt")];
+    let ended = call(rt, words, &files);
+    assert!(rt; ended.err.text()?.contains(told), "{words:?}");
+    assert!(rt; ended.out.bytes.is_empty(), "{words:?}");
+    assert_eq!(rt; ended.status, 2, "{words:?}");
+    Ok(())
+}
+
 #[test]
 fn wrong_words_are_usage_faults(rt: HostRuntime) -> Result<(), Fail> {
-    let rows: [&[&str]; 10] = [
+    let rows: [&[&str]; 9] = [
         &[],
         &["ultra"],
         &["ultra", "walk", "c.toml", "p.s"],
         &["ultra", "run", "c.toml"],
         &["ultra", "run", "c.toml", "p.s", "q.s"],
-        &["ultra", "run", "c.toml", "p.s", "--workers", "2"],
         &["ultra", "order", "c.toml"],
         &["ultra", "explain", "c.toml", "p.s"],
         &["ultra", "list"],
@@ -582,12 +604,33 @@ fn wrong_words_are_usage_faults(rt: HostRuntime) -> Result<(), Fail> {
         ],
     ];
     for words in rows {
-        let ended = call(&rt, words, &[]);
-        assert!(rt; ended.err.text()?.contains("Usage: ultra"), "{words:?}");
-        assert!(rt; ended.out.bytes.is_empty(), "{words:?}");
-        assert_eq!(rt; ended.status, 2, "{words:?}");
+        check_usage_fault(&rt, words, "Usage: ultra")?;
     }
     Ok(())
+}
+
+/// Numbers of workers that are no number from 1 to 64, and the option where it doesn't belong.
+#[test]
+fn wrong_workers_are_usage_faults(rt: HostRuntime) -> Result<(), Fail> {
+    for workers in ["0", "65", "18446744073709551617", "x", "1.5", ""] {
+        let words = ["ultra", "run", "c.toml", "p.s", "--workers", workers];
+        check_usage_fault(&rt, &words, "'--workers <H>'")?;
+    }
+    let twice = [
+        "ultra",
+        "run",
+        "c.toml",
+        "p.s",
+        "--workers=2",
+        "--workers=2",
+    ];
+    check_usage_fault(&rt, &twice, "cannot be used multiple times")?;
+    let missing = ["ultra", "run", "c.toml", "p.s", "--workers"];
+    check_usage_fault(&rt, &missing, "a value is required for '--workers <H>'")?;
+    let order = ["ultra", "order", "c.toml", "p.s", "--workers", "2"];
+    check_usage_fault(&rt, &order, "unexpected argument '--workers'")?;
+    let list = ["ultra", "list", "p.s", "--workers", "2"];
+    check_usage_fault(&rt, &list, "unexpected argument '--workers'")
 }
 
 #[test]
@@ -601,11 +644,15 @@ fn help_goes_to_standard_output(rt: HostRuntime) -> Result<(), Fail> {
     }
     assert!(rt; ended.err.bytes.is_empty());
     assert_eq!(rt; ended.status, 0);
+    let ended = call(&rt, &["ultra", "run", "--help"], &[]);
+    let text = ended.out.text()?;
+    assert!(rt; text.contains("--workers <H>"), "{text}");
+    assert_eq!(rt; ended.status, 0);
     Ok(())
 }
 
 /// The text of the words' command where standard output takes at most 4 bytes a write, and fails at its third write.
-fn short_failing_sink<R: AllocGlobal + Abort>(rt: &R, words: &[&str]) -> Result<String, Fail> {
+fn short_failing_sink<R: Host>(rt: &R, words: &[&str]) -> Result<String, Fail> {
     let files: [(&str, &[u8]); 2] = [("c.toml", b"stages = 1"), ("p.s", ADDS_ONE.as_bytes())];
     let mut shelf = Shelf {
         files: &files,
@@ -627,6 +674,8 @@ fn short_failing_sink<R: AllocGlobal + Abort>(rt: &R, words: &[&str]) -> Result<
 #[test]
 fn a_beginning_is_written_to_a_short_failing_sink(rt: HostRuntime) -> Result<(), Fail> {
     let trace = short_failing_sink(&rt, &RUN)?;
+    assert_eq!(rt; trace.as_str(), "ultra tr");
+    let trace = short_failing_sink(&rt, &RUN_BY_THREE)?;
     assert_eq!(rt; trace.as_str(), "ultra tr");
     let order = short_failing_sink(&rt, &ORDER)?;
     assert_eq!(rt; order.as_str(), "1.0 faa ");
