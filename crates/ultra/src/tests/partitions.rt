@@ -3,7 +3,8 @@
 ghost use Rattle.std.specs.Prelude.{◌≡◌, ◌+◌, ◌<◌, IfOk};
 ghost use Rattle.ultra_block.specs.BlocksState.{IsWhole};
 
-use super::{Host, Tray, traces};
+use super::examples::ADDS_NUMBER;
+use super::{Host, Tray, two_stage_traces};
 use crate::settings::settings_from;
 use crate::workers::{OpenGate, Workers};
 use std::test::Fail;
@@ -50,13 +51,13 @@ fn make_and_write_ten<R: Host>(
 /// Asserts that ten cycles of the machine of `two_level_tree`, cut so and made by so many workers, have that trace's lines.
 fn check_lines<R: Host>(rt: &R, partition: &[u8], workers: Workers) -> Result<(), Fail> {
     let config = settings_from(rt.alloc(), b"stages = 2")?;
-    let program = assemble(rt.alloc(), "pid r2\naddi r2 r2 1\nfaa r3 r0 r2\nhalt\n")?;
+    let program = assemble(rt.alloc(), ADDS_NUMBER)?;
     let blocks = Blocks::new(rt.alloc(), &config, &program, partition)?;
     let mut out = Tray::new(rt.alloc());
     make_and_write_ten(rt, blocks, workers, &mut out)?;
     let trace = format!(in rt.alloc(); "ultra trace 2\n{}end quiet\n", out.text()?)?;
     assert!(rt;
-        traces::TWO_LEVEL_TREE.starts_with(trace.as_str()),
+        two_stage_traces::TWO_LEVEL_TREE.starts_with(trace.as_str()),
         "{trace}"
     );
     Ok(())
