@@ -4,7 +4,9 @@ use Rattle.ultra_asm.specs.declared.AsmFaultKind.{AsmFaultKind}
 use Rattle.ultra_asm.specs.declared.AsmFaultKind.TheVariants as kind
 use Rattle.ultra_block.specs.Accepted.{name_of}
 use Rattle.ultra.specs.declared.failure.Failure.{Failure}
-use Rattle.ultra.specs.declared.failure.Failure.TheVariants.{Usage, NotWords, NotRead, NotToml, BadField, UnknownKey, NotUtf8, BadLine, NoMemory, NotWritten}
+use Rattle.ultra_trace.specs.declared.running.RunFault.{RunFault}
+use Rattle.ultra_trace.specs.declared.running.RunFault.TheVariants as run
+use Rattle.ultra.specs.declared.failure.Failure.TheVariants.{Usage, NotWords, NotRead, NotToml, BadField, UnknownKey, NotUtf8, BadLine, NoMemory, NoThread, NotWritten}
 
 -- what is wrong in a line of a program
 abbrev pub kind_text : AsmFaultKind → List ℕ
@@ -28,7 +30,14 @@ status_of (UnknownKey p) = 3
 status_of (NotUtf8 p) = 3
 status_of (BadLine p l k) = 3
 status_of NoMemory = 4
+status_of NoThread = 4
 status_of NotWritten = 5
+
+-- what a fault of a run is for the command
+abbrev pub failure_of_run : RunFault → Failure
+failure_of_run run.Write = NotWritten
+failure_of_run run.NoMemory = NoMemory
+failure_of_run run.NoThread = NoThread
 
 -- how often the source of files failed, and how often standard output failed, in a command that failed so
 abbrev pub read_failures : Failure → ℕ
@@ -54,4 +63,5 @@ text_of (UnknownKey p) = path_text p.now ++ codes "unknown key" ++ codes "\n"
 text_of (NotUtf8 p) = path_text p.now ++ codes "not utf-8" ++ codes "\n"
 text_of (BadLine p l k) = path_text p.now ++ codes "line " ++ decimal l ++ codes ": " ++ kind_text k ++ codes "\n"
 text_of NoMemory = codes "ultra: no memory\n"
+text_of NoThread = codes "ultra: no thread\n"
 text_of NotWritten = codes "ultra: write failed\n"

@@ -1,5 +1,5 @@
 -- what a command does with files and standard output, and with which status it ends; this project's profile
-use Rattle.std.specs.Prelude.{◌≡◌, ℕ, List, [], ◌∷◌, ◌++◌, ◌⊎◌, None, false, ◌==◌, if◌then◌else◌, IsUtf8, string_bytes, ⊤}
+use Rattle.std.specs.Prelude.{◌≡◌, ◌≢◌, ℕ, List, [], ◌∷◌, ◌++◌, ◌⊎◌, None, false, ◌==◌, if◌then◌else◌, IsUtf8, string_bytes, ⊤}
 use Rattle.ultra_msg.specs.Bytes.{IsBeginning}
 use Rattle.ultra_isa.specs.declared.Instr.{Instr}
 use Rattle.ultra_block.specs.Machine.{Settings}
@@ -15,12 +15,12 @@ use Rattle.ultra.specs.declared.command_line.Command.TheVariants.{Run, Order, Li
 use Rattle.ultra.specs.declared.command_line.Parsed.{Parsed}
 use Rattle.ultra.specs.declared.command_line.Parsed.TheVariants as parsed
 use Rattle.ultra.specs.declared.failure.Failure.{Failure}
-use Rattle.ultra.specs.declared.failure.Failure.TheVariants.{Usage, NotRead, NotToml, BadField, UnknownKey, NotUtf8, BadLine, NoMemory, NotWritten}
+use Rattle.ultra.specs.declared.failure.Failure.TheVariants.{Usage, NotRead, NotToml, BadField, UnknownKey, NotUtf8, BadLine, NoMemory, NoThread, NotWritten}
 use Rattle.ultra.specs.Account.{File, file_of}
 use Rattle.ultra.specs.Order.{order_of}
 use Rattle.ultra_trace.specs.Trace.{trace}
 
--- one of the program's statuses: done, a usage fault, refused input, no memory, a failed write
+-- one of the program's statuses: done, a usage fault, refused input, no memory or thread, a failed write
 abbrev pub IsStatus : ℕ → Type 0
 IsStatus s = (s ≡ 0) ⊎ (s ≡ 2) ⊎ (s ≡ 3) ⊎ (s ≡ 4) ⊎ (s ≡ 5)
 
@@ -87,9 +87,13 @@ pub data GaveNothing (conf prog : List ℕ) (old new : List File) (f : Failure) 
   unread_program : (text : List ℕ) (c : Settings) → IsAccepted text c → IsUnread prog f → new ≡ old ++ file_of conf text ∷ [] → GaveNothing conf prog old new f
   refused_program : (text program_text : List ℕ) (c : Settings) → IsAccepted text c → ExplainsProgram prog program_text f → new ≡ old ++ file_of conf text ∷ file_of prog program_text ∷ [] → GaveNothing conf prog old new f
 
--- why a run ended early
+-- why a text ended early
 abbrev pub IsStopped : Failure → Type 0
 IsStopped f = (f ≡ NoMemory) ⊎ (f ≡ NotWritten)
+
+-- why a run by so many workers ended early: one worker needs no thread to be started
+abbrev pub IsStoppedBy : ℕ → Failure → Type 0
+IsStoppedBy workers f = IsStopped f ⊎ ((f ≡ NoThread) × (workers ≢ 1))
 
 module _ (text : Settings → List Instr → List ℕ) where
   -- two files were read, and the text of their settings and program was written
@@ -99,10 +103,10 @@ module _ (text : Settings → List Instr → List ℕ) where
     pub gave : Gave conf prog old.files new.files settings program
     pub written : new.written ≡ old.written ++ text settings program
 
-  -- how that fails: both files are accepted before a byte is written
-  pub data TextFails (conf prog : List ℕ) (old new : Traffic) (f : Failure) : Type 0 where
-    refused : GaveNothing conf prog old.files new.files f → new.written ≡ old.written → TextFails conf prog old new f
-    stopped : (c : Settings) (p : List Instr) → Gave conf prog old.files new.files c p → IsStopped f → IsBeginning new.written (old.written ++ text c p) → TextFails conf prog old new f
+  -- how that fails: both files are accepted before a byte is written, and what stops the text is such a failure
+  pub data TextFails (Stops : Failure → Type 0) (conf prog : List ℕ) (old new : Traffic) (f : Failure) : Type 0 where
+    refused : GaveNothing conf prog old.files new.files f → new.written ≡ old.written → TextFails Stops conf prog old new f
+    stopped : (c : Settings) (p : List Instr) → Gave conf prog old.files new.files c p → Stops f → IsBeginning new.written (old.written ++ text c p) → TextFails Stops conf prog old new f
 
 -- a file was read, and the canonical text of its program was written
 pub record WroteListing (prog : List ℕ) (old new : Traffic) : Type 0 where
@@ -120,7 +124,7 @@ pub data ListFails (prog : List ℕ) (old new : Traffic) (f : Failure) : Type 0 
 
 -- what was asked for was done
 abbrev pub Obeyed : Parsed → Traffic → Traffic → Type 0
-Obeyed (parsed.Command (Run conf prog)) old new = WroteText trace conf.now prog.now old new
+Obeyed (parsed.Command (Run conf prog workers)) old new = WroteText trace conf.now prog.now old new
 Obeyed (parsed.Command (Order conf prog)) old new = WroteText order_of conf.now prog.now old new
 Obeyed (parsed.Command (ListOf prog)) old new = WroteListing prog.now old new
 Obeyed (parsed.Help text) old new = new ≡ record old { written = old.written ++ string_bytes text }
@@ -129,8 +133,8 @@ Obeyed parsed.NoMemory old new = ⊥
 
 -- how it wasn't done
 abbrev pub NotObeyed : Parsed → Traffic → Traffic → Failure → Type 0
-NotObeyed (parsed.Command (Run conf prog)) old new f = TextFails trace conf.now prog.now old new f
-NotObeyed (parsed.Command (Order conf prog)) old new f = TextFails order_of conf.now prog.now old new f
+NotObeyed (parsed.Command (Run conf prog workers)) old new f = TextFails trace (IsStoppedBy workers.count) conf.now prog.now old new f
+NotObeyed (parsed.Command (Order conf prog)) old new f = TextFails order_of IsStopped conf.now prog.now old new f
 NotObeyed (parsed.Command (ListOf prog)) old new f = ListFails prog.now old new f
 NotObeyed (parsed.Help text) old new f = (f ≡ NotWritten) × (new.files ≡ old.files) × IsBeginning new.written (old.written ++ string_bytes text)
 NotObeyed (parsed.Usage text) old new f = (f ≡ Usage text) × (new ≡ old)

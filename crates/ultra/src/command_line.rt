@@ -1,18 +1,21 @@
 //! The command line of the program.
 
-use clap::Arg;
+use crate::workers::Workers;
 use clap::error::ErrorKind;
+use clap::{Arg, ArgMatches, value_parser};
 use std::alloc::{AllocError, Global};
 
 /// What the program is asked to do.
 #[derive(Clone, Copy, PartialEq, Eq, Debug, Drop)]
 pub enum Command<'w> {
-    /// To write the trace of a run: `ultra run CONF PROG`.
+    /// To write the trace of a run: `ultra run CONF PROG [--workers H]`.
     Run {
         /// The path of the settings.
         settings: &'w str,
         /// The path of the program's text.
         program: &'w str,
+        /// How many threads of the host make the cycles: 1 where the words don't say it.
+        workers: Workers,
     },
     /// To write the serial order of a run: `ultra order CONF PROG`.
     Order {
@@ -65,7 +68,8 @@ fn shown(alloc: Global, error: &clap::Error) -> Result<String, AllocError> {
 
 /// The command of the words.
 fn command_in<'w>(alloc: Global, words: &'w [&'w str]) -> Result<Command<'w>, clap::Error> {
-    let run = command_on_a_run(alloc, "run", "Writes the trace of a run")?;
+    let workers = workers_option(alloc);
+    let run = command_on_a_run(alloc, "run", "Writes the trace of a run")?.arg(workers)?;
     let order = command_on_a_run(alloc, "order", "Writes the serial order of a run")?;
     let list = clap::Command::new(alloc, "list")
         .about("Writes the canonical text of a program")
@@ -77,17 +81,29 @@ fn command_in<'w>(alloc: Global, words: &'w [&'w str]) -> Result<Command<'w>, cl
         .subcommand(order)?
         .subcommand(list)?;
     let matches = ultra.try_get_matches_from_mut(words)?;
-    if let Some((name, files)) = matches.subcommand() {
-        match (name, files.get_str("CONF"), files.get_str("PROG")) {
-            ("run", Some(settings), Some(program)) => return Ok(Command::Run { settings, program }),
-            ("order", Some(settings), Some(program)) => {
-                return Ok(Command::Order { settings, program });
-            }
-            ("list", None, Some(program)) => return Ok(Command::List { program }),
-            _ => {}
-        }
+    match named_command(&matches) {
+        Some(command) => Ok(command),
+        None => Err(ultra.error(ErrorKind::MissingSubcommand, "no command")?),
     }
-    Err(ultra.error(ErrorKind::MissingSubcommand, "no command")?)
+}
+
+/// The command that accepted words name.
+fn named_command<'w>(matches: &ArgMatches<'w>) -> Option<Command<'w>> {
+    let (name, words) = matches.subcommand()?;
+    let program = words.get_str("PROG")?;
+    match name {
+        "run" => Some(Command::Run {
+            settings: words.get_str("CONF")?,
+            program,
+            workers: Workers::new(words.get_one("workers")?)?,
+        }),
+        "order" => Some(Command::Order {
+            settings: words.get_str("CONF")?,
+            program,
+        }),
+        "list" => Some(Command::List { program }),
+        _ => None,
+    }
 }
 
 /// A command of this name with the files of a run: its settings, and its program.
@@ -105,6 +121,16 @@ fn command_on_a_run<'c>(
         .arg(program_argument(alloc))
 }
 
+/// The option that says how many threads of the host make the cycles.
+fn workers_option<'c>(alloc: Global) -> Arg<'c> {
+    Arg::new(alloc, "workers")
+        .long("workers")
+        .value_name("H")
+        .help("How many threads of the host make the cycles, 1 to 64")
+        .value_parser(value_parser!(usize).range(1..=64))
+        .default_value("1")
+}
+
 /// The argument that names the program's text.
 fn program_argument<'c>(alloc: Global) -> Arg<'c> {
     Arg::new(alloc, "PROG")
@@ -119,15 +145,24 @@ mod tests {
 
     #[test]
     fn a_run_is_asked_for(rt: HostRuntime) -> Result<(), Fail> {
-        let words = ["ultra", "run", "c.toml", "p.s"];
-        let Parsed::Command(command) = parse(rt.alloc(), &words) else {
-            return Err("no command".into());
-        };
-        let wanted = Command::Run {
-            settings: "c.toml",
-            program: "p.s",
-        };
-        assert!(rt; command == wanted);
+        let rows: [(&[&str], usize); 5] = [
+            (&["ultra", "run", "c.toml", "p.s"], 1),
+            (&["ultra", "run", "c.toml", "p.s", "--workers", "1"], 1),
+            (&["ultra", "run", "c.toml", "p.s", "--workers=2"], 2),
+            (&["ultra", "run", "--workers", "007", "c.toml", "p.s"], 7),
+            (&["ultra", "run", "c.toml", "--workers", "64", "p.s"], 64),
+        ];
+        for (words, count) in rows {
+            let Parsed::Command(command) = parse(rt.alloc(), words) else {
+                return Err("no command".into());
+            };
+            let wanted = Command::Run {
+                settings: "c.toml",
+                program: "p.s",
+                workers: Workers::new(count).ok_or("no workers")?,
+            };
+            assert!(rt; command == wanted);
+        }
         Ok(())
     }
 
@@ -147,12 +182,11 @@ mod tests {
 
     #[test]
     fn wrong_words_are_usage_faults(rt: HostRuntime) -> Result<(), Fail> {
-        let rows: [&[&str]; 8] = [
+        let rows: [&[&str]; 7] = [
             &["ultra"],
             &["ultra", "run"],
             &["ultra", "run", "c.toml"],
             &["ultra", "run", "c.toml", "p.s", "x"],
-            &["ultra", "run", "c.toml", "p.s", "--workers", "2"],
             &["ultra", "order", "c.toml"],
             &["ultra", "explain", "c.toml", "p.s"],
             &["ultra", "--version"],

@@ -10,6 +10,7 @@ use ultra_asm::AsmFaultKind;
 use ultra_block::Field;
 use ultra_msg::{Sink, SinkFault, write_all, write_pieces};
 use ultra_serial::OrderFault;
+use ultra_trace::RunFault;
 
 /// Why a command failed. A path is that of the file at fault, as the command names it.
 #[derive(Drop)]
@@ -36,6 +37,8 @@ pub enum Failure<'a> {
     },
     /// Memory was refused.
     NoMemory,
+    /// A thread couldn't be started.
+    NoThread,
     /// Standard output failed.
     NotWritten,
 }
@@ -62,8 +65,22 @@ impl<'a> From<OrderFault> for Failure<'a> {
     }
 }
 
+impl<'a> From<RunFault> for Failure<'a> {
+    ghost use Rattle.ultra.specs.Failure.{failure_of_run};
+
+    ghost from_gives = { λ fault failure. failure ≡ failure_of_run fault };
+
+    fn from(fault: RunFault) -> Failure<'a> {
+        match fault {
+            RunFault::Write => Failure::NotWritten,
+            RunFault::NoMemory => Failure::NoMemory,
+            RunFault::NoThread => Failure::NoThread,
+        }
+    }
+}
+
 impl Failure<'_> {
-    /// The status that the program ends with: 2 for a usage fault, 3 for refused input, 4 for want of memory, 5 for a failed write.
+    /// The status that the program ends with: 2 for a usage fault, 3 for refused input, 4 for want of memory or of a thread, 5 for a failed write.
     pub fn status(&self) -> u8
         ensures { result ≡ status_of self.now }
     {
@@ -75,7 +92,7 @@ impl Failure<'_> {
             | Failure::UnknownKey(_)
             | Failure::NotUtf8(_)
             | Failure::BadLine { .. } => 3,
-            Failure::NoMemory => 4,
+            Failure::NoMemory | Failure::NoThread => 4,
             Failure::NotWritten => 5,
         }
     }
@@ -102,6 +119,7 @@ impl Failure<'_> {
                 write_bad_line(err, path, digits.format(*line), kind_text(*kind))
             }
             Failure::NoMemory => write_all(err, b"ultra: no memory\n"),
+            Failure::NoThread => write_all(err, b"ultra: no thread\n"),
             Failure::NotWritten => write_all(err, b"ultra: write failed\n"),
         }
     }

@@ -20,21 +20,25 @@ mod source;
 mod streams;
 #[cfg(test)]
 mod tests;
+mod workers;
 
 use command_line::{Command, Parsed};
 use failure::Failure;
 use source::{FileSource, Source};
-use std::alloc::Global;
-use std::io::{ErrorKind, Stderr};
+use std::env::Env;
+use std::io::ErrorKind;
 use std::process::ExitCode;
+use std::rt::Files;
+use std::sync::Wait;
+use std::thread::Threads;
 use std::{env, io};
 use streams::Stream;
 use ultra_msg::{Sink, write_all};
 
-/// Does what the words ask for, and answers the status that the program ends with: 0 done, 2 a usage fault, 3 refused input, 4 no memory, 5 a failed write.
+/// Does what the words ask for, and answers the status that the program ends with: 0 done, 2 a usage fault, 3 refused input, 4 no memory or no thread, 5 a failed write.
 ///
-/// The first word is the program's name. Results and help go to `out`; what is wrong goes to `err`. Which words ask for what, and the texts of help and usage faults, are `clap`'s, and shown by tests.
-pub fn main_with<'w, R: AllocGlobal, F: Source, O: Sink, E: Sink>(
+/// The first word is the program's name. Results and help go to `out`; what is wrong goes to `err`. Which words ask for what, and the texts of help and usage faults, are `clap`'s, and shown by tests. A run by several workers starts threads, and the call may wait for them.
+pub fn main_with<'w, R: AllocGlobal + Threads + Wait + Sync, F: Source, O: Sink, E: Sink>(
     rt: &R,
     words: &'w [&'w str],
     source: &mut F,
@@ -51,20 +55,15 @@ pub fn main_with<'w, R: AllocGlobal, F: Source, O: Sink, E: Sink>(
         (traffic (F.files source.old) (O.taken out.old)) (traffic (F.files source.new) (O.taken out.new)) f
         × IsBeginning (E.taken err.new) (E.taken err.old ++ text_of f) }
 {
-    match obey(
-        rt.alloc(),
-        command_line::parse(rt.alloc(), words),
-        source,
-        out,
-    ) {
+    match obey(rt, command_line::parse(rt.alloc(), words), source, out) {
         Ok(()) => 0,
         Err(failure) => give_up(&failure, err),
     }
 }
 
 /// Does what is asked for.
-fn obey<'w, F: Source, O: Sink>(
-    alloc: Global,
+fn obey<'w, R: AllocGlobal + Threads + Wait + Sync, F: Source, O: Sink>(
+    rt: &R,
     parsed: Parsed<'w>,
     source: &mut F,
     out: &mut O,
@@ -77,19 +76,41 @@ fn obey<'w, F: Source, O: Sink>(
     ensures write_counted { IfErr result (λ f. O.failures out.new ≡ O.failures out.old + write_failures f) }
 {
     match parsed {
-        Parsed::Command(Command::Run { settings, program }) => {
-            run::run(alloc, settings, program, source, out)
-        }
-        Parsed::Command(Command::Order { settings, program }) => {
-            order::order(alloc, settings, program, source, out)
-        }
-        Parsed::Command(Command::List { program }) => list::list(alloc, program, source, out),
+        Parsed::Command(command) => carry_out(rt, command, source, out),
         Parsed::Help(text) => match write_all(out, text.as_bytes()) {
             Ok(()) => Ok(()),
             Err(_) => Err(Failure::NotWritten),
         },
         Parsed::Usage(text) => Err(Failure::Usage(text)),
         Parsed::NoMemory => Err(Failure::NoMemory),
+    }
+}
+
+/// Carries out a command.
+fn carry_out<'w, R: AllocGlobal + Threads + Wait + Sync, F: Source, O: Sink>(
+    rt: &R,
+    command: Command<'w>,
+    source: &mut F,
+    out: &mut O,
+) -> Result<(), Failure<'w>>
+    ensures ok { OnOk result (Obeyed (Parsed.Command command.entry)
+        (traffic (F.files source.old) (O.taken out.old)) (traffic (F.files source.new) (O.taken out.new))) }
+    ensures err { IfErr result (NotObeyed (Parsed.Command command.entry)
+        (traffic (F.files source.old) (O.taken out.old)) (traffic (F.files source.new) (O.taken out.new))) }
+    ensures write_still { OnOk result (O.failures out.new ≡ O.failures out.old) }
+    ensures write_counted { IfErr result (λ f. O.failures out.new ≡ O.failures out.old + write_failures f) }
+{
+    let alloc = rt.alloc();
+    match command {
+        Command::Run {
+            settings,
+            program,
+            workers,
+        } => run::run(rt, alloc, settings, program, workers, source, out),
+        Command::Order { settings, program } => {
+            order::order(alloc, settings, program, source, out)
+        }
+        Command::List { program } => list::list(alloc, program, source, out),
     }
 }
 
@@ -103,18 +124,22 @@ fn give_up<E: Sink>(failure: &Failure, err: &mut E) -> u8
     failure.status()
 }
 
-/// Calls `main_with` with the program's own words, files and streams. An error says that the words couldn't be had.
-fn start(rt: &HostRuntime, err: &mut Stream<Stderr>) -> io::Result<u8> {
+/// Calls `main_with` with the program's own words and files, and with these streams. An error says that the words couldn't be had.
+fn start<R: AllocGlobal + Env + Files + Threads + Wait + Sync, O: Sink, E: Sink>(
+    rt: &R,
+    out: &mut O,
+    err: &mut E,
+) -> io::Result<u8> {
     let args: Vec<String> = env::args(rt)?.collect(rt.alloc())?;
     let words: Vec<&str> = args.iter().map(|word| word.as_str()).collect(rt.alloc())?;
     let mut source = FileSource::new(rt);
-    let mut out = Stream::new(rt.stdout());
-    Ok(main_with(rt, words.as_slice(), &mut source, &mut out, err))
+    Ok(main_with(rt, words.as_slice(), &mut source, out, err))
 }
 
 fn main(rt: HostRuntime) -> ExitCode {
+    let mut out = Stream::new(rt.stdout());
     let mut err = Stream::new(rt.stderr());
-    let status = match start(&rt, &mut err) {
+    let status = match start(&rt, &mut out, &mut err) {
         Ok(status) => status,
         Err(error) => give_up(&no_words(&error), &mut err),
     };

@@ -29,7 +29,7 @@ pub fn order<'p, F: Source, O: Sink>(
 ) -> Result<(), Failure<'p>>
     ensures ok { OnOk result (WroteText order_of settings_path.now program_path.now
         (traffic (F.files source.old) (O.taken out.old)) (traffic (F.files source.new) (O.taken out.new))) }
-    ensures err { IfErr result (TextFails order_of settings_path.now program_path.now
+    ensures err { IfErr result (TextFails order_of IsStopped settings_path.now program_path.now
         (traffic (F.files source.old) (O.taken out.old)) (traffic (F.files source.new) (O.taken out.new))) }
     ensures read_still { OnOk result (F.failures source.new ≡ F.failures source.old) }
     ensures read_counted { IfErr result (λ f. F.failures source.new ≡ F.failures source.old + read_failures f) }

@@ -2,27 +2,31 @@
 
 ghost use Rattle.std.specs.Prelude.{◌≡◌, ◌+◌, IfErr, OnOk};
 ghost use Rattle.ultra.specs.Failure.{read_failures, write_failures};
-ghost use Rattle.ultra.specs.Outcome.{traffic, WroteText, TextFails};
+ghost use Rattle.ultra.specs.Outcome.{traffic, IsStoppedBy, WroteText, TextFails};
 ghost use Rattle.ultra_trace.specs.Trace.{trace};
 
 use crate::failure::Failure;
 use crate::inputs::{Inputs, read_inputs};
 use crate::source::Source;
+use crate::workers::{OpenGate, Workers};
 use std::alloc::Global;
+use std::sync::Wait;
+use std::thread::Threads;
 use ultra_msg::Sink;
-use ultra_trace::{RunFault, run_alone};
 
-/// Reads settings and a program, runs the program and writes its trace to `out`. Each file is accepted before the next is read, and both before a byte is written.
-pub fn run<'p, F: Source, O: Sink>(
+/// Reads settings and a program, runs the program by so many workers and writes its trace to `out`: the same bytes for every number of workers. Each file is accepted before the next is read, and both before a byte is written. The call may wait.
+pub fn run<'p, R: Threads + Wait + Sync, F: Source, O: Sink>(
+    rt: &R,
     alloc: Global,
     settings_path: &'p str,
     program_path: &'p str,
+    workers: Workers,
     source: &mut F,
     out: &mut O,
 ) -> Result<(), Failure<'p>>
     ensures ok { OnOk result (WroteText trace settings_path.now program_path.now
         (traffic (F.files source.old) (O.taken out.old)) (traffic (F.files source.new) (O.taken out.new))) }
-    ensures err { IfErr result (TextFails trace settings_path.now program_path.now
+    ensures err { IfErr result (TextFails trace (IsStoppedBy workers.count) settings_path.now program_path.now
         (traffic (F.files source.old) (O.taken out.old)) (traffic (F.files source.new) (O.taken out.new))) }
     ensures read_still { OnOk result (F.failures source.new ≡ F.failures source.old) }
     ensures read_counted { IfErr result (λ f. F.failures source.new ≡ F.failures source.old + read_failures f) }
@@ -30,10 +34,7 @@ pub fn run<'p, F: Source, O: Sink>(
     ensures write_counted { IfErr result (λ f. O.failures out.new ≡ O.failures out.old + write_failures f) }
 {
     let Inputs { config, program } = read_inputs(alloc, settings_path, program_path, source)?;
-    match run_alone(alloc, &config, &program, out) {
-        Ok(()) => Ok(()),
-        Err(RunFault::Write) => Err(Failure::NotWritten),
-        Err(RunFault::NoThread) => unreachable!(),
-        Err(RunFault::NoMemory) => Err(Failure::NoMemory),
-    }
+    let count = workers.count;
+    ultra_trace::run(rt, alloc, &config, &program, count, &OpenGate, out)?;
+    Ok(())
 }

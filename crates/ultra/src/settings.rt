@@ -241,45 +241,48 @@ mod tests {
         Ok(())
     }
 
+    /// Texts of settings that are refused, each with its fault.
+    static REFUSED: [(&str, SettingsFault); 14] = [
+        ("", SettingsFault::BadField(Field::Stages)),
+        ("stages = 0", SettingsFault::BadField(Field::Stages)),
+        ("stages = 7", SettingsFault::BadField(Field::Stages)),
+        ("stages = 1.0", SettingsFault::BadField(Field::Stages)),
+        (
+            "stages = 1\nopen = \"2\"",
+            SettingsFault::BadField(Field::MostOpen),
+        ),
+        (
+            "stages = 1\ninitial = 3",
+            SettingsFault::BadField(Field::Initial),
+        ),
+        (
+            "stages = 1\ninitial = [[1]]",
+            SettingsFault::BadField(Field::Initial),
+        ),
+        (
+            "stages = 1\ninitial = [[1, 2, 3]]",
+            SettingsFault::BadField(Field::Initial),
+        ),
+        (
+            "stages = 1\ninitial = [[1, 2], [1, 3]]",
+            SettingsFault::BadField(Field::Initial),
+        ),
+        (
+            "other = 1\nstages = 1\ncycles = 0",
+            SettingsFault::BadField(Field::Cycles),
+        ),
+        ("other = 1\nstages = 1", SettingsFault::UnknownKey),
+        (
+            "stages = 1\n[cells]\nx = 1",
+            SettingsFault::BadField(Field::Cells),
+        ),
+        ("stages = 1\nstages = 1", SettingsFault::NotToml),
+        ("stages", SettingsFault::NotToml),
+    ];
+
     #[test]
     fn refused_settings_are_told(rt: HostRuntime) -> Result<(), Fail> {
-        for (text, wanted) in [
-            ("", SettingsFault::BadField(Field::Stages)),
-            ("stages = 0", SettingsFault::BadField(Field::Stages)),
-            ("stages = 7", SettingsFault::BadField(Field::Stages)),
-            ("stages = 1.0", SettingsFault::BadField(Field::Stages)),
-            (
-                "stages = 1\nopen = \"2\"",
-                SettingsFault::BadField(Field::MostOpen),
-            ),
-            (
-                "stages = 1\ninitial = 3",
-                SettingsFault::BadField(Field::Initial),
-            ),
-            (
-                "stages = 1\ninitial = [[1]]",
-                SettingsFault::BadField(Field::Initial),
-            ),
-            (
-                "stages = 1\ninitial = [[1, 2, 3]]",
-                SettingsFault::BadField(Field::Initial),
-            ),
-            (
-                "stages = 1\ninitial = [[1, 2], [1, 3]]",
-                SettingsFault::BadField(Field::Initial),
-            ),
-            (
-                "other = 1\nstages = 1\ncycles = 0",
-                SettingsFault::BadField(Field::Cycles),
-            ),
-            ("other = 1\nstages = 1", SettingsFault::UnknownKey),
-            (
-                "stages = 1\n[cells]\nx = 1",
-                SettingsFault::BadField(Field::Cells),
-            ),
-            ("stages = 1\nstages = 1", SettingsFault::NotToml),
-            ("stages", SettingsFault::NotToml),
-        ] {
+        for (text, wanted) in REFUSED {
             assert_eq!(rt; fault(rt.alloc(), text), Some(wanted), "{text}");
         }
         let not_utf8 = [b'#', 0xff];

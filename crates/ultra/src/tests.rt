@@ -3,17 +3,26 @@
 ghost use Rattle.std.specs.Prelude.{◌≡◌, ◌<◌};
 ghost use Rattle.ultra.specs.Account.{files_in, failures_in};
 
+mod examples;
 mod orders;
 mod partitions;
 mod traces;
+mod two_stage_traces;
 
 use super::*;
 use crate::account::Account;
 use crate::source::SourceFault;
+use examples::{ADDS_NUMBER, ADDS_ONE, Example};
+use std::alloc::Global;
 use std::process::Abort;
 use std::str;
 use std::test::Fail;
 use ultra_msg::SinkFault;
+
+/// What a test takes of the host.
+trait Host: AllocGlobal + Abort + Threads + Wait + Sync {}
+
+impl<R: AllocGlobal + Abort + Threads + Wait + Sync> Host for R {}
 
 /// Files in memory, by their paths.
 #[derive(Drop)]
@@ -100,11 +109,7 @@ struct Ended {
 }
 
 /// Calls the program over files in memory.
-fn call<'t, R: AllocGlobal>(
-    rt: &R,
-    words: &'t [&'t str],
-    files: &'t [(&'t str, &'t [u8])],
-) -> Ended {
+fn call<'t, R: Host>(rt: &R, words: &'t [&'t str], files: &'t [(&'t str, &'t [u8])]) -> Ended {
     let mut shelf = Shelf {
         files,
         account: Account::Opened,
@@ -119,8 +124,11 @@ const RUN: [&str; 4] = ["ultra", "run", "c.toml", "p.s"];
 
 const ORDER: [&str; 4] = ["ultra", "order", "c.toml", "p.s"];
 
+/// A run by three workers.
+const RUN_BY_THREE: [&str; 6] = ["ultra", "run", "c.toml", "p.s", "--workers", "3"];
+
 /// Asserts what a command does with settings and a program: its status, and what it writes to standard output and standard error.
-fn check_command<R: AllocGlobal + Abort>(
+fn check_command<R: Host>(
     rt: &R,
     words: &[&str],
     settings: &[u8],
@@ -136,7 +144,7 @@ fn check_command<R: AllocGlobal + Abort>(
 }
 
 /// Asserts what `ultra run c.toml p.s` does with settings and a program.
-fn check_run<R: AllocGlobal + Abort>(
+fn check_run<R: Host>(
     rt: &R,
     settings: &[u8],
     program: &[u8],
@@ -145,179 +153,40 @@ fn check_run<R: AllocGlobal + Abort>(
     check_command(rt, &RUN, settings, program, wanted)
 }
 
-/// Asserts which trace and which serial order a run has.
-fn check_worked<R: AllocGlobal + Abort>(
-    rt: &R,
-    settings: &str,
-    program: &str,
-    trace: &str,
-    order: &str,
-) -> Result<(), Fail> {
-    check_run(rt, settings.as_bytes(), program.as_bytes(), (0, trace, ""))?;
-    check_command(
-        rt,
-        &ORDER,
-        settings.as_bytes(),
-        program.as_bytes(),
-        (0, order, ""),
-    )
+/// Asserts which traces and which serial orders these runs have.
+fn check_examples<R: Host>(rt: &R, examples: &[Example]) -> Result<(), Fail> {
+    for example in examples {
+        let settings = example.settings.as_bytes();
+        let program = example.program.as_bytes();
+        check_command(rt, &RUN, settings, program, (0, example.trace, ""))?;
+        check_command(rt, &ORDER, settings, program, (0, example.order, ""))?;
+    }
+    Ok(())
 }
-
-/// A fetch-and-add of 1 to cell 0.
-const ADDS_ONE: &str = "li r1 0\nli r2 1\nfaa r3 r1 r2\nhalt\n";
-
-/// Two fetch-and-adds: of 1 to cell 0, then of 1 to cell 1.
-const ADDS_TWICE: &str = "li r1 1\nli r2 1\nfaa r3 r0 r2\nfaa r4 r1 r2\nhalt\n";
 
 #[test]
 fn traces_and_orders_are_written(rt: HostRuntime) -> Result<(), Fail> {
-    let adds_most = "li r1 0\nli r2 4294967295\nfaa r3 r1 r2\nhalt\n";
-    let adds_to_two = "li r1 2\nli r2 1\nfaa r3 r0 r2\nfaa r4 r1 r2\nhalt\n";
-    for (settings, program, trace, order) in [
-        (
-            "stages = 1",
-            ADDS_ONE,
-            traces::COMBINED_PAIR,
-            orders::COMBINED_PAIR,
-        ),
-        (
-            "stages = 1\nwait_places = 0",
-            ADDS_ONE,
-            traces::UNCOMBINED_PAIR,
-            orders::UNCOMBINED_PAIR,
-        ),
-        (
-            "stages = 1\ninitial = [[0, 1]]",
-            adds_most,
-            traces::WRAPAROUND,
-            orders::WRAPAROUND,
-        ),
-        (
-            "stages = 1\nwait_places = 1",
-            adds_to_two,
-            traces::WAIT_BUFFER_FULL,
-            orders::WAIT_BUFFER_FULL,
-        ),
-        (
-            "stages = 1\nreply_places = 4",
-            ADDS_TWICE,
-            traces::NARROW_REPLY_QUEUES,
-            orders::NARROW_REPLY_QUEUES,
-        ),
-        ("stages = 1", "halt\n", traces::HALT, orders::HALT),
-        ("stages = 1", "", traces::EMPTY, orders::EMPTY),
-        (
-            "stages = 1\nopen = 1",
-            ADDS_TWICE,
-            traces::ONE_OPEN,
-            orders::ONE_OPEN,
-        ),
-        (
-            "stages = 1\ncycles = 4",
-            ADDS_ONE,
-            traces::CYCLE_LIMIT,
-            orders::CYCLE_LIMIT,
-        ),
-    ] {
-        check_worked(&rt, settings, program, trace, order)?;
-    }
-    Ok(())
+    check_examples(&rt, &examples::ONE_STAGE)
 }
 
-/// Runs with all operations, jumps and labels.
 #[test]
 fn traces_and_orders_of_all_operations_are_written(rt: HostRuntime) -> Result<(), Fail> {
-    for (settings, program, trace, order) in [
-        (
-            "stages = 1\ninitial = [[0, 5]]",
-            "li r2 7\npid r1\njnz r1 w\nld r3 r0\nhalt\nw:\nst r0 r2\nhalt\n",
-            traces::LOAD_THEN_STORE,
-            orders::LOAD_THEN_STORE,
-        ),
-        (
-            "stages = 1",
-            "li r2 3\nli r4 10\npid r1\njnz r1 w\nfaa r3 r0 r2\nhalt\nw:\nst r0 r4\nhalt\n",
-            traces::STORE_THEN_FAA,
-            orders::STORE_THEN_FAA,
-        ),
-        (
-            "stages = 1",
-            "pid r1\njnz r1 end\nli r2 1\nfaa r3 r0 r2\nfaa r4 r0 r2\nend:\nhalt\n",
-            traces::OPEN_CELL_STALL,
-            orders::OPEN_CELL_STALL,
-        ),
-        (
-            "stages = 1\ncells = 1",
-            "pid r1\nadd r1 r1 r1\nli r2 1\nfaa r3 r1 r2\nhalt\n",
-            traces::ADDRESS_FAULT,
-            orders::ADDRESS_FAULT,
-        ),
-        (
-            "stages = 1",
-            "li r2 3\nli r4 10\npid r1\njnz r1 w\nst r0 r4\nhalt\nw:\nfaa r3 r0 r2\nhalt\n",
-            traces::FAA_THEN_STORE,
-            orders::FAA_THEN_STORE,
-        ),
-        (
-            "stages = 1",
-            "pid r1\naddi r2 r1 7\nswap r3 r0 r2\nhalt\n",
-            traces::TWO_SWAPS,
-            orders::TWO_SWAPS,
-        ),
-        (
-            "stages = 1\ninitial = [[0, 5]]",
-            "li r2 3\nli r4 10\npid r1\njnz r1 w\nfaa r3 r0 r2\nhalt\nw:\nswap r3 r0 r4\nhalt\n",
-            traces::SWAP_THEN_FAA,
-            orders::SWAP_THEN_FAA,
-        ),
-    ] {
-        check_worked(&rt, settings, program, trace, order)?;
-    }
-    Ok(())
+    check_examples(&rt, &examples::ALL_OPERATIONS)
 }
 
-/// Runs of machines of two stages.
 #[test]
 fn traces_and_orders_of_two_stages_are_written(rt: HostRuntime) -> Result<(), Fail> {
-    for (settings, program, trace, order) in [
-        (
-            "stages = 2",
-            ADDS_ONE,
-            traces::FOUR_TO_ONE_CELL,
-            orders::FOUR_TO_ONE_CELL,
-        ),
-        (
-            "stages = 2",
-            "pid r2\naddi r2 r2 1\nfaa r3 r0 r2\nhalt\n",
-            traces::TWO_LEVEL_TREE,
-            orders::TWO_LEVEL_TREE,
-        ),
-        (
-            "stages = 2\nrequest_places = 2\nwait_places = 0",
-            ADDS_ONE,
-            traces::NARROW_REQUEST_QUEUES,
-            orders::NARROW_REQUEST_QUEUES,
-        ),
-        (
-            "stages = 2",
-            "pid r1\naddi r5 r1 1\njz r1 a\nld r6 r5\na:\nfaa r7 r3 r5\nhalt\n",
-            traces::MARKED_ONCE,
-            orders::MARKED_ONCE,
-        ),
-        (
-            "stages = 2",
-            "pid r1\nld r13 r1\nld r8 r0\nhalt\n",
-            traces::IDENTITY_NOT_CELL,
-            orders::IDENTITY_NOT_CELL,
-        ),
-        (
-            "stages = 2\nrequest_places = 5\nwait_places = 1\nopen = 3",
-            "li r5 5\nli r8 25\nst r7 r6\nfaa r13 r8 r8\nst r5 r6\nhalt\n",
-            traces::FRONTMOST,
-            orders::FRONTMOST,
-        ),
-    ] {
-        check_worked(&rt, settings, program, trace, order)?;
+    check_examples(&rt, &examples::TWO_STAGES)
+}
+
+/// The trace is the same for every number of workers.
+#[test]
+fn traces_do_not_depend_on_workers(rt: HostRuntime) -> Result<(), Fail> {
+    let program = ADDS_NUMBER.as_bytes();
+    for workers in ["1", "2", "3", "64"] {
+        let words = ["ultra", "run", "c.toml", "p.s", "--workers", workers];
+        let wanted = (0, two_stage_traces::TWO_LEVEL_TREE, "");
+        check_command(&rt, &words, b"stages = 2", program, wanted)?;
     }
     Ok(())
 }
@@ -337,11 +206,7 @@ fn all_numbers_of_stages_run(rt: HostRuntime) -> Result<(), Fail> {
 }
 
 /// Asserts what `ultra list p.s` does with a program: its status, and what it writes to standard output and standard error.
-fn check_list<R: AllocGlobal + Abort>(
-    rt: &R,
-    program: &[u8],
-    wanted: (u8, &str, &str),
-) -> Result<(), Fail> {
+fn check_list<R: Host>(rt: &R, program: &[u8], wanted: (u8, &str, &str)) -> Result<(), Fail> {
     let files = [("p.s", program)];
     let ended = call(rt, &["ultra", "list", "p.s"], &files);
     assert_eq!(rt; ended.err.text()?, wanted.2);
@@ -402,38 +267,41 @@ fn longest_program_is_listed(rt: HostRuntime) -> Result<(), Fail> {
     )
 }
 
+/// Settings that are refused, with the lines that tell why.
+static REFUSED_SETTINGS: [(&str, &str); 13] = [
+    ("stages = 0", "ultra: c.toml: bad stages\n"),
+    ("stages = 7", "ultra: c.toml: bad stages\n"),
+    ("", "ultra: c.toml: bad stages\n"),
+    (
+        "stages = 1\nrequest_places = 1",
+        "ultra: c.toml: bad request_places\n",
+    ),
+    (
+        "stages = 1\nreply_places = 65",
+        "ultra: c.toml: bad reply_places\n",
+    ),
+    (
+        "stages = 1\nwait_places = -1",
+        "ultra: c.toml: bad wait_places\n",
+    ),
+    ("stages = 1\nopen = 9", "ultra: c.toml: bad open\n"),
+    ("stages = 1\ncells = 4097", "ultra: c.toml: bad cells\n"),
+    ("stages = 1\ncycles = 1.5", "ultra: c.toml: bad cycles\n"),
+    (
+        "stages = 1\ninitial = [[0, 1], [0, 1]]",
+        "ultra: c.toml: bad initial\n",
+    ),
+    ("stages = 1\nworkers = 2", "ultra: c.toml: unknown key\n"),
+    (
+        "workers = 2\nstages = 1\ncycles = 0",
+        "ultra: c.toml: bad cycles\n",
+    ),
+    ("stages", "ultra: c.toml: not toml\n"),
+];
+
 #[test]
 fn settings_are_refused(rt: HostRuntime) -> Result<(), Fail> {
-    for (settings, line) in [
-        ("stages = 0", "ultra: c.toml: bad stages\n"),
-        ("stages = 7", "ultra: c.toml: bad stages\n"),
-        ("", "ultra: c.toml: bad stages\n"),
-        (
-            "stages = 1\nrequest_places = 1",
-            "ultra: c.toml: bad request_places\n",
-        ),
-        (
-            "stages = 1\nreply_places = 65",
-            "ultra: c.toml: bad reply_places\n",
-        ),
-        (
-            "stages = 1\nwait_places = -1",
-            "ultra: c.toml: bad wait_places\n",
-        ),
-        ("stages = 1\nopen = 9", "ultra: c.toml: bad open\n"),
-        ("stages = 1\ncells = 4097", "ultra: c.toml: bad cells\n"),
-        ("stages = 1\ncycles = 1.5", "ultra: c.toml: bad cycles\n"),
-        (
-            "stages = 1\ninitial = [[0, 1], [0, 1]]",
-            "ultra: c.toml: bad initial\n",
-        ),
-        ("stages = 1\nworkers = 2", "ultra: c.toml: unknown key\n"),
-        (
-            "workers = 2\nstages = 1\ncycles = 0",
-            "ultra: c.toml: bad cycles\n",
-        ),
-        ("stages", "ultra: c.toml: not toml\n"),
-    ] {
+    for (settings, line) in REFUSED_SETTINGS {
         check_run(&rt, settings.as_bytes(), b"halt", (3, "", line))?;
     }
     let not_utf8 = [b'#', 0xff];
@@ -559,15 +427,24 @@ fn files_are_read_in_order(rt: HostRuntime) -> Result<(), Fail> {
     Ok(())
 }
 
+/// Asserts that the words are a usage fault, though the files are there, and that its text says this.
+fn check_usage_fault<R: Host>(rt: &R, words: &[&str], told: &str) -> Result<(), Fail> {
+    let files: [(&str, &[u8]); 2] = [("c.toml", b"stages = 1"), ("p.s", b"halt")];
+    let ended = call(rt, words, &files);
+    assert!(rt; ended.err.text()?.contains(told), "{words:?}");
+    assert!(rt; ended.out.bytes.is_empty(), "{words:?}");
+    assert_eq!(rt; ended.status, 2, "{words:?}");
+    Ok(())
+}
+
 #[test]
 fn wrong_words_are_usage_faults(rt: HostRuntime) -> Result<(), Fail> {
-    let rows: [&[&str]; 10] = [
+    let rows: [&[&str]; 9] = [
         &[],
         &["ultra"],
         &["ultra", "walk", "c.toml", "p.s"],
         &["ultra", "run", "c.toml"],
         &["ultra", "run", "c.toml", "p.s", "q.s"],
-        &["ultra", "run", "c.toml", "p.s", "--workers", "2"],
         &["ultra", "order", "c.toml"],
         &["ultra", "explain", "c.toml", "p.s"],
         &["ultra", "list"],
@@ -582,12 +459,33 @@ fn wrong_words_are_usage_faults(rt: HostRuntime) -> Result<(), Fail> {
         ],
     ];
     for words in rows {
-        let ended = call(&rt, words, &[]);
-        assert!(rt; ended.err.text()?.contains("Usage: ultra"), "{words:?}");
-        assert!(rt; ended.out.bytes.is_empty(), "{words:?}");
-        assert_eq!(rt; ended.status, 2, "{words:?}");
+        check_usage_fault(&rt, words, "Usage: ultra")?;
     }
     Ok(())
+}
+
+/// Numbers of workers that are no number from 1 to 64, and the option where it doesn't belong.
+#[test]
+fn wrong_workers_are_usage_faults(rt: HostRuntime) -> Result<(), Fail> {
+    for workers in ["0", "65", "18446744073709551617", "x", "1.5", ""] {
+        let words = ["ultra", "run", "c.toml", "p.s", "--workers", workers];
+        check_usage_fault(&rt, &words, "'--workers <H>'")?;
+    }
+    let twice = [
+        "ultra",
+        "run",
+        "c.toml",
+        "p.s",
+        "--workers=2",
+        "--workers=2",
+    ];
+    check_usage_fault(&rt, &twice, "cannot be used multiple times")?;
+    let missing = ["ultra", "run", "c.toml", "p.s", "--workers"];
+    check_usage_fault(&rt, &missing, "a value is required for '--workers <H>'")?;
+    let order = ["ultra", "order", "c.toml", "p.s", "--workers", "2"];
+    check_usage_fault(&rt, &order, "unexpected argument '--workers'")?;
+    let list = ["ultra", "list", "p.s", "--workers", "2"];
+    check_usage_fault(&rt, &list, "unexpected argument '--workers'")
 }
 
 #[test]
@@ -601,11 +499,15 @@ fn help_goes_to_standard_output(rt: HostRuntime) -> Result<(), Fail> {
     }
     assert!(rt; ended.err.bytes.is_empty());
     assert_eq!(rt; ended.status, 0);
+    let ended = call(&rt, &["ultra", "run", "--help"], &[]);
+    let text = ended.out.text()?;
+    assert!(rt; text.contains("--workers <H>"), "{text}");
+    assert_eq!(rt; ended.status, 0);
     Ok(())
 }
 
 /// The text of the words' command where standard output takes at most 4 bytes a write, and fails at its third write.
-fn short_failing_sink<R: AllocGlobal + Abort>(rt: &R, words: &[&str]) -> Result<String, Fail> {
+fn short_failing_sink<R: Host>(rt: &R, words: &[&str]) -> Result<String, Fail> {
     let files: [(&str, &[u8]); 2] = [("c.toml", b"stages = 1"), ("p.s", ADDS_ONE.as_bytes())];
     let mut shelf = Shelf {
         files: &files,
@@ -627,6 +529,8 @@ fn short_failing_sink<R: AllocGlobal + Abort>(rt: &R, words: &[&str]) -> Result<
 #[test]
 fn a_beginning_is_written_to_a_short_failing_sink(rt: HostRuntime) -> Result<(), Fail> {
     let trace = short_failing_sink(&rt, &RUN)?;
+    assert_eq!(rt; trace.as_str(), "ultra tr");
+    let trace = short_failing_sink(&rt, &RUN_BY_THREE)?;
     assert_eq!(rt; trace.as_str(), "ultra tr");
     let order = short_failing_sink(&rt, &ORDER)?;
     assert_eq!(rt; order.as_str(), "1.0 faa ");

@@ -1,54 +1,74 @@
-//! The lines of a machine's cycles are the same in every partition.
+//! The lines of a machine's cycles are the same in every partition, by every number of workers.
 
-ghost use Rattle.std.specs.Prelude.{◌≡◌, ◌+◌, ◌<◌};
+ghost use Rattle.std.specs.Prelude.{◌≡◌, ◌+◌, ◌<◌, IfOk};
 ghost use Rattle.ultra_block.specs.BlocksState.{IsWhole};
 
-use super::{Tray, traces};
+use super::examples::ADDS_NUMBER;
+use super::{Host, Tray, two_stage_traces};
 use crate::settings::settings_from;
-use std::alloc::AllocGlobal;
-use std::process::Abort;
+use crate::workers::{OpenGate, Workers};
 use std::test::Fail;
 use ultra_asm::assemble;
 use ultra_block::Blocks;
+use ultra_crew::Crew;
 use ultra_trace::write_cycle;
 
-/// Makes a cycle, and writes its lines.
-fn make_and_write(blocks: &mut Blocks, out: &mut Tray) -> Result<(), Fail>
-    requires whole { IsWhole blocks.old }
-    requires few { blocks.old.done < 1000 }
-    ensures whole { IsWhole blocks.new }
-    ensures done { blocks.new.done ≡ blocks.old.done + 1 }
+/// Makes a cycle by so many workers, and writes its lines.
+fn make_and_write<R: Host>(
+    rt: &R,
+    blocks: Blocks,
+    workers: Workers,
+    out: &mut Tray,
+) -> Result<Blocks, Fail>
+    requires whole { IsWhole blocks }
+    requires few { blocks.done < 1000 }
+    ensures whole { IfOk result (λ b. IsWhole b) }
+    ensures done { IfOk result (λ b. b.done ≡ blocks.done + 1) }
 {
-    blocks.cycle();
-    if write_cycle(blocks, out).is_err() {
+    let blocks = Crew::cycle(rt, rt.alloc(), blocks, workers.count, &OpenGate)?;
+    if write_cycle(&blocks, out).is_err() {
         return Err(Fail::from("not written"));
     }
-    Ok(())
+    Ok(blocks)
 }
 
-/// Makes the first ten cycles, and writes their lines.
-fn make_and_write_ten(blocks: &mut Blocks, out: &mut Tray) -> Result<(), Fail>
-    requires whole { IsWhole blocks.old }
-    requires none { blocks.old.done ≡ 0 }
+/// Makes the first ten cycles by so many workers, and writes their lines.
+fn make_and_write_ten<R: Host>(
+    rt: &R,
+    mut blocks: Blocks,
+    workers: Workers,
+    out: &mut Tray,
+) -> Result<(), Fail>
+    requires whole { IsWhole blocks }
+    requires none { blocks.done ≡ 0 }
 {
     for _ in 0..10_u32 {
-        make_and_write(blocks, out)?;
+        blocks = make_and_write(rt, blocks, workers, out)?;
     }
     Ok(())
 }
 
-/// Asserts that ten cycles of the machine of `two_level_tree`, cut so, have that trace's lines.
-fn check_partition<R: AllocGlobal + Abort>(rt: &R, partition: &[u8]) -> Result<(), Fail> {
+/// Asserts that ten cycles of the machine of `two_level_tree`, cut so and made by so many workers, have that trace's lines.
+fn check_lines<R: Host>(rt: &R, partition: &[u8], workers: Workers) -> Result<(), Fail> {
     let config = settings_from(rt.alloc(), b"stages = 2")?;
-    let program = assemble(rt.alloc(), "pid r2\naddi r2 r2 1\nfaa r3 r0 r2\nhalt\n")?;
-    let mut blocks = Blocks::new(rt.alloc(), &config, &program, partition)?;
+    let program = assemble(rt.alloc(), ADDS_NUMBER)?;
+    let blocks = Blocks::new(rt.alloc(), &config, &program, partition)?;
     let mut out = Tray::new(rt.alloc());
-    make_and_write_ten(&mut blocks, &mut out)?;
+    make_and_write_ten(rt, blocks, workers, &mut out)?;
     let trace = format!(in rt.alloc(); "ultra trace 2\n{}end quiet\n", out.text()?)?;
     assert!(rt;
-        traces::TWO_LEVEL_TREE.starts_with(trace.as_str()),
+        two_stage_traces::TWO_LEVEL_TREE.starts_with(trace.as_str()),
         "{trace}"
     );
+    Ok(())
+}
+
+/// Asserts the same by 1, 2, 3 and 64 workers.
+fn check_partition<R: Host>(rt: &R, partition: &[u8]) -> Result<(), Fail> {
+    for count in [1, 2, 3, 64] {
+        let workers = Workers::new(count).ok_or("no workers")?;
+        check_lines(rt, partition, workers)?;
+    }
     Ok(())
 }
 

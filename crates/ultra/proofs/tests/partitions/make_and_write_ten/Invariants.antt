@@ -3,7 +3,7 @@ use Rattle.ultra_block.specs.BlocksState.{IsWhole}
 use Rattle.ultra.proofs.tests.partitions.make_and_write_ten.Given as goal
 
 abbrev pub invariant-loop : goal.invariant-loop
-invariant-loop l = record {
+invariant-loop g l = record {
   whole : IsWhole l.blocks;
   done : l.blocks.done ≡ l.counter;
 }
