@@ -1,4 +1,4 @@
-pub mod Pushed
 pub mod Dealt
 pub mod Placed
 pub mod Gathered
+pub mod Courses
