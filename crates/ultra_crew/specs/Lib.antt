@@ -1,2 +1,3 @@
 pub mod Tasks
 pub mod Course
+pub mod Cycles

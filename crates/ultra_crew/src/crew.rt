@@ -4,6 +4,7 @@ ghost use Rattle.std.specs.Prelude.{◌≡◌, ◌+◌, ◌-◌, ◌<◌, ◌≤
 ghost use Rattle.ultra_block.specs.BlocksState.{IsWhole, machine_of};
 ghost use Rattle.ultra_block.specs.Phases.{cycle as next_cycle};
 ghost use Rattle.ultra_crew.specs.Course.{IsCourse};
+ghost use Rattle.ultra_crew.specs.Cycles.{cycles_on, HasMade};
 
 use crate::course::Course;
 use crate::gate::Gate;
@@ -85,44 +86,84 @@ impl Crew {
             cycle_alone(&mut blocks);
             return Ok(blocks);
         }
-        cycle_together::<Brand, R, G>(rt, alloc, blocks, workers, gate)
+        let blocks = cycles_together::<Brand, R, G>(rt, alloc, blocks, workers, gate, 1)?;
+        Ok(blocks)
+    }
+
+    /// The machine makes so many cycles, each as by `cycle`, but the workers' threads are started once. With one worker the call succeeds.
+    ///
+    /// The machine has to be between two cycles, and its count of cycles below `2^32` after these too. The call may wait. In every end the threads that were started are joined.
+    ///
+    /// `NoThread` says that a thread could not be started, `NoMemory` that memory was refused; the blocks are then given up.
+    pub fn cycles<R: Threads + Wait + Sync, G: Gate + Sync>(
+        rt: &R,
+        alloc: Global,
+        mut blocks: Blocks,
+        workers: usize,
+        gate: &G,
+        count: u32,
+    ) -> Result<Blocks, CrewFault>
+        requires whole { IsWhole blocks }
+        requires counted { blocks.done + count < 2 ^ 32 }
+        requires some_worker { 1 ≤ workers }
+        requires most_workers { workers ≤ 64 }
+        ensures state { IfOk result (λ b. machine_of b ≡ cycles_on blocks.config blocks.program count (machine_of blocks)) }
+        ensures whole { IfOk result (λ b. IsWhole b) }
+        ensures settings { IfOk result (λ b. b.config ≡ blocks.config) }
+        ensures program { IfOk result (λ b. b.program ≡ blocks.program) }
+        ensures done { IfOk result (λ b. b.done ≡ blocks.done + count) }
+        ensures alone { workers ≡ 1 → IsOk result }
+    {
+        if workers == 1 {
+            cycles_alone(&mut blocks, count);
+            return Ok(blocks);
+        }
+        cycles_together::<Brand, R, G>(rt, alloc, blocks, workers, gate, count)
     }
 }
 
-/// A cycle whose halves are made by workers in threads of their own, which are started here and joined at the end.
-fn cycle_together<J: Course + Send, R: Threads + Wait + Sync, G: Gate + Sync>(
+/// The machine makes so many cycles, in the caller's thread.
+fn cycles_alone(blocks: &mut Blocks, count: u32)
+    requires whole { IsWhole blocks.old }
+    requires counted { blocks.old.done + count < 2 ^ 32 }
+    ensures state { machine_of blocks.new ≡ cycles_on blocks.old.config blocks.old.program count (machine_of blocks.old) }
+    ensures whole { IsWhole blocks.new }
+    ensures settings { blocks.new.config ≡ blocks.old.config }
+    ensures program { blocks.new.program ≡ blocks.old.program }
+    ensures done { blocks.new.done ≡ blocks.old.done + count }
+{
+    for _ in 0..count {
+        cycle_alone(blocks);
+    }
+}
+
+/// So many cycles whose halves are made by workers in threads of their own, which are started here and joined at the end.
+fn cycles_together<J: Course + Send, R: Threads + Wait + Sync, G: Gate + Sync>(
     rt: &R,
     alloc: Global,
     blocks: Blocks,
     workers: usize,
     gate: &G,
+    count: u32,
 ) -> Result<Blocks, CrewFault>
     requires whole { IsWhole blocks }
-    requires counted { blocks.done < 2 ^ 32 - 1 }
+    requires counted { blocks.done + count < 2 ^ 32 }
     requires some_worker { 1 ≤ workers }
     requires course { IsCourse J.results workers blocks }
-    ensures state { IfOk result (λ b. machine_of b ≡ next_cycle blocks.config blocks.program (machine_of blocks)) }
-    ensures whole { IfOk result (λ b. IsWhole b) }
-    ensures settings { IfOk result (λ b. b.config ≡ blocks.config) }
-    ensures program { IfOk result (λ b. b.program ≡ blocks.program) }
-    ensures done { IfOk result (λ b. b.done ≡ blocks.done + 1) }
+    ensures { IfOk result (HasMade count blocks) }
 {
     thread::scope(
         thread::scope_env(),
         rt,
         |scope| -> Result<Blocks, CrewFault>
             requires whole { IsWhole blocks }
-            requires counted { blocks.done < 2 ^ 32 - 1 }
+            requires counted { blocks.done + count < 2 ^ 32 }
             requires some_worker { 1 ≤ workers }
             requires course { IsCourse J.results workers blocks }
-            ensures state { IfOk result (λ b. machine_of b ≡ next_cycle blocks.config blocks.program (machine_of blocks)) }
-            ensures whole { IfOk result (λ b. IsWhole b) }
-            ensures settings { IfOk result (λ b. b.config ≡ blocks.config) }
-            ensures program { IfOk result (λ b. b.program ≡ blocks.program) }
-            ensures done { IfOk result (λ b. b.done ≡ blocks.done + 1) }
+            ensures { IfOk result (HasMade count blocks) }
         {
             let shift = Shift::<J>::begin(scope, rt, alloc, workers, gate)?;
-            let result = shift.cycle(rt, alloc, blocks);
+            let result = shift.cycles(rt, alloc, blocks, count);
             shift.end(rt);
             result
         },

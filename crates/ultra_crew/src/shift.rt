@@ -7,6 +7,7 @@ ghost use Rattle.ultra_block.specs.Making.{CanMake, made};
 ghost use Rattle.ultra_block.specs.Phases.{cycle as next_cycle};
 ghost use Rattle.ultra_crew.specs.Tasks.{CanBeMade, task_made};
 ghost use Rattle.ultra_crew.specs.Course.{AreResults, IsCourse, results_of};
+ghost use Rattle.ultra_crew.specs.Cycles.{HasMade};
 
 use crate::course::Course;
 use crate::crew::CrewFault;
@@ -97,6 +98,26 @@ impl<J: Course> Shift<J> {
         let blocks = self.make(rt, alloc, blocks, Half::TakeRequests)?;
         let mut blocks = self.make(rt, alloc, blocks, Half::Execute)?;
         blocks.end_cycle();
+        Ok(blocks)
+    }
+
+    /// The machine makes so many cycles, each as by `cycle`.
+    pub(crate) fn cycles<R: Wait>(
+        &self,
+        rt: &R,
+        alloc: Global,
+        mut blocks: Blocks,
+        count: u32,
+    ) -> Result<Blocks, CrewFault>
+        requires whole { IsWhole blocks }
+        requires counted { blocks.done + count < 2 ^ 32 }
+        requires some_worker { 1 ≤ self.now }
+        requires course { IsCourse J.results self.now blocks }
+        ensures { IfOk result (HasMade count blocks) }
+    {
+        for _ in 0..count {
+            blocks = self.cycle(rt, alloc, blocks)?;
+        }
         Ok(blocks)
     }
 
