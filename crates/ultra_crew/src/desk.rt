@@ -7,8 +7,9 @@ use crate::crew::CrewFault;
 use crate::gate::Gate;
 use crate::order::{Order, Results};
 use crate::task::Task;
-use crossbeam_channel::{Receiver, SendError, Sender, bounded};
+use crossbeam_channel::{Receiver, SendError, Sender, TryRecvError, bounded};
 use std::alloc::Global;
+use std::hint;
 use std::sync::Wait;
 use std::thread::{JoinHandle, Scope, Threads};
 use ultra_block::Half;
@@ -21,6 +22,21 @@ pub(crate) struct Desk<J: Course> {
     thread: JoinHandle<()>,
 }
 
+/// How often a thread looks for a message before it sleeps until one comes: for about the time that a half of a cycle takes.
+const LOOKS: u32 = 400;
+
+/// The next message, or `None` where none can come any more.
+fn next<T: Drop, R: Wait>(rt: &R, from: &Receiver<T>) -> Option<T> {
+    for _ in 0..LOOKS {
+        match from.try_recv(rt) {
+            Ok(message) => return Some(message),
+            Err(TryRecvError::Empty) => hint::spin_loop(),
+            Err(TryRecvError::Disconnected) => return None,
+        }
+    }
+    from.recv(rt).ok()
+}
+
 /// What a worker does until no more orders come.
 fn work<J: Course, R: Wait, G: Gate>(
     rt: &R,
@@ -29,7 +45,7 @@ fn work<J: Course, R: Wait, G: Gate>(
     results: Sender<Results<J>>,
 ) {
     for _ in rt.forever() {
-        let Ok(order) = orders.recv(rt) else {
+        let Some(order) = next(rt, &orders) else {
             return;
         };
         if results.send(rt, order.make(rt, gate)).is_err() {
@@ -81,7 +97,7 @@ impl<J: Course> Desk<J> {
         ensures { IfOk result (λ v. v.items ≡ J.results cycle half worker) }
     {
         for _ in rt.forever() {
-            let Ok(results) = self.results.recv(rt) else {
+            let Some(results) = next(rt, &self.results) else {
                 return Err(CrewFault::NoThread);
             };
             if results.cycle == cycle && results.half == half && results.worker == worker {
