@@ -1,15 +1,12 @@
 -- the course of a machine: it is that of its own start, and goes on with each cycle
-use Rattle.std.proofs.Common.{◌≡◌, ℕ, zero, suc, ◌+◌, ◌-◌, List, refl, arith, ap, ◌∙◌, sym, subst}
-use Rattle.ultra_isa.specs.declared.Instr.{Instr}
-use Rattle.ultra_block.specs.RoomTable.{RoomTable}
+use Rattle.std.proofs.Common.{◌≡◌, ℕ, suc, ◌+◌, ◌-◌, List, refl, arith, ap, ◌∙◌, subst}
 use Rattle.ultra_block.specs.MailTable.{MailTable}
-use Rattle.ultra_block.specs.BlockState.{BlockState}
 use Rattle.ultra_block.specs.Cycle.{first_rooms, second_rooms, second_mail, with_replies_come, with_replies_taken, with_memory_served, with_requests_come, with_requests_taken, with_steps_made}
 use Rattle.ultra_block.specs.Course.{IsAt}
 use Rattle.ultra_block.specs.declared.blocks.Blocks.{Blocks}
 use Rattle.ultra_block.specs.declared.half.Half.{Half}
 use Rattle.ultra_block.specs.declared.half.Half.TheVariants.{SendReplies, TakeReplies, Serve, SendRequests, TakeRequests, Execute}
-use Rattle.ultra_crew.specs.Course.{Stand, stand_of, blocks_before, rooms_before, next_stand, stand_after, results_in, results_of, course_of, IsCourse, AreResults}
+use Rattle.ultra_crew.specs.Course.{stand_of, blocks_before, rooms_before, next_stand, stand_after, results_in, course_of, IsCourse, AreResults}
 use Rattle.ultra_crew.specs.declared.task.Task.{Task}
 
 pub own_course : (workers : ℕ) (b : Blocks) → IsCourse (course_of workers b) workers b

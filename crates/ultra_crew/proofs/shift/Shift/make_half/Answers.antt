@@ -1,4 +1,4 @@
-use Rattle.std.proofs.Common.{rules, arith, ◌≡◌, ℕ, ◌<◌, ◌≤◌, ◌∙◌, sym, slice_index_or, Vec, Global}
+use Rattle.std.proofs.Common.{rules, ◌≡◌, ℕ, ◌<◌, ◌≤◌, ◌∙◌, slice_index_or, Vec, Global}
 use Rattle.std.specs.Arc.{arc_value}
 use Rattle.ultra_crew.specs.Course.{results_of}
 use Rattle.ultra_crew.specs.declared.task.Task.{Task}
