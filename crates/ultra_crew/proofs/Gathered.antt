@@ -12,6 +12,7 @@ use Rattle.ultra_block.specs.Cut.{no_block}
 use Rattle.ultra_block.proofs.Entries.{IsRight, HasEntry, written_at, each_of, has_of}
 use Rattle.ultra_block.specs.Making.{CanMake, made}
 use Rattle.ultra_crew.specs.Tasks.{task, tasks_from, is_of_worker, team, task_made, CanBeMade, IsOf, result_of, placed}
+use Rattle.ultra_crew.specs.Course.{results_of}
 use Rattle.ultra_crew.proofs.Placed.{length-placed}
 use Rattle.ultra_block.specs.declared.half.Half.{Half}
 use Rattle.ultra_crew.specs.declared.task.Task.{Task}
@@ -64,18 +65,16 @@ module _ (rooms : RoomTable) (program : List Instr) (c : ℕ) (h : Half) where
   first_of_some [] some = absurd (omega arith)
   first_of_some (r ∷ rs) some = r
 
-  -- ---- all tasks are dealt to the teams
-  module _ (workers : ℕ) (some_worker : 1 ≤ workers) (bs : List BlockState) (teams : List (Vec Task Global)) (many : length teams ≡ workers) (dealt : (w : ℕ) (d : Vec Task Global) → w < workers → (get_or teams w d).items ≡ team workers w (tasks_from c h 0 bs)) where
-    pub teams_can : All (CanMake h) bs → (w : ℕ) (d : Vec Task Global) → w < length teams → All CanBeMade (get_or teams w d).items
-    teams_can can w d below =
+  module _ (workers : ℕ) (some_worker : 1 ≤ workers) (bs : List BlockState) where
+    -- ---- all tasks are dealt to the teams
+    pub teams_can : (teams : List (Vec Task Global)) → length teams ≡ workers → ((w : ℕ) (d : Vec Task Global) → w < workers → (get_or teams w d).items ≡ team workers w (tasks_from c h 0 bs))
+        → All (CanMake h) bs → (w : ℕ) (d : Vec Task Global) → w < length teams → All CanBeMade (get_or teams w d).items
+    teams_can teams many dealt can w d below =
         subst (λ ts. All CanBeMade ts) (sym (dealt w d (omega arith)))
         (All-filter (is_of_worker workers w) CanBeMade (tasks_from c h 0 bs) (can_all 0 bs can))
 
     -- ---- and the teams have done them
-    module _ (done : List (Vec Task Global)) (as_many : length done ≡ length teams) (each : (w : ℕ) (d : Vec Task Global) → w < length teams → (get_or done w d).items ≡ map (task_made rooms program) (get_or teams w d).items) (n : ℕ) (all : length bs ≡ n) where
-      results_are : (w : ℕ) (d : Vec Task Global) → w < workers → (get_or done w d).items ≡ map (task_made rooms program) (team workers w (tasks_from c h 0 bs))
-      results_are w d below = each w d (omega arith) ∙ ap (λ ts. map (task_made rooms program) ts) (dealt w d below)
-
+    module _ (done : List (Vec Task Global)) (as_many : length done ≡ workers) (results_are : (w : ℕ) (d : Vec Task Global) → w < workers → (get_or done w d).items ≡ results_of rooms program workers c h bs w) (n : ℕ) (all : length bs ≡ n) where
       pub results_named : All (λ r. All (IsOf c h n) r.items) done
       results_named w d below =
           subst (λ ts. All (IsOf c h n) ts) (sym (results_are w d (omega arith)))

@@ -1,4 +1,5 @@
-pub mod Pushed
 pub mod Dealt
 pub mod Placed
 pub mod Gathered
+pub mod Courses
+pub mod Counted

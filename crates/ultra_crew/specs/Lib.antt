@@ -1,1 +1,3 @@
 pub mod Tasks
+pub mod Course
+pub mod Cycles

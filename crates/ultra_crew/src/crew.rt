@@ -1,20 +1,20 @@
 //! A cycle of the whole machine, made by host workers.
 
-ghost use Rattle.std.specs.Prelude.{◌≡◌, ◌+◌, ◌-◌, ◌<◌, ◌≤◌, ◌^◌, All, IfOk, IsOk, OnOk, map};
+ghost use Rattle.std.specs.Prelude.{◌≡◌, ◌+◌, ◌-◌, ◌<◌, ◌≤◌, ◌^◌, IfOk, IsOk};
 ghost use Rattle.ultra_block.specs.BlocksState.{IsWhole, machine_of};
-ghost use Rattle.ultra_block.specs.Making.{CanMake, made};
 ghost use Rattle.ultra_block.specs.Phases.{cycle as next_cycle};
+ghost use Rattle.ultra_crew.specs.Course.{IsCourse};
+ghost use Rattle.ultra_crew.specs.Cycles.{cycles_on, HasMade};
 
-use crate::deal::deal;
+use crate::course::Course;
 use crate::gate::Gate;
-use crate::places::gather;
-use crate::teams::run_teams;
+use crate::shift::Shift;
 use std::alloc::{AllocError, Global};
+use std::marker::Brand;
 use std::sync::Wait;
-use std::thread::Threads;
+use std::thread::{self, Threads};
 use thiserror::Error;
-use ultra_block::{Block, Blocks, Half, Rooms};
-use ultra_isa::Program;
+use ultra_block::Blocks;
 
 /// The most workers of a crew.
 pub const MOST_WORKERS: usize = 64;
@@ -84,84 +84,88 @@ impl Crew {
     {
         if workers == 1 {
             cycle_alone(&mut blocks);
-        } else {
-            cycle_together(rt, alloc, &mut blocks, workers, gate)?;
+            return Ok(blocks);
         }
+        let blocks = cycles_together::<Brand, R, G>(rt, alloc, blocks, workers, gate, 1)?;
         Ok(blocks)
+    }
+
+    /// The machine makes so many cycles, each as by `cycle`, but the workers' threads are started once. With one worker the call succeeds.
+    ///
+    /// The machine has to be between two cycles, and its count of cycles below `2^32` after these too. The call may wait. In every end the threads that were started are joined.
+    ///
+    /// `NoThread` says that a thread could not be started, `NoMemory` that memory was refused; the blocks are then given up.
+    pub fn cycles<R: Threads + Wait + Sync, G: Gate + Sync>(
+        rt: &R,
+        alloc: Global,
+        mut blocks: Blocks,
+        workers: usize,
+        gate: &G,
+        count: u32,
+    ) -> Result<Blocks, CrewFault>
+        requires whole { IsWhole blocks }
+        requires counted { blocks.done + count < 2 ^ 32 }
+        requires some_worker { 1 ≤ workers }
+        requires most_workers { workers ≤ 64 }
+        ensures state { IfOk result (λ b. machine_of b ≡ cycles_on blocks.config blocks.program count (machine_of blocks)) }
+        ensures whole { IfOk result (λ b. IsWhole b) }
+        ensures settings { IfOk result (λ b. b.config ≡ blocks.config) }
+        ensures program { IfOk result (λ b. b.program ≡ blocks.program) }
+        ensures done { IfOk result (λ b. b.done ≡ blocks.done + count) }
+        ensures alone { workers ≡ 1 → IsOk result }
+    {
+        if workers == 1 {
+            cycles_alone(&mut blocks, count);
+            return Ok(blocks);
+        }
+        cycles_together::<Brand, R, G>(rt, alloc, blocks, workers, gate, count)
     }
 }
 
-/// A cycle whose halves are made by workers in threads of their own.
-fn cycle_together<R: Threads + Wait + Sync, G: Gate + Sync>(
-    rt: &R,
-    alloc: Global,
-    blocks: &mut Blocks,
-    workers: usize,
-    gate: &G,
-) -> Result<(), CrewFault>
+/// The machine makes so many cycles, in the caller's thread.
+fn cycles_alone(blocks: &mut Blocks, count: u32)
     requires whole { IsWhole blocks.old }
-    requires counted { blocks.old.done < 2 ^ 32 - 1 }
-    requires some_worker { 1 ≤ workers }
-    ensures state { OnOk result (machine_of blocks.new ≡ next_cycle blocks.old.config blocks.old.program (machine_of blocks.old)) }
-    ensures whole { OnOk result (IsWhole blocks.new) }
-    ensures settings { OnOk result (blocks.new.config ≡ blocks.old.config) }
-    ensures program { OnOk result (blocks.new.program ≡ blocks.old.program) }
-    ensures done { OnOk result (blocks.new.done ≡ blocks.old.done + 1) }
+    requires counted { blocks.old.done + count < 2 ^ 32 }
+    ensures state { machine_of blocks.new ≡ cycles_on blocks.old.config blocks.old.program count (machine_of blocks.old) }
+    ensures whole { IsWhole blocks.new }
+    ensures settings { blocks.new.config ≡ blocks.old.config }
+    ensures program { blocks.new.program ≡ blocks.old.program }
+    ensures done { blocks.new.done ≡ blocks.old.done + count }
 {
-    blocks.note_rooms();
-    make(rt, alloc, blocks, Half::SendReplies, workers, gate)?;
-    blocks.exchange();
-    make(rt, alloc, blocks, Half::TakeReplies, workers, gate)?;
-    make(rt, alloc, blocks, Half::Serve, workers, gate)?;
-    blocks.note_rooms();
-    make(rt, alloc, blocks, Half::SendRequests, workers, gate)?;
-    blocks.exchange();
-    make(rt, alloc, blocks, Half::TakeRequests, workers, gate)?;
-    make(rt, alloc, blocks, Half::Execute, workers, gate)?;
-    blocks.end_cycle();
-    Ok(())
+    for _ in 0..count {
+        cycle_alone(blocks);
+    }
 }
 
-/// Every block makes this half of the cycle, each in its worker's thread.
-fn make<R: Threads + Wait + Sync, G: Gate + Sync>(
+/// So many cycles whose halves are made by workers in threads of their own, which are started here and joined at the end.
+fn cycles_together<J: Course + Send, R: Threads + Wait + Sync, G: Gate + Sync>(
     rt: &R,
     alloc: Global,
-    blocks: &mut Blocks,
-    half: Half,
+    blocks: Blocks,
     workers: usize,
     gate: &G,
-) -> Result<(), CrewFault>
+    count: u32,
+) -> Result<Blocks, CrewFault>
+    requires whole { IsWhole blocks }
+    requires counted { blocks.done + count < 2 ^ 32 }
     requires some_worker { 1 ≤ workers }
-    requires ready { All (CanMake half) blocks.old.blocks.items }
-    ensures blocks { OnOk result (blocks.new.blocks.items ≡ map (made half blocks.old.rooms blocks.old.program) blocks.old.blocks.items) }
-    ensures rest { OnOk result (blocks.new ≡ record blocks.old { blocks = blocks.new.blocks }) }
+    requires course { IsCourse J.results workers blocks }
+    ensures { IfOk result (HasMade count blocks) }
 {
-    let cycle = blocks.done();
-    let taken = blocks.take_blocks();
-    let (rooms, program) = (blocks.rooms(), blocks.program());
-    let done = make_half(rt, alloc, cycle, half, taken, workers, gate, rooms, program)?;
-    blocks.put_blocks(done);
-    Ok(())
-}
-
-/// These blocks after this half of this cycle. A fault leaves none of them.
-fn make_half<R: Threads + Wait + Sync, G: Gate + Sync>(
-    rt: &R,
-    alloc: Global,
-    cycle: u32,
-    half: Half,
-    blocks: Vec<Block>,
-    workers: usize,
-    gate: &G,
-    rooms: &Rooms,
-    program: &Program,
-) -> Result<Vec<Block>, CrewFault>
-    requires some_worker { 1 ≤ workers }
-    requires ready { All (CanMake half) blocks.items }
-    ensures { IfOk result (λ v. v.items ≡ map (made half rooms.now program.now) blocks.items) }
-{
-    let count = blocks.len();
-    let teams = deal(alloc, cycle, half, blocks, workers)?;
-    let results = run_teams(rt, alloc, teams, gate, rooms, program)?;
-    Ok(gather(alloc, cycle, half, count, results)?)
+    thread::scope(
+        thread::scope_env(),
+        rt,
+        |scope| -> Result<Blocks, CrewFault>
+            requires whole { IsWhole blocks }
+            requires counted { blocks.done + count < 2 ^ 32 }
+            requires some_worker { 1 ≤ workers }
+            requires course { IsCourse J.results workers blocks }
+            ensures { IfOk result (HasMade count blocks) }
+        {
+            let shift = Shift::<J>::begin(scope, rt, alloc, workers, gate)?;
+            let result = shift.cycles(rt, alloc, blocks, count);
+            shift.end(rt);
+            result
+        },
+    )
 }

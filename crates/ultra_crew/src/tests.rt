@@ -150,6 +150,21 @@ fn gate_meets(rt: HostRuntime) -> Result<(), Fail> {
     Ok(())
 }
 
+/// The same by workers whose threads are kept over all cycles. With all blocks in one thread of those it fails too, as was tried: the turns run out.
+#[test]
+fn gate_meets_when_kept(rt: HostRuntime) -> Result<(), Fail> {
+    let config = settings(rt.alloc(), 1)?;
+    let program = add_numbers(rt.alloc())?;
+    let blocks = Blocks::new(rt.alloc(), &config, &program, &[0, 1, 0, 1, 0])?;
+    let meeting = Meeting::new();
+    let _ = Crew::cycles(&rt, rt.alloc(), blocks, 2, &meeting, 8)?;
+    let [first, second] = &meeting.flags;
+    assert_eq!(rt; first.load(Ordering::SeqCst), 48);
+    assert_eq!(rt; second.load(Ordering::SeqCst), 48);
+    assert_eq!(rt; meeting.missed.load(Ordering::SeqCst), 0);
+    Ok(())
+}
+
 fn same_requests(rt: &impl Abort, a: &ToMm, b: &ToMm) {
     assert_eq!(rt; a.len(), b.len());
     for index in 0..a.len() {
@@ -280,6 +295,23 @@ fn one_worker_late(rt: HostRuntime) -> Result<(), Fail> {
     goes_as_alone(&rt, &[0, 1, 2, 0, 1, 2, 0, 1, 2, 0, 1, 2], 3, &Holdup)
 }
 
+/// Ten cycles by workers whose threads are kept, of which that of block 0 is late each time, beside the same machine in one block and without workers: then their places are the same.
+#[test]
+fn kept_workers(rt: HostRuntime) -> Result<(), Fail> {
+    let config = settings(rt.alloc(), 2)?;
+    let program = add_numbers(rt.alloc())?;
+    let partition = [0, 1, 2, 0, 1, 2, 0, 1, 2, 0, 1, 2];
+    for workers in [1, 2, 3, 64] {
+        let alone = Blocks::new(rt.alloc(), &config, &program, &[0; 12])?;
+        let alone = Crew::cycles(&rt, rt.alloc(), alone, 1, &Holdup, 10)?;
+        let blocks = Blocks::new(rt.alloc(), &config, &program, &partition)?;
+        let blocks = Crew::cycles(&rt, rt.alloc(), blocks, workers, &Holdup, 10)?;
+        same_places(&rt, &alone, &blocks);
+        all_are_answered(&rt, &blocks);
+    }
+    Ok(())
+}
+
 /// A single cycle, short enough to refuse each of its allocations in turn: the gate is called for each block in each half.
 #[test]
 fn one_cycle_by_two(rt: HostRuntime) -> Result<(), Fail> {
@@ -291,5 +323,19 @@ fn one_cycle_by_two(rt: HostRuntime) -> Result<(), Fail> {
     };
     let _ = make_cycles(&rt, rt.alloc(), blocks, 2, &gate, 1)?;
     assert_eq!(rt; gate.calls.load(Ordering::SeqCst), 64 * 6);
+    Ok(())
+}
+
+/// Two cycles by workers whose threads are kept.
+#[test]
+fn two_cycles_by_two(rt: HostRuntime) -> Result<(), Fail> {
+    let config = settings(rt.alloc(), 1)?;
+    let program = add_numbers(rt.alloc())?;
+    let blocks = Blocks::new(rt.alloc(), &config, &program, &[0, 1, 0, 1, 0])?;
+    let gate = Counter {
+        calls: AtomicU64::new(0),
+    };
+    let _ = Crew::cycles(&rt, rt.alloc(), blocks, 2, &gate, 2)?;
+    assert_eq!(rt; gate.calls.load(Ordering::SeqCst), 2 * 64 * 6);
     Ok(())
 }

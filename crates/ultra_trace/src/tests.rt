@@ -38,6 +38,17 @@ impl<'r, R: Abort + AllocGlobal> Tray<'r, R> {
         }
     }
 
+    /// A tray that takes all that it is offered, and has memory for so many bytes. An error says that memory was refused.
+    fn with_room(rt: &'r R, count: usize) -> Result<Self, Fail> {
+        Ok(Tray {
+            rt,
+            bytes: Vec::with_capacity(rt.alloc(), count)?,
+            failures: 0,
+            most: usize::MAX,
+            sound_writes: usize::MAX,
+        })
+    }
+
     /// A tray that takes a byte a write, and fails after so many.
     fn failing_after(rt: &'r R, count: usize) -> Self {
         Tray {
@@ -364,4 +375,34 @@ fn sink_fails_at_each_write(rt: HostRuntime) -> Result<(), Fail> {
         }
     }
     Ok(())
+}
+
+/// A run by so many workers, short enough to refuse each of its allocations in turn: it ends with a fault then, and what went out is a beginning of the trace.
+fn check_short_run<R: Threads + Wait + Sync + Abort + AllocGlobal>(
+    rt: &R,
+    workers: usize,
+) -> Result<(), Fail>
+    requires some_worker { 1 ≤ workers }
+    requires most_workers { workers ≤ 64 }
+{
+    let config = settings(rt.alloc(), 1)?;
+    let program = add_one(rt.alloc())?;
+    let mut out = Tray::with_room(rt, 4096)?;
+    let gate = Counter::new();
+    let ended = run(rt, rt.alloc(), &config, &program, workers, &gate, &mut out);
+    let text = out.text()?;
+    assert!(rt; COMBINED_PAIR.starts_with(text), "{text}");
+    ended?;
+    assert_eq!(rt; text, COMBINED_PAIR);
+    Ok(())
+}
+
+#[test]
+fn short_run_by_one(rt: HostRuntime) -> Result<(), Fail> {
+    check_short_run(&rt, 1)
+}
+
+#[test]
+fn short_run_by_three(rt: HostRuntime) -> Result<(), Fail> {
+    check_short_run(&rt, 3)
 }

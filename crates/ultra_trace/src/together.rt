@@ -3,6 +3,7 @@
 ghost use Rattle.std.specs.Prelude.{◌≡◌, ◌+◌, ◌≤◌, ◌++◌, [], false, OnOk, OnErr, IfOk, IfErr};
 ghost use Rattle.ultra_msg.specs.Bytes.{IsBeginning};
 ghost use Rattle.ultra_block.specs.BlocksState.{IsWhole};
+ghost use Rattle.ultra_crew.specs.Course.{IsCourse};
 ghost use Rattle.ultra_trace.specs.Trace.{all_cycles_text, cycle_count, trace};
 ghost use Rattle.ultra_trace.specs.Run.{sink_faults, IsAfter};
 ghost use Rattle.ultra_trace.specs.Page.{Writes, WritesBeginning};
@@ -10,13 +11,14 @@ ghost use Rattle.ultra_trace.specs.Page.{Writes, WritesBeginning};
 use super::page::Page;
 use super::running::{RunFault, most_cycles};
 use std::alloc::Global;
+use std::marker::Brand;
 use std::sync::Wait;
-use std::thread::Threads;
+use std::thread::{self, Threads};
 use ultra_block::Blocks;
-use ultra_crew::{Crew, CrewFault, Gate};
+use ultra_crew::{Course, CrewFault, Gate, Shift};
 use ultra_msg::Sink;
 
-/// Runs a machine from its start by workers, and writes its trace to a sink. After a fault the sink has taken a beginning of it.
+/// Runs a machine from its start by workers, and writes its trace to a sink. The workers' threads are kept for the whole run, and joined at its end. After a fault the sink has taken a beginning of the trace.
 pub fn write_trace_together<R: Threads + Wait + Sync, G: Gate + Sync, S: Sink>(
     rt: &R,
     alloc: Global,
@@ -26,7 +28,68 @@ pub fn write_trace_together<R: Threads + Wait + Sync, G: Gate + Sync, S: Sink>(
     sink: &mut S,
 ) -> Result<(), RunFault>
     requires some_worker { 1 ≤ workers }
-    requires most_workers { workers ≤ 64 }
+    requires start { IsAfter blocks.config blocks.program 0 blocks }
+    ensures ok { OnOk result (S.taken sink.new ≡ S.taken sink.old ++ trace blocks.config blocks.program) }
+    ensures still { OnOk result (S.failures sink.new ≡ S.failures sink.old) }
+    ensures err { OnErr result (IsBeginning (S.taken sink.new) (S.taken sink.old ++ trace blocks.config blocks.program)) }
+    ensures counted { IfErr result (λ e. S.failures sink.new ≡ S.failures sink.old + sink_faults e) }
+{
+    write_by_workers::<Brand, R, G, S>(rt, alloc, blocks, workers, gate, sink).1
+}
+
+/// Starts workers, has them run a machine from its start, writes its trace to a sink, and gives the sink back. In every end the threads are joined.
+fn write_by_workers<'s, J: Course + Send, R: Threads + Wait + Sync, G: Gate + Sync, S: Sink>(
+    rt: &R,
+    alloc: Global,
+    blocks: Blocks,
+    workers: usize,
+    gate: &G,
+    sink: &'s mut S,
+) -> (&'s mut S, Result<(), RunFault>)
+    requires some_worker { 1 ≤ workers }
+    requires course { IsCourse J.results workers blocks }
+    requires start { IsAfter blocks.config blocks.program 0 blocks }
+    ensures same_reference { result.0.ghost_name ≡ sink.entry.ghost_name }
+    ensures ok { OnOk result.1 (S.taken result.0.now ≡ S.taken sink.entry.now ++ trace blocks.config blocks.program) }
+    ensures still { OnOk result.1 (S.failures result.0.now ≡ S.failures sink.entry.now) }
+    ensures err { OnErr result.1 (IsBeginning (S.taken result.0.now) (S.taken sink.entry.now ++ trace blocks.config blocks.program)) }
+    ensures counted { IfErr result.1 (λ e. S.failures result.0.now ≡ S.failures sink.entry.now + sink_faults e) }
+{
+    thread::scope(
+        thread::scope_env(),
+        rt,
+        move |scope| -> (&mut S, Result<(), RunFault>)
+            requires some_worker { 1 ≤ workers }
+            requires course { IsCourse J.results workers blocks }
+            requires start { IsAfter blocks.config blocks.program 0 blocks }
+            ensures same_reference { result.0.ghost_name ≡ sink.entry.ghost_name }
+            ensures ok { OnOk result.1 (S.taken result.0.now ≡ S.taken sink.entry.now ++ trace blocks.config blocks.program) }
+            ensures still { OnOk result.1 (S.failures result.0.now ≡ S.failures sink.entry.now) }
+            ensures err { OnErr result.1 (IsBeginning (S.taken result.0.now) (S.taken sink.entry.now ++ trace blocks.config blocks.program)) }
+            ensures counted { IfErr result.1 (λ e. S.failures result.0.now ≡ S.failures sink.entry.now + sink_faults e) }
+        {
+            match Shift::<J>::begin(scope, rt, alloc, workers, gate) {
+                Ok(shift) => {
+                    let result = write_by_shift(rt, alloc, blocks, &shift, sink);
+                    shift.end(rt);
+                    (sink, result)
+                }
+                Err(fault) => (sink, Err(RunFault::from(fault))),
+            }
+        },
+    )
+}
+
+/// Runs a machine from its start by the workers of a shift, and writes its trace to a sink. After a fault the sink has taken a beginning of it.
+fn write_by_shift<J: Course, R: Wait, S: Sink>(
+    rt: &R,
+    alloc: Global,
+    blocks: Blocks,
+    shift: &Shift<J>,
+    sink: &mut S,
+) -> Result<(), RunFault>
+    requires some_worker { 1 ≤ shift.now }
+    requires course { IsCourse J.results shift.now blocks }
     requires start { IsAfter blocks.config blocks.program 0 blocks }
     ensures ok { OnOk result (S.taken sink.new ≡ S.taken sink.old ++ trace blocks.config blocks.program) }
     ensures still { OnOk result (S.failures sink.new ≡ S.failures sink.old) }
@@ -34,21 +97,20 @@ pub fn write_trace_together<R: Threads + Wait + Sync, G: Gate + Sync, S: Sink>(
     ensures counted { IfErr result (λ e. S.failures sink.new ≡ S.failures sink.old + sink_faults e) }
 {
     let mut page = Page::new(sink);
-    page.put_whole_together(rt, alloc, blocks, workers, gate)
+    page.put_whole_together(rt, alloc, blocks, shift)
 }
 
 impl<'s, S: Sink> Page<'s, S> {
     /// Runs a machine from its start by workers, and writes its trace on an empty page, to the end. After a fault of theirs what waits on the page is not handed on.
-    fn put_whole_together<R: Threads + Wait + Sync, G: Gate + Sync>(
+    fn put_whole_together<J: Course, R: Wait>(
         &mut self,
         rt: &R,
         alloc: Global,
         blocks: Blocks,
-        workers: usize,
-        gate: &G,
+        shift: &Shift<J>,
     ) -> Result<(), RunFault>
-        requires some_worker { 1 ≤ workers }
-        requires most_workers { workers ≤ 64 }
+        requires some_worker { 1 ≤ shift.now }
+        requires course { IsCourse J.results shift.now blocks }
         requires start { IsAfter blocks.config blocks.program 0 blocks }
         requires empty { self.old.waiting.items ≡ [] }
         requires sound { self.old.failed ≡ false }
@@ -62,23 +124,22 @@ impl<'s, S: Sink> Page<'s, S> {
         if self.has_failed() {
             return Err(RunFault::Write);
         }
-        let blocks = self.put_cycles_together(rt, alloc, blocks, workers, gate)?;
+        let blocks = self.put_cycles_together(rt, alloc, blocks, shift)?;
         self.put_end(&blocks);
         self.finish()?;
         Ok(())
     }
 
     /// Runs a machine from its start to the end of its trace by workers, and writes all cycles. It ends early where the sink or a worker fails.
-    fn put_cycles_together<R: Threads + Wait + Sync, G: Gate + Sync>(
+    fn put_cycles_together<J: Course, R: Wait>(
         &mut self,
         rt: &R,
         alloc: Global,
         mut blocks: Blocks,
-        workers: usize,
-        gate: &G,
+        shift: &Shift<J>,
     ) -> Result<Blocks, CrewFault>
-        requires some_worker { 1 ≤ workers }
-        requires most_workers { workers ≤ 64 }
+        requires some_worker { 1 ≤ shift.now }
+        requires course { IsCourse J.results shift.now blocks }
         requires start { IsAfter blocks.config blocks.program 0 blocks }
         requires sound { self.old.failed ≡ false }
         ensures writes { OnOk result (Writes S.taken S.failures (all_cycles_text blocks.config blocks.program) self.old self.new) }
@@ -88,7 +149,7 @@ impl<'s, S: Sink> Page<'s, S> {
         ensures sound { OnErr result (self.new.failed ≡ false) }
     {
         for _ in 0..most_cycles(&blocks) {
-            blocks = Crew::cycle(rt, alloc, blocks, workers, gate)?;
+            blocks = shift.cycle(rt, alloc, blocks)?;
             if self.put_and_judge(&blocks) {
                 return Ok(blocks);
             }

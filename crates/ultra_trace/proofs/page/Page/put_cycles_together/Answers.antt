@@ -11,6 +11,7 @@ loop-init g c = record {
   writes = writes_nothing c.args.self.now;
   busy = busy_none c.args.blocks.config c.args.blocks.program;
   sound = c.requires.sound;
+  course = c.requires.course;
 }
 
 pub cycle-requires-clause-counted : goal.cycle-requires-clause-counted
@@ -53,6 +54,7 @@ loop-preserved g c =
       writes = cycle_written first.config first.program n c.in_ok-blocks.blocks now c.loop.invariant.writes c.put_and_judge.ensures.writes;
       busy = still_busy first.config first.program n c.in_ok-blocks.blocks now c.loop.invariant.busy (omega arith) c.put_and_judge.new.self.failed over;
       sound = not_second (is_quiet (machine_of c.in_ok-blocks.blocks)) c.put_and_judge.new.self.failed over;
+      course = made.course;
     }
 
 pub returns-clause-writes : goal.returns-clause-writes

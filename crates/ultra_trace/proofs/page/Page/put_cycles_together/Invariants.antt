@@ -1,4 +1,5 @@
 use Rattle.std.proofs.Common.{◌≡◌, false}
+use Rattle.ultra_crew.specs.Course.{IsCourse}
 use Rattle.ultra_trace.specs.Page.{Writes}
 use Rattle.ultra_trace.specs.Run.{IsAfter}
 use Rattle.ultra_trace.specs.Trace.{cycles_text}
@@ -11,4 +12,5 @@ invariant-loop g l = record {
   writes : Writes g.S.Sink.taken g.S.Sink.failures (cycles_text l.initial.blocks.config l.initial.blocks.program l.counter) l.initial.self l.self;
   busy : IsBusy l.initial.blocks.config l.initial.blocks.program l.counter;
   sound : l.self.failed ≡ false;
+  course : IsCourse g.J.Course.results l.shift l.blocks;
 }
