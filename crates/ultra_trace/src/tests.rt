@@ -306,8 +306,8 @@ fn any_workers(rt: HostRuntime) -> Result<(), Fail> {
     for workers in [1, 2, 3, 64] {
         check_run(&rt, &config, &program, workers, &gate, TWO_LEVEL_TREE)?;
     }
-    // 64 blocks, 6 halves and 10 cycles, by each number of workers above 1
-    assert_eq!(rt; gate.calls.load(Ordering::SeqCst), 3 * 64 * 6 * 10);
+    // 2, 3 and 12 blocks, as many as units at most, 6 halves and 10 cycles
+    assert_eq!(rt; gate.calls.load(Ordering::SeqCst), (2 + 3 + 12) * 6 * 10);
     Ok(())
 }
 
