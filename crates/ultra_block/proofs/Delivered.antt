@@ -410,11 +410,11 @@ there_in bs kind h B hb hi = subst (λ b. h.index < length (kind b)) (sym (get_o
 
 module _ (d : ℕ) (homes : List Home) (bs : List BlockState) (housed : AreHoused d homes bs) where
   -- the same by the number of the unit, whatever it is called, and told of the block as it is read
-  abbrev Changes : (l : ℕ) (F : BlockState → BlockState) (G : Home → BlockState → BlockState) → Home → Type 0
-  Changes l F G h = (B v : BlockState) → B ≡ get_or bs h.block B → v ≡ G h (get_or bs h.block B) → set bs h.block v ≡ map F bs
+  abbrev Changes : (F : BlockState → BlockState) (G : Home → BlockState → BlockState) → Home → Type 0
+  Changes F G h = (B v : BlockState) → B ≡ get_or bs h.block B → v ≡ G h (get_or bs h.block B) → set bs h.block v ≡ map F bs
 
-  as_read : (l : ℕ) (F : BlockState → BlockState) (G : Home → BlockState → BlockState) (h h' : Home) → h' ≡ h → ((B v : BlockState) → B ≡ get_or bs h.block B → v ≡ G h B → set bs h.block v ≡ map F bs) → Changes l F G h'
-  as_read l F G h h' e f = subst (λ h. (B v : BlockState) → B ≡ get_or bs h.block B → v ≡ G h (get_or bs h.block B) → set bs h.block v ≡ map F bs) (sym e) (λ B v is k. f B v is (k ∙ ap (G h) (sym is)))
+  as_read : (F : BlockState → BlockState) (G : Home → BlockState → BlockState) (h h' : Home) → h' ≡ h → ((B v : BlockState) → B ≡ get_or bs h.block B → v ≡ G h B → set bs h.block v ≡ map F bs) → Changes F G h'
+  as_read F G h h' e f = subst (λ h. (B v : BlockState) → B ≡ get_or bs h.block B → v ≡ G h (get_or bs h.block B) → set bs h.block v ≡ map F bs) (sym e) (λ B v is k. f B v is (k ∙ ap (G h) (sym is)))
 
   abbrev to_element : ReplyMessage → Home → BlockState → BlockState
   to_element r h B = record B { elements = set B.elements h.index (with_reply r (get_or B.elements h.index no_element)) }
@@ -430,19 +430,19 @@ module _ (d : ℕ) (homes : List Home) (bs : List BlockState) (housed : AreHouse
 
   pub reply_to_element_at : (n l : ℕ) (r : ReplyMessage) → l < 2 ^ d → n ≡ element_number d l → (B v : BlockState) → let h = home_at d homes n in B ≡ get_or bs h.block B → v ≡ to_element r h (get_or bs h.block B) → set bs h.block v ≡ map (after_reply l r) bs
   reply_to_element_at n l r h e =
-      as_read l (after_reply l r) (to_element r) (element_home d homes l) (home_at d homes n) (ap (λ n. home_at d homes n) e) (reply_to_element d homes bs housed l r h)
+      as_read (after_reply l r) (to_element r) (element_home d homes l) (home_at d homes n) (ap (λ n. home_at d homes n) e) (reply_to_element d homes bs housed l r h)
 
   pub reply_to_switch_at : (n l s x : ℕ) (r : ReplyMessage) → s < d → x < 2 ^ d → l ≡ (s + 1) * 2 ^ d + x → n ≡ switch_number d s (x / 2) → (B v : BlockState) → let h = home_at d homes n in B ≡ get_or bs h.block B → v ≡ reply_to (x % 2) r h (get_or bs h.block B) → set bs h.block v ≡ map (after_reply l r) bs
   reply_to_switch_at n l s x r hs hx link e =
-      as_read l (after_reply l r) (reply_to (x % 2) r) (home_at d homes (switch_number d s (x / 2))) (home_at d homes n) (ap (λ n. home_at d homes n) e) (reply_to_switch d homes bs housed l r s x hs hx link)
+      as_read (after_reply l r) (reply_to (x % 2) r) (home_at d homes (switch_number d s (x / 2))) (home_at d homes n) (ap (λ n. home_at d homes n) e) (reply_to_switch d homes bs housed l r s x hs hx link)
 
   pub request_to_module_at : (n l x : ℕ) (r : Request) → x < 2 ^ d → l ≡ d * 2 ^ d + x → n ≡ module_number d x → (B v : BlockState) → let h = home_at d homes n in B ≡ get_or bs h.block B → v ≡ to_module r h (get_or bs h.block B) → set bs h.block v ≡ map (after_request l r) bs
   request_to_module_at n l x r hx link e =
-      as_read l (after_request l r) (to_module r) (module_home d homes x) (home_at d homes n) (ap (λ n. home_at d homes n) e) (request_to_module d homes bs housed l r x hx link)
+      as_read (after_request l r) (to_module r) (module_home d homes x) (home_at d homes n) (ap (λ n. home_at d homes n) e) (request_to_module d homes bs housed l r x hx link)
 
   pub request_to_switch_at : (n l s x y : ℕ) (r : Request) → s < d → x < 2 ^ d → l ≡ s * 2 ^ d + x → y ≡ shuffled d x → n ≡ switch_number d s (y / 2) → (B v : BlockState) → let h = home_at d homes n in B ≡ get_or bs h.block B → v ≡ request_to (y % 2) r h (get_or bs h.block B) → set bs h.block v ≡ map (after_request l r) bs
   request_to_switch_at n l s x y r hs hx link turned e =
-      as_read l (after_request l r) (request_to (y % 2) r) (home_at d homes (switch_number d s (shuffled d x / 2))) (home_at d homes n) (ap (λ n. home_at d homes n) e ∙ ap (λ y. home_at d homes (switch_number d s (y / 2))) turned)
+      as_read (after_request l r) (request_to (y % 2) r) (home_at d homes (switch_number d s (shuffled d x / 2))) (home_at d homes n) (ap (λ n. home_at d homes n) e ∙ ap (λ y. home_at d homes (switch_number d s (y / 2))) turned)
       (subst (λ y. (B v : BlockState) → let h = home_at d homes (switch_number d s (shuffled d x / 2)) in B ≡ get_or bs h.block B → v ≡ request_to (y % 2) r h B → set bs h.block v ≡ map (after_request l r) bs) (sym turned) (request_to_switch d homes bs housed l r s x hs hx link))
 
 pub low_level : (d l size : ℕ) → size ≡ 2 ^ d → l / size ≡ 0 → (l % size ≡ l) × (l < 2 ^ d)

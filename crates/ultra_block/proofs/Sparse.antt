@@ -10,6 +10,7 @@ use Rattle.ultra_block.specs.MailTable.{AreEmptyFrom, IsNextLink}
 use Rattle.ultra_block.specs.Rest.{AreAtRest}
 use Rattle.ultra_block.specs.Tables.{Entry, written}
 use Rattle.ultra_block.proofs.Mapped.{changed, all_done, stepped, holds_next}
+use Rattle.ultra_block.proofs.Rest.{nothing_is}
 use Rattle.ultra_block.proofs.Written.{written_more, written_next}
 
 -- of a list that was `before`, the elements up to a place are changed
@@ -181,17 +182,13 @@ pub none_of : {X : Type 0} (o : Option X) (P Q : Type 0) → (P → Q) → IfNon
 none_of None P Q f h = f h
 none_of (Some x) P Q f h = h
 
-is_none : {X : Type 0} (o : Option X) → is_nothing o ≡ true → o ≡ None
-is_none None h = refl
-is_none (Some x) h = cc
-
 module _ {X : Type 0} (idle : List ℕ) (t : List (Option X)) (from : ℕ) (a : AreAtRest (λ (o : Option X). is_nothing o) idle t) where
   pub next_link : (k : ℕ) → IsNextBusy idle from (length t) k → IsNextLink t from k
   unfolding AreAtRest
   next_link k is =
       let within = is.within in
-      record { after = is.after; within = is.within; between = λ l p q. is_none (get_or t l None) (a l None (omega (arith, q, within)) (is.between l p q)) }
+      record { after = is.after; within = is.within; between = λ l p q. nothing_is (get_or t l None) (a l None (omega (arith, q, within)) (is.between l p q)) }
 
   pub all_empty : AreAllIdle idle from (length t) → AreEmptyFrom t from (length t)
   unfolding AreAtRest
-  all_empty is l p q = is_none (get_or t l None) (a l None q (is l p q))
+  all_empty is l p q = nothing_is (get_or t l None) (a l None q (is l p q))

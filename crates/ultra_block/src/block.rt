@@ -80,7 +80,7 @@ impl Block {
     ghost use Rattle.ultra_block.specs.ModuleSteps as bank;
     ghost use Rattle.ultra_block.specs.ElementSteps as element;
 
-    /// Notes which of its switches, queues and modules have room.
+    /// Notes which of its switches, queues and modules have no room. Before the first block of a machine does so, all have to count as having room; `Blocks::note_rooms` sees to it.
     pub fn rooms(&self, rooms: &mut Rooms)
         ensures { rooms.new ≡ notes_rooms self.now rooms.old }
     {

@@ -195,7 +195,7 @@ impl Blocks {
         self.end_cycle();
     }
 
-    /// Every block notes its rooms: the first step of a cycle, and again the one before requests are sent.
+    /// All places count as having room, and then every block notes where it has none: the first step of a cycle, and again the one before requests are sent.
     pub fn note_rooms(&mut self)
         ensures { self.new ≡ record self.old { rooms = noted self.old.blocks.items self.old.rooms } }
     {
