@@ -1,10 +1,8 @@
 -- at the end of a cycle nothing comes to a unit or leaves it, and where messages are exchanged each has taken what came
-use Rattle.std.proofs.Common.{◌≡◌, ◌≢◌, ℕ, zero, suc, ◌+◌, ◌*◌, ◌-◌, ◌/◌, ◌%◌, ◌^◌, ◌<◌, ◌≤◌, List, Bool, true, false, refl, arith, ap, ◌∙◌, sym, subst, length, get_or, ⊎_elim}
+use Rattle.std.proofs.Common.{◌≡◌, ◌≢◌, ℕ, zero, suc, ◌+◌, ◌*◌, ◌-◌, ◌/◌, ◌%◌, ◌^◌, ◌<◌, ◌≤◌, List, refl, arith, ap, ◌∙◌, sym, subst, length, ⊎_elim}
 use Rattle.std.specs.Prelude.{◌==◌, Option, None}
 use Rattle.std.proofs.lemmas.Bool.{eq-eqb, ne_eqb, cases_eq}
 use Rattle.std.proofs.lemmas.List.{get_or_default}
-use Rattle.ultra_msg.specs.declared.Request.{Request}
-use Rattle.ultra_msg.specs.declared.ReplyMessage.{ReplyMessage}
 use Rattle.ultra_isa.specs.declared.Instr.{Instr}
 use Rattle.ultra_route.specs.Route.{shuffled, unshuffled}
 use Rattle.ultra_route.proofs.Table.{sizes, back}
@@ -16,17 +14,17 @@ use Rattle.ultra_block.specs.RoomTable.{RoomTable}
 use Rattle.ultra_block.specs.BlockState.{BlockState}
 use Rattle.ultra_block.specs.Whole.{Units}
 use Rattle.ultra_block.specs.Boxes.{IsClearSwitch, IsClearModule, IsClearElement, AreClear}
-use Rattle.ultra_block.specs.Cut.{no_block, no_switch, no_module, no_element, units_of, switches_of, modules_of, elements_of, units_at, IsCut}
+use Rattle.ultra_block.specs.Cut.{no_switch, no_module, no_element, units_of, switches_of, modules_of, elements_of, units_at}
 use Rattle.ultra_block.specs.Exchange.{AllOf, AreHoused, AwaitReplies, AwaitRequests}
 use Rattle.ultra_block.specs.declared.home.Home.{Home}
 use Rattle.ultra_block.specs.declared.switch_unit.SwitchUnit.{SwitchUnit}
 use Rattle.ultra_block.specs.declared.module_unit.ModuleUnit.{ModuleUnit}
 use Rattle.ultra_block.specs.declared.element_unit.ElementUnit.{ElementUnit}
-use Rattle.ultra_block.proofs.AtUnits.{pick_true, pick_false, by_port}
+use Rattle.ultra_block.proofs.AtUnits.{pick_true, pick_false}
 use Rattle.ultra_block.proofs.Alike.{AreAlike}
 use Rattle.ultra_block.proofs.Noted.{each_switch, each_module, each_element}
 use Rattle.ultra_block.proofs.CutHalves.{Stands}
-use Rattle.ultra_block.proofs.Passing.{replies_sent, reply_on, replies_exchanged, replies_taken, served, requests_sent, request_on, requests_exchanged, requests_taken, exchanged, executed}
+use Rattle.ultra_block.proofs.Passing.{replies_sent, reply_on, replies_exchanged, replies_taken, served, requests_sent, request_on, requests_taken, exchanged, executed}
 
 nothing_there : {X : Type 0} (p : Ports (Option X)) (j : ℕ) → p ≡ ports None None → at_port p j ≡ None
 nothing_there p zero e = ap (λ p. at_port p 0) e

@@ -1,6 +1,6 @@
 -- a message that comes over a link comes to the one unit at its other end
-use Rattle.std.proofs.Common.{◌≡◌, ◌≢◌, ℕ, zero, suc, ◌+◌, ◌*◌, ◌-◌, ◌/◌, ◌%◌, ◌^◌, ◌<◌, ◌≤◌, List, Bool, true, false, refl, arith, ap, ◌∙◌, sym, subst, length, get_or, set, ⊎_elim}
-use Rattle.std.specs.Prelude.{◌==◌, Option, Some, None, map}
+use Rattle.std.proofs.Common.{◌≡◌, ◌≢◌, ℕ, ◌+◌, ◌*◌, ◌-◌, ◌/◌, ◌%◌, ◌^◌, ◌<◌, ◌≤◌, List, refl, arith, ap, ◌∙◌, sym, subst, length, get_or, set, ⊎_elim}
+use Rattle.std.specs.Prelude.{◌==◌, Option, Some, map}
 use Rattle.std.proofs.lemmas.Bool.{eq-eqb, ne_eqb, cases_eq}
 use Rattle.std.proofs.lemmas.Nat.{div-add-mod', pow_pos}
 use Rattle.std.proofs.Math.Nat.{div-lt_iff_lt-mul}
@@ -16,7 +16,7 @@ use Rattle.ultra_block.specs.BlockState.{BlockState}
 use Rattle.ultra_block.specs.Whole.{Units}
 use Rattle.ultra_block.specs.Cut.{no_block, no_switch, no_module, no_element, IsThere, units_of, switches_of, modules_of, elements_of, home_at, module_home, element_home, units_at}
 use Rattle.ultra_block.specs.Arriving.{with_reply_at, with_request_at, with_reply, with_request, if_came, switch_after_reply, element_after_reply, switch_after_request, module_after_request, after_reply, after_request}
-use Rattle.ultra_block.specs.Exchange.{AreHoused, IsSwitchOf, IsModuleOf, IsElementOf}
+use Rattle.ultra_block.specs.Exchange.{AreHoused}
 use Rattle.ultra_block.specs.declared.home.Home.{Home}
 use Rattle.ultra_block.specs.declared.switch_unit.SwitchUnit.{SwitchUnit}
 use Rattle.ultra_block.specs.declared.module_unit.ModuleUnit.{ModuleUnit}

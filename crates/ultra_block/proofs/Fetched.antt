@@ -1,5 +1,5 @@
 -- messages come to the units link by link, and at the end every message has come
-use Rattle.std.proofs.Common.{◌≡◌, ◌≢◌, ℕ, zero, suc, ◌+◌, ◌*◌, ◌-◌, ◌^◌, ◌<◌, ◌≤◌, List, [], ◌∷◌, refl, arith, ap, ◌∙◌, sym, subst, length, get_or, set, take, replicate, ⊎_elim}
+use Rattle.std.proofs.Common.{◌≡◌, ◌≢◌, ℕ, zero, suc, ◌+◌, ◌<◌, ◌≤◌, List, [], ◌∷◌, refl, arith, ap, ◌∙◌, sym, subst, length, get_or, set, take, replicate, ⊎_elim}
 use Rattle.std.specs.Prelude.{◌==◌, Option, Some, None, map}
 use Rattle.std.proofs.lemmas.Bool.{cases_eq, cases_lt}
 use Rattle.std.proofs.lemmas.List.{same_lists, length-map, length-set, length-replicate, get_or-replicate, get_or-map, get_or-set_same, get_or-set_other, get_or_default, get_or-take, take_all, map-id}
@@ -9,7 +9,7 @@ use Rattle.ultra_route.specs.Route.{unshuffled}
 use Rattle.ultra_block.specs.Numbers.{place_number}
 use Rattle.ultra_block.specs.Halves.{ports}
 use Rattle.ultra_block.specs.SwitchSteps.{position}
-use Rattle.ultra_block.specs.MailTable.{MailTable, AreEmptyFrom, IsNextLink}
+use Rattle.ultra_block.specs.MailTable.{MailTable, AreEmptyFrom}
 use Rattle.ultra_block.specs.BlockState.{BlockState}
 use Rattle.ultra_block.specs.BlockSteps.{fetches_replies, fetches_requests, posted_replies, posted_requests}
 use Rattle.ultra_block.specs.Tables.{Entry, written, with_replies_in, with_reply_in, with_requests_in, with_request_in, without_replies_out, without_reply_out, without_requests_out, without_request_out}

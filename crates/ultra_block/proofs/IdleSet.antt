@@ -59,6 +59,14 @@ none_idle n k =
     [ inl within ↦ get_or-replicate n (k / 64) 0 0 within | inr past ↦ get_or_past (replicate n 0) (k / 64) 0 (rw length-replicate past) ] in
     ap (λ x. eqb (bit_at x (k % 64)) 1) word ∙ ap (λ x. eqb x 1) (bit_at-zero (k % 64))
 
+-- words whose bits are all set
+pub all_set_idle : (n k : ℕ) → k < 64 * n → is_idle (replicate n (bit_not w64 0)) k ≡ true
+unfolding is_idle
+all_set_idle n k h =
+    let word : get_or (replicate n (bit_not w64 0)) (k / 64) 0 ≡ bit_not w64 0 = get_or-replicate n (k / 64) (bit_not w64 0) 0 (omega arith) in
+    let set : bit_at (bit_not w64 0) (k % 64) ≡ 1 = bit_at_not w64 0 (k % 64) (omega arith) (omega arith) ∙ ap (λ x. 1 - x) (bit_at-zero (k % 64)) in
+    eq-eqb _ 1 (ap (λ x. bit_at x (k % 64)) word ∙ set)
+
 -- a place past the words isn't idle
 pub past_words : (words : List ℕ) (k : ℕ) → 64 * length words ≤ k → is_idle words k ≡ false
 unfolding is_idle

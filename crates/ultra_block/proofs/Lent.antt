@@ -1,11 +1,9 @@
 -- the elements of a `Vec` that were changed through a slice of it
-use Rattle.std.proofs.Common.{◌≡◌, ◌≢◌, ℕ, ◌<◌, List, ◌++◌, Bool, true, arith, ap, ◌∙◌, sym, subst, length, get_or, set, take, drop, ⊎_elim}
+use Rattle.std.proofs.Common.{◌≡◌, ◌≢◌, ℕ, ◌<◌, List, ◌++◌, arith, ap, ◌∙◌, sym, subst, length, get_or, set, take, drop, ⊎_elim}
 use Rattle.std.specs.Prelude.{map, All, Vec}
 use Rattle.std.proofs.lemmas.Bool.{cases_eq}
 use Rattle.std.proofs.lemmas.List.{take_at, length-map, length-set, get_or-set_same, get_or-set_other}
-use Rattle.ultra_block.specs.Rest.{AreAtRest}
 use Rattle.ultra_block.proofs.Mapped.{all-map}
-use Rattle.ultra_block.proofs.Sparse.{at_rest-map}
 
 module _ {X Z : Type 0} (f : X → X) (v : Vec X Z) (s ws : List X) (value : s ≡ v.items) (len : length s ≡ v.len) (made : ws ≡ map f s) where
   pub written_back : take v.len (ws ++ drop (length ws) v.items) ≡ map f v.items
@@ -17,14 +15,11 @@ module _ {X Z : Type 0} (f : X → X) (v : Vec X Z) (s ws : List X) (value : s �
   pub kept : (P : X → Type 0) → ((x : X) → P x → P (f x)) → All P v.items → All P (take v.len (ws ++ drop (length ws) v.items))
   kept P k a = subst (λ xs. All P xs) (sym written_back) (all-map f P v.items k a)
 
-  -- those at rest are at rest still, also where more of them are known to be
-  pub rest_now : (rests : X → Bool) (idle : List ℕ) → AreAtRest rests idle ws → AreAtRest rests idle (take v.len (ws ++ drop (length ws) v.items))
-  rest_now rests idle a =
+  -- what holds of all of them
+  pub all_now : (P : List X → Type 0) → P ws → P (take v.len (ws ++ drop (length ws) v.items))
+  all_now P a =
       let long : length ws ≡ v.len = ap length made ∙ length-map s f ∙ len in
-      subst (λ xs. AreAtRest rests idle xs) (sym (take_at ws (drop (length ws) v.items) v.len long)) a
-
-  pub rest_kept : (rests : X → Bool) → ((x : X) → rests x ≡ true → f x ≡ x) → (idle : List ℕ) → AreAtRest rests idle v.items → AreAtRest rests idle (take v.len (ws ++ drop (length ws) v.items))
-  rest_kept rests stays idle a = subst (λ xs. AreAtRest rests idle xs) (sym written_back) (at_rest-map f rests stays idle v.items a)
+      subst P (sym (take_at ws (drop (length ws) v.items) v.len long)) a
 
 -- one element that is placed is put for another
 pub placed-set : {X : Type 0} (P : X → Type 0) (xs : List X) (i : ℕ) (old new : X) → old ≡ get_or xs i old → All P xs → (P old → P new) → All P (set xs i new)

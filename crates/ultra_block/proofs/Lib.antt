@@ -54,6 +54,9 @@ pub mod Recut
 pub mod TakenApart
 pub mod Rest
 pub mod Sparse
+pub mod Told
+pub mod Known
+pub mod Unknown
 pub mod Boxes
 pub mod Delivered
 pub mod Fetched

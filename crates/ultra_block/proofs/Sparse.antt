@@ -3,7 +3,7 @@ use Rattle.std.proofs.Common.{◌≡◌, ◌≢◌, ℕ, zero, suc, ◌+◌, ◌
 use Rattle.std.specs.Prelude.{map, All, Option, Some, None, IfSome, IfNone}
 use Rattle.std.specs.List.{flat_map}
 use Rattle.std.proofs.lemmas.Bool.{cases_eq}
-use Rattle.std.proofs.lemmas.List.{length-map, length-set, get_or-map, get_or-set_same, get_or-set_other, get_or_append_left, length_push, take_more, take_all, drop_more, map-append, append_assoc, append-nil}
+use Rattle.std.proofs.lemmas.List.{length-map, length-set, get_or-map, get_or-set_same, get_or-set_other, take_more, take_all, drop_more, map-append, append_assoc}
 use Rattle.ultra_block.specs.IdleSet.{is_idle, IsNextBusy, AreAllIdle}
 use Rattle.ultra_block.specs.Machine.{is_nothing}
 use Rattle.ultra_block.specs.MailTable.{AreEmptyFrom, IsNextLink}
@@ -11,7 +11,7 @@ use Rattle.ultra_block.specs.Rest.{AreAtRest}
 use Rattle.ultra_block.specs.Tables.{Entry, written}
 use Rattle.ultra_block.proofs.Mapped.{changed, all_done, stepped, holds_next}
 use Rattle.ultra_block.proofs.Rest.{nothing_is}
-use Rattle.ultra_block.proofs.Written.{written_more, written_next}
+use Rattle.ultra_block.proofs.Written.{written_more}
 
 -- of a list that was `before`, the elements up to a place are changed
 pub record AreChanged {X : Type 0} (f : X → X) (place : ℕ) (before now : List X) : Type 0 where
@@ -41,16 +41,23 @@ module _ {X : Type 0} (rests : X → Bool) (idle : List ℕ) where
   pub rest-set-busy : (now : List ℕ) (xs : List X) (i : ℕ) (u : X) → AreAtRest rests idle xs → ((k : ℕ) → k ≢ i → is_idle now k ≡ is_idle idle k) → is_idle now i ≡ false → AreAtRest rests now (set xs i u)
   rest-set-busy now xs i u a same gone = rest-set now xs i u a same (λ h. cc)
 
-  -- one more comes to the end
-  pub rest-push : (now : List ℕ) (xs : List X) (u : X) → AreAtRest rests idle xs → ((k : ℕ) → k ≢ length xs → is_idle now k ≡ is_idle idle k) → is_idle now (length xs) ≡ false → AreAtRest rests now (xs ++ u ∷ [])
+  -- or is, as a test tells
+  pub rest-noted : (now : List ℕ) (xs : List X) (i : ℕ) (u : X) (test : Bool) → AreAtRest rests idle xs → ((k : ℕ) → k ≢ i → is_idle now k ≡ is_idle idle k) → (is_idle now i ≡ true → test ≡ true) → test ≡ rests u → AreAtRest rests now (set xs i u)
+  rest-noted now xs i u test a same only is = rest-set now xs i u a same (λ known. sym is ∙ only known)
+
+  -- or is, since it rests
+  pub rest-found : (now : List ℕ) (xs : List X) (i : ℕ) (u : X) → AreAtRest rests idle xs → ((k : ℕ) → k ≢ i → is_idle now k ≡ is_idle idle k) → rests u ≡ true → AreAtRest rests now (set xs i u)
+  rest-found now xs i u a same is = rest-set now xs i u a same (λ known. is)
+
+  -- one element is changed so that it still rests if it did
+  pub rest-kept : (f : X → X) → ((x : X) → rests x ≡ true → rests (f x) ≡ true) → (xs : List X) (i : ℕ) (u v : X) → u ≡ f (get_or xs i v) → AreAtRest rests idle xs → AreAtRest rests idle (set xs i u)
   unfolding AreAtRest
-  rest-push now xs u a same gone k d h known =
+  rest-kept f keeps xs i u v is a k d h known =
+      let long : k < length xs = omega (arith, h, length-set xs i u) in
       ⊎_elim
-      (λ (e : k ≡ length xs). absurd (let here = ap (λ k. is_idle now k) e in cc))
-      (λ (ne : k ≢ length xs).
-      let less : k < length xs = omega (arith, h, length_push xs u, ne) in
-      subst (λ x. rests x ≡ true) (sym (get_or_append_left xs (u ∷ []) d k less)) (a k d less (sym (same k ne) ∙ known)))
-      (cases_eq k (length xs))
+      (λ (e : k ≡ i). subst (λ x. rests x ≡ true) (sym (ap (λ k. get_or (set xs i u) k d) e ∙ get_or-set_same xs i u d (omega (arith, long, e)))) (ap rests is ∙ keeps (get_or xs i v) (a i v (omega (arith, long, e)) (ap (λ k. is_idle idle k) (sym e) ∙ known))))
+      (λ (ne : k ≢ i). subst (λ x. rests x ≡ true) (sym (get_or-set_other xs i k u d ne)) (a k d long known))
+      (cases_eq k i)
 
   -- of none it is known
   pub rest_none : (xs : List X) → ((k : ℕ) → is_idle idle k ≡ false) → AreAtRest rests idle xs

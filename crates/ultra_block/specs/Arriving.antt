@@ -1,5 +1,5 @@
 -- a message that comes over a link to the unit at its other end
-use Rattle.std.specs.Prelude.{ℕ, ◌+◌, List, Bool, true, false, ◌==◌, Option, Some, map}
+use Rattle.std.specs.Prelude.{ℕ, ◌+◌, Bool, true, false, ◌==◌, Option, Some, map}
 use Rattle.ultra_msg.specs.declared.Request.{Request}
 use Rattle.ultra_msg.specs.declared.ReplyMessage.{ReplyMessage}
 use Rattle.ultra_route.specs.Route.{unshuffled}

@@ -6,7 +6,8 @@ use Rattle.ultra_block.specs.declared.element_unit.ElementUnit.{ElementUnit}
 use Rattle.ultra_block.specs.SwitchSteps as switch
 use Rattle.ultra_block.specs.ModuleSteps as bank
 use Rattle.ultra_block.specs.ElementSteps as element
-use Rattle.ultra_block.specs.Rest.{AreAtRest, switch_rests, module_rests, element_rests}
+use Rattle.ultra_block.specs.Rest.{AreIdleSwitches, AreIdleModules, AreIdleElements}
+use Rattle.ultra_block.specs.declared.idle.Idle.{Idle}
 
 -- its units, and how many cycles they have made
 pub record BlockState : Type 0 where
@@ -21,9 +22,9 @@ pub record ArePlaced (b : BlockState) : Type 0 where
   pub modules : All bank.IsPlaced b.modules
   pub elements : All element.IsPlaced b.elements
 
--- and those that are known to be idle are at rest
-pub record AreKept (idle_switches idle_modules idle_elements : List ℕ) (b : BlockState) : Type 0 where
+-- and of each step of a cycle it is known rightly which of them it would leave as they are
+pub record AreKept (idle : Idle) (b : BlockState) : Type 0 where
   pub placed : ArePlaced b
-  pub switches : AreAtRest switch_rests idle_switches b.switches
-  pub modules : AreAtRest module_rests idle_modules b.modules
-  pub elements : AreAtRest element_rests idle_elements b.elements
+  pub switches : AreIdleSwitches idle.switches b.switches
+  pub modules : AreIdleModules idle.modules b.modules
+  pub elements : AreIdleElements idle.elements b.elements

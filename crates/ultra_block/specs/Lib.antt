@@ -27,6 +27,7 @@ pub mod Cycle
 pub mod Kinds
 pub mod Ready
 pub mod BlocksState
+pub mod Happened
 pub mod Fresh
 pub mod Built
 pub mod Partition

@@ -1,5 +1,5 @@
 -- the units of which nothing is on its way or open, and which have stopped
-use Rattle.std.specs.Prelude.{List, Bool, ◌&&◌}
+use Rattle.std.specs.Prelude.{Bool, ◌&&◌}
 use Rattle.std.specs.List.{list_all}
 use Rattle.ultra_switch.specs.Queues.{SizedLane}
 use Rattle.ultra_isa.specs.Step.{has_stopped}

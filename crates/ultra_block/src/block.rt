@@ -1,7 +1,6 @@
 //! Blocks: some of the units of a machine.
 
 ghost use Rattle.std.specs.Prelude.{◌≡◌, ℕ, ◌<◌, OnOk, length, slice_index_or, slice_set};
-ghost use Rattle.ultra_block.specs.Rest.{IsNoneIdle};
 
 use crate::apart::{gather_elements, gather_modules, gather_switches};
 use crate::element_unit::ElementUnit;
@@ -10,7 +9,8 @@ use crate::exchange::{
     post_switch_requests,
 };
 use crate::half::Half;
-use crate::idle_set::IdleSet;
+use crate::happened::{Happened, tell_combinations, tell_deliveries, tell_servings, tell_steps};
+use crate::idle::{Idle, IdleElements, IdleModules, IdleSwitches};
 use crate::mail::Mail;
 use crate::module_unit::ModuleUnit;
 use crate::passes::{
@@ -38,27 +38,6 @@ pub struct Block {
     pub(crate) idle: Idle,
 }
 
-/// Which units of a block are known to be at rest, by their places there: no half of a cycle looks at them.
-#[derive(Clone, Copy, Drop)]
-pub(crate) struct Idle {
-    switches: IdleSet,
-    modules: IdleSet,
-    elements: IdleSet,
-}
-
-impl Idle {
-    /// Of no unit it is known.
-    pub(crate) fn none() -> Idle
-        ensures { IsNoneIdle result }
-    {
-        Idle {
-            switches: IdleSet::new(),
-            modules: IdleSet::new(),
-            elements: IdleSet::new(),
-        }
-    }
-}
-
 impl Model for Block {
     ghost use Rattle.ultra_block.specs.BlockState.{BlockState, AreKept};
 
@@ -66,7 +45,7 @@ impl Model for Block {
 
     ghost view = { λ b. record { done = b.done; switches = b.switches.items; modules = b.modules.items; elements = b.elements.items } };
 
-    ghost invariant = { λ b. AreKept b.idle.switches b.idle.modules b.idle.elements record { done = b.done; switches = b.switches.items; modules = b.modules.items; elements = b.elements.items } };
+    ghost invariant = { λ b. AreKept b.idle record { done = b.done; switches = b.switches.items; modules = b.modules.items; elements = b.elements.items } };
 }
 
 impl Block {
@@ -75,6 +54,7 @@ impl Block {
     ghost use Rattle.ultra_block.specs.Arriving.{with_reply, with_reply_at, with_request, with_request_at};
     ghost use Rattle.ultra_block.specs.Cut.{no_element, no_module, no_switch};
     ghost use Rattle.ultra_block.specs.Making.{CanMake, made};
+    ghost use Rattle.ultra_block.specs.Happened.{IsTold};
     ghost use Rattle.ultra_block.specs.Quiet.{quiet_block};
     ghost use Rattle.ultra_block.specs.SwitchSteps as switch;
     ghost use Rattle.ultra_block.specs.ModuleSteps as bank;
@@ -92,8 +72,8 @@ impl Block {
     pub fn send_replies(&mut self, rooms: &Rooms)
         ensures { self.new ≡ sends_replies rooms.now self.old }
     {
-        send_switch_replies(self.switches.as_mut_slice(), &self.idle.switches, rooms);
-        send_module_replies(self.modules.as_mut_slice(), &self.idle.modules, rooms);
+        send_switch_replies(self.switches.as_mut_slice(), &mut self.idle.switches, rooms);
+        send_module_replies(self.modules.as_mut_slice(), &mut self.idle.modules, rooms);
     }
 
     /// The replies that have come are delivered to the processing elements, or split and passed on by the switches. They have to have room, and the cell of each that is delivered has to be open.
@@ -101,23 +81,23 @@ impl Block {
         requires { CanTakeReplies self.old }
         ensures { self.new ≡ takes_replies self.old }
     {
-        take_switch_replies(self.switches.as_mut_slice(), &self.idle.switches);
-        take_element_replies(self.elements.as_mut_slice(), &self.idle.elements);
+        take_switch_replies(self.switches.as_mut_slice(), &mut self.idle.switches);
+        take_element_replies(self.elements.as_mut_slice(), &mut self.idle.elements);
     }
 
     /// Each module serves the request that waits, if no reply is in its way.
     pub fn serve(&mut self)
         ensures { self.new ≡ serves self.old }
     {
-        serve_modules(self.modules.as_mut_slice(), &self.idle.modules);
+        serve_modules(self.modules.as_mut_slice(), &mut self.idle.modules);
     }
 
     /// Requests leave the switches and processing elements, where there is room.
     pub fn send_requests(&mut self, rooms: &Rooms)
         ensures { self.new ≡ sends_requests rooms.now self.old }
     {
-        send_switch_requests(self.switches.as_mut_slice(), &self.idle.switches, rooms);
-        send_element_requests(self.elements.as_mut_slice(), &self.idle.elements, rooms);
+        send_switch_requests(self.switches.as_mut_slice(), &mut self.idle.switches, rooms);
+        send_element_requests(self.elements.as_mut_slice(), &mut self.idle.elements, rooms);
     }
 
     /// The requests that have come go into the queues of the switches, port 0 first in even cycles and port 1 first in odd ones, and into the registers of the modules. They have to have room.
@@ -166,8 +146,8 @@ impl Block {
         ensures block { self.new ≡ posted_replies self.old }
         ensures mail { mail.new ≡ posts_replies self.old mail.old }
     {
-        post_switch_replies(self.switches.as_mut_slice(), &self.idle.switches, mail);
-        post_module_replies(self.modules.as_mut_slice(), &self.idle.modules, mail);
+        post_switch_replies(self.switches.as_mut_slice(), &mut self.idle.switches, mail);
+        post_module_replies(self.modules.as_mut_slice(), &mut self.idle.modules, mail);
     }
 
     /// A reply comes to a port of the switch at this place.
@@ -175,7 +155,7 @@ impl Block {
         requires { place < length self.old.switches }
         ensures { self.new ≡ record self.old { switches = slice_set self.old.switches place (with_reply_at port reply (slice_index_or self.old.switches place no_switch)) } }
     {
-        self.idle.switches.remove(place);
+        self.idle.switches.take_replies.remove(place);
         self.switches[place].bring_reply(port, reply);
     }
 
@@ -184,7 +164,7 @@ impl Block {
         requires { place < length self.old.elements }
         ensures { self.new ≡ record self.old { elements = slice_set self.old.elements place (with_reply reply (slice_index_or self.old.elements place no_element)) } }
     {
-        self.idle.elements.remove(place);
+        self.idle.elements.take_replies.remove(place);
         self.elements[place].bring_reply(reply);
     }
 
@@ -193,8 +173,8 @@ impl Block {
         ensures block { self.new ≡ posted_requests self.old }
         ensures mail { mail.new ≡ posts_requests self.old mail.old }
     {
-        post_switch_requests(self.switches.as_mut_slice(), &self.idle.switches, mail);
-        post_element_requests(self.elements.as_mut_slice(), &self.idle.elements, mail);
+        post_switch_requests(self.switches.as_mut_slice(), &mut self.idle.switches, mail);
+        post_element_requests(self.elements.as_mut_slice(), &mut self.idle.elements, mail);
     }
 
     /// A request comes to a port of the switch at this place.
@@ -202,7 +182,7 @@ impl Block {
         requires { place < length self.old.switches }
         ensures { self.new ≡ record self.old { switches = slice_set self.old.switches place (with_request_at port request (slice_index_or self.old.switches place no_switch)) } }
     {
-        self.idle.switches.remove(place);
+        self.idle.switches.take_requests.remove(place);
         self.switches[place].bring_request(port, request);
     }
 
@@ -211,7 +191,7 @@ impl Block {
         requires { place < length self.old.modules }
         ensures { self.new ≡ record self.old { modules = slice_set self.old.modules place (with_request request (slice_index_or self.old.modules place no_module)) } }
     {
-        self.idle.modules.remove(place);
+        self.idle.modules.take_requests.remove(place);
         self.modules[place].bring_request(request);
     }
 
@@ -219,9 +199,28 @@ impl Block {
     pub(crate) fn is_quiet(&self) -> bool
         ensures { result ≡ quiet_block self.now }
     {
-        are_switches_quiet(self.switches.as_slice())
+        are_elements_quiet(self.elements.as_slice())
             && are_modules_quiet(self.modules.as_slice())
-            && are_elements_quiet(self.elements.as_slice())
+            && are_switches_quiet(self.switches.as_slice())
+    }
+
+    /// Tells in which of its units something has happened in the last cycle.
+    pub(crate) fn tell(&self, happened: &mut Happened)
+        ensures { IsTold self.now happened.old happened.new }
+    {
+        let Idle {
+            switches,
+            modules,
+            elements,
+        } = &self.idle;
+        tell_deliveries(self.elements.as_slice(), elements, &mut happened.deliveries);
+        tell_servings(self.modules.as_slice(), modules, &mut happened.servings);
+        tell_combinations(
+            self.switches.as_slice(),
+            switches,
+            &mut happened.combinations,
+        );
+        tell_steps(self.elements.as_slice(), elements, &mut happened.steps);
     }
 
     /// Its units go to the places of their numbers.
@@ -276,9 +275,8 @@ impl Block {
         requires { switch.IsPlaced unit }
         ensures { OnOk result (self.new ≡ with_switch self.old unit) }
     {
-        let place = self.switches.len();
         self.switches.push(unit)?;
-        self.idle.switches.remove(place);
+        self.idle.switches = IdleSwitches::none();
         Ok(())
     }
 
@@ -294,9 +292,8 @@ impl Block {
         requires { bank.IsPlaced unit }
         ensures { OnOk result (self.new ≡ with_module self.old unit) }
     {
-        let place = self.modules.len();
         self.modules.push(unit)?;
-        self.idle.modules.remove(place);
+        self.idle.modules = IdleModules::none();
         Ok(())
     }
 
@@ -312,9 +309,8 @@ impl Block {
         requires { element.IsPlaced unit }
         ensures { OnOk result (self.new ≡ with_element self.old unit) }
     {
-        let place = self.elements.len();
         self.elements.push(unit)?;
-        self.idle.elements.remove(place);
+        self.idle.elements = IdleElements::none();
         Ok(())
     }
 }

@@ -15,8 +15,9 @@ use crate::config::Config;
 use crate::cutting::Room;
 use crate::element::ProcessingElement;
 use crate::element_unit::ElementUnit;
-use crate::every_block::{are_quiet, exchange, make_half, note_rooms};
+use crate::every_block::{are_quiet, exchange, make_half, note_rooms, tell_all};
 use crate::half::Half;
+use crate::happened::Happened;
 use crate::home::Home;
 use crate::mail::Mail;
 use crate::module_unit::ModuleUnit;
@@ -75,6 +76,7 @@ impl Blocks {
     ghost use Rattle.ultra_block.specs.Partition.{block_of};
     ghost use Rattle.ultra_block.specs.Cycle.{exchanged, noted};
     ghost use Rattle.ultra_block.specs.Exchange.{CanExchange};
+    ghost use Rattle.ultra_block.specs.Happened.{IsKnown};
     ghost use Rattle.ultra_block.specs.Making.{CanMake, made};
     ghost use Rattle.ultra_block.specs.Elements.{element_of};
 
@@ -273,6 +275,14 @@ impl Blocks {
         ensures { result ≡ is_quiet (machine_of self.now) }
     {
         are_quiet(self.blocks.as_slice())
+    }
+
+    /// In which units something may have happened in the last cycle: in no other has anything.
+    pub fn happened(&self) -> Happened
+        requires whole { IsWhole self.now }
+        ensures { IsKnown self.now.config (units_of_blocks self.now) result }
+    {
+        tell_all(self.blocks.as_slice())
     }
 
     /// The machine's settings.

@@ -10,11 +10,12 @@ ghost use Rattle.ultra_block.specs.SwitchSteps as switch;
 ghost use Rattle.ultra_block.specs.ModuleSteps as bank;
 ghost use Rattle.ultra_block.specs.ElementSteps as element;
 
-use crate::block::{Block, Idle};
+use crate::block::Block;
 use crate::config::Config;
 use crate::element::ProcessingElement;
 use crate::element_unit::ElementUnit;
 use crate::home::Home;
+use crate::idle::Idle;
 use crate::module_unit::ModuleUnit;
 use crate::switch_unit::SwitchUnit;
 use std::alloc::{AllocError, Global};

@@ -15,10 +15,11 @@ ghost use Rattle.ultra_block.specs.declared.element_unit.ElementUnit.{ElementUni
 ghost use Rattle.ultra_block.specs.Parted.{AreCut, AreFilled, AreParted, AreThere, HasRoom, home_in, share};
 
 use crate::apart::Parts;
-use crate::block::{Block, Idle};
+use crate::block::Block;
 use crate::building::empty_blocks;
 use crate::element_unit::ElementUnit;
 use crate::home::Home;
+use crate::idle::Idle;
 use crate::module_unit::ModuleUnit;
 use crate::switch_unit::SwitchUnit;
 use std::alloc::{AllocError, Global};

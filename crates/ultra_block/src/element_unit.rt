@@ -29,7 +29,7 @@ pub struct ElementUnit {
 impl ElementUnit {
     ghost use Rattle.ultra_block.specs.ElementSteps.{CanExecute, CanTakeReplies, IsPlaced, executes, sends_requests, takes_replies};
     ghost use Rattle.ultra_block.specs.Quiet.{quiet_element};
-    ghost use Rattle.ultra_block.specs.Rest.{element_rests};
+    ghost use Rattle.ultra_block.specs.Rest.{element_executes_nothing, element_posts_nothing, element_sends_nothing, element_takes_nothing};
     ghost use Rattle.ultra_block.specs.Arriving.{with_reply};
     ghost use Rattle.ultra_block.specs.Tables.{element_requests, without_request_out, written};
 
@@ -103,21 +103,35 @@ impl ElementUnit {
         self.reply_in = Some(reply);
     }
 
-    /// Whether no half of a cycle would change it: it has stopped, no request of it waits, nothing comes or leaves, and nothing has happened in the last cycle.
-    pub(crate) fn is_at_rest(&self) -> bool
-        ensures { result ≡ element_rests self.now }
+    /// Whether no request leaves it.
+    #[inline(always)]
+    pub(crate) fn posts_nothing(&self) -> bool
+        ensures { result ≡ element_posts_nothing self.now }
     {
-        let ProcessingElement {
-            processor,
-            interface,
-            ..
-        } = &self.element;
-        let has_ended = processor.has_stopped() && interface.pending_count() == 0;
-        has_ended
-            && self.reply_in.is_none()
-            && self.request_out.is_none()
-            && self.delivered.is_none()
-            && self.issue.is_none()
-            && self.stop.is_none()
+        self.request_out.is_none()
+    }
+
+    /// Whether no request waits in its interface or leaves it.
+    #[inline(always)]
+    pub(crate) fn sends_nothing(&self) -> bool
+        ensures { result ≡ element_sends_nothing self.now }
+    {
+        self.element.interface.pending_count() == 0 && self.posts_nothing()
+    }
+
+    /// Whether no reply comes, and none was delivered in the last cycle.
+    #[inline(always)]
+    pub(crate) fn takes_nothing(&self) -> bool
+        ensures { result ≡ element_takes_nothing self.now }
+    {
+        self.reply_in.is_none() && self.delivered.is_none()
+    }
+
+    /// Whether it has stopped, and neither issued a request nor faulted in the last cycle.
+    #[inline(always)]
+    pub(crate) fn executes_nothing(&self) -> bool
+        ensures { result ≡ element_executes_nothing self.now }
+    {
+        self.element.processor.has_stopped() && self.issue.is_none() && self.stop.is_none()
     }
 }

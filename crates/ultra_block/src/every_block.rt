@@ -8,11 +8,13 @@ ghost use Rattle.ultra_block.specs.BlockSteps.{posted_replies, posted_requests, 
 ghost use Rattle.ultra_block.specs.Cycle.{exchanged, exchanged_replies, exchanged_requests, noted};
 ghost use Rattle.ultra_block.specs.Cut.{HasLinks};
 ghost use Rattle.ultra_block.specs.Exchange.{AreHoused, AwaitReplies, AwaitRequests, CanExchange};
+ghost use Rattle.ultra_block.specs.Happened.{AreAllTold};
 ghost use Rattle.ultra_block.specs.Making.{CanMake, made};
 
 use crate::block::Block;
 use crate::delivery::{deliver_replies, deliver_requests};
 use crate::half::Half;
+use crate::happened::Happened;
 use crate::home::Home;
 use crate::mail::Mail;
 use crate::rooms::Rooms;
@@ -91,6 +93,17 @@ pub(crate) fn exchange(blocks: &mut [Block], homes: &[Home], net: Net, mail: &mu
 {
     exchange_replies(blocks, homes, net, mail);
     exchange_requests(blocks, homes, net, mail);
+}
+
+/// In which units of the blocks something may have happened in the last cycle.
+pub(crate) fn tell_all(blocks: &[Block]) -> Happened
+    ensures { AreAllTold blocks.now result }
+{
+    let mut happened = Happened::nowhere();
+    for block in blocks {
+        block.tell(&mut happened);
+    }
+    happened
 }
 
 /// Whether each block is quiet.

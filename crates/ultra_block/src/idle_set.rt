@@ -36,6 +36,15 @@ impl IdleSet {
         IdleSet { words: [0; WORDS] }
     }
 
+    /// Every place below 448 is idle.
+    pub(crate) fn all() -> IdleSet
+        ensures { AreAllIdle result 0 448 }
+    {
+        IdleSet {
+            words: [u64::MAX; WORDS],
+        }
+    }
+
     /// From now on this place is idle, if it is below 448.
     #[inline(always)]
     pub(crate) fn insert(&mut self, place: usize)
@@ -56,6 +65,20 @@ impl IdleSet {
     {
         if place < PLACES {
             self.words[place / 64] &= !(1u64 << (place % 64));
+        }
+    }
+
+    /// From now on this place is idle or not, as is told; a place from 448 on never is.
+    #[inline(always)]
+    pub(crate) fn note(&mut self, place: usize, has_nothing: bool)
+        ensures others { (k : ℕ) → k ≢ place → is_idle self.new k ≡ is_idle self.old k }
+        ensures there { place < 448 → is_idle self.new place ≡ has_nothing }
+        ensures only { is_idle self.new place ≡ true → has_nothing ≡ true }
+    {
+        if has_nothing {
+            self.insert(place);
+        } else {
+            self.remove(place);
         }
     }
 

@@ -25,7 +25,7 @@ pub struct ModuleUnit {
 impl ModuleUnit {
     ghost use Rattle.ultra_block.specs.ModuleSteps.{CanTakeRequests, IsPlaced, sends_replies, serves, takes_requests};
     ghost use Rattle.ultra_block.specs.Quiet.{quiet_module};
-    ghost use Rattle.ultra_block.specs.Rest.{module_rests};
+    ghost use Rattle.ultra_block.specs.Rest.{module_posts_nothing, module_sends_nothing, module_serves_nothing};
     ghost use Rattle.ultra_block.specs.Arriving.{with_request};
     ghost use Rattle.ultra_block.specs.Tables.{module_replies, noted_module, without_reply_out, written};
 
@@ -95,11 +95,27 @@ impl ModuleUnit {
         self.request_in = Some(request);
     }
 
-    /// Whether no half of a cycle would change it: its registers are empty, nothing comes or leaves, and it served nothing in the last cycle.
-    pub(crate) fn is_at_rest(&self) -> bool
-        ensures { result ≡ module_rests self.now }
+    /// Whether no reply leaves it.
+    #[inline(always)]
+    pub(crate) fn posts_nothing(&self) -> bool
+        ensures { result ≡ module_posts_nothing self.now }
     {
-        let registers = self.bank.request().is_none() && self.bank.reply().is_none();
-        registers && self.request_in.is_none() && self.reply_out.is_none() && self.served.is_none()
+        self.reply_out.is_none()
+    }
+
+    /// Whether no reply waits in its register or leaves it.
+    #[inline(always)]
+    pub(crate) fn sends_nothing(&self) -> bool
+        ensures { result ≡ module_sends_nothing self.now }
+    {
+        self.bank.reply().is_none() && self.posts_nothing()
+    }
+
+    /// Whether no request waits in its register, and it served none in the last cycle.
+    #[inline(always)]
+    pub(crate) fn serves_nothing(&self) -> bool
+        ensures { result ≡ module_serves_nothing self.now }
+    {
+        self.bank.request().is_none() && self.served.is_none()
     }
 }

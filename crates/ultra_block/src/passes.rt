@@ -1,162 +1,198 @@
-//! Each half of a cycle, over several units of a kind: those that are known to be idle are passed over.
+//! Each half of a cycle, over several units of a kind: it passes over those that it is known to leave as they are, and notes what is known of the others after it.
 
 ghost use Rattle.std.specs.Prelude.{◌≡◌, All, map};
 ghost use Rattle.std.specs.List.{list_all};
 ghost use Rattle.ultra_block.specs.Quiet.{quiet_element, quiet_module, quiet_switch};
-ghost use Rattle.ultra_block.specs.Rest.{AreAtRest, element_rests, module_rests, switch_rests};
+ghost use Rattle.ultra_block.specs.Rest.{AreIdleElements, AreIdleModules, AreIdleSwitches};
 ghost use Rattle.ultra_block.specs.SwitchSteps as switch;
 ghost use Rattle.ultra_block.specs.ModuleSteps as bank;
 ghost use Rattle.ultra_block.specs.ElementSteps as element;
 
 use crate::element_unit::ElementUnit;
-use crate::idle_set::IdleSet;
+use crate::idle::{IdleElements, IdleModules, IdleSwitches};
 use crate::module_unit::ModuleUnit;
 use crate::rooms::Rooms;
 use crate::switch_unit::SwitchUnit;
 use ultra_isa::Program;
 
 /// Each switch sends its replies.
-pub(crate) fn send_switch_replies(units: &mut [SwitchUnit], idle: &IdleSet, rooms: &Rooms)
+pub(crate) fn send_switch_replies(units: &mut [SwitchUnit], idle: &mut IdleSwitches, rooms: &Rooms)
     requires placed { All switch.IsPlaced units.old }
-    requires idle { AreAtRest switch_rests idle.now units.old }
-    ensures { units.new ≡ map (switch.sends_replies rooms.now) units.old }
+    requires idle { AreIdleSwitches idle.old units.old }
+    ensures units { units.new ≡ map (switch.sends_replies rooms.now) units.old }
+    ensures idle { AreIdleSwitches idle.new units.new }
 {
     let mut place = 0;
-    while let Some(next) = idle.next_busy(place, units.len()) {
-        units[next].send_replies(rooms);
+    while let Some(next) = idle.send_replies.next_busy(place, units.len()) {
+        let unit = &mut units[next];
+        unit.send_replies(rooms);
+        idle.send_replies.note(next, unit.sends_no_reply());
+        idle.post_replies.note(next, unit.posts_no_reply());
+        idle.note_rooms.note(next, unit.has_all_rooms());
         place = next + 1;
     }
 }
 
 /// Each module sends its reply.
-pub(crate) fn send_module_replies(units: &mut [ModuleUnit], idle: &IdleSet, rooms: &Rooms)
+pub(crate) fn send_module_replies(units: &mut [ModuleUnit], idle: &mut IdleModules, rooms: &Rooms)
     requires placed { All bank.IsPlaced units.old }
-    requires idle { AreAtRest module_rests idle.now units.old }
-    ensures { units.new ≡ map (bank.sends_replies rooms.now) units.old }
+    requires idle { AreIdleModules idle.old units.old }
+    ensures units { units.new ≡ map (bank.sends_replies rooms.now) units.old }
+    ensures idle { AreIdleModules idle.new units.new }
 {
     let mut place = 0;
-    while let Some(next) = idle.next_busy(place, units.len()) {
-        units[next].send_replies(rooms);
+    while let Some(next) = idle.send_replies.next_busy(place, units.len()) {
+        let unit = &mut units[next];
+        unit.send_replies(rooms);
+        idle.send_replies.note(next, unit.sends_nothing());
+        idle.post_replies.note(next, unit.posts_nothing());
         place = next + 1;
     }
 }
 
 /// Each switch takes the replies that have come.
-pub(crate) fn take_switch_replies(units: &mut [SwitchUnit], idle: &IdleSet)
+pub(crate) fn take_switch_replies(units: &mut [SwitchUnit], idle: &mut IdleSwitches)
     requires placed { All switch.IsPlaced units.old }
     requires room { All switch.CanTakeReplies units.old }
-    requires idle { AreAtRest switch_rests idle.now units.old }
-    ensures { units.new ≡ map switch.takes_replies units.old }
+    requires idle { AreIdleSwitches idle.old units.old }
+    ensures units { units.new ≡ map switch.takes_replies units.old }
+    ensures idle { AreIdleSwitches idle.new units.new }
 {
     let mut place = 0;
-    while let Some(next) = idle.next_busy(place, units.len()) {
-        units[next].take_replies();
+    while let Some(next) = idle.take_replies.next_busy(place, units.len()) {
+        let unit = &mut units[next];
+        unit.take_replies();
+        idle.take_replies.insert(next);
+        idle.send_replies.note(next, unit.sends_no_reply());
+        idle.note_rooms.note(next, unit.has_all_rooms());
         place = next + 1;
     }
 }
 
 /// Each processing element takes the reply that has come.
-pub(crate) fn take_element_replies(units: &mut [ElementUnit], idle: &IdleSet)
+pub(crate) fn take_element_replies(units: &mut [ElementUnit], idle: &mut IdleElements)
     requires open { All element.CanTakeReplies units.old }
-    requires idle { AreAtRest element_rests idle.now units.old }
-    ensures { units.new ≡ map element.takes_replies units.old }
+    requires idle { AreIdleElements idle.old units.old }
+    ensures units { units.new ≡ map element.takes_replies units.old }
+    ensures idle { AreIdleElements idle.new units.new }
 {
     let mut place = 0;
-    while let Some(next) = idle.next_busy(place, units.len()) {
-        units[next].take_replies();
+    while let Some(next) = idle.take_replies.next_busy(place, units.len()) {
+        let unit = &mut units[next];
+        unit.take_replies();
+        idle.take_replies.note(next, unit.takes_nothing());
         place = next + 1;
     }
 }
 
 /// Each module serves.
-pub(crate) fn serve_modules(units: &mut [ModuleUnit], idle: &IdleSet)
-    requires idle { AreAtRest module_rests idle.now units.old }
-    ensures { units.new ≡ map bank.serves units.old }
+pub(crate) fn serve_modules(units: &mut [ModuleUnit], idle: &mut IdleModules)
+    requires idle { AreIdleModules idle.old units.old }
+    ensures units { units.new ≡ map bank.serves units.old }
+    ensures idle { AreIdleModules idle.new units.new }
 {
     let mut place = 0;
-    while let Some(next) = idle.next_busy(place, units.len()) {
-        units[next].serve();
+    while let Some(next) = idle.serve.next_busy(place, units.len()) {
+        let unit = &mut units[next];
+        unit.serve();
+        idle.serve.note(next, unit.serves_nothing());
+        idle.send_replies.note(next, unit.sends_nothing());
         place = next + 1;
     }
 }
 
 /// Each switch sends its requests.
-pub(crate) fn send_switch_requests(units: &mut [SwitchUnit], idle: &IdleSet, rooms: &Rooms)
+pub(crate) fn send_switch_requests(units: &mut [SwitchUnit], idle: &mut IdleSwitches, rooms: &Rooms)
     requires placed { All switch.IsPlaced units.old }
-    requires idle { AreAtRest switch_rests idle.now units.old }
-    ensures { units.new ≡ map (switch.sends_requests rooms.now) units.old }
+    requires idle { AreIdleSwitches idle.old units.old }
+    ensures units { units.new ≡ map (switch.sends_requests rooms.now) units.old }
+    ensures idle { AreIdleSwitches idle.new units.new }
 {
     let mut place = 0;
-    while let Some(next) = idle.next_busy(place, units.len()) {
-        units[next].send_requests(rooms);
+    while let Some(next) = idle.send_requests.next_busy(place, units.len()) {
+        let unit = &mut units[next];
+        unit.send_requests(rooms);
+        idle.send_requests.note(next, unit.sends_no_request());
+        idle.post_requests.note(next, unit.posts_no_request());
+        idle.note_rooms.note(next, unit.has_all_rooms());
         place = next + 1;
     }
 }
 
 /// Each processing element sends its request.
-pub(crate) fn send_element_requests(units: &mut [ElementUnit], idle: &IdleSet, rooms: &Rooms)
+pub(crate) fn send_element_requests(
+    units: &mut [ElementUnit],
+    idle: &mut IdleElements,
+    rooms: &Rooms,
+)
     requires placed { All element.IsPlaced units.old }
-    requires idle { AreAtRest element_rests idle.now units.old }
-    ensures { units.new ≡ map (element.sends_requests rooms.now) units.old }
+    requires idle { AreIdleElements idle.old units.old }
+    ensures units { units.new ≡ map (element.sends_requests rooms.now) units.old }
+    ensures idle { AreIdleElements idle.new units.new }
 {
     let mut place = 0;
-    while let Some(next) = idle.next_busy(place, units.len()) {
-        units[next].send_requests(rooms);
+    while let Some(next) = idle.send_requests.next_busy(place, units.len()) {
+        let unit = &mut units[next];
+        unit.send_requests(rooms);
+        idle.send_requests.note(next, unit.sends_nothing());
+        idle.post_requests.note(next, unit.posts_nothing());
         place = next + 1;
     }
 }
 
-/// Each switch takes the requests that have come. Those that are then at rest are noted as idle.
-pub(crate) fn take_switch_requests(units: &mut [SwitchUnit], idle: &mut IdleSet, cycle: u32)
+/// Each switch takes the requests that have come.
+pub(crate) fn take_switch_requests(units: &mut [SwitchUnit], idle: &mut IdleSwitches, cycle: u32)
     requires placed { All switch.IsPlaced units.old }
     requires room { All switch.CanTakeRequests units.old }
-    requires idle { AreAtRest switch_rests idle.old units.old }
+    requires idle { AreIdleSwitches idle.old units.old }
     ensures units { units.new ≡ map (switch.takes_requests cycle) units.old }
-    ensures idle { AreAtRest switch_rests idle.new units.new }
+    ensures idle { AreIdleSwitches idle.new units.new }
 {
     let mut place = 0;
-    while let Some(next) = idle.next_busy(place, units.len()) {
+    while let Some(next) = idle.take_requests.next_busy(place, units.len()) {
         let unit = &mut units[next];
         unit.take_requests(cycle);
-        if unit.is_at_rest() {
-            idle.insert(next);
-        }
+        idle.take_requests.note(next, unit.has_not_combined());
+        idle.send_requests.note(next, unit.sends_no_request());
+        idle.note_rooms.note(next, unit.has_all_rooms());
         place = next + 1;
     }
 }
 
-/// Each module takes the request that has come. Those that are then at rest are noted as idle.
-pub(crate) fn take_module_requests(units: &mut [ModuleUnit], idle: &mut IdleSet)
+/// Each module takes the request that has come.
+pub(crate) fn take_module_requests(units: &mut [ModuleUnit], idle: &mut IdleModules)
     requires room { All bank.CanTakeRequests units.old }
-    requires idle { AreAtRest module_rests idle.old units.old }
+    requires idle { AreIdleModules idle.old units.old }
     ensures units { units.new ≡ map bank.takes_requests units.old }
-    ensures idle { AreAtRest module_rests idle.new units.new }
+    ensures idle { AreIdleModules idle.new units.new }
 {
     let mut place = 0;
-    while let Some(next) = idle.next_busy(place, units.len()) {
+    while let Some(next) = idle.take_requests.next_busy(place, units.len()) {
         let unit = &mut units[next];
         unit.take_requests();
-        if unit.is_at_rest() {
-            idle.insert(next);
-        }
+        idle.take_requests.insert(next);
+        idle.serve.note(next, unit.serves_nothing());
         place = next + 1;
     }
 }
 
-/// Each processing element makes one step of the program. Those that are then at rest are noted as idle.
-pub(crate) fn execute_elements(units: &mut [ElementUnit], idle: &mut IdleSet, program: &Program)
+/// Each processing element makes one step of the program.
+pub(crate) fn execute_elements(
+    units: &mut [ElementUnit],
+    idle: &mut IdleElements,
+    program: &Program,
+)
     requires counted { All element.CanExecute units.old }
-    requires idle { AreAtRest element_rests idle.old units.old }
+    requires idle { AreIdleElements idle.old units.old }
     ensures units { units.new ≡ map (element.executes program.now) units.old }
-    ensures idle { AreAtRest element_rests idle.new units.new }
+    ensures idle { AreIdleElements idle.new units.new }
 {
     let mut place = 0;
-    while let Some(next) = idle.next_busy(place, units.len()) {
+    while let Some(next) = idle.execute.next_busy(place, units.len()) {
         let unit = &mut units[next];
         unit.execute(program);
-        if unit.is_at_rest() {
-            idle.insert(next);
-        }
+        idle.execute.note(next, unit.executes_nothing());
+        idle.send_requests.note(next, unit.sends_nothing());
         place = next + 1;
     }
 }

@@ -37,7 +37,7 @@ pub struct SwitchUnit {
 impl SwitchUnit {
     ghost use Rattle.ultra_block.specs.SwitchSteps.{CanTakeReplies, CanTakeRequests, IsPlaced, position, sends_replies, sends_requests, takes_replies, takes_requests};
     ghost use Rattle.ultra_block.specs.Quiet.{quiet_switch};
-    ghost use Rattle.ultra_block.specs.Rest.{has_all_rooms, has_empty_boxes, has_empty_queues, has_not_combined, switch_rests};
+    ghost use Rattle.ultra_block.specs.Rest.{has_all_rooms, has_not_combined, posts_no_reply, posts_no_request, sends_no_reply, sends_no_request};
     ghost use Rattle.ultra_block.specs.Arriving.{with_reply_at, with_request_at};
     ghost use Rattle.ultra_block.specs.Tables.{noted_switch, switch_replies, switch_requests, without_replies_out, without_requests_out, written};
 
@@ -219,39 +219,43 @@ impl SwitchUnit {
         }
     }
 
-    /// Whether no half of a cycle would change it: nothing is in its queues or comes or leaves, nothing has combined in the last cycle, and it has room.
-    pub(crate) fn is_at_rest(&self) -> bool
-        ensures { result ≡ switch_rests self.now }
+    /// Whether no reply leaves it.
+    #[inline(always)]
+    pub(crate) fn posts_no_reply(&self) -> bool
+        ensures { result ≡ posts_no_reply self.now }
     {
-        self.has_empty_queues()
-            && self.has_empty_boxes()
-            && self.has_all_rooms()
-            && self.has_not_combined()
+        is_nothing_at(&self.replies_out)
     }
 
-    /// Whether its queues are empty.
-    fn has_empty_queues(&self) -> bool
-        ensures { result ≡ has_empty_queues self.now }
+    /// Whether no reply waits in its queues or leaves it.
+    #[inline(always)]
+    pub(crate) fn sends_no_reply(&self) -> bool
+        ensures { result ≡ sends_no_reply self.now }
     {
-        let Switch { to_mm, to_pe } = &self.switch;
-        to_mm.zero.len() == 0
-            && to_mm.one.len() == 0
-            && to_pe.zero.is_empty()
-            && to_pe.one.is_empty()
+        let Ports { zero, one } = &self.switch.to_pe;
+        zero.is_empty() && one.is_empty() && self.posts_no_reply()
     }
 
-    /// Whether nothing comes to it and nothing leaves it.
-    fn has_empty_boxes(&self) -> bool
-        ensures { result ≡ has_empty_boxes self.now }
+    /// Whether no request leaves it.
+    #[inline(always)]
+    pub(crate) fn posts_no_request(&self) -> bool
+        ensures { result ≡ posts_no_request self.now }
     {
-        is_nothing_at(&self.replies_in)
-            && is_nothing_at(&self.replies_out)
-            && is_nothing_at(&self.requests_in)
-            && is_nothing_at(&self.requests_out)
+        is_nothing_at(&self.requests_out)
+    }
+
+    /// Whether no request waits in its queues or leaves it.
+    #[inline(always)]
+    pub(crate) fn sends_no_request(&self) -> bool
+        ensures { result ≡ sends_no_request self.now }
+    {
+        let Ports { zero, one } = &self.switch.to_mm;
+        zero.len() == 0 && one.len() == 0 && self.posts_no_request()
     }
 
     /// Whether there is room for all that may come to it.
-    fn has_all_rooms(&self) -> bool
+    #[inline(always)]
+    pub(crate) fn has_all_rooms(&self) -> bool
         ensures { result ≡ has_all_rooms self.now }
     {
         let Switch { to_mm, to_pe } = &self.switch;
@@ -262,7 +266,8 @@ impl SwitchUnit {
     }
 
     /// Whether nothing has combined in the last cycle.
-    fn has_not_combined(&self) -> bool
+    #[inline(always)]
+    pub(crate) fn has_not_combined(&self) -> bool
         ensures { result ≡ has_not_combined self.now }
     {
         is_nothing_at(&self.combined.zero) && is_nothing_at(&self.combined.one)
@@ -270,6 +275,7 @@ impl SwitchUnit {
 }
 
 /// Whether there is nothing at either port.
+#[inline(always)]
 fn is_nothing_at<T>(ports: &Ports<Option<T>>) -> bool
     ensures { result ≡ is_nothing_at ports.now }
 {

@@ -1,10 +1,9 @@
-use Rattle.std.proofs.Common.{[], sym, subst, arith}
+use Rattle.std.proofs.Common.{sym, subst, arith}
 use Rattle.std.specs.Prelude.{All}
 use Rattle.ultra_block.specs.SwitchSteps as switch
 use Rattle.ultra_block.specs.ModuleSteps as bank
 use Rattle.ultra_block.specs.ElementSteps as element
-use Rattle.ultra_block.specs.Rest.{switch_rests, module_rests, element_rests}
-use Rattle.ultra_block.proofs.Sparse.{rest_none}
+use Rattle.ultra_block.proofs.Unknown.{no_switches, no_modules, no_elements}
 use Rattle.ultra_block.proofs.building.empty_block.Goals as goal
 
 pub invariant_of-result : goal.invariant_of-result
@@ -14,7 +13,7 @@ invariant_of-result c = record {
     modules = subst (λ us. All bank.IsPlaced us) (sym c.new-2.ensures.items) (λ k d h. absurd (omega (arith, h)));
     elements = subst (λ us. All element.IsPlaced us) (sym c.new-3.ensures.items) (λ k d h. absurd (omega (arith, h)));
   };
-  switches = rest_none switch_rests c.none.result.switches c.new.result.items c.none.ensures.switches;
-  modules = rest_none module_rests c.none.result.modules c.new-2.result.items c.none.ensures.modules;
-  elements = rest_none element_rests c.none.result.elements c.new-3.result.items c.none.ensures.elements;
+  switches = no_switches c.none.result.switches c.none.ensures.switches c.new.result.items;
+  modules = no_modules c.none.result.modules c.none.ensures.modules c.new-2.result.items;
+  elements = no_elements c.none.result.elements c.none.ensures.elements c.new-3.result.items;
 }

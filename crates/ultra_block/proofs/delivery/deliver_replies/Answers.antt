@@ -1,6 +1,5 @@
-use Rattle.std.proofs.Common.{◌≡◌, ◌+◌, ◌≤◌, List, refl, arith, ap, ◌∙◌, sym, subst, get_or, set, length, replicate}
-use Rattle.std.specs.Prelude.{None, Option, map}
-use Rattle.ultra_block.specs.BlockSteps.{fetches_replies}
+use Rattle.std.proofs.Common.{◌≡◌, ◌+◌, List, refl, arith, ap, ◌∙◌, sym, subst, get_or, set, length, replicate}
+use Rattle.std.specs.Prelude.{None, Option}
 use Rattle.ultra_block.specs.MailTable.{MailTable, AreEmptyFrom}
 use Rattle.ultra_block.proofs.Fetched.{AreTaken, replies_below, replies_begin, reply_more, no_reply_more, all_replies, none_taken, were_empty, one_more_empty, one_taken, all_taken, housed_fetched}
 use Rattle.ultra_block.proofs.delivery.deliver_replies.Goals as goal

@@ -1,8 +1,5 @@
-use Rattle.std.proofs.Common.{rules, ◌≡◌, ◌+◌, ◌*◌, ◌-◌, ◌/◌, ◌%◌, ◌^◌, ◌<◌, arith, ap, ◌∙◌, sym, subst, length, get_or}
-use Rattle.std.proofs.lemmas.List.{get_or_default}
+use Rattle.std.proofs.Common.{rules, ◌-◌, ◌/◌, ◌%◌, ap, ◌∙◌}
 use Rattle.ultra_block.specs.Numbers.{element_number}
-use Rattle.ultra_block.specs.Cut.{no_block, no_element, no_switch}
-use Rattle.ultra_block.specs.Arriving.{with_reply, with_reply_at}
 use Rattle.ultra_block.proofs.Delivered.{low_level, reply_level, switch_there, there_in, reply_to_element_at, reply_to_switch_at}
 use Rattle.ultra_block.proofs.delivery.deliver_reply.Goals as goal
 

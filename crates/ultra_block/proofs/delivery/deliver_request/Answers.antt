@@ -1,4 +1,4 @@
-use Rattle.std.proofs.Common.{◌≡◌, ◌+◌, ◌*◌, ◌-◌, ◌/◌, ◌%◌, ◌^◌, ◌<◌, arith, ap, ◌∙◌, sym, subst, length, get_or}
+use Rattle.std.proofs.Common.{◌≡◌, ◌+◌, ◌*◌, ◌/◌, ◌%◌, ◌^◌, arith, ap, ◌∙◌}
 use Rattle.ultra_route.proofs.Table.{sizes}
 use Rattle.ultra_block.proofs.Delivered.{request_level, switch_there, there_in, request_to_module_at, request_to_switch_at}
 use Rattle.ultra_block.proofs.delivery.deliver_request.Goals as goal

@@ -1,6 +1,5 @@
-use Rattle.std.proofs.Common.{◌≡◌, ◌+◌, ◌≤◌, List, refl, arith, ap, ◌∙◌, sym, subst, get_or, set, length, replicate}
-use Rattle.std.specs.Prelude.{None, Option, map}
-use Rattle.ultra_block.specs.BlockSteps.{fetches_requests}
+use Rattle.std.proofs.Common.{◌≡◌, ◌+◌, List, refl, arith, ap, ◌∙◌, sym, subst, get_or, set, length, replicate}
+use Rattle.std.specs.Prelude.{None, Option}
 use Rattle.ultra_block.specs.MailTable.{MailTable, AreEmptyFrom}
 use Rattle.ultra_block.proofs.Fetched.{AreTaken, requests_below, requests_begin, request_more, no_request_more, all_requests, none_taken, were_empty, one_more_empty, one_taken, all_taken, housed_asked}
 use Rattle.ultra_block.proofs.delivery.deliver_requests.Goals as goal

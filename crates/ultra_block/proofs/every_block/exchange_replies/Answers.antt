@@ -3,7 +3,6 @@ use Rattle.std.specs.Prelude.{None}
 use Rattle.std.specs.List.{flat_map}
 use Rattle.ultra_block.specs.MailTable.{MailTable}
 use Rattle.ultra_block.specs.BlockSteps.{reply_entries}
-use Rattle.ultra_block.specs.Exchange.{AreHoused, AwaitReplies}
 use Rattle.ultra_block.proofs.Fetched.{housed_posted, replies_awaited, still_links}
 use Rattle.ultra_block.proofs.every_block.exchange_replies.Goals as goal
 

@@ -3,7 +3,6 @@ use Rattle.std.specs.Prelude.{None}
 use Rattle.std.specs.List.{flat_map}
 use Rattle.ultra_block.specs.MailTable.{MailTable}
 use Rattle.ultra_block.specs.BlockSteps.{request_entries}
-use Rattle.ultra_block.specs.Exchange.{AreHoused, AwaitRequests}
 use Rattle.ultra_block.proofs.Fetched.{housed_sent, requests_awaited, still_links}
 use Rattle.ultra_block.proofs.every_block.exchange_requests.Goals as goal
 

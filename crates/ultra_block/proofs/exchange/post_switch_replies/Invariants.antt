@@ -1,12 +1,14 @@
 use Rattle.std.proofs.Common.{◌≡◌, ◌-◌, length, take}
 use Rattle.std.specs.List.{flat_map}
 use Rattle.ultra_block.specs.Tables.{written, without_replies_out, switch_replies}
+use Rattle.ultra_block.specs.Rest.{AreIdleSwitches}
 use Rattle.ultra_block.proofs.Sparse.{AreChanged}
 use Rattle.ultra_block.proofs.exchange.post_switch_replies.Given as goal
 
 abbrev pub invariant-loop-next : goal.invariant-loop-next
 invariant-loop-next l = record {
   units : AreChanged without_replies_out l.place l.initial.units l.units;
+  idle : AreIdleSwitches l.idle l.units;
   mail : l.mail ≡ record l.initial.mail { replies = written (flat_map switch_replies (take l.place l.initial.units)) l.initial.mail.replies };
 }
 

@@ -1,47 +1,61 @@
-use Rattle.std.proofs.Common.{List, ap, ◌∙◌, arith, get_or, take}
+use Rattle.std.proofs.Common.{List, ap, arith, get_or, take, ◌∙◌}
 use Rattle.std.specs.Prelude.{Option}
 use Rattle.std.specs.List.{flat_map}
 use Rattle.ultra_msg.specs.declared.Request.{Request}
 use Rattle.ultra_block.specs.MailTable.{MailTable}
 use Rattle.ultra_block.specs.Tables.{written, without_requests_out, switch_requests}
-use Rattle.ultra_block.specs.Rest.{switch_rests}
+use Rattle.ultra_block.specs.Rest.{has_all_rooms, posts_no_reply, posts_no_request, sends_no_reply, sends_no_request, takes_no_reply, takes_no_request}
 use Rattle.ultra_block.specs.Cut.{no_switch}
 use Rattle.ultra_block.proofs.Rest.{rests_posting_requests, rests_sent_requests}
-use Rattle.ultra_block.proofs.Sparse.{rest_from, next_changed, next_is_as_before, next_writes, all_changed, all_written, same_length, long}
+use Rattle.ultra_block.proofs.Sparse.{all_changed, all_written, long, next_changed, next_is_as_before, next_writes, rest-found, rest-kept, rest-noted, rest_still, same_length}
 use Rattle.ultra_block.proofs.exchange.post_switch_requests.Goals as goal
 
 pub loop-next-preserved : goal.loop-next-preserved
 loop-next-preserved c =
-    let us = c.args.units.now in
+    let us = c.loop-next.units in
+    let idle = c.loop-next.idle in
+    let known = c.loop-next.invariant.idle in
+    let next = c.in-Some.next in
+    let u = c.post_requests.new.self in
+    let v = c.index-units-next.result in
+    let is = c.post_requests.ensures.unit in
     let old = c.args.mail.now in
-    let from = rest_from switch_rests c.args.idle.now us c.requires.idle c.loop-next.place in
+    let from = (rest_still without_requests_out posts_no_request c.loop-next.idle.post_requests c.args.units.now c.loop-next.units c.loop-next.place c.loop-next.invariant.units c.loop-next.invariant.idle.post_requests) in
     let put : List (Option Request) → MailTable = λ t. record old { requests = t } in
-    let next = same_length without_requests_out us c.loop-next.units c.loop-next.place c.loop-next.invariant.units c.args.idle.now c.in-Some.next c.in-Some.ensures.some in
+    let same = same_length without_requests_out c.args.units.now us c.loop-next.place c.loop-next.invariant.units idle.post_requests next c.in-Some.ensures.some in
     record {
       units =
-          next_changed without_requests_out switch_rests rests_posting_requests c.args.idle.now us c.loop-next.units c.loop-next.place c.loop-next.invariant.units from
-          c.in-Some.next c.post_requests.new.self c.index-units-next.result c.in-Some.ensures.some c.post_requests.ensures.unit;
+          next_changed without_requests_out posts_no_request rests_posting_requests c.loop-next.idle.post_requests c.args.units.now c.loop-next.units c.loop-next.place c.loop-next.invariant.units
+          from
+          next u v c.in-Some.ensures.some is;
+      idle = record {
+        send_replies = rest-kept sends_no_reply idle.send_replies without_requests_out (λ x h. h) us next u v is known.send_replies;
+        post_replies = rest-kept posts_no_reply idle.post_replies without_requests_out (λ x h. h) us next u v is known.post_replies;
+        take_replies = rest-kept takes_no_reply idle.take_replies without_requests_out (λ x h. h) us next u v is known.take_replies;
+        send_requests = rest-noted sends_no_request idle.send_requests c.note.new.self us next u c.sends_no_request.result known.send_requests c.note.ensures.others c.note.ensures.only c.sends_no_request.ensures;
+        post_requests = rest-found posts_no_request idle.post_requests c.insert.new.self us next u known.post_requests c.insert.ensures.others (ap posts_no_request is);
+        take_requests = rest-kept takes_no_request idle.take_requests without_requests_out (λ x h. h) us next u v is known.take_requests;
+        note_rooms = rest-kept has_all_rooms idle.note_rooms without_requests_out (λ x h. h) us next u v is known.note_rooms;
+      };
       mail =
           c.post_requests.ensures.mail
-          ∙ ap (λ (m : MailTable). let v : MailTable = record m { requests = written (switch_requests (get_or c.loop-next.units c.in-Some.next c.index-units-next.result)) m.requests } in v) c.loop-next.invariant.mail
-          ∙ ap (λ u. put (written (switch_requests u) (written (flat_map switch_requests (take c.loop-next.place us)) old.requests)))
-          (next_is_as_before without_requests_out switch_rests rests_posting_requests c.args.idle.now us c.loop-next.units c.loop-next.place c.loop-next.invariant.units from c.in-Some.next c.index-units-next.result c.in-Some.ensures.some)
-          ∙ ap put (next_writes switch_requests switch_rests rests_sent_requests c.args.idle.now us c.loop-next.place old.requests from c.in-Some.next c.index-units-next.result next);
+          ∙ ap (λ (m : MailTable). let w : MailTable = record m { requests = written (switch_requests (get_or us next v)) m.requests } in w) c.loop-next.invariant.mail
+          ∙ ap (λ u. put (written (switch_requests u) (written (flat_map switch_requests (take c.loop-next.place c.args.units.now)) old.requests)))
+          (next_is_as_before without_requests_out posts_no_request rests_posting_requests c.loop-next.idle.post_requests c.args.units.now c.loop-next.units c.loop-next.place c.loop-next.invariant.units from next v c.in-Some.ensures.some)
+          ∙ ap put (next_writes switch_requests posts_no_request rests_sent_requests idle.post_requests c.args.units.now c.loop-next.place old.requests from next v same);
     }
 
 pub returns-clause-units : goal.returns-clause-units
 returns-clause-units c =
-    let us = c.args.units.now in
-    let from = rest_from switch_rests c.args.idle.now us c.requires.idle c.loop-next.place in
-    all_changed without_requests_out switch_rests rests_posting_requests c.args.idle.now us c.loop-next.units c.loop-next.place c.loop-next.invariant.units from
+    all_changed without_requests_out posts_no_request rests_posting_requests c.loop-next.idle.post_requests c.args.units.now c.loop-next.units c.loop-next.place c.loop-next.invariant.units
+    (rest_still without_requests_out posts_no_request c.loop-next.idle.post_requests c.args.units.now c.loop-next.units c.loop-next.place c.loop-next.invariant.units c.loop-next.invariant.idle.post_requests)
     no_switch c.in_default.ensures.none
 
 pub returns-clause-mail : goal.returns-clause-mail
 returns-clause-mail c =
-    let us = c.args.units.now in
     let old = c.args.mail.now in
-    let from = rest_from switch_rests c.args.idle.now us c.requires.idle c.loop-next.place in
+    let from = (rest_still without_requests_out posts_no_request c.loop-next.idle.post_requests c.args.units.now c.loop-next.units c.loop-next.place c.loop-next.invariant.units c.loop-next.invariant.idle.post_requests) in
     let put : List (Option Request) → MailTable = λ t. record old { requests = t } in
-    let same = long without_requests_out us c.loop-next.units c.loop-next.place c.loop-next.invariant.units in
+    let same = long without_requests_out c.args.units.now c.loop-next.units c.loop-next.place c.loop-next.invariant.units in
     c.loop-next.invariant.mail
-    ∙ ap put (all_written switch_requests switch_rests rests_sent_requests c.args.idle.now us c.loop-next.place old.requests from no_switch c.loop-next.invariant.units.within (λ k p q. c.in_default.ensures.none k p (omega (arith, q, same))))
+    ∙ ap put (all_written switch_requests posts_no_request rests_sent_requests c.loop-next.idle.post_requests c.args.units.now c.loop-next.place old.requests from no_switch c.loop-next.invariant.units.within (λ k p q. c.in_default.ensures.none k p (omega (arith, q, same))))

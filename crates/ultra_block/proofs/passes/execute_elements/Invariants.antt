@@ -1,13 +1,13 @@
 use Rattle.std.proofs.Common.{◌-◌, length}
 use Rattle.ultra_block.specs.ElementSteps.{executes}
-use Rattle.ultra_block.specs.Rest.{AreAtRest, element_rests}
+use Rattle.ultra_block.specs.Rest.{AreIdleElements}
 use Rattle.ultra_block.proofs.Sparse.{AreChanged}
 use Rattle.ultra_block.proofs.passes.execute_elements.Given as goal
 
 abbrev pub invariant-loop-next : goal.invariant-loop-next
 invariant-loop-next l = record {
   units : AreChanged (executes l.program) l.place l.initial.units l.units;
-  idle : AreAtRest element_rests l.idle l.units;
+  idle : AreIdleElements l.idle l.units;
 }
 
 abbrev pub decreases-loop-next : goal.decreases-loop-next

@@ -1,38 +1,41 @@
-use Rattle.std.proofs.Common.{◌≡◌, true, refl, ap, ◌∙◌, sym, subst}
-use Rattle.ultra_block.specs.ModuleSteps.{takes_requests, CanTakeRequests}
-use Rattle.ultra_block.specs.IdleSet.{is_idle}
-use Rattle.ultra_block.specs.Rest.{module_rests}
+use Rattle.std.proofs.Common.{ap}
+use Rattle.ultra_block.specs.ModuleSteps.{CanTakeRequests, takes_requests}
+use Rattle.ultra_block.specs.Rest.{module_posts_nothing, module_sends_nothing, module_serves_nothing, module_takes_nothing}
 use Rattle.ultra_block.specs.Cut.{no_module}
-use Rattle.ultra_block.proofs.Rest.{module_rests_taking}
-use Rattle.ultra_block.proofs.Sparse.{rest_still, rest-set, next_changed, next_holds, all_changed}
+use Rattle.ultra_block.proofs.Rest.{module_rests_taking, sending_kept}
+use Rattle.ultra_block.proofs.Sparse.{all_changed, next_changed, next_holds, rest-found, rest-kept, rest-noted, rest_still}
 use Rattle.ultra_block.proofs.passes.take_module_requests.Goals as goal
-use Rattle.ultra_block.proofs.passes.take_module_requests.Goals.{then-is_at_rest, else-is_at_rest}
 
 pub take_requests-requires : goal.take_requests-requires
 take_requests-requires c =
-    next_holds takes_requests module_rests module_rests_taking c.loop-next.idle c.args.units.now c.loop-next.units c.loop-next.place c.loop-next.invariant.units (rest_still takes_requests module_rests c.loop-next.idle c.args.units.now c.loop-next.units c.loop-next.place c.loop-next.invariant.units c.loop-next.invariant.idle)
+    next_holds takes_requests module_takes_nothing module_rests_taking c.loop-next.idle.take_requests c.args.units.now c.loop-next.units c.loop-next.place c.loop-next.invariant.units
+    (rest_still takes_requests module_takes_nothing c.loop-next.idle.take_requests c.args.units.now c.loop-next.units c.loop-next.place c.loop-next.invariant.units c.loop-next.invariant.idle.take_requests)
     CanTakeRequests c.in-Some.next c.index-units-next.result c.in-Some.ensures.some c.requires.room
 
 pub loop-next-preserved : goal.loop-next-preserved
 loop-next-preserved c =
-    let put = rest-set module_rests c.loop-next.idle in
+    let us = c.loop-next.units in
+    let idle = c.loop-next.idle in
+    let known = c.loop-next.invariant.idle in
+    let next = c.in-Some.next in
+    let u = c.take_requests.new.self in
+    let v = c.index-units-next.result in
+    let is = c.take_requests.ensures in
     record {
       units =
-          next_changed takes_requests module_rests module_rests_taking c.loop-next.idle c.args.units.now c.loop-next.units c.loop-next.place c.loop-next.invariant.units (rest_still takes_requests module_rests c.loop-next.idle c.args.units.now c.loop-next.units c.loop-next.place c.loop-next.invariant.units c.loop-next.invariant.idle)
-          c.in-Some.next c.take_requests.new.self c.index-units-next.result c.in-Some.ensures.some c.take_requests.ensures;
-      idle = elim c.if-is_at_rest.branch [
-        | then-is_at_rest w ↦
-            put c.if-is_at_rest.idle c.loop-next.units c.in-Some.next c.take_requests.new.self c.loop-next.invariant.idle
-            (λ k ne. ap (λ s. is_idle s k) w.idle-is ∙ w.insert.ensures.others k ne)
-            (λ h. sym c.is_at_rest.ensures ∙ w.if-is_at_rest.true)
-        | else-is_at_rest w ↦
-            put c.if-is_at_rest.idle c.loop-next.units c.in-Some.next c.take_requests.new.self c.loop-next.invariant.idle
-            (λ k ne. ap (λ s. is_idle s k) w.idle-is)
-            (λ h. let busy = c.in-Some.ensures.some.busy in let is = ap (λ s. is_idle s c.in-Some.next) w.idle-is in cc)
-      ];
+          next_changed takes_requests module_takes_nothing module_rests_taking c.loop-next.idle.take_requests c.args.units.now c.loop-next.units c.loop-next.place c.loop-next.invariant.units
+          (rest_still takes_requests module_takes_nothing c.loop-next.idle.take_requests c.args.units.now c.loop-next.units c.loop-next.place c.loop-next.invariant.units c.loop-next.invariant.idle.take_requests)
+          next u v c.in-Some.ensures.some is;
+      idle = record {
+        send_replies = rest-kept module_sends_nothing idle.send_replies takes_requests (sending_kept) us next u v is known.send_replies;
+        post_replies = rest-kept module_posts_nothing idle.post_replies takes_requests (λ x h. h) us next u v is known.post_replies;
+        serve = rest-noted module_serves_nothing idle.serve c.note.new.self us next u c.serves_nothing.result known.serve c.note.ensures.others c.note.ensures.only c.serves_nothing.ensures;
+        take_requests = rest-found module_takes_nothing idle.take_requests c.insert.new.self us next u known.take_requests c.insert.ensures.others (ap module_takes_nothing is);
+      };
     }
 
 pub returns-clause-units : goal.returns-clause-units
 returns-clause-units c =
-    all_changed takes_requests module_rests module_rests_taking c.loop-next.idle c.args.units.now c.loop-next.units c.loop-next.place c.loop-next.invariant.units (rest_still takes_requests module_rests c.loop-next.idle c.args.units.now c.loop-next.units c.loop-next.place c.loop-next.invariant.units c.loop-next.invariant.idle)
+    all_changed takes_requests module_takes_nothing module_rests_taking c.loop-next.idle.take_requests c.args.units.now c.loop-next.units c.loop-next.place c.loop-next.invariant.units
+    (rest_still takes_requests module_takes_nothing c.loop-next.idle.take_requests c.args.units.now c.loop-next.units c.loop-next.place c.loop-next.invariant.units c.loop-next.invariant.idle.take_requests)
     no_module c.in_default.ensures.none

@@ -1,13 +1,13 @@
 use Rattle.std.proofs.Common.{◌-◌, length}
 use Rattle.ultra_block.specs.ModuleSteps.{takes_requests}
-use Rattle.ultra_block.specs.Rest.{AreAtRest, module_rests}
+use Rattle.ultra_block.specs.Rest.{AreIdleModules}
 use Rattle.ultra_block.proofs.Sparse.{AreChanged}
 use Rattle.ultra_block.proofs.passes.take_module_requests.Given as goal
 
 abbrev pub invariant-loop-next : goal.invariant-loop-next
 invariant-loop-next l = record {
   units : AreChanged takes_requests l.place l.initial.units l.units;
-  idle : AreAtRest module_rests l.idle l.units;
+  idle : AreIdleModules l.idle l.units;
 }
 
 abbrev pub decreases-loop-next : goal.decreases-loop-next

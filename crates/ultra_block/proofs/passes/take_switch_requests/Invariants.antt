@@ -1,13 +1,13 @@
 use Rattle.std.proofs.Common.{◌-◌, length}
 use Rattle.ultra_block.specs.SwitchSteps.{takes_requests}
-use Rattle.ultra_block.specs.Rest.{AreAtRest, switch_rests}
+use Rattle.ultra_block.specs.Rest.{AreIdleSwitches}
 use Rattle.ultra_block.proofs.Sparse.{AreChanged}
 use Rattle.ultra_block.proofs.passes.take_switch_requests.Given as goal
 
 abbrev pub invariant-loop-next : goal.invariant-loop-next
 invariant-loop-next l = record {
   units : AreChanged (takes_requests l.cycle) l.place l.initial.units l.units;
-  idle : AreAtRest switch_rests l.idle l.units;
+  idle : AreIdleSwitches l.idle l.units;
 }
 
 abbrev pub decreases-loop-next : goal.decreases-loop-next

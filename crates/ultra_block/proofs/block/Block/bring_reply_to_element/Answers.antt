@@ -1,8 +1,9 @@
 use Rattle.std.proofs.Common.{ap, ◌∙◌, sym, subst}
 use Rattle.ultra_block.specs.ElementSteps.{IsPlaced}
-use Rattle.ultra_block.specs.Rest.{element_rests}
+use Rattle.ultra_block.specs.Rest.{element_takes_nothing, element_sends_nothing, element_posts_nothing, element_executes_nothing}
+use Rattle.ultra_block.specs.Arriving.{with_reply}
 use Rattle.ultra_block.proofs.Lent.{placed-set}
-use Rattle.ultra_block.proofs.Sparse.{rest-set-busy}
+use Rattle.ultra_block.proofs.Sparse.{rest-set-busy, rest-kept}
 use Rattle.ultra_block.proofs.block.Block.bring_reply_to_element.Goals as goal
 
 pub invariant_of-self : goal.invariant_of-self
@@ -14,7 +15,12 @@ invariant_of-self c = record {
     switches = c.self.invariant.placed.switches;
     modules = c.self.invariant.placed.modules;
   };
-  elements = rest-set-busy element_rests c.self.inside.idle.elements c.remove.new.self c.self.inside.elements.items c.args.place c.bring_reply.new.self c.self.invariant.elements c.remove.ensures.others c.remove.ensures.gone;
+  elements = record {
+    take_replies = rest-set-busy element_takes_nothing c.self.inside.idle.elements.take_replies c.remove.new.self c.self.inside.elements.items c.args.place c.bring_reply.new.self c.self.invariant.elements.take_replies c.remove.ensures.others c.remove.ensures.gone;
+    send_requests = rest-kept element_sends_nothing c.self.inside.idle.elements.send_requests (with_reply c.args.reply) (λ u h. h) c.self.inside.elements.items c.args.place c.bring_reply.new.self c.index_mut.result.now (c.bring_reply.ensures ∙ ap (with_reply c.args.reply) c.index_mut.ensures.value) c.self.invariant.elements.send_requests;
+    post_requests = rest-kept element_posts_nothing c.self.inside.idle.elements.post_requests (with_reply c.args.reply) (λ u h. h) c.self.inside.elements.items c.args.place c.bring_reply.new.self c.index_mut.result.now (c.bring_reply.ensures ∙ ap (with_reply c.args.reply) c.index_mut.ensures.value) c.self.invariant.elements.post_requests;
+    execute = rest-kept element_executes_nothing c.self.inside.idle.elements.execute (with_reply c.args.reply) (λ u h. h) c.self.inside.elements.items c.args.place c.bring_reply.new.self c.index_mut.result.now (c.bring_reply.ensures ∙ ap (with_reply c.args.reply) c.index_mut.ensures.value) c.self.invariant.elements.execute;
+  };
   switches = c.self.invariant.switches;
   modules = c.self.invariant.modules;
 }

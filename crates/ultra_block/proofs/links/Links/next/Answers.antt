@@ -1,7 +1,5 @@
-use Rattle.std.proofs.Common.{◌∙◌, sym, subst, ap, arith}
-use Rattle.std.specs.Prelude.{Option, None, length}
+use Rattle.std.proofs.Common.{◌∙◌, subst}
 use Rattle.ultra_block.specs.IdleSet.{IsNextBusy, AreAllIdle}
-use Rattle.ultra_block.specs.Machine.{is_nothing}
 use Rattle.ultra_block.proofs.Sparse.{some_of, none_of, next_link, all_empty}
 use Rattle.ultra_block.proofs.links.Links.next.Goals as goal
 

@@ -1,4 +1,4 @@
-use Rattle.std.proofs.Common.{◌∙◌, ap, refl}
+use Rattle.std.proofs.Common.{ap}
 use Rattle.std.specs.Prelude.{Option}
 use Rattle.ultra_block.specs.Machine.{is_nothing}
 use Rattle.ultra_block.proofs.Sparse.{rest-set}
