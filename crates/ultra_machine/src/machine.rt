@@ -62,8 +62,9 @@ impl Machine {
         ensures { self.new ≡ record self.old { state = next_cycle self.old.settings self.old.program self.old.state } }
     {
         self.blocks.cycle();
-        list_events(&self.blocks, &mut self.events);
-        list_stops(&self.blocks, &mut self.stops);
+        let happened = self.blocks.happened();
+        list_events(&self.blocks, &happened, &mut self.events);
+        list_stops(&self.blocks, &happened, &mut self.stops);
     }
 
     /// The same machine, cut into blocks: the partition names the block of each unit, 0 to 63. Switches come first, by stage, then modules, then processing elements. Blocks may be empty.

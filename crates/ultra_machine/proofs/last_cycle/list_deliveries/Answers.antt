@@ -1,26 +1,33 @@
-use Rattle.std.proofs.Common.{◌≡◌, ◌++◌, arith, ap, ◌∙◌}
+use Rattle.std.proofs.Common.{◌≡◌, ◌++◌, lit<, arith, ap, ◌∙◌}
 use Rattle.ultra_block.specs.Machine.{size}
 use Rattle.ultra_block.specs.Places.{places, present}
 use Rattle.ultra_block.specs.Phases.{delivery}
 use Rattle.ultra_block.specs.Whole.{deliveries}
 use Rattle.ultra_block.specs.BlocksState.{units_of_blocks}
-use Rattle.ultra_machine.proofs.Listed.{none_present, more_present}
+use Rattle.ultra_machine.proofs.Listed.{none_present, more_present, present_up_to}
 use Rattle.ultra_machine.proofs.last_cycle.list_deliveries.Goals as goal
 
 pub loop-pe-init : goal.loop-pe-init
 loop-pe-init c = record {
   listed = none_present c.args.events.now (λ p. delivery ((units_of_blocks c.args.blocks.now).element p).delivered);
+  within = omega arith;
   count = omega arith;
 }
 
+pub extend-requires : goal.extend-requires
+extend-requires c = (lit< tt, omega (arith, c.loop-pe.invariant.count, c.in-Some.ensures.some.within, c.in-Some.ensures.some.after, c.size-size.ensures.small, c.size-size.ensures.value, c.requires.room))
+
 pub loop-pe-preserved : goal.loop-pe-preserved
-loop-pe-preserved c = record {
-  listed = more_present c.args.events.now c.loop-pe.events c.extend.new.self c.loop-pe.pe (λ p. delivery ((units_of_blocks c.args.blocks.now).element p).delivered) c.delivery_event.result c.loop-pe.invariant.listed c.extend.ensures.value (c.delivery_event.ensures ∙ ap (λ r. delivery r) c.delivered.ensures);
-  count = omega (arith, c.extend.ensures.count, c.loop-pe.invariant.count);
-}
+loop-pe-preserved c =
+    let next = c.in-Some.ensures.some in
+    let here = present_up_to c.args.events.now c.loop-pe.events c.loop-pe.from c.in-Some.pe (λ p. delivery ((units_of_blocks c.args.blocks.now).element p).delivered) c.loop-pe.invariant.listed next.after (λ k p q. ap (λ m. delivery m) (c.requires.known.deliveries k (omega (arith, q, next.within, c.size-size.ensures.value)) (next.between k p q))) in
+    record {
+      listed = more_present c.args.events.now c.loop-pe.events c.extend.new.self c.in-Some.pe (λ p. delivery ((units_of_blocks c.args.blocks.now).element p).delivered) c.delivery_event.result here c.extend.ensures.value (c.delivery_event.ensures ∙ ap (λ r. delivery r) c.delivered.ensures);
+      within = omega (arith, next.within);
+      count = omega (arith, c.extend.ensures.count, c.loop-pe.invariant.count, next.after);
+    }
 
 pub returns-clause-events : goal.returns-clause-events
 unfolding deliveries
 returns-clause-events c =
-    let all : c.loop-pe.pe ≡ size c.args.blocks.now.config = omega (arith, c.size-pe-end.ensures.value, c.loop-pe-test.false, c.loop-pe.auto.pe-end) in
-    c.loop-pe.invariant.listed ∙ ap (λ n. c.args.events.now ++ present (places n (λ p. delivery ((units_of_blocks c.args.blocks.now).element p).delivered))) all
+    present_up_to c.args.events.now c.loop-pe.events c.loop-pe.from (size c.args.blocks.now.config) (λ p. delivery ((units_of_blocks c.args.blocks.now).element p).delivered) c.loop-pe.invariant.listed (omega (arith, c.loop-pe.invariant.within, c.size-size.ensures.value)) (λ k p q. ap (λ m. delivery m) (c.requires.known.deliveries k q (c.in_default.ensures.none k p (omega (arith, q, c.size-size.ensures.value)))))
