@@ -2,6 +2,7 @@
 
 ghost use Rattle.std.specs.Prelude.{◌<◌};
 
+mod cuts;
 mod rows;
 
 use crate::{Config, Machine, RawSettings};

@@ -17,7 +17,7 @@ fn faa(pe: Pe, word: Word) -> Request {
     }
 }
 
-fn answer(pe: Pe, word: Word) -> ReplyMessage {
+pub(super) fn answer(pe: Pe, word: Word) -> ReplyMessage {
     ReplyMessage {
         pe,
         cell: 0,
@@ -40,7 +40,12 @@ fn issue(rt: &impl Abort, machine: &mut Machine, cycles: u32, wanted: &[(Pe, Wor
 }
 
 /// Makes so many cycles. In the last of them requests combine: at this stage and position, that of the first processing element with that of the second.
-fn combine(rt: &impl Abort, machine: &mut Machine, cycles: u32, wanted: &[(u32, u32, Pe, Pe)]) {
+pub(super) fn combine(
+    rt: &impl Abort,
+    machine: &mut Machine,
+    cycles: u32,
+    wanted: &[(u32, u32, Pe, Pe)],
+) {
     run(rt, machine, cycles);
     let mut events = machine.events().iter();
     for &(stage, position, old, new) in wanted {
@@ -121,7 +126,7 @@ fn reply_is(rt: &impl Abort, machine: &Machine, stage: u32, position: u32, wante
 }
 
 /// The value of cell 0 at the end.
-fn ends_with(rt: &impl Abort, machine: &Machine, word: Word) {
+pub(super) fn ends_with(rt: &impl Abort, machine: &Machine, word: Word) {
     assert!(rt; machine.is_quiet());
     assert!(rt; machine.config().net().size() > 0);
     assert_eq!(rt; machine.bank(0).peek(0), Some(word));
@@ -148,7 +153,7 @@ fn two_level_tree(rt: HostRuntime) -> Result<(), Fail> {
     Ok(())
 }
 
-fn four_become_one(rt: &impl Abort, machine: &mut Machine) {
+pub(super) fn four_become_one(rt: &impl Abort, machine: &mut Machine) {
     issue(rt, machine, 3, &[(0, 1), (1, 2), (2, 3), (3, 4)]);
     combine(rt, machine, 1, &[(0, 0, 2, 0), (0, 2, 3, 1)]);
     combine(rt, machine, 1, &[(1, 0, 2, 3)]);
@@ -158,7 +163,7 @@ fn four_become_one(rt: &impl Abort, machine: &mut Machine) {
     record_is(rt, machine, 1, 0, kept(2, 3, 4));
 }
 
-fn one_becomes_four(rt: &impl Abort, machine: &mut Machine) {
+pub(super) fn one_becomes_four(rt: &impl Abort, machine: &mut Machine) {
     answer_and_serve(rt, machine, 2, &[], &[(2, 10, 0, 10)]);
     run(rt, machine, 1);
     reply_is(rt, machine, 1, 0, (2, 0));

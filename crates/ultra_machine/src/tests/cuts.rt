@@ -1,0 +1,98 @@
+//! Machines that are cut on their way: in the worked run of a tree of two levels, after five of its ten cycles.
+
+ghost use Rattle.std.specs.Prelude.{◌≡◌, ◌+◌, ◌<◌};
+ghost use Rattle.ultra_block.specs.BlocksState.{IsWhole};
+
+use super::rows::{answer, combine, ends_with, four_become_one, one_becomes_four};
+use super::{add_number, defaults, machine};
+use crate::{Blocks, Machine, PartitionFault};
+use std::process::Abort;
+use std::test::Fail;
+
+/// The machine before its sixth cycle, with the four requests on their way as one.
+fn on_its_way(rt: &(impl Abort + AllocGlobal)) -> Result<Machine, Fail> {
+    let program = add_number(rt.alloc())?;
+    let mut machine = machine(rt.alloc(), &defaults(rt.alloc(), 2), &program)?;
+    four_become_one(rt, &mut machine);
+    Ok(machine)
+}
+
+/// The machine that is given back, since this is no partition of it.
+fn given_back(
+    rt: &(impl Abort + AllocGlobal),
+    machine: Machine,
+    partition: &[u8],
+) -> Result<Machine, Fail> {
+    match machine.into_blocks(rt.alloc(), partition) {
+        Ok(_) => Err(Fail::from("cut")),
+        Err((machine, fault)) => {
+            assert_eq!(rt; fault, PartitionFault::BadPartition);
+            Ok(machine)
+        }
+    }
+}
+
+/// A machine goes on where it stood when a partition has a unit too few, or names block 64.
+#[test]
+fn bad_partitions(rt: HostRuntime) -> Result<(), Fail> {
+    let machine = on_its_way(&rt)?;
+    let machine = given_back(&rt, machine, &[0; 11])?;
+    let above = [0, 0, 0, 0, 0, 0, 0, 0, 0, 0, 0, 64];
+    let mut machine = given_back(&rt, machine, &above)?;
+    assert!(rt; machine.done() == 5);
+    combine(&rt, &mut machine, 0, &[(1, 0, 2, 3)]);
+    one_becomes_four(&rt, &mut machine);
+    ends_with(&rt, &machine, 10);
+    Ok(())
+}
+
+/// The other five cycles.
+fn make_five(blocks: &mut Blocks)
+    requires whole { IsWhole blocks.old }
+    requires done { blocks.old.done < 1000 }
+    ensures whole { IsWhole blocks.new }
+    ensures done { blocks.new.done ≡ blocks.old.done + 5 }
+    ensures settings { blocks.new.config ≡ blocks.old.config }
+{
+    blocks.cycle();
+    blocks.cycle();
+    blocks.cycle();
+    blocks.cycle();
+    blocks.cycle();
+}
+
+/// In the last cycle every processing element gets its own value.
+fn all_are_answered(rt: &impl Abort, blocks: &Blocks)
+    requires { IsWhole blocks.now }
+{
+    assert!(rt; blocks.config().stages() == 2);
+    assert_eq!(rt; blocks.delivered(0), Some(answer(0, 3)));
+    assert_eq!(rt; blocks.delivered(1), Some(answer(1, 8)));
+    assert_eq!(rt; blocks.delivered(2), Some(answer(2, 0)));
+    assert_eq!(rt; blocks.delivered(3), Some(answer(3, 4)));
+    assert_eq!(rt; blocks.bank(0).peek(0), Some(10));
+    assert!(rt; blocks.is_quiet());
+}
+
+/// The blocks make the cycles that the machine would have made.
+fn goes_on_in(rt: &(impl Abort + AllocGlobal), partition: &[u8]) -> Result<(), Fail> {
+    let machine = on_its_way(rt)?;
+    let mut blocks = match machine.into_blocks(rt.alloc(), partition) {
+        Ok(blocks) => blocks,
+        Err((_, fault)) => return Err(Fail::from(fault)),
+    };
+    assert!(rt; blocks.done() == 5);
+    make_five(&mut blocks);
+    all_are_answered(rt, &blocks);
+    Ok(())
+}
+
+#[test]
+fn stages_apart(rt: HostRuntime) -> Result<(), Fail> {
+    goes_on_in(&rt, &[0, 0, 1, 1, 2, 2, 2, 2, 3, 3, 3, 3])
+}
+
+#[test]
+fn empty_blocks(rt: HostRuntime) -> Result<(), Fail> {
+    goes_on_in(&rt, &[0, 63, 63, 0, 0, 0, 63, 63, 0, 63, 0, 63])
+}
