@@ -1,4 +1,4 @@
-use Rattle.std.proofs.Common.{◌≡◌, ℕ, ◌+◌, ◌-◌, ◌*◌, ◌/◌, ◌^◌, List, [], ◌++◌, refl, arith, ap, ◌∙◌}
+use Rattle.std.proofs.Common.{◌≡◌, ℕ, ◌+◌, ◌-◌, ◌*◌, ◌/◌, List, ◌++◌, refl, arith, ap, ◌∙◌}
 use Rattle.ultra_msg.specs.declared.Event.{Event}
 use Rattle.ultra_route.proofs.Table.{sizes}
 use Rattle.ultra_block.specs.Machine.{size}

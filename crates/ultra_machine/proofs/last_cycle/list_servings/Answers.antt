@@ -1,6 +1,5 @@
-use Rattle.std.proofs.Common.{◌≡◌, ◌++◌, lit<, arith, ap, ◌∙◌}
+use Rattle.std.proofs.Common.{lit<, arith, ap, ◌∙◌}
 use Rattle.ultra_block.specs.Machine.{size}
-use Rattle.ultra_block.specs.Places.{places, present}
 use Rattle.ultra_block.specs.Phases.{serving}
 use Rattle.ultra_block.specs.Whole.{servings}
 use Rattle.ultra_block.specs.BlocksState.{units_of_blocks}

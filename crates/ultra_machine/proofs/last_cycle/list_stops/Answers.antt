@@ -1,6 +1,5 @@
-use Rattle.std.proofs.Common.{List, [], length, ◌≡◌, ◌++◌, lit<, arith, ap, ◌∙◌}
+use Rattle.std.proofs.Common.{List, [], length, lit<, arith, ap, ◌∙◌}
 use Rattle.ultra_block.specs.Machine.{size}
-use Rattle.ultra_block.specs.Places.{places, present}
 use Rattle.ultra_block.specs.declared.Stop.{Stop}
 use Rattle.ultra_block.specs.Whole.{whole, all_stops}
 use Rattle.ultra_block.specs.BlocksState.{units_of_blocks}
