@@ -1,9 +1,9 @@
 -- tables that units write their entries into, one unit after the other
-use Rattle.std.proofs.Common.{◌≡◌, ℕ, ◌+◌, ◌<◌, List, [], ◌∷◌, ◌++◌, Bool, refl, ap, ◌∙◌, sym, length, get_or, set, take, append_assoc}
+use Rattle.std.proofs.Common.{◌≡◌, ℕ, ◌+◌, ◌<◌, List, [], ◌∷◌, ◌++◌, Bool, true, refl, ap, ◌∙◌, sym, length, get_or, set, take, append_assoc}
 use Rattle.std.specs.List.{flat_map}
 use Rattle.std.proofs.lemmas.List.{take_more, append-nil}
 use Rattle.ultra_block.specs.RoomTable.{RoomTable}
-use Rattle.ultra_block.specs.Tables.{Entry, written}
+use Rattle.ultra_block.specs.Tables.{Entry, written, all_open}
 use Rattle.ultra_block.proofs.Mapped.{changed, next_is}
 
 pub written-append : {X : Type 0} (es fs : List (Entry X)) (t : List X) → written (es ++ fs) t ≡ written fs (written es t)
@@ -37,3 +37,11 @@ pub same_table_of : {a b x y p q : List Bool} → a ≡ b → x ≡ y → p ≡ 
 same_table_of {a} {b} {x} {y} {p} {q} e k g =
     let f : List Bool → List Bool → List Bool → RoomTable = λ r s t. record { replies = r; requests = s; modules = t } in
     ap (λ r. f r x p) e ∙ ap (λ s. f b s p) k ∙ ap (λ t. f b y t) g
+
+-- where all has room, nothing changes when all gets room
+open_twice : (t : List Bool) → all_open (all_open t) ≡ all_open t
+open_twice [] = refl
+open_twice (b ∷ t) = ap (λ bs. true ∷ bs) (open_twice t)
+
+pub opened : (t now : List Bool) → now ≡ all_open t → now ≡ all_open now
+opened t now is = is ∙ sym (ap (λ bs. all_open bs) is ∙ open_twice t)

@@ -1,5 +1,5 @@
 -- tables by number that units write their entries into: where there is room, and the messages between the units
-use Rattle.std.specs.Prelude.{ℕ, ◌+◌, List, [], ◌∷◌, Bool, true, not, Option, Some, None, map, slice_index_or, slice_set}
+use Rattle.std.specs.Prelude.{◌≡◌, false, ℕ, ◌+◌, List, [], ◌∷◌, Bool, true, not, Option, Some, None, map, slice_index_or, slice_set}
 use Rattle.std.specs.List.{filter}
 use Rattle.ultra_msg.specs.declared.Request.{Request}
 use Rattle.ultra_msg.specs.declared.ReplyMessage.{ReplyMessage}
@@ -26,6 +26,10 @@ written (e ∷ es) t = written es (slice_set t e.0 e.1)
 -- a table that says of each place that it has room
 abbrev pub all_open : List Bool → List Bool
 all_open t = map (λ _. true) t
+
+-- all places have room, unless it is said that one may have none
+abbrev pub IsOpenUnless : Bool → RoomTable → Type 0
+IsOpenUnless closed rooms = closed ≡ false → rooms ≡ record { replies = all_open rooms.replies; requests = all_open rooms.requests; modules = all_open rooms.modules }
 
 -- of the entries of places, those of places without room; of the entries of links, those with a message
 abbrev pub closed : List (Entry Bool) → List (Entry Bool)

@@ -1,7 +1,7 @@
 //! Where there is room at the start of a phase.
 
 ghost use Rattle.ultra_block.specs.Cut.{HasPlaces};
-ghost use Rattle.std.specs.Prelude.{◌≡◌, ℕ, ◌^◌, ◌*◌, ◌-◌, ◌∷◌, [], IfOk, false, slice_index_or, replicate};
+ghost use Rattle.std.specs.Prelude.{◌≡◌, ℕ, ◌^◌, ◌*◌, ◌-◌, ◌∷◌, [], IfOk, false, slice_index_or, slice_set, replicate};
 ghost use Rattle.ultra_block.specs.Tables.{all_open, closed, written};
 
 use std::alloc::{AllocError, Global};
@@ -14,14 +14,19 @@ pub struct Rooms {
     replies: Vec<bool>,
     requests: Vec<bool>,
     modules: Vec<bool>,
+    // while this is not set, all of them have room
+    has_closed: bool,
 }
 
 impl Model for Rooms {
     ghost use Rattle.ultra_block.specs.RoomTable.{RoomTable};
+    ghost use Rattle.ultra_block.specs.Tables.{IsOpenUnless};
 
     ghost Value = { RoomTable };
 
     ghost view = { λ r. record { replies = r.replies.items; requests = r.requests.items; modules = r.modules.items } };
+
+    ghost invariant = { λ r. IsOpenUnless r.has_closed record { replies = r.replies.items; requests = r.requests.items; modules = r.modules.items } };
 }
 
 impl Rooms {
@@ -35,6 +40,7 @@ impl Rooms {
             replies: vec![in alloc; false; stages * (size / 2)]?,
             requests: vec![in alloc; false; stages * size]?,
             modules: vec![in alloc; false; size]?,
+            has_closed: true,
         })
     }
 
@@ -63,30 +69,42 @@ impl Rooms {
     pub(crate) fn open_all(&mut self)
         ensures { self.new ≡ record { replies = all_open self.old.replies; requests = all_open self.old.requests; modules = all_open self.old.modules } }
     {
-        open_places(self.replies.as_mut_slice());
-        open_places(self.requests.as_mut_slice());
-        open_places(self.modules.as_mut_slice());
+        if self.has_closed {
+            open_places(self.replies.as_mut_slice());
+            open_places(self.requests.as_mut_slice());
+            open_places(self.modules.as_mut_slice());
+            self.has_closed = false;
+        }
     }
 
     /// Notes of the switch of this number if it has no room for replies.
     pub(crate) fn note_replies(&mut self, number: usize, has_room: bool)
         ensures { self.new ≡ record self.old { replies = written (closed ((number, has_room) ∷ [])) self.old.replies } }
     {
-        close_unless(has_room, self.replies.as_mut_slice(), number);
+        if !has_room {
+            close(self.replies.as_mut_slice(), number);
+            self.has_closed = true;
+        }
     }
 
     /// Notes of the queue toward memory of this number if it has no room for requests.
     pub(crate) fn note_requests(&mut self, number: usize, has_room: bool)
         ensures { self.new ≡ record self.old { requests = written (closed ((number, has_room) ∷ [])) self.old.requests } }
     {
-        close_unless(has_room, self.requests.as_mut_slice(), number);
+        if !has_room {
+            close(self.requests.as_mut_slice(), number);
+            self.has_closed = true;
+        }
     }
 
     /// Notes of the module of this number if it takes no request.
     pub(crate) fn note_module(&mut self, number: usize, has_room: bool)
         ensures { self.new ≡ record self.old { modules = written (closed ((number, has_room) ∷ [])) self.old.modules } }
     {
-        close_unless(has_room, self.modules.as_mut_slice(), number);
+        if !has_room {
+            close(self.modules.as_mut_slice(), number);
+            self.has_closed = true;
+        }
     }
 }
 
@@ -99,11 +117,11 @@ fn open_places(notes: &mut [bool])
     }
 }
 
-/// The place of this number has no room, if it is so and there is one.
-fn close_unless(has_room: bool, notes: &mut [bool], number: usize)
-    ensures { notes.new ≡ written (closed ((number, has_room) ∷ [])) notes.old }
+/// The place of this number has no room, if there is one.
+fn close(notes: &mut [bool], number: usize)
+    ensures { notes.new ≡ slice_set notes.old number false }
 {
-    if !has_room && number < notes.len() {
+    if number < notes.len() {
         notes[number] = false;
     }
 }
