@@ -1,4 +1,4 @@
--- a unit at rest is as it was after each half of a cycle
+-- a unit in which a step of a cycle finds nothing to do is as it was after it
 use Rattle.std.proofs.Common.{◌≡◌, ℕ, ◌+◌, ◌-◌, ◌^◌, List, [], ◌∷◌, ◌++◌, Bool, true, false, refl, ap, ◌∙◌, sym, arith, ◌%◌, get_or}
 use Rattle.std.specs.Prelude.{◌&&◌, ◌==◌, Option, Some, None, slice_get}
 use Rattle.std.proofs.lemmas.List.{append-nil}

@@ -3,7 +3,7 @@ use Rattle.std.proofs.Common.{◌≡◌, ◌≢◌, ℕ, zero, suc, ◌+◌, ◌
 use Rattle.std.specs.Prelude.{map, All, Option, Some, None, IfSome, IfNone}
 use Rattle.std.specs.List.{flat_map}
 use Rattle.std.proofs.lemmas.Bool.{cases_eq}
-use Rattle.std.proofs.lemmas.List.{length-map, length-set, get_or-map, get_or-set_same, get_or-set_other, take_more, take_all, drop_more, map-append, append_assoc}
+use Rattle.std.proofs.lemmas.List.{length-set, get_or-set_same, get_or-set_other, take_more, take_all, drop_more, map-append, append_assoc}
 use Rattle.ultra_block.specs.IdleSet.{is_idle, IsNextBusy, AreAllIdle}
 use Rattle.ultra_block.specs.Machine.{is_nothing}
 use Rattle.ultra_block.specs.MailTable.{AreEmptyFrom, IsNextLink}
@@ -143,15 +143,6 @@ module _ {X : Type 0} (f : X → X) where
         let same = long xs ys i w in
         let within = w.within in
         all_done f xs ys (i + (length xs - i)) (omega (arith, within)) (idle_left (length xs - i) d (omega (arith, within)) (λ k p q. is k p (omega (arith, q, within, same))))
-
-  -- they are still at rest when all are changed
-  pub at_rest-map : (rests : X → Bool) (stays : (x : X) → rests x ≡ true → f x ≡ x) (idle : List ℕ) (xs : List X) → AreAtRest rests idle xs → AreAtRest rests idle (map f xs)
-  unfolding AreAtRest
-  at_rest-map rests stays idle xs a k d h i =
-      let there : k < length xs = omega (arith, h, length-map xs f) in
-      let x = get_or xs k d in
-      let at = a k d there i in
-      subst (λ y. rests y ≡ true) (sym (get_or-map f xs k d d there ∙ stays x at)) at
 
 -- ---- tables that units write entries into, where those at rest write none
 module _ {U X : Type 0} (g : U → List (Entry X)) (rests : U → Bool) (none : (u : U) → rests u ≡ true → g u ≡ []) (idle : List ℕ) (us : List U) (i : ℕ) (t : List X) (a : RestFrom rests idle i us) where

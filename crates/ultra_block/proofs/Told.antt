@@ -1,6 +1,5 @@
 -- units that are told of one after the other, where those that are known to be idle have nothing to tell
 use Rattle.std.proofs.Common.{◌≡◌, ◌≢◌, ℕ, ◌+◌, ◌<◌, List, Bool, true, false, arith, ap, ◌∙◌, sym, length, get_or, ⊎_elim, inl, inr, subst}
-use Rattle.std.specs.Prelude.{◌&&◌}
 use Rattle.std.proofs.lemmas.Bool.{cases_eq, cases_lt}
 use Rattle.std.proofs.lemmas.List.{get_or_default}
 use Rattle.ultra_block.specs.IdleSet.{is_idle, IsNextBusy, AreAllIdle}
@@ -72,8 +71,3 @@ module _ {U : Type 0} (kind : BlockState → List U) (number_of : U → ℕ) (ha
             subst (λ us. has_nothing (get_or us i d) ≡ true) (sym same)
             (t.told i d (subst (λ us. i < length us) same there) (subst (λ us. is_idle new (number_of (get_or us i d)) ≡ true) same known))
       ]
-
--- the second of two truths
-pub second : (a b : Bool) → (a && b) ≡ true → b ≡ true
-second true b h = h
-second false b h = cc

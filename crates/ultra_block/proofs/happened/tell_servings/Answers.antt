@@ -2,7 +2,8 @@ use Rattle.std.proofs.Common.{refl}
 use Rattle.ultra_block.specs.Machine.{is_nothing}
 use Rattle.ultra_block.specs.Rest.{module_serves_nothing}
 use Rattle.ultra_block.specs.Happened.{number_of_module, served_nothing}
-use Rattle.ultra_block.proofs.Told.{told_none, told_next, told_all, second}
+use Rattle.ultra_block.proofs.Rest.{both_of}
+use Rattle.ultra_block.proofs.Told.{told_none, told_next, told_all}
 use Rattle.ultra_block.proofs.happened.tell_servings.Goals as goal
 
 pub loop-next-init : goal.loop-next-init
@@ -10,8 +11,8 @@ loop-next-init c = told_none number_of_module module_serves_nothing served_nothi
 
 pub loop-next-preserved : goal.loop-next-preserved
 loop-next-preserved c =
-    told_next number_of_module module_serves_nothing served_nothing c.args.units.now c.args.told.now (λ u h. second (is_nothing u.bank.inp) (served_nothing u) h) c.args.idle.now.serve c.requires.serve
+    told_next number_of_module module_serves_nothing served_nothing c.args.units.now c.args.told.now (λ u h. (both_of (is_nothing u.bank.inp) (served_nothing u) h).1) c.args.idle.now.serve c.requires.serve
     c.loop-next.place c.in-Some.next _ c.index-units-next.result c.loop-next.told c.remove.new.self c.loop-next.invariant c.in-Some.ensures.some c.remove.ensures.others c.remove.ensures.gone refl
 
 pub returns : goal.returns
-returns c = told_all number_of_module module_serves_nothing served_nothing c.args.units.now c.args.told.now (λ u h. second (is_nothing u.bank.inp) (served_nothing u) h) c.args.idle.now.serve c.requires.serve c.loop-next.place c.loop-next.told c.loop-next.invariant c.in_default.ensures.none
+returns c = told_all number_of_module module_serves_nothing served_nothing c.args.units.now c.args.told.now (λ u h. (both_of (is_nothing u.bank.inp) (served_nothing u) h).1) c.args.idle.now.serve c.requires.serve c.loop-next.place c.loop-next.told c.loop-next.invariant c.in_default.ensures.none

@@ -2,7 +2,8 @@ use Rattle.std.proofs.Common.{refl}
 use Rattle.ultra_isa.specs.Step.{has_stopped}
 use Rattle.ultra_block.specs.Rest.{element_executes_nothing}
 use Rattle.ultra_block.specs.Happened.{number_of_element, did_nothing}
-use Rattle.ultra_block.proofs.Told.{told_none, told_next, told_all, second}
+use Rattle.ultra_block.proofs.Rest.{both_of}
+use Rattle.ultra_block.proofs.Told.{told_none, told_next, told_all}
 use Rattle.ultra_block.proofs.happened.tell_steps.Goals as goal
 
 pub loop-next-init : goal.loop-next-init
@@ -10,8 +11,8 @@ loop-next-init c = told_none number_of_element element_executes_nothing did_noth
 
 pub loop-next-preserved : goal.loop-next-preserved
 loop-next-preserved c =
-    told_next number_of_element element_executes_nothing did_nothing c.args.units.now c.args.told.now (λ u h. second (has_stopped u.element.processor.core.activity) (did_nothing u) h) c.args.idle.now.execute c.requires.execute
+    told_next number_of_element element_executes_nothing did_nothing c.args.units.now c.args.told.now (λ u h. (both_of (has_stopped u.element.processor.core.activity) (did_nothing u) h).1) c.args.idle.now.execute c.requires.execute
     c.loop-next.place c.in-Some.next _ c.index-units-next.result c.loop-next.told c.remove.new.self c.loop-next.invariant c.in-Some.ensures.some c.remove.ensures.others c.remove.ensures.gone refl
 
 pub returns : goal.returns
-returns c = told_all number_of_element element_executes_nothing did_nothing c.args.units.now c.args.told.now (λ u h. second (has_stopped u.element.processor.core.activity) (did_nothing u) h) c.args.idle.now.execute c.requires.execute c.loop-next.place c.loop-next.told c.loop-next.invariant c.in_default.ensures.none
+returns c = told_all number_of_element element_executes_nothing did_nothing c.args.units.now c.args.told.now (λ u h. (both_of (has_stopped u.element.processor.core.activity) (did_nothing u) h).1) c.args.idle.now.execute c.requires.execute c.loop-next.place c.loop-next.told c.loop-next.invariant c.in_default.ensures.none
