@@ -8,7 +8,8 @@ use Rattle.ultra_block.specs.MailTable.{MailTable}
 use Rattle.ultra_block.specs.BlockState.{BlockState}
 use Rattle.ultra_block.specs.Cut.{no_switch, no_module, no_element, units_at, home_at, module_home, element_home}
 use Rattle.ultra_block.specs.Ready.{IsReady}
-use Rattle.ultra_block.specs.Happened.{Uneventful, AreAllTold, IsKnown, did_nothing}
+use Rattle.ultra_block.specs.Happened.{Uneventful, AreAllTold, IsKnown}
+use Rattle.ultra_block.specs.Rest.{did_nothing}
 use Rattle.ultra_block.specs.declared.home.Home.{Home}
 use Rattle.ultra_block.specs.declared.element_unit.ElementUnit.{ElementUnit}
 use Rattle.ultra_block.proofs.Standing.{number_small}

@@ -1,6 +1,6 @@
 -- units of which nothing is known
 use Rattle.std.specs.Prelude.{List}
-use Rattle.ultra_block.specs.Rest.{AreIdleSwitches, AreIdleModules, AreIdleElements, AreNoSwitchesIdle, AreNoModulesIdle, AreNoElementsIdle, sends_no_reply, posts_no_reply, takes_no_reply, sends_no_request, posts_no_request, takes_no_request, has_all_rooms, module_sends_nothing, module_posts_nothing, module_serves_nothing, module_takes_nothing, element_takes_nothing, element_sends_nothing, element_posts_nothing, element_executes_nothing}
+use Rattle.ultra_block.specs.Rest.{did_nothing, AreIdleSwitches, AreIdleModules, AreIdleElements, AreNoSwitchesIdle, AreNoModulesIdle, AreNoElementsIdle, sends_no_reply, posts_no_reply, takes_no_reply, sends_no_request, posts_no_request, takes_no_request, has_all_rooms, module_sends_nothing, module_posts_nothing, module_serves_nothing, module_takes_nothing, element_takes_nothing, element_sends_nothing, element_posts_nothing, element_executes_nothing}
 use Rattle.ultra_block.specs.declared.idle.IdleSwitches.{IdleSwitches}
 use Rattle.ultra_block.specs.declared.idle.IdleModules.{IdleModules}
 use Rattle.ultra_block.specs.declared.idle.IdleElements.{IdleElements}
@@ -34,4 +34,5 @@ no_elements idle none us = record {
   send_requests = rest_none element_sends_nothing idle.send_requests us none.send_requests;
   post_requests = rest_none element_posts_nothing idle.post_requests us none.post_requests;
   execute = rest_none element_executes_nothing idle.execute us none.execute;
+  tell_steps = rest_none did_nothing idle.tell_steps us none.tell_steps;
 }

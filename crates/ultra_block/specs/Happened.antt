@@ -1,9 +1,9 @@
 -- where something may have happened in the last cycle, as sets of numbers: of all other units it is known that nothing has
-use Rattle.std.specs.Prelude.{◌≡◌, ℕ, ◌-◌, ◌^◌, ◌<◌, List, Bool, true, ◌&&◌, None, slice_index_or, length}
+use Rattle.std.specs.Prelude.{◌≡◌, ℕ, ◌-◌, ◌^◌, ◌<◌, List, Bool, true, None, slice_index_or, length}
 use Rattle.ultra_block.specs.Machine.{Settings, is_nothing, size}
 use Rattle.ultra_block.specs.Numbers.{switch_number}
 use Rattle.ultra_block.specs.IdleSet.{is_idle}
-use Rattle.ultra_block.specs.Rest.{has_not_combined}
+use Rattle.ultra_block.specs.Rest.{did_nothing, has_not_combined}
 use Rattle.ultra_block.specs.BlockState.{BlockState}
 use Rattle.ultra_block.specs.Whole.{Units}
 use Rattle.ultra_block.specs.Cut.{switches_of, modules_of, elements_of}
@@ -39,9 +39,6 @@ got_nothing u = is_nothing u.delivered
 
 abbrev pub served_nothing : ModuleUnit → Bool
 served_nothing u = is_nothing u.served
-
-abbrev pub did_nothing : ElementUnit → Bool
-did_nothing u = is_nothing u.issue && is_nothing u.stop
 
 -- of the units of a block
 pub record IsTold (b : BlockState) (old new : Uneventful) : Type 0 where

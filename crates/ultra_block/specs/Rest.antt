@@ -76,8 +76,12 @@ element_posts_nothing u = is_nothing u.request_out
 abbrev pub element_sends_nothing : ElementUnit → Bool
 element_sends_nothing u = has_none u.element.interface.interface.pending && element_posts_nothing u
 
+-- it neither issued a request nor faulted in the last cycle
+abbrev pub did_nothing : ElementUnit → Bool
+did_nothing u = is_nothing u.issue && is_nothing u.stop
+
 abbrev pub element_executes_nothing : ElementUnit → Bool
-element_executes_nothing u = has_stopped u.element.processor.core.activity && (is_nothing u.issue && is_nothing u.stop)
+element_executes_nothing u = has_stopped u.element.processor.core.activity && did_nothing u
 
 -- ---- sets of places
 -- of the units of a list, those that are known to be idle are at rest
@@ -105,6 +109,7 @@ pub record AreIdleElements (idle : IdleElements) (us : List ElementUnit) : Type 
   pub send_requests : AreAtRest element_sends_nothing idle.send_requests us
   pub post_requests : AreAtRest element_posts_nothing idle.post_requests us
   pub execute : AreAtRest element_executes_nothing idle.execute us
+  pub tell_steps : AreAtRest did_nothing idle.tell_steps us
 
 -- of no unit anything is known
 abbrev pub IsEmpty : List ℕ → Type 0
@@ -130,6 +135,7 @@ pub record AreNoElementsIdle (idle : IdleElements) : Type 0 where
   pub send_requests : IsEmpty idle.send_requests
   pub post_requests : IsEmpty idle.post_requests
   pub execute : IsEmpty idle.execute
+  pub tell_steps : IsEmpty idle.tell_steps
 
 -- nothing is known of the units of a block
 pub record IsNoneIdle (idle : Idle) : Type 0 where

@@ -29,7 +29,7 @@ pub struct ElementUnit {
 impl ElementUnit {
     ghost use Rattle.ultra_block.specs.ElementSteps.{CanExecute, CanTakeReplies, IsPlaced, executes, sends_requests, takes_replies};
     ghost use Rattle.ultra_block.specs.Quiet.{quiet_element};
-    ghost use Rattle.ultra_block.specs.Rest.{element_executes_nothing, element_posts_nothing, element_sends_nothing, element_takes_nothing};
+    ghost use Rattle.ultra_block.specs.Rest.{did_nothing, element_executes_nothing, element_posts_nothing, element_sends_nothing, element_takes_nothing};
     ghost use Rattle.ultra_block.specs.Arriving.{with_reply};
     ghost use Rattle.ultra_block.specs.Tables.{element_requests, without_request_out, written};
 
@@ -127,11 +127,19 @@ impl ElementUnit {
         self.reply_in.is_none() && self.delivered.is_none()
     }
 
+    /// Whether it neither issued a request nor faulted in the last cycle.
+    #[inline(always)]
+    pub(crate) fn did_nothing(&self) -> bool
+        ensures { result ≡ did_nothing self.now }
+    {
+        self.issue.is_none() && self.stop.is_none()
+    }
+
     /// Whether it has stopped, and neither issued a request nor faulted in the last cycle.
     #[inline(always)]
     pub(crate) fn executes_nothing(&self) -> bool
         ensures { result ≡ element_executes_nothing self.now }
     {
-        self.element.processor.has_stopped() && self.issue.is_none() && self.stop.is_none()
+        self.element.processor.has_stopped() && self.did_nothing()
     }
 }

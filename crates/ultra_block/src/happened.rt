@@ -1,9 +1,9 @@
 //! Where something has happened in the last cycle of a whole machine.
 
 ghost use Rattle.std.specs.Prelude.{◌≡◌, ℕ, ◌<◌, true, All, IfNone, IfSome};
-ghost use Rattle.ultra_block.specs.Happened.{AreTold, did_nothing, got_nothing, number_of_element, number_of_module, number_of_switch, served_nothing};
+ghost use Rattle.ultra_block.specs.Happened.{AreTold, got_nothing, number_of_element, number_of_module, number_of_switch, served_nothing};
 ghost use Rattle.ultra_block.specs.IdleSet.{AreAllIdle, IsNextBusy, is_idle};
-ghost use Rattle.ultra_block.specs.Rest.{AreIdleElements, AreIdleModules, AreIdleSwitches, has_not_combined};
+ghost use Rattle.ultra_block.specs.Rest.{AreIdleElements, AreIdleModules, AreIdleSwitches, did_nothing, has_not_combined};
 ghost use Rattle.ultra_block.specs.SwitchSteps as switch;
 
 use crate::element_unit::ElementUnit;
@@ -139,7 +139,7 @@ pub(crate) fn tell_steps(units: &[ElementUnit], idle: &IdleElements, told: &mut 
     ensures { AreTold number_of_element did_nothing units.now told.old told.new }
 {
     let mut place = 0;
-    while let Some(next) = idle.execute.next_busy(place, units.len()) {
+    while let Some(next) = idle.tell_steps.next_busy(place, units.len()) {
         told.remove(units[next].pe as usize);
         place = next + 1;
     }

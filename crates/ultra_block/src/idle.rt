@@ -97,8 +97,10 @@ pub(crate) struct IdleElements {
     pub(crate) send_requests: IdleSet,
     /// No request leaves.
     pub(crate) post_requests: IdleSet,
-    /// It has stopped, and not in the last cycle.
+    /// It has stopped, and neither issued a request nor faulted in the last cycle.
     pub(crate) execute: IdleSet,
+    /// It neither issued a request nor faulted in the last cycle.
+    pub(crate) tell_steps: IdleSet,
 }
 
 impl IdleElements {
@@ -111,6 +113,7 @@ impl IdleElements {
             send_requests: IdleSet::new(),
             post_requests: IdleSet::new(),
             execute: IdleSet::new(),
+            tell_steps: IdleSet::new(),
         }
     }
 }

@@ -26,8 +26,6 @@ mod replies;
 mod requests;
 mod rooms;
 mod switch_unit;
-#[cfg(test)]
-mod tests;
 
 pub use block::Block;
 pub use blocks::{Blocks, MOST_BLOCKS, PartitionFault};

@@ -192,6 +192,7 @@ pub(crate) fn execute_elements(
         let unit = &mut units[next];
         unit.execute(program);
         idle.execute.note(next, unit.executes_nothing());
+        idle.tell_steps.note(next, unit.did_nothing());
         idle.send_requests.note(next, unit.sends_nothing());
         place = next + 1;
     }

@@ -7,7 +7,7 @@ ghost use Rattle.ultra_switch.specs.Arrive.{arrive, combine_within};
 ghost use Rattle.ultra_switch.specs.Queues.{request_of};
 ghost use Rattle.ultra_block.specs.Places.{after_leaving};
 ghost use Rattle.ultra_block.specs.RoomTable.{exit_of, request_from, request_room as room_at, request_sent};
-ghost use Rattle.ultra_block.specs.Halves.{combination_event, combined_at, combined_both, coming_to, first_of, has_place_for, lane_with, lane_with_both, lane_without, leaves_by, second_of};
+ghost use Rattle.ultra_block.specs.Halves.{combination_event, combined_at, coming_to, first_of, lane_with, lane_without, leaves_by, second_of};
 
 use crate::numbers::place_number;
 use crate::rooms::Rooms;
@@ -101,48 +101,38 @@ fn take_request(to_mm: &mut ToMm, stage: u32, position: u32, request: Request) -
     }
 }
 
-/// What came to a port of the switch goes to the queue at port `port`, if that is its way. Its combination, if there is one.
-fn take_if_due(
-    to_mm: &mut ToMm,
+/// What came to a port of the switch goes to the queue by which it leaves the stage. Its combination, if there is one, goes to the place of that queue's port; nothing is noted yet in the two places.
+pub(crate) fn take_due(
+    to_mm: &mut Ports<ToMm>,
     net: Net,
     stage: u32,
-    port: u32,
-    position: u32,
+    index: u32,
     request: Option<Request>,
-) -> Option<Event>
+    zero: &mut Option<Event>,
+    one: &mut Option<Event>,
+)
     requires stage { stage < net }
-    requires room { ForSome request (λ r. IsTrue (leaves_by net stage port r) → length to_mm.old.lane.queue < to_mm.old.request_places) }
-    ensures lane { to_mm.new ≡ lane_with to_mm.old (coming_to net stage port request) }
-    ensures longer { length to_mm.new.lane.queue ≤ length to_mm.old.lane.queue + 1 }
-    ensures combined { result ≡ combined_at net stage port position to_mm.old request }
+    requires index { index < 2 ^ (net - 1) }
+    requires room_zero { ForSome request (λ r. IsTrue (leaves_by net stage 0 r) → length to_mm.old.zero.lane.queue < to_mm.old.zero.request_places) }
+    requires room_one { ForSome request (λ r. IsTrue (leaves_by net stage 1 r) → length to_mm.old.one.lane.queue < to_mm.old.one.request_places) }
+    requires none_zero { zero.old ≡ None }
+    requires none_one { one.old ≡ None }
+    ensures zero { to_mm.new.zero ≡ lane_with to_mm.old.zero (coming_to net stage 0 request) }
+    ensures one { to_mm.new.one ≡ lane_with to_mm.old.one (coming_to net stage 1 request) }
+    ensures longer_zero { length to_mm.new.zero.lane.queue ≤ length to_mm.old.zero.lane.queue + 1 }
+    ensures longer_one { length to_mm.new.one.lane.queue ≤ length to_mm.old.one.lane.queue + 1 }
+    ensures combined_zero { zero.new ≡ combined_at net stage 0 (2 * index) to_mm.old.zero request }
+    ensures combined_one { one.new ≡ combined_at net stage 1 (2 * index + 1) to_mm.old.one request }
 {
-    let request = request?;
-    if exit(net, stage, request) == port {
-        take_request(to_mm, stage, position, request)
+    let Some(request) = request else {
+        return;
+    };
+    let _even = net.size();
+    if exit(net, stage, request) == 0 {
+        *zero = take_request(&mut to_mm.zero, stage, 2 * index, request);
     } else {
-        None
+        *one = take_request(&mut to_mm.one, stage, 2 * index + 1, request);
     }
-}
-
-/// What came to the two ports of the switch goes to the queue at port `port`, if that is its way, `first` before `second`. Their combinations.
-pub(crate) fn take_both(
-    to_mm: &mut ToMm,
-    net: Net,
-    stage: u32,
-    port: u32,
-    position: u32,
-    first: Option<Request>,
-    second: Option<Request>,
-) -> Ports<Option<Event>>
-    requires stage { stage < net }
-    requires first { ForSome first (λ r. IsTrue (leaves_by net stage port r) → IsTrue (has_place_for 2 to_mm.old)) }
-    requires second { ForSome second (λ r. IsTrue (leaves_by net stage port r) → IsTrue (has_place_for 2 to_mm.old)) }
-    ensures lane { to_mm.new ≡ lane_with_both net stage port to_mm.old first second }
-    ensures combined { result ≡ combined_both net stage port position to_mm.old first second }
-{
-    let zero = take_if_due(to_mm, net, stage, port, position, first);
-    let one = take_if_due(to_mm, net, stage, port, position, second);
-    Ports { zero, one }
 }
 
 /// Of what came to the two ports of a switch, what goes first in this cycle, and what goes second: port 0 goes first in even cycles, port 1 in odd ones.

@@ -9,7 +9,7 @@ ghost use Rattle.ultra_block.specs.Rest.{is_nothing_at};
 use crate::mail::Mail;
 use crate::numbers::{place_number, switch_number};
 use crate::replies::{leave_where, take_reply};
-use crate::requests::{in_order, send_on, take_both};
+use crate::requests::{in_order, send_on, take_due};
 use crate::rooms::Rooms;
 use ultra_msg::{Event, ReplyMessage, Request};
 use ultra_route::Net;
@@ -105,19 +105,42 @@ impl SwitchUnit {
         requires room { CanTakeRequests self.old }
         ensures { self.new ≡ takes_requests cycle self.old }
     {
-        let (net, stage) = (self.net, self.stage);
-        let _even = net.size();
-        let position = 2 * self.index;
+        let (net, stage, index) = (self.net, self.stage, self.index);
         let (first, second) = in_order(cycle, self.requests_in);
         self.requests_in = Ports {
             zero: None,
             one: None,
         };
-        let to_mm = &mut self.switch.to_mm;
         self.combined = Ports {
-            zero: take_both(&mut to_mm.zero, net, stage, 0, position, first, second),
-            one: take_both(&mut to_mm.one, net, stage, 1, position + 1, first, second),
+            zero: Ports {
+                zero: None,
+                one: None,
+            },
+            one: Ports {
+                zero: None,
+                one: None,
+            },
         };
+        let to_mm = &mut self.switch.to_mm;
+        let Ports { zero, one } = &mut self.combined;
+        take_due(
+            to_mm,
+            net,
+            stage,
+            index,
+            first,
+            &mut zero.zero,
+            &mut one.zero,
+        );
+        take_due(
+            to_mm,
+            net,
+            stage,
+            index,
+            second,
+            &mut zero.one,
+            &mut one.one,
+        );
     }
 
     /// Notes whether the switch has room for replies, and each of its queues toward memory for requests.

@@ -1,9 +1,11 @@
-//! Worked runs of two stages, and machines that are cut on their way.
+//! Settings, worked runs of two stages, and machines that are cut into blocks.
 
 ghost use Rattle.std.specs.Prelude.{◌<◌};
 
 mod cuts;
+mod partitions;
 mod rows;
+mod settings;
 
 use crate::{Config, Machine, RawSettings};
 use std::alloc::Global;

@@ -133,7 +133,7 @@ pub(super) fn ends_with(rt: &impl Abort, machine: &Machine, word: Word) {
 }
 
 /// A record of requests for cell 0, of which the second gets so much more than the first.
-fn kept(pe: Pe, partner: Pe, more: Word) -> WaitRecord {
+pub(super) fn kept(pe: Pe, partner: Pe, more: Word) -> WaitRecord {
     WaitRecord {
         pe,
         cell: 0,

@@ -1,7 +1,8 @@
 use Rattle.std.proofs.Common.{arith}
 use Rattle.ultra_block.specs.Rest.{has_not_combined}
 use Rattle.ultra_block.specs.Cut.{switches_of, modules_of, elements_of}
-use Rattle.ultra_block.specs.Happened.{number_of_switch, number_of_module, number_of_element, got_nothing, served_nothing, did_nothing}
+use Rattle.ultra_block.specs.Happened.{number_of_switch, number_of_module, number_of_element, got_nothing, served_nothing}
+use Rattle.ultra_block.specs.Rest.{did_nothing}
 use Rattle.ultra_block.proofs.Told.{no_block_told, block_told}
 use Rattle.ultra_block.proofs.every_block.tell_all.Goals as goal
 

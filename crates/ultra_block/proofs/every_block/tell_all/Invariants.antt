@@ -1,6 +1,7 @@
 use Rattle.ultra_block.specs.Rest.{has_not_combined}
 use Rattle.ultra_block.specs.Cut.{switches_of, modules_of, elements_of}
-use Rattle.ultra_block.specs.Happened.{number_of_switch, number_of_module, number_of_element, got_nothing, served_nothing, did_nothing}
+use Rattle.ultra_block.specs.Happened.{number_of_switch, number_of_module, number_of_element, got_nothing, served_nothing}
+use Rattle.ultra_block.specs.Rest.{did_nothing}
 use Rattle.ultra_block.proofs.Told.{AreBlocksTold}
 use Rattle.ultra_block.proofs.every_block.tell_all.Given as goal
 

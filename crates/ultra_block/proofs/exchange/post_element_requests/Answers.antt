@@ -4,7 +4,7 @@ use Rattle.std.specs.List.{flat_map}
 use Rattle.ultra_msg.specs.declared.Request.{Request}
 use Rattle.ultra_block.specs.MailTable.{MailTable}
 use Rattle.ultra_block.specs.Tables.{written, without_request_out, element_requests}
-use Rattle.ultra_block.specs.Rest.{element_executes_nothing, element_posts_nothing, element_sends_nothing, element_takes_nothing}
+use Rattle.ultra_block.specs.Rest.{did_nothing, element_executes_nothing, element_posts_nothing, element_sends_nothing, element_takes_nothing}
 use Rattle.ultra_block.specs.Cut.{no_element}
 use Rattle.ultra_block.proofs.Rest.{element_rests_posting, element_rests_sent}
 use Rattle.ultra_block.proofs.Sparse.{all_changed, all_written, long, next_changed, next_is_as_before, next_writes, rest-found, rest-kept, rest-noted, rest_still, same_length}
@@ -33,6 +33,7 @@ loop-next-preserved c =
         send_requests = rest-noted element_sends_nothing idle.send_requests c.note.new.self us next u c.sends_nothing.result known.send_requests c.note.ensures.others c.note.ensures.only c.sends_nothing.ensures;
         post_requests = rest-found element_posts_nothing idle.post_requests c.insert.new.self us next u known.post_requests c.insert.ensures.others (ap element_posts_nothing is);
         execute = rest-kept element_executes_nothing idle.execute without_request_out (λ x h. h) us next u v is known.execute;
+        tell_steps = rest-kept did_nothing idle.tell_steps without_request_out (λ x h. h) us next u v is known.tell_steps;
       };
       mail =
           c.post_requests.ensures.mail

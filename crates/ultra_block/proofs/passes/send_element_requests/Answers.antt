@@ -1,5 +1,5 @@
 use Rattle.ultra_block.specs.ElementSteps.{sends_requests}
-use Rattle.ultra_block.specs.Rest.{element_executes_nothing, element_posts_nothing, element_sends_nothing, element_takes_nothing}
+use Rattle.ultra_block.specs.Rest.{did_nothing, element_executes_nothing, element_posts_nothing, element_sends_nothing, element_takes_nothing}
 use Rattle.ultra_block.specs.Cut.{no_element}
 use Rattle.ultra_block.proofs.Rest.{element_rests_sending}
 use Rattle.ultra_block.proofs.Sparse.{all_changed, next_changed, rest-kept, rest-noted, rest_still}
@@ -24,6 +24,7 @@ loop-next-preserved c =
         send_requests = rest-noted element_sends_nothing idle.send_requests c.note.new.self us next u c.sends_nothing.result known.send_requests c.note.ensures.others c.note.ensures.only c.sends_nothing.ensures;
         post_requests = rest-noted element_posts_nothing idle.post_requests c.note-in-Some.new.self us next u c.posts_nothing.result known.post_requests c.note-in-Some.ensures.others c.note-in-Some.ensures.only c.posts_nothing.ensures;
         execute = rest-kept element_executes_nothing idle.execute (sends_requests c.args.rooms.now) (λ x h. h) us next u v is known.execute;
+        tell_steps = rest-kept did_nothing idle.tell_steps (sends_requests c.args.rooms.now) (λ x h. h) us next u v is known.tell_steps;
       };
     }
 

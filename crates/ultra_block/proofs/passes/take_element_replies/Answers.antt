@@ -1,5 +1,5 @@
 use Rattle.ultra_block.specs.ElementSteps.{CanTakeReplies, takes_replies}
-use Rattle.ultra_block.specs.Rest.{element_executes_nothing, element_posts_nothing, element_sends_nothing, element_takes_nothing}
+use Rattle.ultra_block.specs.Rest.{did_nothing, element_executes_nothing, element_posts_nothing, element_sends_nothing, element_takes_nothing}
 use Rattle.ultra_block.specs.Cut.{no_element}
 use Rattle.ultra_block.proofs.Rest.{element_rests_taking, element_sending_kept, executing_kept}
 use Rattle.ultra_block.proofs.Sparse.{all_changed, next_changed, next_holds, rest-kept, rest-noted, rest_still}
@@ -30,6 +30,7 @@ loop-next-preserved c =
         send_requests = rest-kept element_sends_nothing idle.send_requests takes_replies (element_sending_kept) us next u v is known.send_requests;
         post_requests = rest-kept element_posts_nothing idle.post_requests takes_replies (λ x h. h) us next u v is known.post_requests;
         execute = rest-kept element_executes_nothing idle.execute takes_replies (executing_kept) us next u v is known.execute;
+        tell_steps = rest-kept did_nothing idle.tell_steps takes_replies (λ x h. h) us next u v is known.tell_steps;
       };
     }
 

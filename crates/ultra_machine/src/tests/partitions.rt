@@ -1,46 +1,15 @@
-//! A machine of two stages in several partitions.
+//! Machines of two stages in several partitions, before their first cycle.
 
-ghost use Rattle.std.specs.Prelude.{◌≡◌, ℕ, ◌+◌, ◌<◌};
+ghost use Rattle.std.specs.Prelude.{◌≡◌, ◌+◌, ◌<◌};
 ghost use Rattle.ultra_block.specs.BlocksState.{IsWhole};
 
-use crate::{Blocks, Config, PartitionFault, RawSettings};
-use std::alloc::Global;
+use super::rows::{answer, kept};
+use super::{add_one, defaults};
+use crate::{Blocks, Config, PartitionFault};
 use std::process::Abort;
 use std::test::Fail;
-use ultra_isa::{Instr, Program};
-use ultra_msg::{Give, Op, Pe, Register, Reply, ReplyMessage, Request};
-use ultra_switch::{Entry, WaitRecord};
-
-/// The default settings with two stages.
-fn two_stages(alloc: Global) -> Result<Config, Fail> {
-    let raw = RawSettings {
-        stages: Some(2),
-        request_places: Some(4),
-        reply_places: Some(8),
-        wait_places: Some(4),
-        most_open: Some(2),
-        cells: Some(16),
-        cycles: Some(1000),
-        initial: Some(Vec::new(alloc)),
-    };
-    Ok(Config::new(alloc, &raw)?)
-}
-
-/// Each processing element adds 1 to cell 0.
-fn add_one(alloc: Global) -> Result<Program, Fail> {
-    let register = |number| Register::new(number).ok_or("no register");
-    let (one, two, three) = (register(1)?, register(2)?, register(3)?);
-    let list = vec![in alloc;
-        Instr::Set(one, 0),
-        Instr::Set(two, 1),
-        Instr::Faa(three, one, two),
-        Instr::Halt,
-    ]?;
-    match Program::new(list) {
-        Ok(program) => Ok(program),
-        Err(_) => Err(Fail::from("no program")),
-    }
-}
+use ultra_msg::{Op, Request};
+use ultra_switch::Entry;
 
 /// Five cycles.
 fn make_five(blocks: &mut Blocks)
@@ -55,17 +24,6 @@ fn make_five(blocks: &mut Blocks)
     blocks.cycle();
     blocks.cycle();
     blocks.cycle();
-}
-
-/// The record of a request of `pe` for cell 0 that stood first, and that of `partner` which gets `more` more.
-fn record(pe: Pe, partner: Pe, more: u32) -> WaitRecord {
-    WaitRecord {
-        pe,
-        cell: 0,
-        give_old: Give::Same,
-        partner,
-        give_new: Give::Plus(more),
-    }
 }
 
 /// After cycle 4 the four requests have combined into one.
@@ -88,13 +46,13 @@ fn four_are_one(rt: &impl Abort, blocks: &Blocks)
         }
     );
     assert!(rt; lane.record_count() == 1);
-    assert_eq!(rt; lane.record(0), record(2, 3, 2));
+    assert_eq!(rt; lane.record(0), kept(2, 3, 2));
     let lane = blocks.lane(0, 0);
     assert!(rt; lane.record_count() == 1);
-    assert_eq!(rt; lane.record(0), record(2, 0, 1));
+    assert_eq!(rt; lane.record(0), kept(2, 0, 1));
     let lane = blocks.lane(0, 2);
     assert!(rt; lane.record_count() == 1);
-    assert_eq!(rt; lane.record(0), record(3, 1, 1));
+    assert_eq!(rt; lane.record(0), kept(3, 1, 1));
 }
 
 /// In cycle 9 every processing element gets its own value.
@@ -109,16 +67,8 @@ fn all_are_answered(rt: &impl Abort, blocks: &Blocks)
     assert_eq!(rt; blocks.bank(0).peek(0), Some(4));
 }
 
-fn answer(pe: Pe, word: u32) -> ReplyMessage {
-    ReplyMessage {
-        pe,
-        cell: 0,
-        reply: Reply::Value(word),
-    }
-}
-
 fn runs_in(rt: &(impl Abort + AllocGlobal), partition: &[u8]) -> Result<(), Fail> {
-    let config = two_stages(rt.alloc())?;
+    let config = Config::new(rt.alloc(), &defaults(rt.alloc(), 2))?;
     let program = add_one(rt.alloc())?;
     let mut blocks = Blocks::new(rt.alloc(), &config, &program, partition)?;
     make_five(&mut blocks);
@@ -150,7 +100,7 @@ fn switches_apart(rt: HostRuntime) -> Result<(), Fail> {
 
 #[test]
 fn bad_partitions(rt: HostRuntime) -> Result<(), Fail> {
-    let config = two_stages(rt.alloc())?;
+    let config = Config::new(rt.alloc(), &defaults(rt.alloc(), 2))?;
     let program = add_one(rt.alloc())?;
     let short = Blocks::new(rt.alloc(), &config, &program, &[0; 11]).err();
     assert_eq!(rt; short, Some(PartitionFault::BadPartition));
