@@ -9,8 +9,6 @@ mod canonical;
 mod instruction;
 mod labels;
 mod reading;
-#[cfg(test)]
-mod tests;
 mod words;
 
 use crate::labels::Labels;

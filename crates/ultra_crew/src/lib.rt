@@ -10,8 +10,6 @@ mod order;
 mod places;
 mod shift;
 mod task;
-#[cfg(test)]
-mod tests;
 
 pub use course::Course;
 pub use crew::{Crew, CrewFault, MOST_WORKERS, cycle_alone};

@@ -4,8 +4,6 @@
 mod fixed_list;
 mod last_cycle;
 mod machine;
-#[cfg(test)]
-mod tests;
 
 use fixed_list::FixedList;
 pub use machine::Machine;

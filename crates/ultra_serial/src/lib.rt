@@ -9,8 +9,6 @@ mod history;
 mod memory;
 mod recording;
 mod records;
-#[cfg(test)]
-mod tests;
 mod waiting;
 
 ghost use Rattle.ultra_serial.specs.Chain.{SerializationLaw};

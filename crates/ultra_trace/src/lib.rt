@@ -7,8 +7,6 @@ mod events;
 mod page;
 mod places;
 mod running;
-#[cfg(test)]
-mod tests;
 mod texts;
 mod together;
 

@@ -1,200 +1,20 @@
-//! Runs by one worker and by several.
+//! Runs with their traces, by one worker and by several.
 
-ghost use Rattle.std.specs.Prelude.{◌≡◌, ◌<◌, ◌≤◌};
+ghost use Rattle.std.specs.Prelude.{◌≤◌};
 
-use super::*;
-use std::alloc::Global;
+use crate::gates::{Counter, Meeting};
+use crate::programs::{add_number, add_one};
+use crate::settings::config;
+use crate::trays::Tray;
 use std::process::Abort;
-use std::str;
 use std::sync::Wait;
-use std::sync::atomic::{AtomicU64, Ordering};
+use std::sync::atomic::Ordering;
 use std::test::Fail;
-use std::thread::{self, Threads};
-use ultra_block::{Config, Half, RawSettings};
+use std::thread::Threads;
 use ultra_crew::Gate;
-use ultra_isa::{Instr, Program};
-use ultra_msg::{Register, Sink, SinkFault};
-
-/// A sink in memory. It takes so many bytes a write at most, and fails from one of its writes on.
-#[derive(Drop)]
-struct Tray<'r, R: Abort> {
-    rt: &'r R,
-    bytes: Vec<u8>,
-    failures: u64,
-    most: usize,
-    sound_writes: usize,
-    ghost takes_some: { 0 < most },
-}
-
-impl<'r, R: Abort + AllocGlobal> Tray<'r, R> {
-    /// A tray that takes all that it is offered.
-    fn new(rt: &'r R) -> Self {
-        Tray {
-            rt,
-            bytes: Vec::new(rt.alloc()),
-            failures: 0,
-            most: usize::MAX,
-            sound_writes: usize::MAX,
-        }
-    }
-
-    /// A tray that takes all that it is offered, and has memory for so many bytes. An error says that memory was refused.
-    fn with_room(rt: &'r R, count: usize) -> Result<Self, Fail> {
-        Ok(Tray {
-            rt,
-            bytes: Vec::with_capacity(rt.alloc(), count)?,
-            failures: 0,
-            most: usize::MAX,
-            sound_writes: usize::MAX,
-        })
-    }
-
-    /// A tray that takes a byte a write, and fails after so many.
-    fn failing_after(rt: &'r R, count: usize) -> Self {
-        Tray {
-            rt,
-            bytes: Vec::new(rt.alloc()),
-            failures: 0,
-            most: 1,
-            sound_writes: count,
-        }
-    }
-}
-
-impl<R: Abort> Tray<'_, R> {
-    fn text(&self) -> Result<&str, Fail> {
-        Ok(str::from_utf8(self.bytes.as_slice())?)
-    }
-}
-
-impl<R: Abort> Sink for Tray<'_, R> {
-    ghost taken = { λ t. t.bytes.items };
-
-    ghost failures = { λ t. t.failures };
-
-    fn write(&mut self, bytes: &[u8]) -> Result<usize, SinkFault> {
-        if self.sound_writes == 0 {
-            self.failures = self
-                .failures
-                .checked_add(1)
-                .expect(self.rt, "too many failures");
-            return Err(SinkFault);
-        }
-        let count = bytes.len().min(self.most);
-        self.bytes
-            .extend_from_slice(&bytes[..count])
-            .expect(self.rt, "no memory");
-        self.sound_writes -= 1;
-        Ok(count)
-    }
-}
-
-/// A gate that counts its calls.
-#[derive(Drop)]
-struct Counter {
-    calls: AtomicU64,
-}
-
-impl Counter {
-    fn new() -> Counter {
-        Counter {
-            calls: AtomicU64::new(0),
-        }
-    }
-}
-
-impl Gate for Counter {
-    fn before<R: Wait>(&self, _rt: &R, _cycle: u32, _half: Half, _block: usize) {
-        self.calls.fetch_add(1, Ordering::SeqCst);
-    }
-}
-
-/// A gate at which the workers of blocks 0 and 1 meet: each raises a flag, by the number of the half, and waits for the other's, 10,000,000 turns at most.
-#[derive(Drop)]
-struct Meeting {
-    flags: [AtomicU64; 2],
-    missed: AtomicU64,
-}
-
-impl Meeting {
-    fn new() -> Meeting {
-        Meeting {
-            flags: [AtomicU64::new(0), AtomicU64::new(0)],
-            missed: AtomicU64::new(0),
-        }
-    }
-
-    /// The worker of a block comes as the one of this number, and waits for the other.
-    fn come(&self, mine: &AtomicU64, other: &AtomicU64, number: u64) {
-        if mine.swap(number, Ordering::SeqCst).saturating_add(1) != number {
-            self.missed.fetch_add(1, Ordering::SeqCst);
-        }
-        for _ in 0..10_000_000 {
-            if other.load(Ordering::SeqCst) >= number || self.missed.load(Ordering::SeqCst) > 0 {
-                return;
-            }
-            thread::yield_now();
-        }
-        self.missed.fetch_add(1, Ordering::SeqCst);
-    }
-}
-
-impl Gate for Meeting {
-    fn before<R: Wait>(&self, _rt: &R, cycle: u32, half: Half, block: usize) {
-        let number = u64::from(cycle) * 6 + u64::from(half as u8) + 1;
-        match block {
-            0 => self.come(&self.flags[0], &self.flags[1], number),
-            1 => self.come(&self.flags[1], &self.flags[0], number),
-            _ => (),
-        }
-    }
-}
-
-/// The default settings with so many stages.
-fn settings(alloc: Global, stages: i64) -> Result<Config, Fail> {
-    let raw = RawSettings {
-        stages: Some(stages),
-        request_places: Some(4),
-        reply_places: Some(8),
-        wait_places: Some(4),
-        most_open: Some(2),
-        cells: Some(16),
-        cycles: Some(1000),
-        initial: Some(Vec::new(alloc)),
-    };
-    Ok(Config::new(alloc, &raw)?)
-}
-
-fn program_of(list: Vec<Instr>) -> Result<Program, Fail> {
-    match Program::new(list) {
-        Ok(program) => Ok(program),
-        Err(_) => Err(Fail::from("no program")),
-    }
-}
-
-/// Each processing element adds 1 to cell 0.
-fn add_one(alloc: Global) -> Result<Program, Fail> {
-    let register = |number| Register::new(number).ok_or("no register");
-    let (one, two, three) = (register(1)?, register(2)?, register(3)?);
-    program_of(vec![in alloc;
-        Instr::Set(one, 0),
-        Instr::Set(two, 1),
-        Instr::Faa(three, one, two),
-        Instr::Halt,
-    ]?)
-}
-
-/// Each processing element adds its number and 1 to cell 0.
-fn add_numbers(alloc: Global) -> Result<Program, Fail> {
-    let register = |number| Register::new(number).ok_or("no register");
-    let (zero, two, three) = (register(0)?, register(2)?, register(3)?);
-    program_of(vec![in alloc;
-        Instr::Number(two),
-        Instr::AddWord(two, two, 1),
-        Instr::Faa(three, zero, two),
-        Instr::Halt,
-    ]?)
-}
+use ultra_isa::Program;
+use ultra_machine::Config;
+use ultra_trace::{RunFault, run, run_alone};
 
 /// The trace of two processing elements of which each adds 1 to cell 0.
 const COMBINED_PAIR: &str = "\
@@ -300,8 +120,8 @@ fn check_run<R: Threads + Wait + Sync + Abort + AllocGlobal, G: Gate + Sync>(
 
 #[test]
 fn any_workers(rt: HostRuntime) -> Result<(), Fail> {
-    let config = settings(rt.alloc(), 2)?;
-    let program = add_numbers(rt.alloc())?;
+    let config = config(rt.alloc(), 2)?;
+    let program = add_number(rt.alloc())?;
     let gate = Counter::new();
     for workers in [1, 2, 3, 64] {
         check_run(&rt, &config, &program, workers, &gate, TWO_LEVEL_TREE)?;
@@ -314,7 +134,7 @@ fn any_workers(rt: HostRuntime) -> Result<(), Fail> {
 /// The largest machine: by several workers it has the trace of a run by one.
 #[test]
 fn any_workers_of_the_largest_machine(rt: HostRuntime) -> Result<(), Fail> {
-    let config = settings(rt.alloc(), 6)?;
+    let config = config(rt.alloc(), 6)?;
     let program = add_one(rt.alloc())?;
     let mut alone = Tray::new(&rt);
     run_alone(rt.alloc(), &config, &program, &mut alone)?;
@@ -330,7 +150,7 @@ fn any_workers_of_the_largest_machine(rt: HostRuntime) -> Result<(), Fail> {
 /// Two workers: in every half each waits for the other at the gate. A run that makes all blocks in one thread is proved all the same, and fails here: the turns run out, or no flag is raised where it calls no gate.
 #[test]
 fn gate_meets(rt: HostRuntime) -> Result<(), Fail> {
-    let config = settings(rt.alloc(), 1)?;
+    let config = config(rt.alloc(), 1)?;
     let program = add_one(rt.alloc())?;
     let meeting = Meeting::new();
     check_run(&rt, &config, &program, 2, &meeting, COMBINED_PAIR)?;
@@ -366,7 +186,7 @@ fn check_failing_sink<R: Threads + Wait + Sync + Abort + AllocGlobal>(
 /// A sink that fails at each of its writes in turn; with two workers, which are slower, at every thirtieth.
 #[test]
 fn sink_fails_at_each_write(rt: HostRuntime) -> Result<(), Fail> {
-    let config = settings(rt.alloc(), 1)?;
+    let config = config(rt.alloc(), 1)?;
     let program = add_one(rt.alloc())?;
     for count in 0..COMBINED_PAIR.len() {
         check_failing_sink(&rt, &config, &program, 1, count)?;
@@ -385,7 +205,7 @@ fn check_short_run<R: Threads + Wait + Sync + Abort + AllocGlobal>(
     requires some_worker { 1 ≤ workers }
     requires most_workers { workers ≤ 64 }
 {
-    let config = settings(rt.alloc(), 1)?;
+    let config = config(rt.alloc(), 1)?;
     let program = add_one(rt.alloc())?;
     let mut out = Tray::with_room(rt, 4096)?;
     let gate = Counter::new();

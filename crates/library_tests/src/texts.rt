@@ -1,72 +1,18 @@
-//! Texts with their listings and their faults.
+//! Texts of programs, with their listings and their faults.
 
-ghost use Rattle.std.specs.Prelude.{◌<◌};
-
-use super::*;
+use crate::trays::Tray;
 use std::process::Abort;
-use std::str;
 use std::test::Fail;
+use ultra_asm::{AsmFault, AsmFaultKind, assemble, listing};
 use ultra_isa::Instr;
-use ultra_msg::{Register, Sink, SinkFault};
-
-/// A sink in memory. It takes so many bytes a write at most, and fails from one of its writes on.
-#[derive(Drop)]
-struct Tray<'r, R: Abort> {
-    rt: &'r R,
-    bytes: Vec<u8>,
-    failures: u64,
-    most: usize,
-    sound_writes: usize,
-    ghost takes_some: { 0 < most },
-}
-
-impl<'r, R: Abort + AllocGlobal> Tray<'r, R> {
-    /// A tray that takes three bytes a write.
-    fn new(rt: &'r R) -> Self {
-        Tray {
-            rt,
-            bytes: Vec::new(rt.alloc()),
-            failures: 0,
-            most: 3,
-            sound_writes: usize::MAX,
-        }
-    }
-}
-
-impl<R: Abort> Tray<'_, R> {
-    fn text(&self) -> Result<&str, Fail> {
-        Ok(str::from_utf8(self.bytes.as_slice())?)
-    }
-}
-
-impl<R: Abort> Sink for Tray<'_, R> {
-    ghost taken = { λ t. t.bytes.items };
-
-    ghost failures = { λ t. t.failures };
-
-    fn write(&mut self, bytes: &[u8]) -> Result<usize, SinkFault> {
-        if self.sound_writes == 0 {
-            self.failures = self
-                .failures
-                .checked_add(1)
-                .expect(self.rt, "too many failures");
-            return Err(SinkFault);
-        }
-        let count = bytes.len().min(self.most);
-        self.bytes
-            .extend_from_slice(&bytes[..count])
-            .expect(self.rt, "no memory");
-        self.sound_writes -= 1;
-        Ok(count)
-    }
-}
+use ultra_msg::{Register, SinkFault};
 
 /// Asserts that the text is assembled to a program with this listing, and the listing to one with the same.
 fn check_listing<R: AllocGlobal + Abort>(rt: &R, text: &str, wanted: &str) -> Result<(), Fail> {
-    let mut tray = Tray::new(rt);
+    let mut tray = Tray::in_threes(rt);
     listing(&assemble(rt.alloc(), text)?, &mut tray)?;
     assert_eq!(rt; tray.text()?, wanted, "of {text}");
-    let mut again = Tray::new(rt);
+    let mut again = Tray::in_threes(rt);
     listing(&assemble(rt.alloc(), wanted)?, &mut again)?;
     assert_eq!(rt; again.text()?, wanted, "of {wanted}");
     Ok(())
@@ -182,7 +128,7 @@ fn a_program_has_at_most_4096_instructions(rt: HostRuntime) -> Result<(), Fail> 
 #[test]
 fn a_fault_of_the_sink_is_told(rt: HostRuntime) -> Result<(), Fail> {
     let program = assemble(rt.alloc(), "x: jmp x")?;
-    let mut tray = Tray::new(&rt);
+    let mut tray = Tray::in_threes(&rt);
     tray.sound_writes = 3;
     assert_eq!(rt; listing(&program, &mut tray), Err(SinkFault));
     assert_eq!(rt; tray.text()?, "L0:\n");

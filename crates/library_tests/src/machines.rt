@@ -1,13 +1,32 @@
 //! Worked runs of two stages. All requests are for cell 0, but in the last.
 
-use super::{add_number, add_one, defaults, machine, program, register, run};
-use crate::{Machine, RawSettings};
+use crate::programs::{add_number, add_one, program, register};
+use crate::settings::defaults;
 use std::alloc::Global;
 use std::process::Abort;
 use std::test::Fail;
 use ultra_isa::{Instr, Program};
+use ultra_machine::{Config, Machine, RawSettings};
 use ultra_msg::{Event, Give, Op, Pe, Reply, ReplyMessage, Request, Word};
 use ultra_switch::{Entry, WaitRecord};
+
+/// The machine before its first cycle.
+pub(crate) fn machine(
+    alloc: Global,
+    raw: &RawSettings,
+    program: &Program,
+) -> Result<Machine, Fail> {
+    let config = Config::new(alloc, raw)?;
+    Ok(Machine::new(alloc, &config, program)?)
+}
+
+/// So many cycles.
+pub(crate) fn run(rt: &impl Abort, machine: &mut Machine, cycles: u32) {
+    for _ in 0..cycles {
+        assert!(rt; machine.done() < 1000);
+        machine.cycle();
+    }
+}
 
 fn faa(pe: Pe, word: Word) -> Request {
     Request {
@@ -17,7 +36,7 @@ fn faa(pe: Pe, word: Word) -> Request {
     }
 }
 
-pub(super) fn answer(pe: Pe, word: Word) -> ReplyMessage {
+pub(crate) fn answer(pe: Pe, word: Word) -> ReplyMessage {
     ReplyMessage {
         pe,
         cell: 0,
@@ -40,7 +59,7 @@ fn issue(rt: &impl Abort, machine: &mut Machine, cycles: u32, wanted: &[(Pe, Wor
 }
 
 /// Makes so many cycles. In the last of them requests combine: at this stage and position, that of the first processing element with that of the second.
-pub(super) fn combine(
+pub(crate) fn combine(
     rt: &impl Abort,
     machine: &mut Machine,
     cycles: u32,
@@ -126,14 +145,14 @@ fn reply_is(rt: &impl Abort, machine: &Machine, stage: u32, position: u32, wante
 }
 
 /// The value of cell 0 at the end.
-pub(super) fn ends_with(rt: &impl Abort, machine: &Machine, word: Word) {
+pub(crate) fn ends_with(rt: &impl Abort, machine: &Machine, word: Word) {
     assert!(rt; machine.is_quiet());
     assert!(rt; machine.config().net().size() > 0);
     assert_eq!(rt; machine.bank(0).peek(0), Some(word));
 }
 
 /// A record of requests for cell 0, of which the second gets so much more than the first.
-pub(super) fn kept(pe: Pe, partner: Pe, more: Word) -> WaitRecord {
+pub(crate) fn kept(pe: Pe, partner: Pe, more: Word) -> WaitRecord {
     WaitRecord {
         pe,
         cell: 0,
@@ -153,7 +172,7 @@ fn two_level_tree(rt: HostRuntime) -> Result<(), Fail> {
     Ok(())
 }
 
-pub(super) fn four_become_one(rt: &impl Abort, machine: &mut Machine) {
+pub(crate) fn four_become_one(rt: &impl Abort, machine: &mut Machine) {
     issue(rt, machine, 3, &[(0, 1), (1, 2), (2, 3), (3, 4)]);
     combine(rt, machine, 1, &[(0, 0, 2, 0), (0, 2, 3, 1)]);
     combine(rt, machine, 1, &[(1, 0, 2, 3)]);
@@ -163,7 +182,7 @@ pub(super) fn four_become_one(rt: &impl Abort, machine: &mut Machine) {
     record_is(rt, machine, 1, 0, kept(2, 3, 4));
 }
 
-pub(super) fn one_becomes_four(rt: &impl Abort, machine: &mut Machine) {
+pub(crate) fn one_becomes_four(rt: &impl Abort, machine: &mut Machine) {
     answer_and_serve(rt, machine, 2, &[], &[(2, 10, 0, 10)]);
     run(rt, machine, 1);
     reply_is(rt, machine, 1, 0, (2, 0));

@@ -2,63 +2,31 @@
 
 ghost use Rattle.std.specs.Prelude.{◌≤◌};
 
-use crate::{
-    Answer, BreachKind, CheckFault, Entry, Issue, Log, SerialList, SerialMemory, check, log, order,
-};
+use crate::programs::{add_one, program, register};
+use crate::settings::defaults;
 use std::alloc::Global;
 use std::process::Abort;
 use std::test::Fail;
 use ultra_isa::{Instr, Program};
 use ultra_machine::{Config, RawSettings};
-use ultra_msg::{Cell, Op, Pe, Register, Reply, Word};
+use ultra_msg::{Cell, Op, Pe, Reply, Word};
+use ultra_serial::{
+    Answer, BreachKind, CheckFault, Entry, Issue, Log, SerialList, SerialMemory, check, log, order,
+};
 
 /// The default settings with one stage, and these initial cells.
 fn one_stage(alloc: Global, initial: Vec<(i64, i64)>) -> Result<Config, Fail> {
     let raw = RawSettings {
-        stages: Some(1),
-        request_places: Some(4),
-        reply_places: Some(8),
-        wait_places: Some(4),
-        most_open: Some(2),
-        cells: Some(16),
-        cycles: Some(1000),
         initial: Some(initial),
+        ..defaults(alloc, 1)
     };
     Ok(Config::new(alloc, &raw)?)
 }
 
-/// The program of these instructions.
-fn program_of(list: Vec<Instr>) -> Result<Program, Fail> {
-    match Program::new(list) {
-        Ok(program) => Ok(program),
-        Err(_) => Err(Fail::from("no program")),
-    }
-}
-
-/// A register.
-fn register(number: u8) -> Result<Register, Fail> {
-    match Register::new(number) {
-        Some(register) => Ok(register),
-        None => Err(Fail::from("no register")),
-    }
-}
-
-/// Each processing element adds 1 to cell 0.
-fn add_one(alloc: Global) -> Result<Program, Fail> {
-    let (one, two, three) = (register(1)?, register(2)?, register(3)?);
-    let list = vec![in alloc;
-        Instr::Set(one, 0),
-        Instr::Set(two, 1),
-        Instr::Faa(three, one, two),
-        Instr::Halt,
-    ]?;
-    program_of(list)
-}
-
 /// Element 0 adds 3 to cell 0 and element 1 stores 10 in it, or the other way round.
 fn add_and_store(alloc: Global, adds_first: bool) -> Result<Program, Fail> {
-    let (zero, one, two) = (register(0)?, register(1)?, register(2)?);
-    let (three, four) = (register(3)?, register(4)?);
+    let (zero, one, two) = (register(0), register(1), register(2));
+    let (three, four) = (register(3), register(4));
     let add = Instr::Faa(three, zero, two);
     let store = Instr::Store(zero, four);
     let list = vec![in alloc;
@@ -71,22 +39,22 @@ fn add_and_store(alloc: Global, adds_first: bool) -> Result<Program, Fail> {
         if adds_first { store } else { add },
         Instr::Halt,
     ]?;
-    program_of(list)
+    program(list)
 }
 
 /// Element 0 loads cell 0, and element 1 stores 7 in it.
 fn load_and_store(alloc: Global) -> Result<Program, Fail> {
-    let (zero, one, two) = (register(0)?, register(1)?, register(2)?);
+    let (zero, one, two) = (register(0), register(1), register(2));
     let list = vec![in alloc;
         Instr::Set(two, 7),
         Instr::Number(one),
         Instr::JumpIfNotZero(one, 5),
-        Instr::Load(register(3)?, zero),
+        Instr::Load(register(3), zero),
         Instr::Halt,
         Instr::Store(zero, two),
         Instr::Halt,
     ]?;
-    program_of(list)
+    program(list)
 }
 
 /// The first request of an element, for cell 0.

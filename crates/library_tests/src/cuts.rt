@@ -3,11 +3,12 @@
 ghost use Rattle.std.specs.Prelude.{◌≡◌, ◌+◌, ◌<◌};
 ghost use Rattle.ultra_block.specs.BlocksState.{IsWhole};
 
-use super::rows::{answer, combine, ends_with, four_become_one, one_becomes_four};
-use super::{add_number, defaults, machine};
-use crate::{Blocks, Machine, PartitionFault};
+use crate::machines::{answer, combine, ends_with, four_become_one, machine, one_becomes_four};
+use crate::programs::add_number;
+use crate::settings::defaults;
 use std::process::Abort;
 use std::test::Fail;
+use ultra_machine::{Blocks, Machine, PartitionFault};
 
 /// The machine before its sixth cycle, with the four requests on their way as one.
 fn on_its_way(rt: &(impl Abort + AllocGlobal)) -> Result<Machine, Fail> {

@@ -3,115 +3,20 @@
 ghost use Rattle.std.specs.Prelude.{◌≡◌, ◌+◌, ◌<◌, ◌≤◌, IfOk};
 ghost use Rattle.ultra_block.specs.BlocksState.{IsWhole};
 
-use crate::{Crew, CrewFault, Gate, cycle_alone};
+use crate::gates::{Counter, Holdup, Meeting};
+use crate::programs::add_number;
+use crate::settings::config;
 use std::alloc::Global;
 use std::process::Abort;
 use std::sync::Wait;
-use std::sync::atomic::{AtomicU64, Ordering};
+use std::sync::atomic::Ordering;
 use std::test::Fail;
-use std::thread::{self, Threads};
-use ultra_block::{Blocks, Config, Half, ProcessingElement, RawSettings};
-use ultra_isa::{Instr, Program};
+use std::thread::Threads;
+use ultra_block::{Blocks, ProcessingElement};
+use ultra_crew::{Crew, CrewFault, Gate, cycle_alone};
 use ultra_mem::Module;
 use ultra_msg::{Register, Reply};
 use ultra_switch::{ToMm, ToPe};
-
-/// The default settings with so many stages.
-fn settings(alloc: Global, stages: i64) -> Result<Config, Fail> {
-    let raw = RawSettings {
-        stages: Some(stages),
-        request_places: Some(4),
-        reply_places: Some(8),
-        wait_places: Some(4),
-        most_open: Some(2),
-        cells: Some(16),
-        cycles: Some(1000),
-        initial: Some(Vec::new(alloc)),
-    };
-    Ok(Config::new(alloc, &raw)?)
-}
-
-/// Each processing element adds its number and 1 to cell 0.
-fn add_numbers(alloc: Global) -> Result<Program, Fail> {
-    let register = |number| Register::new(number).ok_or("no register");
-    let (zero, two, three) = (register(0)?, register(2)?, register(3)?);
-    let list = vec![in alloc;
-        Instr::Number(two),
-        Instr::AddWord(two, two, 1),
-        Instr::Faa(three, zero, two),
-        Instr::Halt,
-    ]?;
-    match Program::new(list) {
-        Ok(program) => Ok(program),
-        Err(_) => Err(Fail::from("no program")),
-    }
-}
-
-/// A gate that counts its calls.
-#[derive(Drop)]
-struct Counter {
-    calls: AtomicU64,
-}
-
-impl Gate for Counter {
-    fn before<R: Wait>(&self, _rt: &R, _cycle: u32, _half: Half, _block: usize) {
-        self.calls.fetch_add(1, Ordering::SeqCst);
-    }
-}
-
-/// A gate that holds the worker of block 0 up, 1,000 turns each time.
-struct Holdup;
-
-impl Gate for Holdup {
-    fn before<R: Wait>(&self, _rt: &R, _cycle: u32, _half: Half, block: usize) {
-        if block == 0 {
-            for _ in 0..1000 {
-                thread::yield_now();
-            }
-        }
-    }
-}
-
-/// A gate at which the workers of blocks 0 and 1 meet: each raises a flag, by the number of the half, and waits for the other's, 10,000,000 turns at most.
-#[derive(Drop)]
-struct Meeting {
-    flags: [AtomicU64; 2],
-    missed: AtomicU64,
-}
-
-impl Meeting {
-    fn new() -> Meeting {
-        Meeting {
-            flags: [AtomicU64::new(0), AtomicU64::new(0)],
-            missed: AtomicU64::new(0),
-        }
-    }
-
-    /// The worker of a block comes as the one of this number, and waits for the other.
-    fn come(&self, mine: &AtomicU64, other: &AtomicU64, number: u64) {
-        if mine.swap(number, Ordering::SeqCst).saturating_add(1) != number {
-            self.missed.fetch_add(1, Ordering::SeqCst);
-        }
-        for _ in 0..10_000_000 {
-            if other.load(Ordering::SeqCst) >= number || self.missed.load(Ordering::SeqCst) > 0 {
-                return;
-            }
-            thread::yield_now();
-        }
-        self.missed.fetch_add(1, Ordering::SeqCst);
-    }
-}
-
-impl Gate for Meeting {
-    fn before<R: Wait>(&self, _rt: &R, cycle: u32, half: Half, block: usize) {
-        let number = u64::from(cycle) * 6 + u64::from(half as u8) + 1;
-        match block {
-            0 => self.come(&self.flags[0], &self.flags[1], number),
-            1 => self.come(&self.flags[1], &self.flags[0], number),
-            _ => (),
-        }
-    }
-}
 
 /// So many cycles, each by these workers.
 fn make_cycles<R: Threads + Wait + Sync, G: Gate + Sync>(
@@ -138,8 +43,8 @@ fn make_cycles<R: Threads + Wait + Sync, G: Gate + Sync>(
 /// Two blocks with work and two workers: in every half each worker waits for the other at the gate. A crew that makes all blocks in one thread is proved all the same, and fails here, as was tried: the turns run out, or no flag is raised where it calls no gate.
 #[test]
 fn gate_meets(rt: HostRuntime) -> Result<(), Fail> {
-    let config = settings(rt.alloc(), 1)?;
-    let program = add_numbers(rt.alloc())?;
+    let config = config(rt.alloc(), 1)?;
+    let program = add_number(rt.alloc())?;
     let blocks = Blocks::new(rt.alloc(), &config, &program, &[0, 1, 0, 1, 0])?;
     let meeting = Meeting::new();
     let _ = make_cycles(&rt, rt.alloc(), blocks, 2, &meeting, 8)?;
@@ -153,8 +58,8 @@ fn gate_meets(rt: HostRuntime) -> Result<(), Fail> {
 /// The same by workers whose threads are kept over all cycles. With all blocks in one thread of those it fails too, as was tried: the turns run out.
 #[test]
 fn gate_meets_when_kept(rt: HostRuntime) -> Result<(), Fail> {
-    let config = settings(rt.alloc(), 1)?;
-    let program = add_numbers(rt.alloc())?;
+    let config = config(rt.alloc(), 1)?;
+    let program = add_number(rt.alloc())?;
     let blocks = Blocks::new(rt.alloc(), &config, &program, &[0, 1, 0, 1, 0])?;
     let meeting = Meeting::new();
     let _ = Crew::cycles(&rt, rt.alloc(), blocks, 2, &meeting, 8)?;
@@ -263,8 +168,8 @@ fn goes_as_alone<R: Threads + Wait + Sync + Abort + AllocGlobal, G: Gate + Sync>
     requires some_worker { 1 ≤ workers }
     requires most_workers { workers ≤ 64 }
 {
-    let config = settings(rt.alloc(), 2)?;
-    let program = add_numbers(rt.alloc())?;
+    let config = config(rt.alloc(), 2)?;
+    let program = add_number(rt.alloc())?;
     let mut alone = Blocks::new(rt.alloc(), &config, &program, &[0; 12])?;
     let mut blocks = Blocks::new(rt.alloc(), &config, &program, partition)?;
     for _ in 0..10u32 {
@@ -278,9 +183,7 @@ fn goes_as_alone<R: Threads + Wait + Sync + Abort + AllocGlobal, G: Gate + Sync>
 
 #[test]
 fn any_workers(rt: HostRuntime) -> Result<(), Fail> {
-    let gate = Counter {
-        calls: AtomicU64::new(0),
-    };
+    let gate = Counter::new();
     let switches_apart = [5, 5, 5, 5, 0, 0, 0, 0, 0, 0, 0, 0];
     for workers in [1, 2, 3, 64] {
         goes_as_alone(&rt, &switches_apart, workers, &gate)?;
@@ -298,8 +201,8 @@ fn one_worker_late(rt: HostRuntime) -> Result<(), Fail> {
 /// Ten cycles by workers whose threads are kept, of which that of block 0 is late each time, beside the same machine in one block and without workers: then their places are the same.
 #[test]
 fn kept_workers(rt: HostRuntime) -> Result<(), Fail> {
-    let config = settings(rt.alloc(), 2)?;
-    let program = add_numbers(rt.alloc())?;
+    let config = config(rt.alloc(), 2)?;
+    let program = add_number(rt.alloc())?;
     let partition = [0, 1, 2, 0, 1, 2, 0, 1, 2, 0, 1, 2];
     for workers in [1, 2, 3, 64] {
         let alone = Blocks::new(rt.alloc(), &config, &program, &[0; 12])?;
@@ -315,12 +218,10 @@ fn kept_workers(rt: HostRuntime) -> Result<(), Fail> {
 /// A single cycle, short enough to refuse each of its allocations in turn: the gate is called for each block in each half.
 #[test]
 fn one_cycle_by_two(rt: HostRuntime) -> Result<(), Fail> {
-    let config = settings(rt.alloc(), 1)?;
-    let program = add_numbers(rt.alloc())?;
+    let config = config(rt.alloc(), 1)?;
+    let program = add_number(rt.alloc())?;
     let blocks = Blocks::new(rt.alloc(), &config, &program, &[0, 1, 0, 1, 0])?;
-    let gate = Counter {
-        calls: AtomicU64::new(0),
-    };
+    let gate = Counter::new();
     let _ = make_cycles(&rt, rt.alloc(), blocks, 2, &gate, 1)?;
     assert_eq!(rt; gate.calls.load(Ordering::SeqCst), 2 * 6);
     Ok(())
@@ -329,12 +230,10 @@ fn one_cycle_by_two(rt: HostRuntime) -> Result<(), Fail> {
 /// Two cycles by workers whose threads are kept.
 #[test]
 fn two_cycles_by_two(rt: HostRuntime) -> Result<(), Fail> {
-    let config = settings(rt.alloc(), 1)?;
-    let program = add_numbers(rt.alloc())?;
+    let config = config(rt.alloc(), 1)?;
+    let program = add_number(rt.alloc())?;
     let blocks = Blocks::new(rt.alloc(), &config, &program, &[0, 1, 0, 1, 0])?;
-    let gate = Counter {
-        calls: AtomicU64::new(0),
-    };
+    let gate = Counter::new();
     let _ = Crew::cycles(&rt, rt.alloc(), blocks, 2, &gate, 2)?;
     assert_eq!(rt; gate.calls.load(Ordering::SeqCst), 2 * 2 * 6);
     Ok(())

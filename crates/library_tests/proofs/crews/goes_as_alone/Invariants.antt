@@ -1,6 +1,6 @@
 use Rattle.std.proofs.Common.{◌≡◌}
 use Rattle.ultra_block.specs.BlocksState.{IsWhole}
-use Rattle.ultra_crew.proofs.tests.goes_as_alone.Given as goal
+use Rattle.library_tests.proofs.crews.goes_as_alone.Given as goal
 
 abbrev pub invariant-loop : goal.invariant-loop
 invariant-loop g l = record {

@@ -3,11 +3,12 @@
 ghost use Rattle.std.specs.Prelude.{◌≡◌, ◌+◌, ◌<◌};
 ghost use Rattle.ultra_block.specs.BlocksState.{IsWhole};
 
-use super::rows::{answer, kept};
-use super::{add_one, defaults};
-use crate::{Blocks, Config, PartitionFault};
+use crate::machines::{answer, kept};
+use crate::programs::add_one;
+use crate::settings::config;
 use std::process::Abort;
 use std::test::Fail;
+use ultra_machine::{Blocks, PartitionFault};
 use ultra_msg::{Op, Request};
 use ultra_switch::Entry;
 
@@ -68,7 +69,7 @@ fn all_are_answered(rt: &impl Abort, blocks: &Blocks)
 }
 
 fn runs_in(rt: &(impl Abort + AllocGlobal), partition: &[u8]) -> Result<(), Fail> {
-    let config = Config::new(rt.alloc(), &defaults(rt.alloc(), 2))?;
+    let config = config(rt.alloc(), 2)?;
     let program = add_one(rt.alloc())?;
     let mut blocks = Blocks::new(rt.alloc(), &config, &program, partition)?;
     make_five(&mut blocks);
@@ -100,7 +101,7 @@ fn switches_apart(rt: HostRuntime) -> Result<(), Fail> {
 
 #[test]
 fn bad_partitions(rt: HostRuntime) -> Result<(), Fail> {
-    let config = Config::new(rt.alloc(), &defaults(rt.alloc(), 2))?;
+    let config = config(rt.alloc(), 2)?;
     let program = add_one(rt.alloc())?;
     let short = Blocks::new(rt.alloc(), &config, &program, &[0; 11]).err();
     assert_eq!(rt; short, Some(PartitionFault::BadPartition));

@@ -1,0 +1,25 @@
+//! Tests of the libraries from `ultra_asm` up, over their public calls. They stand in a crate of their own, so that no library is proved a second time with its tests.
+#![tactic(auto)]
+
+#[cfg(test)]
+mod crews;
+#[cfg(test)]
+mod cuts;
+#[cfg(test)]
+mod gates;
+#[cfg(test)]
+mod machines;
+#[cfg(test)]
+mod orders;
+#[cfg(test)]
+mod partitions;
+#[cfg(test)]
+mod programs;
+#[cfg(test)]
+mod settings;
+#[cfg(test)]
+mod texts;
+#[cfg(test)]
+mod traces;
+#[cfg(test)]
+mod trays;

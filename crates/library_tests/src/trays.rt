@@ -1,0 +1,93 @@
+//! Sinks in memory.
+
+ghost use Rattle.std.specs.Prelude.{◌<◌};
+
+use std::process::Abort;
+use std::str;
+use std::test::Fail;
+use ultra_msg::{Sink, SinkFault};
+
+/// A sink in memory. It takes so many bytes a write at most, and fails from one of its writes on.
+#[derive(Drop)]
+pub(crate) struct Tray<'r, R: Abort> {
+    rt: &'r R,
+    pub(crate) bytes: Vec<u8>,
+    pub(crate) failures: u64,
+    most: usize,
+    pub(crate) sound_writes: usize,
+    ghost takes_some: { 0 < most },
+}
+
+impl<'r, R: Abort + AllocGlobal> Tray<'r, R> {
+    /// A tray that takes all that it is offered.
+    pub(crate) fn new(rt: &'r R) -> Self {
+        Tray {
+            rt,
+            bytes: Vec::new(rt.alloc()),
+            failures: 0,
+            most: usize::MAX,
+            sound_writes: usize::MAX,
+        }
+    }
+
+    /// A tray that takes three bytes a write.
+    pub(crate) fn in_threes(rt: &'r R) -> Self {
+        Tray {
+            rt,
+            bytes: Vec::new(rt.alloc()),
+            failures: 0,
+            most: 3,
+            sound_writes: usize::MAX,
+        }
+    }
+
+    /// A tray that takes all that it is offered, and has memory for so many bytes. An error says that memory was refused.
+    pub(crate) fn with_room(rt: &'r R, count: usize) -> Result<Self, Fail> {
+        Ok(Tray {
+            rt,
+            bytes: Vec::with_capacity(rt.alloc(), count)?,
+            failures: 0,
+            most: usize::MAX,
+            sound_writes: usize::MAX,
+        })
+    }
+
+    /// A tray that takes a byte a write, and fails after so many.
+    pub(crate) fn failing_after(rt: &'r R, count: usize) -> Self {
+        Tray {
+            rt,
+            bytes: Vec::new(rt.alloc()),
+            failures: 0,
+            most: 1,
+            sound_writes: count,
+        }
+    }
+}
+
+impl<R: Abort> Tray<'_, R> {
+    pub(crate) fn text(&self) -> Result<&str, Fail> {
+        Ok(str::from_utf8(self.bytes.as_slice())?)
+    }
+}
+
+impl<R: Abort> Sink for Tray<'_, R> {
+    ghost taken = { λ t. t.bytes.items };
+
+    ghost failures = { λ t. t.failures };
+
+    fn write(&mut self, bytes: &[u8]) -> Result<usize, SinkFault> {
+        if self.sound_writes == 0 {
+            self.failures = self
+                .failures
+                .checked_add(1)
+                .expect(self.rt, "too many failures");
+            return Err(SinkFault);
+        }
+        let count = bytes.len().min(self.most);
+        self.bytes
+            .extend_from_slice(&bytes[..count])
+            .expect(self.rt, "no memory");
+        self.sound_writes -= 1;
+        Ok(count)
+    }
+}
