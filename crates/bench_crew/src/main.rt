@@ -12,8 +12,9 @@ use std::sync::Wait;
 use std::thread::Threads;
 use std::{env, fs};
 use ultra_asm::assemble;
-use ultra_block::{Blocks, Config, Half, RawSettings};
+use ultra_block::{Blocks, Half};
 use ultra_crew::{Crew, CrewFault, Gate, MOST_WORKERS};
+use ultra_model::{Config, RawSettings};
 use ultra_msg::Word;
 
 /// A gate that holds nobody up.

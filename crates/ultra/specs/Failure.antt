@@ -2,7 +2,7 @@
 use Rattle.std.specs.Prelude.{ℕ, List, ◌++◌, codes, decimal, string_bytes}
 use Rattle.ultra_asm.specs.declared.AsmFaultKind.{AsmFaultKind}
 use Rattle.ultra_asm.specs.declared.AsmFaultKind.TheVariants as kind
-use Rattle.ultra_block.specs.Accepted.{name_of}
+use Rattle.ultra_model.specs.Accepted.{name_of}
 use Rattle.ultra.specs.declared.failure.Failure.{Failure}
 use Rattle.ultra_trace.specs.declared.running.RunFault.{RunFault}
 use Rattle.ultra_trace.specs.declared.running.RunFault.TheVariants as run

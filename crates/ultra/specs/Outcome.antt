@@ -2,9 +2,9 @@
 use Rattle.std.specs.Prelude.{◌≡◌, ◌≢◌, ℕ, List, [], ◌∷◌, ◌++◌, ◌⊎◌, None, false, ◌==◌, if◌then◌else◌, IsUtf8, string_bytes, ⊤}
 use Rattle.ultra_msg.specs.Bytes.{IsBeginning}
 use Rattle.ultra_isa.specs.declared.Instr.{Instr}
-use Rattle.ultra_block.specs.Machine.{Settings}
-use Rattle.ultra_block.specs.declared.config.RawSettings.{RawSettings}
-use Rattle.ultra_block.specs.Accepted.{first_bad, settings_of}
+use Rattle.ultra_model.specs.Machine.{Settings}
+use Rattle.ultra_model.specs.declared.config.RawSettings.{RawSettings}
+use Rattle.ultra_model.specs.Accepted.{first_bad, settings_of}
 use Rattle.ultra.specs.declared.settings.SettingsFault.TheVariants as settings
 use Rattle.ultra.specs.SettingsText as settings_text
 use Rattle.ultra.specs.SettingsText.{Gives}

@@ -4,12 +4,12 @@ use Rattle.std.specs.List.{list_any}
 use Rattle.std.specs.Str.{IsUtf8}
 use Rattle.toml.specs.Data.{Data, Items, no_items, item, Members, no_members, member, get_member, as_integer, as_array}
 use Rattle.toml.specs.Parse.{parse_document}
-use Rattle.ultra_block.specs.declared.config.RawSettings.{RawSettings}
-use Rattle.ultra_block.specs.declared.config.Field.{Field}
-use Rattle.ultra_block.specs.declared.config.Field.TheVariants.{Stages, RequestPlaces, ReplyPlaces, WaitPlaces, MostOpen, Cells, Cycles, Initial}
+use Rattle.ultra_model.specs.declared.config.RawSettings.{RawSettings}
+use Rattle.ultra_model.specs.declared.config.Field.{Field}
+use Rattle.ultra_model.specs.declared.config.Field.TheVariants.{Stages, RequestPlaces, ReplyPlaces, WaitPlaces, MostOpen, Cells, Cycles, Initial}
 use Rattle.ultra.specs.declared.settings.SettingsFault.{SettingsFault}
 use Rattle.ultra.specs.declared.settings.SettingsFault.TheVariants.{NoMemory, NotToml, BadField, UnknownKey}
-use Rattle.ultra_block.specs.Accepted.{name_of, numbers, first_bad}
+use Rattle.ultra_model.specs.Accepted.{name_of, numbers, first_bad}
 
 -- all keys
 abbrev pub fields : List Field

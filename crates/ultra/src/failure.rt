@@ -7,7 +7,7 @@ ghost use Rattle.ultra.specs.Failure.{kind_text, path_text, status_of, text_of};
 use itoa::Buffer;
 use std::alloc::AllocError;
 use ultra_asm::AsmFaultKind;
-use ultra_block::Field;
+use ultra_model::Field;
 use ultra_msg::{Sink, SinkFault, write_all, write_pieces};
 use ultra_serial::OrderFault;
 use ultra_trace::RunFault;

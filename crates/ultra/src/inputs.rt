@@ -11,8 +11,8 @@ use crate::source::{Source, SourceFault};
 use std::alloc::Global;
 use std::str;
 use ultra_asm::{AsmFault, AsmFaultKind, assemble};
-use ultra_block::Config;
 use ultra_isa::Program;
+use ultra_model::Config;
 
 /// The settings and the program that two files give.
 #[derive(Drop)]

@@ -5,14 +5,14 @@ ghost use Rattle.std.specs.List.{list_any};
 ghost use Rattle.std.specs.BTreeMap.{keys};
 ghost use Rattle.toml.specs.Data.{get_member};
 ghost use Rattle.toml.specs.View.{view, items_view, table_view};
-ghost use Rattle.ultra_block.specs.Accepted.{name_of, first_bad, settings_of};
-ghost use Rattle.ultra_block.specs.declared.config.RawSettings.{RawSettings};
+ghost use Rattle.ultra_model.specs.Accepted.{name_of, first_bad, settings_of};
+ghost use Rattle.ultra_model.specs.declared.config.RawSettings.{RawSettings};
 ghost use Rattle.ultra.specs.SettingsText.{given_integer, given_initial, pair_of, pair_in, pairs_in, is_key, IsGiven, Gives, ExplainsFault};
 
 use std::alloc::{AllocError, AllocFailed, Global};
 use thiserror::Error;
 use toml::{Table, Value};
-use ultra_block::{Config, ConfigFault, Field, RawSettings};
+use ultra_model::{Config, ConfigFault, Field, RawSettings};
 
 /// The keys that settings may have.
 const FIELDS: [Field; 8] = [

@@ -15,20 +15,20 @@ use Rattle.ultra_switch.specs.declared.Entry.{Entry}
 use Rattle.ultra_switch.specs.Queues.{SizedLane, SizedReplies, request_of}
 use Rattle.ultra_mem.specs.declared.Placed.{Placed}
 use Rattle.ultra_mem.specs.Serve.{Bank}
-use Rattle.ultra_block.specs.declared.Stop.{Stop}
-use Rattle.ultra_block.specs.Places.{after_leaving}
-use Rattle.ultra_block.specs.Machine.{Settings, Machine, Element, size, last_stage, request_exit, lane_at, bank_at, element_at}
-use Rattle.ultra_block.specs.Phases.{has_reply_room, reply_before, arriving_reply, delivered, has_request_room, request_before, admitted, arriving_request}
-use Rattle.ultra_block.specs.Ranges.{AreInRange}
-use Rattle.ultra_block.specs.Routed.{IsEntryAt}
-use Rattle.ultra_block.specs.Sound.{IsSound}
+use Rattle.ultra_model.specs.declared.Stop.{Stop}
+use Rattle.ultra_model.specs.Places.{after_leaving}
+use Rattle.ultra_model.specs.Machine.{Settings, Machine, Element, size, last_stage, request_exit, lane_at, bank_at, element_at}
+use Rattle.ultra_model.specs.Phases.{has_reply_room, reply_before, arriving_reply, delivered, has_request_room, request_before, admitted, arriving_request}
+use Rattle.ultra_model.specs.Ranges.{AreInRange}
+use Rattle.ultra_model.specs.Routed.{IsEntryAt}
+use Rattle.ultra_model.specs.Sound.{IsSound}
 use Rattle.ultra_block.specs.RoomTable.{RoomTable}
 use Rattle.ultra_block.specs.Halves.{replies_without, lane_without, has_room_for, has_place_for, leaves_by}
 use Rattle.ultra_block.specs.SwitchSteps as switch
 use Rattle.ultra_block.specs.ModuleSteps as bank
 use Rattle.ultra_block.specs.ElementSteps as element
 use Rattle.ultra_block.specs.Whole.{Units, whole, Fit}
-use Rattle.ultra_block.proofs.Interfaces.{delivered_waiting}
+use Rattle.ultra_model.proofs.Interfaces.{delivered_waiting}
 use Rattle.ultra_block.proofs.AtUnits.{half_even, half_odd, rest_even, rest_odd, lane_is, bank_is, element_is, reply_room_is}
 use Rattle.ultra_block.proofs.Passing.{AreNoted, replies_sent, replies_exchanged, requests_sent, requests_exchanged}
 use Rattle.ultra_block.proofs.ReplyPlaces as reply

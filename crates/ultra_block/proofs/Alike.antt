@@ -3,10 +3,10 @@ use Rattle.std.proofs.Common.{◌≡◌, ℕ, ◌-◌, ◌/◌, ◌%◌, ◌^◌
 use Rattle.std.specs.List.{AllByRecursion}
 use Rattle.ultra_route.proofs.Table.{sizes}
 use Rattle.ultra_msg.specs.declared.Event.{Event}
-use Rattle.ultra_block.specs.declared.Stop.{Stop}
-use Rattle.ultra_block.specs.Places.{present, joined}
-use Rattle.ultra_block.specs.Machine.{Settings, size}
-use Rattle.ultra_block.specs.Phases.{delivery, serving}
+use Rattle.ultra_model.specs.declared.Stop.{Stop}
+use Rattle.ultra_model.specs.Places.{present, joined}
+use Rattle.ultra_model.specs.Machine.{Settings, size}
+use Rattle.ultra_model.specs.Phases.{delivery, serving}
 use Rattle.ultra_block.specs.Elements.{element_of}
 use Rattle.ultra_block.specs.declared.switch_unit.SwitchUnit.{SwitchUnit}
 use Rattle.ultra_block.specs.declared.module_unit.ModuleUnit.{ModuleUnit}

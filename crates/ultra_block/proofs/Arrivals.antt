@@ -10,7 +10,7 @@ use Rattle.ultra_switch.specs.declared.WaitRecord.{WaitRecord}
 use Rattle.ultra_switch.specs.declared.Arrived.TheVariants.{Appended, CombinedWith}
 use Rattle.ultra_switch.specs.Arrive.{Lane, Combination, entry, behind, can_combine, combine, combine_within, wait_record, after_arrival, arrive, outcome}
 use Rattle.ultra_block.specs.Halves.{combination_event}
-use Rattle.ultra_block.proofs.Each.{if_tested}
+use Rattle.ultra_model.proofs.Each.{if_tested}
 
 -- ---- how long the queue is
 abbrev KeepsLength : List Entry → Option Combination → Type 0

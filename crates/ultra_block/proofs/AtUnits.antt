@@ -7,14 +7,14 @@ use Rattle.ultra_mem.specs.Serve.{Bank, empty_bank}
 use Rattle.ultra_msg.specs.declared.ReplyMessage.{ReplyMessage}
 use Rattle.ultra_msg.specs.declared.Event.{Event}
 use Rattle.ultra_route.proofs.Table.{sizes}
-use Rattle.ultra_block.specs.declared.Stop.{Stop}
-use Rattle.ultra_block.specs.Places.{places, table}
-use Rattle.ultra_block.specs.Machine.{Settings, Machine, Element, size, fresh_element, lane_at, replies_at, bank_at, element_at}
-use Rattle.ultra_block.specs.Phases as phase
+use Rattle.ultra_model.specs.declared.Stop.{Stop}
+use Rattle.ultra_model.specs.Places.{places, table}
+use Rattle.ultra_model.specs.Machine.{Settings, Machine, Element, size, fresh_element, lane_at, replies_at, bank_at, element_at}
+use Rattle.ultra_model.specs.Phases as phase
 use Rattle.ultra_block.specs.SwitchSteps.{has_reply_room}
 use Rattle.ultra_block.specs.Elements.{element_of}
 use Rattle.ultra_block.specs.Whole.{Units, sized_lane, sized_replies, whole, Fit}
-use Rattle.ultra_block.proofs.Each.{places_at, table_at}
+use Rattle.ultra_model.proofs.Each.{places_at, table_at}
 
 -- ---- tests
 pub pick_true : {X : Type 0} (b : Bool) (x y : X) → b ≡ true → elim b [ true ↦ x | false ↦ y ] ≡ x

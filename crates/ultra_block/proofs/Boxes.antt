@@ -7,7 +7,7 @@ use Rattle.ultra_isa.specs.declared.Instr.{Instr}
 use Rattle.ultra_route.specs.Route.{shuffled, unshuffled}
 use Rattle.ultra_route.proofs.Table.{sizes, back}
 use Rattle.ultra_switch.specs.declared.Ports.{Ports}
-use Rattle.ultra_block.specs.Machine.{Settings, size}
+use Rattle.ultra_model.specs.Machine.{Settings, size}
 use Rattle.ultra_block.specs.Ported.{at_port}
 use Rattle.ultra_block.specs.Halves.{ports}
 use Rattle.ultra_block.specs.RoomTable.{RoomTable}

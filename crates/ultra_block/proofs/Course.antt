@@ -7,7 +7,7 @@ use Rattle.ultra_block.specs.BlockState.{BlockState}
 use Rattle.ultra_block.specs.Making.{CanMake, made}
 use Rattle.ultra_block.specs.Cycle.{noted, exchanged, first_rooms, with_replies_sent, with_replies_come, with_requests_sent, with_requests_come, with_requests_taken, with_steps_made, second_rooms}
 use Rattle.ultra_block.specs.Exchange.{CanExchange}
-use Rattle.ultra_block.specs.Phases.{cycle as next_cycle}
+use Rattle.ultra_model.specs.Phases.{cycle as next_cycle}
 use Rattle.ultra_block.specs.BlocksState.{machine_of, IsWhole}
 use Rattle.ultra_block.specs.Course.{IsAt}
 use Rattle.ultra_block.specs.declared.half.Half.{Half}

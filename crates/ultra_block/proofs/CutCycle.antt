@@ -5,9 +5,9 @@ use Rattle.std.specs.List.{AllByRecursion}
 use Rattle.std.proofs.lemmas.List.{get_or_default}
 use Rattle.ultra_msg.specs.declared.Event.{Event}
 use Rattle.ultra_isa.specs.declared.Instr.{Instr}
-use Rattle.ultra_block.specs.Machine.{Settings, Machine}
-use Rattle.ultra_block.specs.Phases as phase
-use Rattle.ultra_block.specs.Sound.{IsSound}
+use Rattle.ultra_model.specs.Machine.{Settings, Machine}
+use Rattle.ultra_model.specs.Phases as phase
+use Rattle.ultra_model.specs.Sound.{IsSound}
 use Rattle.ultra_block.specs.RoomTable.{RoomTable}
 use Rattle.ultra_block.specs.MailTable.{MailTable}
 use Rattle.ultra_block.specs.SwitchSteps as switch
@@ -26,7 +26,7 @@ use Rattle.ultra_block.specs.declared.home.Home.{Home}
 use Rattle.ultra_block.specs.declared.switch_unit.SwitchUnit.{SwitchUnit}
 use Rattle.ultra_block.specs.declared.module_unit.ModuleUnit.{ModuleUnit}
 use Rattle.ultra_block.specs.declared.element_unit.ElementUnit.{ElementUnit}
-use Rattle.ultra_block.proofs.Sound.{sound-reply_phase, sound-memory_phase, cycle_is_sound}
+use Rattle.ultra_model.proofs.Sound.{sound-reply_phase, sound-memory_phase, cycle_is_sound}
 use Rattle.ultra_block.proofs.Boxes.{clear_after_replies, clear_after_requests, clear_after_steps, clear_alike, housed, await_replies, await_requests}
 use Rattle.ultra_block.proofs.Noted.{each_switch, each_module, each_element, all_noted, still_places}
 use Rattle.ultra_block.proofs.Passing.{AreNoted, replies_sent, replies_exchanged, replies_taken, served, requests_sent, requests_exchanged, requests_taken, exchanged, executed}

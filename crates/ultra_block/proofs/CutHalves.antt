@@ -8,7 +8,7 @@ use Rattle.ultra_msg.specs.declared.ReplyMessage.{ReplyMessage}
 use Rattle.ultra_route.specs.Route.{unshuffled}
 use Rattle.ultra_route.proofs.Table.{sizes, back}
 use Rattle.ultra_isa.specs.declared.Instr.{Instr}
-use Rattle.ultra_block.specs.Machine.{Settings}
+use Rattle.ultra_model.specs.Machine.{Settings}
 use Rattle.ultra_block.specs.RoomTable.{RoomTable}
 use Rattle.ultra_block.specs.MailTable.{MailTable}
 use Rattle.ultra_block.specs.Numbers.{place_number}

@@ -5,7 +5,7 @@ use Rattle.std.proofs.lemmas.Bool.{cases_eq}
 use Rattle.std.proofs.lemmas.Nat.{div-mul-add, mod-mul-add}
 use Rattle.std.proofs.lemmas.List.{get_or-set_same, get_or-set_other, length-set}
 use Rattle.ultra_block.specs.Tables.{Entry, written}
-use Rattle.ultra_block.proofs.Each.{each-append}
+use Rattle.ultra_model.proofs.Each.{each-append}
 
 -- ---- an entry, if it is for this number, has this value; and one is for it
 abbrev pub IsRight : {X : Type 0} → ℕ → X → Entry X → Type 0

@@ -1,6 +1,6 @@
 -- the exchange of all messages between the blocks is that between the units
 use Rattle.std.proofs.Common.{ℕ, ◌≤◌, List, refl}
-use Rattle.ultra_block.specs.Machine.{Settings}
+use Rattle.ultra_model.specs.Machine.{Settings}
 use Rattle.ultra_block.specs.MailTable.{MailTable}
 use Rattle.ultra_block.specs.BlockState.{BlockState}
 use Rattle.ultra_block.specs.Cut.{units_at, HasLinks}

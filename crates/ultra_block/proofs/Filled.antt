@@ -5,9 +5,9 @@ use Rattle.std.specs.List.{range_with_len}
 use Rattle.std.proofs.lemmas.List.{same_lists, length-set, get_or-set_same, get_or-set_other}
 use Rattle.std.proofs.lemmas.Bool.{cases_eq, eq-eqb, ne_eqb}
 use Rattle.std.proofs.lemmas.Nat.{div-mul-add, mod-mul-add, div-add-mod'}
-use Rattle.ultra_block.specs.Places.{places}
-use Rattle.ultra_block.specs.Machine.{given_value}
-use Rattle.ultra_block.proofs.Each.{places_at, length-places}
+use Rattle.ultra_model.specs.Places.{places}
+use Rattle.ultra_model.specs.Machine.{given_value}
+use Rattle.ultra_model.proofs.Each.{places_at, length-places}
 use Rattle.ultra_mem.specs.Serve.{new_bank}
 use Rattle.ultra_block.specs.Fresh.{filled}
 

@@ -6,8 +6,8 @@ use Rattle.ultra_msg.specs.declared.ReplyMessage.{ReplyMessage}
 use Rattle.ultra_isa.specs.declared.Instr.{Instr}
 use Rattle.ultra_mem.specs.Serve.{Bank}
 use Rattle.ultra_mem.proofs.Cells.{length-serve}
-use Rattle.ultra_block.specs.Machine.{Settings}
-use Rattle.ultra_block.specs.Phases.{without_reply, issues_after}
+use Rattle.ultra_model.specs.Machine.{Settings}
+use Rattle.ultra_model.specs.Phases.{without_reply, issues_after}
 use Rattle.ultra_block.specs.RoomTable.{RoomTable}
 use Rattle.ultra_block.specs.Halves.{bank_with}
 use Rattle.ultra_block.specs.ModuleSteps as bank

@@ -8,7 +8,7 @@ use Rattle.ultra_route.specs.Route.{bit_of}
 use Rattle.ultra_switch.specs.declared.WaitRecord.{WaitRecord}
 use Rattle.ultra_switch.specs.Split.{is_of, old_reply, new_reply, replies_of}
 use Rattle.ultra_switch.specs.Queues.{SizedReplies}
-use Rattle.ultra_block.specs.Phases.{replies_made}
+use Rattle.ultra_model.specs.Phases.{replies_made}
 use Rattle.ultra_block.specs.Halves.{going_by, with_replies, has_room_for}
 
 filter_step : {X : Type 0} (b : Bool) (x : X) (ys : List X) (n : ℕ) → length ys ≤ n → length (cond b (x ∷ ys) ys) ≤ n + 1

@@ -1,6 +1,6 @@
 -- what the units of a whole machine tell, by their numbers
 use Rattle.std.proofs.Common.{◌≡◌, ℕ, ◌-◌, ◌^◌, ◌<◌, List, true, ap, ◌∙◌}
-use Rattle.ultra_block.specs.Machine.{Settings, is_nothing}
+use Rattle.ultra_model.specs.Machine.{Settings, is_nothing}
 use Rattle.ultra_block.specs.Numbers.{switch_number}
 use Rattle.ultra_block.specs.IdleSet.{is_idle}
 use Rattle.ultra_block.specs.RoomTable.{RoomTable}

@@ -6,7 +6,7 @@ use Rattle.ultra_msg.specs.declared.Request.{Request}
 use Rattle.ultra_msg.specs.declared.ReplyMessage.{ReplyMessage}
 use Rattle.ultra_route.specs.Route.{shuffled, unshuffled}
 use Rattle.ultra_route.proofs.Table.{sizes, back}
-use Rattle.ultra_block.specs.Machine.{Settings, size}
+use Rattle.ultra_model.specs.Machine.{Settings, size}
 use Rattle.ultra_block.specs.Halves.{ports}
 use Rattle.ultra_block.specs.SwitchSteps as switch
 use Rattle.ultra_block.specs.ModuleSteps as bank

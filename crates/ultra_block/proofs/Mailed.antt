@@ -8,7 +8,7 @@ use Rattle.ultra_msg.specs.declared.Request.{Request}
 use Rattle.ultra_msg.specs.declared.ReplyMessage.{ReplyMessage}
 use Rattle.ultra_route.specs.Route.{shuffled, unshuffled}
 use Rattle.ultra_route.proofs.Table.{sizes, back}
-use Rattle.ultra_block.specs.Machine.{Settings, is_nothing}
+use Rattle.ultra_model.specs.Machine.{Settings, is_nothing}
 use Rattle.ultra_block.specs.Numbers.{switch_number, place_number}
 use Rattle.ultra_block.specs.SwitchSteps.{position}
 use Rattle.ultra_block.specs.Tables.{Entry, written, switch_replies, module_replies, switch_requests, element_requests}
@@ -22,7 +22,7 @@ use Rattle.ultra_block.specs.declared.switch_unit.SwitchUnit.{SwitchUnit}
 use Rattle.ultra_block.specs.declared.module_unit.ModuleUnit.{ModuleUnit}
 use Rattle.ultra_block.specs.declared.element_unit.ElementUnit.{ElementUnit}
 use Rattle.ultra_block.proofs.Standing.{number_small}
-use Rattle.ultra_block.proofs.Each.{each-append}
+use Rattle.ultra_model.proofs.Each.{each-append}
 use Rattle.ultra_block.proofs.Entries.{IsRight, HasEntry, written_where, each_passing, has_passing, each_of, has_of, has-left, has-right, right_at}
 use Rattle.ultra_block.proofs.Noted.{right_switches, right_modules, right_elements, has_switch, has_module, has_element}
 use Rattle.ultra_block.proofs.AtUnits.{pick_true, pick_false, by_port, half_even, half_odd, rest_even, rest_odd}

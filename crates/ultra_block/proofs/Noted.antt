@@ -4,7 +4,7 @@ use Rattle.std.specs.List.{flat_map, AllByRecursion}
 use Rattle.std.proofs.lemmas.Nat.{div-add-mod', pow_pos}
 use Rattle.std.proofs.Math.Nat.{div-lt_iff_lt-mul}
 use Rattle.ultra_route.proofs.Table.{sizes}
-use Rattle.ultra_block.specs.Machine.{Settings, is_nothing}
+use Rattle.ultra_model.specs.Machine.{Settings, is_nothing}
 use Rattle.ultra_block.specs.Numbers.{switch_number, place_number}
 use Rattle.ultra_block.specs.Halves.{has_place_for}
 use Rattle.ultra_block.specs.RoomTable.{RoomTable}

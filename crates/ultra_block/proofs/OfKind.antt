@@ -7,16 +7,16 @@ use Rattle.ultra_msg.specs.declared.Request.{Request}
 use Rattle.ultra_switch.specs.Arrive.{Combination, combine_within}
 use Rattle.ultra_switch.specs.Queues.{SizedLane}
 use Rattle.ultra_isa.specs.declared.Instr.{Instr}
-use Rattle.ultra_block.specs.Places.{places, table, joined}
-use Rattle.ultra_block.specs.Machine.{Settings, Element, size}
-use Rattle.ultra_block.specs.Phases.{issue_event}
+use Rattle.ultra_model.specs.Places.{places, table, joined}
+use Rattle.ultra_model.specs.Machine.{Settings, Element, size}
+use Rattle.ultra_model.specs.Phases.{issue_event}
 use Rattle.ultra_block.specs.Halves.{leaves_by, lane_with, coming_to, first_of, second_of, combination_event, combined_at, combined_both}
 use Rattle.ultra_block.specs.SwitchSteps.{position}
 use Rattle.ultra_block.specs.Elements.{element_of, step_at}
 use Rattle.ultra_block.specs.Ported.{at_port}
 use Rattle.ultra_block.specs.Whole.{Units, both, combined_in, all_combined, issues}
 use Rattle.ultra_block.specs.Kinds.{is_combination, is_issue}
-use Rattle.ultra_block.proofs.Each.{each-present, each-joined, each-places, if_tested}
+use Rattle.ultra_model.proofs.Each.{each-present, each-joined, each-places, if_tested}
 use Rattle.ultra_block.proofs.AtUnits.{by_port}
 use Rattle.ultra_block.proofs.Passing.{requests_taken, executed}
 

@@ -4,10 +4,10 @@ use Rattle.ultra_msg.specs.declared.Event.{Event}
 use Rattle.ultra_mem.specs.Serve.{serve, served as acts}
 use Rattle.ultra_isa.specs.declared.Instr.{Instr}
 use Rattle.ultra_isa.specs.Step.{Stepped, step_of}
-use Rattle.ultra_block.specs.declared.Stop.{Stop}
-use Rattle.ultra_block.specs.Places.{present}
-use Rattle.ultra_block.specs.Machine.{Settings, Machine, Element, size, site, bank_at, element_at}
-use Rattle.ultra_block.specs.Phases.{serving, memory_phase, stepped, issue_event, stop_of, processor_phase, step_at}
+use Rattle.ultra_model.specs.declared.Stop.{Stop}
+use Rattle.ultra_model.specs.Places.{present}
+use Rattle.ultra_model.specs.Machine.{Settings, Machine, Element, size, site, bank_at, element_at}
+use Rattle.ultra_model.specs.Phases.{serving, memory_phase, stepped, issue_event, stop_of, processor_phase, step_at}
 use Rattle.ultra_block.specs.Elements as element
 use Rattle.ultra_block.specs.Elements.{element_of}
 use Rattle.ultra_block.specs.Whole.{Units, whole, servings, issues, all_stops, Fit}

@@ -6,15 +6,15 @@ use Rattle.std.specs.declared.alloc.Global.{Global}
 use Rattle.std.specs.Option.{unwrap_or}
 use Rattle.std.proofs.lemmas.Bool.{cases_eq, eq-eqb, ne_eqb}
 use Rattle.std.proofs.lemmas.List.{length-map, get_or-map, take_more, length-take-le, length-drop, get_or-set_same, get_or-set_other, map-append, append-nil}
-use Rattle.ultra_block.specs.Balance.{weight}
+use Rattle.ultra_model.specs.Balance.{weight}
 use Rattle.ultra_block.specs.BlockState.{BlockState}
 use Rattle.ultra_block.specs.Cut.{no_block, units_of, AreNew, AreDone}
 use Rattle.ultra_block.specs.Parted.{put_if, parted, share, home_in, AreParted, AreFilled, AreCut, ForThis, switch_blocks, module_blocks, element_blocks}
-use Rattle.ultra_block.specs.Places.{places}
+use Rattle.ultra_model.specs.Places.{places}
 use Rattle.ultra_block.specs.declared.switch_unit.SwitchUnit.{SwitchUnit}
 use Rattle.ultra_block.specs.declared.module_unit.ModuleUnit.{ModuleUnit}
 use Rattle.ultra_block.specs.declared.element_unit.ElementUnit.{ElementUnit}
-use Rattle.ultra_block.proofs.Counting.{count-append}
+use Rattle.ultra_model.proofs.Counting.{count-append}
 use Rattle.ultra_block.specs.declared.home.Home.{Home}
 
 -- ---- one value more, if it is one of the block

@@ -4,7 +4,7 @@ use Rattle.ultra_msg.specs.declared.Request.{Request}
 use Rattle.ultra_msg.specs.declared.ReplyMessage.{ReplyMessage}
 use Rattle.ultra_route.specs.Route.{shuffled, unshuffled}
 use Rattle.ultra_isa.specs.declared.Instr.{Instr}
-use Rattle.ultra_block.specs.Machine.{Settings, size, is_nothing}
+use Rattle.ultra_model.specs.Machine.{Settings, size, is_nothing}
 use Rattle.ultra_block.specs.Numbers.{switch_number}
 use Rattle.ultra_block.specs.RoomTable.{RoomTable, request_room, module_room}
 use Rattle.ultra_block.specs.Halves.{ports, has_place_for}

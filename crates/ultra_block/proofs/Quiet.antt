@@ -8,8 +8,8 @@ use Rattle.ultra_mem.specs.Serve.{Bank}
 use Rattle.ultra_msg.specs.declared.ReplyMessage.{ReplyMessage}
 use Rattle.ultra_isa.specs.Step.{has_stopped}
 use Rattle.ultra_route.proofs.Table.{sizes}
-use Rattle.ultra_block.specs.Places.{places}
-use Rattle.ultra_block.specs.Machine.{Settings, Machine, Element, size, is_empty, is_nothing, is_quiet}
+use Rattle.ultra_model.specs.Places.{places}
+use Rattle.ultra_model.specs.Machine.{Settings, Machine, Element, size, is_empty, is_nothing, is_quiet}
 use Rattle.ultra_block.specs.Elements.{element_of}
 use Rattle.ultra_block.specs.Ported.{at_port}
 use Rattle.ultra_block.specs.BlockState.{BlockState}
@@ -24,7 +24,7 @@ use Rattle.ultra_block.specs.Quiet.{quiet_lane, quiet_switch, quiet_module, quie
 use Rattle.ultra_block.specs.declared.home.Home.{Home}
 use Rattle.ultra_block.specs.declared.switch_unit.SwitchUnit.{SwitchUnit}
 use Rattle.ultra_block.specs.declared.element_unit.ElementUnit.{ElementUnit}
-use Rattle.ultra_block.proofs.Each.{places_at, length-places}
+use Rattle.ultra_model.proofs.Each.{places_at, length-places}
 use Rattle.ultra_block.proofs.AtUnits.{by_port, half_even, half_odd, rest_even, rest_odd}
 use Rattle.ultra_block.proofs.Standing.{number_small}
 use Rattle.ultra_block.proofs.Noted.{each_switch, each_module, each_element}

@@ -10,10 +10,10 @@ use Rattle.ultra_route.proofs.Table.{sizes, back}
 use Rattle.ultra_switch.specs.declared.Ports.{Ports}
 use Rattle.ultra_switch.specs.declared.WaitRecord.{WaitRecord}
 use Rattle.ultra_switch.specs.Arrive.{Lane}
-use Rattle.ultra_block.specs.declared.Stop.{Stop}
-use Rattle.ultra_block.specs.Places.{places, present, after_leaving}
-use Rattle.ultra_block.specs.Machine.{Settings, Machine, size, last_stage, reply_exit, replies_at, bank_at, element_at}
-use Rattle.ultra_block.specs.Phases.{delivery, deliver, without_reply, records_left, replies_made, has_reply_room, reply_before, arriving_reply, leaving_reply, replies_at_exit, next_replies, lane_after_split, delivered, reply_phase}
+use Rattle.ultra_model.specs.declared.Stop.{Stop}
+use Rattle.ultra_model.specs.Places.{places, present, after_leaving}
+use Rattle.ultra_model.specs.Machine.{Settings, Machine, size, last_stage, reply_exit, replies_at, bank_at, element_at}
+use Rattle.ultra_model.specs.Phases.{delivery, deliver, without_reply, records_left, replies_made, has_reply_room, reply_before, arriving_reply, leaving_reply, replies_at_exit, next_replies, lane_after_split, delivered, reply_phase}
 use Rattle.ultra_block.specs.RoomTable.{RoomTable, where_room, reply_room, reply_goes}
 use Rattle.ultra_block.specs.Halves.{ports, going_by, lane_after_reply, replies_without, with_arrived}
 use Rattle.ultra_block.specs.SwitchSteps as switch

@@ -11,10 +11,10 @@ use Rattle.ultra_switch.specs.Arrive.{Lane, Combination, combine_within, arrive}
 use Rattle.ultra_switch.specs.Queues.{SizedLane, request_of}
 use Rattle.ultra_mem.specs.declared.Placed.{Placed}
 use Rattle.ultra_mem.specs.Serve.{Bank}
-use Rattle.ultra_block.specs.declared.Stop.{Stop}
-use Rattle.ultra_block.specs.Places.{present, joined, after_leaving}
-use Rattle.ultra_block.specs.Machine.{Settings, Machine, Element, size, last_stage, is_nothing, lane_at, bank_at, element_at}
-use Rattle.ultra_block.specs.Phases.{without_pending, with_request, arrive_all, combination, combinations, has_request_room, request_before, admitted, arriving_request, entering, leaving_request, requests_by, arrivals_by, arrivals, lane_after_leaving, next_lane, request_phase}
+use Rattle.ultra_model.specs.declared.Stop.{Stop}
+use Rattle.ultra_model.specs.Places.{present, joined, after_leaving}
+use Rattle.ultra_model.specs.Machine.{Settings, Machine, Element, size, last_stage, is_nothing, lane_at, bank_at, element_at}
+use Rattle.ultra_model.specs.Phases.{without_pending, with_request, arrive_all, combination, combinations, has_request_room, request_before, admitted, arriving_request, entering, leaving_request, requests_by, arrivals_by, arrivals, lane_after_leaving, next_lane, request_phase}
 use Rattle.ultra_block.specs.RoomTable.{RoomTable, where_room, exit_of, request_room, module_room, request_sent, request_from}
 use Rattle.ultra_block.specs.Halves.{ports, lane_without, lane_with, lane_with_both, leaves_by, coming_to, first_of, second_of, combination_event, combined_at, combined_both, bank_with}
 use Rattle.ultra_block.specs.SwitchSteps as switch

@@ -16,8 +16,8 @@ use Rattle.ultra_isa.specs.declared.Step.TheVariants as step
 use Rattle.ultra_isa.specs.Step.{has_stopped, Stepped, stays}
 use Rattle.ultra_switch.specs.declared.Ports.{Ports}
 use Rattle.ultra_switch.specs.Queues.{SizedLane, SizedReplies, request_of}
-use Rattle.ultra_block.specs.Machine.{Element, is_nothing}
-use Rattle.ultra_block.specs.Phases.{without_reply, issue_event, stop_of, stepped, deliver}
+use Rattle.ultra_model.specs.Machine.{Element, is_nothing}
+use Rattle.ultra_model.specs.Phases.{without_reply, issue_event, stop_of, stepped, deliver}
 use Rattle.ultra_block.specs.Elements.{element_of, with_element, delivered_to, element_without, step_at}
 use Rattle.ultra_block.specs.RoomTable.{RoomTable, where_room, reply_goes, reply_room, request_from, request_sent}
 use Rattle.ultra_block.specs.Rest.{has_none}
@@ -30,7 +30,7 @@ use Rattle.ultra_route.specs.Route.{unshuffled}
 use Rattle.ultra_block.specs.Numbers.{switch_number, place_number}
 use Rattle.ultra_block.specs.Tables.{closed, sent, reply_rooms, request_rooms, module_rooms, switch_replies, switch_requests, module_replies, element_requests, without_replies_out, without_requests_out, without_reply_out, without_request_out}
 use Rattle.ultra_block.specs.Rest.{is_nothing_at, has_no_replies, has_no_requests, posts_no_reply, sends_no_reply, takes_no_reply, posts_no_request, sends_no_request, has_not_combined, takes_no_request, has_all_rooms, module_posts_nothing, module_sends_nothing, module_serves_nothing, module_takes_nothing, element_takes_nothing, element_posts_nothing, element_sends_nothing, element_executes_nothing}
-use Rattle.ultra_block.specs.declared.Stop.{Stop}
+use Rattle.ultra_model.specs.declared.Stop.{Stop}
 use Rattle.ultra_block.specs.declared.switch_unit.SwitchUnit.{SwitchUnit}
 use Rattle.ultra_block.specs.declared.module_unit.ModuleUnit.{ModuleUnit}
 use Rattle.ultra_block.specs.declared.element_unit.ElementUnit.{ElementUnit}

@@ -5,7 +5,7 @@ use Rattle.std.specs.List.{flat_map}
 use Rattle.std.proofs.lemmas.Bool.{cases_eq}
 use Rattle.std.proofs.lemmas.List.{length-set, get_or-set_same, get_or-set_other, take_more, take_all, drop_more, map-append, append_assoc}
 use Rattle.ultra_block.specs.IdleSet.{is_idle, IsNextBusy, AreAllIdle}
-use Rattle.ultra_block.specs.Machine.{is_nothing}
+use Rattle.ultra_model.specs.Machine.{is_nothing}
 use Rattle.ultra_block.specs.MailTable.{AreEmptyFrom, IsNextLink}
 use Rattle.ultra_block.specs.Rest.{AreAtRest}
 use Rattle.ultra_block.specs.Tables.{Entry, written}

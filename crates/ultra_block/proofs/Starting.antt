@@ -5,8 +5,8 @@ use Rattle.std.specs.List.{range_with_len, AllByRecursion}
 use Rattle.ultra_msg.specs.declared.Event.{Event}
 use Rattle.ultra_switch.specs.Arrive.{empty_lane}
 use Rattle.ultra_switch.specs.Queues.{empty_requests, empty_replies}
-use Rattle.ultra_block.specs.Places.{places, table, present, joined}
-use Rattle.ultra_block.specs.Machine.{Settings, size, given_value, start}
+use Rattle.ultra_model.specs.Places.{places, table, present, joined}
+use Rattle.ultra_model.specs.Machine.{Settings, size, given_value, start}
 use Rattle.ultra_block.specs.Halves.{ports}
 use Rattle.ultra_block.specs.Fresh.{new_switch, new_module, new_element}
 use Rattle.ultra_block.specs.Ported.{at_port}
@@ -14,7 +14,7 @@ use Rattle.ultra_block.specs.Whole.{Units, both, sized_lane, sized_replies, comb
 use Rattle.ultra_block.specs.Boxes.{AreClear}
 use Rattle.ultra_block.specs.Kinds.{is_combination, is_issue, AreOfKind}
 use Rattle.ultra_block.specs.Ready.{all_events, machine_from}
-use Rattle.ultra_block.proofs.Each.{length-places}
+use Rattle.ultra_model.proofs.Each.{length-places}
 use Rattle.ultra_block.proofs.AtUnits.{by_port, same_table, same_machine}
 use Rattle.ultra_block.proofs.Alike.{AreAlike, machine_alike}
 

@@ -5,7 +5,7 @@ use Rattle.std.specs.List.{flat_map}
 use Rattle.std.proofs.lemmas.Nat.{div-add-mod', pow_pos}
 use Rattle.std.proofs.Math.Nat.{div-lt_iff_lt-mul}
 use Rattle.std.proofs.lemmas.List.{length-replicate}
-use Rattle.ultra_block.specs.Machine.{Settings}
+use Rattle.ultra_model.specs.Machine.{Settings}
 use Rattle.ultra_block.specs.Numbers.{switch_number}
 use Rattle.ultra_block.specs.SwitchSteps as switch
 use Rattle.ultra_block.specs.ModuleSteps as bank

@@ -3,15 +3,15 @@ use Rattle.std.proofs.Common.{◌≡◌, ◌≢◌, ℕ, ◌+◌, ◌*◌, ◌-�
 use Rattle.std.proofs.lemmas.Bool.{cases_eq}
 use Rattle.std.proofs.lemmas.Nat.{div-add-mod', div-mul-add, mod-mul-add}
 use Rattle.std.proofs.lemmas.List.{get_or-set_same, get_or-set_other, length-set, length_push, get_or_append_left, get_or_push, get_or-replicate, length-replicate}
-use Rattle.ultra_block.specs.Machine.{Settings, start}
+use Rattle.ultra_model.specs.Machine.{Settings, start}
 use Rattle.ultra_block.specs.Numbers.{switch_number}
 use Rattle.ultra_block.specs.BlockState.{BlockState}
 use Rattle.ultra_block.specs.BlockSteps.{with_switch, with_module, with_element}
 use Rattle.ultra_block.specs.Fresh.{new_switch, new_module, new_element}
 use Rattle.ultra_block.specs.Built.{AreBuilt, made_switch}
 use Rattle.ultra_block.specs.Ready.{machine_from, IsReady}
-use Rattle.ultra_block.specs.Ranges.{AreInRange}
-use Rattle.ultra_block.specs.Sound.{IsSound}
+use Rattle.ultra_model.specs.Ranges.{AreInRange}
+use Rattle.ultra_model.specs.Sound.{IsSound}
 use Rattle.ultra_block.specs.RoomTable.{RoomTable}
 use Rattle.ultra_block.specs.MailTable.{MailTable}
 use Rattle.ultra_block.specs.Cut.{no_block, no_switch, no_module, no_element, AreDone, switches_of, modules_of, elements_of, home_at, module_home, element_home, units_at, HasPlaces, HasLinks}
@@ -24,7 +24,7 @@ use Rattle.ultra_block.proofs.Standing.{number_small}
 use Rattle.ultra_block.proofs.Alike.{AreAlike, fit_alike, kinds_alike}
 use Rattle.ultra_block.proofs.Boxes.{clear_alike}
 use Rattle.ultra_block.proofs.Starting.{clear_new, new_units, starts_alike, fit_new, kinds_new}
-use Rattle.ultra_block.proofs.Sound.{sound-start}
+use Rattle.ultra_model.proofs.Sound.{sound-start}
 
 -- a block that is changed has still made no cycle
 done_set : (bs : List BlockState) (b : ℕ) (new : BlockState) → b < length bs → new.done ≡ (get_or bs b no_block).done → AreDone 0 bs → AreDone 0 (set bs b new)

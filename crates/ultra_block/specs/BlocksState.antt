@@ -1,5 +1,5 @@
 -- the whole machine that some blocks hold
-use Rattle.ultra_block.specs.Machine.{Machine}
+use Rattle.ultra_model.specs.Machine.{Machine}
 use Rattle.ultra_block.specs.Whole.{Units}
 use Rattle.ultra_block.specs.Cut.{units_at}
 use Rattle.ultra_block.specs.Ready.{machine_from, IsReady}

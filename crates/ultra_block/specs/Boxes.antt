@@ -1,6 +1,6 @@
 -- units to which nothing comes and which nothing leaves
 use Rattle.std.specs.Prelude.{◌≡◌, ℕ, ◌-◌, ◌^◌, ◌<◌, None}
-use Rattle.ultra_block.specs.Machine.{Settings, size}
+use Rattle.ultra_model.specs.Machine.{Settings, size}
 use Rattle.ultra_block.specs.Halves.{ports}
 use Rattle.ultra_block.specs.Whole.{Units}
 use Rattle.ultra_block.specs.declared.switch_unit.SwitchUnit.{SwitchUnit}

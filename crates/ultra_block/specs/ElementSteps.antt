@@ -4,7 +4,7 @@ use Rattle.std.specs.Option.{ForSome}
 use Rattle.ultra_msg.specs.declared.Request.{Request}
 use Rattle.ultra_route.specs.Route.{shuffled}
 use Rattle.ultra_isa.specs.declared.Instr.{Instr}
-use Rattle.ultra_block.specs.Phases.{issue_event, stop_of}
+use Rattle.ultra_model.specs.Phases.{issue_event, stop_of}
 use Rattle.ultra_block.specs.RoomTable.{RoomTable, request_sent}
 use Rattle.ultra_block.specs.Elements.{element_of, delivered_to, element_without, step_at, executed}
 use Rattle.ultra_block.specs.declared.element_unit.ElementUnit.{ElementUnit}

@@ -2,9 +2,9 @@
 use Rattle.std.specs.Prelude.{List, Option}
 use Rattle.ultra_isa.specs.declared.Instr.{Instr}
 use Rattle.ultra_isa.specs.Step.{Stepped, step_of}
-use Rattle.ultra_block.specs.Places.{after_leaving}
-use Rattle.ultra_block.specs.Machine.{Element}
-use Rattle.ultra_block.specs.Phases.{deliver, stepped}
+use Rattle.ultra_model.specs.Places.{after_leaving}
+use Rattle.ultra_model.specs.Machine.{Element}
+use Rattle.ultra_model.specs.Phases.{deliver, stepped}
 use Rattle.ultra_block.specs.declared.element.ProcessingElement.{ProcessingElement}
 use Rattle.ultra_msg.specs.declared.ReplyMessage.{ReplyMessage}
 

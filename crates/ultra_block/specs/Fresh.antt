@@ -4,8 +4,8 @@ use Rattle.ultra_switch.specs.Queues.{empty_requests, empty_replies}
 use Rattle.ultra_mem.specs.Serve.{Bank}
 use Rattle.ultra_pni.specs.Interface.{empty_interface}
 use Rattle.ultra_isa.specs.Step.{fresh_core}
-use Rattle.ultra_block.specs.Places.{places}
-use Rattle.ultra_block.specs.Machine.{Settings, given_value, site, size}
+use Rattle.ultra_model.specs.Places.{places}
+use Rattle.ultra_model.specs.Machine.{Settings, given_value, site, size}
 use Rattle.ultra_block.specs.Halves.{ports}
 use Rattle.ultra_block.specs.declared.switch_unit.SwitchUnit.{SwitchUnit}
 use Rattle.ultra_block.specs.declared.module_unit.ModuleUnit.{ModuleUnit}

@@ -11,8 +11,8 @@ use Rattle.ultra_switch.specs.declared.Ports.{Ports}
 use Rattle.ultra_switch.specs.Arrive.{Combination, combine_within}
 use Rattle.ultra_switch.specs.Queues.{SizedLane, SizedReplies}
 use Rattle.ultra_mem.specs.Serve.{Bank}
-use Rattle.ultra_block.specs.Places.{after_leaving}
-use Rattle.ultra_block.specs.Phases.{records_left, replies_made, arrive_all}
+use Rattle.ultra_model.specs.Places.{after_leaving}
+use Rattle.ultra_model.specs.Phases.{records_left, replies_made, arrive_all}
 
 abbrev pub ports : {X : Type 0} → X → X → Ports X
 ports x y = record { zero = x; one = y }

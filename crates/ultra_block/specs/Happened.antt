@@ -1,6 +1,6 @@
 -- where something may have happened in the last cycle, as sets of numbers: of all other units it is known that nothing has
 use Rattle.std.specs.Prelude.{◌≡◌, ℕ, ◌-◌, ◌^◌, ◌<◌, List, Bool, true, None, slice_index_or, length}
-use Rattle.ultra_block.specs.Machine.{Settings, is_nothing, size}
+use Rattle.ultra_model.specs.Machine.{Settings, is_nothing, size}
 use Rattle.ultra_block.specs.Numbers.{switch_number}
 use Rattle.ultra_block.specs.IdleSet.{is_idle}
 use Rattle.ultra_block.specs.Rest.{did_nothing, has_not_combined}

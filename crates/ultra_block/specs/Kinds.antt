@@ -3,7 +3,7 @@ use Rattle.std.specs.Prelude.{◌≡◌, Bool, true, false}
 use Rattle.std.specs.List.{AllByRecursion}
 use Rattle.ultra_msg.specs.declared.Event.{Event}
 use Rattle.ultra_msg.specs.declared.Event.TheVariants.{Delivered, Served, Combined, Issued}
-use Rattle.ultra_block.specs.Machine.{Settings}
+use Rattle.ultra_model.specs.Machine.{Settings}
 use Rattle.ultra_block.specs.Whole.{Units, all_combined, issues}
 
 abbrev pub is_combination : Event → Bool

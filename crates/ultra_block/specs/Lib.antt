@@ -1,8 +1,3 @@
-pub mod Places
-pub mod Machine
-pub mod Phases
-pub mod Valid
-pub mod Accepted
 pub mod Numbers
 pub mod RoomTable
 pub mod Halves
@@ -16,12 +11,6 @@ pub mod Tables
 pub mod BlockSteps
 pub mod Ported
 pub mod Whole
-pub mod Ranges
-pub mod Shape
-pub mod Capacity
-pub mod Routed
-pub mod Balance
-pub mod Sound
 pub mod Cut
 pub mod Cycle
 pub mod Kinds
@@ -31,7 +20,6 @@ pub mod Happened
 pub mod Fresh
 pub mod Built
 pub mod Partition
-pub mod Words
 pub mod Quiet
 pub mod Making
 pub mod Course

@@ -3,7 +3,7 @@ use Rattle.std.specs.Prelude.{◌≡◌, ◌-◌, ◌/◌, ◌<◌, ◌^◌, len
 use Rattle.std.specs.Option.{ForSome}
 use Rattle.ultra_msg.specs.declared.ReplyMessage.{ReplyMessage}
 use Rattle.ultra_mem.specs.Serve.{serve, served}
-use Rattle.ultra_block.specs.Phases.{without_reply}
+use Rattle.ultra_model.specs.Phases.{without_reply}
 use Rattle.ultra_block.specs.RoomTable.{RoomTable, where_room, reply_room}
 use Rattle.ultra_block.specs.Halves.{bank_with}
 use Rattle.ultra_block.specs.declared.module_unit.ModuleUnit.{ModuleUnit}

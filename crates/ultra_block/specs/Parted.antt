@@ -2,8 +2,8 @@
 use Rattle.std.specs.Prelude.{◌≡◌, ℕ, ◌*◌, ◌-◌, ◌^◌, ◌<◌, ◌≤◌, List, [], ◌∷◌, ◌++◌, Bool, true, false, ◌==◌, Option, Some, None, Vec, map, take, drop, length, slice_index_or}
 use Rattle.std.specs.Vec.{vec_len, vec_capacity}
 use Rattle.std.specs.declared.alloc.Global.{Global}
-use Rattle.ultra_block.specs.Places.{places}
-use Rattle.ultra_block.specs.Balance.{count}
+use Rattle.ultra_model.specs.Places.{places}
+use Rattle.ultra_model.specs.Balance.{count}
 use Rattle.ultra_block.specs.BlockState.{BlockState}
 use Rattle.ultra_block.specs.Cut.{units_of, switches_of, modules_of, elements_of, AreDone}
 use Rattle.ultra_block.specs.SwitchSteps as switch

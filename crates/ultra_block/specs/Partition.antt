@@ -1,7 +1,7 @@
 -- a partition names a block for each unit: switches first, then modules, then processing elements. Blocks 0 to 63 are this project's profile
 use Rattle.std.specs.Prelude.{ℕ, ◌+◌, ◌-◌, ◌*◌, ◌^◌, List, Bool, ◌&&◌, ◌==◌, nat_lt, length}
 use Rattle.std.specs.List.{list_all}
-use Rattle.ultra_block.specs.Machine.{Settings}
+use Rattle.ultra_model.specs.Machine.{Settings}
 use Rattle.ultra_block.specs.declared.home.Home.{Home}
 
 abbrev pub unit_count : Settings → ℕ

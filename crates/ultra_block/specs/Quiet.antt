@@ -3,7 +3,7 @@ use Rattle.std.specs.Prelude.{Bool, ◌&&◌}
 use Rattle.std.specs.List.{list_all}
 use Rattle.ultra_switch.specs.Queues.{SizedLane}
 use Rattle.ultra_isa.specs.Step.{has_stopped}
-use Rattle.ultra_block.specs.Machine.{is_nothing}
+use Rattle.ultra_model.specs.Machine.{is_nothing}
 use Rattle.ultra_block.specs.Rest.{has_none}
 use Rattle.ultra_block.specs.BlockState.{BlockState}
 use Rattle.ultra_block.specs.declared.switch_unit.SwitchUnit.{SwitchUnit}

@@ -1,9 +1,9 @@
 -- a whole machine, cut into blocks, between two cycles
 use Rattle.std.specs.Prelude.{◌≡◌, ℕ, ◌+◌, ◌-◌, ◌*◌, ◌^◌, List, ◌++◌, length}
 use Rattle.ultra_msg.specs.declared.Event.{Event}
-use Rattle.ultra_block.specs.Machine.{Settings, Machine}
-use Rattle.ultra_block.specs.Ranges.{AreInRange}
-use Rattle.ultra_block.specs.Sound.{IsSound}
+use Rattle.ultra_model.specs.Machine.{Settings, Machine}
+use Rattle.ultra_model.specs.Ranges.{AreInRange}
+use Rattle.ultra_model.specs.Sound.{IsSound}
 use Rattle.ultra_block.specs.RoomTable.{RoomTable}
 use Rattle.ultra_block.specs.MailTable.{MailTable}
 use Rattle.ultra_block.specs.BlockState.{BlockState}

@@ -2,7 +2,7 @@
 use Rattle.std.specs.Prelude.{◌≡◌, ℕ, ◌<◌, List, Bool, true, false, ◌&&◌, ◌==◌, Option, length, slice_index_or}
 use Rattle.ultra_switch.specs.declared.Ports.{Ports}
 use Rattle.ultra_isa.specs.Step.{has_stopped}
-use Rattle.ultra_block.specs.Machine.{is_nothing}
+use Rattle.ultra_model.specs.Machine.{is_nothing}
 use Rattle.ultra_block.specs.Halves.{has_place_for}
 use Rattle.ultra_block.specs.SwitchSteps.{has_reply_room}
 use Rattle.ultra_block.specs.IdleSet.{is_idle}

@@ -3,12 +3,12 @@ use Rattle.std.specs.Prelude.{◌≡◌, ℕ, ◌-◌, ◌/◌, ◌%◌, ◌^◌
 use Rattle.ultra_msg.specs.declared.Event.{Event}
 use Rattle.ultra_switch.specs.declared.Ports.{Ports}
 use Rattle.ultra_switch.specs.Queues.{SizedLane, SizedReplies}
-use Rattle.ultra_block.specs.Places.{places, table, present, joined}
-use Rattle.ultra_block.specs.Machine.{Settings, Machine, size, site}
-use Rattle.ultra_block.specs.Phases.{delivery, serving}
+use Rattle.ultra_model.specs.Places.{places, table, present, joined}
+use Rattle.ultra_model.specs.Machine.{Settings, Machine, size, site}
+use Rattle.ultra_model.specs.Phases.{delivery, serving}
 use Rattle.ultra_block.specs.Ported.{at_port}
 use Rattle.ultra_block.specs.Elements.{element_of}
-use Rattle.ultra_block.specs.declared.Stop.{Stop}
+use Rattle.ultra_model.specs.declared.Stop.{Stop}
 use Rattle.ultra_block.specs.declared.switch_unit.SwitchUnit.{SwitchUnit}
 use Rattle.ultra_block.specs.declared.module_unit.ModuleUnit.{ModuleUnit}
 use Rattle.ultra_block.specs.declared.element_unit.ElementUnit.{ElementUnit}

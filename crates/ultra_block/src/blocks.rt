@@ -4,14 +4,12 @@ ghost use Rattle.std.specs.Prelude.{◌≡◌, ℕ, ◌+◌, ◌-◌, ◌/◌, �
 ghost use Rattle.std.specs.List.{list_all};
 ghost use Rattle.ultra_block.specs.Partition.{is_partition, unit_count};
 ghost use Rattle.ultra_block.specs.Ported.{at_port};
-ghost use Rattle.ultra_block.specs.Machine.{start, lane_at, replies_at, bank_at, element_at, is_quiet};
-ghost use Rattle.ultra_block.specs.Phases.{cycle as next_cycle};
+ghost use Rattle.ultra_model.specs.Machine.{start, lane_at, replies_at, bank_at, element_at, is_quiet};
+ghost use Rattle.ultra_model.specs.Phases.{cycle as next_cycle};
 
-use crate::Stop;
 use crate::apart::{Parts, gather};
 use crate::block::Block;
 use crate::building::{add_elements, add_modules, add_switches, empty_blocks};
-use crate::config::Config;
 use crate::cutting::Room;
 use crate::element::ProcessingElement;
 use crate::element_unit::ElementUnit;
@@ -29,6 +27,7 @@ use std::mem;
 use thiserror::Error;
 use ultra_isa::Program;
 use ultra_mem::{Module, Served};
+use ultra_model::{Config, Stop};
 use ultra_msg::{Event, Pe, ReplyMessage};
 use ultra_switch::{Ports, ToMm, ToPe};
 

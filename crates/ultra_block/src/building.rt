@@ -11,7 +11,6 @@ ghost use Rattle.ultra_block.specs.ModuleSteps as bank;
 ghost use Rattle.ultra_block.specs.ElementSteps as element;
 
 use crate::block::Block;
-use crate::config::Config;
 use crate::element::ProcessingElement;
 use crate::element_unit::ElementUnit;
 use crate::home::Home;
@@ -21,6 +20,7 @@ use crate::switch_unit::SwitchUnit;
 use std::alloc::{AllocError, Global};
 use ultra_isa::Processor;
 use ultra_mem::Module;
+use ultra_model::Config;
 use ultra_msg::{Cell, Pe, Word};
 use ultra_pni::Pni;
 use ultra_switch::{Ports, Switch};

@@ -2,7 +2,7 @@
 
 ghost use Rattle.std.specs.Prelude.{◌≡◌, ℕ, ◌+◌, ◌-◌, ◌*◌, ◌^◌, ◌<◌, ◌≤◌, ◌++◌, All, IfOk, IsSome, None, length, slice_index_or};
 ghost use Rattle.std.specs.Vec.{vec_len, vec_capacity};
-ghost use Rattle.ultra_block.specs.Places.{places};
+ghost use Rattle.ultra_model.specs.Places.{places};
 ghost use Rattle.std.specs.declared.alloc.Global.{Global};
 ghost use Rattle.std.specs.Prelude.{Vec};
 ghost use Rattle.ultra_block.specs.Cut.{no_block};

@@ -3,13 +3,13 @@
 ghost use Rattle.std.specs.Prelude.{◌≡◌, ℕ, ◌^◌, ◌<◌};
 ghost use Rattle.ultra_block.specs.Numbers.{place_number};
 
-use crate::Stop;
 use crate::element::ProcessingElement;
 use crate::mail::Mail;
 use crate::numbers::place_number;
 use crate::requests::send_request;
 use crate::rooms::Rooms;
 use ultra_isa::{Program, Step};
+use ultra_model::Stop;
 use ultra_msg::{Event, Pe, ReplyMessage, Request};
 use ultra_route::Net;
 

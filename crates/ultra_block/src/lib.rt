@@ -1,11 +1,10 @@
-//! The whole machine: its definition, its settings, and the blocks into which it may be cut.
+//! The machine cut into blocks: each half of a cycle of a block, the exchange between blocks, and a cycle of them all.
 #![tactic(auto)]
 
 mod apart;
 mod block;
 mod blocks;
 mod building;
-mod config;
 mod cutting;
 mod delivery;
 mod element;
@@ -29,18 +28,8 @@ mod switch_unit;
 
 pub use block::Block;
 pub use blocks::{Blocks, MOST_BLOCKS, PartitionFault};
-pub use config::{Config, ConfigFault, Field, MOST_STAGES, RawSettings};
 pub use element::ProcessingElement;
 pub use half::Half;
 pub use happened::Happened;
 pub use home::Home;
 pub use rooms::Rooms;
-use ultra_isa::MachineFault;
-use ultra_msg::Pe;
-
-/// A processing element that faulted in the last cycle, and why.
-#[derive(Clone, Copy, PartialEq, Eq, Debug, Drop)]
-pub struct Stop {
-    pub pe: Pe,
-    pub fault: MachineFault,
-}

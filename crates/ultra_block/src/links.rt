@@ -18,7 +18,7 @@ pub(crate) struct Links<T> {
 
 impl<T> Model for Links<T> {
     ghost use Rattle.std.specs.Prelude.{List, Option};
-    ghost use Rattle.ultra_block.specs.Machine.{is_nothing};
+    ghost use Rattle.ultra_model.specs.Machine.{is_nothing};
     ghost use Rattle.ultra_block.specs.Rest.{AreAtRest};
 
     ghost Value = { List (Option T) };

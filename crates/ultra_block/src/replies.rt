@@ -2,7 +2,7 @@
 
 ghost use Rattle.std.specs.Prelude.{◌≡◌, ℕ, ◌+◌, ◌≤◌, ◌<◌, ◌∷◌, [], length, slice_get};
 ghost use Rattle.std.specs.Option.{ForSome};
-ghost use Rattle.ultra_block.specs.Phases.{replies_made, without_reply};
+ghost use Rattle.ultra_model.specs.Phases.{replies_made, without_reply};
 ghost use Rattle.ultra_block.specs.RoomTable.{where_room};
 ghost use Rattle.ultra_block.specs.Halves.{going_by, lane_after_reply, replies_without, with_replies};
 

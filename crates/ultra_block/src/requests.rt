@@ -5,7 +5,7 @@ ghost use Rattle.std.specs.Option.{ForSome};
 ghost use Rattle.ultra_route.specs.Route.{bit_of, with_lowest};
 ghost use Rattle.ultra_switch.specs.Arrive.{arrive, combine_within};
 ghost use Rattle.ultra_switch.specs.Queues.{request_of};
-ghost use Rattle.ultra_block.specs.Places.{after_leaving};
+ghost use Rattle.ultra_model.specs.Places.{after_leaving};
 ghost use Rattle.ultra_block.specs.RoomTable.{exit_of, request_from, request_room as room_at, request_sent};
 ghost use Rattle.ultra_block.specs.Halves.{combination_event, combined_at, coming_to, first_of, lane_with, lane_without, leaves_by, second_of};
 

@@ -1,6 +1,6 @@
 -- cycles that are made one after the other
 use Rattle.std.proofs.Common.{◌≡◌, ℕ, suc, ◌+◌, refl, arith, ap, ◌∙◌, subst}
-use Rattle.ultra_block.specs.Phases.{cycle}
+use Rattle.ultra_model.specs.Phases.{cycle}
 use Rattle.ultra_block.specs.BlocksState.{machine_of, IsWhole}
 use Rattle.ultra_block.specs.declared.blocks.Blocks.{Blocks}
 use Rattle.ultra_crew.specs.Cycles.{cycles_on, HasMade}

@@ -1,8 +1,8 @@
 -- several cycles, one after the other
 use Rattle.std.specs.Prelude.{◌≡◌, ℕ, zero, suc, ◌+◌, List}
 use Rattle.ultra_isa.specs.declared.Instr.{Instr}
-use Rattle.ultra_block.specs.Machine.{Settings, Machine}
-use Rattle.ultra_block.specs.Phases.{cycle}
+use Rattle.ultra_model.specs.Machine.{Settings, Machine}
+use Rattle.ultra_model.specs.Phases.{cycle}
 use Rattle.ultra_block.specs.BlocksState.{machine_of, IsWhole}
 use Rattle.ultra_block.specs.declared.blocks.Blocks.{Blocks}
 

@@ -2,7 +2,7 @@
 
 ghost use Rattle.std.specs.Prelude.{◌≡◌, ◌+◌, ◌-◌, ◌<◌, ◌≤◌, ◌^◌, IfOk, IsOk};
 ghost use Rattle.ultra_block.specs.BlocksState.{IsWhole, machine_of};
-ghost use Rattle.ultra_block.specs.Phases.{cycle as next_cycle};
+ghost use Rattle.ultra_model.specs.Phases.{cycle as next_cycle};
 ghost use Rattle.ultra_crew.specs.Course.{IsCourse};
 ghost use Rattle.ultra_crew.specs.Cycles.{cycles_on, HasMade};
 

@@ -4,7 +4,7 @@ ghost use Rattle.std.specs.Prelude.{◌≡◌, ℕ, ◌+◌, ◌-◌, ◌<◌, �
 ghost use Rattle.std.specs.Arc.{arc_value};
 ghost use Rattle.ultra_block.specs.BlocksState.{IsWhole, machine_of};
 ghost use Rattle.ultra_block.specs.Making.{CanMake, made};
-ghost use Rattle.ultra_block.specs.Phases.{cycle as next_cycle};
+ghost use Rattle.ultra_model.specs.Phases.{cycle as next_cycle};
 ghost use Rattle.ultra_crew.specs.Tasks.{CanBeMade, task_made};
 ghost use Rattle.ultra_crew.specs.Course.{AreResults, IsCourse, results_of};
 ghost use Rattle.ultra_crew.specs.Cycles.{HasMade};

@@ -6,8 +6,8 @@ use Rattle.std.proofs.lemmas.List.FromFn.{map-range_with_len_more}
 use Rattle.ultra_msg.specs.declared.Event.{Event}
 use Rattle.ultra_route.proofs.Table.{sizes}
 use Rattle.ultra_switch.specs.declared.Ports.{Ports}
-use Rattle.ultra_block.specs.Places.{places, table, present, joined}
-use Rattle.ultra_block.specs.Machine.{Settings, is_nothing}
+use Rattle.ultra_model.specs.Places.{places, table, present, joined}
+use Rattle.ultra_model.specs.Machine.{Settings, is_nothing}
 use Rattle.ultra_block.specs.Ported.{at_port}
 use Rattle.ultra_block.specs.Rest.{is_nothing_at}
 use Rattle.ultra_block.specs.Numbers.{switch_number}

@@ -4,7 +4,7 @@ use Rattle.std.specs.Prelude.{nat_lt, ◌&&◌}
 use Rattle.std.specs.List.{list_all}
 use Rattle.std.proofs.lemmas.List.{length-take-le, length-replicate}
 use Rattle.std.proofs.lemmas.Bool.{eq-eqb}
-use Rattle.ultra_block.specs.Machine.{Settings}
+use Rattle.ultra_model.specs.Machine.{Settings}
 use Rattle.ultra_block.specs.Partition.{unit_count, is_partition}
 
 zeros_below : (n m : ℕ) → list_all (λ (b : ℕ). nat_lt b 64) (take n (replicate m 0)) ≡ true

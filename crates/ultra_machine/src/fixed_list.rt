@@ -1,7 +1,7 @@
 //! A list whose places are made once.
 
 ghost use Rattle.std.specs.Prelude.{◌≡◌, ◌+◌, ◌≤◌, ◌<◌, [], ◌∷◌, ◌++◌, length, IfOk};
-ghost use Rattle.ultra_block.specs.Places.{present};
+ghost use Rattle.ultra_model.specs.Places.{present};
 
 use std::alloc::{AllocError, Global};
 use std::marker::Model;

@@ -1,9 +1,9 @@
 //! What happened in the last cycle of a whole machine, listed in order.
 
 ghost use Rattle.std.specs.Prelude.{◌≡◌, ◌+◌, ◌*◌, ◌≤◌, ◌<◌, [], ◌++◌, length};
-ghost use Rattle.ultra_block.specs.Places.{places, joined};
-ghost use Rattle.ultra_block.specs.Machine.{size};
-ghost use Rattle.ultra_block.specs.Phases.{delivery, serving};
+ghost use Rattle.ultra_model.specs.Places.{places, joined};
+ghost use Rattle.ultra_model.specs.Machine.{size};
+ghost use Rattle.ultra_model.specs.Phases.{delivery, serving};
 ghost use Rattle.ultra_block.specs.Whole.{both, deliveries, servings, combined_in, all_combined, issues};
 ghost use Rattle.ultra_block.specs.Happened.{IsKnown};
 ghost use Rattle.ultra_block.specs.BlocksState.{machine_of, units_of_blocks, IsWhole};

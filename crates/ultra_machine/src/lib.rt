@@ -7,11 +7,10 @@ mod machine;
 
 use fixed_list::FixedList;
 pub use machine::Machine;
-pub use ultra_block::{
-    Blocks, Config, ConfigFault, Field, MOST_STAGES, PartitionFault, ProcessingElement,
-    RawSettings, Stop,
-};
+pub use ultra_block::{Blocks, PartitionFault, ProcessingElement};
+pub use ultra_model::{Config, ConfigFault, Field, RawSettings, Stop};
 use ultra_msg::Event;
+pub use ultra_route::MOST_STAGES;
 
 /// The most events of a cycle, those of 6 stages: 64 deliveries, 64 servings, 2 combinations in each of 6 times 64 queues, and 64 issues.
 pub(crate) const MOST_EVENTS: usize = 960;

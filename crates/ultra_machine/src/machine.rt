@@ -1,8 +1,8 @@
 //! The whole machine.
 
 ghost use Rattle.std.specs.Prelude.{◌≡◌, ◌-◌, ◌^◌, ◌<◌, ◌≤◌, ◌↔◌, true, false, map, IfOk, OnOk, IfErr};
-ghost use Rattle.ultra_block.specs.Machine.{start, is_quiet as quiet, lane_at, replies_at, bank_at, element_at};
-ghost use Rattle.ultra_block.specs.Phases.{cycle as next_cycle};
+ghost use Rattle.ultra_model.specs.Machine.{start, is_quiet as quiet, lane_at, replies_at, bank_at, element_at};
+ghost use Rattle.ultra_model.specs.Phases.{cycle as next_cycle};
 ghost use Rattle.ultra_block.specs.Elements.{element_of};
 ghost use Rattle.ultra_block.specs.Partition.{block_of, is_partition, unit_count};
 ghost use Rattle.ultra_block.specs.BlocksState.{machine_of, IsWhole};
@@ -12,7 +12,7 @@ use crate::last_cycle::{list_events, list_stops};
 use crate::{Events, MOST_UNITS, Stops};
 use std::alloc::{AllocError, Global};
 use std::marker::Model;
-use ultra_block::{Blocks, Config, PartitionFault, ProcessingElement, Stop};
+use ultra_block::{Blocks, PartitionFault, ProcessingElement};
 use ultra_isa::Program;
 use ultra_mem::Module;
 use ultra_msg::{Event, Pe};

@@ -4,7 +4,7 @@ use Rattle.std.specs.List.{AllByRecursion}
 use Rattle.std.proofs.lemmas.List.{append-nil}
 use Rattle.ultra_msg.specs.declared.Event.{Event}
 use Rattle.ultra_msg.specs.declared.Event.TheVariants.{Delivered, Served, Combined, Issued}
-use Rattle.ultra_block.proofs.Each.{each-append, each-weaker, each-left}
+use Rattle.ultra_model.proofs.Each.{each-append, each-weaker, each-left}
 use Rattle.ultra_serial.specs.Log.{Issue, Answer}
 use Rattle.ultra_serial.specs.Legal.{Entry as Done, answered_by}
 use Rattle.ultra_serial.specs.SerialList.{History, noted, after_event}

@@ -4,10 +4,10 @@ use Rattle.std.specs.Prelude.{Some, slice_get}
 use Rattle.ultra_msg.specs.declared.Op.TheVariants.{Faa}
 use Rattle.ultra_msg.specs.declared.Reply.{Reply}
 use Rattle.ultra_msg.specs.declared.Reply.TheVariants.{Value, Ack}
-use Rattle.ultra_block.specs.Places.{places}
-use Rattle.ultra_block.specs.Machine.{start}
-use Rattle.ultra_block.specs.Phases.{after, cycle, reply_phase, memory_phase, request_phase, processor_phase, arriving_reply, arriving_request}
-use Rattle.ultra_block.proofs.Pairs.{one_stage, add_one}
+use Rattle.ultra_model.specs.Places.{places}
+use Rattle.ultra_model.specs.Machine.{start}
+use Rattle.ultra_model.specs.Phases.{after, cycle, reply_phase, memory_phase, request_phase, processor_phase, arriving_reply, arriving_request}
+use Rattle.ultra_model.proofs.Pairs.{one_stage, add_one}
 use Rattle.ultra_serial.specs.Legal.{Entry, Cells, IsLegal}
 use Rattle.ultra_serial.specs.SerialList.{history}
 use Rattle.ultra_serial.proofs.Rows.{done}

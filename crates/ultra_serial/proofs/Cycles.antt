@@ -2,8 +2,8 @@
 use Rattle.std.proofs.Common.{◌≡◌, ℕ, zero, suc, ◌+◌, List, refl, ap, ◌∙◌, add-one}
 use Rattle.ultra_msg.specs.declared.Event.{Event}
 use Rattle.ultra_isa.specs.declared.Instr.{Instr}
-use Rattle.ultra_block.specs.Machine.{Settings, Machine, start}
-use Rattle.ultra_block.specs.Phases.{after, cycle, reply_phase, memory_phase, request_phase, processor_phase}
+use Rattle.ultra_model.specs.Machine.{Settings, Machine, start}
+use Rattle.ultra_model.specs.Phases.{after, cycle, reply_phase, memory_phase, request_phase, processor_phase}
 use Rattle.ultra_machine.specs.Running.{Running}
 use Rattle.ultra_serial.specs.SerialList.{empty_history, noted, history}
 

@@ -9,7 +9,7 @@ use Rattle.ultra_msg.specs.Pair.{pair_of}
 use Rattle.ultra_switch.specs.declared.Entry.{Entry}
 use Rattle.ultra_switch.specs.declared.WaitRecord.{WaitRecord}
 use Rattle.ultra_mem.specs.declared.Placed.{Placed}
-use Rattle.ultra_block.specs.Machine.{Settings, Machine, size, lane_at, replies_at, bank_at, element_at}
+use Rattle.ultra_model.specs.Machine.{Settings, Machine, size, lane_at, replies_at, bank_at, element_at}
 use Rattle.ultra_serial.specs.Tree.{Tree, leaf, pair, Kept, tree_of}
 use Rattle.ultra_serial.specs.Log.{Issue}
 use Rattle.ultra_serial.specs.Legal.{Entry as Done, answered_by}

@@ -8,10 +8,10 @@ use Rattle.ultra_msg.specs.declared.Op.TheVariants.{Load}
 use Rattle.ultra_msg.specs.Pair.{pair_of}
 use Rattle.ultra_route.specs.Route.{line_of}
 use Rattle.ultra_switch.specs.declared.WaitRecord.{WaitRecord}
-use Rattle.ultra_block.specs.Machine.{Settings, Machine, size, lane_at}
-use Rattle.ultra_block.specs.Routed.{module_of}
-use Rattle.ultra_block.specs.Balance.{weight, count, record_passes}
-use Rattle.ultra_block.proofs.Counting.{is_reference}
+use Rattle.ultra_model.specs.Machine.{Settings, Machine, size, lane_at}
+use Rattle.ultra_model.specs.Routed.{module_of}
+use Rattle.ultra_model.specs.Balance.{weight, count, record_passes}
+use Rattle.ultra_model.proofs.Counting.{is_reference}
 use Rattle.ultra_serial.specs.Tree.{Tree, leaf, pair, Leaf}
 use Rattle.ultra_serial.specs.Log.{Issue, is_issue_for, latest_number}
 use Rattle.ultra_serial.proofs.Series.{sent, IsProper}

@@ -10,15 +10,15 @@ use Rattle.ultra_msg.specs.declared.Event.TheVariants.{Delivered, Served, Combin
 use Rattle.ultra_pni.specs.Interface.{Interface}
 use Rattle.ultra_isa.specs.declared.Instr.{Instr}
 use Rattle.ultra_isa.proofs.Steps.{SendsInto}
-use Rattle.ultra_block.specs.Places.{places, present}
-use Rattle.ultra_block.specs.Machine.{Settings, Machine, Element, size, site, element_at}
-use Rattle.ultra_block.specs.Phases.{issue_event, issues_after as count_after, step_at, processor_phase}
-use Rattle.ultra_block.specs.Balance.{weight, count, total}
-use Rattle.ultra_block.proofs.Each.{each-append, each-weaker, each-places, each-present}
-use Rattle.ultra_block.proofs.Sums.{total_only, total_zero}
-use Rattle.ultra_block.proofs.Counting.{count-none, is_reference}
-use Rattle.ultra_block.proofs.Balanced.{sends}
-use Rattle.ultra_block.proofs.AtPlaces.{element-processor_phase}
+use Rattle.ultra_model.specs.Places.{places, present}
+use Rattle.ultra_model.specs.Machine.{Settings, Machine, Element, size, site, element_at}
+use Rattle.ultra_model.specs.Phases.{issue_event, issues_after as count_after, step_at, processor_phase}
+use Rattle.ultra_model.specs.Balance.{weight, count, total}
+use Rattle.ultra_model.proofs.Each.{each-append, each-weaker, each-places, each-present}
+use Rattle.ultra_model.proofs.Sums.{total_only, total_zero}
+use Rattle.ultra_model.proofs.Counting.{count-none, is_reference}
+use Rattle.ultra_model.proofs.Balanced.{sends}
+use Rattle.ultra_model.proofs.AtPlaces.{element-processor_phase}
 use Rattle.ultra_serial.specs.Tree.{Leaf, leaves, Kept, trees_after}
 use Rattle.ultra_serial.specs.Log.{Issue}
 use Rattle.ultra_serial.specs.SerialList.{History, noted, after_event}

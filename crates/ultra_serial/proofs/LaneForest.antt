@@ -11,11 +11,11 @@ use Rattle.ultra_msg.specs.Pair.{pair_of}
 use Rattle.ultra_switch.specs.declared.Entry.{Entry}
 use Rattle.ultra_switch.specs.declared.WaitRecord.{WaitRecord}
 use Rattle.ultra_switch.specs.Arrive.{Lane, Combination, entry, behind, can_combine, wait_record, combined_entry, combine, combine_within, after_arrival, arrive}
-use Rattle.ultra_block.specs.Machine.{Settings, Machine}
-use Rattle.ultra_block.specs.Phases.{arrive_all, combination, combinations}
-use Rattle.ultra_block.specs.Balance.{weight, count, passes, entry_passes}
-use Rattle.ultra_block.proofs.Each.{each-append, each-weaker, if_tested}
-use Rattle.ultra_block.proofs.Counting.{both_true, count-append, is_reference}
+use Rattle.ultra_model.specs.Machine.{Settings, Machine}
+use Rattle.ultra_model.specs.Phases.{arrive_all, combination, combinations}
+use Rattle.ultra_model.specs.Balance.{weight, count, passes, entry_passes}
+use Rattle.ultra_model.proofs.Each.{each-append, each-weaker, if_tested}
+use Rattle.ultra_model.proofs.Counting.{both_true, count-append, is_reference}
 use Rattle.ultra_serial.specs.Tree.{Kept}
 use Rattle.ultra_serial.specs.Log.{Issue}
 use Rattle.ultra_serial.proofs.Series.{sent}

@@ -15,17 +15,17 @@ use Rattle.ultra_switch.specs.Arrive.{Lane, Combination, combine_within, arrive}
 use Rattle.ultra_mem.specs.declared.Served.{Served as Act}
 use Rattle.ultra_mem.specs.Serve.{Bank, served}
 use Rattle.ultra_isa.specs.declared.Instr.{Instr}
-use Rattle.ultra_block.specs.Places.{places, table, joined, present}
-use Rattle.ultra_block.specs.Machine.{Settings, Machine, Element, size, last_stage, start, given_value, replies_at, bank_at, element_at}
-use Rattle.ultra_block.specs.Phases.{delivery, delivered, deliver, without_reply, arriving_reply, with_request, entering, issue_event, step_at, serving, combination, combinations, lane_after_leaving, arrivals, reply_phase, memory_phase, request_phase, processor_phase, cycle, after}
-use Rattle.ultra_block.specs.Balance.{count}
-use Rattle.ultra_block.specs.Ranges.{AreInRange}
-use Rattle.ultra_block.specs.Sound.{IsSound}
-use Rattle.ultra_block.proofs.Each.{each-append, each-weaker, each-places, each-present, each-joined, each-first, some-weaker, places_at, length-places}
-use Rattle.ultra_block.proofs.Routes.{turns_back, module_small}
-use Rattle.ultra_block.proofs.Sound.{sound-start, sound-reply_phase, sound-memory_phase, sound-request_phase, sound-processor_phase}
-use Rattle.ultra_block.proofs.AtPlaces.{lane-start, replies-start, bank-start, element-start, bank-reply_phase, bank-request_phase, element-reply_phase, element-request_phase}
-use Rattle.ultra_block.proofs.Neighbours.{other}
+use Rattle.ultra_model.specs.Places.{places, table, joined, present}
+use Rattle.ultra_model.specs.Machine.{Settings, Machine, Element, size, last_stage, start, given_value, replies_at, bank_at, element_at}
+use Rattle.ultra_model.specs.Phases.{delivery, delivered, deliver, without_reply, arriving_reply, with_request, entering, issue_event, step_at, serving, combination, combinations, lane_after_leaving, arrivals, reply_phase, memory_phase, request_phase, processor_phase, cycle, after}
+use Rattle.ultra_model.specs.Balance.{count}
+use Rattle.ultra_model.specs.Ranges.{AreInRange}
+use Rattle.ultra_model.specs.Sound.{IsSound}
+use Rattle.ultra_model.proofs.Each.{each-append, each-weaker, each-places, each-present, each-joined, each-first, some-weaker, places_at, length-places}
+use Rattle.ultra_model.proofs.Routes.{turns_back, module_small}
+use Rattle.ultra_model.proofs.Sound.{sound-start, sound-reply_phase, sound-memory_phase, sound-request_phase, sound-processor_phase}
+use Rattle.ultra_model.proofs.AtPlaces.{lane-start, replies-start, bank-start, element-start, bank-reply_phase, bank-request_phase, element-reply_phase, element-request_phase}
+use Rattle.ultra_model.proofs.Neighbours.{other}
 use Rattle.ultra_serial.specs.Tree.{Leaf, served_leaves}
 use Rattle.ultra_serial.specs.Log.{Issue, Answer}
 use Rattle.ultra_serial.specs.Legal.{Entry as Done, Has, Cells, with_cell, given_over, given, answered_by, request_of, cells_after, replayed, IsLegal}

@@ -2,7 +2,7 @@
 use Rattle.std.proofs.Common.{◌≡◌, ℕ, zero, suc, ◌+◌, ◌<◌, ◌≤◌, List, [], ◌∷◌, ◌++◌, Bool, true, refl, arith, ap, inl, inr, map}
 use Rattle.std.specs.Prelude.{Some, slice_get}
 use Rattle.std.specs.List.{AllByRecursion}
-use Rattle.ultra_block.specs.Balance.{weight, count}
+use Rattle.ultra_model.specs.Balance.{weight, count}
 use Rattle.ultra_serial.specs.Tree.{Leaf}
 use Rattle.ultra_msg.specs.Act.{act}
 use Rattle.ultra_serial.specs.Legal.{Entry as Done, Has, Cells, with_cell, request_of, replayed}

@@ -15,19 +15,19 @@ use Rattle.ultra_switch.specs.declared.Entry.{Entry}
 use Rattle.ultra_switch.specs.declared.WaitRecord.{WaitRecord}
 use Rattle.ultra_mem.specs.declared.Placed.{Placed}
 use Rattle.ultra_mem.specs.Serve.{Bank, serve, served, to_serve, act_of, after_serving, value_at}
-use Rattle.ultra_block.specs.Places.{places, present}
-use Rattle.ultra_block.specs.Machine.{Settings, Machine, size, lane_at, replies_at, bank_at, element_at}
-use Rattle.ultra_block.specs.Phases.{serving, memory_phase}
-use Rattle.ultra_block.specs.Ranges.{AreInRange}
-use Rattle.ultra_block.specs.Shape.{HasShape}
-use Rattle.ultra_block.specs.Routed.{module_of, IsPlacedAt, IsEntryAt, IsOwn, IsRouted}
-use Rattle.ultra_block.specs.Balance.{count_option, total, passes, entry_passes, lane_on_way, bank_on_way, pending_on_way, on_way, IsBalanced}
-use Rattle.ultra_block.proofs.Each.{each-weaker, some-weaker}
-use Rattle.ultra_block.proofs.Sums.{total_same, total_plus, total_term, table_term}
-use Rattle.ultra_block.proofs.Counting.{is_reference}
-use Rattle.ultra_block.proofs.Neighbours.{other}
-use Rattle.ultra_block.proofs.Routes.{module_small, placed_within}
-use Rattle.ultra_block.proofs.AtPlaces.{bank-memory_phase}
+use Rattle.ultra_model.specs.Places.{places, present}
+use Rattle.ultra_model.specs.Machine.{Settings, Machine, size, lane_at, replies_at, bank_at, element_at}
+use Rattle.ultra_model.specs.Phases.{serving, memory_phase}
+use Rattle.ultra_model.specs.Ranges.{AreInRange}
+use Rattle.ultra_model.specs.Shape.{HasShape}
+use Rattle.ultra_model.specs.Routed.{module_of, IsPlacedAt, IsEntryAt, IsOwn, IsRouted}
+use Rattle.ultra_model.specs.Balance.{count_option, total, passes, entry_passes, lane_on_way, bank_on_way, pending_on_way, on_way, IsBalanced}
+use Rattle.ultra_model.proofs.Each.{each-weaker, some-weaker}
+use Rattle.ultra_model.proofs.Sums.{total_same, total_plus, total_term, table_term}
+use Rattle.ultra_model.proofs.Counting.{is_reference}
+use Rattle.ultra_model.proofs.Neighbours.{other}
+use Rattle.ultra_model.proofs.Routes.{module_small, placed_within}
+use Rattle.ultra_model.proofs.AtPlaces.{bank-memory_phase}
 use Rattle.ultra_serial.specs.Tree.{Tree, Kept, tree_of, leaves, leaves_of}
 use Rattle.ultra_serial.specs.Log.{Issue}
 use Rattle.ultra_serial.specs.Legal.{Entry as Done, Cells, cells_after, replayed}

@@ -4,10 +4,10 @@ use Rattle.std.specs.Prelude.{Option, Some, None}
 use Rattle.std.specs.List.{range_with_len}
 use Rattle.ultra_msg.specs.declared.Event.{Event}
 use Rattle.ultra_msg.specs.declared.Event.TheVariants.{Delivered, Served, Combined, Issued}
-use Rattle.ultra_block.specs.Places.{places, table, joined, present}
-use Rattle.ultra_block.specs.Balance.{weight, total}
-use Rattle.ultra_block.proofs.Sums.{total_none, total_front, total_same}
-use Rattle.ultra_block.proofs.Counting.{is_reference}
+use Rattle.ultra_model.specs.Places.{places, table, joined, present}
+use Rattle.ultra_model.specs.Balance.{weight, total}
+use Rattle.ultra_model.proofs.Sums.{total_none, total_front, total_same}
+use Rattle.ultra_model.proofs.Counting.{is_reference}
 use Rattle.ultra_serial.specs.Tree.{Tree, pair, Kept, kept, is_under, tree_of, without, paired, trees_after}
 use Rattle.ultra_serial.specs.SerialList.{History, noted, after_event}
 use Rattle.ultra_serial.proofs.Tidy.{is_that, that_is, zero_weight}

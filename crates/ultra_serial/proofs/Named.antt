@@ -4,9 +4,9 @@ use Rattle.std.specs.Prelude.{Option, Some, None}
 use Rattle.std.specs.List.{AllByRecursion}
 use Rattle.ultra_msg.specs.declared.Event.{Event}
 use Rattle.ultra_msg.specs.declared.Event.TheVariants.{Delivered, Served, Combined, Issued}
-use Rattle.ultra_block.specs.Balance.{count}
-use Rattle.ultra_block.proofs.Each.{each-append, each-weaker}
-use Rattle.ultra_block.proofs.Counting.{count-append}
+use Rattle.ultra_model.specs.Balance.{count}
+use Rattle.ultra_model.proofs.Each.{each-append, each-weaker}
+use Rattle.ultra_model.proofs.Counting.{count-append}
 use Rattle.ultra_serial.specs.Tree.{Tree, pair, Leaf, leaves, Kept, is_under, tree_of, without, paired, leaves_of}
 use Rattle.ultra_serial.specs.Log.{Issue}
 use Rattle.ultra_serial.specs.SerialList.{History, noted, after_event}

@@ -16,18 +16,18 @@ use Rattle.ultra_pni.specs.declared.OpenCell.{OpenCell}
 use Rattle.ultra_pni.specs.Interface.{Interface}
 use Rattle.ultra_isa.specs.declared.Instr.{Instr}
 use Rattle.ultra_isa.proofs.Steps.{SendsInto}
-use Rattle.ultra_block.specs.Places.{places, present}
-use Rattle.ultra_block.specs.Machine.{Settings, Machine, Element, size, site, lane_at, replies_at, bank_at, element_at}
-use Rattle.ultra_block.specs.Phases.{issue_event, step_at, processor_phase}
-use Rattle.ultra_block.specs.Ranges.{AreInRange}
-use Rattle.ultra_block.specs.Routed.{IsEntryAt, IsRecordAt, IsReplyAt, IsPlacedAt, IsReplyOf, IsOwn, IsRouted}
-use Rattle.ultra_block.specs.Balance.{weight, count, total, passes, reply_passes, entry_passes, record_passes, lane_on_way, replies_on_way, bank_on_way, pending_on_way, on_way, IsBalanced}
-use Rattle.ultra_block.proofs.Each.{each-append}
-use Rattle.ultra_block.proofs.Sums.{total_next, total_only, total_term, table_term}
-use Rattle.ultra_block.proofs.Counting.{is_reference}
-use Rattle.ultra_block.proofs.ReplyBalance.{opened_once}
-use Rattle.ultra_block.proofs.Balanced.{none_open, sends}
-use Rattle.ultra_block.proofs.AtPlaces.{element-processor_phase}
+use Rattle.ultra_model.specs.Places.{places, present}
+use Rattle.ultra_model.specs.Machine.{Settings, Machine, Element, size, site, lane_at, replies_at, bank_at, element_at}
+use Rattle.ultra_model.specs.Phases.{issue_event, step_at, processor_phase}
+use Rattle.ultra_model.specs.Ranges.{AreInRange}
+use Rattle.ultra_model.specs.Routed.{IsEntryAt, IsRecordAt, IsReplyAt, IsPlacedAt, IsReplyOf, IsOwn, IsRouted}
+use Rattle.ultra_model.specs.Balance.{weight, count, total, passes, reply_passes, entry_passes, record_passes, lane_on_way, replies_on_way, bank_on_way, pending_on_way, on_way, IsBalanced}
+use Rattle.ultra_model.proofs.Each.{each-append}
+use Rattle.ultra_model.proofs.Sums.{total_next, total_only, total_term, table_term}
+use Rattle.ultra_model.proofs.Counting.{is_reference}
+use Rattle.ultra_model.proofs.ReplyBalance.{opened_once}
+use Rattle.ultra_model.proofs.Balanced.{none_open, sends}
+use Rattle.ultra_model.proofs.AtPlaces.{element-processor_phase}
 use Rattle.ultra_serial.specs.Tree.{Tree, leaf, Leaf, Kept, kept, tree_of}
 use Rattle.ultra_serial.specs.Log.{Issue, latest_number, is_issue_for}
 use Rattle.ultra_serial.specs.Legal.{Entry as Done}

@@ -7,9 +7,9 @@ use Rattle.ultra_msg.specs.Act.{act}
 use Rattle.ultra_msg.specs.Pair.{pair_of, KeepsBoth}
 use Rattle.ultra_msg.proofs.Pairs.{pair_keeps}
 use Rattle.ultra_switch.specs.declared.WaitRecord.{WaitRecord}
-use Rattle.ultra_block.specs.Machine.{Settings, Machine}
-use Rattle.ultra_block.proofs.Each.{each-append}
-use Rattle.ultra_block.proofs.Neighbours.{itself, other}
+use Rattle.ultra_model.specs.Machine.{Settings, Machine}
+use Rattle.ultra_model.proofs.Each.{each-append}
+use Rattle.ultra_model.proofs.Neighbours.{itself, other}
 use Rattle.ultra_serial.specs.Tree.{Tree, leaf, pair, Leaf, leaves}
 use Rattle.ultra_serial.specs.Log.{Issue}
 use Rattle.ultra_serial.specs.Legal.{Entry as Done, Cells, with_cell, answered_by, cells_after, replayed}

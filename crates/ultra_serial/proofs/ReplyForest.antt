@@ -13,18 +13,18 @@ use Rattle.ultra_switch.specs.declared.WaitRecord.{WaitRecord}
 use Rattle.ultra_switch.specs.Split.{is_of, records_after, replies_of, old_reply, new_reply}
 use Rattle.ultra_mem.specs.declared.Placed.{Placed}
 use Rattle.ultra_mem.specs.Serve.{Bank}
-use Rattle.ultra_block.specs.Machine.{Settings, Machine, Element, size, last_stage, lane_at, replies_at, bank_at, element_at, reply_exit}
-use Rattle.ultra_block.specs.Phases.{deliver, delivered, without_reply, records_left, replies_made, arriving_reply, reply_before, has_reply_room, leaving_reply, replies_at_exit, next_replies, reply_phase}
-use Rattle.ultra_block.specs.Ranges.{AreInRange}
-use Rattle.ultra_block.specs.Routed.{IsByLine, IsEntryAt, IsRecordAt, IsReplyAt, IsPlacedAt, IsReplyOf, IsRouted}
-use Rattle.ultra_block.specs.Balance.{weight, count, count_option, total, reply_passes, entry_passes, record_passes, lane_on_way, replies_on_way, bank_on_way, IsBalanced}
-use Rattle.ultra_block.proofs.Each.{each-append, each-after_leaving, each-first, if_tested}
-use Rattle.ultra_block.proofs.OnRoute.{each-filter}
-use Rattle.ultra_block.proofs.Sums.{total_next, total_term}
-use Rattle.ultra_block.proofs.Counting.{is_reference, count-leaving}
-use Rattle.ultra_block.proofs.Routes.{routed-reply_phase, turns_back, arriving_reply_well, two_ports}
-use Rattle.ultra_block.proofs.ReplyBalance as replies
-use Rattle.ultra_block.proofs.AtPlaces.{lane-reply_phase, replies-reply_phase, bank-reply_phase, element-reply_phase}
+use Rattle.ultra_model.specs.Machine.{Settings, Machine, Element, size, last_stage, lane_at, replies_at, bank_at, element_at, reply_exit}
+use Rattle.ultra_model.specs.Phases.{deliver, delivered, without_reply, records_left, replies_made, arriving_reply, reply_before, has_reply_room, leaving_reply, replies_at_exit, next_replies, reply_phase}
+use Rattle.ultra_model.specs.Ranges.{AreInRange}
+use Rattle.ultra_model.specs.Routed.{IsByLine, IsEntryAt, IsRecordAt, IsReplyAt, IsPlacedAt, IsReplyOf, IsRouted}
+use Rattle.ultra_model.specs.Balance.{weight, count, count_option, total, reply_passes, entry_passes, record_passes, lane_on_way, replies_on_way, bank_on_way, IsBalanced}
+use Rattle.ultra_model.proofs.Each.{each-append, each-after_leaving, each-first, if_tested}
+use Rattle.ultra_model.proofs.OnRoute.{each-filter}
+use Rattle.ultra_model.proofs.Sums.{total_next, total_term}
+use Rattle.ultra_model.proofs.Counting.{is_reference, count-leaving}
+use Rattle.ultra_model.proofs.Routes.{routed-reply_phase, turns_back, arriving_reply_well, two_ports}
+use Rattle.ultra_model.proofs.ReplyBalance as replies
+use Rattle.ultra_model.proofs.AtPlaces.{lane-reply_phase, replies-reply_phase, bank-reply_phase, element-reply_phase}
 use Rattle.ultra_serial.specs.Tree.{Kept}
 use Rattle.ultra_serial.specs.Log.{Issue}
 use Rattle.ultra_serial.specs.Legal.{Entry as Done}

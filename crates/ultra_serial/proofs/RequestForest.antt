@@ -16,20 +16,20 @@ use Rattle.ultra_switch.specs.Arrive.{Lane, wait_record, combined_entry}
 use Rattle.ultra_switch.specs.Queues.{request_of}
 use Rattle.ultra_mem.specs.declared.Placed.{Placed}
 use Rattle.ultra_mem.specs.Serve.{Bank}
-use Rattle.ultra_block.specs.Places.{table, joined}
-use Rattle.ultra_block.specs.Machine.{Settings, Machine, size, last_stage, lane_at, replies_at, bank_at, element_at, request_exit}
-use Rattle.ultra_block.specs.Phases.{combinations, has_request_room, request_before, admitted, arriving_request, entering, with_request, leaving_request, requests_by, arrivals, lane_after_leaving, next_lane, request_phase}
-use Rattle.ultra_block.specs.Ranges.{AreInRange}
-use Rattle.ultra_block.specs.Routed.{IsEntryAt, IsRecordAt, IsReplyAt, IsPlacedAt, IsReplyOf, IsOwn, IsRouted}
-use Rattle.ultra_block.specs.Balance.{count, total, passes, reply_passes, entry_passes, record_passes, lane_on_way, replies_on_way, bank_on_way, pending_on_way, on_way, IsBalanced}
-use Rattle.ultra_block.proofs.Each.{each-append, each-after_leaving, each-first, if_tested}
-use Rattle.ultra_block.proofs.OnRoute.{some-request}
-use Rattle.ultra_block.proofs.Sums.{total_next, total_term, table_same, table_plus, table_term}
-use Rattle.ultra_block.proofs.Counting.{is_reference, arrive_all_way}
-use Rattle.ultra_block.proofs.ReplyBalance.{opened_once}
-use Rattle.ultra_block.proofs.Routes.{routed-request_phase, turns_back, two_ports}
-use Rattle.ultra_block.proofs.RequestBalance as requests
-use Rattle.ultra_block.proofs.AtPlaces.{lane-request_phase, bank-request_phase, element-request_phase}
+use Rattle.ultra_model.specs.Places.{table, joined}
+use Rattle.ultra_model.specs.Machine.{Settings, Machine, size, last_stage, lane_at, replies_at, bank_at, element_at, request_exit}
+use Rattle.ultra_model.specs.Phases.{combinations, has_request_room, request_before, admitted, arriving_request, entering, with_request, leaving_request, requests_by, arrivals, lane_after_leaving, next_lane, request_phase}
+use Rattle.ultra_model.specs.Ranges.{AreInRange}
+use Rattle.ultra_model.specs.Routed.{IsEntryAt, IsRecordAt, IsReplyAt, IsPlacedAt, IsReplyOf, IsOwn, IsRouted}
+use Rattle.ultra_model.specs.Balance.{count, total, passes, reply_passes, entry_passes, record_passes, lane_on_way, replies_on_way, bank_on_way, pending_on_way, on_way, IsBalanced}
+use Rattle.ultra_model.proofs.Each.{each-append, each-after_leaving, each-first, if_tested}
+use Rattle.ultra_model.proofs.OnRoute.{some-request}
+use Rattle.ultra_model.proofs.Sums.{total_next, total_term, table_same, table_plus, table_term}
+use Rattle.ultra_model.proofs.Counting.{is_reference, arrive_all_way}
+use Rattle.ultra_model.proofs.ReplyBalance.{opened_once}
+use Rattle.ultra_model.proofs.Routes.{routed-request_phase, turns_back, two_ports}
+use Rattle.ultra_model.proofs.RequestBalance as requests
+use Rattle.ultra_model.proofs.AtPlaces.{lane-request_phase, bank-request_phase, element-request_phase}
 use Rattle.ultra_serial.specs.Tree.{pair, Kept}
 use Rattle.ultra_serial.specs.Log.{Issue}
 use Rattle.ultra_serial.specs.Legal.{Entry as Done}

@@ -18,12 +18,12 @@ use Rattle.ultra_isa.specs.declared.Activity.TheVariants.{Running, Halted, Fault
 use Rattle.ultra_isa.specs.declared.Step.TheVariants as step
 use Rattle.ultra_isa.specs.Instruction.{Site}
 use Rattle.ultra_isa.specs.Step.{Core, stays, has_stopped, runs_as}
-use Rattle.ultra_block.specs.Places.{places, table, in_table, present, joined}
-use Rattle.ultra_block.specs.Machine.{Settings, Machine, Element, fresh_element, size, site, last_stage, start, lane_at, replies_at, bank_at, element_at, is_empty, is_nothing, is_quiet}
-use Rattle.ultra_block.specs.Phases.{delivery, serving, issue_event, combinations, has_reply_room, reply_before, arriving_reply, leaving_reply, replies_at_exit, next_replies, lane_after_split, delivered, without_reply, deliver, request_before, arriving_request, entering, with_request, leaving_request, arrivals_by, arrivals, lane_after_leaving, next_lane, without_pending, step_at, stepped, reply_phase, memory_phase, request_phase, processor_phase, cycle, after}
-use Rattle.ultra_block.proofs.Each.{each-places, each-joined, if_tested, length-places}
-use Rattle.ultra_block.proofs.Counting.{both_true}
-use Rattle.ultra_block.proofs.AtPlaces.{element-reply_phase, element-request_phase, element-processor_phase}
+use Rattle.ultra_model.specs.Places.{places, table, in_table, present, joined}
+use Rattle.ultra_model.specs.Machine.{Settings, Machine, Element, fresh_element, size, site, last_stage, start, lane_at, replies_at, bank_at, element_at, is_empty, is_nothing, is_quiet}
+use Rattle.ultra_model.specs.Phases.{delivery, serving, issue_event, combinations, has_reply_room, reply_before, arriving_reply, leaving_reply, replies_at_exit, next_replies, lane_after_split, delivered, without_reply, deliver, request_before, arriving_request, entering, with_request, leaving_request, arrivals_by, arrivals, lane_after_leaving, next_lane, without_pending, step_at, stepped, reply_phase, memory_phase, request_phase, processor_phase, cycle, after}
+use Rattle.ultra_model.proofs.Each.{each-places, each-joined, if_tested, length-places}
+use Rattle.ultra_model.proofs.Counting.{both_true}
+use Rattle.ultra_model.proofs.AtPlaces.{element-reply_phase, element-request_phase, element-processor_phase}
 use Rattle.ultra_serial.specs.Legal.{given, replayed}
 use Rattle.ultra_serial.specs.SerialList.{History, noted, history, serial_list}
 

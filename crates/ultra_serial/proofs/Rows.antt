@@ -4,11 +4,11 @@ use Rattle.ultra_msg.specs.declared.Op.{Op}
 use Rattle.ultra_msg.specs.declared.Op.TheVariants.{Load, Store, Faa}
 use Rattle.ultra_msg.specs.declared.Reply.{Reply}
 use Rattle.ultra_msg.specs.declared.Reply.TheVariants.{Value, Ack}
-use Rattle.ultra_block.specs.Places.{places}
-use Rattle.ultra_block.specs.Machine.{start}
-use Rattle.ultra_block.specs.Phases.{after, cycle, reply_phase, memory_phase, request_phase, processor_phase, arriving_reply, arriving_request}
-use Rattle.ultra_block.proofs.Pairs.{one_stage, add_one, five_at_first, load_and_store, add_and_store, store_and_add}
-use Rattle.ultra_block.proofs.Levels.{two_stages, add_number}
+use Rattle.ultra_model.specs.Places.{places}
+use Rattle.ultra_model.specs.Machine.{start}
+use Rattle.ultra_model.specs.Phases.{after, cycle, reply_phase, memory_phase, request_phase, processor_phase, arriving_reply, arriving_request}
+use Rattle.ultra_model.proofs.Pairs.{one_stage, add_one, five_at_first, load_and_store, add_and_store, store_and_add}
+use Rattle.ultra_model.proofs.Levels.{two_stages, add_number}
 use Rattle.ultra_serial.specs.Legal.{Entry}
 use Rattle.ultra_serial.specs.SerialList.{history, serial_list}
 

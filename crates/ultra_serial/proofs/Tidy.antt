@@ -12,21 +12,21 @@ use Rattle.ultra_switch.specs.Arrive.{Lane, Combination, entry, behind, can_comb
 use Rattle.ultra_switch.specs.Split.{is_of, records_after}
 use Rattle.ultra_switch.specs.Queues.{request_of}
 use Rattle.ultra_isa.specs.declared.Instr.{Instr}
-use Rattle.ultra_block.specs.Places.{after_leaving}
-use Rattle.ultra_block.specs.Machine.{Settings, Machine, size, lane_at, replies_at, element_at, start}
-use Rattle.ultra_block.specs.Phases.{records_left, arrive_all, arriving_reply, delivered, reply_phase, memory_phase, request_phase, processor_phase, leaving_request, lane_after_leaving, arrivals, next_lane}
-use Rattle.ultra_block.specs.Ranges.{AreInRange}
-use Rattle.ultra_block.specs.Routed.{IsByLine, IsRecordAt, module_of, IsRouted}
-use Rattle.ultra_block.specs.Balance.{weight, count, count_option, total, passes, reply_passes, lane_on_way, replies_on_way, pending_on_way, on_way, all_opened, IsBalanced}
-use Rattle.ultra_block.proofs.Each.{if_tested}
-use Rattle.ultra_block.proofs.Sums.{total_none, total_next, total_same, total_plus, total_only, total_halves}
-use Rattle.ultra_block.proofs.Counting.{both_true, is_reference, count-append}
-use Rattle.ultra_block.proofs.Neighbours.{itself}
-use Rattle.ultra_block.proofs.Routes.{arriving_reply_well}
-use Rattle.ultra_block.proofs.AtPlaces.{lane-start, lane-reply_phase, lane-request_phase}
-use Rattle.ultra_block.proofs.ReplyBalance as replies
-use Rattle.ultra_block.proofs.RequestBalance as requests
-use Rattle.ultra_block.proofs.Balanced as balanced
+use Rattle.ultra_model.specs.Places.{after_leaving}
+use Rattle.ultra_model.specs.Machine.{Settings, Machine, size, lane_at, replies_at, element_at, start}
+use Rattle.ultra_model.specs.Phases.{records_left, arrive_all, arriving_reply, delivered, reply_phase, memory_phase, request_phase, processor_phase, leaving_request, lane_after_leaving, arrivals, next_lane}
+use Rattle.ultra_model.specs.Ranges.{AreInRange}
+use Rattle.ultra_model.specs.Routed.{IsByLine, IsRecordAt, module_of, IsRouted}
+use Rattle.ultra_model.specs.Balance.{weight, count, count_option, total, passes, reply_passes, lane_on_way, replies_on_way, pending_on_way, on_way, all_opened, IsBalanced}
+use Rattle.ultra_model.proofs.Each.{if_tested}
+use Rattle.ultra_model.proofs.Sums.{total_none, total_next, total_same, total_plus, total_only, total_halves}
+use Rattle.ultra_model.proofs.Counting.{both_true, is_reference, count-append}
+use Rattle.ultra_model.proofs.Neighbours.{itself}
+use Rattle.ultra_model.proofs.Routes.{arriving_reply_well}
+use Rattle.ultra_model.proofs.AtPlaces.{lane-start, lane-reply_phase, lane-request_phase}
+use Rattle.ultra_model.proofs.ReplyBalance as replies
+use Rattle.ultra_model.proofs.RequestBalance as requests
+use Rattle.ultra_model.proofs.Balanced as balanced
 
 -- ---- lists and sums
 found_step : {X : Type 0} (P : X → Type 0) (t : X → Bool) (x : X) (xs : List X) (b : Bool) → t x ≡ b → P x → 1 ≤ weight b + count t xs → (1 ≤ count t xs → (x : X) × P x × (t x ≡ true)) → (x : X) × P x × (t x ≡ true)

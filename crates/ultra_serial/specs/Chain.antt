@@ -1,9 +1,9 @@
 -- the serial lists of a run are a chain of legal lists
 use Rattle.std.specs.Prelude.{◌≡◌, ℕ, ◌+◌, List, ◌++◌}
 use Rattle.ultra_isa.specs.declared.Instr.{Instr}
-use Rattle.ultra_block.specs.Machine.{Settings}
-use Rattle.ultra_block.specs.Phases.{after}
-use Rattle.ultra_block.specs.Ranges.{AreInRange}
+use Rattle.ultra_model.specs.Machine.{Settings}
+use Rattle.ultra_model.specs.Phases.{after}
+use Rattle.ultra_model.specs.Ranges.{AreInRange}
 use Rattle.ultra_serial.specs.Legal.{given, IsLegal}
 use Rattle.ultra_serial.specs.SerialList.{cells_of, history, serial_list}
 

@@ -2,8 +2,8 @@
 use Rattle.std.specs.Prelude.{ℕ, zero, suc, ◌%◌, ◌/◌, List, [], ◌∷◌, ◌++◌, slice_index}
 use Rattle.ultra_msg.specs.declared.Event.{Event}
 use Rattle.ultra_isa.specs.declared.Instr.{Instr}
-use Rattle.ultra_block.specs.Machine.{Settings, Machine, size, bank_at}
-use Rattle.ultra_block.specs.Phases.{after}
+use Rattle.ultra_model.specs.Machine.{Settings, Machine, size, bank_at}
+use Rattle.ultra_model.specs.Phases.{after}
 use Rattle.ultra_serial.specs.Tree.{Leaf, Kept, trees_after, served_leaves}
 use Rattle.ultra_serial.specs.Log.{Log, empty_log, logged}
 use Rattle.ultra_serial.specs.Legal.{Cells, Entry, given, replayed}

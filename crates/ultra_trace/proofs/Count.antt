@@ -6,10 +6,10 @@ use Rattle.std.proofs.Math.Nat.{eq-or-lt_of_le}
 use Rattle.std.proofs.lemmas.Bool.{cases_lt}
 use Rattle.std.proofs.lemmas.List.Concat.{flat_map-append}
 use Rattle.ultra_isa.specs.declared.Instr.{Instr}
-use Rattle.ultra_block.specs.Machine.{Settings, Machine, start, is_quiet}
+use Rattle.ultra_model.specs.Machine.{Settings, Machine, start, is_quiet}
 use Rattle.ultra_block.specs.declared.blocks.Blocks.{Blocks}
 use Rattle.ultra_block.specs.BlocksState.{machine_of, IsWhole}
-use Rattle.ultra_block.specs.Phases.{after, cycle, reply_phase, memory_phase, request_phase, processor_phase}
+use Rattle.ultra_model.specs.Phases.{after, cycle, reply_phase, memory_phase, request_phase, processor_phase}
 use Rattle.ultra_trace.specs.declared.page.Page.{Page}
 use Rattle.ultra_trace.specs.Page.{Writes, WritesBeginning}
 use Rattle.ultra_trace.specs.Run.{IsAfter}

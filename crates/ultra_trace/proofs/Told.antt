@@ -8,14 +8,14 @@ use Rattle.ultra_msg.specs.declared.Event.{Event}
 use Rattle.ultra_msg.specs.declared.Event.TheVariants.{Delivered, Served, Combined, Issued}
 use Rattle.ultra_mem.specs.declared.Served.{Served as Act}
 use Rattle.ultra_block.specs.declared.blocks.Blocks.{Blocks}
-use Rattle.ultra_block.specs.Places.{places, present}
-use Rattle.ultra_block.specs.Machine.{Settings, size}
-use Rattle.ultra_block.specs.Phases.{delivery, serving}
+use Rattle.ultra_model.specs.Places.{places, present}
+use Rattle.ultra_model.specs.Machine.{Settings, size}
+use Rattle.ultra_model.specs.Phases.{delivery, serving}
 use Rattle.ultra_block.specs.Whole.{Units, whole, deliveries, servings, all_combined, issues, all_stops}
 use Rattle.ultra_block.specs.Kinds.{is_combination, is_issue}
 use Rattle.ultra_block.specs.Ready.{all_events}
 use Rattle.ultra_block.specs.BlocksState.{machine_of, units_of_blocks, IsWhole}
-use Rattle.ultra_block.proofs.Each.{each-weaker}
+use Rattle.ultra_model.proofs.Each.{each-weaker}
 use Rattle.ultra_trace.specs.Trace.{got_line, act_line, fault_line, if_there, by_number}
 
 -- ---- the lines of what is there, by number

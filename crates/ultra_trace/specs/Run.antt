@@ -1,8 +1,8 @@
 -- the faults of a run, and how far it has come; this project's profile
 use Rattle.std.specs.Prelude.{◌≡◌, ℕ, List}
 use Rattle.ultra_isa.specs.declared.Instr.{Instr}
-use Rattle.ultra_block.specs.Machine.{Settings}
-use Rattle.ultra_block.specs.Phases.{after}
+use Rattle.ultra_model.specs.Machine.{Settings}
+use Rattle.ultra_model.specs.Phases.{after}
 use Rattle.ultra_block.specs.BlocksState.{machine_of, IsWhole}
 use Rattle.ultra_block.specs.declared.blocks.Blocks.{Blocks}
 use Rattle.ultra_trace.specs.declared.running.RunFault.{RunFault}

@@ -3,7 +3,7 @@
 ghost use Rattle.std.specs.Prelude.{◌≡◌, ◌+◌, ◌<◌, [], ◌++◌, false, OnOk, OnErr};
 ghost use Rattle.std.specs.List.{flat_map};
 ghost use Rattle.ultra_msg.specs.Bytes.{IsBeginning};
-ghost use Rattle.ultra_block.specs.Machine.{size};
+ghost use Rattle.ultra_model.specs.Machine.{size};
 ghost use Rattle.ultra_block.specs.BlocksState.{machine_of, IsWhole};
 ghost use Rattle.ultra_trace.specs.Trace.{got_line, act_line, fault_line, by_number, by_stage, pni_of, req_of, wait_of, inp_of, out_of, rep_of, events_text, state_text, cycle_text};
 ghost use Rattle.ultra_trace.specs.Page.{Writes};

@@ -1,7 +1,7 @@
 //! The lines at the end of a trace.
 
 ghost use Rattle.std.specs.Prelude.{◌≡◌, ◌*◌, ◌<◌};
-ghost use Rattle.ultra_block.specs.Machine.{size};
+ghost use Rattle.ultra_model.specs.Machine.{size};
 ghost use Rattle.ultra_block.specs.BlocksState.{machine_of, IsWhole};
 ghost use Rattle.ultra_trace.specs.Trace.{by_number, ending_text, cell_line, cell_of, cell_value, register_text, registers_text, pe_line, pe_of, end_text};
 ghost use Rattle.ultra_trace.specs.Page.{Writes};

@@ -1,12 +1,12 @@
 //! The lines of what happened in a cycle.
 
-ghost use Rattle.ultra_block.specs.Phases.{delivery, serving};
+ghost use Rattle.ultra_model.specs.Phases.{delivery, serving};
 ghost use Rattle.ultra_trace.specs.Trace.{got_line, act_line, fault_line, if_there};
 ghost use Rattle.ultra_trace.specs.Page.{Writes};
 
 use super::page::Page;
-use ultra_block::Stop;
 use ultra_mem::Served;
+use ultra_model::Stop;
 use ultra_msg::{ReplyMessage, Sink};
 
 impl<'s, S: Sink> Page<'s, S> {

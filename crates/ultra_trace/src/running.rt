@@ -2,7 +2,7 @@
 
 ghost use Rattle.std.specs.Prelude.{◌≡◌, ◌≢◌, ◌+◌, ◌*◌, ◌<◌, ◌≤◌, [], ◌++◌, ◌||◌, true, false, codes, OnOk, OnErr, IfOk, IfErr};
 ghost use Rattle.ultra_msg.specs.Bytes.{IsBeginning};
-ghost use Rattle.ultra_block.specs.Machine.{start as at_start, is_quiet as quiet};
+ghost use Rattle.ultra_model.specs.Machine.{start as at_start, is_quiet as quiet};
 ghost use Rattle.ultra_block.specs.Partition.{is_partition};
 ghost use Rattle.ultra_block.specs.BlocksState.{machine_of, IsWhole};
 ghost use Rattle.ultra_trace.specs.Trace.{cycle_count, cycle_text, all_cycles_text, trace};
@@ -16,9 +16,10 @@ use super::together::write_trace_together;
 use std::alloc::{AllocError, Global};
 use std::sync::Wait;
 use std::thread::Threads;
-use ultra_block::{Blocks, Config, PartitionFault};
+use ultra_block::{Blocks, PartitionFault};
 use ultra_crew::{CrewFault, Gate};
 use ultra_isa::Program;
+use ultra_model::Config;
 use ultra_msg::{Sink, SinkFault};
 
 /// Why a run has not written its trace.

@@ -2,8 +2,8 @@ use Rattle.std.proofs.Common.{ℕ, ◌+◌, ◌*◌, ◌/◌, ◌<◌, arith, �
 use Rattle.std.proofs.Math.Nat.{div-lt_iff_lt-mul}
 use Rattle.std.proofs.lemmas.List.{take_more}
 use Rattle.std.proofs.lemmas.List.Elements.{All-get_or}
-use Rattle.ultra_block.specs.Machine.{given_value}
-use Rattle.ultra_block.proofs.Each.{length-places}
+use Rattle.ultra_model.specs.Machine.{given_value}
+use Rattle.ultra_model.proofs.Each.{length-places}
 use Rattle.ultra_block.proofs.Filled.{fill_here, fill_past, fill_none}
 use Rattle.ultra_block.proofs.building.fill.Goals as goal
 use Rattle.ultra_block.proofs.building.fill.Goals.{then-cell-size, else-cell-size}

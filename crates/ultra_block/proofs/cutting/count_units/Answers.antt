@@ -1,7 +1,7 @@
 use Rattle.std.proofs.Common.{◌≡◌, arith, ap, get_or}
 use Rattle.std.specs.Prelude.{◌==◌}
 use Rattle.std.proofs.lemmas.Bool.{eq-eqb, ne_eqb}
-use Rattle.ultra_block.specs.Balance.{weight}
+use Rattle.ultra_model.specs.Balance.{weight}
 use Rattle.ultra_block.proofs.Parted.{share_more}
 use Rattle.ultra_block.proofs.cutting.count_units.Goals as goal
 use Rattle.ultra_block.proofs.cutting.count_units.Goals.{then-place-block, else-place-block}

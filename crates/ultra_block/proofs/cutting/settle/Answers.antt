@@ -3,9 +3,9 @@ use Rattle.std.specs.Prelude.{Some, None, Vec, map}
 use Rattle.std.proofs.lemmas.List.{length-set, get_or-set_other, get_or_default, take_all, append-nil}
 use Rattle.std.specs.Vec.{vec_len, vec_capacity}
 use Rattle.std.specs.declared.alloc.Global.{Global}
-use Rattle.ultra_block.specs.Places.{places}
+use Rattle.ultra_model.specs.Places.{places}
 use Rattle.ultra_block.specs.Parted.{home_in, parted}
-use Rattle.ultra_block.proofs.Each.{places_more, places_none}
+use Rattle.ultra_model.proofs.Each.{places_more, places_none}
 use Rattle.ultra_block.proofs.Parted.{below, put_units, put_lengths, put_room}
 use Rattle.ultra_block.proofs.cutting.settle.Goals as goal
 use Rattle.ultra_block.proofs.cutting.settle.Goals.{in-Some, in_default}

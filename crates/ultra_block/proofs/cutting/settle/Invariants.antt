@@ -2,7 +2,7 @@ use Rattle.std.proofs.Common.{◌≡◌, ℕ, ◌+◌, ◌<◌, ◌≤◌, ◌++
 use Rattle.std.specs.Prelude.{Some, None, Vec, map}
 use Rattle.std.specs.Vec.{vec_len, vec_capacity}
 use Rattle.std.specs.declared.alloc.Global.{Global}
-use Rattle.ultra_block.specs.Places.{places}
+use Rattle.ultra_model.specs.Places.{places}
 use Rattle.ultra_block.specs.Parted.{home_in, parted, share}
 use Rattle.ultra_block.proofs.cutting.settle.Given as goal
 

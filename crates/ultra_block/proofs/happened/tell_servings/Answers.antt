@@ -1,5 +1,5 @@
 use Rattle.std.proofs.Common.{refl}
-use Rattle.ultra_block.specs.Machine.{is_nothing}
+use Rattle.ultra_model.specs.Machine.{is_nothing}
 use Rattle.ultra_block.specs.Rest.{module_serves_nothing}
 use Rattle.ultra_block.specs.Happened.{number_of_module, served_nothing}
 use Rattle.ultra_block.proofs.Rest.{both_of}

@@ -1,5 +1,5 @@
 use Rattle.std.proofs.Common.{◌++◌, ◌∷◌, [], ap, ◌∙◌}
-use Rattle.ultra_block.specs.Places.{present}
+use Rattle.ultra_model.specs.Places.{present}
 use Rattle.ultra_machine.proofs.Listed.{both_present}
 use Rattle.ultra_machine.proofs.last_cycle.list_both.Goals as goal
 

@@ -1,6 +1,6 @@
 use Rattle.std.proofs.Common.{◌≡◌, ◌++◌, arith, ap, ◌∙◌}
-use Rattle.ultra_block.specs.Places.{table, joined}
-use Rattle.ultra_block.specs.Machine.{Settings, size}
+use Rattle.ultra_model.specs.Places.{table, joined}
+use Rattle.ultra_model.specs.Machine.{Settings, size}
 use Rattle.ultra_block.specs.Whole.{combined_in, all_combined}
 use Rattle.ultra_block.specs.BlocksState.{units_of_blocks}
 use Rattle.ultra_machine.proofs.Listed.{none_tabled, more_tabled}

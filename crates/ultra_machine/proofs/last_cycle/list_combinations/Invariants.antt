@@ -1,6 +1,6 @@
 use Rattle.std.proofs.Common.{◌≡◌, ◌+◌, ◌*◌, ◌≤◌, ◌++◌, length}
-use Rattle.ultra_block.specs.Places.{table, joined}
-use Rattle.ultra_block.specs.Machine.{size}
+use Rattle.ultra_model.specs.Places.{table, joined}
+use Rattle.ultra_model.specs.Machine.{size}
 use Rattle.ultra_block.specs.Whole.{combined_in}
 use Rattle.ultra_block.specs.BlocksState.{units_of_blocks}
 use Rattle.ultra_machine.proofs.last_cycle.list_combinations.Given as goal

@@ -1,8 +1,8 @@
 use Rattle.std.proofs.Common.{◌≡◌, ℕ, ◌+◌, ◌-◌, ◌*◌, ◌/◌, List, ◌++◌, refl, arith, ap, ◌∙◌}
 use Rattle.ultra_msg.specs.declared.Event.{Event}
 use Rattle.ultra_route.proofs.Table.{sizes}
-use Rattle.ultra_block.specs.Machine.{size}
-use Rattle.ultra_block.specs.Places.{places, joined}
+use Rattle.ultra_model.specs.Machine.{size}
+use Rattle.ultra_model.specs.Places.{places, joined}
 use Rattle.ultra_block.specs.Whole.{both, combined_in}
 use Rattle.ultra_block.specs.BlocksState.{units_of_blocks}
 use Rattle.ultra_machine.proofs.Listed.{none_joined, more_joined, joined_up_to, nothing_combined}

@@ -1,5 +1,5 @@
 use Rattle.std.proofs.Common.{lit<, arith}
-use Rattle.ultra_block.specs.Machine.{size}
+use Rattle.ultra_model.specs.Machine.{size}
 use Rattle.ultra_block.specs.Whole.{issues}
 use Rattle.ultra_block.specs.BlocksState.{units_of_blocks}
 use Rattle.ultra_machine.proofs.Listed.{none_present, more_present, present_up_to}

@@ -1,5 +1,5 @@
 use Rattle.std.proofs.Common.{◌≡◌, ◌+◌, ◌-◌, ◌≤◌, ◌++◌, length}
-use Rattle.ultra_block.specs.Places.{places, present}
+use Rattle.ultra_model.specs.Places.{places, present}
 use Rattle.ultra_block.specs.BlocksState.{units_of_blocks}
 use Rattle.ultra_machine.proofs.last_cycle.list_issues.Given as goal
 

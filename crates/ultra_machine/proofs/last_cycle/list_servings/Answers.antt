@@ -1,6 +1,6 @@
 use Rattle.std.proofs.Common.{lit<, arith, ap, ◌∙◌}
-use Rattle.ultra_block.specs.Machine.{size}
-use Rattle.ultra_block.specs.Phases.{serving}
+use Rattle.ultra_model.specs.Machine.{size}
+use Rattle.ultra_model.specs.Phases.{serving}
 use Rattle.ultra_block.specs.Whole.{servings}
 use Rattle.ultra_block.specs.BlocksState.{units_of_blocks}
 use Rattle.ultra_machine.proofs.Listed.{none_present, more_present, present_up_to}

@@ -1,6 +1,6 @@
 use Rattle.std.proofs.Common.{◌≡◌, ◌+◌, ◌-◌, ◌≤◌, ◌++◌, length}
-use Rattle.ultra_block.specs.Places.{places, present}
-use Rattle.ultra_block.specs.Phases.{serving}
+use Rattle.ultra_model.specs.Places.{places, present}
+use Rattle.ultra_model.specs.Phases.{serving}
 use Rattle.ultra_block.specs.BlocksState.{units_of_blocks}
 use Rattle.ultra_machine.proofs.last_cycle.list_servings.Given as goal
 

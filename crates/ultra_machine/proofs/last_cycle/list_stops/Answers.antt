@@ -1,6 +1,6 @@
 use Rattle.std.proofs.Common.{List, [], length, lit<, arith, ap, ◌∙◌}
-use Rattle.ultra_block.specs.Machine.{size}
-use Rattle.ultra_block.specs.declared.Stop.{Stop}
+use Rattle.ultra_model.specs.Machine.{size}
+use Rattle.ultra_model.specs.declared.Stop.{Stop}
 use Rattle.ultra_block.specs.Whole.{whole, all_stops}
 use Rattle.ultra_block.specs.BlocksState.{units_of_blocks}
 use Rattle.ultra_machine.proofs.Listed.{none_present, more_present, present_up_to}

@@ -1,6 +1,6 @@
 use Rattle.std.proofs.Common.{◌≡◌, ◌+◌, true, rules, arith, sym, ap, subst, ◌∙◌}
 use Rattle.ultra_machine.specs.Running.{Running}
-use Rattle.ultra_block.specs.Machine.{is_quiet}
+use Rattle.ultra_model.specs.Machine.{is_quiet}
 use Rattle.ultra_serial.specs.declared.history.Serving.{Serving}
 use Rattle.ultra_serial.specs.SerialList.{History, history, serial_list}
 use Rattle.ultra_serial.specs.Following.{Follows}

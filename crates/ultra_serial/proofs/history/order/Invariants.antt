@@ -1,5 +1,5 @@
 use Rattle.std.proofs.Common.{◌≡◌}
-use Rattle.ultra_block.specs.Phases.{after}
+use Rattle.ultra_model.specs.Phases.{after}
 use Rattle.ultra_serial.specs.SerialList.{history}
 use Rattle.ultra_serial.specs.Following.{Follows}
 use Rattle.ultra_serial.proofs.history.order.Given as goal

@@ -1,6 +1,6 @@
 use Rattle.std.proofs.Common.{◌≡◌, ◌+◌, true, rules, arith, sym, ap, subst, ◌∙◌}
 use Rattle.ultra_machine.specs.Running.{Running}
-use Rattle.ultra_block.specs.Machine.{is_quiet}
+use Rattle.ultra_model.specs.Machine.{is_quiet}
 use Rattle.ultra_serial.specs.declared.recording.Recording.{Recording}
 use Rattle.ultra_serial.specs.Log.{Log, log_of}
 use Rattle.ultra_serial.specs.SerialList.{History, history}

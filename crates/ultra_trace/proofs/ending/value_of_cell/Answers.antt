@@ -1,6 +1,6 @@
 use Rattle.std.proofs.Common.{ℕ, ◌%◌, ◌/◌, ◌∙◌, ap, get_or}
 use Rattle.ultra_mem.specs.Serve.{Bank}
-use Rattle.ultra_block.specs.Machine.{bank_at}
+use Rattle.ultra_model.specs.Machine.{bank_at}
 use Rattle.ultra_block.specs.BlocksState.{machine_of}
 use Rattle.ultra_trace.proofs.Numbered.{value_or_zero}
 use Rattle.ultra_trace.proofs.ending.value_of_cell.Goals as goal

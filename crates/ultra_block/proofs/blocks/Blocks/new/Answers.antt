@@ -4,7 +4,7 @@ use Rattle.ultra_block.specs.Built.{AreBuilt}
 use Rattle.ultra_block.specs.Cut.{units_at, HasLinks, HasPlaces}
 use Rattle.ultra_block.specs.MailTable.{MailTable}
 use Rattle.ultra_block.specs.Ready.{machine_from, IsReady}
-use Rattle.ultra_block.proofs.Ranged.{in_range}
+use Rattle.ultra_model.proofs.Ranged.{in_range}
 use Rattle.ultra_block.proofs.UnitByUnit.{built_ready, built_starts, none_built}
 use Rattle.ultra_block.proofs.blocks.Blocks.new.Goals as goal
 

@@ -1,6 +1,6 @@
 use Rattle.std.proofs.Common.{◌≡◌, ℕ, ◌<◌, List, ◌++◌, arith, ap, ◌∙◌, sym, subst, length, get_or, take, drop}
 use Rattle.std.specs.Prelude.{All}
-use Rattle.ultra_block.specs.Places.{places}
+use Rattle.ultra_model.specs.Places.{places}
 use Rattle.ultra_block.specs.Cut.{no_block}
 use Rattle.ultra_block.specs.SwitchSteps as switch
 use Rattle.ultra_block.specs.ModuleSteps as bank

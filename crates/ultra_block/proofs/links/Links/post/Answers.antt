@@ -1,5 +1,5 @@
 use Rattle.std.specs.Prelude.{Option}
-use Rattle.ultra_block.specs.Machine.{is_nothing}
+use Rattle.ultra_model.specs.Machine.{is_nothing}
 use Rattle.ultra_block.proofs.Sparse.{rest-set-busy}
 use Rattle.ultra_block.proofs.links.Links.post.Goals as goal
 

@@ -1,6 +1,6 @@
 use Rattle.std.proofs.Common.{ap}
 use Rattle.std.specs.Prelude.{Option}
-use Rattle.ultra_block.specs.Machine.{is_nothing}
+use Rattle.ultra_model.specs.Machine.{is_nothing}
 use Rattle.ultra_block.proofs.Sparse.{rest-set}
 use Rattle.ultra_block.proofs.links.Links.take.Goals as goal
 

@@ -1,5 +1,5 @@
 use Rattle.std.proofs.Common.{ap, ◌∙◌, sym}
-use Rattle.ultra_block.specs.Machine.{Machine, start}
+use Rattle.ultra_model.specs.Machine.{Machine, start}
 use Rattle.ultra_machine.proofs.machine.Machine.new.Goals as goal
 
 pub invariant_of-result : goal.invariant_of-result

@@ -1,5 +1,5 @@
 use Rattle.std.proofs.Common.{arith, rules, sym}
-use Rattle.ultra_block.specs.Machine.{is_quiet}
+use Rattle.ultra_model.specs.Machine.{is_quiet}
 use Rattle.ultra_block.specs.BlocksState.{machine_of}
 use Rattle.ultra_trace.proofs.Writing.{writes_nothing}
 use Rattle.ultra_trace.proofs.Count.{next_after, done_after, cycle_written, busy_none, first_written, last_written, last_machine, still_busy, limit_written, limit_machine, not_second}

@@ -1,5 +1,5 @@
 use Rattle.std.proofs.Common.{arith}
-use Rattle.ultra_block.specs.Phases.{delivery}
+use Rattle.ultra_model.specs.Phases.{delivery}
 use Rattle.ultra_block.specs.BlocksState.{units_of_blocks}
 use Rattle.ultra_trace.specs.Trace.{got_line, if_there}
 use Rattle.ultra_trace.proofs.Numbered.{writes_number, writes_numbers}

@@ -1,5 +1,5 @@
 use Rattle.std.proofs.Common.{arith, ap}
-use Rattle.ultra_block.specs.Machine.{Element}
+use Rattle.ultra_model.specs.Machine.{Element}
 use Rattle.ultra_block.specs.BlocksState.{machine_of}
 use Rattle.ultra_trace.specs.Trace.{pni_of}
 use Rattle.ultra_trace.proofs.Numbered.{writes_number, writes_numbers}

@@ -1,4 +1,4 @@
-use Rattle.ultra_block.specs.Phases.{serving}
+use Rattle.ultra_model.specs.Phases.{serving}
 use Rattle.ultra_block.specs.BlocksState.{units_of_blocks}
 use Rattle.ultra_trace.specs.Page.{Writes}
 use Rattle.ultra_trace.specs.Trace.{by_number, act_line, if_there}

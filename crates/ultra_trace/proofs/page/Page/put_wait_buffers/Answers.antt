@@ -1,5 +1,5 @@
 use Rattle.std.proofs.Common.{arith}
-use Rattle.ultra_block.specs.Machine.{size}
+use Rattle.ultra_model.specs.Machine.{size}
 use Rattle.ultra_block.specs.BlocksState.{machine_of}
 use Rattle.ultra_trace.specs.Trace.{by_number, wait_of}
 use Rattle.ultra_trace.proofs.Numbered.{writes_number, writes_numbers}

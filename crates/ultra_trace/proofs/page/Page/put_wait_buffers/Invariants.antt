@@ -1,4 +1,4 @@
-use Rattle.ultra_block.specs.Machine.{size}
+use Rattle.ultra_model.specs.Machine.{size}
 use Rattle.ultra_block.specs.BlocksState.{machine_of}
 use Rattle.ultra_trace.specs.Page.{Writes}
 use Rattle.ultra_trace.specs.Trace.{by_number, wait_of}

@@ -1,0 +1,12 @@
+pub mod Places
+pub mod Machine
+pub mod Phases
+pub mod Valid
+pub mod Accepted
+pub mod Ranges
+pub mod Shape
+pub mod Capacity
+pub mod Routed
+pub mod Balance
+pub mod Sound
+pub mod Words

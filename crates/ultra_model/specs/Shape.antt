@@ -1,0 +1,13 @@
+-- how many places the parts of a machine have
+use Rattle.std.specs.Prelude.{◌≡◌, ℕ, ◌<◌, [], length, slice_index_or}
+use Rattle.ultra_model.specs.Machine.{Settings, Machine, size, bank_at}
+
+-- a lane and a queue of replies for each stage and position, a module and a processing element for each number, and in each module its cells
+pub record HasShape (c : Settings) (m : Machine) : Type 0 where
+  pub lane_rows : length m.lanes ≡ c.stages
+  pub lanes : (s : ℕ) → s < c.stages → length (slice_index_or m.lanes s []) ≡ size c
+  pub reply_rows : length m.replies ≡ c.stages
+  pub replies : (s : ℕ) → s < c.stages → length (slice_index_or m.replies s []) ≡ size c
+  pub banks : length m.banks ≡ size c
+  pub elements : length m.elements ≡ size c
+  pub cells : (k : ℕ) → k < size c → length (bank_at m k).cells ≡ c.cells

@@ -1,0 +1,16 @@
+//! The definition of the whole machine: its settings, its state between two cycles, the phases of a cycle, and what every
+//! phase keeps. The machine is that of the 1983 paper; its timing, sizes and limits are this project's profile.
+#![tactic(auto)]
+
+mod config;
+
+pub use config::{Config, ConfigFault, Field, RawSettings};
+use ultra_isa::MachineFault;
+use ultra_msg::Pe;
+
+/// A processing element that faulted in the last cycle, and why.
+#[derive(Clone, Copy, PartialEq, Eq, Debug, Drop)]
+pub struct Stop {
+    pub pe: Pe,
+    pub fault: MachineFault,
+}
