@@ -15,6 +15,7 @@ use std::marker::Model;
 use ultra_block::{Blocks, PartitionFault, ProcessingElement};
 use ultra_isa::Program;
 use ultra_mem::Module;
+use ultra_model::{Config, Stop};
 use ultra_msg::{Event, Pe};
 use ultra_switch::{ToMm, ToPe};
 

@@ -8,7 +8,7 @@ use Rattle.ultra_model.specs.declared.config.Field.{Field}
 use Rattle.ultra_model.specs.declared.config.Field.TheVariants.{Stages, RequestPlaces, ReplyPlaces, WaitPlaces, MostOpen, Cells, Cycles, Initial}
 use Rattle.ultra_model.specs.declared.config.ConfigFault.{ConfigFault}
 use Rattle.ultra_model.specs.declared.config.ConfigFault.TheVariants.{NoMemory, BadConfig}
-use Rattle.ultra_model.specs.declared.config.TheConstants.{MOST_STAGES}
+use Rattle.ultra_route.specs.declared.TheConstants.{MOST_STAGES}
 
 -- the key as it is written
 abbrev pub name_of : Field → List ℕ

@@ -1,7 +1,7 @@
 -- the ranges of the settings of a machine: this project's profile
 use Rattle.std.specs.Prelude.{◌≢◌, ℕ, ◌*◌, ◌^◌, ◌<◌, ◌≤◌, All, AllPairs}
 use Rattle.ultra_model.specs.Machine.{Settings}
-use Rattle.ultra_model.specs.declared.config.TheConstants.{MOST_STAGES}
+use Rattle.ultra_route.specs.declared.TheConstants.{MOST_STAGES}
 
 -- each setting is in its range: stages 1 to 6, places of a queue toward memory 2 to 32, of a queue toward the processing elements 4 to 64, of a wait buffer 0 to 16, open cells 1 to 8, cells of a module 1 to 4096, cycles 1 to 1,000,000; the initial cells are cells of the memory, each given one word
 pub record IsValid (s : Settings) : Type 0 where
