@@ -204,13 +204,13 @@ grows-noted n (e ∷ es) h =
 
 module _ (c : Settings) (range : AreInRange c) (program : List Instr) (n : ℕ) where
   -- ---- replies
-  abbrev deliveries : Machine → List Event
+  abbrev pub deliveries : Machine → List Event
   deliveries m = present (places (size c) (λ p. delivery (delivered c m p)))
 
   each_delivery : (P : Event → Type 0) (m : Machine) → ((p : ℕ) → p < size c → IfSome (delivered c m p) (λ r. P (Delivered r))) → AllByRecursion P (deliveries m)
   each_delivery P m f = each-present P (places (size c) (λ p. delivery (delivered c m p))) (each-places (λ o. IfSome o P) (size c) (λ p. delivery (delivered c m p)) (λ p h. some_delivery P (delivered c m p) (f p h)))
 
-  any_delivery : (P : Event → Type 0) (m : Machine) → ((r : ReplyMessage) → P (Delivered r)) → AllByRecursion P (deliveries m)
+  pub any_delivery : (P : Event → Type 0) (m : Machine) → ((r : ReplyMessage) → P (Delivered r)) → AllByRecursion P (deliveries m)
   any_delivery P m f = each_delivery P m (λ p h. some_any (delivered c m p) (λ r. P (Delivered r)) f)
 
   delivers_well : (m : Machine) (h : History) → IsSerial c n m h → AllByRecursion (DeliversWell h.log.issues (list_of c h)) (deliveries m)
@@ -227,7 +227,7 @@ module _ (c : Settings) (range : AreInRange c) (program : List Instr) (n : ℕ) 
       let k = a % size c in
       ap (λ v. slice_index v.cells (a / size c)) (bank-reply_phase c m k (module_small c range a)) ∙ ap (λ cs. slice_index cs (a / size c)) (reply_cells (bank_at m k) (arriving_reply c m (last_stage c) k))
 
-  serial-reply_phase : (m : Machine) (h : History) → IsSerial c n m h → IsSerial c n (reply_phase c m) (noted n (deliveries m) h)
+  pub serial-reply_phase : (m : Machine) (h : History) → IsSerial c n m h → IsSerial c n (reply_phase c m) (noted n (deliveries m) h)
   serial-reply_phase m h w =
       let es = deliveries m in
       let well = delivers_well m h w in
@@ -253,10 +253,10 @@ module _ (c : Settings) (range : AreInRange c) (program : List Instr) (n : ℕ) 
   unfolding memory_phase
   same_element_served m p = refl
 
-  abbrev servings : Machine → List Event
+  abbrev pub servings : Machine → List Event
   servings m = present (places (size c) (λ k. serving k (served (bank_at m k))))
 
-  serial-memory_phase : (m : Machine) (h : History) → IsSerial c n m h → IsSerial c n (memory_phase c m) (noted n (servings m) h)
+  pub serial-memory_phase : (m : Machine) (h : History) → IsSerial c n m h → IsSerial c n (memory_phase c m) (noted n (servings m) h)
   serial-memory_phase m h w =
       let es = servings m in
       let no_issue = each_serving IsNoIssue m (λ k a. tt) in
@@ -273,7 +273,7 @@ module _ (c : Settings) (range : AreInRange c) (program : List Instr) (n : ℕ) 
       }
 
   -- ---- requests
-  abbrev meetings : Machine → List Event
+  abbrev pub meetings : Machine → List Event
   meetings m = joined (joined (table c.stages (size c) (λ s x. combinations c.wait_places s x (lane_after_leaving c m s x) (arrivals c m s x))))
 
   each_meeting : (P : Event → Type 0) (m : Machine) → ((s x a p q : ℕ) (f : Bool) → P (Combined s x a p q f)) → AllByRecursion P (meetings m)
@@ -289,7 +289,7 @@ module _ (c : Settings) (range : AreInRange c) (program : List Instr) (n : ℕ) 
       let k = a % size c in
       ap (λ v. slice_index v.cells (a / size c)) (bank-request_phase c m k (module_small c range a)) ∙ ap (λ cs. slice_index cs (a / size c)) (request_cells c (bank_at m k) (entering c m k))
 
-  serial-request_phase : (m : Machine) (h : History) → IsSerial c n m h → IsSerial c n (request_phase c m) (noted n (meetings m) h)
+  pub serial-request_phase : (m : Machine) (h : History) → IsSerial c n m h → IsSerial c n (request_phase c m) (noted n (meetings m) h)
   serial-request_phase m h w =
       let es = meetings m in
       let no_issue = each_meeting IsNoIssue m (λ s x a p q f. tt) in
@@ -307,7 +307,7 @@ module _ (c : Settings) (range : AreInRange c) (program : List Instr) (n : ℕ) 
       }
 
   -- ---- processors
-  abbrev issues_of : Machine → List Event
+  abbrev pub issues_of : Machine → List Event
   issues_of m = present (places (size c) (λ p. issue_event (element_at m p) (step_at c program m p).sent))
 
   -- a new issue has a number that no entry has
@@ -356,11 +356,11 @@ module _ (c : Settings) (range : AreInRange c) (program : List Instr) (n : ℕ) 
       }
 
   -- ---- a cycle
-  events_of : (m : Machine) → (cycle c program m).events ≡ ((deliveries m ++ servings (reply_phase c m)) ++ meetings (memory_phase c (reply_phase c m))) ++ issues_of (request_phase c (memory_phase c (reply_phase c m)))
+  pub events_of : (m : Machine) → (cycle c program m).events ≡ ((deliveries m ++ servings (reply_phase c m)) ++ meetings (memory_phase c (reply_phase c m))) ++ issues_of (request_phase c (memory_phase c (reply_phase c m)))
   unfolding cycle reply_phase memory_phase request_phase processor_phase
   events_of m = refl
 
-  noted_cycle : (m : Machine) (h : History) → noted n (cycle c program m).events h
+  pub noted_cycle : (m : Machine) (h : History) → noted n (cycle c program m).events h
       ≡ noted n (issues_of (request_phase c (memory_phase c (reply_phase c m)))) (noted n (meetings (memory_phase c (reply_phase c m))) (noted n (servings (reply_phase c m)) (noted n (deliveries m) h)))
   noted_cycle m h =
       let a = deliveries m in
@@ -387,7 +387,7 @@ module _ (c : Settings) (range : AreInRange c) (program : List Instr) where
   serial_after zero = serial-start c range
   serial_after (suc n) = serial-cycle c range program n (after c program n) (history c program n) (serial_after n)
 
-  history_next : (n : ℕ) → history c program (suc n) ≡ noted n (after c program (suc n)).events (history c program n)
+  pub history_next : (n : ℕ) → history c program (suc n) ≡ noted n (after c program (suc n)).events (history c program n)
   unfolding history
   history_next n = refl
 
