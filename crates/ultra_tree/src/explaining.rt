@@ -4,7 +4,8 @@ ghost use Rattle.std.specs.Prelude.{◌≡◌, ◌≢◌, ℕ, ◌*◌, ◌^◌,
 ghost use Rattle.ultra_model.specs.Machine.{size};
 ghost use Rattle.ultra_msg.specs.declared.Event.TheVariants.{Combined};
 ghost use Rattle.ultra_serial.specs.Tree.{tree_of as tree_in, kept, without, trees_after};
-ghost use Rattle.ultra_tree.specs.Absorb.{IsAbsorbable, served_tree, cell_of, nothing_absorbed, held_by, ExplainsFault};
+ghost use Rattle.ultra_serial.specs.Explicable.{IsAbsorbable, served_tree, held_by};
+ghost use Rattle.ultra_tree.specs.Absorb.{cell_of, nothing_absorbed, ExplainsFault};
 ghost use Rattle.ultra_tree.specs.Seen.{seen};
 ghost use Rattle.ultra_tree.specs.declared.explaining.ExplainFault.TheVariants.{Full, Spent};
 
@@ -24,7 +25,8 @@ pub enum ExplainFault {
     Spent,
 }
 
-/// Keeps the trees of the requests that are on their way to memory, as the events of a machine make them.
+/// Keeps the trees of the requests that are on their way to memory, as the events of a machine make
+/// them.
 #[derive(Drop)]
 pub struct Explainer<A: Allocator> {
     elements: u32,
@@ -46,13 +48,20 @@ impl<A: Allocator> Model for Explainer<A> {
 
     ghost use Rattle.ultra_tree.specs.Seen.{trees_of};
 
-    ghost view = { λ e. record { elements = e.elements; most_open = e.most_open; is_spent = e.is_spent; trees = trees_of e.held.items } };
+    ghost view = { λ e. record {
+      elements = e.elements;
+      most_open = e.most_open;
+      is_spent = e.is_spent;
+      trees = trees_of e.held.items;
+    } };
 
-    ghost invariant = { λ e. (e.elements * e.most_open ≤ vec_capacity e.held) × AreWithin e.elements e.most_open (trees_of e.held.items) };
+    ghost invariant = { λ e. (e.elements * e.most_open ≤ vec_capacity e.held)
+        × AreWithin e.elements e.most_open (trees_of e.held.items) };
 }
 
 impl<A: Allocator + Clone> Explainer<A> {
-    /// An explainer of a machine with these settings, which holds no trees. `Full` means that memory of the allocator was refused.
+    /// An explainer of a machine with these settings, which holds no trees. `Full` means that
+    /// memory of the allocator was refused.
     pub fn new(config: &Config, alloc: A) -> Result<Explainer<A>, ExplainFault>
         ensures ok { IfOk result (λ e. e ≡ nothing_absorbed (size config.now) config.now.most_open) }
         ensures fault { IfErr result (λ f. f ≡ Full) }
@@ -79,9 +88,12 @@ impl<A: Allocator + Clone> Explainer<A> {
         Some(&self.held[place].tree)
     }
 
-    /// Whether `absorb` may be called with an event: at `Served` and `Combined` the requests are held, at `Combined` those of two elements; at `Issued` the request isn't held yet, its element is one of the machine's and has fewer requests on their way than it can have.
+    /// Whether `absorb` may be called with an event: at `Served` and `Combined` the requests are
+    /// held, at `Combined` those of two elements; at `Issued` the request isn't held yet, its
+    /// element is one of the machine's and has fewer requests on their way than it can have.
     pub fn accepts(&self, event: &Event) -> bool
-        ensures { IsTrue result ↔ IsAbsorbable self.now.elements self.now.most_open self.now.trees event.now }
+        ensures { IsTrue result
+            ↔ IsAbsorbable self.now.elements self.now.most_open self.now.trees event.now }
     {
         match *event {
             Event::Delivered(_) => true,
@@ -123,7 +135,8 @@ impl<A: Allocator + Clone> Explainer<A> {
     fn put(&mut self, pe: Pe, cell: Cell, tree: Tree<A>)
         requires element { pe < self.old.elements }
         requires room { held_by pe self.old.trees < self.old.most_open }
-        ensures { self.new ≡ record self.old { trees = kept pe cell (seen cell tree) ∷ self.old.trees } }
+        ensures { self.new
+            ≡ record self.old { trees = kept pe cell (seen cell tree) ∷ self.old.trees } }
     {
         self.held.push_reserved(Held { pe, cell, tree });
     }
@@ -136,13 +149,22 @@ impl<A: Allocator + Clone> Explainer<A> {
         self.held.clear();
     }
 
-    /// An event of the machine. At `Served` it gives the tree of the request that was served, and otherwise `None`.
+    /// An event of the machine. At `Served` it gives the tree of the request that was served, and
+    /// otherwise `None`.
     ///
-    /// `Full` comes at `Combined` alone, and says that memory of the allocator was refused; no trees are held then, and every later call answers `Spent`. The condition: at `Served` and `Combined` the requests are held, at `Combined` those of two elements; at `Issued` the request isn't held yet, its element is one of the machine's and has fewer requests on their way than it can have.
+    /// `Full` comes at `Combined` alone, and says that memory of the allocator was refused; no
+    /// trees are held then, and every later call answers `Spent`. The condition: at `Served` and
+    /// `Combined` the requests are held, at `Combined` those of two elements; at `Issued` the
+    /// request isn't held yet, its element is one of the machine's and has fewer requests on their
+    /// way than it can have.
     pub fn absorb(&mut self, event: &Event) -> Result<Option<Tree<A>>, ExplainFault>
-        requires { self.old.is_spent ≡ false → IsAbsorbable self.old.elements self.old.most_open self.old.trees event.now }
-        ensures trees { IfOk result (λ _. (self.old.is_spent ≡ false) × (self.new ≡ record self.old { trees = trees_after self.old.trees event.now })) }
-        ensures served { IfOk result (λ t. option_map (seen (cell_of event.now)) t ≡ served_tree self.old.trees event.now) }
+        requires { self.old.is_spent ≡ false
+            → IsAbsorbable self.old.elements self.old.most_open self.old.trees event.now }
+        ensures working { OnOk result (self.old.is_spent ≡ false) }
+        ensures trees { OnOk result
+            (self.new ≡ record self.old { trees = trees_after self.old.trees event.now }) }
+        ensures served { IfOk result (λ t.
+            option_map (seen (cell_of event.now)) t ≡ served_tree self.old.trees event.now) }
         ensures fault { IfErr result (λ f. ExplainsFault self.old event.now f self.new) }
     {
         if self.is_spent {
@@ -170,7 +192,8 @@ impl<A: Allocator + Clone> Explainer<A> {
         }
     }
 
-    /// The requests of two elements for a cell have combined; what is sent for both is the old one's.
+    /// The requests of two elements for a cell have combined; what is sent for both is the old
+    /// one's.
     fn combine(
         &mut self,
         stage: u32,
@@ -181,9 +204,13 @@ impl<A: Allocator + Clone> Explainer<A> {
         old_first: bool,
     ) -> Result<(), ExplainFault>
         requires working { self.old.is_spent ≡ false }
-        requires held { IsAbsorbable self.old.elements self.old.most_open self.old.trees (Combined stage position cell old new old_first) }
-        ensures trees { OnOk result (self.new ≡ record self.old { trees = trees_after self.old.trees (Combined stage position cell old new old_first) }) }
-        ensures fault { IfErr result (λ f. (f ≡ Full) × (self.new ≡ record self.old { is_spent = true; trees = [] })) }
+        requires held { IsAbsorbable self.old.elements self.old.most_open self.old.trees
+            (Combined stage position cell old new old_first) }
+        ensures trees { OnOk result (self.new ≡ record self.old {
+          trees = trees_after self.old.trees (Combined stage position cell old new old_first);
+        }) }
+        ensures fault { IfErr result (λ f.
+            (f ≡ Full) × (self.new ≡ record self.old { is_spent = true; trees = [] })) }
     {
         let of_old = self.take(old, cell);
         let of_new = self.take(new, cell);

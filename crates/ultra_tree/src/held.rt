@@ -2,7 +2,7 @@
 
 ghost use Rattle.std.specs.Prelude.{◌≡◌, None, Some, remove, slice_get, IfSome, IfNone};
 ghost use Rattle.ultra_serial.specs.Tree.{tree_of, without};
-ghost use Rattle.ultra_tree.specs.Absorb.{held_by};
+ghost use Rattle.ultra_serial.specs.Explicable.{held_by};
 ghost use Rattle.ultra_tree.specs.Seen.{trees_of, IsLatest};
 
 use crate::trees::Tree;
@@ -17,7 +17,8 @@ pub(crate) struct Held<A: Allocator> {
     pub(crate) tree: Tree<A>,
 }
 
-/// The place of the tree that was put last under an identity, or `None` where none is held under it.
+/// The place of the tree that was put last under an identity, or `None` where none is held under
+/// it.
 pub(crate) fn place_of<A: Allocator>(held: &[Held<A>], pe: Pe, cell: Cell) -> Option<usize>
     ensures found { IfSome result (λ i. IsLatest pe cell held.now i) }
     ensures none { IfNone result (tree_of pe cell (trees_of held.now) ≡ None) }

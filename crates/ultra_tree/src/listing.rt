@@ -42,7 +42,8 @@ impl<T: Drop> From<AllocFailed<T>> for TreeFault {
 
 /// The leaves of a tree in serial order. `NoMemory` means that memory was refused.
 pub fn leaves<A: Allocator>(alloc: Global, tree: &Tree<A>) -> Result<Vec<Leaf>, TreeFault>
-    ensures { IfOk result (λ v. (cell : ℕ) → map (at_cell cell) v.items ≡ leaves_of (seen cell tree.now)) }
+    ensures { IfOk result (λ v. (cell : ℕ)
+        → map (at_cell cell) v.items ≡ leaves_of (seen cell tree.now)) }
 {
     let mut leaves = Vec::new(alloc);
     for place in 0..tree.leaves {

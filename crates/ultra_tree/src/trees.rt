@@ -10,7 +10,12 @@ use ultra_msg::{Op, Pe};
 
 /// The requests that one request stands for, in any allocator.
 ///
-/// A tree may have any height: no call on it, its drop included, needs more stack for a higher one. `leaves`, `height` and `write_tree` are loops that find a leaf by its number, along the counts of leaves that each pair keeps. A drop goes down the larger part of a pair by a loop, and drops the smaller, which has at most half of the leaves, by a call: so at most 64 drops stand on the stack, since leaves are counted in 64 bits. Trees are made by an `Explainer` alone, which keeps these counts.
+/// A tree may have any height: no call on it, its drop included, needs more stack for a higher one.
+/// `leaves`, `height` and `write_tree` are loops that find a leaf by its number, along the counts
+/// of leaves that each pair keeps. A drop goes down the larger part of a pair by a loop, and drops
+/// the smaller, which has at most half of the leaves, by a call: so at most 64 drops stand on the
+/// stack, since leaves are counted in 64 bits. Trees are made by an `Explainer` alone, which keeps
+/// these counts.
 #[derive(Drop)]
 pub struct Tree<A: Allocator> {
     pub(crate) node: Node<A>,
@@ -76,7 +81,8 @@ impl<A: Allocator> Tree<A> {
 
     /// A request as it was issued.
     pub(crate) fn leaf(pe: Pe, number: u32, op: Op) -> Tree<A>
-        ensures { (cell : ℕ) → seen cell result ≡ leaf_tree record { pe = pe; number = number; cell = cell; op = op } }
+        ensures { (cell : ℕ) → seen cell result
+            ≡ leaf_tree record { pe = pe; number = number; cell = cell; op = op } }
     {
         Tree {
             node: Node::Leaf { pe, number, op },
@@ -88,7 +94,8 @@ impl<A: Allocator> Tree<A> {
 impl<A: Allocator + Clone> Tree<A> {
     ghost use Rattle.ultra_tree.specs.Seen.{seen};
 
-    /// Two trees as one. An error says that memory of the allocator was refused; both are then dropped. So are two trees that have `2^64` leaves together, which no memory has room for.
+    /// Two trees as one. An error says that memory of the allocator was refused; both are then
+    /// dropped. So are two trees that have `2^64` leaves together, which no memory has room for.
     pub(crate) fn pair(
         alloc: &A,
         stage: u32,
@@ -97,7 +104,8 @@ impl<A: Allocator + Clone> Tree<A> {
         new: Tree<A>,
         old_first: bool,
     ) -> Result<Tree<A>, AllocError>
-        ensures { IfOk result (λ t. (cell : ℕ) → seen cell t ≡ pair stage position (seen cell old) (seen cell new) old_first) }
+        ensures { IfOk result (λ t. (cell : ℕ) → seen cell t
+            ≡ pair stage position (seen cell old) (seen cell new) old_first) }
     {
         let Some(leaves) = old.leaves.checked_add(new.leaves) else {
             return Err(AllocError);

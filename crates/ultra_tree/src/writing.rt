@@ -14,7 +14,8 @@ use ultra_msg::{Pe, Sink, SinkFault, write_all, write_pieces};
 
 /// Writes a tree, as `[s0x0 1.0 < 0.0]`. After a fault the sink has taken a prefix of its text.
 pub fn write_tree<A: Allocator, S: Sink>(tree: &Tree<A>, sink: &mut S) -> Result<(), SinkFault>
-    ensures { (cell : ℕ) → Writes result (tree_text (seen cell tree.now)) (S.taken sink.old) (S.taken sink.new) (S.failures sink.old) (S.failures sink.new) }
+    ensures { (cell : ℕ) → Writes result (tree_text (seen cell tree.now))
+        (S.taken sink.old) (S.taken sink.new) (S.failures sink.old) (S.failures sink.new) }
 {
     for place in 0..tree.leaves {
         write_at(&tree.node, place, sink)?;
@@ -22,7 +23,8 @@ pub fn write_tree<A: Allocator, S: Sink>(tree: &Tree<A>, sink: &mut S) -> Result
     Ok(())
 }
 
-/// Writes the leaf at a place of the text, with the pairs that open before it, and those that close behind it with the mark that follows.
+/// Writes the leaf at a place of the text, with the pairs that open before it, and those that close
+/// behind it with the mark that follows.
 fn write_at<A: Allocator, S: Sink>(
     tree: &Node<A>,
     place: u64,
@@ -31,7 +33,8 @@ fn write_at<A: Allocator, S: Sink>(
     requires right_counts { HasRightCounts tree.now }
     requires within { place < leaf_count tree.now }
     requires fits { leaf_count tree.now < 2 ^ 64 }
-    ensures { Writes result (piece tree.now place 0 None) (S.taken sink.old) (S.taken sink.new) (S.failures sink.old) (S.failures sink.new) }
+    ensures { Writes result (piece tree.now place 0 None)
+        (S.taken sink.old) (S.taken sink.new) (S.failures sink.old) (S.failures sink.new) }
 {
     let mut node = tree;
     let mut place = place;
@@ -74,7 +77,8 @@ fn write_leaf<S: Sink>(
     mark: Option<bool>,
     sink: &mut S,
 ) -> Result<(), SinkFault>
-    ensures { Writes result (leaf_text pe number ++ closings closing ++ mark_text mark) (S.taken sink.old) (S.taken sink.new) (S.failures sink.old) (S.failures sink.new) }
+    ensures { Writes result (leaf_text pe number ++ closings closing ++ mark_text mark)
+        (S.taken sink.old) (S.taken sink.new) (S.failures sink.old) (S.failures sink.new) }
 {
     write_name(pe, number, sink)?;
     write_closings(closing, sink)?;
@@ -83,7 +87,8 @@ fn write_leaf<S: Sink>(
 
 /// Writes the name of a request.
 fn write_name<S: Sink>(pe: Pe, number: u32, sink: &mut S) -> Result<(), SinkFault>
-    ensures { Writes result (leaf_text pe number) (S.taken sink.old) (S.taken sink.new) (S.failures sink.old) (S.failures sink.new) }
+    ensures { Writes result (leaf_text pe number)
+        (S.taken sink.old) (S.taken sink.new) (S.failures sink.old) (S.failures sink.new) }
 {
     let mut of_pe = Buffer::new();
     let mut of_number = Buffer::new();
@@ -104,7 +109,8 @@ fn write_opening<S: Sink>(
     position: u32,
     sink: &mut S,
 ) -> Result<(), SinkFault>
-    ensures { Writes result (opening place stage position) (S.taken sink.old) (S.taken sink.new) (S.failures sink.old) (S.failures sink.new) }
+    ensures { Writes result (opening place stage position)
+        (S.taken sink.old) (S.taken sink.new) (S.failures sink.old) (S.failures sink.new) }
 {
     if place == 0 {
         write_head(stage, position, sink)
@@ -115,7 +121,8 @@ fn write_opening<S: Sink>(
 
 /// Writes where the requests of a pair met.
 fn write_head<S: Sink>(stage: u32, position: u32, sink: &mut S) -> Result<(), SinkFault>
-    ensures { Writes result (head_text stage position) (S.taken sink.old) (S.taken sink.new) (S.failures sink.old) (S.failures sink.new) }
+    ensures { Writes result (head_text stage position)
+        (S.taken sink.old) (S.taken sink.new) (S.failures sink.old) (S.failures sink.new) }
 {
     let mut of_stage = Buffer::new();
     let mut of_position = Buffer::new();
@@ -133,7 +140,8 @@ fn write_head<S: Sink>(stage: u32, position: u32, sink: &mut S) -> Result<(), Si
 
 /// Closes this many pairs.
 fn write_closings<S: Sink>(count: u64, sink: &mut S) -> Result<(), SinkFault>
-    ensures { Writes result (closings count) (S.taken sink.old) (S.taken sink.new) (S.failures sink.old) (S.failures sink.new) }
+    ensures { Writes result (closings count)
+        (S.taken sink.old) (S.taken sink.new) (S.failures sink.old) (S.failures sink.new) }
 {
     for _ in 0..count {
         write_closing(sink)?;
@@ -143,14 +151,17 @@ fn write_closings<S: Sink>(count: u64, sink: &mut S) -> Result<(), SinkFault>
 
 /// Closes a pair.
 fn write_closing<S: Sink>(sink: &mut S) -> Result<(), SinkFault>
-    ensures { Writes result (codes "]") (S.taken sink.old) (S.taken sink.new) (S.failures sink.old) (S.failures sink.new) }
+    ensures { Writes result (codes "]")
+        (S.taken sink.old) (S.taken sink.new) (S.failures sink.old) (S.failures sink.new) }
 {
     write_all(sink, b"]")
 }
 
-/// Writes which part of a pair comes first in the serial order, if the text goes on with its new part.
+/// Writes which part of a pair comes first in the serial order, if the text goes on with its new
+/// part.
 fn write_mark<S: Sink>(mark: Option<bool>, sink: &mut S) -> Result<(), SinkFault>
-    ensures { Writes result (mark_text mark) (S.taken sink.old) (S.taken sink.new) (S.failures sink.old) (S.failures sink.new) }
+    ensures { Writes result (mark_text mark)
+        (S.taken sink.old) (S.taken sink.new) (S.failures sink.old) (S.failures sink.new) }
 {
     match mark {
         None => Ok(()),
