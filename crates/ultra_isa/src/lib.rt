@@ -85,19 +85,3 @@ pub enum Step {
     /// It stopped for good.
     Fault(MachineFault),
 }
-
-#[cfg(test)]
-mod tests {
-    use super::*;
-    use std::test::Fail;
-
-    #[test]
-    fn program_ends_with_its_last_jump(rt: HostRuntime) -> Result<(), Fail> {
-        let list = [Instr::Jump(1)].to_vec(rt.alloc())?;
-        let program = Program::new(list).map_err(|_| "the jump goes to the end")?;
-        assert_eq!(rt; program.len(), 1);
-        let list = [Instr::Jump(2)].to_vec(rt.alloc())?;
-        assert!(rt; Program::new(list).is_err(), "the jump goes past the end");
-        Ok(())
-    }
-}

@@ -7,8 +7,6 @@ ghost use Rattle.ultra_msg.specs.Pair.{pair_of, is_fixed, KeepsBoth};
 
 mod pieces;
 mod sink;
-#[cfg(test)]
-mod tests;
 
 pub use pieces::write_pieces;
 pub use sink::{Sink, SinkFault, write_all};

@@ -1,6 +1,6 @@
 //! The pairs of the runs written out in the documents, and the greatest numbers.
 
-use super::*;
+use ultra_msg::{Give, Op, Paired, Register, Reply, Shift, pair};
 
 /// A pair of the runs written out in the documents: what each was answered there, from the reply to what was sent.
 struct Meeting {
