@@ -12,7 +12,7 @@ use ultra_msg::{Register, Shift, Word};
 pub const MOST_INSTRUCTIONS: usize = 4096;
 
 /// One instruction. The first register is the one that is written, if one is; the target of a jump is a place of the program.
-#[derive(Clone, Copy, PartialEq, Eq, Debug, Drop)]
+#[derive(Clone, Copy, Drop)]
 pub enum Instr {
     /// `li rd n`
     Set(Register, Word),
@@ -72,7 +72,7 @@ pub enum Activity {
 }
 
 /// What one step of a processing element was.
-#[derive(Clone, Copy, PartialEq, Eq, Debug, Drop)]
+#[derive(Clone, Copy, Drop)]
 pub enum Step {
     /// It did an instruction that needs no memory.
     Done,

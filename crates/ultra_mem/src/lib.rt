@@ -13,7 +13,7 @@ use ultra_msg::{Op, Reply, ReplyMessage, Request, Word};
 pub const MOST_CELLS: u32 = 4096;
 
 /// A request that waits for a module, with the offset of its cell there.
-#[derive(Clone, Copy, PartialEq, Eq, Debug, Drop)]
+#[derive(Clone, Copy, Drop)]
 pub struct Placed {
     /// The request.
     pub request: Request,

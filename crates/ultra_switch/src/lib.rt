@@ -17,7 +17,7 @@ use std::alloc::{AllocError, Global};
 use ultra_msg::{Cell, Give, Pe, ReplyMessage, Request};
 
 /// A request in a queue toward memory.
-#[derive(Clone, Copy, PartialEq, Eq, Debug, Default, Drop)]
+#[derive(Clone, Copy, PartialEq, Eq, Debug, Drop)]
 pub struct Entry {
     /// What is sent to memory: the request that arrived, or what stands for it and the one that it combined with.
     pub request: Request,
@@ -59,14 +59,14 @@ pub enum Split {
 }
 
 /// Why a switch could not be made.
-#[derive(Clone, Copy, PartialEq, Eq, Debug, Drop)]
+#[derive(Clone, Copy, Debug, Drop)]
 pub enum SwitchFault {
     /// The memory for a queue was refused.
     NoMemory,
 }
 
 /// What there is at each of the two ports of a switch, port 0 and port 1.
-#[derive(Clone, Copy, PartialEq, Eq, Debug, Drop)]
+#[derive(Clone, Copy, Drop)]
 pub struct Ports<T> {
     pub zero: T,
     pub one: T,
