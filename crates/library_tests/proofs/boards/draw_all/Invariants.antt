@@ -1,5 +1,5 @@
 use Rattle.std.proofs.Common.{◌≡◌}
-use Rattle.ultra_board.proofs.tests.draw_all.Given as goal
+use Rattle.library_tests.proofs.boards.draw_all.Given as goal
 
 abbrev pub invariant-loop : goal.invariant-loop
 invariant-loop l =

@@ -1,9 +1,10 @@
 //! The worked runs of a board, by one thread and by several.
+
 ghost use Rattle.std.specs.Prelude.{◌≡◌};
 
-use crate::{Board, BoardFault, Seat, Totals};
 use std::test::Fail;
 use std::thread;
+use ultra_board::{Board, BoardFault, Seat, Totals};
 
 /// Draws until no number is left, and finishes each number at once.
 fn draw_all(board: &Board, mut seat: Seat) -> Seat
