@@ -1,7 +1,7 @@
 use Rattle.std.proofs.Common.{◌≡◌, ◌≢◌, arith, ap, get_or, ⊎_elim}
 use Rattle.std.proofs.lemmas.Bool.{cases_eq}
 use Rattle.std.proofs.lemmas.List.{get_or_default}
-use Rattle.ultra_block.proofs.blocks.blocks_named.Goals as goal
+use Rattle.ultra_block.proofs.building.blocks_named.Goals as goal
 
 pub loop-block-preserved : goal.loop-block-preserved
 loop-block-preserved c = λ k d h small.
