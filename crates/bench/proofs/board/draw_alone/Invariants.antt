@@ -1,5 +1,5 @@
 use Rattle.std.proofs.Common.{◌≡◌}
-use Rattle.bench_board.proofs.draw_alone.Given as goal
+use Rattle.bench.proofs.board.draw_alone.Given as goal
 
 abbrev pub invariant-loop : goal.invariant-loop
 invariant-loop l =

@@ -1,12 +1,10 @@
-//! Draws all numbers of a board, by 1, 2 or 4 threads, again and again, and prints how often a number was asked for: in each round as often as there are numbers, and once more by each thread.
+//! All numbers of a board, drawn by 1, 2 or 4 threads, again and again. How often a number was asked for is printed: in each round as often as there are numbers, and once more by each thread.
 //!
-//! The two words of the command line are the number of threads and the number of rounds.
-#![tactic(auto)]
+//! The words are the number of threads and the number of rounds.
 
 ghost use Rattle.std.specs.Prelude.{◌≡◌, ◌+◌};
 
 use anyhow::bail;
-use std::env;
 use std::thread::{Threads, join};
 use ultra_board::{Board, MOST_NUMBERS, Seat};
 
@@ -65,19 +63,26 @@ fn draw_by_places<R: Threads + Sync>(rt: &R, board: &Board, seat: Seat) -> Seat
     board.join(left, right)
 }
 
-fn main(rt: HostRuntime) -> anyhow::Result<()> {
-    let mut numbers = env::args(&rt)?
-        .skip(1)
-        .map(|word| word.as_str().parse::<u64>());
-    let (Some(Ok(threads)), Some(Ok(rounds))) = (numbers.next(), numbers.next()) else {
-        bail!("two numbers are wanted: threads and rounds");
+/// Draws all numbers, in as many rounds as the words ask for.
+pub(crate) fn measure<R: AllocGlobal + Print + Threads + Sync>(
+    rt: &R,
+    words: &[String],
+) -> anyhow::Result<()> {
+    let [threads, rounds] = words else {
+        bail!("two words are wanted: threads and rounds");
+    };
+    let (Ok(threads), Ok(rounds)) = (
+        threads.as_str().parse::<u64>(),
+        rounds.as_str().parse::<u64>(),
+    ) else {
+        bail!("threads and rounds are numbers");
     };
     let mut asked = 0u64;
     for _ in 0..rounds {
         let Ok((board, seat)) = Board::open(rt.alloc(), MOST_NUMBERS, 1, threads) else {
             bail!("there is no board for {threads} threads");
         };
-        let seat = draw_by_places(&rt, &board, seat);
+        let seat = draw_by_places(rt, &board, seat);
         asked = asked.saturating_add(board.close(seat).claimed);
     }
     println!(rt; "{threads} threads asked {asked} times")?;
