@@ -1,0 +1,3 @@
+pub mod Para
+pub mod Careful
+pub mod Programmed
