@@ -1,5 +1,5 @@
 -- a program is careful if each of its ends is
-use Rattle.std.proofs.Common.{◌≡◌, ℕ, zero, suc, ◌+◌, List, [], ◌∷◌, drop, Bool, true, false, refl, arith, ◌∙◌, ap}
+use Rattle.std.proofs.Common.{◌≡◌, ℕ, zero, suc, ◌+◌, List, [], ◌∷◌, drop, true, false, refl, arith, ◌∙◌, ap}
 use Rattle.std.specs.Prelude.{slice_get, ◌&&◌, ◌||◌, not}
 use Rattle.ultra_isa.specs.declared.Instr.{Instr}
 use Rattle.ultra_para.specs.Careful.{refers_to_cell, is_some_fence, begins_with_fence, is_careful, is_fenced_place}

@@ -36,7 +36,7 @@ use Rattle.ultra_serial.proofs.Answered.{IsNoAct, same_order}
 use Rattle.ultra_serial.proofs.Lists.{count_replayed, each_replayed}
 use Rattle.ultra_serial.proofs.Replays.{replayed-append}
 use Rattle.ultra_serial.proofs.Law.{IsSerial, serial_after, grows-noted, deliveries, servings, meetings, issues_of, any_delivery, each_serving, each_meeting, events_of, delivered_entry, history_next, given_is}
-use Rattle.ultra_para.specs.Para.{Para, core_at, start_para, para_step, run_para}
+use Rattle.ultra_para.specs.Para.{Para, core_at, start_para, run_para}
 use Rattle.ultra_para.specs.Careful.{is_careful}
 use Rattle.ultra_para.specs.Law.{IsReached, ParacomputerLaw}
 use Rattle.ultra_para.proofs.Relation.{IsWaiting, State, AreRelated, opening}

@@ -1,4 +1,4 @@
-use Rattle.std.proofs.Common.{◌∙◌, ◌++◌, ◌∷◌, [], ap, sym, refl}
+use Rattle.std.proofs.Common.{◌∙◌, sym, refl}
 use Rattle.ultra_para.proofs.Starting.{no_processors, one_processor_more}
 use Rattle.ultra_para.proofs.paracomputer.fresh_processors.Goals as goal
 

@@ -1,4 +1,4 @@
-use Rattle.std.proofs.Common.{◌∙◌, ap, sym, take, get_or}
+use Rattle.std.proofs.Common.{◌∙◌, ap, sym, get_or}
 use Rattle.ultra_para.specs.Para.{Para, para_step}
 use Rattle.ultra_para.specs.Programmed.{Programmed}
 use Rattle.ultra_para.proofs.Schedules.{run-take}
