@@ -1,2 +1,4 @@
 pub mod Lines
 pub mod Meeting
+pub mod Fronts
+pub mod Others
