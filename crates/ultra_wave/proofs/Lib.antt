@@ -2,3 +2,4 @@ pub mod Lines
 pub mod Meeting
 pub mod Fronts
 pub mod Others
+pub mod Quiet
