@@ -3,3 +3,5 @@ pub mod Meeting
 pub mod Fronts
 pub mod Others
 pub mod Quiet
+pub mod Stages
+pub mod Behind
