@@ -5,3 +5,4 @@ pub mod Others
 pub mod Quiet
 pub mod Stages
 pub mod Behind
+pub mod Onward
