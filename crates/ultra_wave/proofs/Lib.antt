@@ -6,3 +6,5 @@ pub mod Quiet
 pub mod Stages
 pub mod Behind
 pub mod Onward
+pub mod Moving
+pub mod Calm

@@ -24,12 +24,12 @@ use Rattle.ultra_wave.proofs.Stages.{IsSilent, IsClear, HasLeft, IsSet, IsAtStag
 use Rattle.ultra_wave.proofs.Behind.{clear_requested, left_requested}
 
 -- where the head of a queue of at most one request leaves, nothing is left
-head_leaves : (r : Entry) (b : Bool) (q : List Entry) → q ≡ elim b [ true ↦ r ∷ [] | false ↦ [] ] → after_leaving (head_of q) q ≡ []
+pub head_leaves : (r : Entry) (b : Bool) (q : List Entry) → q ≡ elim b [ true ↦ r ∷ [] | false ↦ [] ] → after_leaving (head_of q) q ≡ []
 head_leaves r true q e = rw e refl
 head_leaves r false q e = rw e refl
 
 module _ (c : Settings) (range : AreInRange c) (a n : ℕ) (asked : ℕ → Request) (each : IsAsked c a asked) (some_waits : 1 ≤ c.wait_places) where
-  abbrev wave_at : ℕ → ℕ → Lane
+  abbrev pub wave_at : ℕ → ℕ → Lane
   wave_at s x = reached c.stages n asked (module_of c a) s x
 
   -- ---- the lanes that the wave has reached
@@ -44,7 +44,7 @@ module _ (c : Settings) (range : AreInRange c) (a n : ℕ) (asked : ℕ → Requ
   records_if true s x = refl
   records_if false s x = refl
 
-  wave_records : (s x : ℕ) → (wave_at s x).records ≡ left_at c.stages n asked (module_of c a) s x
+  pub wave_records : (s x : ℕ) → (wave_at s x).records ≡ left_at c.stages n asked (module_of c a) s x
   wave_records s x = records_if (is_on c range a n asked (s + 1) x) s x
 
   head_if : (b : Bool) (r : Request) → head_of (elim b [ true ↦ entry r true ∷ [] | false ↦ [] ]) ≡ elim b [ true ↦ Some r | false ↦ None ]
