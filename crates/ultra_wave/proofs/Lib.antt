@@ -8,3 +8,5 @@ pub mod Behind
 pub mod Onward
 pub mod Moving
 pub mod Calm
+pub mod Module
+pub mod Returning
