@@ -10,3 +10,4 @@ pub mod Moving
 pub mod Calm
 pub mod Module
 pub mod Returning
+pub mod Home

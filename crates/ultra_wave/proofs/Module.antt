@@ -51,7 +51,7 @@ module _ (c : Settings) (range : AreInRange c) (a n : ℕ) (asked : ℕ → Requ
   input_if bank true r h = refl
   input_if bank false r h = h
 
-  same_output : (bank : Bank) (o : Option Request) → (with_request c bank o).out ≡ bank.out
+  pub same_output : (bank : Bank) (o : Option Request) → (with_request c bank o).out ≡ bank.out
   same_output bank None = refl
   same_output bank (Some r) = refl
 

@@ -60,7 +60,7 @@ module _ (c : Settings) (range : AreInRange c) (a n : ℕ) (asked : ℕ → Requ
       ap (λ q. head_of q) (wave_queue s x) ∙ (head_if (is_on c range a n asked (s + 1) x) r ∙ ap f next)
 
   -- ---- it sets out
-  leads_first : (x : ℕ) → is_on c range a n asked 0 x ≡ true
+  pub leads_first : (x : ℕ) → is_on c range a n asked 0 x ≡ true
   leads_first x =
       let k = module_of c a in
       let low : x % 2 ^ 0 ≡ 0 = mod-one x in
