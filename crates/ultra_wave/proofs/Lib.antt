@@ -11,3 +11,5 @@ pub mod Calm
 pub mod Module
 pub mod Returning
 pub mod Home
+pub mod Silence
+pub mod Cycle
