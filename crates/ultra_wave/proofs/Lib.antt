@@ -13,3 +13,5 @@ pub mod Returning
 pub mod Home
 pub mod Silence
 pub mod Cycle
+pub mod Acts
+pub mod Opened
