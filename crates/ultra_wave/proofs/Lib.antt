@@ -15,3 +15,4 @@ pub mod Silence
 pub mod Cycle
 pub mod Acts
 pub mod Opened
+pub mod Law

@@ -32,7 +32,7 @@ module _ (c : Settings) (range : AreInRange c) (a n : ℕ) (asked : ℕ → Requ
       let high : module_of c a / 2 ^ (c.stages - c.stages) ≡ module_of c a = ap (λ d. module_of c a / 2 ^ d) none ∙ div-one (module_of c a) in
       rw (low, high) refl
 
-  abbrev placed : Request → Placed
+  abbrev pub placed : Request → Placed
   placed r = record { request = r; offset = r.cell / size c }
 
   -- what the module on the wave's line holds
