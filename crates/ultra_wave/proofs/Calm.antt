@@ -1,5 +1,5 @@
 -- while the wave's answers are on their way, there is no other request for the cell anywhere
-use Rattle.std.proofs.Common.{◌≡◌, ◌≢◌, ℕ, suc, ◌+◌, ◌-◌, ◌*◌, ◌/◌, ◌%◌, ◌<◌, ◌≤◌, List, [], ◌∷◌, Bool, true, false, refl, arith, sym, subst, ◌∙◌, ap}
+use Rattle.std.proofs.Common.{◌≡◌, ◌≢◌, ℕ, ◌<◌, ◌≤◌, List, [], refl, arith}
 use Rattle.std.specs.Prelude.{Option, Some, None, IfSome, slice_get}
 use Rattle.ultra_msg.specs.declared.Request.{Request}
 use Rattle.ultra_msg.specs.declared.ReplyMessage.{ReplyMessage}
@@ -7,17 +7,17 @@ use Rattle.ultra_route.specs.Route.{shuffled}
 use Rattle.ultra_switch.specs.declared.Entry.{Entry}
 use Rattle.ultra_switch.specs.Queues.{request_of}
 use Rattle.ultra_mem.specs.declared.Placed.{Placed}
-use Rattle.ultra_mem.specs.Serve.{Bank, after_serving, serve}
+use Rattle.ultra_mem.specs.Serve.{Bank, after_serving}
 use Rattle.ultra_isa.specs.declared.Instr.{Instr}
 use Rattle.ultra_isa.proofs.Steps.{step_is}
-use Rattle.ultra_model.specs.Machine.{Settings, Machine, Element, size, site, last_stage, lane_at, replies_at, bank_at, element_at}
+use Rattle.ultra_model.specs.Machine.{Settings, Machine, size, site, last_stage, lane_at, replies_at, bank_at, element_at}
 use Rattle.ultra_model.specs.Phases.{reply_phase, memory_phase, request_phase, processor_phase, entering, with_request, step_at}
 use Rattle.ultra_model.specs.Ranges.{AreInRange}
-use Rattle.ultra_model.proofs.Each.{each-first, if_tested}
+use Rattle.ultra_model.proofs.Each.{each-first}
 use Rattle.ultra_model.proofs.OnRoute.{some-request}
 use Rattle.ultra_model.proofs.Routes.{turns_back}
 use Rattle.ultra_model.proofs.AtPlaces.{bank-memory_phase, bank-request_phase, element-processor_phase}
-use Rattle.ultra_wave.proofs.Others.{AreOtherEntries, IsAway, away_after}
+use Rattle.ultra_wave.proofs.Others.{IsAway, away_after}
 use Rattle.ultra_wave.proofs.Quiet.{same_queue, element_stays, input_stays}
 use Rattle.ultra_wave.proofs.Stages.{IsClear, HasLeft}
 use Rattle.ultra_wave.proofs.Behind.{clear_requested, left_requested}
@@ -69,15 +69,14 @@ module _ (c : Settings) (range : AreInRange c) (a : ℕ) (m : Machine) where
         let q = (lane_at m (last_stage c) k).queue in
         let head = some-request (λ (r : Request). r.cell ≢ a) (slice_get q 0) (each-first (λ (e : Entry). e.request.cell ≢ a) q (w.clear.queues (last_stage c) k (omega arith) hk)) in
         enters_if (bank_at m k).inp (request_of (slice_get q 0)) head
-        where
-          enters_if : (i : Option Placed) (o : Option Request) → IfSome o (λ (r : Request). r.cell ≢ a) → IfSome (elim i as (λ j. Option Request) [ None ↦ o | Some r ↦ None ]) (λ (r : Request). r.cell ≢ a)
-          enters_if None o h = h
-          enters_if (Some p) o h = tt
+      where
+        enters_if : (i : Option Placed) (o : Option Request) → IfSome o (λ (r : Request). r.cell ≢ a) → IfSome (elim i as (λ j. Option Request) [ None ↦ o | Some r ↦ None ]) (λ (r : Request). r.cell ≢ a)
+        enters_if None o h = h
+        enters_if (Some p) o h = tt
 
     with_other : (b : Bank) (o : Option Request) → ServesOther a b → IfSome o (λ (r : Request). r.cell ≢ a) → ServesOther a (with_request c b o)
     with_other b None h g = h
     with_other b (Some r) h g = g
-
 
     pub calm_moved : IsCalm c a (request_phase c m)
     calm_moved = record {

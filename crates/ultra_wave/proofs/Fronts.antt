@@ -1,6 +1,5 @@
 -- the request on a line of the wave stands on its route
-use Rattle.std.proofs.Common.{◌≡◌, ℕ, zero, suc, ◌+◌, ◌-◌, ◌*◌, ◌/◌, ◌%◌, ◌<◌, ◌≤◌, Bool, true, false, refl, arith, sym, subst, ◌∙◌, ap}
-use Rattle.std.specs.Prelude.{◌==◌}
+use Rattle.std.proofs.Common.{◌≡◌, ℕ, zero, suc, ◌+◌, ◌-◌, ◌<◌, ◌≤◌, true, arith, sym, subst, ◌∙◌, ap}
 use Rattle.ultra_msg.specs.declared.Request.{Request}
 use Rattle.ultra_route.specs.Route.{shuffled, unshuffled, bit_of, with_lowest, line_of, entry_of}
 use Rattle.ultra_model.specs.Machine.{Settings, size, last_stage}
@@ -8,7 +7,7 @@ use Rattle.ultra_model.specs.Ranges.{AreInRange}
 use Rattle.ultra_model.specs.Routed.{module_of}
 use Rattle.ultra_model.proofs.Routes.{route, route_ends, turns_back}
 use Rattle.ultra_wave.specs.Wave.{first_port, second_port, old_of, new_of}
-use Rattle.ultra_wave.proofs.Meeting.{IsPort, first_is_port, second_is_port, is_on, turned, port_turns, port_on, fronts, front_next, front_first}
+use Rattle.ultra_wave.proofs.Meeting.{IsPort, first_is_port, second_is_port, is_on, port_turns, port_on, fronts, front_next, front_first}
 
 -- each processing element has asked for the cell
 pub record IsAsked (c : Settings) (a : ℕ) (asked : ℕ → Request) : Type 0 where

@@ -1,5 +1,5 @@
 -- the wave's replies go back stage by stage, until each processing element has its answer
-use Rattle.std.proofs.Common.{◌≡◌, ℕ, zero, suc, ◌+◌, ◌-◌, ◌*◌, ◌/◌, ◌%◌, ◌<◌, ◌≤◌, List, [], ◌∷◌, Bool, true, false, refl, arith, sym, subst, ◌∙◌, ap}
+use Rattle.std.proofs.Common.{◌≡◌, ℕ, suc, ◌+◌, ◌<◌, ◌≤◌, List, [], arith, sym, subst, ◌∙◌, ap}
 use Rattle.std.specs.Prelude.{Option, Some, None, slice_get}
 use Rattle.ultra_msg.specs.declared.Request.{Request}
 use Rattle.ultra_msg.specs.declared.Reply.{Reply}
@@ -7,13 +7,13 @@ use Rattle.ultra_msg.specs.declared.ReplyMessage.{ReplyMessage}
 use Rattle.ultra_route.specs.Route.{shuffled, unshuffled}
 use Rattle.ultra_mem.specs.Serve.{Bank}
 use Rattle.ultra_isa.specs.declared.Instr.{Instr}
-use Rattle.ultra_model.specs.Machine.{Settings, Machine, size, last_stage, lane_at, replies_at, bank_at}
-use Rattle.ultra_model.specs.Phases.{reply_before, delivered, with_request, entering, reply_phase, memory_phase, request_phase, processor_phase}
+use Rattle.ultra_model.specs.Machine.{Settings, Machine, size, last_stage, replies_at, bank_at}
+use Rattle.ultra_model.specs.Phases.{reply_before, delivered, entering, reply_phase, memory_phase, request_phase, processor_phase}
 use Rattle.ultra_model.specs.Ranges.{AreInRange}
 use Rattle.ultra_model.proofs.Routes.{turns_back}
 use Rattle.ultra_model.proofs.ReplyBalance.{before_at_last, before_below}
 use Rattle.ultra_model.proofs.AtPlaces.{replies-reply_phase, bank-request_phase, replies-request_phase}
-use Rattle.ultra_wave.proofs.Meeting.{is_on, fronts, front_first}
+use Rattle.ultra_wave.proofs.Meeting.{fronts, front_first}
 use Rattle.ultra_wave.proofs.Fronts.{IsAsked}
 use Rattle.ultra_wave.proofs.Quiet.{none_before, lane_unsplit, no_replies}
 use Rattle.ultra_wave.proofs.Stages.{HasLeft}

@@ -4,7 +4,6 @@ use Rattle.std.specs.Prelude.{Option, Some, None, ◌==◌, if◌then◌else◌,
 use Rattle.std.specs.List.{AllByRecursion, Contains}
 use Rattle.std.proofs.lemmas.Bool.{cases_eq, cases_lt}
 use Rattle.ultra_msg.specs.declared.Request.{Request}
-use Rattle.ultra_msg.specs.declared.Reply.{Reply}
 use Rattle.ultra_msg.specs.declared.Event.TheVariants.{Delivered}
 use Rattle.ultra_mem.specs.declared.Served.{Served as Act}
 use Rattle.ultra_mem.specs.Serve.{act_of, served}
@@ -18,7 +17,7 @@ use Rattle.ultra_model.specs.Routed.{module_of, IsOwn}
 use Rattle.ultra_model.proofs.Neighbours.{itself, other}
 use Rattle.ultra_model.proofs.Routes.{module_small}
 use Rattle.ultra_model.proofs.Sound.{after_is_sound}
-use Rattle.ultra_wave.specs.AllAtOnce.{acts_on, AreAllAt, events_of, AreServedAtOnce, WaveLaw}
+use Rattle.ultra_wave.specs.AllAtOnce.{acts_on, AreAllAt, AreServedAtOnce, WaveLaw}
 use Rattle.ultra_wave.proofs.Meeting.{fronts}
 use Rattle.ultra_wave.proofs.Fronts.{IsAsked, front_cell}
 use Rattle.ultra_wave.proofs.Quiet.{input_stays}

@@ -1,8 +1,7 @@
 -- the module serves the wave's request as one
-use Rattle.std.proofs.Common.{◌≡◌, ◌≢◌, ℕ, suc, ◌+◌, ◌-◌, ◌*◌, ◌/◌, ◌%◌, ◌^◌, ◌<◌, ◌≤◌, List, [], ◌∷◌, Bool, true, false, refl, arith, sym, subst, ◌∙◌, ap, ⊎_elim}
+use Rattle.std.proofs.Common.{◌≡◌, ◌≢◌, ℕ, suc, ◌+◌, ◌-◌, ◌/◌, ◌%◌, ◌^◌, ◌<◌, ◌≤◌, [], Bool, true, false, refl, arith, sym, subst, ◌∙◌, ap}
 use Rattle.std.specs.Prelude.{Option, Some, None, IfSome, ◌==◌}
 use Rattle.std.proofs.Math.Nat.{div-one, mod-eq_of_lt}
-use Rattle.std.proofs.lemmas.Bool.{cases_Bool}
 use Rattle.ultra_msg.specs.declared.Request.{Request}
 use Rattle.ultra_msg.specs.declared.Reply.{Reply}
 use Rattle.ultra_msg.specs.declared.ReplyMessage.{ReplyMessage}
@@ -10,18 +9,18 @@ use Rattle.ultra_msg.specs.Act.{act}
 use Rattle.ultra_mem.specs.declared.Placed.{Placed}
 use Rattle.ultra_mem.specs.declared.Served.{Served as Act}
 use Rattle.ultra_mem.specs.Serve.{Bank, value_at, act_of, after_serving, serve, served}
-use Rattle.ultra_model.specs.Machine.{Settings, Machine, size, last_stage, lane_at, replies_at, bank_at}
+use Rattle.ultra_model.specs.Machine.{Settings, Machine, size, last_stage, replies_at, bank_at}
 use Rattle.ultra_model.specs.Phases.{reply_before, reply_phase, memory_phase, request_phase, entering, with_request}
 use Rattle.ultra_model.specs.Ranges.{AreInRange}
 use Rattle.ultra_model.specs.Routed.{module_of}
-use Rattle.ultra_model.proofs.Routes.{module_small, turns_back}
-use Rattle.ultra_model.proofs.AtPlaces.{bank-memory_phase, bank-request_phase, replies-memory_phase, replies-request_phase}
-use Rattle.ultra_wave.proofs.Meeting.{is_on, fronts, lines}
+use Rattle.ultra_model.proofs.Routes.{turns_back}
+use Rattle.ultra_model.proofs.AtPlaces.{bank-memory_phase, bank-request_phase, replies-request_phase}
+use Rattle.ultra_wave.proofs.Meeting.{is_on, fronts}
 use Rattle.ultra_wave.proofs.Fronts.{IsAsked, front_cell}
 use Rattle.ultra_wave.proofs.Quiet.{none_before, lane_unsplit, no_replies, bank_stays}
 use Rattle.ultra_wave.proofs.Stages.{IsClear, HasLeft, IsAtStage}
 use Rattle.ultra_wave.proofs.Moving.{enters_at, clear_of_all, left_everywhere}
-use Rattle.ultra_wave.proofs.Calm.{ServesOther, IsCalm, clear_replied}
+use Rattle.ultra_wave.proofs.Calm.{IsCalm, clear_replied}
 
 module _ (c : Settings) (range : AreInRange c) (a n : ℕ) (asked : ℕ → Request) (each : IsAsked c a asked) (some_waits : 1 ≤ c.wait_places) where
   -- after the last stage the wave's line is its module

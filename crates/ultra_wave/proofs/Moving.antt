@@ -1,13 +1,12 @@
 -- the request phase takes the wave on to the next stage
-use Rattle.std.proofs.Common.{◌≡◌, ℕ, suc, ◌+◌, ◌-◌, ◌*◌, ◌/◌, ◌%◌, ◌<◌, ◌≤◌, List, [], ◌∷◌, Bool, true, false, refl, arith, sym, subst, ◌∙◌, ap, ⊎_elim}
-use Rattle.std.specs.Prelude.{Option, Some, None}
+use Rattle.std.proofs.Common.{◌≡◌, ℕ, suc, ◌+◌, ◌-◌, ◌<◌, ◌≤◌, [], ◌∷◌, true, false, arith, sym, subst, ◌∙◌, ap, ⊎_elim}
+use Rattle.std.specs.Prelude.{Option, None}
 use Rattle.std.proofs.lemmas.Bool.{cases_lt}
 use Rattle.ultra_msg.specs.declared.Request.{Request}
 use Rattle.ultra_route.specs.Route.{shuffled, unshuffled}
-use Rattle.ultra_switch.specs.declared.Entry.{Entry}
 use Rattle.ultra_switch.specs.Arrive.{Lane, empty_lane, entry}
 use Rattle.ultra_model.specs.Places.{after_leaving}
-use Rattle.ultra_model.specs.Machine.{Settings, Machine, size, last_stage, lane_at, bank_at}
+use Rattle.ultra_model.specs.Machine.{Settings, Machine, size, last_stage, lane_at}
 use Rattle.ultra_model.specs.Phases.{request_before, leaving_request, entering, request_phase}
 use Rattle.ultra_model.specs.Ranges.{AreInRange}
 use Rattle.ultra_model.specs.Routed.{module_of}
@@ -20,7 +19,7 @@ use Rattle.ultra_wave.proofs.Fronts.{IsAsked, front_cell}
 use Rattle.ultra_wave.proofs.Others.{Keeps, keeps_alone, AreOtherEntries}
 use Rattle.ultra_wave.proofs.Quiet.{head_of, before_at, stays_empty, entering_is, none_enters}
 use Rattle.ultra_wave.proofs.Stages.{IsSilent, IsClear, HasLeft, IsAtStage}
-use Rattle.ultra_wave.proofs.Behind.{LeavesOthers, clear_requested, left_requested}
+use Rattle.ultra_wave.proofs.Behind.{clear_requested, left_requested}
 use Rattle.ultra_wave.proofs.Onward.{head_leaves, wave_at, wave_queue, wave_records, wave_head}
 
 module _ (c : Settings) (range : AreInRange c) (a n : ℕ) (asked : ℕ → Request) (each : IsAsked c a asked) (some_waits : 1 ≤ c.wait_places) where

@@ -1,27 +1,26 @@
 -- the request phase takes the wave from stage to stage
-use Rattle.std.proofs.Common.{◌≡◌, ℕ, zero, suc, ◌+◌, ◌-◌, ◌*◌, ◌/◌, ◌%◌, ◌^◌, ◌<◌, ◌≤◌, List, [], ◌∷◌, Bool, true, false, refl, arith, sym, subst, ◌∙◌, ap}
-use Rattle.std.specs.Prelude.{Option, Some, None, slice_get, ◌==◌}
+use Rattle.std.proofs.Common.{◌≡◌, ℕ, suc, ◌+◌, ◌-◌, ◌/◌, ◌%◌, ◌^◌, ◌<◌, ◌≤◌, List, [], ◌∷◌, Bool, true, false, refl, arith, sym, subst, ◌∙◌, ap}
+use Rattle.std.specs.Prelude.{Option, Some, None, slice_get}
 use Rattle.std.proofs.Math.Nat.{div-eq_of_lt, mod-one}
 use Rattle.ultra_msg.specs.declared.Request.{Request}
 use Rattle.ultra_route.specs.Route.{shuffled, unshuffled}
 use Rattle.ultra_switch.specs.declared.Entry.{Entry}
 use Rattle.ultra_switch.specs.Arrive.{Lane, empty_lane, entry}
 use Rattle.ultra_model.specs.Places.{after_leaving}
-use Rattle.ultra_model.specs.Machine.{Settings, Machine, Element, size, last_stage, lane_at, replies_at, bank_at, element_at}
-use Rattle.ultra_model.specs.Phases.{request_before, arriving_request, leaving_request, entering, request_phase, without_pending}
+use Rattle.ultra_model.specs.Machine.{Settings, Machine, Element, size, last_stage, lane_at, element_at}
+use Rattle.ultra_model.specs.Phases.{request_before, arriving_request, request_phase}
 use Rattle.ultra_model.specs.Ranges.{AreInRange}
 use Rattle.ultra_model.specs.Routed.{module_of}
 use Rattle.ultra_model.proofs.Neighbours.{itself}
 use Rattle.ultra_model.proofs.Routes.{turns_back, module_small}
-use Rattle.ultra_model.proofs.RequestBalance.{before_next, before_first, leaving_at_last, leaving_below}
+use Rattle.ultra_model.proofs.RequestBalance.{before_first}
 use Rattle.ultra_model.proofs.AtPlaces.{lane-request_phase, element-request_phase, replies-request_phase}
-use Rattle.ultra_wave.specs.Wave.{leads_to, front, record_of, left_at, reached}
+use Rattle.ultra_wave.specs.Wave.{front, record_of, left_at, reached}
 use Rattle.ultra_wave.proofs.Meeting.{is_on, fronts, lines, front_first, all_arrive, wave_reaches}
 use Rattle.ultra_wave.proofs.Fronts.{IsAsked, front_cell}
-use Rattle.ultra_wave.proofs.Others.{AreOtherEntries, Keeps, keeps_alone, IsAway}
-use Rattle.ultra_wave.proofs.Quiet.{head_of, none_left, before_at, stays_empty, entering_is, none_enters}
-use Rattle.ultra_wave.proofs.Stages.{IsSilent, IsClear, HasLeft, IsSet, IsAtStage}
-use Rattle.ultra_wave.proofs.Behind.{clear_requested, left_requested}
+use Rattle.ultra_wave.proofs.Others.{Keeps, keeps_alone, IsAway}
+use Rattle.ultra_wave.proofs.Quiet.{head_of, before_at, stays_empty, none_enters}
+use Rattle.ultra_wave.proofs.Stages.{IsSilent, IsSet, IsAtStage}
 
 -- where the head of a queue of at most one request leaves, nothing is left
 pub head_leaves : (r : Entry) (b : Bool) (q : List Entry) → q ≡ elim b [ true ↦ r ∷ [] | false ↦ [] ] → after_leaving (head_of q) q ≡ []

@@ -1,12 +1,11 @@
 -- the cell of a request that waits in an interface is open
-use Rattle.std.proofs.Common.{◌≡◌, ℕ, ◌+◌, ◌<◌, ◌≤◌, List, [], ◌∷◌, Bool, true, false, refl, arith, ap, ⊎_elim}
-use Rattle.std.specs.Prelude.{◌==◌, ◌&&◌}
+use Rattle.std.proofs.Common.{◌≡◌, ℕ, ◌<◌, [], ◌∷◌, true, refl, arith, ⊎_elim}
 use Rattle.std.proofs.lemmas.Bool.{cases_Bool}
 use Rattle.ultra_msg.specs.declared.Request.{Request}
 use Rattle.ultra_pni.specs.Interface.{is_open}
 use Rattle.ultra_model.specs.Machine.{Settings, Machine, size, element_at}
 use Rattle.ultra_model.specs.Ranges.{AreInRange}
-use Rattle.ultra_model.specs.Balance.{count, passes, pending_on_way, on_way, all_opened, IsBalanced}
+use Rattle.ultra_model.specs.Balance.{passes, pending_on_way, IsBalanced}
 use Rattle.ultra_model.proofs.Sums.{total_term}
 use Rattle.ultra_model.proofs.Counting.{is_reference}
 use Rattle.ultra_model.proofs.Neighbours.{itself}

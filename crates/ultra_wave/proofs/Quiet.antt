@@ -1,5 +1,5 @@
 -- what the phases leave as it is: where no reply comes to a stage, where a module is idle, where no request stands before a stage
-use Rattle.std.proofs.Common.{◌≡◌, ℕ, ◌+◌, ◌-◌, ◌*◌, ◌/◌, ◌%◌, ◌<◌, ◌≤◌, List, [], ◌∷◌, ◌++◌, Bool, true, false, refl, arith, sym, subst, ◌∙◌, ap, ⊎_elim}
+use Rattle.std.proofs.Common.{◌≡◌, ℕ, ◌+◌, ◌-◌, ◌*◌, ◌/◌, ◌%◌, ◌<◌, List, [], ◌++◌, Bool, true, false, refl, arith, ◌∙◌, ap}
 use Rattle.std.specs.Prelude.{Option, Some, None, slice_get, ◌==◌}
 use Rattle.std.proofs.lemmas.Bool.{eqb-true}
 use Rattle.std.proofs.lemmas.Bool.Decides.{nat_tests}
@@ -9,16 +9,15 @@ use Rattle.ultra_route.specs.Route.{shuffled, unshuffled}
 use Rattle.ultra_switch.specs.Arrive.{Lane, empty_lane}
 use Rattle.ultra_switch.specs.Queues.{request_of}
 use Rattle.ultra_switch.specs.declared.Entry.{Entry}
-use Rattle.ultra_mem.specs.Serve.{Bank, IsIdle, serve, served}
+use Rattle.ultra_mem.specs.Serve.{Bank, IsIdle, serve}
 use Rattle.ultra_mem.specs.declared.Placed.{Placed}
 use Rattle.ultra_model.specs.Places.{after_leaving}
-use Rattle.ultra_model.specs.Machine.{Settings, Machine, Element, size, last_stage, lane_at, replies_at, bank_at, element_at}
-use Rattle.ultra_model.specs.Phases.{deliver, without_reply, records_left, replies_made, reply_before, has_reply_room, arriving_reply, leaving_reply, replies_at_exit, next_replies, lane_after_split, delivered, reply_phase, memory_phase, request_before, arriving_request, arrivals_by, arrivals, leaving_request, lane_after_leaving, next_lane, entering, with_request, request_phase}
+use Rattle.ultra_model.specs.Machine.{Settings, Machine, size, last_stage, lane_at, replies_at, bank_at, element_at}
+use Rattle.ultra_model.specs.Phases.{deliver, without_reply, records_left, reply_before, has_reply_room, arriving_reply, leaving_reply, replies_at_exit, delivered, reply_phase, memory_phase, request_before, arriving_request, arrivals_by, arrivals, leaving_request, entering, with_request, request_phase}
 use Rattle.ultra_model.specs.Ranges.{AreInRange}
 use Rattle.ultra_model.proofs.Each.{if_tested}
-use Rattle.ultra_model.proofs.Neighbours.{itself, other}
-use Rattle.ultra_model.proofs.Routes.{turns_back, two_ports}
-use Rattle.ultra_model.proofs.ReplyBalance.{before_below, before_at_last}
+use Rattle.ultra_model.proofs.Neighbours.{other}
+use Rattle.ultra_model.proofs.Routes.{two_ports}
 use Rattle.ultra_model.proofs.AtPlaces.{lane-reply_phase, replies-reply_phase, bank-reply_phase, element-reply_phase, bank-memory_phase, lane-request_phase, bank-request_phase}
 
 pub none_left : {X Y : Type 0} (o : Option Y) → ◌≡◌ {A = List X} (after_leaving o []) []

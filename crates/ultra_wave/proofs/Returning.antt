@@ -1,6 +1,6 @@
 -- the reply phase takes the wave's replies back by a stage, where each is split in two
-use Rattle.std.proofs.Common.{◌≡◌, ◌≢◌, ℕ, suc, ◌+◌, ◌-◌, ◌*◌, ◌/◌, ◌%◌, ◌<◌, ◌≤◌, ◌⊎◌, inl, inr, List, [], ◌∷◌, ◌++◌, Bool, true, false, refl, arith, sym, subst, ◌∙◌, ap, cond, ⊎_elim}
-use Rattle.std.specs.Prelude.{Option, Some, None, slice_get, ◌==◌, ◌&&◌, nat_le, length}
+use Rattle.std.proofs.Common.{◌≡◌, ◌≢◌, ℕ, suc, ◌+◌, ◌-◌, ◌*◌, ◌/◌, ◌%◌, ◌<◌, ◌≤◌, ◌⊎◌, inl, inr, List, [], ◌∷◌, ◌++◌, Bool, true, false, refl, arith, sym, subst, ◌∙◌, ap, ⊎_elim}
+use Rattle.std.specs.Prelude.{Option, Some, None, ◌==◌, ◌&&◌, nat_le, length}
 use Rattle.std.specs.List.{filter}
 use Rattle.std.proofs.lemmas.List.{append-nil}
 use Rattle.std.proofs.lemmas.Bool.{cases_Bool, cases_lt}
@@ -8,7 +8,7 @@ use Rattle.std.proofs.lemmas.Bool.Decides.{nat_tests}
 use Rattle.ultra_msg.specs.declared.Request.{Request}
 use Rattle.ultra_msg.specs.declared.Reply.{Reply}
 use Rattle.ultra_msg.specs.declared.ReplyMessage.{ReplyMessage}
-use Rattle.ultra_route.specs.Route.{shuffled, unshuffled, bit_of}
+use Rattle.ultra_route.specs.Route.{unshuffled, bit_of}
 use Rattle.ultra_switch.specs.declared.WaitRecord.{WaitRecord}
 use Rattle.ultra_switch.specs.Split.{is_of, replies_of, old_reply, new_reply}
 use Rattle.ultra_model.specs.Places.{after_leaving}
@@ -18,8 +18,8 @@ use Rattle.ultra_model.specs.Ranges.{AreInRange}
 use Rattle.ultra_model.specs.Routed.{module_of}
 use Rattle.ultra_model.proofs.Neighbours.{itself, other, even_half, odd_half}
 use Rattle.ultra_model.proofs.Routes.{two_ports}
-use Rattle.ultra_wave.specs.Wave.{first_port, second_port, old_of, new_of, record_of, left_at}
-use Rattle.ultra_wave.proofs.Meeting.{IsPort, is_on, turned, leads_at, fronts}
+use Rattle.ultra_wave.specs.Wave.{first_port, second_port, old_of, record_of, left_at}
+use Rattle.ultra_wave.proofs.Meeting.{is_on, turned, leads_at, fronts}
 use Rattle.ultra_wave.proofs.Fronts.{IsAsked, front_cell, old_goes, new_goes, front_is_old, old_small}
 use Rattle.ultra_wave.proofs.Others.{Keeps}
 use Rattle.ultra_wave.proofs.Quiet.{none_left, none_goes_by}

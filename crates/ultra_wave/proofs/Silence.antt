@@ -1,15 +1,15 @@
 -- while the wave is on its way to memory, only requests move
-use Rattle.std.proofs.Common.{◌≡◌, ℕ, suc, ◌+◌, ◌-◌, ◌*◌, ◌/◌, ◌%◌, ◌<◌, ◌≤◌, List, [], ◌∷◌, refl, arith, sym, ◌∙◌, ap}
+use Rattle.std.proofs.Common.{◌≡◌, ℕ, ◌+◌, ◌<◌, List, [], arith, ◌∙◌}
 use Rattle.std.specs.Prelude.{None}
 use Rattle.ultra_msg.specs.declared.Request.{Request}
 use Rattle.ultra_route.specs.Route.{shuffled}
 use Rattle.ultra_isa.specs.declared.Instr.{Instr}
-use Rattle.ultra_model.specs.Machine.{Settings, Machine, size, last_stage, lane_at, replies_at, bank_at, element_at}
+use Rattle.ultra_model.specs.Machine.{Settings, Machine, size, last_stage, lane_at, replies_at, element_at}
 use Rattle.ultra_model.specs.Phases.{reply_before, reply_phase, memory_phase, processor_phase}
 use Rattle.ultra_model.specs.Ranges.{AreInRange}
 use Rattle.ultra_model.proofs.Routes.{turns_back}
 use Rattle.ultra_wave.proofs.Quiet.{none_before, lane_unsplit, no_replies, element_stays, bank_stays, idle_stays}
-use Rattle.ultra_wave.proofs.Stages.{IsSilent, IsClear, HasLeft, IsSet, IsAtStage}
+use Rattle.ultra_wave.proofs.Stages.{IsSilent, IsSet, IsAtStage}
 use Rattle.ultra_wave.proofs.Calm.{clear_replied, away_processed}
 
 module _ (c : Settings) (range : AreInRange c) (m : Machine) where

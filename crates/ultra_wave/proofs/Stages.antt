@@ -1,5 +1,5 @@
 -- where the wave stands on its way to memory, and what else there is
-use Rattle.std.proofs.Common.{◌≡◌, ℕ, suc, ◌<◌, ◌≤◌, List, [], ◌∷◌, true}
+use Rattle.std.proofs.Common.{◌≡◌, ℕ, suc, ◌<◌, [], ◌∷◌, true}
 use Rattle.ultra_msg.specs.declared.Request.{Request}
 use Rattle.ultra_switch.specs.Arrive.{empty_lane}
 use Rattle.ultra_mem.specs.Serve.{IsIdle}
