@@ -1,1 +1,3 @@
 pub mod Taken
+pub mod Grown
+pub mod Law

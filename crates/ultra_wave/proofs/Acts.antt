@@ -137,16 +137,16 @@ module _ (a : ℕ) where
     unfolding cycle reply_phase memory_phase request_phase processor_phase
     events_are = refl
 
-    no_deliveries : acts_on a deliveries ≡ []
+    pub no_deliveries : acts_on a deliveries ≡ []
     no_deliveries = no_acts deliveries (each-present IsNoAct (places (size c) (λ p. delivery (delivered c m p))) (each-places (λ o. IfSome o IsNoAct) (size c) (λ p. delivery (delivered c m p)) (λ p h. some_delivery (delivered c m p))))
 
-    no_issues : acts_on a issues ≡ []
+    pub no_issues : acts_on a issues ≡ []
     no_issues = no_acts issues (each-present IsNoAct (places (size c) (λ p. issue_event (element_at moved p) (step_at c program moved p).sent)) (each-places (λ o. IfSome o IsNoAct) (size c) (λ p. issue_event (element_at moved p) (step_at c program moved p).sent) (λ p h. some_issue (element_at moved p) (step_at c program moved p).sent)))
 
     abbrev made : ℕ → ℕ → List Event
     made s x = combinations c.wait_places s x (lane_after_leaving c acted s x) (arrivals c acted s x)
 
-    no_meetings : acts_on a meetings ≡ []
+    pub no_meetings : acts_on a meetings ≡ []
     no_meetings =
         let row = λ (s : ℕ) (h : s < c.stages). each-places (λ (es : List Event). AllByRecursion IsNoAct es) (size c) (λ x. made s x) (λ x k. each_of_lane c.wait_places s x (lane_after_leaving c acted s x) (arrivals c acted s x)) in
         let rows = each-places (λ (r : List (List Event)). AllByRecursion (λ (es : List Event). AllByRecursion IsNoAct es) r) c.stages (λ s. places (size c) (λ x. made s x)) row in

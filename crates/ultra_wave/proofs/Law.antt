@@ -128,7 +128,7 @@ module _ (c : Settings) (range : AreInRange c) (some_waits : 1 ≤ c.wait_places
   abbrev pub the_request : Request
   the_request = fronts c range a n asked c.stages (module_of c a)
 
-  one_from : (m : Machine) → Inside m → acts_after m ≡ the_request ∷ []
+  pub one_from : (m : Machine) → Inside m → acts_after m ≡ the_request ∷ []
   one_from m h =
       let r = reply_phase c m in
       let home = module_of c a in
@@ -154,7 +154,7 @@ module _ (c : Settings) (range : AreInRange c) (some_waits : 1 ≤ c.wait_places
       let back = returned_at j (c.stages - suc j) (omega (arith, l, ne, apart, h)) in
       subst (λ i. acts_after (at i) ≡ []) time (none_from (at (suc (suc (suc (c.stages + j))))) back.calm.inputs)) (cases_eq (suc k) (suc (suc c.stages)))) (cases_lt k c.stages)
 
-  events_at : (k : ℕ) → after c program (n + k + 1) ≡ cycle c program (at k)
+  pub events_at : (k : ℕ) → after c program (n + k + 1) ≡ cycle c program (at k)
   events_at k =
       let e : n + k + 1 ≡ suc (n + k) = omega arith in
       ap (λ j. after c program j) e ∙ after_next c program (n + k)
