@@ -1,3 +1,4 @@
 pub mod Taken
 pub mod Grown
 pub mod Law
+pub mod Waves
