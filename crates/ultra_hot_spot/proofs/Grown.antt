@@ -1,18 +1,18 @@
 -- the tree of the wave's request: a pair at each stage, of two trees of the same height
-use Rattle.std.proofs.Common.{◌≡◌, ℕ, zero, suc, ◌+◌, ◌-◌, ◌*◌, ◌^◌, ◌<◌, ◌≤◌, List, [], ◌∷◌, ◌++◌, Bool, true, false, refl, arith, sym, subst, ◌∙◌, ap, length}
-use Rattle.std.specs.Prelude.{Option, Some, None, ◌==◌, ◌&&◌, max}
+use Rattle.std.proofs.Common.{◌≡◌, ℕ, zero, suc, ◌+◌, ◌^◌, ◌<◌, ◌≤◌, List, [], ◌∷◌, ◌++◌, Bool, true, false, refl, arith, sym, subst, ◌∙◌, ap, length}
+use Rattle.std.specs.Prelude.{Option, Some, max}
 use Rattle.std.proofs.lemmas.List.{length-append}
 use Rattle.std.proofs.Math.Nat.{pow-suc}
 use Rattle.ultra_msg.specs.declared.Request.{Request}
 use Rattle.ultra_msg.specs.Pair.{pair_of}
-use Rattle.ultra_route.specs.Route.{unshuffled, line_of}
+use Rattle.ultra_route.specs.Route.{unshuffled}
 use Rattle.ultra_switch.specs.declared.WaitRecord.{WaitRecord}
 use Rattle.ultra_model.specs.Machine.{Settings, Machine, size, lane_at}
 use Rattle.ultra_model.specs.Ranges.{AreInRange}
 use Rattle.ultra_model.specs.Routed.{module_of}
 use Rattle.ultra_model.proofs.Counting.{is_reference}
 use Rattle.ultra_model.proofs.Neighbours.{itself}
-use Rattle.ultra_serial.specs.Tree.{Tree, leaf, pair, leaves, height}
+use Rattle.ultra_serial.specs.Tree.{Tree, pair, leaves, height}
 use Rattle.ultra_serial.specs.declared.records.Issue.{Issue}
 use Rattle.ultra_serial.proofs.Series.{sent}
 use Rattle.ultra_serial.proofs.Forest.{find_record, record_at, position_of, built, built_leaf, built_next, grown}
@@ -50,7 +50,7 @@ module _ (c : Settings) (range : AreInRange c) (a n : ℕ) (asked : ℕ → Requ
   abbrev front : ℕ → ℕ → Request
   front s x = fronts c range a n asked s x
 
-  abbrev tree_at : ℕ → ℕ → Tree
+  abbrev pub tree_at : ℕ → ℕ → Tree
   tree_at s p = built c m is s p a
 
   module _ (s x : ℕ) (hs : s < c.stages) (hx : x < size c) (here : on (s + 1) x ≡ true) where
@@ -83,10 +83,10 @@ module _ (c : Settings) (range : AreInRange c) (a n : ℕ) (asked : ℕ → Requ
         let place : position_of c s old.pe a ≡ x = (old_goes c range a n asked each s x hs hx here).next.line in
         ap (λ z. find_record old.pe a (lane_at m s z).records) place ∙ found_first (lane_at m s x).records k.rest (records_are k.rest k.split)
 
-    abbrev old_first : Bool
+    abbrev pub old_first : Bool
     old_first = (pair_of (sent (tree_at s old.pe)) (sent (tree_at s new.pe))).old_first
 
-    grown_is : tree_at (suc s) old.pe ≡ pair s (position_of c s old.pe a) (tree_at s old.pe) (tree_at s new.pe) old_first
+    pub grown_is : tree_at (suc s) old.pe ≡ pair s (position_of c s old.pe a) (tree_at s old.pe) (tree_at s new.pe) old_first
     grown_is = built_next c m is s old.pe a ∙ ap (λ o. grown s (position_of c s old.pe a) (tree_at s old.pe) (λ q. tree_at s q) o) record_is
 
   grown_full : (s x : ℕ) → s ≤ c.stages → x < size c → on s x ≡ true → IsFull s (tree_at s (front s x).pe)

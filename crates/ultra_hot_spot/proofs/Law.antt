@@ -1,6 +1,6 @@
 -- many references to one cell are served by one act, whose tree has them all
-use Rattle.std.proofs.Common.{◌≡◌, ℕ, suc, ◌+◌, ◌-◌, ◌*◌, ◌<◌, ◌≤◌, List, [], ◌∷◌, ◌++◌, Bool, true, false, refl, arith, sym, subst, ◌∙◌, ap}
-use Rattle.std.specs.Prelude.{Option, Some, None, IfSome, ◌==◌, if◌then◌else◌}
+use Rattle.std.proofs.Common.{◌≡◌, ℕ, suc, ◌+◌, ◌≤◌, List, [], ◌∷◌, ◌++◌, Bool, true, false, refl, arith, sym, subst, ◌∙◌, ap}
+use Rattle.std.specs.Prelude.{Option, Some, None, IfSome}
 use Rattle.std.specs.List.{AllByRecursion}
 use Rattle.std.proofs.lemmas.List.{append-nil}
 use Rattle.ultra_msg.specs.declared.Request.{Request}
@@ -18,16 +18,17 @@ use Rattle.ultra_model.proofs.Routes.{module_small}
 use Rattle.ultra_wave.specs.AllAtOnce.{acts_on, AreAllAt, events_of}
 use Rattle.ultra_wave.proofs.Fronts.{front_cell}
 use Rattle.ultra_wave.proofs.Meeting.{is_on}
-use Rattle.ultra_wave.proofs.Module.{leads_last, placed, held}
+use Rattle.ultra_wave.proofs.Module.{leads_last, placed}
 use Rattle.ultra_wave.proofs.Acts.{deliveries, servings, meetings, issues, events_are, acts-append, acts_of_cycle, no_deliveries, no_meetings, no_issues}
-use Rattle.ultra_wave.proofs.Law.{asked, each, at, inside_at, the_request, one_from, served_at_once, events_at}
-use Rattle.ultra_serial.specs.Tree.{Tree, Kept, tree_of}
+use Rattle.ultra_wave.proofs.Law.{asked, each, inside_at, the_request, one_from, served_at_once, events_at}
+use Rattle.ultra_serial.specs.Tree.{Tree, tree_of}
 use Rattle.ultra_serial.specs.SerialList.{History, history}
 use Rattle.ultra_serial.proofs.Forest.{built}
 use Rattle.ultra_serial.proofs.Explained.{IsKept}
 use Rattle.ultra_serial.proofs.Law.{serial_after}
-use Rattle.ultra_hot_spot.specs.HotSpot.{listed, trees_taken, IsHotSpot, HotSpotLaw}
+use Rattle.ultra_hot_spot.specs.HotSpot.{trees_taken, IsHotSpot, HotSpotLaw}
 use Rattle.ultra_hot_spot.proofs.Taken.{none_taken, taken-append, kept_after, one_taken, IsEarly, early_deliveries, early_servings}
+use Rattle.ultra_hot_spot.proofs.Everyone.{everyone}
 use Rattle.ultra_hot_spot.proofs.Grown.{IsFull, wave_is_full}
 
 module _ (c : Settings) (range : AreInRange c) (some_waits : 1 ≤ c.wait_places) (program : List Instr) (n a : ℕ) (w : AreAllAt c a (after c program n)) where
@@ -115,12 +116,13 @@ module _ (c : Settings) (range : AreInRange c) (some_waits : 1 ≤ c.wait_places
       subst (λ k. trees_taken a (history c program k).trees (events_of c program n a (c.stages + 1)) ≡ its_tree ∷ []) whole
       (subst (λ k. trees_taken a before.trees (after c program (n + k + 1)).events ≡ its_tree ∷ []) next here)
 
-  pub is_hot_spot : IsHotSpot c program n a wanted its_tree
+  is_hot_spot : IsHotSpot c program n a wanted its_tree
   is_hot_spot = record {
     served_at_once = served_at_once c range some_waits program n a w;
     taken = taken_at;
     height = its_tree_full.height;
     leaves = its_tree_full.leaves;
+    of_all = everyone c range a n what (each c range some_waits program n a w) some_waits now (inside_at c range some_waits program n a w).left before.log.issues;
   }
 
 pub hot_spot : HotSpotLaw

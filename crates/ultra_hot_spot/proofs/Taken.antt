@@ -1,9 +1,9 @@
 -- the tree that an act takes away is the one that is kept as the cycle begins
-use Rattle.std.proofs.Common.{◌≡◌, ◌≢◌, ℕ, ◌+◌, List, [], ◌∷◌, ◌++◌, Bool, true, false, refl, sym, subst, ◌∙◌, ap, ⊎_elim, append_assoc}
+use Rattle.std.proofs.Common.{◌≡◌, ◌≢◌, ℕ, List, [], ◌∷◌, ◌++◌, Bool, true, false, refl, sym, subst, ◌∙◌, ap, append_assoc}
 use Rattle.std.specs.Prelude.{Option, Some, None, IfSome, ◌==◌, ◌&&◌, if◌then◌else◌}
 use Rattle.std.specs.List.{AllByRecursion}
 use Rattle.std.proofs.lemmas.List.{append-nil}
-use Rattle.std.proofs.lemmas.Bool.{eqb-true, cases_Bool}
+use Rattle.std.proofs.lemmas.Bool.{eqb-true}
 use Rattle.ultra_msg.specs.declared.Request.{Request}
 use Rattle.ultra_msg.specs.declared.ReplyMessage.{ReplyMessage}
 use Rattle.ultra_msg.specs.declared.Event.{Event}
@@ -14,7 +14,7 @@ use Rattle.ultra_model.specs.Phases.{delivery, serving}
 use Rattle.ultra_model.proofs.Each.{each-present, each-places}
 use Rattle.ultra_model.proofs.Counting.{both_true}
 use Rattle.ultra_model.proofs.Neighbours.{itself, other}
-use Rattle.ultra_wave.specs.AllAtOnce.{act_on, acts_on}
+use Rattle.ultra_wave.specs.AllAtOnce.{acts_on}
 use Rattle.ultra_serial.specs.Tree.{Tree, Kept, is_under, tree_of, without, trees_after}
 use Rattle.ultra_hot_spot.specs.HotSpot.{listed, tree_taken, trees_taken}
 
@@ -24,10 +24,10 @@ under_other p a q b k h e =
     let same : k.cell ≡ b = eqb-true k.cell b (both_true (k.pe == q) (k.cell == b) e).1 in
     let apart : (k.cell == a) ≡ false = other k.cell a (λ z. h (sym same ∙ z)) in
     rw apart (and_false (k.pe == p))
-    where
-      and_false : (d : Bool) → (d && false) ≡ false
-      and_false true = refl
-      and_false false = refl
+  where
+    and_false : (d : Bool) → (d && false) ≡ false
+    and_false true = refl
+    and_false false = refl
 
 without_step : (p a q b : ℕ) (k : Kept) (ks : List Kept) (d : Bool) → is_under q b k ≡ d → b ≢ a → tree_of p a (without q b ks) ≡ tree_of p a ks
     → tree_of p a (elim d [ true ↦ ks | false ↦ k ∷ without q b ks ]) ≡ tree_of p a (k ∷ ks)
@@ -94,9 +94,9 @@ module _ (a : ℕ) where
       let its : tree_of q.pe q.cell ks ≡ tree_of r.pe a ks = rw (cell, same) refl in
       rw (none_taken (without q.pe q.cell ks) es none, its) (append-nil (listed (tree_of r.pe a ks)))
   taken_here ks k q r es false e h f = f h (λ z. let here : (a == a) ≡ false = subst (λ v. (v == a) ≡ false) z e in absurd (not_apart here))
-      where
-        not_apart : (a == a) ≡ false → ⊥
-        not_apart h = let yes = itself a in cc
+    where
+      not_apart : (a == a) ≡ false → ⊥
+      not_apart h = let yes = itself a in cc
 
   pub one_taken : (ks : List Kept) (r : Request) (es : List Event) → AllByRecursion IsEarly es → acts_on a es ≡ r ∷ [] → trees_taken a ks es ≡ listed (tree_of r.pe a ks)
   one_taken ks r [] early h = absurd cc

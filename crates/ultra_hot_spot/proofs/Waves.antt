@@ -1,15 +1,15 @@
 -- worked waves: what the law says, of small machines by computation. In the last of them the wait buffers have no place, and combining does not happen
-use Rattle.std.specs.Prelude.{◌≡◌, ℕ, ◌+◌, List, [], ◌∷◌, true, refl, map}
+use Rattle.std.specs.Prelude.{◌≡◌, ℕ, List, [], ◌∷◌, true, refl, map}
 use Rattle.std.specs.List.{filter, range_with_len}
 use Rattle.ultra_msg.specs.declared.Request.{Request}
-use Rattle.ultra_msg.specs.declared.Op.TheVariants.{Load, Faa}
+use Rattle.ultra_msg.specs.declared.Op.TheVariants.{Faa}
 use Rattle.ultra_msg.specs.declared.Reply.TheVariants.{Value}
 use Rattle.ultra_isa.specs.declared.Instr.{Instr}
 use Rattle.ultra_isa.specs.declared.Instr.TheVariants as instr
 use Rattle.ultra_model.specs.Places.{places}
 use Rattle.ultra_model.specs.Machine.{Settings, start}
 use Rattle.ultra_model.specs.Phases.{after, cycle, reply_phase, memory_phase, request_phase, processor_phase, arriving_reply, arriving_request}
-use Rattle.ultra_model.proofs.Runs.{Dated, is_delivery, request, got, pending, queued, holdings, settings, summary, history as happened}
+use Rattle.ultra_model.proofs.Runs.{is_delivery, request, got, pending, holdings, settings, history as happened}
 use Rattle.ultra_model.proofs.Pairs.{one_stage, add_one}
 use Rattle.ultra_model.proofs.Levels.{two_stages, add_number}
 use Rattle.ultra_serial.specs.Tree.{Tree, leaf, pair}

@@ -33,7 +33,7 @@ present_more n f =
     ap (λ k. present (places k f)) next ∙ (ap (λ os. present os) (places_more n f) ∙ present-append (places n f) (f n ∷ []))
 
 -- what is told at a place stands in the list
-pub told_at : {X : Type 0} (n : ℕ) (f : ℕ → Option X) (k : ℕ) (x : X) → k < n → f k ≡ Some x → Contains (present (places n f)) x
+told_at : {X : Type 0} (n : ℕ) (f : ℕ → Option X) (k : ℕ) (x : X) → k < n → f k ≡ Some x → Contains (present (places n f)) x
 told_at zero f k x h e = absurd (omega (arith, h))
 told_at (suc n) f k x h e =
     subst (λ xs. Contains xs x) (sym (present_more n f))
@@ -47,10 +47,10 @@ module _ (a : ℕ) where
   acts-append [] fs = refl
   acts-append (e ∷ es) fs = ap (λ rs. act_on a e ++ rs) (acts-append es fs) ∙ sym (append_assoc (act_on a e) (acts_on a es) (acts_on a fs))
 
-  abbrev pub IsNoAct : Event → Type 0
+  abbrev IsNoAct : Event → Type 0
   IsNoAct e = act_on a e ≡ []
 
-  pub no_acts : (es : List Event) → AllByRecursion IsNoAct es → acts_on a es ≡ []
+  no_acts : (es : List Event) → AllByRecursion IsNoAct es → acts_on a es ≡ []
   no_acts [] h = refl
   no_acts (e ∷ es) h = rw (h.0, no_acts es h.1) refl
 
@@ -64,7 +64,7 @@ module _ (a : ℕ) where
   acts_none : (f : ℕ → Option Event) → acts_on a (present (places 0 f)) ≡ []
   acts_none f = ap (λ os. acts_on a (present os)) (places_none f)
 
-  pub none_told : (n : ℕ) (f : ℕ → Option Event) → ((k : ℕ) → k < n → acts_at f k ≡ []) → acts_on a (present (places n f)) ≡ []
+  none_told : (n : ℕ) (f : ℕ → Option Event) → ((k : ℕ) → k < n → acts_at f k ≡ []) → acts_on a (present (places n f)) ≡ []
   none_told zero f h = acts_none f
   none_told (suc n) f h = acts_more n f ∙ rw (none_told n f (λ k l. h k (omega arith)), h n (omega arith)) refl
 
@@ -88,7 +88,7 @@ module _ (a : ℕ) where
       let f : Bool → List Request = λ z. (if z then p.request ∷ [] else []) ++ [] in
       ap f (other p.request.cell a h)
 
-  pub serves_other : (k : ℕ) (b : Bank) → ServesOther a b → acts_on a (present (serving k (served b) ∷ [])) ≡ []
+  serves_other : (k : ℕ) (b : Bank) → ServesOther a b → acts_on a (present (serving k (served b) ∷ [])) ≡ []
   serves_other k b h = act_other k b b.inp b.out h
 
   pub serves_one : (k : ℕ) (b : Bank) (p : Placed) → p.request.cell ≡ a → served b ≡ act_of b (Some p) → acts_on a (present (serving k (served b) ∷ [])) ≡ p.request ∷ []

@@ -1,7 +1,6 @@
 -- the request phase behind the wave: requests for other cells move on, and what the wave has left stays
-use Rattle.std.proofs.Common.{◌≡◌, ◌≢◌, ℕ, suc, ◌+◌, ◌-◌, ◌*◌, ◌/◌, ◌%◌, ◌<◌, ◌≤◌, List, [], ◌∷◌, ◌++◌, Bool, true, false, arith, sym, subst, ⊎_elim}
+use Rattle.std.proofs.Common.{◌≡◌, ◌≢◌, ℕ, suc, ◌+◌, ◌-◌, ◌*◌, ◌/◌, ◌%◌, ◌<◌, ◌≤◌, List, [], ◌∷◌, ◌++◌, Bool, true, false, arith, subst, ⊎_elim}
 use Rattle.std.specs.Prelude.{Option, Some, None, IfSome, slice_get, ◌==◌}
-use Rattle.std.proofs.lemmas.List.{append-nil}
 use Rattle.std.proofs.lemmas.Bool.{cases_lt}
 use Rattle.std.proofs.lemmas.Bool.Decides.{nat_tests}
 use Rattle.ultra_msg.specs.declared.Request.{Request}
@@ -17,7 +16,7 @@ use Rattle.ultra_model.proofs.Each.{each-append, each-after_leaving, each-first,
 use Rattle.ultra_model.proofs.OnRoute.{some-request}
 use Rattle.ultra_model.proofs.Routes.{turns_back, two_ports}
 use Rattle.ultra_model.proofs.AtPlaces.{lane-request_phase, element-request_phase}
-use Rattle.ultra_wave.proofs.Others.{AreOthers, AreOtherEntries, Keeps, IsAfterOthers, after_others, IsAway}
+use Rattle.ultra_wave.proofs.Others.{AreOthers, AreOtherEntries, Keeps, keeps_alone, IsAfterOthers, after_others, IsAway}
 use Rattle.ultra_wave.proofs.Stages.{IsClear, HasLeft}
 
 not_first : (s : ℕ) → (s == 0) ≡ false → 1 ≤ s
@@ -86,7 +85,7 @@ module _ (c : Settings) (range : AreInRange c) (a b : ℕ) (within : b ≤ c.sta
 
     pub clear_requested : IsClear c a e (request_phase c m)
     clear_requested = record {
-      queues = λ t x ht hx. (lane_behind t x (lane_at m t x).records (omega arith) (omega arith) hx (leaves t x ht hx) record { rest = []; split = sym (append-nil (lane_at m t x).records); others = tt }).queue;
+      queues = λ t x ht hx. (lane_behind t x (lane_at m t x).records (omega arith) (omega arith) hx (leaves t x ht hx) (keeps_alone a (lane_at m t x).records)).queue;
       interfaces = away_requested;
     }
 

@@ -43,10 +43,11 @@ module _ (c : Settings) (range : AreInRange c) (a n : ℕ) (asked : ℕ → Requ
       let line : line_of c.stages (s + 1) p (module_of c a) ≡ x = sym t.forth ∙ (ap (λ z. with_lowest z (bit_of (last_stage c - s) (module_of c a))) entry ∙ port_turns c range a n asked s x y hs hx port on) in
       record { next = record { small = w.small; line = line }; back = ap (λ z. with_lowest z (bit_of (last_stage c - s) p)) (sym line) ∙ (t.back ∙ entry) }
 
-  front_old : (s x : ℕ) → (fronts c range a n asked (suc s) x).pe ≡ (old_of c.stages n asked s x).pe
-  front_old s x = ap (λ (r : Request). r.pe) (front_next c range a n asked s x)
+  -- where two meet, the request that goes on has the identity of the old one
+  pub front_is_old : (s x : ℕ) → (fronts c range a n asked (suc s) x).pe ≡ (old_of c.stages n asked s x).pe
+  front_is_old s x = ap (λ (r : Request). r.pe) (front_next c range a n asked s x)
 
-  pub front_on : (s x : ℕ) → s ≤ c.stages → x < size c → is_on c range a n asked s x ≡ true → IsOn s x (fronts c range a n asked s x).pe
+  front_on : (s x : ℕ) → s ≤ c.stages → x < size c → is_on c range a n asked s x ≡ true → IsOn s x (fronts c range a n asked s x).pe
   front_on zero x hs hx on =
       let own : (fronts c range a n asked 0 x).pe ≡ x = ap (λ (r : Request). r.pe) (front_first c range a n asked x) ∙ each.own x hx in
       subst (λ p. IsOn 0 x p) (sym own) record { small = hx; line = (route_ends c range x a hx).0 }
@@ -58,7 +59,7 @@ module _ (c : Settings) (range : AreInRange c) (a n : ℕ) (asked : ℕ → Requ
       let less : s < c.stages = omega arith in
       let old = front_on s (unshuffled c.stages y) (omega arith) (old_small s x hx) (port_on c range a n asked s x y less hx port here) in
       let goes = goes_by s x y (old_of c.stages n asked s x).pe less hx port here old in
-      subst (λ k. IsOn k x (fronts c range a n asked (suc s) x).pe) (sym next) (subst (λ p. IsOn (s + 1) x p) (sym (front_old s x)) goes.next)
+      subst (λ k. IsOn k x (fronts c range a n asked (suc s) x).pe) (sym next) (subst (λ p. IsOn (s + 1) x p) (sym (front_is_old s x)) goes.next)
 
   -- both that meet at a position of the wave
   pub old_goes : (s x : ℕ) → s < c.stages → x < size c → is_on c range a n asked (s + 1) x ≡ true → GoesBy s x (first_port c.stages n asked s x) (old_of c.stages n asked s x).pe
@@ -72,6 +73,3 @@ module _ (c : Settings) (range : AreInRange c) (a n : ℕ) (asked : ℕ → Requ
       let port = second_is_port c range a n asked s x hx in
       let y = second_port c.stages n asked s x in
       goes_by s x y (new_of c.stages n asked s x).pe hs hx port on (front_on s (unshuffled c.stages y) (omega arith) (new_small s x hx) (port_on c range a n asked s x y hs hx port on))
-
-  pub front_is_old : (s x : ℕ) → (fronts c range a n asked (suc s) x).pe ≡ (old_of c.stages n asked s x).pe
-  front_is_old s x = front_old s x

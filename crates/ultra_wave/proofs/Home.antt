@@ -40,7 +40,7 @@ module _ (c : Settings) (range : AreInRange c) (a n : ℕ) (asked : ℕ → Requ
     none_below t x ht hx =
         none_before c range m t x (omega arith) hx (λ h. empty (t + 1) _ (omega arith) (turns_back c range x hx).entry_small) (λ e. absurd (omega (arith, e, ht, hs)))
 
-    pub comes_back : IsReturned s (reply_phase c m)
+    comes_back : IsReturned s (reply_phase c m)
     comes_back = record {
       calm = calm_replied c range a m calm (λ y hy. empty 0 y (omega arith) hy);
       left = record { records = λ t x ht hx. rw (lane_unsplit c range m t x (omega arith) hx (none_below t x ht hx)) (left.records t x (omega arith) hx) };

@@ -45,7 +45,7 @@ in_order : (b : Bool) (f : ℕ → List Request) (p q : ℕ) → ◌≡◌ {A = 
 in_order true f p q = refl
 in_order false f p q = refl
 
-pub either_port : (P : ℕ → Type 0) (b : Bool) (p q : ℕ) → P p → P q → P (elim b [ true ↦ p | false ↦ q ])
+either_port : (P : ℕ → Type 0) (b : Bool) (p q : ℕ) → P p → P q → P (elim b [ true ↦ p | false ↦ q ])
 either_port P true p q h g = h
 either_port P false p q h g = g
 
@@ -86,7 +86,7 @@ module _ (c : Settings) (range : AreInRange c) (a n : ℕ) (asked : ℕ → Requ
   pub port_on : (s x y : ℕ) → s < c.stages → x < size c → IsPort x y → is_on (s + 1) x ≡ true → is_on s (unshuffled c.stages y) ≡ true
   port_on s x y hs hx p e = (leads_at s y hs p.small).on ∙ (ap (λ z. is_on (s + 1) z) (port_turns s x y hs hx p e) ∙ e)
 
-  pub port_off : (s x y : ℕ) → s < c.stages → x < size c → IsPort x y → is_on (s + 1) x ≡ false → is_on s (unshuffled c.stages y) ≡ true → (turned s y == x) ≡ false
+  port_off : (s x y : ℕ) → s < c.stages → x < size c → IsPort x y → is_on (s + 1) x ≡ false → is_on s (unshuffled c.stages y) ≡ true → (turned s y == x) ≡ false
   port_off s x y hs hx p off on =
       ⊎_elim (λ e.
       let here : is_on (s + 1) (turned s y) ≡ true = sym (leads_at s y hs p.small).on ∙ on in
@@ -95,7 +95,7 @@ module _ (c : Settings) (range : AreInRange c) (a n : ℕ) (asked : ℕ → Requ
       absurd (cc))
       (λ e. e) (cases_Bool (turned s y == x))
 
-  pub turned_small : (s y : ℕ) (r : Request) → y < size c → request_exit c s y r < size c
+  turned_small : (s y : ℕ) (r : Request) → y < size c → request_exit c s y r < size c
   turned_small s y r h = let two = (two_ports c range y h).1 in omega (arith, two)
 
   abbrev pub fronts : ℕ → ℕ → Request
@@ -126,7 +126,7 @@ module _ (c : Settings) (range : AreInRange c) (a n : ℕ) (asked : ℕ → Requ
     all_arrive y h = all_admitted y (request_before c m s y) h
 
     module _ (come : (y : ℕ) → y < size c → request_before c m s y ≡ lines s (unshuffled c.stages y)) (for_cell : (u : ℕ) → u < size c → (fronts s u).cell ≡ a) where
-      pub wave_arrives : (y : ℕ) → y < size c → arriving_request c m s y ≡ lines s (unshuffled c.stages y)
+      wave_arrives : (y : ℕ) → y < size c → arriving_request c m s y ≡ lines s (unshuffled c.stages y)
       wave_arrives y h = all_arrive y h ∙ come y h
 
       exit_is : (y : ℕ) → y < size c → request_exit c s y (fronts s (unshuffled c.stages y)) ≡ turned s y
@@ -140,9 +140,6 @@ module _ (c : Settings) (range : AreInRange c) (a n : ℕ) (asked : ℕ → Requ
           let f : Bool → Option Request = λ b. elim b [ true ↦ Some r | false ↦ None ] in
           let g : Bool → List Request = λ b. elim b [ true ↦ r ∷ [] | false ↦ [] ] in
           ap (λ o. requests_by c s y x o) (wave_arrives y p.small ∙ ap f (port_on s x y hs hx p e)) ∙ ap g there
-
-      by_none : (x y : ℕ) → requests_by c s y x None ≡ []
-      by_none x y = refl
 
       off_if : (x y : ℕ) (b : Bool) (r : Request) → (b ≡ true → (request_exit c s y r == x) ≡ false) → requests_by c s y x (elim b [ true ↦ Some r | false ↦ None ]) ≡ []
       off_if x y true r h =

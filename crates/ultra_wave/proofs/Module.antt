@@ -119,7 +119,7 @@ module _ (c : Settings) (range : AreInRange c) (a n : ℕ) (asked : ℕ → Requ
     nothing_left k true r h = refl
     nothing_left k false r h = h
 
-    pub serves_held : (k : ℕ) → k < size c → serve (bank_at m k) ≡ after_serving (bank_at m k) (held k)
+    serves_held : (k : ℕ) → k < size c → serve (bank_at m k) ≡ after_serving (bank_at m k) (held k)
     serves_held k hk = serves (bank_at m k) (held k) (w.outputs k hk) (w.inputs k hk)
 
     bank_is : (k : ℕ) → k < size c → bank_at (memory_phase c m) k ≡ after_serving (bank_at m k) (held k)

@@ -83,19 +83,13 @@ module _ (a : ℕ) where
   or_left true d h = refl
   or_left false d h = absurd cc
 
-  pub still_open : (os more : List OpenCell) → is_open a os ≡ true → is_open a (os ++ more) ≡ true
+  still_open : (os more : List OpenCell) → is_open a os ≡ true → is_open a (os ++ more) ≡ true
   still_open os more h = list_any-append (λ (o : OpenCell). o.cell == a) os more ∙ or_left (is_open a os) (is_open a more) h
 
-  pub sends_other : (r : Request) (os : List OpenCell) → is_open r.cell os ≡ false → is_open a os ≡ true → r.cell ≢ a
+  sends_other : (r : Request) (os : List OpenCell) → is_open r.cell os ≡ false → is_open a os ≡ true → r.cell ≢ a
   sends_other r os h g e = let same : is_open r.cell os ≡ true = subst (λ b. is_open b os ≡ true) (sym e) g in cc
 
   -- what a processing element sends is for another cell
-  pub open_after : (s : Site) (most : ℕ) (i j : Interface) (o : Option Request) → SendsInto s most i j o → is_open a i.opened ≡ true → is_open a j.opened ≡ true
-  open_after s most i j None e h = subst (λ (k : Interface). is_open a k.opened ≡ true) (sym e) h
-  open_after s most i j (Some r) k h =
-      let added : is_open a (after_issue i r k.4.0 Sent).opened ≡ true = still_open i.opened _ h in
-      subst (λ (v : Interface). is_open a v.opened ≡ true) (sym k.4.1) added
-
   pub away_after : (s : Site) (most : ℕ) (i j : Interface) (o : Option Request) → SendsInto s most i j o → IsAway i → IsAway j
   away_after s most i j None e h = subst (λ (k : Interface). IsAway k) (sym e) h
   away_after s most i j (Some r) k h =

@@ -34,7 +34,7 @@ module _ (c : Settings) (range : AreInRange c) (m : Machine) where
   either_none true o h = h
   either_none false o h = refl
 
-  pub none_arrives : (s x : ℕ) → reply_before c m s x ≡ None → arriving_reply c m s x ≡ None
+  none_arrives : (s x : ℕ) → reply_before c m s x ≡ None → arriving_reply c m s x ≡ None
   unfolding arriving_reply
   none_arrives s x h = either_none (has_reply_room c m s (x / 2)) (reply_before c m s x) h
 
@@ -55,7 +55,7 @@ module _ (c : Settings) (range : AreInRange c) (m : Machine) where
       ∙ (ap (λ rs. (after_leaving (leaving_reply c m s y) rs ++ replies_at_exit c m s (2 * (y / 2)) y) ++ replies_at_exit c m s (2 * (y / 2) + 1) y) e
       ∙ rw (none_left {X = ReplyMessage} (leaving_reply c m s y), none_goes_by s (2 * (y / 2)) y (h (2 * (y / 2)) ports.0), none_goes_by s (2 * (y / 2) + 1) y (h (2 * (y / 2) + 1) ports.1)) refl)
 
-  pub nothing_delivered : (p : ℕ) → replies_at m 0 (shuffled c.stages p) ≡ [] → delivered c m p ≡ None
+  nothing_delivered : (p : ℕ) → replies_at m 0 (shuffled c.stages p) ≡ [] → delivered c m p ≡ None
   nothing_delivered p h = ap (λ (rs : List ReplyMessage). slice_get rs 0) h
 
   pub element_stays : (p : ℕ) → p < size c → replies_at m 0 (shuffled c.stages p) ≡ [] → element_at (reply_phase c m) p ≡ element_at m p
@@ -96,7 +96,7 @@ module _ (c : Settings) (range : AreInRange c) (m : Machine) where
       let less : s + 1 - 1 ≡ s = omega arith in
       ap f (other (s + 1) 0 (λ e. omega (arith, e))) ∙ ap (λ n. head_of (lane_at m n x).queue) less
 
-  pub none_by : (s y x : ℕ) → request_before c m s y ≡ None → arrivals_by c m s y x ≡ []
+  none_by : (s y x : ℕ) → request_before c m s y ≡ None → arrivals_by c m s y x ≡ []
   unfolding arriving_request
   none_by s y x h = rw h refl
 
@@ -104,7 +104,7 @@ module _ (c : Settings) (range : AreInRange c) (m : Machine) where
   both_none true xs ys h g = rw (h, g) refl
   both_none false xs ys h g = rw (h, g) refl
 
-  pub no_arrivals : (s x : ℕ) → x < size c → ((y : ℕ) → y < size c → request_before c m s y ≡ None) → arrivals c m s x ≡ []
+  no_arrivals : (s x : ℕ) → x < size c → ((y : ℕ) → y < size c → request_before c m s y ≡ None) → arrivals c m s x ≡ []
   no_arrivals s x hx h =
       let ports = two_ports c range x hx in
       both_none (m.cycles % 2 == 0) (arrivals_by c m s (2 * (x / 2)) x) (arrivals_by c m s (2 * (x / 2) + 1) x)

@@ -41,7 +41,7 @@ second_passes : {X : Type 0} (t : X → Bool) (x y : X) → t x ≡ false → t 
 second_passes t x y h g = rw (h, g) refl
 
 -- a port of a switch is its first or its second, and these differ
-one_of_ports : (b : Bool) (h y : ℕ) → y / 2 ≡ h → (y ≡ elim b [ true ↦ 2 * h | false ↦ 2 * h + 1 ]) ⊎ (y ≡ elim b [ true ↦ 2 * h + 1 | false ↦ 2 * h ])
+pub one_of_ports : (b : Bool) (h y : ℕ) → y / 2 ≡ h → (y ≡ elim b [ true ↦ 2 * h | false ↦ 2 * h + 1 ]) ⊎ (y ≡ elim b [ true ↦ 2 * h + 1 | false ↦ 2 * h ])
 one_of_ports true h y e = ⊎_elim (λ l. inl (omega arith)) (λ l. inr (omega arith)) (cases_lt (y % 2) 1)
 one_of_ports false h y e = ⊎_elim (λ l. inr (omega arith)) (λ l. inl (omega arith)) (cases_lt (y % 2) 1)
 
