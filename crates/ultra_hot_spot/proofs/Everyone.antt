@@ -12,15 +12,15 @@ use Rattle.ultra_model.proofs.Routes.{route, route_ends}
 use Rattle.ultra_serial.specs.declared.records.Leaf.{Leaf}
 use Rattle.ultra_serial.specs.Tree.{Tree, leaf, pair, leaves}
 use Rattle.ultra_serial.specs.declared.records.Issue.{Issue}
-use Rattle.ultra_serial.proofs.Forest.{position_of, built_leaf, leaf_of}
+use Rattle.ultra_serial.proofs.Forest.{position_of, built, built_leaf, leaf_of}
 use Rattle.ultra_wave.specs.Wave.{old_of, new_of}
-use Rattle.ultra_wave.proofs.Meeting.{is_on, leads_at, fronts, front_first}
-use Rattle.ultra_wave.proofs.Fronts.{IsAsked, front_is_old}
-use Rattle.ultra_wave.proofs.Stages.{HasLeft}
+use Rattle.ultra_wave.proofs.Meeting.{leads_at, front_first}
+use Rattle.ultra_wave.proofs.Fronts.{front_is_old}
 use Rattle.ultra_wave.proofs.Onward.{leads_first}
 use Rattle.ultra_wave.proofs.Returning.{one_of_ports}
+use Rattle.ultra_wave.proofs.Stages.{is_on, IsAsked, fronts, HasLeft}
 use Rattle.ultra_hot_spot.specs.HotSpot.{IsOf}
-use Rattle.ultra_hot_spot.proofs.Grown.{tree_at, old_first, grown_is}
+use Rattle.ultra_hot_spot.proofs.Grown.{old_first, grown_is}
 
 in_pair : (s x : ℕ) (old new : Tree) (f : Bool) (p : ℕ) → IsOf old p ⊎ IsOf new p → IsOf (pair s x old new f) p
 in_pair s x old new true p h =
@@ -34,13 +34,13 @@ in_pair s x old new false p h =
 
 module _ (c : Settings) (range : AreInRange c) (a n : ℕ) (asked : ℕ → Request) (each : IsAsked c a asked) (some_waits : 1 ≤ c.wait_places) (m : Machine) (left : HasLeft c a n asked c.stages m) (is : List Issue) where
   abbrev on : ℕ → ℕ → Bool
-  on s x = is_on c range a n asked s x
+  on s x = is_on c a s x
 
   abbrev front : ℕ → ℕ → Request
-  front s x = fronts c range a n asked s x
+  front s x = fronts c n asked s x
 
   abbrev tree : ℕ → ℕ → Tree
-  tree s p = tree_at c range a n asked each m left is s p
+  tree s p = built c m is s p a
 
   abbrev line : ℕ → ℕ → ℕ
   line s p = line_of c.stages s p (module_of c a)

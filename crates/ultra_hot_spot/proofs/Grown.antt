@@ -17,9 +17,9 @@ use Rattle.ultra_serial.specs.declared.records.Issue.{Issue}
 use Rattle.ultra_serial.proofs.Series.{sent}
 use Rattle.ultra_serial.proofs.Forest.{find_record, record_at, position_of, built, built_leaf, built_next, grown}
 use Rattle.ultra_wave.specs.Wave.{first_port, second_port, old_of, new_of, record_of, left_at}
-use Rattle.ultra_wave.proofs.Meeting.{is_on, fronts, first_is_port, second_is_port, port_on}
-use Rattle.ultra_wave.proofs.Fronts.{IsAsked, front_cell, old_small, new_small, old_goes, front_is_old}
-use Rattle.ultra_wave.proofs.Stages.{HasLeft}
+use Rattle.ultra_wave.proofs.Meeting.{first_is_port, second_is_port, port_on}
+use Rattle.ultra_wave.proofs.Fronts.{front_cell, old_small, new_small, old_goes, front_is_old}
+use Rattle.ultra_wave.proofs.Stages.{is_on, IsAsked, fronts, HasLeft}
 
 -- as high as s pairs, with all leaves that it can have
 pub record IsFull (s : ℕ) (t : Tree) : Type 0 where
@@ -45,12 +45,12 @@ full_pair s x old new false h g = record {
 
 module _ (c : Settings) (range : AreInRange c) (a n : ℕ) (asked : ℕ → Request) (each : IsAsked c a asked) (m : Machine) (left : HasLeft c a n asked c.stages m) (is : List Issue) where
   abbrev on : ℕ → ℕ → Bool
-  on s x = is_on c range a n asked s x
+  on s x = is_on c a s x
 
   abbrev front : ℕ → ℕ → Request
-  front s x = fronts c range a n asked s x
+  front s x = fronts c n asked s x
 
-  abbrev pub tree_at : ℕ → ℕ → Tree
+  abbrev tree_at : ℕ → ℕ → Tree
   tree_at s p = built c m is s p a
 
   module _ (s x : ℕ) (hs : s < c.stages) (hx : x < size c) (here : on (s + 1) x ≡ true) where

@@ -17,10 +17,10 @@ use Rattle.ultra_model.proofs.Neighbours.{itself}
 use Rattle.ultra_model.proofs.Routes.{module_small}
 use Rattle.ultra_wave.specs.AllAtOnce.{acts_on, AreAllAt, events_of}
 use Rattle.ultra_wave.proofs.Fronts.{front_cell}
-use Rattle.ultra_wave.proofs.Meeting.{is_on}
-use Rattle.ultra_wave.proofs.Module.{leads_last, placed}
+use Rattle.ultra_wave.proofs.Module.{leads_last}
 use Rattle.ultra_wave.proofs.Acts.{deliveries, servings, meetings, issues, events_are, acts-append, acts_of_cycle, no_deliveries, no_meetings, no_issues}
 use Rattle.ultra_wave.proofs.Law.{asked, each, inside_at, the_request, one_from, served_at_once, events_at}
+use Rattle.ultra_wave.proofs.Stages.{is_on, placed}
 use Rattle.ultra_serial.specs.Tree.{Tree, tree_of}
 use Rattle.ultra_serial.specs.SerialList.{History, history}
 use Rattle.ultra_serial.proofs.Forest.{built}
@@ -50,7 +50,7 @@ module _ (c : Settings) (range : AreInRange c) (some_waits : 1 ≤ c.wait_places
 
   -- ---- the tree that is kept for the request
 
-  is_home : is_on c range a n (asked c range some_waits program n a w) c.stages home ≡ true
+  is_home : is_on c a c.stages home ≡ true
   is_home = leads_last c range a n (asked c range some_waits program n a w) (each c range some_waits program n a w) some_waits home (module_small c range a) ∙ itself home
 
   abbrev what : ℕ → Request
@@ -59,9 +59,9 @@ module _ (c : Settings) (range : AreInRange c) (some_waits : 1 ≤ c.wait_places
   wanted_cell : wanted.cell ≡ a
   wanted_cell = front_cell c range a n what (each c range some_waits program n a w) c.stages home (module_small c range a)
 
-  home_holds : (bank_at now home).inp ≡ Some (placed c range a n what (each c range some_waits program n a w) some_waits wanted)
+  home_holds : (bank_at now home).inp ≡ Some (placed c wanted)
   home_holds =
-      let f : Bool → Option Placed = λ b. elim b [ true ↦ Some (placed c range a n what (each c range some_waits program n a w) some_waits wanted) | false ↦ None ] in
+      let f : Bool → Option Placed = λ b. elim b [ true ↦ Some (placed c wanted) | false ↦ None ] in
       (inside_at c range some_waits program n a w).inputs home (module_small c range a) ∙ ap f is_home
 
   kept_for : IsKept c now before.log.issues before.trees c.stages wanted.pe wanted.cell wanted

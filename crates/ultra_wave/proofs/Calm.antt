@@ -19,17 +19,12 @@ use Rattle.ultra_model.proofs.Routes.{turns_back}
 use Rattle.ultra_model.proofs.AtPlaces.{bank-memory_phase, bank-request_phase, element-processor_phase}
 use Rattle.ultra_wave.proofs.Others.{IsAway, away_after}
 use Rattle.ultra_wave.proofs.Quiet.{same_queue, element_stays, input_stays}
-use Rattle.ultra_wave.proofs.Stages.{IsClear, HasLeft}
 use Rattle.ultra_wave.proofs.Behind.{clear_requested, left_requested}
+use Rattle.ultra_wave.proofs.Stages.{IsCalm, IsClear, HasLeft}
 
 -- what a module has to serve is for another cell
 abbrev pub ServesOther : ℕ → Bank → Type 0
 ServesOther a b = IfSome b.inp (λ (p : Placed). p.request.cell ≢ a)
-
--- no queue and no module has a request for the cell, and the processing elements wait
-pub record IsCalm (c : Settings) (a : ℕ) (m : Machine) : Type 0 where
-  pub clear : IsClear c a c.stages m
-  pub inputs : (k : ℕ) → k < size c → ServesOther a (bank_at m k)
 
 serve_other : (a : ℕ) (b : Bank) (i : Option Placed) (o : Option ReplyMessage) → b.inp ≡ i → b.out ≡ o → IfSome i (λ (p : Placed). p.request.cell ≢ a) → IfSome (after_serving b (elim o [ None ↦ i | Some r ↦ None ])).inp (λ (p : Placed). p.request.cell ≢ a)
 serve_other a b None None e f h = rw e tt

@@ -5,14 +5,13 @@ use Rattle.ultra_isa.specs.declared.Instr.{Instr}
 use Rattle.ultra_model.specs.Machine.{Settings, Machine, start}
 use Rattle.ultra_model.specs.Phases.{reply_phase, memory_phase, request_phase, processor_phase, cycle, after}
 use Rattle.ultra_model.specs.Ranges.{AreInRange}
-use Rattle.ultra_wave.proofs.Fronts.{IsAsked}
-use Rattle.ultra_wave.proofs.Stages.{IsSet, IsAtStage}
 use Rattle.ultra_wave.proofs.Calm.{away_processed}
 use Rattle.ultra_wave.proofs.Onward.{wave_sets_out}
 use Rattle.ultra_wave.proofs.Moving.{wave_moves}
-use Rattle.ultra_wave.proofs.Module.{IsInside, IsServed, wave_enters, inside_replied, wave_is_served}
-use Rattle.ultra_wave.proofs.Home.{IsReturned, served_comes, returned_comes, returned_acted, returned_moved, returned_processed, served_moved, served_processed}
+use Rattle.ultra_wave.proofs.Module.{wave_enters, inside_replied, wave_is_served}
+use Rattle.ultra_wave.proofs.Home.{served_comes, returned_comes, returned_acted, returned_moved, returned_processed, served_moved, served_processed}
 use Rattle.ultra_wave.proofs.Silence.{set_replied, set_acted, stage_replied, stage_acted, stage_processed}
+use Rattle.ultra_wave.proofs.Stages.{IsAsked, IsInside, IsServed, IsReturned, IsSet, IsAtStage}
 
 module _ (c : Settings) (program : List Instr) where
   same_cycles : (m : Machine) → (memory_phase c (reply_phase c m)).cycles ≡ m.cycles
@@ -34,13 +33,13 @@ module _ (c : Settings) (program : List Instr) where
 
   module _ (range : AreInRange c) (a n : ℕ) (asked : ℕ → Request) (each : IsAsked c a asked) (some_waits : 1 ≤ c.wait_places) (m : Machine) where
     abbrev Inside : Machine → Type 0
-    Inside k = IsInside c range a n asked each some_waits k
+    Inside k = IsInside c a n asked k
 
     abbrev Served : Machine → Type 0
-    Served k = IsServed c range a n asked each some_waits k
+    Served k = IsServed c a n asked k
 
     abbrev Returned : ℕ → Machine → Type 0
-    Returned s k = IsReturned c range a n asked each some_waits s k
+    Returned s k = IsReturned c a n asked s k
 
     pub set_cycle : m.cycles ≡ n → IsSet c a n asked m → IsAtStage c a n asked 0 (cycle c program m)
     unfolding cycle

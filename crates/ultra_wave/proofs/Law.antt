@@ -18,16 +18,15 @@ use Rattle.ultra_model.proofs.Neighbours.{itself, other}
 use Rattle.ultra_model.proofs.Routes.{module_small}
 use Rattle.ultra_model.proofs.Sound.{after_is_sound}
 use Rattle.ultra_wave.specs.AllAtOnce.{acts_on, AreAllAt, AreServedAtOnce, WaveLaw}
-use Rattle.ultra_wave.proofs.Meeting.{fronts}
-use Rattle.ultra_wave.proofs.Fronts.{IsAsked, front_cell}
+use Rattle.ultra_wave.proofs.Fronts.{front_cell}
 use Rattle.ultra_wave.proofs.Quiet.{input_stays}
-use Rattle.ultra_wave.proofs.Stages.{IsSet, IsAtStage}
 use Rattle.ultra_wave.proofs.Calm.{ServesOther}
-use Rattle.ultra_wave.proofs.Module.{IsInside, IsServed, placed, inside_replied, told}
-use Rattle.ultra_wave.proofs.Home.{IsReturned, all_answered}
+use Rattle.ultra_wave.proofs.Module.{inside_replied, told}
+use Rattle.ultra_wave.proofs.Home.{all_answered}
 use Rattle.ultra_wave.proofs.Cycle.{after_next, cycles_after, set_cycle, stage_cycle, last_cycle, inside_cycle, served_cycle, returned_cycle}
 use Rattle.ultra_wave.proofs.Acts.{acts_of_cycle, one_told, no_act, serves_one, delivered_told}
 use Rattle.ultra_wave.proofs.Opened.{pending_is_open}
+use Rattle.ultra_wave.proofs.Stages.{IsAsked, fronts, placed, IsInside, IsServed, IsReturned, IsSet, IsAtStage}
 
 module _ (c : Settings) (range : AreInRange c) (some_waits : 1 ≤ c.wait_places) (program : List Instr) (n a : ℕ) (w : AreAllAt c a (after c program n)) where
   abbrev first : Machine
@@ -62,13 +61,13 @@ module _ (c : Settings) (range : AreInRange c) (some_waits : 1 ≤ c.wait_places
   at k = after c program (n + k)
 
   abbrev Inside : Machine → Type 0
-  Inside m = IsInside c range a n asked each some_waits m
+  Inside m = IsInside c a n asked m
 
   abbrev Served : Machine → Type 0
-  Served m = IsServed c range a n asked each some_waits m
+  Served m = IsServed c a n asked m
 
   abbrev Returned : ℕ → Machine → Type 0
-  Returned s m = IsReturned c range a n asked each some_waits s m
+  Returned s m = IsReturned c a n asked s m
 
   next : (k : ℕ) → at (suc k) ≡ cycle c program (at k)
   next k =
@@ -126,7 +125,7 @@ module _ (c : Settings) (range : AreInRange c) (some_waits : 1 ≤ c.wait_places
 
   -- the one request that is served
   abbrev pub the_request : Request
-  the_request = fronts c range a n asked c.stages (module_of c a)
+  the_request = fronts c n asked c.stages (module_of c a)
 
   pub one_from : (m : Machine) → Inside m → acts_after m ≡ the_request ∷ []
   one_from m h =
@@ -134,7 +133,7 @@ module _ (c : Settings) (range : AreInRange c) (some_waits : 1 ≤ c.wait_places
       let home = module_of c a in
       let small = module_small c range a in
       let inside = inside_replied c range a n asked each some_waits m h in
-      let p = λ (k : ℕ). placed c range a n asked each some_waits (fronts c range a n asked c.stages k) in
+      let p = λ (k : ℕ). placed c (fronts c n asked c.stages k) in
       let f : ℕ → Bool → Option Act = λ k b. elim b [ true ↦ act_of (bank_at r k) (Some (p k)) | false ↦ None ] in
       let tells = λ (k : ℕ) (hk : k < size c). told c range a n asked each some_waits r inside k hk in
       let one = serves_one a home (bank_at r home) (p home) (front_cell c range a n asked each c.stages home small) (tells home small ∙ ap (f home) (itself home)) in

@@ -13,8 +13,9 @@ use Rattle.ultra_model.specs.Ranges.{AreInRange}
 use Rattle.ultra_model.specs.Routed.{module_of}
 use Rattle.ultra_model.proofs.Neighbours.{itself, even_half, odd_half}
 use Rattle.ultra_model.proofs.Routes.{module_small, turns_back, two_ports}
-use Rattle.ultra_wave.specs.Wave.{leads_to, first_port, second_port, front, old_of, new_of, record_of, on_line, reached}
+use Rattle.ultra_wave.specs.Wave.{first_port, second_port, front, old_of, new_of, record_of}
 use Rattle.ultra_wave.proofs.Lines.{Leads, lead}
+use Rattle.ultra_wave.proofs.Stages.{IsPort, turned, is_on, fronts, lines, wave_at}
 
 -- ---- an empty lane
 room : (w : ℕ) → 1 ≤ w → nat_lt 0 w ≡ true
@@ -50,65 +51,47 @@ either_port P true p q h g = h
 either_port P false p q h g = g
 
 module _ (c : Settings) (range : AreInRange c) (a n : ℕ) (asked : ℕ → Request) where
-  -- a PE-side position of the switch of a memory-side position
-  pub record IsPort (x y : ℕ) : Type 0 where
-    pub half : y / 2 ≡ x / 2
-    pub small : y < size c
-
-  pub first_is_port : (s x : ℕ) → x < size c → IsPort x (first_port c.stages n asked s x)
+  pub first_is_port : (s x : ℕ) → x < size c → IsPort c x (first_port c.stages n asked s x)
   first_is_port s x h =
-      either_port (IsPort x) ((n + s) % 2 == 0) (2 * (x / 2)) (2 * (x / 2) + 1)
+      either_port (IsPort c x) ((n + s) % 2 == 0) (2 * (x / 2)) (2 * (x / 2) + 1)
       record { half = even_half (x / 2); small = (two_ports c range x h).0 }
       record { half = odd_half (x / 2); small = (two_ports c range x h).1 }
 
-  pub second_is_port : (s x : ℕ) → x < size c → IsPort x (second_port c.stages n asked s x)
+  pub second_is_port : (s x : ℕ) → x < size c → IsPort c x (second_port c.stages n asked s x)
   second_is_port s x h =
-      either_port (IsPort x) ((n + s) % 2 == 0) (2 * (x / 2) + 1) (2 * (x / 2))
+      either_port (IsPort c x) ((n + s) % 2 == 0) (2 * (x / 2) + 1) (2 * (x / 2))
       record { half = odd_half (x / 2); small = (two_ports c range x h).1 }
       record { half = even_half (x / 2); small = (two_ports c range x h).0 }
-
-  -- the position by which a request for the cell leaves the switch of a position
-  abbrev pub turned : ℕ → ℕ → ℕ
-  turned s y = with_lowest y (bit_of (last_stage c - s) (module_of c a))
-
-  abbrev pub is_on : ℕ → ℕ → Bool
-  is_on s x = leads_to c.stages (module_of c a) s x
 
   pub leads_at : (s y : ℕ) → s < c.stages → y < size c → Leads c.stages s (module_of c a) y
   leads_at s y hs hy = lead c.stages s (module_of c a) y range.some_stages range.most_stages hs (module_small c range a) hy
 
-  same_turn : (s x y : ℕ) → IsPort x y → turned s y ≡ turned s x
+  same_turn : (s x y : ℕ) → IsPort c x y → turned c a s y ≡ turned c a s x
   same_turn s x y p = ap (λ h. 2 * h + bit_of (last_stage c - s) (module_of c a)) p.half
 
-  pub port_turns : (s x y : ℕ) → s < c.stages → x < size c → IsPort x y → is_on (s + 1) x ≡ true → turned s y ≡ x
+  pub port_turns : (s x y : ℕ) → s < c.stages → x < size c → IsPort c x y → is_on c a (s + 1) x ≡ true → turned c a s y ≡ x
   port_turns s x y hs hx p e = same_turn s x y p ∙ (leads_at s x hs hx).turns e
 
-  pub port_on : (s x y : ℕ) → s < c.stages → x < size c → IsPort x y → is_on (s + 1) x ≡ true → is_on s (unshuffled c.stages y) ≡ true
-  port_on s x y hs hx p e = (leads_at s y hs p.small).on ∙ (ap (λ z. is_on (s + 1) z) (port_turns s x y hs hx p e) ∙ e)
+  pub port_on : (s x y : ℕ) → s < c.stages → x < size c → IsPort c x y → is_on c a (s + 1) x ≡ true → is_on c a s (unshuffled c.stages y) ≡ true
+  port_on s x y hs hx p e = (leads_at s y hs p.small).on ∙ (ap (λ z. is_on c a (s + 1) z) (port_turns s x y hs hx p e) ∙ e)
 
-  port_off : (s x y : ℕ) → s < c.stages → x < size c → IsPort x y → is_on (s + 1) x ≡ false → is_on s (unshuffled c.stages y) ≡ true → (turned s y == x) ≡ false
+  port_off : (s x y : ℕ) → s < c.stages → x < size c → IsPort c x y → is_on c a (s + 1) x ≡ false → is_on c a s (unshuffled c.stages y) ≡ true → (turned c a s y == x) ≡ false
   port_off s x y hs hx p off on =
       ⊎_elim (λ e.
-      let here : is_on (s + 1) (turned s y) ≡ true = sym (leads_at s y hs p.small).on ∙ on in
-      let same : turned s y ≡ x = eqb-true (turned s y) x e in
-      let there : is_on (s + 1) x ≡ true = subst (λ z. is_on (s + 1) z ≡ true) same here in
+      let here : is_on c a (s + 1) (turned c a s y) ≡ true = sym (leads_at s y hs p.small).on ∙ on in
+      let same : turned c a s y ≡ x = eqb-true (turned c a s y) x e in
+      let there : is_on c a (s + 1) x ≡ true = subst (λ z. is_on c a (s + 1) z ≡ true) same here in
       absurd (cc))
-      (λ e. e) (cases_Bool (turned s y == x))
+      (λ e. e) (cases_Bool (turned c a s y == x))
 
   turned_small : (s y : ℕ) (r : Request) → y < size c → request_exit c s y r < size c
   turned_small s y r h = let two = (two_ports c range y h).1 in omega (arith, two)
 
-  abbrev pub fronts : ℕ → ℕ → Request
-  fronts s x = front c.stages n asked s x
-
-  abbrev pub lines : ℕ → ℕ → Option Request
-  lines s x = on_line c.stages n asked (module_of c a) s x
-
-  pub front_next : (s x : ℕ) → fronts (suc s) x ≡ sent_for (old_of c.stages n asked s x) (new_of c.stages n asked s x)
+  pub front_next : (s x : ℕ) → fronts c n asked (suc s) x ≡ sent_for (old_of c.stages n asked s x) (new_of c.stages n asked s x)
   unfolding front
   front_next s x = refl
 
-  pub front_first : (x : ℕ) → fronts 0 x ≡ asked x
+  pub front_first : (x : ℕ) → fronts c n asked 0 x ≡ asked x
   unfolding front
   front_first x = refl
 
@@ -125,16 +108,16 @@ module _ (c : Settings) (range : AreInRange c) (a n : ℕ) (asked : ℕ → Requ
     unfolding arriving_request
     all_arrive y h = all_admitted y (request_before c m s y) h
 
-    module _ (come : (y : ℕ) → y < size c → request_before c m s y ≡ lines s (unshuffled c.stages y)) (for_cell : (u : ℕ) → u < size c → (fronts s u).cell ≡ a) where
-      wave_arrives : (y : ℕ) → y < size c → arriving_request c m s y ≡ lines s (unshuffled c.stages y)
+    module _ (come : (y : ℕ) → y < size c → request_before c m s y ≡ lines c a n asked s (unshuffled c.stages y)) (for_cell : (u : ℕ) → u < size c → (fronts c n asked s u).cell ≡ a) where
+      wave_arrives : (y : ℕ) → y < size c → arriving_request c m s y ≡ lines c a n asked s (unshuffled c.stages y)
       wave_arrives y h = all_arrive y h ∙ come y h
 
-      exit_is : (y : ℕ) → y < size c → request_exit c s y (fronts s (unshuffled c.stages y)) ≡ turned s y
+      exit_is : (y : ℕ) → y < size c → request_exit c s y (fronts c n asked s (unshuffled c.stages y)) ≡ turned c a s y
       exit_is y h = ap (λ b. with_lowest y (bit_of (last_stage c - s) (b % size c))) (for_cell (unshuffled c.stages y) (turns_back c range y h).line_small)
 
-      arrives_on : (x y : ℕ) → x < size c → IsPort x y → is_on (s + 1) x ≡ true → arrivals_by c m s y x ≡ fronts s (unshuffled c.stages y) ∷ []
+      arrives_on : (x y : ℕ) → x < size c → IsPort c x y → is_on c a (s + 1) x ≡ true → arrivals_by c m s y x ≡ fronts c n asked s (unshuffled c.stages y) ∷ []
       arrives_on x y hx p e =
-          let r = fronts s (unshuffled c.stages y) in
+          let r = fronts c n asked s (unshuffled c.stages y) in
           let exit : request_exit c s y r ≡ x = exit_is y p.small ∙ port_turns s x y hs hx p e in
           let there : (request_exit c s y r == x) ≡ true = rw exit (itself x) in
           let f : Bool → Option Request = λ b. elim b [ true ↦ Some r | false ↦ None ] in
@@ -147,9 +130,9 @@ module _ (c : Settings) (range : AreInRange c) (a n : ℕ) (asked : ℕ → Requ
           ap f (h refl)
       off_if x y false r h = refl
 
-      arrives_off : (x y : ℕ) → x < size c → IsPort x y → is_on (s + 1) x ≡ false → arrivals_by c m s y x ≡ []
+      arrives_off : (x y : ℕ) → x < size c → IsPort c x y → is_on c a (s + 1) x ≡ false → arrivals_by c m s y x ≡ []
       arrives_off x y hx p e =
-          ap (λ o. requests_by c s y x o) (wave_arrives y p.small) ∙ (off_if x y (is_on s (unshuffled c.stages y)) (fronts s (unshuffled c.stages y)) (λ on. ap (λ z. z == x) (exit_is y p.small) ∙ port_off s x y hs hx p e on))
+          ap (λ o. requests_by c s y x o) (wave_arrives y p.small) ∙ (off_if x y (is_on c a s (unshuffled c.stages y)) (fronts c n asked s (unshuffled c.stages y)) (λ on. ap (λ z. z == x) (exit_is y p.small) ∙ port_off s x y hs hx p e on))
 
       -- ---- what becomes of them
       arrivals_in_order : (x : ℕ) → m.cycles ≡ n + s → arrivals c m s x ≡ arrivals_by c m s (first_port c.stages n asked s x) x ++ arrivals_by c m s (second_port c.stages n asked s x) x
@@ -169,9 +152,9 @@ module _ (c : Settings) (range : AreInRange c) (a n : ℕ) (asked : ℕ → Requ
           ∙ ap (λ us. arrive_all c.wait_places empty_lane us) (arrivals_in_order x t ∙ (ap (λ us. us ++ arrivals_by c m s (second_port c.stages n asked s x) x) p ∙ ap (λ us. rs ++ us) q))
 
       abbrev arrived : ℕ → Lane
-      arrived x = reached c.stages n asked (module_of c a) s x
+      arrived x = wave_at c a n asked s x
 
-      lane_if : 1 ≤ c.wait_places → m.cycles ≡ n + s → (x : ℕ) → x < size c → (is_on (s + 1) x ≡ true) → next_lane c m s x ≡ arrived x
+      lane_if : 1 ≤ c.wait_places → m.cycles ≡ n + s → (x : ℕ) → x < size c → (is_on c a (s + 1) x ≡ true) → next_lane c m s x ≡ arrived x
       lane_if w t x hx e =
           let p = first_is_port s x hx in
           let q = second_is_port s x hx in
@@ -181,15 +164,15 @@ module _ (c : Settings) (range : AreInRange c) (a n : ℕ) (asked : ℕ → Requ
           let come = arrives_on x (first_port c.stages n asked s x) hx p e in
           let next = arrives_on x (second_port c.stages n asked s x) hx q e in
           let f : Request → Lane = λ r. record { queue = entry r true ∷ []; records = record_of c.stages n asked s x ∷ [] } in
-          let g : Bool → Lane = λ b. elim b [ true ↦ f (fronts (suc s) x) | false ↦ empty_lane ] in
+          let g : Bool → Lane = λ b. elim b [ true ↦ f (fronts c n asked (suc s) x) | false ↦ empty_lane ] in
           met x t hx come next ∙ (two_combine c.wait_places (old_of c.stages n asked s x) (new_of c.stages n asked s x) w cells ∙ (ap f (sym (front_next s x)) ∙ sym (ap g e)))
 
-      lane_if_not : m.cycles ≡ n + s → (x : ℕ) → x < size c → (is_on (s + 1) x ≡ false) → next_lane c m s x ≡ arrived x
+      lane_if_not : m.cycles ≡ n + s → (x : ℕ) → x < size c → (is_on c a (s + 1) x ≡ false) → next_lane c m s x ≡ arrived x
       lane_if_not t x hx e =
           let p = first_is_port s x hx in
           let q = second_is_port s x hx in
-          let g : Bool → Lane = λ b. elim b [ true ↦ record { queue = entry (fronts (suc s) x) true ∷ []; records = record_of c.stages n asked s x ∷ [] } | false ↦ empty_lane ] in
+          let g : Bool → Lane = λ b. elim b [ true ↦ record { queue = entry (fronts c n asked (suc s) x) true ∷ []; records = record_of c.stages n asked s x ∷ [] } | false ↦ empty_lane ] in
           met x t hx (arrives_off x (first_port c.stages n asked s x) hx p e) (arrives_off x (second_port c.stages n asked s x) hx q e) ∙ sym (ap g e)
 
       pub wave_reaches : 1 ≤ c.wait_places → m.cycles ≡ n + s → (x : ℕ) → x < size c → next_lane c m s x ≡ arrived x
-      wave_reaches w t x hx = ⊎_elim (λ e. lane_if w t x hx e) (λ e. lane_if_not t x hx e) (cases_Bool (is_on (s + 1) x))
+      wave_reaches w t x hx = ⊎_elim (λ e. lane_if w t x hx e) (λ e. lane_if_not t x hx e) (cases_Bool (is_on c a (s + 1) x))

@@ -9,37 +9,32 @@ use Rattle.ultra_model.specs.Places.{after_leaving}
 use Rattle.ultra_model.specs.Machine.{Settings, Machine, size, last_stage, lane_at}
 use Rattle.ultra_model.specs.Phases.{request_before, leaving_request, entering, request_phase}
 use Rattle.ultra_model.specs.Ranges.{AreInRange}
-use Rattle.ultra_model.specs.Routed.{module_of}
 use Rattle.ultra_model.proofs.Routes.{turns_back}
 use Rattle.ultra_model.proofs.RequestBalance.{before_next, leaving_at_last, leaving_below}
 use Rattle.ultra_model.proofs.AtPlaces.{lane-request_phase, replies-request_phase}
-use Rattle.ultra_wave.specs.Wave.{left_at}
-use Rattle.ultra_wave.proofs.Meeting.{is_on, fronts, lines, all_arrive, wave_reaches}
-use Rattle.ultra_wave.proofs.Fronts.{IsAsked, front_cell}
+use Rattle.ultra_wave.proofs.Meeting.{all_arrive, wave_reaches}
+use Rattle.ultra_wave.proofs.Fronts.{front_cell}
 use Rattle.ultra_wave.proofs.Others.{Keeps, keeps_alone, AreOtherEntries}
 use Rattle.ultra_wave.proofs.Quiet.{head_of, before_at, stays_empty, entering_is, none_enters}
-use Rattle.ultra_wave.proofs.Stages.{IsSilent, IsClear, HasLeft, IsAtStage}
 use Rattle.ultra_wave.proofs.Behind.{clear_requested, left_requested}
-use Rattle.ultra_wave.proofs.Onward.{head_leaves, wave_at, wave_queue, wave_records, wave_head}
+use Rattle.ultra_wave.proofs.Onward.{head_leaves, wave_queue, wave_records, wave_head}
+use Rattle.ultra_wave.proofs.Stages.{is_on, IsAsked, fronts, lines, wave_at, left_behind, IsSilent, IsClear, HasLeft, IsAtStage}
 
 module _ (c : Settings) (range : AreInRange c) (a n : ℕ) (asked : ℕ → Request) (each : IsAsked c a asked) (some_waits : 1 ≤ c.wait_places) where
-  abbrev wave : ℕ → ℕ → Lane
-  wave s x = wave_at c range a n asked each some_waits s x
+  keeps_here : (s x : ℕ) (m : Machine) → lane_at m s x ≡ wave_at c a n asked s x → Keeps a (left_behind c a n asked s x) (lane_at m s x).records
+  keeps_here s x m e = rw (e, wave_records c range a n asked each some_waits s x) (keeps_alone a (left_behind c a n asked s x))
 
-  keeps_here : (s x : ℕ) (m : Machine) → lane_at m s x ≡ wave s x → Keeps a (left_at c.stages n asked (module_of c a) s x) (lane_at m s x).records
-  keeps_here s x m e = rw (e, wave_records c range a n asked each some_waits s x) (keeps_alone a (left_at c.stages n asked (module_of c a) s x))
-
-  left_more : (e : ℕ) (m : Machine) → HasLeft c a n asked e m → ((x : ℕ) → x < size c → lane_at m e x ≡ wave e x) → HasLeft c a n asked (suc e) m
+  left_more : (e : ℕ) (m : Machine) → HasLeft c a n asked e m → ((x : ℕ) → x < size c → lane_at m e x ≡ wave_at c a n asked e x) → HasLeft c a n asked (suc e) m
   left_more e m h here = record {
     records = λ t x ht hx.
         ⊎_elim (λ l. h.records t x l hx)
-        (λ l. let same : e ≡ t = omega (arith, ht, l) in subst (λ j. Keeps a (left_at c.stages n asked (module_of c a) j x) (lane_at m j x).records) same (keeps_here e x m (here x hx))) (cases_lt t e);
+        (λ l. let same : e ≡ t = omega (arith, ht, l) in subst (λ j. Keeps a (left_behind c a n asked j x) (lane_at m j x).records) same (keeps_here e x m (here x hx))) (cases_lt t e);
   }
 
-  nothing_stays : (s x : ℕ) (m : Machine) (o : Option Request) → lane_at m s x ≡ wave s x → o ≡ head_of (lane_at m s x).queue → AreOtherEntries a (after_leaving o (lane_at m s x).queue)
+  nothing_stays : (s x : ℕ) (m : Machine) (o : Option Request) → lane_at m s x ≡ wave_at c a n asked s x → o ≡ head_of (lane_at m s x).queue → AreOtherEntries a (after_leaving o (lane_at m s x).queue)
   nothing_stays s x m o e h =
-      let queue : (lane_at m s x).queue ≡ elim (is_on c range a n asked (s + 1) x) [ true ↦ entry (fronts c range a n asked (suc s) x) true ∷ [] | false ↦ [] ] = ap (λ (l : Lane). l.queue) e ∙ wave_queue c range a n asked each some_waits s x in
-      let none = head_leaves (entry (fronts c range a n asked (suc s) x) true) (is_on c range a n asked (s + 1) x) (lane_at m s x).queue queue in
+      let queue : (lane_at m s x).queue ≡ elim (is_on c a (s + 1) x) [ true ↦ entry (fronts c n asked (suc s) x) true ∷ [] | false ↦ [] ] = ap (λ (l : Lane). l.queue) e ∙ wave_queue c range a n asked each some_waits s x in
+      let none = head_leaves (entry (fronts c n asked (suc s) x) true) (is_on c a (s + 1) x) (lane_at m s x).queue queue in
       rw (h, none) tt
 
   module _ (s : ℕ) (m : Machine) (w : IsAtStage c a n asked s m) where
@@ -60,13 +55,13 @@ module _ (c : Settings) (range : AreInRange c) (a n : ℕ) (asked : ℕ → Requ
       behind : (x : ℕ) → s < suc s → x < size c → AreOtherEntries a (after_leaving (leaving_request c m s x) (lane_at m s x).queue)
       behind x _ hx = nothing_stays s x m (leaving_request c m s x) (w.here x hx) (leaves_all x hx)
 
-      come : (y : ℕ) → y < size c → request_before c m (suc s) y ≡ lines c range a n asked (suc s) (unshuffled c.stages y)
+      come : (y : ℕ) → y < size c → request_before c m (suc s) y ≡ lines c a n asked (suc s) (unshuffled c.stages y)
       come y hy =
           let x = unshuffled c.stages y in
           subst (λ j. request_before c m j y ≡ head_of (lane_at m s x).queue) next (before_at c range m s y)
           ∙ (ap (λ (l : Lane). head_of l.queue) (w.here x (turns_back c range y hy).line_small) ∙ wave_head c range a n asked each some_waits s x)
 
-      here_next : (x : ℕ) → x < size c → lane_at (request_phase c m) (suc s) x ≡ wave (suc s) x
+      here_next : (x : ℕ) → x < size c → lane_at (request_phase c m) (suc s) x ≡ wave_at c a n asked (suc s) x
       here_next x hx =
           lane-request_phase c m (suc s) x more hx
           ∙ wave_reaches c range a n asked m (suc s) more empty_next come (front_cell c range a n asked each (suc s)) some_waits cycles x hx
@@ -98,7 +93,7 @@ module _ (c : Settings) (range : AreInRange c) (a n : ℕ) (asked : ℕ → Requ
       is_last : s ≡ last_stage c
       is_last = omega arith
 
-      enters : (k : ℕ) → k < size c → entering c m k ≡ lines c range a n asked (suc s) k
+      enters : (k : ℕ) → k < size c → entering c m k ≡ lines c a n asked (suc s) k
       enters k hk =
           entering_is c range m k (w.silent.banks k hk).no_request
           ∙ (ap (λ j. head_of (lane_at m j k).queue) (sym is_last) ∙ (ap (λ (l : Lane). head_of l.queue) (w.here k hk) ∙ wave_head c range a n asked each some_waits s k))
@@ -111,8 +106,8 @@ module _ (c : Settings) (range : AreInRange c) (a n : ℕ) (asked : ℕ → Requ
       behind_last : (x : ℕ) → s < suc s → x < size c → AreOtherEntries a (after_leaving (leaving_request c m s x) (lane_at m s x).queue)
       behind_last x _ hx = nothing_stays s x m (leaving_request c m s x) (w.here x hx) (leaves_last x hx)
 
-      pub enters_at : (k : ℕ) → k < size c → entering c m k ≡ lines c range a n asked c.stages k
-      enters_at k hk = subst (λ j. entering c m k ≡ lines c range a n asked j k) last (enters k hk)
+      pub enters_at : (k : ℕ) → k < size c → entering c m k ≡ lines c a n asked c.stages k
+      enters_at k hk = subst (λ j. entering c m k ≡ lines c a n asked j k) last (enters k hk)
 
       pub clear_of_all : IsClear c a c.stages (request_phase c m)
       clear_of_all = subst (λ j. IsClear c a j (request_phase c m)) last (clear_requested c range a s (omega arith) m w.clear (suc s) (omega arith) (omega arith) behind_last)

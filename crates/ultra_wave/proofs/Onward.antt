@@ -15,12 +15,12 @@ use Rattle.ultra_model.proofs.Neighbours.{itself}
 use Rattle.ultra_model.proofs.Routes.{turns_back, module_small}
 use Rattle.ultra_model.proofs.RequestBalance.{before_first}
 use Rattle.ultra_model.proofs.AtPlaces.{lane-request_phase, element-request_phase, replies-request_phase}
-use Rattle.ultra_wave.specs.Wave.{front, record_of, left_at, reached}
-use Rattle.ultra_wave.proofs.Meeting.{is_on, fronts, lines, front_first, all_arrive, wave_reaches}
-use Rattle.ultra_wave.proofs.Fronts.{IsAsked, front_cell}
+use Rattle.ultra_wave.specs.Wave.{front, record_of}
+use Rattle.ultra_wave.proofs.Meeting.{front_first, all_arrive, wave_reaches}
+use Rattle.ultra_wave.proofs.Fronts.{front_cell}
 use Rattle.ultra_wave.proofs.Others.{Keeps, keeps_alone, IsAway}
 use Rattle.ultra_wave.proofs.Quiet.{head_of, before_at, stays_empty, none_enters}
-use Rattle.ultra_wave.proofs.Stages.{IsSilent, IsSet, IsAtStage}
+use Rattle.ultra_wave.proofs.Stages.{is_on, IsAsked, fronts, lines, wave_at, left_behind, IsSilent, IsSet, IsAtStage}
 
 -- where the head of a queue of at most one request leaves, nothing is left
 pub head_leaves : (r : Entry) (b : Bool) (q : List Entry) → q ≡ elim b [ true ↦ r ∷ [] | false ↦ [] ] → after_leaving (head_of q) q ≡ []
@@ -28,38 +28,35 @@ head_leaves r true q e = rw e refl
 head_leaves r false q e = rw e refl
 
 module _ (c : Settings) (range : AreInRange c) (a n : ℕ) (asked : ℕ → Request) (each : IsAsked c a asked) (some_waits : 1 ≤ c.wait_places) where
-  abbrev pub wave_at : ℕ → ℕ → Lane
-  wave_at s x = reached c.stages n asked (module_of c a) s x
-
   -- ---- the lanes that the wave has reached
   queue_of : (b : Bool) (e : Entry) (l : Lane) → l.queue ≡ e ∷ [] → (elim b as (λ z. Lane) [ true ↦ l | false ↦ empty_lane ]).queue ≡ elim b [ true ↦ e ∷ [] | false ↦ [] ]
   queue_of true e l h = h
   queue_of false e l h = refl
 
-  pub wave_queue : (s x : ℕ) → (wave_at s x).queue ≡ elim (is_on c range a n asked (s + 1) x) [ true ↦ entry (fronts c range a n asked (suc s) x) true ∷ [] | false ↦ [] ]
-  wave_queue s x = queue_of (is_on c range a n asked (s + 1) x) (entry (fronts c range a n asked (suc s) x) true) record { queue = entry (fronts c range a n asked (suc s) x) true ∷ []; records = record_of c.stages n asked s x ∷ [] } refl
+  pub wave_queue : (s x : ℕ) → (wave_at c a n asked s x).queue ≡ elim (is_on c a (s + 1) x) [ true ↦ entry (fronts c n asked (suc s) x) true ∷ [] | false ↦ [] ]
+  wave_queue s x = queue_of (is_on c a (s + 1) x) (entry (fronts c n asked (suc s) x) true) record { queue = entry (fronts c n asked (suc s) x) true ∷ []; records = record_of c.stages n asked s x ∷ [] } refl
 
   records_if : (b : Bool) (s x : ℕ) → (elim b as (λ z. Lane) [ true ↦ record { queue = entry (front c.stages n asked (suc s) x) true ∷ []; records = record_of c.stages n asked s x ∷ [] } | false ↦ empty_lane ]).records ≡ elim b [ true ↦ record_of c.stages n asked s x ∷ [] | false ↦ [] ]
   records_if true s x = refl
   records_if false s x = refl
 
-  pub wave_records : (s x : ℕ) → (wave_at s x).records ≡ left_at c.stages n asked (module_of c a) s x
-  wave_records s x = records_if (is_on c range a n asked (s + 1) x) s x
+  pub wave_records : (s x : ℕ) → (wave_at c a n asked s x).records ≡ left_behind c a n asked s x
+  wave_records s x = records_if (is_on c a (s + 1) x) s x
 
   head_if : (b : Bool) (r : Request) → head_of (elim b [ true ↦ entry r true ∷ [] | false ↦ [] ]) ≡ elim b [ true ↦ Some r | false ↦ None ]
   head_if true r = refl
   head_if false r = refl
 
   -- the head of the queue on a line is the wave's request there
-  pub wave_head : (s x : ℕ) → head_of (wave_at s x).queue ≡ lines c range a n asked (suc s) x
+  pub wave_head : (s x : ℕ) → head_of (wave_at c a n asked s x).queue ≡ lines c a n asked (suc s) x
   wave_head s x =
       let next : s + 1 ≡ suc s = omega arith in
-      let r = fronts c range a n asked (suc s) x in
-      let f : ℕ → Option Request = λ j. elim (is_on c range a n asked j x) [ true ↦ Some r | false ↦ None ] in
-      ap (λ q. head_of q) (wave_queue s x) ∙ (head_if (is_on c range a n asked (s + 1) x) r ∙ ap f next)
+      let r = fronts c n asked (suc s) x in
+      let f : ℕ → Option Request = λ j. elim (is_on c a j x) [ true ↦ Some r | false ↦ None ] in
+      ap (λ q. head_of q) (wave_queue s x) ∙ (head_if (is_on c a (s + 1) x) r ∙ ap f next)
 
   -- ---- it sets out
-  pub leads_first : (x : ℕ) → is_on c range a n asked 0 x ≡ true
+  pub leads_first : (x : ℕ) → is_on c a 0 x ≡ true
   leads_first x =
       let k = module_of c a in
       let low : x % 2 ^ 0 ≡ 0 = mod-one x in
@@ -68,10 +65,10 @@ module _ (c : Settings) (range : AreInRange c) (a n : ℕ) (asked : ℕ → Requ
       rw (low, high) (itself 0)
 
   module _ (m : Machine) (w : IsSet c a n asked m) (cycles : m.cycles ≡ n + 0) where
-    first_come : (y : ℕ) → y < size c → request_before c m 0 y ≡ lines c range a n asked 0 (unshuffled c.stages y)
+    first_come : (y : ℕ) → y < size c → request_before c m 0 y ≡ lines c a n asked 0 (unshuffled c.stages y)
     first_come y hy =
         let x = unshuffled c.stages y in
-        let f : Bool → Option Request = λ b. elim b [ true ↦ Some (fronts c range a n asked 0 x) | false ↦ None ] in
+        let f : Bool → Option Request = λ b. elim b [ true ↦ Some (fronts c n asked 0 x) | false ↦ None ] in
         ap (λ (rs : List Request). slice_get rs 0) (w.pending x (turns_back c range y hy).line_small) ∙ (ap (λ r. Some r) (sym (front_first c range a n asked x)) ∙ sym (ap f (leads_first x)))
 
     first_leaves : (p : ℕ) → p < size c → (element_at (request_phase c m) p).interface.pending ≡ []
@@ -102,7 +99,7 @@ module _ (c : Settings) (range : AreInRange c) (a n : ℕ) (asked : ℕ → Requ
               rw (none_enters c range m k hk (w.silent.banks k hk).no_request (ap (λ (l : Lane). head_of l.queue) (w.lanes (last_stage c) k (omega arith) hk))) (w.silent.banks k hk);
         }
 
-    first_here : (x : ℕ) → x < size c → lane_at (request_phase c m) 0 x ≡ wave_at 0 x
+    first_here : (x : ℕ) → x < size c → lane_at (request_phase c m) 0 x ≡ wave_at c a n asked 0 x
     first_here x hx =
         let some = range.some_stages in
         lane-request_phase c m 0 x (omega arith) hx
@@ -114,8 +111,8 @@ module _ (c : Settings) (range : AreInRange c) (a n : ℕ) (asked : ℕ → Requ
       left = record {
         records = λ t x ht hx.
             let none : 0 ≡ t = omega (arith, ht) in
-            let keeps : Keeps a (left_at c.stages n asked (module_of c a) 0 x) (lane_at (request_phase c m) 0 x).records = rw (first_here x hx, wave_records 0 x) (keeps_alone a (left_at c.stages n asked (module_of c a) 0 x)) in
-            subst (λ j. Keeps a (left_at c.stages n asked (module_of c a) j x) (lane_at (request_phase c m) j x).records) none keeps;
+            let keeps : Keeps a (left_behind c a n asked 0 x) (lane_at (request_phase c m) 0 x).records = rw (first_here x hx, wave_records 0 x) (keeps_alone a (left_behind c a n asked 0 x)) in
+            subst (λ j. Keeps a (left_behind c a n asked j x) (lane_at (request_phase c m) j x).records) none keeps;
       };
       here = first_here;
       ahead = λ t x h ht hx. stays_empty c range m t x ht hx (w.lanes t x ht hx) (λ y hy. none_ahead t y h ht hy);

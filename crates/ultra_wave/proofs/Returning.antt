@@ -18,12 +18,11 @@ use Rattle.ultra_model.specs.Ranges.{AreInRange}
 use Rattle.ultra_model.specs.Routed.{module_of}
 use Rattle.ultra_model.proofs.Neighbours.{itself, other, even_half, odd_half}
 use Rattle.ultra_model.proofs.Routes.{two_ports}
-use Rattle.ultra_wave.specs.Wave.{first_port, second_port, old_of, record_of, left_at}
-use Rattle.ultra_wave.proofs.Meeting.{is_on, turned, leads_at, fronts}
-use Rattle.ultra_wave.proofs.Fronts.{IsAsked, front_cell, old_goes, new_goes, front_is_old, old_small}
-use Rattle.ultra_wave.proofs.Others.{Keeps}
+use Rattle.ultra_wave.specs.Wave.{first_port, second_port, old_of, record_of}
+use Rattle.ultra_wave.proofs.Meeting.{leads_at}
+use Rattle.ultra_wave.proofs.Fronts.{front_cell, old_goes, new_goes, front_is_old, old_small}
 use Rattle.ultra_wave.proofs.Quiet.{none_left, none_goes_by}
-use Rattle.ultra_wave.proofs.Module.{IsReplyOn}
+use Rattle.ultra_wave.proofs.Stages.{turned, is_on, IsAsked, fronts, left_behind, AreComing}
 
 four_room : (r : ℕ) → 4 ≤ r → nat_le (0 + 4) r ≡ true
 four_room r h = grind (arith, nat_tests)
@@ -50,19 +49,7 @@ ports_differ true h = omega arith
 ports_differ false h = omega arith
 
 module _ (c : Settings) (range : AreInRange c) (a n : ℕ) (asked : ℕ → Request) (each : IsAsked c a asked) (some_waits : 1 ≤ c.wait_places) (m : Machine) (s : ℕ) (hs : s < c.stages) where
-  abbrev ReplyOn : ℕ → ℕ → Option ReplyMessage → Type 0
-  ReplyOn t x o = IsReplyOn c range a n asked each some_waits t x o
-
-  abbrev on : ℕ → ℕ → Bool
-  on t x = is_on c range a n asked t x
-
-  -- the wave's replies stand before stage s, whose queues are empty and whose wait buffers hold its records
-  pub record AreComing : Type 0 where
-    pub come : (x : ℕ) → x < size c → ReplyOn (s + 1) x (reply_before c m s x)
-    pub room : (y : ℕ) → y < size c → replies_at m s y ≡ []
-    pub records : (x : ℕ) → x < size c → Keeps a (left_at c.stages n asked (module_of c a) s x) (lane_at m s x).records
-
-  module _ (w : AreComing) where
+  module _ (w : AreComing c a n asked s m) where
     -- ---- one that arrives
     has_room : (x : ℕ) → x < size c → has_reply_room c m s (x / 2) ≡ true
     has_room x hx =
@@ -78,11 +65,11 @@ module _ (c : Settings) (range : AreInRange c) (a n : ℕ) (asked : ℕ → Requ
         let f : Bool → Option ReplyMessage = λ b. elim b [ true ↦ reply_before c m s x | false ↦ None ] in
         ap f (has_room x hx)
 
-    nothing_by : (x y : ℕ) → x < size c → on (s + 1) x ≡ false → replies_at_exit c m s x y ≡ []
+    nothing_by : (x y : ℕ) → x < size c → is_on c a (s + 1) x ≡ false → replies_at_exit c m s x y ≡ []
     nothing_by x y hx off = none_goes_by c range m s x y ((w.come x hx).off off)
 
     -- ---- it is split
-    module _ (x : ℕ) (hx : x < size c) (here : on (s + 1) x ≡ true) where
+    module _ (x : ℕ) (hx : x < size c) (here : is_on c a (s + 1) x ≡ true) where
       abbrev kept : WaitRecord
       kept = record_of c.stages n asked s x
 
@@ -94,11 +81,11 @@ module _ (c : Settings) (range : AreInRange c) (a n : ℕ) (asked : ℕ → Requ
       value = ((w.come x hx).on here).0
 
       abbrev message : ReplyMessage
-      message = record { pe = (fronts c range a n asked (suc s) x).pe; cell = a; reply = value }
+      message = record { pe = (fronts c n asked (suc s) x).pe; cell = a; reply = value }
 
       came : reply_before c m s x ≡ Some message
       unfolding value
-      came = ((w.come x hx).on here).1 ∙ ap (λ j. Some record { pe = (fronts c range a n asked j x).pe; cell = a; reply = value }) next
+      came = ((w.come x hx).on here).1 ∙ ap (λ j. Some record { pe = (fronts c n asked j x).pe; cell = a; reply = value }) next
 
       -- it has the identity of the wave's record, which is the first there
       its_record : is_of message kept ≡ true
@@ -107,7 +94,7 @@ module _ (c : Settings) (range : AreInRange c) (a n : ℕ) (asked : ℕ → Requ
           (rw (front_is_old c range a n asked each s x) (itself (old_of c.stages n asked s x).pe))
           (rw (front_cell c range a n asked each s (unshuffled c.stages (first_port c.stages n asked s x)) (old_small c range a n asked each s x hx)) (itself a))
 
-      records_are : (rest : List WaitRecord) → (lane_at m s x).records ≡ left_at c.stages n asked (module_of c a) s x ++ rest → (lane_at m s x).records ≡ kept ∷ rest
+      records_are : (rest : List WaitRecord) → (lane_at m s x).records ≡ left_behind c a n asked s x ++ rest → (lane_at m s x).records ≡ kept ∷ rest
       records_are rest e =
           let f : Bool → List WaitRecord = λ b. elim b [ true ↦ kept ∷ [] | false ↦ [] ] in
           e ∙ ap (λ ws. ws ++ rest) (ap f here)
@@ -150,7 +137,7 @@ module _ (c : Settings) (range : AreInRange c) (a n : ℕ) (asked : ℕ → Requ
 
       -- by each port goes one reply, to the wave's request on the line of that port
       abbrev OneBy : ℕ → Type 0
-      OneBy y = (v : Reply) × (replies_at_exit c m s x y ≡ record { pe = (fronts c range a n asked s (unshuffled c.stages y)).pe; cell = a; reply = v } ∷ [])
+      OneBy y = (v : Reply) × (replies_at_exit c m s x y ≡ record { pe = (fronts c n asked s (unshuffled c.stages y)).pe; cell = a; reply = v } ∷ [])
 
       one_by_first : OneBy (first_port c.stages n asked s x)
       one_by_first =
@@ -169,7 +156,7 @@ module _ (c : Settings) (range : AreInRange c) (a n : ℕ) (asked : ℕ → Requ
     module _ (y : ℕ) (hy : y < size c) where
       -- the memory-side position by which the wave came from there
       abbrev source : ℕ
-      source = turned c range a n asked s y
+      source = turned c a s y
 
       abbrev zero_port : ℕ
       zero_port = 2 * (y / 2)
@@ -177,16 +164,16 @@ module _ (c : Settings) (range : AreInRange c) (a n : ℕ) (asked : ℕ → Requ
       abbrev one_port : ℕ
       one_port = 2 * (y / 2) + 1
 
-      on_source : on s (unshuffled c.stages y) ≡ on (s + 1) source
+      on_source : is_on c a s (unshuffled c.stages y) ≡ is_on c a (s + 1) source
       on_source = (leads_at c range a n asked s y hs hy).on
 
       -- a port that leads on is the source
-      is_source : (p : ℕ) → p < size c → p / 2 ≡ y / 2 → on (s + 1) p ≡ true → p ≡ source
+      is_source : (p : ℕ) → p < size c → p / 2 ≡ y / 2 → is_on c a (s + 1) p ≡ true → p ≡ source
       is_source p hp e h =
           sym ((leads_at c range a n asked s p hs hp).turns h) ∙ ap (λ z. 2 * z + bit_of (last_stage c - s) (module_of c a)) e
 
       apart : (p : ℕ) → p < size c → p / 2 ≡ y / 2 → p ≢ source → replies_at_exit c m s p y ≡ []
-      apart p hp e h = ⊎_elim (λ z. absurd (h (is_source p hp e z))) (λ z. nothing_by p y hp z) (cases_Bool (on (s + 1) p))
+      apart p hp e h = ⊎_elim (λ z. absurd (h (is_source p hp e z))) (λ z. nothing_by p y hp z) (cases_Bool (is_on c a (s + 1) p))
 
       source_port : (source ≡ zero_port) ⊎ (source ≡ one_port)
       source_port = ⊎_elim (λ l. inl (omega arith)) (λ l. inr (omega arith)) (cases_lt (bit_of (last_stage c - s) (module_of c a)) 1)
@@ -209,10 +196,10 @@ module _ (c : Settings) (range : AreInRange c) (a n : ℕ) (asked : ℕ → Requ
           (λ e. let none = apart zero_port ports.0 (even_half (y / 2)) (λ z. omega (arith, e, z)) in
           rw none (ap (λ p. replies_at_exit c m s p y) (sym e))) source_port
 
-      pub one_reply : on s (unshuffled c.stages y) ≡ true → (v : Reply) × (next_replies c m s y ≡ record { pe = (fronts c range a n asked s (unshuffled c.stages y)).pe; cell = a; reply = v } ∷ [])
+      pub one_reply : is_on c a s (unshuffled c.stages y) ≡ true → (v : Reply) × (next_replies c m s y ≡ record { pe = (fronts c n asked s (unshuffled c.stages y)).pe; cell = a; reply = v } ∷ [])
       one_reply h =
           let one = one_by source source_small (sym on_source ∙ h) y (sym source_half) in
           (one.0, from_source ∙ one.1)
 
-      pub no_reply : on s (unshuffled c.stages y) ≡ false → next_replies c m s y ≡ []
+      pub no_reply : is_on c a s (unshuffled c.stages y) ≡ false → next_replies c m s y ≡ []
       no_reply h = from_source ∙ nothing_by source y source_small (sym on_source ∙ h)

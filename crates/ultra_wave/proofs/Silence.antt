@@ -9,8 +9,8 @@ use Rattle.ultra_model.specs.Phases.{reply_before, reply_phase, memory_phase, pr
 use Rattle.ultra_model.specs.Ranges.{AreInRange}
 use Rattle.ultra_model.proofs.Routes.{turns_back}
 use Rattle.ultra_wave.proofs.Quiet.{none_before, lane_unsplit, no_replies, element_stays, bank_stays, idle_stays}
-use Rattle.ultra_wave.proofs.Stages.{IsSilent, IsSet, IsAtStage}
 use Rattle.ultra_wave.proofs.Calm.{clear_replied, away_processed}
+use Rattle.ultra_wave.proofs.Stages.{IsSilent, IsSet, IsAtStage}
 
 module _ (c : Settings) (range : AreInRange c) (m : Machine) where
   module _ (w : IsSilent c m) where
