@@ -23,3 +23,5 @@ mod texts;
 mod traces;
 #[cfg(test)]
 mod trays;
+#[cfg(test)]
+mod waves;
