@@ -33,3 +33,5 @@ mod texts;
 mod traces;
 #[cfg(test)]
 mod trays;
+#[cfg(test)]
+mod waves;
