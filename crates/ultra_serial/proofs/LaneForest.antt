@@ -45,7 +45,7 @@ find_unique p a u (v ∷ ws) (inl z) e l =
 find_unique p a u (v ∷ ws) (inr h) e l = unique_step p a u v ws (is_reference p a v.pe v.cell) h e l (find_unique p a u ws h e (omega (arith, l)))
 
 -- ---- a combination
-abbrev Combines : (P Q : Entry → Type 0) → Request → Option Combination → Type 0
+abbrev pub Combines : (P Q : Entry → Type 0) → Request → Option Combination → Type 0
 Combines P Q r o = IfSome o (λ c. P c.old × (can_combine r c.old ≡ true) × (Q (combined_entry c.old r) → AllByRecursion Q c.queue))
 
 behind_each : (P Q : Entry → Type 0) (r : Request) (e : Entry) (o : Option Combination) → Q e → Combines P Q r o → Combines P Q r (behind e o)
@@ -59,7 +59,7 @@ combine_each P Q r (e ∷ es) f h =
     (λ z. (h.0, z, λ q. (q, each-weaker P Q es f h.1)))
     (λ z. behind_each P Q r e (combine r es) (f e h.0) (combine_each P Q r es f h.1))
 
-within_each : (P Q : Entry → Type 0) (w : ℕ) (l : Lane) (r : Request) → ((e : Entry) → P e → Q e) → AllByRecursion P l.queue → Combines P Q r (combine_within w l r)
+pub within_each : (P Q : Entry → Type 0) (w : ℕ) (l : Lane) (r : Request) → ((e : Entry) → P e → Q e) → AllByRecursion P l.queue → Combines P Q r (combine_within w l r)
 within_each P Q w l r f h = if_tested (nat_lt (length l.records) w) (λ o. Combines P Q r o) (combine r l.queue) None (λ z. combine_each P Q r l.queue f h) (λ z. tt)
 
 -- ---- how often a reference is named

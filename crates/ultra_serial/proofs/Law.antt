@@ -230,7 +230,7 @@ module _ (c : Settings) (range : AreInRange c) (program : List Instr) (n : ℕ) 
       let k = a % size c in
       ap (λ v. slice_index v.cells (a / size c)) (bank-reply_phase c m k (module_small c range a)) ∙ ap (λ cs. slice_index cs (a / size c)) (reply_cells (bank_at m k) (arriving_reply c m (last_stage c) k))
 
-  serial-reply_phase : (m : Machine) (h : History) → IsSerial c n m h → IsSerial c n (reply_phase c m) (noted n (deliveries m) h)
+  pub serial-reply_phase : (m : Machine) (h : History) → IsSerial c n m h → IsSerial c n (reply_phase c m) (noted n (deliveries m) h)
   serial-reply_phase m h w =
       let es = deliveries m in
       let well = delivers_well m h w in
@@ -259,7 +259,7 @@ module _ (c : Settings) (range : AreInRange c) (program : List Instr) (n : ℕ) 
   abbrev pub servings : Machine → List Event
   servings m = present (places (size c) (λ k. serving k (served (bank_at m k))))
 
-  serial-memory_phase : (m : Machine) (h : History) → IsSerial c n m h → IsSerial c n (memory_phase c m) (noted n (servings m) h)
+  pub serial-memory_phase : (m : Machine) (h : History) → IsSerial c n m h → IsSerial c n (memory_phase c m) (noted n (servings m) h)
   serial-memory_phase m h w =
       let es = servings m in
       let no_issue = each_serving IsNoIssue m (λ k a. tt) in
@@ -292,7 +292,7 @@ module _ (c : Settings) (range : AreInRange c) (program : List Instr) (n : ℕ) 
       let k = a % size c in
       ap (λ v. slice_index v.cells (a / size c)) (bank-request_phase c m k (module_small c range a)) ∙ ap (λ cs. slice_index cs (a / size c)) (request_cells c (bank_at m k) (entering c m k))
 
-  serial-request_phase : (m : Machine) (h : History) → IsSerial c n m h → IsSerial c n (request_phase c m) (noted n (meetings m) h)
+  pub serial-request_phase : (m : Machine) (h : History) → IsSerial c n m h → IsSerial c n (request_phase c m) (noted n (meetings m) h)
   serial-request_phase m h w =
       let es = meetings m in
       let no_issue = each_meeting IsNoIssue m (λ s x a p q f. tt) in
@@ -363,7 +363,7 @@ module _ (c : Settings) (range : AreInRange c) (program : List Instr) (n : ℕ) 
   unfolding cycle reply_phase memory_phase request_phase processor_phase
   events_of m = refl
 
-  noted_cycle : (m : Machine) (h : History) → noted n (cycle c program m).events h
+  pub noted_cycle : (m : Machine) (h : History) → noted n (cycle c program m).events h
       ≡ noted n (issues_of (request_phase c (memory_phase c (reply_phase c m)))) (noted n (meetings (memory_phase c (reply_phase c m))) (noted n (servings (reply_phase c m)) (noted n (deliveries m) h)))
   noted_cycle m h =
       let a = deliveries m in

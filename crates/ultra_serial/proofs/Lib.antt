@@ -26,3 +26,9 @@ pub mod Rest
 pub mod Numbers
 pub mod Explaining
 pub mod ByName
+pub mod Absorbing
+pub mod SmallTrees
+pub mod Fitting
+pub mod KeptTrees
+pub mod NewRequests
+pub mod ExplicableRuns

@@ -242,14 +242,14 @@ module _ (c : Settings) (range : AreInRange c) (m : Machine) (shape : HasShape c
       taken_at : (k : ℕ) → k < size c → mention_some t (event_at k) + inputs_on_way (bank_at after k) ≡ inputs_on_way (bank_at m k)
       taken_at k h = rw (bank-memory_phase c m k h) (taken_of k (bank_at m k) (bank_at m k).inp (bank_at m k).out refl refl)
 
-      all_taken : mentions t all_served + total (size c) (λ k. inputs_on_way (bank_at after k)) ≡ total (size c) (λ k. inputs_on_way (bank_at m k))
+      pub all_taken : mentions t all_served + total (size c) (λ k. inputs_on_way (bank_at after k)) ≡ total (size c) (λ k. inputs_on_way (bank_at m k))
       all_taken =
           let named = present_mentions t (places (size c) event_at) ∙ sum-places (mention_some t) (size c) event_at in
           let sum = total_plus (size c) (λ k. mention_some t (event_at k)) (λ k. inputs_on_way (bank_at after k)) in
           let each = total_same (size c) (λ k. mention_some t (event_at k) + inputs_on_way (bank_at after k)) (λ k. inputs_on_way (bank_at m k)) taken_at in
           omega (arith, named, sum, each)
 
-      inputs_within : total (size c) (λ k. inputs_on_way (bank_at m k)) ≤ total (size c) (λ k. bank_on_way t (bank_at m k))
+      pub inputs_within : total (size c) (λ k. inputs_on_way (bank_at m k)) ≤ total (size c) (λ k. bank_on_way t (bank_at m k))
       inputs_within = total_most (size c) (λ k. bank_on_way t (bank_at m k)) (λ k. inputs_on_way (bank_at m k)) (λ k l. omega arith)
 
     -- ---- the trees are the same

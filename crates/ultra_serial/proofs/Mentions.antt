@@ -130,7 +130,7 @@ pub unmentioned : (p a : ℕ) (es : List Event) (ks : List Kept) → mentions (i
 unmentioned p a [] ks h = refl
 unmentioned p a (e ∷ es) ks h = unmentioned p a es (trees_after ks e) (omega (arith, h)) ∙ event_other p a ks e (omega (arith, h))
 
-in_mentions : (t : ℕ → ℕ → Bool) (e : Event) (es : List Event) → IsIn e es → mention t e ≤ mentions t es
+pub in_mentions : (t : ℕ → ℕ → Bool) (e : Event) (es : List Event) → IsIn e es → mention t e ≤ mentions t es
 in_mentions t e [] h = absurd h
 in_mentions t e (u ∷ es) (inl z) = let same : mention t u ≡ mention t e = ap (λ v. mention t v) z in omega (arith, same)
 in_mentions t e (u ∷ es) (inr h) = let rest = in_mentions t e es h in omega (arith, rest)

@@ -38,7 +38,7 @@ module _ (t : Leaf → Bool) where
   taken_step p a k ks false h = omega (arith, h)
 
   -- the leaves of the tree that is taken away
-  taken : (p a : ℕ) (ks : List Kept) → sum_of (tree_leaves t) (without p a ks) + count t (leaves_of (tree_of p a ks)) ≡ sum_of (tree_leaves t) ks
+  pub taken : (p a : ℕ) (ks : List Kept) → sum_of (tree_leaves t) (without p a ks) + count t (leaves_of (tree_of p a ks)) ≡ sum_of (tree_leaves t) ks
   taken p a [] = omega arith
   taken p a (k ∷ ks) = taken_step p a k ks (is_under p a k) (taken p a ks)
 

@@ -84,7 +84,7 @@ module _ (c : Settings) (range : AreInRange c) (m : Machine) (w : IsRouted c m) 
         let parts = marked_unmarked t l.queue in
         rw (lane-request_phase c m s x hs hx) (omega (arith, named, way, parts))
 
-    all_parts : mentions t all_combined + total c.stages (λ s. total (size c) (λ x. idle s x)) ≡ total c.stages (λ s. lanes_of t c after s)
+    pub all_parts : mentions t all_combined + total c.stages (λ s. total (size c) (λ x. idle s x)) ≡ total c.stages (λ s. lanes_of t c after s)
     all_parts =
         let sum = sum-table (λ e. mention t e) c.stages (size c) (λ s x. combined_at s x) in
         let both = table_plus c.stages (size c) (λ s x. mentions t (combined_at s x)) idle in
@@ -97,7 +97,7 @@ module _ (c : Settings) (range : AreInRange c) (m : Machine) (w : IsRouted c m) 
   abbrev only : ℕ → ℕ → ℕ → ℕ → Bool
   only p a = is_reference p a
 
-  lanes_once : (p a : ℕ) → p < size c → total c.stages (λ s. lanes_of (only p a) c after s) ≤ 1
+  pub lanes_once : (p a : ℕ) → p < size c → total c.stages (λ s. lanes_of (only p a) c after s) ≤ 1
   lanes_once p a hp = omega (arith, once c range after even p a hp)
 
   lane_there : (p a s x : ℕ) → x < size c → 1 ≤ lane_on_way (only p a) (lane_at after s x) → 1 ≤ lanes_of (only p a) c after s
@@ -202,7 +202,7 @@ module _ (c : Settings) (range : AreInRange c) (m : Machine) (w : IsRouted c m) 
       by_kept s v x None h = tt
       by_kept s v x (Some r) h = if_tested (request_exit c s v r == x) (λ rs. AllByRecursion (IsKeptAt c m is ks s) rs) (r ∷ []) [] (λ z. (h, tt)) (λ z. tt)
 
-      arrivals_kept : (s x : ℕ) → s < c.stages → x < size c → AllByRecursion (IsKeptAt c m is ks s) (arrivals c m s x)
+      pub arrivals_kept : (s x : ℕ) → s < c.stages → x < size c → AllByRecursion (IsKeptAt c m is ks s) (arrivals c m s x)
       arrivals_kept s x hs hx =
           let ports = two_ports c range x hx in
           let zero = by_kept s (2 * (x / 2)) x (arriving_request c m s (2 * (x / 2))) (arriving_kept s (2 * (x / 2)) hs ports.0) in

@@ -12,6 +12,7 @@ mod records;
 mod waiting;
 
 ghost use Rattle.ultra_serial.specs.Chain.{SerializationLaw};
+ghost use Rattle.ultra_serial.specs.Explicable.{ExplainingLaw};
 
 pub use checking::{BreachKind, CheckFault, check};
 pub use history::{OrderFault, order};
@@ -29,4 +30,13 @@ pub use records::{Answer, Entry, Issue, Leaf, Log, SerialList};
 /// itself does nothing.
 pub fn serialization_law()
     ensures chained { SerializationLaw }
+{}
+
+/// What every run's events are to the trees that an explainer keeps, as this function's contract: for all settings in
+/// their ranges, every program and every number of cycles, each event of the next cycle can come to the trees of the
+/// cycles so far. A request that is served or combines is held, one that is issued isn't held yet, and there is room
+/// for it. The tree of a request that is served is no higher than the stages, and has at most one leaf of each
+/// processing element. The function itself does nothing.
+pub fn explaining_law()
+    ensures explained { ExplainingLaw }
 {}

@@ -1,0 +1,50 @@
+use Rattle.std.proofs.Common.{◌+◌, ◌<◌, ◌≤◌, subst, arith}
+use Rattle.ultra_msg.proofs.Writing.{so_far_more, so_far_failed}
+use Rattle.ultra_tree.specs.Counts.{leaf_count, HasRightCounts}
+use Rattle.ultra_tree.specs.Text.{opening}
+use Rattle.ultra_tree.proofs.Places.{right_parts}
+use Rattle.ultra_tree.proofs.Texts.{text_in_old, text_in_new}
+use Rattle.ultra_tree.proofs.writing.write_at.Goals as goal
+
+pub returns-in_err-write_opening-in-Pair : goal.returns-in_err-write_opening-in-Pair
+returns-in_err-write_opening-in-Pair g c =
+    let before = rw c.in-Pair.is at c.down.invariant.so_far in
+    so_far_failed (opening c.down.place c.in-Pair.stage c.in-Pair.position) _ c.from_residual.result c.from_residual.ensures.0 before c.in_err-write_opening-in-Pair.ensures
+
+pub down-preserved-then-place-old_leaves : goal.down-preserved-then-place-old_leaves
+down-preserved-then-place-old_leaves g c =
+    let old = c.in-Pair.old.value in
+    let new = c.in-Pair.new.value in
+    let right = right_parts c.in-Pair.old_leaves c.in-Pair.new_leaves old new (subst (λ t. HasRightCounts t) c.in-Pair.is c.down.invariant.right_counts) in
+    let depth = subst (λ t. c.down.closing + leaf_count t ≤ leaf_count c.args.tree.now) c.in-Pair.is c.down.invariant.depth in
+    let of_old = right.of_old in
+    let less : c.down.place < leaf_count old = omega (arith, c.if-place-old_leaves.true, of_old) in
+    let text = text_in_old old new c.in-Pair.old_first c.down.place c.down.closing c.down.mark less in
+    let before = rw c.in-Pair.is at c.down.invariant.so_far in
+    let after = so_far_more (opening c.down.place c.in-Pair.stage c.in-Pair.position) _ before c.in_ok-write_opening-in-Pair.ensures in
+    rw c.deref-node.ensures record {
+      right_counts = right.in_old;
+      within = less;
+      depth = omega (arith, depth);
+      so_far = rw text at after;
+    }
+
+pub down-preserved : goal.down-preserved
+down-preserved g c =
+    let old = c.in-Pair.old.value in
+    let new = c.in-Pair.new.value in
+    let right = right_parts c.in-Pair.old_leaves c.in-Pair.new_leaves old new (subst (λ t. HasRightCounts t) c.in-Pair.is c.down.invariant.right_counts) in
+    let within = subst (λ t. c.down.place < leaf_count t) c.in-Pair.is c.down.invariant.within in
+    let depth = subst (λ t. c.down.closing + leaf_count t ≤ leaf_count c.args.tree.now) c.in-Pair.is c.down.invariant.depth in
+    let of_old = right.of_old in
+    let some_old = right.some_old in
+    let past : leaf_count old ≤ c.down.place = omega (arith, c.if-place-old_leaves.false, of_old) in
+    let text = text_in_new old new c.in-Pair.old_first c.down.place c.down.closing c.down.mark past in
+    let before = rw c.in-Pair.is at c.down.invariant.so_far in
+    let after = so_far_more (opening c.down.place c.in-Pair.stage c.in-Pair.position) _ before c.in_ok-write_opening-in-Pair.ensures in
+    rw (c.deref-node-else-place-old_leaves.ensures, of_old) record {
+      right_counts = right.in_new;
+      within = omega (arith, within, past);
+      depth = omega (arith, depth, some_old);
+      so_far = rw text at after;
+    }

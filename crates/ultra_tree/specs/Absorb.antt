@@ -1,0 +1,43 @@
+-- what an explainer holds, and when it fails
+use Rattle.std.specs.Prelude.{◌≡◌, ℕ, ◌<◌, ◌≤◌, List, [], Bool, true, false}
+use Rattle.std.specs.List.{AllByRecursion}
+use Rattle.ultra_msg.specs.declared.Event.{Event}
+use Rattle.ultra_msg.specs.declared.Event.TheVariants.{Delivered, Served, Combined, Issued}
+use Rattle.ultra_serial.specs.Tree.{Kept}
+use Rattle.ultra_serial.specs.Explicable.{held_by}
+use Rattle.ultra_tree.specs.declared.explaining.ExplainFault.{ExplainFault}
+use Rattle.ultra_tree.specs.declared.explaining.ExplainFault.TheVariants.{Full, Spent}
+
+-- the trees are those of requests of elements below n, at most m of each
+pub record AreWithin (n m : ℕ) (ks : List Kept) : Type 0 where
+  pub elements : AllByRecursion (λ (k : Kept). k.pe < n) ks
+  pub few : (p : ℕ) → held_by p ks ≤ m
+
+-- the cell that an event is about
+abbrev pub cell_of : Event → ℕ
+cell_of (Delivered r) = r.cell
+cell_of (Served k r reply now) = r.cell
+cell_of (Combined s x a p q f) = a
+cell_of (Issued r i) = r.cell
+
+-- an explainer as its callers see it: the number of processing elements, how many requests each can have on their way, whether memory was refused, and the trees, the latest first
+pub record Explained : Type 0 where
+  pub elements : ℕ
+  pub most_open : ℕ
+  pub is_spent : Bool
+  pub trees : List Kept
+
+abbrev pub nothing_absorbed : ℕ → ℕ → Explained
+nothing_absorbed n m = record { elements = n; most_open = m; is_spent = false; trees = [] }
+
+-- of all events a combination alone takes memory
+abbrev pub IsCombination : Event → Type 0
+IsCombination (Delivered r) = ⊥
+IsCombination (Served k r reply now) = ⊥
+IsCombination (Combined s x a p q f) = Unit {0}
+IsCombination (Issued r i) = ⊥
+
+-- when each fault comes, and what it leaves
+abbrev pub ExplainsFault : Explained → Event → ExplainFault → Explained → Type 0
+ExplainsFault old e Full new = (old.is_spent ≡ false) × IsCombination e × (new ≡ record old { is_spent = true; trees = [] })
+ExplainsFault old e Spent new = (old.is_spent ≡ true) × (new ≡ old)

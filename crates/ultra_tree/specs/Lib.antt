@@ -1,0 +1,6 @@
+pub mod Absorb
+pub mod Stored
+pub mod Seen
+pub mod Text
+pub mod Counts
+pub mod Places

@@ -1,0 +1,35 @@
+-- the leaves of a tree by their places
+use Rattle.std.specs.Prelude.{ℕ, zero, suc, ◌+◌, ◌-◌, List, [], ◌∷◌, ◌++◌, max, Bool, true, false, nat_lt, Option, Some}
+use Rattle.ultra_tree.specs.Counts.{leaf_count}
+use Rattle.ultra_tree.specs.Text.{leaf_text, opening, closings, mark_text}
+use Rattle.ultra_tree.specs.declared.listing.Leaf.{Leaf}
+use Rattle.ultra_tree.specs.declared.trees.Node.{Node, Pair'}
+use Rattle.ultra_tree.specs.declared.trees.Node as node
+
+module _ {A : Type 0} where
+  -- the leaves in serial order
+  abbrev pub leaves_in : Node A → List Leaf
+  leaves_in (node.Leaf p n o) = record { pe = p; number = n; op = o } ∷ []
+  leaves_in (Pair' s x p old q new true k l) = leaves_in old ++ leaves_in new
+  leaves_in (Pair' s x p old q new false k l) = leaves_in new ++ leaves_in old
+
+  -- in how many pairs a leaf stands, by its place in the text, where old comes before new
+  abbrev pub depth_at : Node A → ℕ → ℕ
+  depth_at (node.Leaf p n o) i = 0
+  depth_at (Pair' s x p old q new f k l) i = elim (nat_lt i (leaf_count old)) [ true ↦ depth_at old i + 1 | false ↦ depth_at new (i - leaf_count old) + 1 ]
+
+  -- the greatest depth of the first leaves
+  abbrev pub depth_of_first : Node A → ℕ → ℕ
+  depth_of_first t zero = 0
+  depth_of_first t (suc i) = max (depth_at t i) (depth_of_first t i)
+
+  -- the text of a leaf with what opens before it and closes behind it, where so many pairs close behind the whole tree, and then a mark comes
+  abbrev pub piece : Node A → ℕ → ℕ → Option Bool → List ℕ
+  piece (node.Leaf p n o) i closing mark = leaf_text p n ++ closings closing ++ mark_text mark
+  piece (Pair' s x p old q new f k l) i closing mark =
+      opening i s x ++ elim (nat_lt i (leaf_count old)) [ true ↦ piece old i 0 (Some f) | false ↦ piece new (i - leaf_count old) (closing + 1) mark ]
+
+-- the texts of the places from i on, k of them
+abbrev pub pieces : (ℕ → List ℕ) → ℕ → ℕ → List ℕ
+pieces f i zero = []
+pieces f i (suc k) = f i ++ pieces f (i + 1) k

@@ -1,0 +1,37 @@
+-- how the trees of the code are seen as those of the definition
+use Rattle.std.specs.Prelude.{◌≡◌, ℕ, List, [], ◌∷◌, ◌++◌, Some, remove, slice_get}
+use Rattle.ultra_serial.specs.Tree.{Tree as SerialTree, leaf, pair, Kept, kept, tree_of, without}
+use Rattle.ultra_serial.specs.declared.records.Leaf.{Leaf as SerialLeaf}
+use Rattle.ultra_tree.specs.declared.listing.Leaf.{Leaf}
+use Rattle.ultra_tree.specs.declared.trees.Node.{Node, Pair'}
+use Rattle.ultra_tree.specs.declared.trees.Node as node
+use Rattle.ultra_tree.specs.declared.trees.Tree.{Tree}
+use Rattle.ultra_tree.specs.declared.held.Held.{Held}
+
+-- a leaf with the cell that its request is for
+abbrev pub at_cell : ℕ → Leaf → SerialLeaf
+at_cell a l = record { pe = l.pe; number = l.number; cell = a; op = l.op }
+
+module _ {A : Type 0} where
+  -- a tree of requests for a cell
+  abbrev pub seen_node : ℕ → Node A → SerialTree
+  seen_node a (node.Leaf p n o) = leaf record { pe = p; number = n; cell = a; op = o }
+  seen_node a (Pair' s x p old q new first k l) = pair s x (seen_node a old) (seen_node a new) first
+
+  abbrev pub seen : ℕ → Tree A → SerialTree
+  seen a t = seen_node a t.node
+
+  abbrev pub kept_as : Held A → Kept
+  kept_as h = kept h.pe h.cell (seen h.cell h.tree)
+
+  -- the trees that are held, the latest first
+  abbrev pub trees_of : List (Held A) → List Kept
+  trees_of [] = []
+  trees_of (h ∷ hs) = trees_of hs ++ kept_as h ∷ []
+
+  -- at this place stands the tree that was put last under an identity
+  pub record IsLatest (p a : ℕ) (hs : List (Held A)) (i : ℕ) : Type 0 where
+    pub held : Held A
+    pub at : slice_get hs i ≡ Some held
+    pub tree : tree_of p a (trees_of hs) ≡ Some (seen a held.tree)
+    pub rest : without p a (trees_of hs) ≡ trees_of (remove hs i)

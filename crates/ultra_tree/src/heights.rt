@@ -1,0 +1,52 @@
+//! The height of a tree.
+
+ghost use Rattle.std.specs.Prelude.{◌≡◌, ℕ, ◌<◌, ◌^◌};
+ghost use Rattle.ultra_serial.specs.Tree.{height as height_of};
+ghost use Rattle.ultra_tree.specs.Counts.{leaf_count, HasRightCounts};
+ghost use Rattle.ultra_tree.specs.Places.{depth_at};
+ghost use Rattle.ultra_tree.specs.Seen.{seen};
+
+use crate::trees::{Node, Tree};
+use std::alloc::Allocator;
+
+/// The height of a tree: 0 for a leaf, and for a pair one more than that of its higher part.
+pub fn height<A: Allocator>(tree: &Tree<A>) -> u64
+    ensures { (cell : ℕ) → result ≡ height_of (seen cell tree.now) }
+{
+    let mut highest = 0;
+    for place in 0..tree.leaves {
+        highest = depth_of(&tree.node, place).max(highest);
+    }
+    highest
+}
+
+/// In how many pairs the leaf at a place of the text stands.
+fn depth_of<A: Allocator>(tree: &Node<A>, place: u64) -> u64
+    requires right_counts { HasRightCounts tree.now }
+    requires within { place < leaf_count tree.now }
+    requires fits { leaf_count tree.now < 2 ^ 64 }
+    ensures { result ≡ depth_at tree.now place }
+{
+    let mut node = tree;
+    let mut place = place;
+    let mut depth = 0u64;
+    'down: loop {
+        match node {
+            Node::Leaf { .. } => return depth,
+            Node::Pair {
+                old,
+                new,
+                old_leaves,
+                ..
+            } => {
+                if place < *old_leaves {
+                    node = old;
+                } else {
+                    place -= *old_leaves;
+                    node = new;
+                }
+                depth += 1;
+            }
+        }
+    }
+}

@@ -1,0 +1,15 @@
+//! The trees of combined requests, as an explainer of a machine's events keeps them.
+#![tactic(auto)]
+
+mod explaining;
+mod heights;
+mod held;
+mod listing;
+mod trees;
+mod writing;
+
+pub use explaining::{ExplainFault, Explainer};
+pub use heights::height;
+pub use listing::{Leaf, TreeFault, leaves};
+pub use trees::Tree;
+pub use writing::write_tree;
