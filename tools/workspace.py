@@ -57,6 +57,10 @@ def is_program(name):
     return (ROOT / "crates" / name / "src" / "main.rt").is_file()
 
 
+def has_tests(name):
+    return any("#[test]" in it.read_text() for it in (ROOT / "crates" / name / "src").rglob("*.rt"))
+
+
 def processors():
     """How many jobs may run at once: one a processor, as memory allows."""
     memory = os.sysconf("SC_PHYS_PAGES") * os.sysconf("SC_PAGE_SIZE")
