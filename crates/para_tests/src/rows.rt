@@ -19,7 +19,7 @@ fn run(
     cells: &[(Cell, Option<Word>)],
 ) -> Result<(), Fail> {
     let alloc = rt.alloc();
-    let config = Config::new(alloc, &settings(1, vec![in alloc; (1, 9)]?))?;
+    let config = Config::new(alloc, &settings(1, Vec::from_array(alloc, [(1, 9)])?))?;
     let program = program(list.to_vec(alloc)?)?;
     let mut para = Para::new(alloc, &config, &program)?;
     assert!(rt; is_schedule(schedule, config.net().size()));
