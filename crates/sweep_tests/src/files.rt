@@ -56,7 +56,7 @@ fn refused_files(rt: HostRuntime) -> Result<(), Fail> {
     check_refused(&rt, &[255], JobsFault::NotToml)
 }
 
-/// A file of so many jobs.
+/// A file of `count` jobs.
 fn file_of(alloc: Global, count: usize) -> Result<Vec<u8>, Fail> {
     let mut text = Vec::new(alloc);
     for _ in 0..count {

@@ -7,7 +7,8 @@ use std::thread;
 use ultra_board::Seat;
 use ultra_sweep::{Job, JobGate, JobResult, RunAlone};
 
-/// A gate at which the runs of jobs 0 and 1 meet: each raises a flag and waits for the other's, 10,000,000 turns at most.
+/// A gate at which the runs of jobs 0 and 1 meet: each raises a flag and waits for the other's,
+/// 10,000,000 turns at most.
 #[derive(Drop)]
 pub(crate) struct Meeting {
     pub(crate) flags: [AtomicU64; 2],

@@ -7,7 +7,7 @@ use std::process::Abort;
 use std::test::Fail;
 use ultra_sweep::{GatherFault, JobResult, Outcome, gather};
 
-/// Asserts that the results of so many jobs are refused with this fault.
+/// Asserts that the results of `count` jobs are refused with this fault.
 fn check_refused<R: Abort + AllocGlobal>(
     rt: &R,
     count: u64,
@@ -49,7 +49,8 @@ fn result(alloc: Global, number: u64, has_trace: bool) -> JobResult {
     }
 }
 
-/// The first result that isn't accepted says which fault it is, and the first missing job comes last.
+/// The first result that isn't accepted says which fault it is, and the first missing job comes
+/// last.
 #[test]
 fn kinds_in_their_order(rt: HostRuntime) -> Result<(), Fail> {
     let rows: [(&[(u64, bool)], GatherFault); 7] = [

@@ -1,4 +1,5 @@
-//! Tests of sweeps and of files of jobs, over public calls. They stand in a crate of their own, so that no library is proved a second time with its tests.
+//! Tests of sweeps and of files of jobs, over public calls. They stand in a crate of their own, so
+//! that no library is proved a second time with its tests.
 #![tactic(auto)]
 
 #[cfg(test)]

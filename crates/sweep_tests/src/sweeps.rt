@@ -13,7 +13,8 @@ use std::thread::{self, Threads};
 use ultra_board::Board;
 use ultra_sweep::{Job, JobGate, JobResult, RunAlone, gather, report, work};
 
-/// The report of a job that halts at once, and of one in which two processing elements add 1 each to cell 0.
+/// The report of a job that halts at once, and of one in which two processing elements add 1 each
+/// to cell 0.
 const REPORT: &str = "\
 job 0
 ultra trace 2
@@ -61,7 +62,7 @@ pub(crate) fn sweep_alone<R: Wait + AllocGlobal>(
     Ok(results?)
 }
 
-/// The results of all jobs, by two threads, so many jobs at once.
+/// The results of all jobs, by two threads, `at_once` jobs at once.
 fn sweep_by_two<R: Threads + Wait + Sync + Abort + AllocGlobal, G: JobGate + Sync>(
     rt: &R,
     jobs: &[Job],
@@ -102,7 +103,10 @@ fn two_job_sweep(rt: HostRuntime) -> Result<(), Fail> {
     Ok(())
 }
 
-/// Two threads. Where two jobs may run at once, each waits in its run for the other's; where one may, none ever runs beside another. A `work` that runs one job at a time, as one in which a job waits until as many jobs are finished as its number says, is refused here: the turns run out. So is one that goes past the passes: two runs are under way at once.
+/// Two threads. Where two jobs may run at once, each waits in its run for the other's; where one
+/// may, none ever runs beside another. A `work` that runs one job at a time, as one in which a job
+/// waits until as many jobs are finished as its number says, is refused here: the turns run out. So
+/// is one that goes past the passes: two runs are under way at once.
 #[test]
 fn jobs_meet(rt: HostRuntime) -> Result<(), Fail> {
     let jobs = two_jobs(rt.alloc())?;
@@ -118,7 +122,7 @@ fn jobs_meet(rt: HostRuntime) -> Result<(), Fail> {
     Ok(())
 }
 
-/// A sink that fails at each of its writes in turn has taken a beginning of the report.
+/// A sink that fails at each of its writes in turn has taken a prefix of the report.
 #[test]
 fn report_into_a_failing_sink(rt: HostRuntime) -> Result<(), Fail> {
     let jobs = two_jobs(rt.alloc())?;

@@ -7,7 +7,7 @@ use std::str;
 use std::test::Fail;
 use ultra_msg::{Sink, SinkFault};
 
-/// A sink in memory, which takes seven bytes a write at most and fails after so many writes.
+/// A sink in memory, which takes seven bytes a write at most and fails after `sound_writes` writes.
 #[derive(Drop)]
 pub(crate) struct Tray<'r, R: Abort> {
     rt: &'r R,
@@ -17,7 +17,7 @@ pub(crate) struct Tray<'r, R: Abort> {
 }
 
 impl<'r, R: Abort + AllocGlobal> Tray<'r, R> {
-    /// A tray that fails after so many writes.
+    /// A tray that fails after `sound_writes` writes.
     pub(crate) fn failing_after(rt: &'r R, sound_writes: usize) -> Self {
         Tray {
             rt,

@@ -1,4 +1,5 @@
--- what the text of a file of jobs gives: its keys and the kinds of their values are this project's profile
+-- what the text of a file of jobs gives: its keys and the kinds of their values are this project's
+-- profile
 use Rattle.std.specs.Prelude.{◌≡◌, ℕ, ◌+◌, Bool, false, not, ◌&&◌, ◌||◌, nat_le, if◌then◌else◌, List, [], ◌∷◌, Option, Some, None, IsSomeAnd, String, string_bytes, codes, bytes_eq, map, option_map, option_and_then, ⊤}
 use Rattle.std.specs.Str.{IsUtf8}
 use Rattle.std.specs.declared.alloc.Global.{Global}
@@ -38,7 +39,10 @@ both (Some p) (Some q) = Some (p, q)
 
 -- a job is a table with the texts `conf` and `prog`, and no other key
 abbrev pub paths_at : Members → Option Paths
-paths_at ms = if has_other_key is_job_key ms then None else both (text_at (codes "conf") ms) (text_at (codes "prog") ms)
+paths_at ms =
+    if has_other_key is_job_key ms
+    then None
+    else both (text_at (codes "conf") ms) (text_at (codes "prog") ms)
 
 abbrev pub paths_of : Data → Option Paths
 paths_of d = option_and_then paths_at (as_table d)
@@ -58,7 +62,8 @@ count_of no_items = 0
 count_of (item d ds) = count_of ds + 1
 
 abbrev pub jobs_in : Items → Option (List Paths)
-jobs_in ds = if nat_le 1 (count_of ds) && nat_le (count_of ds) MOST_JOBS then paths_in ds else None
+jobs_in ds =
+    if nat_le 1 (count_of ds) && nat_le (count_of ds) MOST_JOBS then paths_in ds else None
 
 -- a file of jobs is a table with such an array `job`, and no other key
 abbrev pub array_at : Members → Option Items

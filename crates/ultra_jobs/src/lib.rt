@@ -25,7 +25,8 @@ pub enum JobsFault {
     /// The bytes aren't UTF-8, or the text isn't TOML.
     #[error("not toml")]
     NotToml,
-    /// The text isn't a table with the one key `job`, an array of 1 to 256 tables, each with the texts `conf` and `prog` and no other key.
+    /// The text isn't a table with the one key `job`, an array of 1 to 256 tables, each with the
+    /// texts `conf` and `prog` and no other key.
     #[error("bad job")]
     BadJob,
 }
@@ -40,7 +41,8 @@ impl From<AllocError> for JobsFault {
     }
 }
 
-/// The jobs that a text lists: for each the path of its settings and that of its program, as they are written.
+/// The jobs that a text lists: for each the path of its settings and that of its program, as they
+/// are written.
 pub fn jobs_from(alloc: Global, bytes: &[u8]) -> Result<Vec<(String, String)>, JobsFault>
     ensures ok { IfOk result (λ v. Gives bytes.now (all_paths v.items)) }
     ensures refused { IfErr result (ExplainsFault bytes.now) }
@@ -58,7 +60,8 @@ pub fn jobs_from(alloc: Global, bytes: &[u8]) -> Result<Vec<(String, String)>, J
 
 /// The jobs of a table. `None` says that it isn't one of jobs.
 fn jobs_at(alloc: Global, table: &Table) -> Result<Option<Vec<(String, String)>>, AllocError>
-    ensures { IfOk result (λ o. option_map (λ v. all_paths v.items) o ≡ jobs_at (table_view table.now)) }
+    ensures { IfOk result (λ o. option_map (λ v. all_paths v.items) o ≡
+        jobs_at (table_view table.now)) }
 {
     if has_other_file_key(table) {
         return Ok(None);
@@ -79,7 +82,8 @@ fn array_at(table: &Table) -> Option<&[Value]>
 
 /// The jobs of an array. `None` says that it isn't one of 1 to 256 jobs.
 fn jobs_in(alloc: Global, array: &[Value]) -> Result<Option<Vec<(String, String)>>, AllocError>
-    ensures { IfOk result (λ o. option_map (λ v. all_paths v.items) o ≡ jobs_in (items_view array.now)) }
+    ensures { IfOk result (λ o. option_map (λ v. all_paths v.items) o ≡
+        jobs_in (items_view array.now)) }
 {
     match array.len() {
         1..=MOST_JOBS => paths_in(alloc, array),
@@ -89,7 +93,8 @@ fn jobs_in(alloc: Global, array: &[Value]) -> Result<Option<Vec<(String, String)
 
 /// The paths of all jobs of an array. `None` says that a value isn't a job.
 fn paths_in(alloc: Global, array: &[Value]) -> Result<Option<Vec<(String, String)>>, AllocError>
-    ensures { IfOk result (λ o. option_map (λ v. all_paths v.items) o ≡ paths_in (items_view array.now)) }
+    ensures { IfOk result (λ o. option_map (λ v. all_paths v.items) o ≡
+        paths_in (items_view array.now)) }
 {
     let mut jobs = Vec::with_capacity(alloc, array.len())?;
     for value in array {

@@ -29,7 +29,8 @@ pub record AreSound (n : ℕ) (results : List JobResult) : Type 0 where
   pub texts : All (λ r. IsSome (text_in r.outcome)) results
 
 -- these results are sound, and the next one names job i
-pub record IsNext (n : ℕ) (results : List JobResult) (i : ℕ) (before : List JobResult) : Type 0 where
+pub record IsNext (n : ℕ) (results : List JobResult) (i : ℕ)
+    (before : List JobResult) : Type 0 where
   pub sound : AreSound n before
   pub result : JobResult
   pub number : result.number ≡ i
@@ -45,7 +46,9 @@ pub record IsFirstMissing (n : ℕ) (results : List JobResult) (i : ℕ) : Type 
 
 -- why there is not one result for each job
 abbrev pub ExplainsFault : ℕ → List JobResult → GatherFault → Type 0
-ExplainsFault n results (Double i) = (before : List JobResult) × IsNext n results i before × (times i (numbers before) ≡ 1)
-ExplainsFault n results (Stranger i) = (before : List JobResult) × IsNext n results i before × (n ≤ i)
+ExplainsFault n results (Double i) =
+    (before : List JobResult) × IsNext n results i before × (times i (numbers before) ≡ 1)
+ExplainsFault n results (Stranger i) =
+    (before : List JobResult) × IsNext n results i before × (n ≤ i)
 ExplainsFault n results (Missing i) = IsFirstMissing n results i
 ExplainsFault n results NoMemory = ⊤

@@ -20,9 +20,11 @@ pub record IsSomeSpent (views : List View) : Type 0 where
   pub there : get_elem? views place ≡ some view
   pub spent : view.spent ≡ true
 
--- no number was drawn but by calls of `work` that ended well, and these are all their results: they name what all seats have drawn
+-- no number was drawn but by calls of `work` that ended well, and these are all their results: they
+-- name what all seats have drawn
 abbrev pub AreAllResults : List View → List JobResult → Type 0
-AreAllResults views results = (i : ℕ) → total (λ (v : View). times i v.drawn) views ≡ times i (numbers results)
+AreAllResults views results =
+    (i : ℕ) → total (λ (v : View). times i v.drawn) views ≡ times i (numbers results)
 
 -- each job is named once, and `gather` gives them all or answers that memory was refused
 pub record IsWhole (n : ℕ) (results : List JobResult) : Type 0 where
@@ -31,4 +33,6 @@ pub record IsWhole (n : ℕ) (results : List JobResult) : Type 0 where
 
 -- at every moment between two steps on a board
 abbrev pub SweepLaw : Type 0
-SweepLaw = (limits : Limits) (state : State ℕ View) → IsKept limits state → IsSomeSpent state.views → (results : List JobResult) → AreAllResults state.views results → IsWhole limits.limit results
+SweepLaw =
+    (limits : Limits) (state : State ℕ View) → IsKept limits state → IsSomeSpent state.views
+    → (results : List JobResult) → AreAllResults state.views results → IsWhole limits.limit results

@@ -23,7 +23,8 @@ pub record IsPut (it : JobResult) (old new : Places) : Type 0 where
 
 -- why it didn't
 abbrev pub ExplainsRefusal : JobResult → Places → GatherFault → Type 0
-ExplainsRefusal it places (Double i) = (it.number ≡ i) × (i < length places) × IsSome (place_of places i)
+ExplainsRefusal it places (Double i) =
+    (it.number ≡ i) × (i < length places) × IsSome (place_of places i)
 ExplainsRefusal it places (Stranger i) = (it.number ≡ i) × (length places ≤ i)
 ExplainsRefusal it places (Missing i) = ⊥
 ExplainsRefusal it places NoMemory = ⊤

@@ -50,11 +50,15 @@ impl Model for Gathered {
 
 /// Puts the results of `count` jobs together, each at its number.
 ///
-/// The results are looked at in their order, and at each of them it is `Stranger` where there is no such job, else `Double` where an earlier result names the same job, else `NoMemory` where memory was refused to the job. Then it is `Missing` with the first job that isn't named. `NoMemory` may come in place of any other answer.
+/// The results are looked at in their order, and at each of them it is `Stranger` where there is no
+/// such job, else `Double` where an earlier result names the same job, else `NoMemory` where memory
+/// was refused to the job. Then it is `Missing` with the first job that isn't named. `NoMemory` may
+/// come in place of any other answer.
 pub fn gather(alloc: Global, count: u64, results: Vec<JobResult>) -> Result<Gathered, GatherFault>
     ensures ok { IfOk result (λ g. AreGathered count results.items g) }
     ensures err { IfErr result (ExplainsFault count results.items) }
-    ensures traces { (jobs : List Job) → length jobs ≡ count → All (IsResultAmong jobs) results.items → IfOk result (λ g. g ≡ map trace_of jobs) }
+    ensures traces { (jobs : List Job) → length jobs ≡ count →
+        All (IsResultAmong jobs) results.items → IfOk result (λ g. g ≡ map trace_of jobs) }
 {
     let mut places = empty_places(alloc, count as usize)?;
     for result in results {
@@ -65,7 +69,9 @@ pub fn gather(alloc: Global, count: u64, results: Vec<JobResult>) -> Result<Gath
     })
 }
 
-/// Closes the board of `count` jobs, by the seat that has all its places, and puts the results together. The results are those of all calls of `work` there, and no number was drawn elsewhere. So each job has one, and an error says that memory was refused, here or to a job.
+/// Closes the board of `count` jobs, by the seat that has all its places, and puts the results
+/// together. The results are those of all calls of `work` there, and no number was drawn elsewhere.
+/// So each job has one, and an error says that memory was refused, here or to a job.
 pub fn close_and_gather(
     alloc: Global,
     board: Board,
@@ -79,7 +85,8 @@ pub fn close_and_gather(
     requires count { seat.view.limit ≡ count }
     requires drawn { seat.view.drawn ≡ numbers results.items }
     ensures ok { IfOk result (λ g. AreGathered count results.items g) }
-    ensures traces { (jobs : List Job) → length jobs ≡ count → All (IsResultAmong jobs) results.items → IfOk result (λ g. g ≡ map trace_of jobs) }
+    ensures traces { (jobs : List Job) → length jobs ≡ count →
+        All (IsResultAmong jobs) results.items → IfOk result (λ g. g ≡ map trace_of jobs) }
 {
     let _totals = board.close(seat);
     match gather(alloc, count, results) {

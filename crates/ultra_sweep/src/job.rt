@@ -9,7 +9,8 @@ use ultra_board::Seat;
 use ultra_isa::Program;
 use ultra_model::Config;
 
-/// A job: the run of a program on a machine of these settings. Its number is its place in the list of jobs, from 0.
+/// A job: the run of a program on a machine of these settings. Its number is its place in the list
+/// of jobs, from 0.
 #[derive(Drop)]
 pub struct Job {
     /// The settings.
@@ -38,7 +39,8 @@ pub struct JobResult {
 
 /// Who runs the jobs that are drawn.
 pub trait JobGate {
-    /// Runs a job, which the seat has drawn and hasn't finished, under the pass that the seat holds. It may wait, for another job too.
+    /// Runs a job, which the seat has drawn and hasn't finished, under the pass that the seat
+    /// holds. It may wait, for another job too.
     fn run<R: Wait>(&self, rt: &R, alloc: Global, seat: &Seat, number: u64, job: &Job) -> JobResult
         requires pass { 0 < seat.now.view.held }
         requires drawn { Contains seat.now.view.drawn number }

@@ -1,6 +1,9 @@
-//! A sweep: many jobs by threads of the host, and one report whose bytes depend neither on the number of threads nor on how many jobs run at once.
+//! A sweep: many jobs by threads of the host, and one report whose bytes depend neither on the
+//! number of threads nor on how many jobs run at once.
 //!
-//! A job is a run of a machine. Threads draw the jobs from a board (`ultra_board`), each with a seat of its own, and run each one under a pass by a [`JobGate`]. What the threads bring back is put together by [`gather`] and written by [`report`].
+//! A job is a run of a machine. Threads draw the jobs from a board (`ultra_board`), each with a
+//! seat of its own, and run each one under a pass by a [`JobGate`]. What the threads bring back is
+//! put together by [`gather`] and written by [`report`].
 #![tactic(auto)]
 
 mod gathering;

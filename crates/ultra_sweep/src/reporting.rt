@@ -7,9 +7,11 @@ use crate::gathering::Gathered;
 use itoa::Buffer;
 use ultra_msg::{Sink, SinkFault, write_pieces};
 
-/// Writes the report: for each job in order the line `job I` and its trace. After a fault the sink has taken a beginning of it.
+/// Writes the report: for each job in order the line `job I` and its trace. After a fault the sink
+/// has taken a prefix of it.
 pub fn report<S: Sink>(gathered: &Gathered, sink: &mut S) -> Result<(), SinkFault>
-    ensures { Writes result (report_text gathered.now) (S.taken sink.old) (S.taken sink.new) (S.failures sink.old) (S.failures sink.new) }
+    ensures { Writes result (report_text gathered.now) (S.taken sink.old) (S.taken sink.new)
+        (S.failures sink.old) (S.failures sink.new) }
 {
     let mut number: usize = 0;
     for text in &gathered.texts {
@@ -21,7 +23,8 @@ pub fn report<S: Sink>(gathered: &Gathered, sink: &mut S) -> Result<(), SinkFaul
 
 /// Writes the line that names a job, and its trace.
 fn write_job<S: Sink>(number: usize, text: &[u8], sink: &mut S) -> Result<(), SinkFault>
-    ensures { Writes result (job_text number text.now) (S.taken sink.old) (S.taken sink.new) (S.failures sink.old) (S.failures sink.new) }
+    ensures { Writes result (job_text number text.now) (S.taken sink.old) (S.taken sink.new)
+        (S.failures sink.old) (S.failures sink.new) }
 {
     let mut digits = Buffer::new();
     write_pieces(

@@ -17,9 +17,12 @@ pub enum WorkFault {
     NoMemory,
 }
 
-/// Draws jobs from the board until none is left, runs each under a pass, and finishes it. There is one result for each job drawn, in their order.
+/// Draws jobs from the board until none is left, runs each under a pass, and finishes it. There is
+/// one result for each job drawn, in their order.
 ///
-/// The memory for all results is asked for first: `NoMemory` comes before any draw, and the seat is then as it was. The call waits for each pass by trying again, so it may never return where others keep all passes.
+/// The memory for all results is asked for first: `NoMemory` comes before any draw, and the seat is
+/// then as it was. The call waits for each pass by trying again, so it may never return where
+/// others keep all passes.
 pub fn work<R: Wait, G: JobGate>(
     rt: &R,
     alloc: Global,
@@ -32,7 +35,8 @@ pub fn work<R: Wait, G: JobGate>(
     requires no_pass { seat.view.held ≡ 0 }
     requires jobs { seat.view.limit ≡ length jobs.now }
     ensures board { result.0.board ≡ seat.board }
-    ensures ok { IfOk result.1 (λ results. HasWorked jobs.now seat.view result.0.view results.items) }
+    ensures ok { IfOk result.1 (λ results.
+        HasWorked jobs.now seat.view result.0.view results.items) }
     ensures err { OnErr result.1 (result.0 ≡ seat) }
 {
     let mut results = match Vec::with_capacity(alloc, jobs.len()) {
@@ -47,7 +51,8 @@ pub fn work<R: Wait, G: JobGate>(
     (seat, Ok(results))
 }
 
-/// Does a job that the seat has drawn: waits for a pass, has the job run, gives the pass back, and finishes the job.
+/// Does a job that the seat has drawn: waits for a pass, has the job run, gives the pass back, and
+/// finishes the job.
 fn do_job<R: Wait, G: JobGate>(
     rt: &R,
     alloc: Global,
