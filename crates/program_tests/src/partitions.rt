@@ -58,7 +58,8 @@ fn make_and_write_ten<R: Host>(
     Ok(())
 }
 
-/// Asserts that ten cycles of the machine of `two_level_tree`, cut so and made by these workers, have that trace's lines.
+/// Asserts that ten cycles of the machine of `two_level_tree`, cut so and made by these workers,
+/// have that trace's lines.
 fn check_lines<R: Host>(rt: &R, partition: &[u8], workers: Workers) -> Result<(), Fail> {
     let config = settings_from(rt.alloc(), b"stages = 2")?;
     let program = assemble(rt.alloc(), ADDS_NUMBER)?;

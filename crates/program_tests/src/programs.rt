@@ -37,7 +37,8 @@ const ORDER: [&str; 4] = ["ultra", "order", "c.toml", "p.s"];
 /// A run by three workers.
 const RUN_BY_THREE: [&str; 6] = ["ultra", "run", "c.toml", "p.s", "--workers", "3"];
 
-/// Asserts what a command does with settings and a program: its status, and what it writes to standard output and standard error.
+/// Asserts what a command does with settings and a program: its status, and what it writes to
+/// standard output and standard error.
 fn check_command<R: Host>(
     rt: &R,
     words: &[&str],
@@ -115,7 +116,8 @@ fn all_numbers_of_stages_run(rt: HostRuntime) -> Result<(), Fail> {
     Ok(())
 }
 
-/// Asserts what `ultra list p.s` does with a program: its status, and what it writes to standard output and standard error.
+/// Asserts what `ultra list p.s` does with a program: its status, and what it writes to standard
+/// output and standard error.
 fn check_list<R: Host>(rt: &R, program: &[u8], wanted: (u8, &str, &str)) -> Result<(), Fail> {
     let files = [("p.s", program)];
     let ended = call(rt, &["ultra", "list", "p.s"], &files);
@@ -278,7 +280,8 @@ fn orders_are_refused(rt: HostRuntime) -> Result<(), Fail> {
     Ok(())
 }
 
-/// The program of `long_orders_are_written_in_pieces`: one processing element loads cell 0 so often.
+/// The program of `long_orders_are_written_in_pieces`: one processing element loads cell 0 so
+/// often.
 fn many_loads<R: AllocGlobal>(rt: &R, count: usize) -> Result<String, Fail> {
     let mut program = String::from_str(rt.alloc(), "pid r1\njnz r1 end\n")?;
     program.push_str("ld r3 r0\n".repeat(rt.alloc(), count)?.as_str())?;
@@ -286,7 +289,8 @@ fn many_loads<R: AllocGlobal>(rt: &R, count: usize) -> Result<String, Fail> {
     Ok(program)
 }
 
-/// An order of more bytes than are written at once; then where standard output fails at its second write.
+/// An order of more bytes than are written at once; then where standard output fails at its second
+/// write.
 #[test]
 fn long_orders_are_written_in_pieces(rt: HostRuntime) -> Result<(), Fail> {
     let settings = b"stages = 1\ncycles = 3000";
@@ -337,7 +341,8 @@ fn files_are_read_in_order(rt: HostRuntime) -> Result<(), Fail> {
     Ok(())
 }
 
-/// Asserts that the words are a usage fault, though the files are there, and that its text says this.
+/// Asserts that the words are a usage fault, though the files are there, and that its text says
+/// this.
 fn check_usage_fault<R: Host>(rt: &R, words: &[&str], told: &str) -> Result<(), Fail> {
     let files: [(&str, &[u8]); 2] = [("c.toml", b"stages = 1"), ("p.s", b"halt")];
     let ended = call(rt, words, &files);
@@ -416,7 +421,8 @@ fn help_goes_to_standard_output(rt: HostRuntime) -> Result<(), Fail> {
     Ok(())
 }
 
-/// The text of the words' command where standard output takes at most 4 bytes a write, and fails at its third write.
+/// The text of the words' command where standard output takes at most 4 bytes a write, and fails at
+/// its third write.
 fn short_failing_sink<R: Host>(rt: &R, words: &[&str]) -> Result<String, Fail> {
     let files: [(&str, &[u8]); 2] = [("c.toml", b"stages = 1"), ("p.s", ADDS_ONE.as_bytes())];
     let mut shelf = Shelf {
@@ -437,7 +443,7 @@ fn short_failing_sink<R: Host>(rt: &R, words: &[&str]) -> Result<String, Fail> {
 }
 
 #[test]
-fn a_beginning_is_written_to_a_short_failing_sink(rt: HostRuntime) -> Result<(), Fail> {
+fn a_prefix_is_written_to_a_short_failing_sink(rt: HostRuntime) -> Result<(), Fail> {
     let trace = short_failing_sink(&rt, &RUN)?;
     assert_eq!(rt; trace.as_str(), "ultra tr");
     let trace = short_failing_sink(&rt, &RUN_BY_THREE)?;

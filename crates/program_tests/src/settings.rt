@@ -82,7 +82,7 @@ static REFUSED: [(&str, SettingsFault); 14] = [
 ];
 
 #[test]
-fn refused_settings_are_told(rt: HostRuntime) -> Result<(), Fail> {
+fn refused_settings_are_reported(rt: HostRuntime) -> Result<(), Fail> {
     for (text, wanted) in REFUSED {
         assert_eq!(rt; fault(rt.alloc(), text), Some(wanted), "{text}");
     }

@@ -15,7 +15,8 @@ use ultra_cli::{Failure, give_up, main_with};
 use ultra_io::{FileSource, Stream};
 use ultra_msg::Sink;
 
-/// Calls `main_with` with the program's own words and files, and with these streams. An error says that the words
+/// Calls `main_with` with the program's own words and files, and with these streams. An error says
+/// that the words
 /// couldn't be had; nothing is written then.
 fn start<R: AllocGlobal + Env + Files + Threads + Wait + Sync, O: Sink, E: Sink>(
     rt: &R,
@@ -24,7 +25,8 @@ fn start<R: AllocGlobal + Env + Files + Threads + Wait + Sync, O: Sink, E: Sink>
 ) -> io::Result<u8>
     ensures status { IfOk result (λ s. IsStatus s) }
     ensures nothing { IfOk result (λ s. IsRefusal s → O.taken out.new ≡ O.taken out.old) }
-    ensures counted { IfOk result (λ s. O.failures out.new ≡ O.failures out.old + status_failures s) }
+    ensures counted { IfOk result
+        (λ s. O.failures out.new ≡ O.failures out.old + status_failures s) }
     ensures silent { IfOk result (λ s. s ≡ 0 → E.taken err.new ≡ E.taken err.old) }
     ensures no_words { OnErr result (O.taken out.new ≡ O.taken out.old) }
     ensures no_word_of_it { OnErr result (E.taken err.new ≡ E.taken err.old) }

@@ -48,7 +48,7 @@ abbrev pub write_failures : Failure → ℕ
 write_failures NotWritten = 1
 write_failures _ = 0
 
--- the beginning of the line of a refused file
+-- how the line of a refused file begins
 abbrev pub path_text : List ℕ → List ℕ
 path_text path = codes "ultra: " ++ path ++ codes ": "
 

@@ -102,7 +102,7 @@ pub data GaveNothing (conf prog : List ℕ) (old new : List File) (f : Failure) 
 abbrev pub IsStopped : Failure → Type 0
 IsStopped f = (f ≡ NoMemory) ⊎ (f ≡ NotWritten)
 
--- why a run by so many workers ended early: one worker needs no thread to be started
+-- why a run by n workers ended early: one worker needs no thread to be started
 abbrev pub IsStoppedBy : ℕ → Failure → Type 0
 IsStoppedBy workers f = IsStopped f ⊎ ((f ≡ NoThread) × (workers ≢ 1))
 

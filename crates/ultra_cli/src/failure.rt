@@ -80,7 +80,8 @@ impl<'a> From<RunFault> for Failure<'a> {
 }
 
 impl Failure<'_> {
-    /// The status that the program ends with: 2 for a usage fault, 3 for refused input, 4 for want of memory or of a thread, 5 for a failed write.
+    /// The status that the program ends with: 2 for a usage fault, 3 for refused input, 4 for want
+    /// of memory or of a thread, 5 for a failed write.
     pub fn status(&self) -> u8
         ensures { result ≡ status_of self.now }
     {
@@ -97,11 +98,13 @@ impl Failure<'_> {
         }
     }
 
-    /// Writes what goes to standard error: the text of a usage fault, else one line. It takes no memory.
+    /// Writes what goes to standard error: the text of a usage fault, else one line. It takes no
+    /// memory.
     pub fn write_to<E: Sink>(&self, err: &mut E) -> Result<(), SinkFault>
         ensures ok { OnOk result (E.taken err.new ≡ E.taken err.old ++ text_of self.now) }
         ensures still { OnOk result (E.failures err.new ≡ E.failures err.old) }
-        ensures err { OnErr result (IsBeginning (E.taken err.new) (E.taken err.old ++ text_of self.now)) }
+        ensures err { OnErr result (IsBeginning (E.taken err.new)
+            (E.taken err.old ++ text_of self.now)) }
         ensures counted { OnErr result (E.failures err.new ≡ E.failures err.old + 1) }
     {
         self.write_text(err)
@@ -109,7 +112,8 @@ impl Failure<'_> {
 
     /// Writes what `write_to` writes.
     fn write_text<E: Sink>(&self, err: &mut E) -> Result<(), SinkFault>
-        ensures { Writes result (text_of self.now) (E.taken err.old) (E.taken err.new) (E.failures err.old) (E.failures err.new) }
+        ensures { Writes result (text_of self.now) (E.taken err.old) (E.taken err.new)
+            (E.failures err.old) (E.failures err.new) }
     {
         match self {
             Failure::Usage(text) => write_all(err, text.as_bytes()),
@@ -129,14 +133,16 @@ impl Failure<'_> {
 
 /// Writes the line of a file that can't be read.
 fn write_unread<E: Sink>(err: &mut E, path: &str) -> Result<(), SinkFault>
-    ensures { Writes result (codes "ultra: cannot read " ++ path.now ++ codes "\n") (E.taken err.old) (E.taken err.new) (E.failures err.old) (E.failures err.new) }
+    ensures { Writes result (codes "ultra: cannot read " ++ path.now ++ codes "\n")
+        (E.taken err.old) (E.taken err.new) (E.failures err.old) (E.failures err.new) }
 {
     write_pieces(err, &[b"ultra: cannot read ", path.as_bytes(), b"\n"])
 }
 
 /// Writes the line of a refused file: its path, and what is wrong with it.
 fn write_refusal<E: Sink>(err: &mut E, path: &str, what: &str) -> Result<(), SinkFault>
-    ensures { Writes result (path_text path.now ++ what.now ++ codes "\n") (E.taken err.old) (E.taken err.new) (E.failures err.old) (E.failures err.new) }
+    ensures { Writes result (path_text path.now ++ what.now ++ codes "\n") (E.taken err.old)
+        (E.taken err.new) (E.failures err.old) (E.failures err.new) }
 {
     write_pieces(
         err,
@@ -146,7 +152,8 @@ fn write_refusal<E: Sink>(err: &mut E, path: &str, what: &str) -> Result<(), Sin
 
 /// Writes the line of settings with a bad value of this name.
 fn write_bad_value<E: Sink>(err: &mut E, path: &str, name: &str) -> Result<(), SinkFault>
-    ensures { Writes result (path_text path.now ++ codes "bad " ++ name.now ++ codes "\n") (E.taken err.old) (E.taken err.new) (E.failures err.old) (E.failures err.new) }
+    ensures { Writes result (path_text path.now ++ codes "bad " ++ name.now ++ codes "\n")
+        (E.taken err.old) (E.taken err.new) (E.failures err.old) (E.failures err.new) }
 {
     write_pieces(
         err,
@@ -168,7 +175,9 @@ fn write_bad_line<E: Sink>(
     line: usize,
     kind: AsmFaultKind,
 ) -> Result<(), SinkFault>
-    ensures { Writes result (path_text path.now ++ codes "line " ++ decimal line ++ codes ": " ++ kind_text kind ++ codes "\n") (E.taken err.old) (E.taken err.new) (E.failures err.old) (E.failures err.new) }
+    ensures { Writes result
+        (path_text path.now ++ codes "line " ++ decimal line ++ codes ": " ++ kind_text kind ++
+        codes "\n") (E.taken err.old) (E.taken err.new) (E.failures err.old) (E.failures err.new) }
 {
     let mut digits = Buffer::new();
     write_line_fault(err, path, digits.format(line), kind_text(kind))
@@ -181,7 +190,9 @@ fn write_line_fault<E: Sink>(
     number: &str,
     what: &str,
 ) -> Result<(), SinkFault>
-    ensures { Writes result (path_text path.now ++ codes "line " ++ number.now ++ codes ": " ++ what.now ++ codes "\n") (E.taken err.old) (E.taken err.new) (E.failures err.old) (E.failures err.new) }
+    ensures { Writes result
+        (path_text path.now ++ codes "line " ++ number.now ++ codes ": " ++ what.now ++ codes "\n")
+        (E.taken err.old) (E.taken err.new) (E.failures err.old) (E.failures err.new) }
 {
     write_pieces(
         err,

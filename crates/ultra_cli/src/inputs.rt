@@ -23,17 +23,21 @@ pub struct Inputs {
     pub program: Program,
 }
 
-/// The settings and the program of the files at two paths. The settings are accepted before the program is read.
+/// The settings and the program of the files at two paths. The settings are accepted before the
+/// program is read.
 pub fn read_inputs<'p, F: Source>(
     alloc: Global,
     settings_path: &'p str,
     program_path: &'p str,
     source: &mut F,
 ) -> Result<Inputs, Failure<'p>>
-    ensures ok { IfOk result (λ inputs. Gave settings_path.now program_path.now (F.files source.old) (F.files source.new) inputs.config inputs.program) }
-    ensures err { IfErr result (GaveNothing settings_path.now program_path.now (F.files source.old) (F.files source.new)) }
+    ensures ok { IfOk result (λ inputs. Gave settings_path.now program_path.now
+        (F.files source.old) (F.files source.new) inputs.config inputs.program) }
+    ensures err { IfErr result (GaveNothing settings_path.now program_path.now
+        (F.files source.old) (F.files source.new)) }
     ensures still { OnOk result (F.failures source.new ≡ F.failures source.old) }
-    ensures counted { IfErr result (λ f. F.failures source.new ≡ F.failures source.old + read_failures f) }
+    ensures counted { IfErr result
+        (λ f. F.failures source.new ≡ F.failures source.old + read_failures f) }
 {
     let config = read_settings(alloc, settings_path, source)?;
     let program = read_program(alloc, program_path, source)?;
@@ -46,10 +50,13 @@ fn read_settings<'p, F: Source>(
     path: &'p str,
     source: &mut F,
 ) -> Result<Config, Failure<'p>>
-    ensures ok { IfOk result (FileGave IsAccepted path.now (F.files source.old) (F.files source.new)) }
-    ensures err { IfErr result (FileGaveNothing ExplainsSettings path.now (F.files source.old) (F.files source.new)) }
+    ensures ok { IfOk result (FileGave IsAccepted path.now (F.files source.old)
+        (F.files source.new)) }
+    ensures err { IfErr result (FileGaveNothing ExplainsSettings path.now (F.files source.old)
+        (F.files source.new)) }
     ensures still { OnOk result (F.failures source.new ≡ F.failures source.old) }
-    ensures counted { IfErr result (λ f. F.failures source.new ≡ F.failures source.old + read_failures f) }
+    ensures counted { IfErr result
+        (λ f. F.failures source.new ≡ F.failures source.old + read_failures f) }
 {
     let text = read_file(alloc, path, source)?;
     accept_settings(alloc, path, text.as_slice())
@@ -61,10 +68,13 @@ pub fn read_program<'p, F: Source>(
     path: &'p str,
     source: &mut F,
 ) -> Result<Program, Failure<'p>>
-    ensures ok { IfOk result (FileGave IsProgramOf path.now (F.files source.old) (F.files source.new)) }
-    ensures err { IfErr result (FileGaveNothing ExplainsProgram path.now (F.files source.old) (F.files source.new)) }
+    ensures ok { IfOk result (FileGave IsProgramOf path.now (F.files source.old)
+        (F.files source.new)) }
+    ensures err { IfErr result (FileGaveNothing ExplainsProgram path.now (F.files source.old)
+        (F.files source.new)) }
     ensures still { OnOk result (F.failures source.new ≡ F.failures source.old) }
-    ensures counted { IfErr result (λ f. F.failures source.new ≡ F.failures source.old + read_failures f) }
+    ensures counted { IfErr result
+        (λ f. F.failures source.new ≡ F.failures source.old + read_failures f) }
 {
     let text = read_file(alloc, path, source)?;
     accept_program(alloc, path, text.as_slice())
@@ -76,11 +86,13 @@ fn read_file<'p, F: Source>(
     path: &'p str,
     source: &mut F,
 ) -> Result<Vec<u8>, Failure<'p>>
-    ensures ok { IfOk result (λ v. F.files source.new ≡ F.files source.old ++ file_of path.now v.items ∷ []) }
+    ensures ok { IfOk result
+        (λ v. F.files source.new ≡ F.files source.old ++ file_of path.now v.items ∷ []) }
     ensures still { OnOk result (F.failures source.new ≡ F.failures source.old) }
     ensures err { IfErr result (IsUnread path.now) }
     ensures none { OnErr result (F.files source.new ≡ F.files source.old) }
-    ensures counted { IfErr result (λ f. F.failures source.new ≡ F.failures source.old + read_failures f) }
+    ensures counted { IfErr result
+        (λ f. F.failures source.new ≡ F.failures source.old + read_failures f) }
 {
     match source.read(alloc, path) {
         Ok(bytes) => Ok(bytes),

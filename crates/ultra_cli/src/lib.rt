@@ -1,4 +1,5 @@
-//! The program `ultra` as a library: what it does with the words of its command line, its files and its streams.
+//! The program `ultra` as a library: what it does with the words of its command line, its files and
+//! its streams.
 #![tactic(auto)]
 
 ghost use Rattle.std.specs.Prelude.{◌≡◌, ◌≢◌, ◌+◌, ◌++◌, IfErr, OnOk};
@@ -21,9 +22,12 @@ use ultra_command_line::{Command, Parsed, parse};
 use ultra_io::Source;
 use ultra_msg::{Sink, write_all};
 
-/// Does what the words ask for, and answers the status that the program ends with: 0 done, 2 a usage fault, 3 refused input, 4 no memory or no thread, 5 a failed write.
+/// Does what the words ask for, and answers the status that the program ends with: 0 done, 2 a
+/// usage fault, 3 refused input, 4 no memory or no thread, 5 a failed write.
 ///
-/// The first word is the program's name. Results and help go to `out`; what is wrong goes to `err`. Which words ask for what, and the texts of help and usage faults, are `clap`'s, and shown by tests. A run by several workers starts threads, and the call may wait for them.
+/// The first word is the program's name. Results and help go to `out`; what is wrong goes to `err`.
+/// Which words ask for what, and the texts of help and usage faults, are `clap`'s, and shown by
+/// tests. A run by several workers starts threads, and the call may wait for them.
 pub fn main_with<'w, R: AllocGlobal + Threads + Wait + Sync, F: Source, O: Sink, E: Sink>(
     rt: &R,
     words: &'w [&'w str],
@@ -37,7 +41,8 @@ pub fn main_with<'w, R: AllocGlobal + Threads + Wait + Sync, F: Source, O: Sink,
     ensures done { result ≡ 0 → (p : Parsed) × Obeyed p
         (traffic (F.files source.old) (O.taken out.old)) (traffic (F.files source.new) (O.taken out.new)) }
     ensures silent { result ≡ 0 → E.taken err.new ≡ E.taken err.old }
-    ensures failed { result ≢ 0 → (p : Parsed) × (f : Failure) × (status_of f ≡ result) × NotObeyed p
+    ensures failed { result ≢ 0 → (p : Parsed) × (f : Failure) ×
+        (status_of f ≡ result) × NotObeyed p
         (traffic (F.files source.old) (O.taken out.old)) (traffic (F.files source.new) (O.taken out.new)) f
         × IsBeginning (E.taken err.new) (E.taken err.old ++ text_of f) }
 {
@@ -59,7 +64,8 @@ fn obey<'w, R: AllocGlobal + Threads + Wait + Sync, F: Source, O: Sink>(
     ensures err { IfErr result (NotObeyed parsed.entry
         (traffic (F.files source.old) (O.taken out.old)) (traffic (F.files source.new) (O.taken out.new))) }
     ensures write_still { OnOk result (O.failures out.new ≡ O.failures out.old) }
-    ensures write_counted { IfErr result (λ f. O.failures out.new ≡ O.failures out.old + write_failures f) }
+    ensures write_counted { IfErr result
+        (λ f. O.failures out.new ≡ O.failures out.old + write_failures f) }
 {
     match parsed {
         Parsed::Command(command) => carry_out(rt, command, source, out),
@@ -84,7 +90,8 @@ fn carry_out<'w, R: AllocGlobal + Threads + Wait + Sync, F: Source, O: Sink>(
     ensures err { IfErr result (NotObeyed (Parsed.Command command.entry)
         (traffic (F.files source.old) (O.taken out.old)) (traffic (F.files source.new) (O.taken out.new))) }
     ensures write_still { OnOk result (O.failures out.new ≡ O.failures out.old) }
-    ensures write_counted { IfErr result (λ f. O.failures out.new ≡ O.failures out.old + write_failures f) }
+    ensures write_counted { IfErr result
+        (λ f. O.failures out.new ≡ O.failures out.old + write_failures f) }
 {
     let alloc = rt.alloc();
     match command {
@@ -100,11 +107,13 @@ fn carry_out<'w, R: AllocGlobal + Threads + Wait + Sync, F: Source, O: Sink>(
     }
 }
 
-/// Tells a failure, and answers its status. Where `err` fails too, the status alone tells it.
+/// Reports a failure on `err`, and answers its status. Where `err` fails too, the status alone
+/// reports it.
 pub fn give_up<E: Sink>(failure: &Failure, err: &mut E) -> u8
     ensures status { result ≡ status_of failure.now }
     ensures told { IsBeginning (E.taken err.new) (E.taken err.old ++ text_of failure.now) }
-    ensures whole { E.failures err.new ≡ E.failures err.old → E.taken err.new ≡ E.taken err.old ++ text_of failure.now }
+    ensures whole { E.failures err.new ≡ E.failures err.old → E.taken err.new ≡ E.taken err.old ++
+        text_of failure.now }
 {
     let _ = failure.write_to(err);
     failure.status()

@@ -19,7 +19,9 @@ use ultra_serial::Entry;
 /// A text of this many bytes is written; a shorter one waits for the next line.
 const PIECE_BYTES: usize = 4096;
 
-/// Reads settings and a program, and writes the serial order of the run to `out`, a line for each request that was served. Each file is accepted before the next is read, and both before a byte is written.
+/// Reads settings and a program, and writes the serial order of the run to `out`, a line for each
+/// request that was served. Each file is accepted before the next is read, and both before a byte
+/// is written.
 pub fn order<'p, F: Source, O: Sink>(
     alloc: Global,
     settings_path: &'p str,
@@ -32,9 +34,11 @@ pub fn order<'p, F: Source, O: Sink>(
     ensures err { IfErr result (TextFails order_of IsStopped settings_path.now program_path.now
         (traffic (F.files source.old) (O.taken out.old)) (traffic (F.files source.new) (O.taken out.new))) }
     ensures read_still { OnOk result (F.failures source.new ≡ F.failures source.old) }
-    ensures read_counted { IfErr result (λ f. F.failures source.new ≡ F.failures source.old + read_failures f) }
+    ensures read_counted { IfErr result
+        (λ f. F.failures source.new ≡ F.failures source.old + read_failures f) }
     ensures write_still { OnOk result (O.failures out.new ≡ O.failures out.old) }
-    ensures write_counted { IfErr result (λ f. O.failures out.new ≡ O.failures out.old + write_failures f) }
+    ensures write_counted { IfErr result
+        (λ f. O.failures out.new ≡ O.failures out.old + write_failures f) }
 {
     let Inputs { config, program } = read_inputs(alloc, settings_path, program_path, source)?;
     let list = ultra_serial::order(alloc, &config, &program, config.cycles())?;
@@ -45,10 +49,12 @@ pub fn order<'p, F: Source, O: Sink>(
 /// Writes the lines of a serial list.
 fn write_order<'p, O: Sink>(alloc: Global, list: &[Entry], out: &mut O) -> Result<(), Failure<'p>>
     ensures ok { OnOk result (O.taken out.new ≡ O.taken out.old ++ order_text list.now) }
-    ensures err { OnErr result (IsBeginning (O.taken out.new) (O.taken out.old ++ order_text list.now)) }
+    ensures err { OnErr result (IsBeginning (O.taken out.new)
+        (O.taken out.old ++ order_text list.now)) }
     ensures stopped { IfErr result IsStopped }
     ensures still { OnOk result (O.failures out.new ≡ O.failures out.old) }
-    ensures counted { IfErr result (λ f. O.failures out.new ≡ O.failures out.old + write_failures f) }
+    ensures counted { IfErr result
+        (λ f. O.failures out.new ≡ O.failures out.old + write_failures f) }
 {
     let mut text = Vec::new(alloc);
     for entry in list {
@@ -58,17 +64,22 @@ fn write_order<'p, O: Sink>(alloc: Global, list: &[Entry], out: &mut O) -> Resul
     Ok(())
 }
 
-/// Puts the line of a request with its reply at the end of the text that waits. A text of `PIECE_BYTES` bytes or more is handed on.
+/// Puts the line of a request with its reply at the end of the text that waits. A text of
+/// `PIECE_BYTES` bytes or more is handed on.
 fn write_line<'p, O: Sink>(
     text: &mut Vec<u8>,
     entry: &Entry,
     out: &mut O,
 ) -> Result<(), Failure<'p>>
-    ensures ok { OnOk result (O.taken out.new ++ text.new.items ≡ O.taken out.old ++ text.old.items ++ order_line entry.now) }
-    ensures err { OnErr result (IsBeginning (O.taken out.new) (O.taken out.old ++ text.old.items ++ order_line entry.now)) }
+    ensures ok { OnOk result
+        (O.taken out.new ++ text.new.items ≡ O.taken out.old ++ text.old.items ++ order_line
+        entry.now) }
+    ensures err { OnErr result (IsBeginning (O.taken out.new)
+        (O.taken out.old ++ text.old.items ++ order_line entry.now)) }
     ensures stopped { IfErr result IsStopped }
     ensures still { OnOk result (O.failures out.new ≡ O.failures out.old) }
-    ensures counted { IfErr result (λ f. O.failures out.new ≡ O.failures out.old + write_failures f) }
+    ensures counted { IfErr result
+        (λ f. O.failures out.new ≡ O.failures out.old + write_failures f) }
 {
     put_line(text, entry)?;
     if text.len() < PIECE_BYTES {
@@ -132,7 +143,8 @@ fn put_reply(text: &mut Vec<u8>, reply: Reply) -> Result<(), AllocError>
 
 /// Puts bytes at the end of a text, then a number, a blank and another number.
 fn put_numbers(text: &mut Vec<u8>, bytes: &[u8], first: u32, second: u32) -> Result<(), AllocError>
-    ensures { OnOk result (text.new.items ≡ text.old.items ++ (bytes.now ++ decimal first ++ codes " " ++ decimal second)) }
+    ensures { OnOk result (text.new.items ≡ text.old.items ++
+        (bytes.now ++ decimal first ++ codes " " ++ decimal second)) }
 {
     put_number(text, bytes, first)?;
     put_number(text, b" ", second)

@@ -16,7 +16,9 @@ use ultra_crew::Gate;
 use ultra_io::Source;
 use ultra_msg::Sink;
 
-/// Reads settings and a program, runs the program by so many workers and writes its trace to `out`: the same bytes for every number of workers. Each file is accepted before the next is read, and both before a byte is written. The call may wait.
+/// Reads settings and a program, runs the program by `workers` threads and writes its trace to
+/// `out`: the same bytes for every number of workers. Each file is accepted before the next is
+/// read, and both before a byte is written. The call may wait.
 pub fn run<'p, R: Threads + Wait + Sync, F: Source, O: Sink>(
     rt: &R,
     alloc: Global,
@@ -28,12 +30,15 @@ pub fn run<'p, R: Threads + Wait + Sync, F: Source, O: Sink>(
 ) -> Result<(), Failure<'p>>
     ensures ok { OnOk result (WroteText trace settings_path.now program_path.now
         (traffic (F.files source.old) (O.taken out.old)) (traffic (F.files source.new) (O.taken out.new))) }
-    ensures err { IfErr result (TextFails trace (IsStoppedBy workers.count) settings_path.now program_path.now
+    ensures err { IfErr result (TextFails trace
+        (IsStoppedBy workers.count) settings_path.now program_path.now
         (traffic (F.files source.old) (O.taken out.old)) (traffic (F.files source.new) (O.taken out.new))) }
     ensures read_still { OnOk result (F.failures source.new ≡ F.failures source.old) }
-    ensures read_counted { IfErr result (λ f. F.failures source.new ≡ F.failures source.old + read_failures f) }
+    ensures read_counted { IfErr result
+        (λ f. F.failures source.new ≡ F.failures source.old + read_failures f) }
     ensures write_still { OnOk result (O.failures out.new ≡ O.failures out.old) }
-    ensures write_counted { IfErr result (λ f. O.failures out.new ≡ O.failures out.old + write_failures f) }
+    ensures write_counted { IfErr result
+        (λ f. O.failures out.new ≡ O.failures out.old + write_failures f) }
 {
     let Inputs { config, program } = read_inputs(alloc, settings_path, program_path, source)?;
     let count = workers.count;

@@ -49,7 +49,8 @@ pub enum Parsed<'w> {
 
 /// What the words tell; the first is the program's name.
 ///
-/// The contract says only that it is safe and returns. Which words are which command and what the texts say is `clap`'s, and is shown by tests.
+/// The contract says only that it is safe and returns. Which words are which command and what the
+/// texts say is `clap`'s, and is shown by tests.
 pub fn parse<'w>(alloc: Global, words: &'w [&'w str]) -> Parsed<'w> {
     match command_in(alloc, words) {
         Ok(command) => Parsed::Command(command),

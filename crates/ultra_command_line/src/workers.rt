@@ -5,7 +5,8 @@ ghost use Rattle.std.specs.Prelude.{◌≡◌, ◌≤◌, ◌↔◌, IfSome, IsS
 /// The most threads of the host that a run may have.
 const MOST_WORKERS: usize = 64;
 
-/// A number of workers, 1 to 64. One worker is the caller's thread; of several each has a thread of its own.
+/// A number of workers, 1 to 64. One worker is the caller's thread; of several each has a thread of
+/// its own.
 #[derive(Clone, Copy, PartialEq, Eq)]
 pub struct Workers {
     pub count: usize,
@@ -14,7 +15,7 @@ pub struct Workers {
 }
 
 impl Workers {
-    /// So many workers, or `None` where they aren't 1 to 64.
+    /// `count` workers, or `None` where `count` isn't 1 to 64.
     pub fn new(count: usize) -> Option<Workers>
         ensures in_range { IsSome result ↔ ((1 ≤ count) × (count ≤ 64)) }
         ensures value { IfSome result (λ w. w.count ≡ count) }

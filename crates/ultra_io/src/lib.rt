@@ -1,4 +1,5 @@
-//! Files that are read and streams that are written: what a program sees of them, and those of the host.
+//! Files that are read and streams that are written: what a program sees of them, and those of the
+//! host.
 #![tactic(auto)]
 
 mod account;

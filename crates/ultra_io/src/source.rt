@@ -30,10 +30,12 @@ pub trait Source {
 
     /// All bytes of the file at a path. `NotRead` comes only where the source failed in this call.
     fn read(&mut self, alloc: Global, path: &str) -> Result<Vec<u8>, SourceFault>
-        ensures ok { IfOk result (λ v. files self.new ≡ files self.old ++ file_of path.now v.items ∷ []) }
+        ensures ok { IfOk result
+            (λ v. files self.new ≡ files self.old ++ file_of path.now v.items ∷ []) }
         ensures still { OnOk result (failures self.new ≡ failures self.old) }
         ensures err { OnErr result (files self.new ≡ files self.old) }
-        ensures counted { IfErr result (λ f. failures self.new ≡ failures self.old + failures_of f) };
+        ensures counted { IfErr result
+            (λ f. failures self.new ≡ failures self.old + failures_of f) };
 }
 
 /// The files of a file system of std.

@@ -1,4 +1,5 @@
-//! The text of the settings of a machine, which is TOML. Keys, kinds and defaults are this project's profile.
+//! The text of the settings of a machine, which is TOML. Keys, kinds and defaults are this
+//! project's profile.
 #![tactic(auto)]
 
 ghost use Rattle.std.specs.Prelude.{◌≡◌, false, not, None, IfOk, IfErr, option_map, string_bytes};
@@ -36,7 +37,8 @@ pub enum SettingsFault {
     /// The bytes aren't UTF-8, or the text isn't TOML.
     #[error("not toml")]
     NotToml,
-    /// The first key, in the order of `Field`, whose value is missing, of another kind or out of range.
+    /// The first key, in the order of `Field`, whose value is missing, of another kind or out of
+    /// range.
     #[error("bad {0}")]
     BadField(Field),
     /// All keys are accepted, but there is one more.
@@ -72,7 +74,7 @@ struct Given {
     has_unknown_key: bool,
 }
 
-/// The settings that a text gives, not yet looked at. The fault is `NoMemory` or `NotToml`.
+/// The settings that a text gives, before they are checked. The fault is `NoMemory` or `NotToml`.
 fn given_settings(alloc: Global, bytes: &[u8]) -> Result<Given, SettingsFault>
     ensures ok { IfOk result (λ g. Gives bytes.now g.raw g.has_unknown_key) }
     ensures refused { IfErr result (ExplainsFault bytes.now) }
@@ -106,12 +108,14 @@ fn raw_settings(alloc: Global, table: &Table) -> Result<RawSettings, AllocError>
 
 /// The value at a key.
 fn value_at(table: &Table, field: Field) -> Option<&Value>
-    ensures { option_map (λ v. view v.now) result ≡ get_member (name_of field) (table_view table.now) }
+    ensures { option_map (λ v. view v.now) result ≡ get_member (name_of field)
+        (table_view table.now) }
 {
     table.get(field.name())
 }
 
-/// The integer at a key, or the default where the key is absent. `None` means that there is neither, or that the value is of another kind.
+/// The integer at a key, or the default where the key is absent. `None` means that there is
+/// neither, or that the value is of another kind.
 fn integer_at(table: &Table, field: Field, default: Option<i64>) -> Option<i64>
     ensures { result ≡ given_integer (table_view table.now) field default }
 {
@@ -121,9 +125,11 @@ fn integer_at(table: &Table, field: Field, default: Option<i64>) -> Option<i64>
     }
 }
 
-/// The initial cells of a table: none where the key is absent, and `None` where its value isn't an array of pairs of integers.
+/// The initial cells of a table: none where the key is absent, and `None` where its value isn't an
+/// array of pairs of integers.
 fn initial_in(alloc: Global, table: &Table) -> Result<Option<Vec<(i64, i64)>>, AllocError>
-    ensures { IfOk result (λ o. option_map (λ v. v.items) o ≡ given_initial (table_view table.now)) }
+    ensures { IfOk result (λ o. option_map (λ v. v.items) o ≡ given_initial
+        (table_view table.now)) }
 {
     let Some(value) = value_at(table, Field::Initial) else {
         return Ok(Some(Vec::new(alloc)));
@@ -182,9 +188,10 @@ fn is_key(text: &str) -> bool
 
 /// The settings that a text gives, once they are accepted.
 ///
-/// `BadField` tells the first key that isn't; `UnknownKey` comes only after all keys are accepted.
+/// `BadField` names the first key that isn't; `UnknownKey` comes only after all keys are accepted.
 pub fn settings_from(alloc: Global, bytes: &[u8]) -> Result<Config, SettingsFault>
-    ensures ok { IfOk result (λ c. (r : RawSettings) × Gives bytes.now r false × (first_bad r ≡ None) × (c ≡ settings_of r)) }
+    ensures ok { IfOk result (λ c. (r : RawSettings) × Gives bytes.now r false ×
+        (first_bad r ≡ None) × (c ≡ settings_of r)) }
     ensures refused { IfErr result (ExplainsFault bytes.now) }
 {
     let given = given_settings(alloc, bytes)?;
