@@ -108,6 +108,16 @@ zero_where c none a false e =
 pub zero_at_first : (c : Settings) → c.initial ≡ [] → (a : ℕ) → slice_index (start_para c).cells a ≡ 0
 zero_at_first c none a = zero_where c none a (nat_lt a (size c * c.cells)) refl
 
+-- these registers hold these numbers
+abbrev pub Knows : List (ℕ × ℕ) → List ℕ → Type 0
+Knows [] r = Unit {0}
+Knows (e ∷ es) r = (slice_index r e.0 ≡ e.1) × Knows es r
+
+-- the stage at a place, from each stage with the place before which it ends
+abbrev pub stage_at : {S : Type 0} → List (ℕ × S) → S → ℕ → S
+stage_at [] last k = last
+stage_at (e ∷ es) last k = elim (nat_lt k e.0) [ true ↦ e.1 | false ↦ stage_at es last k ]
+
 -- a step with what follows it
 infixr 20 ◌▹◌
 pub ◌▹◌ : {A B : Type 0} → A → B → A × B

@@ -1,0 +1,4 @@
+pub mod Schedules
+pub mod Gate
+pub mod ReadersWriters
+pub mod Barrier
