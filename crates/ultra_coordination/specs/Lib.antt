@@ -2,3 +2,4 @@ pub mod Schedules
 pub mod Gate
 pub mod ReadersWriters
 pub mod Barrier
+pub mod Queue

@@ -1,0 +1,5 @@
+pub mod Reading
+pub mod GateText
+pub mod ReadersWritersText
+pub mod BarrierText
+pub mod QueueText
