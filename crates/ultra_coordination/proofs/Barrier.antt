@@ -1,7 +1,6 @@
 -- the barrier's invariant
 use Rattle.std.proofs.Common.{◌≡◌, ◌≢◌, ℕ, suc, ◌+◌, ◌-◌, ◌<◌, ◌≤◌, ◌*◌, List, [], ◌∷◌, length, drop, Bool, true, false, refl, sym, ap, ◌∙◌, subst, add-one, arith}
-use Rattle.std.specs.Prelude.{◌%◌, ◌^◌, slice_set, slice_index, slice_index_or, nat_lt, sum_by, replicate, bit_and}
-use Rattle.std.specs.List.{AllByRecursion}
+use Rattle.std.specs.Prelude.{All, ◌%◌, ◌^◌, slice_set, slice_index, slice_index_or, nat_lt, sum_by, replicate, bit_and}
 use Rattle.std.proofs.lemmas.Grind.{common_steps, get_or-set_at}
 use Rattle.std.proofs.lemmas.List.{get_or-set_other, set-get_or}
 use Rattle.std.proofs.lemmas.List.Sums.{sum_by-cons}
@@ -323,7 +322,7 @@ module _ (rounds : ℕ) (some : 1 ≤ rounds) (few : rounds ≤ 1000) (c : Setti
   law : (s : Para) → Holds c Phase out Local Global s → AreInStep (size c) (slice_index s.cells)
   law s h p q a b = law_of s.cells h.phases p q h.as_many h.global a b
 
-  pub in_step : c.initial ≡ [] → (schedule : List ℕ) → AllByRecursion (λ p. p < size c) schedule → AreInStep (size c) (slice_index (run_para c (barrier rounds) (start_para c) schedule).cells)
+  pub in_step : c.initial ≡ [] → (schedule : List ℕ) → All (λ p. p < size c) schedule → AreInStep (size c) (slice_index (run_para c (barrier rounds) (start_para c) schedule).cells)
   in_step empty schedule elements =
       law _ (always c Phase out Local Global (barrier rounds) steps (λ p b. ((refl, tt), refl)) (first empty) schedule elements)
 

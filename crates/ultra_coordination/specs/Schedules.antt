@@ -1,6 +1,5 @@
 -- laws over the cells of a program that hold after every schedule of the paracomputer
-use Rattle.std.specs.Prelude.{◌≡◌, ℕ, zero, suc, ◌+◌, ◌<◌, List, [], slice_index}
-use Rattle.std.specs.List.{AllByRecursion}
+use Rattle.std.specs.Prelude.{All, ◌≡◌, ℕ, zero, suc, ◌+◌, ◌<◌, List, [], slice_index}
 use Rattle.ultra_isa.specs.declared.Instr.{Instr}
 use Rattle.ultra_model.specs.Machine.{Settings, size}
 use Rattle.ultra_model.specs.Ranges.{AreInRange}
@@ -17,4 +16,4 @@ total (suc n) f = f 0 + total n (λ k. f (suc k))
 
 -- for all settings in their ranges without initial values and every schedule, the law of so many processing elements holds
 abbrev pub IsKept : List Instr → (ℕ → Words → Type 0) → Type 0
-IsKept program Law = (c : Settings) → AreInRange c → c.initial ≡ [] → (schedule : List ℕ) → AllByRecursion (λ p. p < size c) schedule → Law (size c) (slice_index (run_para c program (start_para c) schedule).cells)
+IsKept program Law = (c : Settings) → AreInRange c → c.initial ≡ [] → (schedule : List ℕ) → All (λ p. p < size c) schedule → Law (size c) (slice_index (run_para c program (start_para c) schedule).cells)

@@ -1,7 +1,6 @@
 -- invariants of a program on the paracomputer, whatever the schedule: what holds at each place of the program, and what holds of the cells and of the phases that the processing elements are in
 use Rattle.std.proofs.Common.{◌≡◌, ◌≢◌, ℕ, zero, suc, ◌+◌, ◌*◌, ◌<◌, ◌≤◌, List, [], ◌∷◌, length, Bool, true, false, refl, sym, ap, ◌∙◌, subst, arith}
-use Rattle.std.specs.Prelude.{Option, Some, None, slice_get, slice_set, slice_index, slice_index_or, sum_by, nat_lt, ◌==◌, ◌/◌, ◌^◌, bit_and, if◌then◌else◌, replicate}
-use Rattle.std.specs.List.{AllByRecursion}
+use Rattle.std.specs.Prelude.{All, Option, Some, None, slice_get, slice_set, slice_index, slice_index_or, sum_by, nat_lt, ◌==◌, ◌/◌, ◌^◌, bit_and, if◌then◌else◌, replicate}
 use Rattle.std.proofs.lemmas.Bool.{eq-eqb}
 use Rattle.std.proofs.lemmas.Grind.{common_steps}
 use Rattle.std.proofs.lemmas.List.{get_or-set_same, get_or-set_other, set-get_or, get_or-replicate, get_or_past}
@@ -318,9 +317,9 @@ module _ (c : Settings) (Φ : Type 0) (out : Φ) (Local : ℕ → ℕ → List �
 
   -- ---- every schedule
   -- what holds before the steps of a schedule holds after them
-  pub holds_after : (program : List Instr) → AreKept 0 program → (schedule : List ℕ) → AllByRecursion (λ p. p < size c) schedule → (s : Para) → Holds s → Holds (run_para c program s schedule)
+  pub holds_after : (program : List Instr) → AreKept 0 program → (schedule : List ℕ) → All (λ p. p < size c) schedule → (s : Para) → Holds s → Holds (run_para c program s schedule)
   holds_after program kept [] elements s holds = holds
-  holds_after program kept (p ∷ ps) elements s holds = holds_after program kept ps elements.1 (para_step c program s p) (holds_next program kept s holds p elements.0)
+  holds_after program kept (p ∷ ps) elements s holds = holds_after program kept ps (λ k d h. elements (suc k) d (omega (arith, h))) (para_step c program s p) (holds_next program kept s holds p (elements 0 p (omega arith)))
 
   -- it holds at first
   pub holds_at_first : ((p : ℕ) → p < size c → Local p 0 (replicate 16 0) out) → Global (start_para c).cells (replicate (size c) out) → Holds (start_para c)
@@ -335,5 +334,5 @@ module _ (c : Settings) (Φ : Type 0) (out : Φ) (Local : ℕ → ℕ → List �
 
   -- the law of a program: what has to be shown of each instruction and of the first state, and so holds after every schedule
   pub always : (program : List Instr) → AreKept 0 program → ((p : ℕ) → p < size c → Local p 0 (replicate 16 0) out) → Global (start_para c).cells (replicate (size c) out)
-      → (schedule : List ℕ) → AllByRecursion (λ p. p < size c) schedule → Holds (run_para c program (start_para c) schedule)
+      → (schedule : List ℕ) → All (λ p. p < size c) schedule → Holds (run_para c program (start_para c) schedule)
   always program kept local global schedule elements = holds_after program kept schedule elements (start_para c) (holds_at_first local global)

@@ -1,7 +1,6 @@
 -- the ticket counter: no two processing elements have taken the same ticket
 use Rattle.std.proofs.Common.{◌≡◌, ◌≢◌, ℕ, ◌+◌, ◌<◌, ◌≤◌, ◌*◌, List, [], length, Bool, true, false, refl, sym, ap, ◌∙◌, subst, arith}
-use Rattle.std.specs.Prelude.{slice_set, slice_index, slice_index_or, nat_lt, sum_by, replicate}
-use Rattle.std.specs.List.{AllByRecursion}
+use Rattle.std.specs.Prelude.{All, slice_set, slice_index, slice_index_or, nat_lt, sum_by, replicate}
 use Rattle.std.proofs.lemmas.Grind.{common_steps, get_or-set_at}
 use Rattle.std.proofs.lemmas.List.Sums.{sum_by-le}
 use Rattle.std.proofs.lemmas.List.Folds.{sum_by-replicate}
@@ -92,7 +91,7 @@ module _ (c : Settings) (ranged : AreInRange c) where
   has : (p k : ℕ) (r : List ℕ) (φ : Phase) → 2 ≤ k → Local p k r φ → φ ≡ holds (slice_index r 1)
   has p k r φ past h = let late : nat_lt k 2 ≡ false = grind (arith, common_steps) in subst (λ (b : Bool). Stage b k r φ) late h
 
-  pub different : c.initial ≡ [] → (schedule : List ℕ) → AllByRecursion (λ p. p < size c) schedule → AreDifferent c (run_para c tickets (start_para c) schedule)
+  pub different : c.initial ≡ [] → (schedule : List ℕ) → All (λ p. p < size c) schedule → AreDifferent c (run_para c tickets (start_para c) schedule)
   different empty schedule elements p q below under apart past late same =
       let h = always c Phase none Local Global tickets steps (λ p b. (refl, (λ m. absurd (omega arith)), refl)) (first empty) schedule elements in
       let s = run_para c tickets (start_para c) schedule in

@@ -1,6 +1,5 @@
 -- a counter that hands out tickets, each once
-use Rattle.std.specs.Prelude.{◌≡◌, ◌≢◌, ℕ, ◌<◌, ◌≤◌, List, [], ◌∷◌, slice_index}
-use Rattle.std.specs.List.{AllByRecursion}
+use Rattle.std.specs.Prelude.{All, ◌≡◌, ◌≢◌, ℕ, ◌<◌, ◌≤◌, List, [], ◌∷◌, slice_index}
 use Rattle.ultra_isa.specs.declared.Instr.{Instr}
 use Rattle.ultra_isa.specs.declared.Instr.TheVariants.{Set, Faa, Fence, Halt}
 use Rattle.ultra_model.specs.Machine.{Settings, size}
@@ -24,4 +23,4 @@ AreDifferent c s = (p q : ℕ) → p < size c → q < size c → p ≢ q → Has
 
 -- for all settings in their ranges without initial values, and every schedule
 abbrev pub TicketsLaw : Type 0
-TicketsLaw = (c : Settings) → AreInRange c → c.initial ≡ [] → (schedule : List ℕ) → AllByRecursion (λ p. p < size c) schedule → AreDifferent c (run_para c tickets (start_para c) schedule)
+TicketsLaw = (c : Settings) → AreInRange c → c.initial ≡ [] → (schedule : List ℕ) → All (λ p. p < size c) schedule → AreDifferent c (run_para c tickets (start_para c) schedule)

@@ -1,6 +1,6 @@
 -- the paracomputer law: each cycle of the machine is some steps of the paracomputer, first those of the requests that act, in the order of the serial list, then those of the processing elements with no open cell
 use Rattle.std.proofs.Common.{◌≡◌, ℕ, zero, suc, ◌*◌, ◌<◌, ◌≤◌, List, [], ◌∷◌, ◌++◌, map, true, refl, arith, sym, ◌∙◌, ap, subst, inl, inr}
-use Rattle.std.specs.Prelude.{Option, Some, None, IfSome, ◌==◌}
+use Rattle.std.specs.Prelude.{Option, Some, None, IfSome, All, ◌==◌}
 use Rattle.std.specs.List.{AllByRecursion}
 use Rattle.ultra_msg.specs.declared.Request.{Request}
 use Rattle.ultra_msg.specs.declared.ReplyMessage.{ReplyMessage}
@@ -52,6 +52,11 @@ in-present x (None ∷ os) (inr h) = in-present x os h
 in-present x (Some y ∷ os) (inl e) = let same : y ≡ x = cc in inl same
 in-present x (Some y ∷ os) (inr h) = inr (in-present x os h)
 
+all_of : (P : ℕ → Type 0) (xs : List ℕ) → AllByRecursion P xs → All P xs
+all_of P [] h k d l = absurd (omega (arith, l))
+all_of P (x ∷ xs) h zero d l = h.0
+all_of P (x ∷ xs) h (suc k) d l = all_of P xs h.1 k d (omega (arith, l))
+
 module _ (c : Settings) (program : List Instr) where
   -- ---- replies
   module _ (is : List Issue) (list : List Done) (once : (p k : ℕ) → count (λ (d : Done). is_named p k (request_of d)) list ≤ 1) (p : ℕ) (q : Core) (e : Element) where
@@ -66,7 +71,7 @@ module _ (c : Settings) (range : AreInRange c) (program : List Instr) (careful :
   abbrev initial : Cells
   initial = given c.initial
 
-  -- the relation after so many cycles
+  -- the relation after n cycles
   abbrev Stands : ℕ → Para → Type 0
   Stands n v = AreRelated c program (history c program n).log.issues (replayed initial (history c program n).order) (cells_after initial (history c program n).order) (λ p. element_at (after c program n) p) v
 
@@ -284,7 +289,7 @@ module _ (c : Settings) (range : AreInRange c) (program : List Instr) (careful :
       let v = run_para c program (start_para c) r.schedule in
       record {
         schedule = r.schedule;
-        elements = r.elements;
+        elements = all_of (λ p. p < size c) r.schedule r.elements;
         looks = record {
           cells = λ a h. r.there.held a h ∙ (serial_after c range program n).cells a;
           cores = λ p hp e. same_core (history c program n).log.issues (replayed initial (history c program n).order) p (element_at (after c program n) p).core (element_at (after c program n) p).interface.opened (element_at (after c program n) p).issued (core_at v p) (r.there.elements p hp) e;
