@@ -1,5 +1,5 @@
 -- the barrier: its text is written for its program
-use Rattle.std.proofs.Common.{◌≡◌, ℕ, ◌+◌, ◌-◌, ◌*◌, ◌<◌, ◌≤◌, ◌^◌, List, [], ◌∷◌, ◌++◌, take, drop, codes, decimal, refl, sym, ◌∙◌, ap, subst, arith, lit≤}
+use Rattle.std.proofs.Common.{◌≡◌, ℕ, ◌+◌, ◌<◌, ◌^◌, List, [], ◌∷◌, ◌++◌, drop, codes, decimal, refl, sym, ap, subst, arith, lit≤}
 use Rattle.std.proofs.lemmas.Fmt.{decimal_digit}
 use Rattle.ultra_asm.specs.declared.instruction.Mnemonic.TheVariants.{Set}
 use Rattle.ultra_asm.specs.declared.instruction.Operand.TheVariants.{Number, Register}
@@ -9,7 +9,7 @@ use Rattle.ultra_asm.specs.ProgramText.{AreInstructions, statements, AreLinesOf,
 use Rattle.ultra_asm.proofs.Spelled.{operands_back}
 use Rattle.ultra_coordination.specs.Barrier.{barrier}
 use Rattle.ultra_colib.specs.Texts.{filled, barrier_pieces, barrier_numbers, barrier_text}
-use Rattle.ultra_colib.proofs.Reading.{Lines, words, number_line, decimal_eleven, labels_of}
+use Rattle.ultra_colib.proofs.Reading.{Lines, words, number_line, labels_of}
 
 module _ (rounds : ℕ) (rounds_small : rounds < 2 ^ 32) where
   -- the text behind the line with number i
@@ -26,33 +26,82 @@ module _ (rounds : ℕ) (rounds_small : rounds < 2 ^ 32) where
   lines_are = ap (λ ls. text_words (codes "pid r1\naddi r2 r1 8\nnp r3\nadd r4 r2 r3\nli r5 1\nsub r6 r3 r5\nli r7 0") ++ ls) line_0
 
   instructions : AreInstructions (place_of all_lines) (statements all_lines) (barrier rounds)
-  instructions =
-      ((refl, (refl, tt)),
-      ((refl, (refl, (refl, (refl, tt)))),
-      ((refl, (refl, tt)),
-      ((refl, (refl, (refl, (refl, tt)))),
-      ((refl, (refl, (refl, tt))),
-      ((refl, (refl, (refl, (refl, tt)))),
-      ((refl, (refl, (refl, tt))),
-      ((refl, operands_back (place_of all_lines) (Register 8 ∷ Number rounds ∷ []) (omega arith, (omega arith, tt)) (tt, (tt, tt))),
-      ((refl, (refl, (refl, (refl, tt)))),
-      ((refl, (refl, (refl, tt))),
-      ((refl, tt),
-      ((refl, (refl, (refl, (refl, tt)))),
-      ((refl, tt),
-      ((refl, (refl, (refl, (refl, tt)))),
-      ((refl, (refl, (refl, (refl, tt)))),
-      ((refl, (refl, (refl, (refl, tt)))),
-      ((refl, (refl, (refl, tt))),
-      ((refl, tt),
-      ((refl, (refl, (refl, (refl, tt)))),
-      ((refl, (refl, (refl, tt))),
-      ((refl, (refl, (refl, tt))),
-      ((refl, tt),
-      ((refl, (refl, (refl, (refl, tt)))),
-      ((refl, (refl, (refl, tt))),
-      ((refl, tt),
-      tt)))))))))))))))))))))))))
+  instructions = (
+    (refl, (refl, tt)),
+    (
+      (refl, (refl, (refl, (refl, tt)))),
+      (
+        (refl, (refl, tt)),
+        (
+          (refl, (refl, (refl, (refl, tt)))),
+          (
+            (refl, (refl, (refl, tt))),
+            (
+              (refl, (refl, (refl, (refl, tt)))),
+              (
+                (refl, (refl, (refl, tt))),
+                (
+                  (refl, operands_back (place_of all_lines) (Register 8 ∷ Number rounds ∷ []) (omega arith, (omega arith, tt)) (tt, (tt, tt))),
+                  (
+                    (refl, (refl, (refl, (refl, tt)))),
+                    (
+                      (refl, (refl, (refl, tt))),
+                      (
+                        (refl, tt),
+                        (
+                          (refl, (refl, (refl, (refl, tt)))),
+                          (
+                            (refl, tt),
+                            (
+                              (refl, (refl, (refl, (refl, tt)))),
+                              (
+                                (refl, (refl, (refl, (refl, tt)))),
+                                (
+                                  (refl, (refl, (refl, (refl, tt)))),
+                                  (
+                                    (refl, (refl, (refl, tt))),
+                                    (
+                                      (refl, tt),
+                                      (
+                                        (refl, (refl, (refl, (refl, tt)))),
+                                        (
+                                          (refl, (refl, (refl, tt))),
+                                          (
+                                            (refl, (refl, (refl, tt))),
+                                            (
+                                              (refl, tt),
+                                              (
+                                                (refl, (refl, (refl, (refl, tt)))),
+                                                (
+                                                  (refl, (refl, (refl, tt))),
+                                                  (
+                                                    (refl, tt),
+                                                    tt,
+                                                  ),
+                                                ),
+                                              ),
+                                            ),
+                                          ),
+                                        ),
+                                      ),
+                                    ),
+                                  ),
+                                ),
+                              ),
+                            ),
+                          ),
+                        ),
+                      ),
+                    ),
+                  ),
+                ),
+              ),
+            ),
+          ),
+        ),
+      ),
+    ),
+  )
 
   pub reads : IsProgramText (barrier_text rounds) (barrier rounds)
   reads = subst (λ (ls : Lines). AreLinesOf ls (barrier rounds)) (sym lines_are) record { labels = labels_of all_lines refl; instructions = instructions; short = lit≤ tt }

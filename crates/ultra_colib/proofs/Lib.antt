@@ -3,3 +3,5 @@ pub mod GateText
 pub mod ReadersWritersText
 pub mod BarrierText
 pub mod QueueText
+pub mod OnMachine
+pub mod Given

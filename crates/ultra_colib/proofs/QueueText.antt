@@ -1,5 +1,5 @@
 -- the queue: its text is written for its program
-use Rattle.std.proofs.Common.{◌≡◌, ℕ, ◌+◌, ◌-◌, ◌*◌, ◌<◌, ◌≤◌, ◌^◌, List, [], ◌∷◌, ◌++◌, take, drop, codes, decimal, refl, sym, ◌∙◌, ap, subst, arith, lit≤}
+use Rattle.std.proofs.Common.{◌≡◌, ℕ, ◌+◌, ◌-◌, ◌*◌, ◌<◌, ◌≤◌, ◌^◌, List, [], ◌∷◌, ◌++◌, drop, codes, decimal, refl, sym, ◌∙◌, ap, subst, arith, lit≤}
 use Rattle.std.proofs.lemmas.Fmt.{decimal_digit}
 use Rattle.std.proofs.Math.Pow.{pow_mono}
 use Rattle.ultra_asm.specs.declared.instruction.Mnemonic.TheVariants.{AddWord, Set, ShiftRight}
@@ -54,91 +54,256 @@ module _ (z : ℕ) (z_small : z ≤ 6) (rounds : ℕ) (rounds_small : rounds < 2
   lines_are = ap (λ ls. text_words (codes "pid r1\naddi r1 r1 1\nnp r2\nli r3 1") ++ ls) (line_0 ∙ ap (λ ls. words Set (Register 4 ∷ Number (2 ^ z) ∷ []) ∷ ls) ((line_1 ∙ ap (λ ls. words Set (Register 5 ∷ Number rounds ∷ []) ∷ ls) (ap (λ ls. text_words (codes "li r15 4294967295\nins:\nli r6 0\nld r7 r6\nfence\nslt r8 r7 r4\njz r8 ins\nfaa r7 r6 r3\nfence\nslt r8 r7 r4\njnz r8 put\nfaa r7 r6 r15\nfence\njmp ins\nput:\nli r6 2\nfaa r7 r6 r3\nfence") ++ ls) (line_2 ∙ ap (λ ls. words ShiftRight (Register 8 ∷ Register 7 ∷ Bits z ∷ []) ∷ ls) (ap (λ ls. text_words (codes "add r8 r8 r8") ++ ls) (line_3 ∙ ap (λ ls. words Set (Register 9 ∷ Number (2 ^ z - 1) ∷ []) ∷ ls) (ap (λ ls. text_words (codes "and r9 r7 r9\naddi r10 r9 8") ++ ls) (line_4 ∙ ap (λ ls. words AddWord (Register 11 ∷ Register 9 ∷ Number (8 + 2 ^ z) ∷ []) ∷ ls) (ap (λ ls. text_words (codes "turn1:\nld r12 r10\nfence\nseq r13 r12 r8\njz r13 turn1\nst r11 r1\nfence\naddi r8 r8 1\nst r10 r8\nfence\nli r6 1\nfaa r7 r6 r3\nfence\ndel:\nli r6 1\nld r7 r6\nfence\nsub r8 r7 r3\nslt r8 r8 r4\njz r8 del\nfaa r7 r6 r15\nfence\nsub r8 r7 r3\nslt r8 r8 r4\njnz r8 take\nfaa r7 r6 r3\nfence\njmp del\ntake:\nli r6 3\nfaa r7 r6 r3\nfence") ++ ls) (line_5 ∙ ap (λ ls. words ShiftRight (Register 8 ∷ Register 7 ∷ Bits z ∷ []) ∷ ls) (ap (λ ls. text_words (codes "add r8 r8 r8\naddi r8 r8 1") ++ ls) (line_6 ∙ ap (λ ls. words Set (Register 9 ∷ Number (2 ^ z - 1) ∷ []) ∷ ls) (ap (λ ls. text_words (codes "and r9 r7 r9\naddi r10 r9 8") ++ ls) (line_7 ∙ ap (λ ls. words AddWord (Register 11 ∷ Register 9 ∷ Number (8 + 2 ^ z) ∷ []) ∷ ls) (ap (λ ls. text_words (codes "turn2:\nld r12 r10\nfence\nseq r13 r12 r8\njz r13 turn2\nld r14 r11\nfence\naddi r8 r8 1\nst r10 r8\nfence\nli r6 0\nfaa r7 r6 r15\nfence") ++ ls) line_8))))))))))))))))
 
   instructions : AreInstructions (place_of all_lines) (statements all_lines) (queue z rounds)
-  instructions =
-      ((refl, (refl, tt)),
-      ((refl, (refl, (refl, (refl, tt)))),
-      ((refl, (refl, tt)),
-      ((refl, (refl, (refl, tt))),
-      ((refl, operands_back (place_of all_lines) (Register 4 ∷ Number (2 ^ z) ∷ []) (let few = places_small in (omega arith, (omega arith, tt))) (tt, (tt, tt))),
-      ((refl, operands_back (place_of all_lines) (Register 5 ∷ Number rounds ∷ []) (let few = places_small in (omega arith, (omega arith, tt))) (tt, (tt, tt))),
-      ((refl, (refl, (refl, tt))),
-      ((refl, (refl, (refl, tt))),
-      ((refl, (refl, (refl, tt))),
-      ((refl, tt),
-      ((refl, (refl, (refl, (refl, tt)))),
-      ((refl, (refl, (refl, tt))),
-      ((refl, (refl, (refl, (refl, tt)))),
-      ((refl, tt),
-      ((refl, (refl, (refl, (refl, tt)))),
-      ((refl, (refl, (refl, tt))),
-      ((refl, (refl, (refl, (refl, tt)))),
-      ((refl, tt),
-      ((refl, (refl, tt)),
-      ((refl, (refl, (refl, tt))),
-      ((refl, (refl, (refl, (refl, tt)))),
-      ((refl, tt),
-      ((refl, operands_back (place_of all_lines) (Register 8 ∷ Register 7 ∷ Bits z ∷ []) (let few = places_small in (omega arith, (omega arith, (omega arith, tt)))) (tt, (tt, (tt, tt)))),
-      ((refl, (refl, (refl, (refl, tt)))),
-      ((refl, operands_back (place_of all_lines) (Register 9 ∷ Number (2 ^ z - 1) ∷ []) (let few = places_small in (omega arith, (omega arith, tt))) (tt, (tt, tt))),
-      ((refl, (refl, (refl, (refl, tt)))),
-      ((refl, (refl, (refl, (refl, tt)))),
-      ((refl, operands_back (place_of all_lines) (Register 11 ∷ Register 9 ∷ Number (8 + 2 ^ z) ∷ []) (let few = places_small in (omega arith, (omega arith, (omega arith, tt)))) (tt, (tt, (tt, tt)))),
-      ((refl, (refl, (refl, tt))),
-      ((refl, tt),
-      ((refl, (refl, (refl, (refl, tt)))),
-      ((refl, (refl, (refl, tt))),
-      ((refl, (refl, (refl, tt))),
-      ((refl, tt),
-      ((refl, (refl, (refl, (refl, tt)))),
-      ((refl, (refl, (refl, tt))),
-      ((refl, tt),
-      ((refl, (refl, (refl, tt))),
-      ((refl, (refl, (refl, (refl, tt)))),
-      ((refl, tt),
-      ((refl, (refl, (refl, tt))),
-      ((refl, (refl, (refl, tt))),
-      ((refl, tt),
-      ((refl, (refl, (refl, (refl, tt)))),
-      ((refl, (refl, (refl, (refl, tt)))),
-      ((refl, (refl, (refl, tt))),
-      ((refl, (refl, (refl, (refl, tt)))),
-      ((refl, tt),
-      ((refl, (refl, (refl, (refl, tt)))),
-      ((refl, (refl, (refl, (refl, tt)))),
-      ((refl, (refl, (refl, tt))),
-      ((refl, (refl, (refl, (refl, tt)))),
-      ((refl, tt),
-      ((refl, (refl, tt)),
-      ((refl, (refl, (refl, tt))),
-      ((refl, (refl, (refl, (refl, tt)))),
-      ((refl, tt),
-      ((refl, operands_back (place_of all_lines) (Register 8 ∷ Register 7 ∷ Bits z ∷ []) (let few = places_small in (omega arith, (omega arith, (omega arith, tt)))) (tt, (tt, (tt, tt)))),
-      ((refl, (refl, (refl, (refl, tt)))),
-      ((refl, (refl, (refl, (refl, tt)))),
-      ((refl, operands_back (place_of all_lines) (Register 9 ∷ Number (2 ^ z - 1) ∷ []) (let few = places_small in (omega arith, (omega arith, tt))) (tt, (tt, tt))),
-      ((refl, (refl, (refl, (refl, tt)))),
-      ((refl, (refl, (refl, (refl, tt)))),
-      ((refl, operands_back (place_of all_lines) (Register 11 ∷ Register 9 ∷ Number (8 + 2 ^ z) ∷ []) (let few = places_small in (omega arith, (omega arith, (omega arith, tt)))) (tt, (tt, (tt, tt)))),
-      ((refl, (refl, (refl, tt))),
-      ((refl, tt),
-      ((refl, (refl, (refl, (refl, tt)))),
-      ((refl, (refl, (refl, tt))),
-      ((refl, (refl, (refl, tt))),
-      ((refl, tt),
-      ((refl, (refl, (refl, (refl, tt)))),
-      ((refl, (refl, (refl, tt))),
-      ((refl, tt),
-      ((refl, (refl, (refl, tt))),
-      ((refl, (refl, (refl, (refl, tt)))),
-      ((refl, tt),
-      ((refl, operands_back (place_of all_lines) (Register 6 ∷ Register 1 ∷ Number (7 + 2 * 2 ^ z) ∷ []) (let few = places_small in (omega arith, (omega arith, (omega arith, tt)))) (tt, (tt, (tt, tt)))),
-      ((refl, (refl, (refl, tt))),
-      ((refl, tt),
-      ((refl, (refl, (refl, (refl, tt)))),
-      ((refl, (refl, (refl, (refl, tt)))),
-      ((refl, (refl, (refl, tt))),
-      ((refl, tt),
-      tt)))))))))))))))))))))))))))))))))))))))))))))))))))))))))))))))))))))))))))))))))))
+  instructions = (
+    (refl, (refl, tt)),
+    (
+      (refl, (refl, (refl, (refl, tt)))),
+      (
+        (refl, (refl, tt)),
+        (
+          (refl, (refl, (refl, tt))),
+          (
+            (refl, operands_back (place_of all_lines) (Register 4 ∷ Number (2 ^ z) ∷ []) (let few = places_small in (omega arith, (omega arith, tt))) (tt, (tt, tt))),
+            (
+              (refl, operands_back (place_of all_lines) (Register 5 ∷ Number rounds ∷ []) (let few = places_small in (omega arith, (omega arith, tt))) (tt, (tt, tt))),
+              (
+                (refl, (refl, (refl, tt))),
+                (
+                  (refl, (refl, (refl, tt))),
+                  (
+                    (refl, (refl, (refl, tt))),
+                    (
+                      (refl, tt),
+                      (
+                        (refl, (refl, (refl, (refl, tt)))),
+                        (
+                          (refl, (refl, (refl, tt))),
+                          (
+                            (refl, (refl, (refl, (refl, tt)))),
+                            (
+                              (refl, tt),
+                              (
+                                (refl, (refl, (refl, (refl, tt)))),
+                                (
+                                  (refl, (refl, (refl, tt))),
+                                  (
+                                    (refl, (refl, (refl, (refl, tt)))),
+                                    (
+                                      (refl, tt),
+                                      (
+                                        (refl, (refl, tt)),
+                                        (
+                                          (refl, (refl, (refl, tt))),
+                                          (
+                                            (refl, (refl, (refl, (refl, tt)))),
+                                            (
+                                              (refl, tt),
+                                              (
+                                                (refl, operands_back (place_of all_lines) (Register 8 ∷ Register 7 ∷ Bits z ∷ []) (let few = places_small in (omega arith, (omega arith, (omega arith, tt)))) (tt, (tt, (tt, tt)))),
+                                                (
+                                                  (refl, (refl, (refl, (refl, tt)))),
+                                                  (
+                                                    (refl, operands_back (place_of all_lines) (Register 9 ∷ Number (2 ^ z - 1) ∷ []) (let few = places_small in (omega arith, (omega arith, tt))) (tt, (tt, tt))),
+                                                    (
+                                                      (refl, (refl, (refl, (refl, tt)))),
+                                                      (
+                                                        (refl, (refl, (refl, (refl, tt)))),
+                                                        (
+                                                          (refl, operands_back (place_of all_lines) (Register 11 ∷ Register 9 ∷ Number (8 + 2 ^ z) ∷ []) (let few = places_small in (omega arith, (omega arith, (omega arith, tt)))) (tt, (tt, (tt, tt)))),
+                                                          (
+                                                            (refl, (refl, (refl, tt))),
+                                                            (
+                                                              (refl, tt),
+                                                              (
+                                                                (refl, (refl, (refl, (refl, tt)))),
+                                                                (
+                                                                  (refl, (refl, (refl, tt))),
+                                                                  (
+                                                                    (refl, (refl, (refl, tt))),
+                                                                    (
+                                                                      (refl, tt),
+                                                                      (
+                                                                        (refl, (refl, (refl, (refl, tt)))),
+                                                                        (
+                                                                          (refl, (refl, (refl, tt))),
+                                                                          (
+                                                                            (refl, tt),
+                                                                            (
+                                                                              (refl, (refl, (refl, tt))),
+                                                                              (
+                                                                                (refl, (refl, (refl, (refl, tt)))),
+                                                                                (
+                                                                                  (refl, tt),
+                                                                                  (
+                                                                                    (refl, (refl, (refl, tt))),
+                                                                                    (
+                                                                                      (refl, (refl, (refl, tt))),
+                                                                                      (
+                                                                                        (refl, tt),
+                                                                                        (
+                                                                                          (refl, (refl, (refl, (refl, tt)))),
+                                                                                          (
+                                                                                            (refl, (refl, (refl, (refl, tt)))),
+                                                                                            (
+                                                                                              (refl, (refl, (refl, tt))),
+                                                                                              (
+                                                                                                (refl, (refl, (refl, (refl, tt)))),
+                                                                                                (
+                                                                                                  (refl, tt),
+                                                                                                  (
+                                                                                                    (refl, (refl, (refl, (refl, tt)))),
+                                                                                                    (
+                                                                                                      (refl, (refl, (refl, (refl, tt)))),
+                                                                                                      (
+                                                                                                        (refl, (refl, (refl, tt))),
+                                                                                                        (
+                                                                                                          (refl, (refl, (refl, (refl, tt)))),
+                                                                                                          (
+                                                                                                            (refl, tt),
+                                                                                                            (
+                                                                                                              (refl, (refl, tt)),
+                                                                                                              (
+                                                                                                                (refl, (refl, (refl, tt))),
+                                                                                                                (
+                                                                                                                  (refl, (refl, (refl, (refl, tt)))),
+                                                                                                                  (
+                                                                                                                    (refl, tt),
+                                                                                                                    (
+                                                                                                                      (refl, operands_back (place_of all_lines) (Register 8 ∷ Register 7 ∷ Bits z ∷ []) (let few = places_small in (omega arith, (omega arith, (omega arith, tt)))) (tt, (tt, (tt, tt)))),
+                                                                                                                      (
+                                                                                                                        (refl, (refl, (refl, (refl, tt)))),
+                                                                                                                        (
+                                                                                                                          (refl, (refl, (refl, (refl, tt)))),
+                                                                                                                          (
+                                                                                                                            (refl, operands_back (place_of all_lines) (Register 9 ∷ Number (2 ^ z - 1) ∷ []) (let few = places_small in (omega arith, (omega arith, tt))) (tt, (tt, tt))),
+                                                                                                                            (
+                                                                                                                              (refl, (refl, (refl, (refl, tt)))),
+                                                                                                                              (
+                                                                                                                                (refl, (refl, (refl, (refl, tt)))),
+                                                                                                                                (
+                                                                                                                                  (refl, operands_back (place_of all_lines) (Register 11 ∷ Register 9 ∷ Number (8 + 2 ^ z) ∷ []) (let few = places_small in (omega arith, (omega arith, (omega arith, tt)))) (tt, (tt, (tt, tt)))),
+                                                                                                                                  (
+                                                                                                                                    (refl, (refl, (refl, tt))),
+                                                                                                                                    (
+                                                                                                                                      (refl, tt),
+                                                                                                                                      (
+                                                                                                                                        (refl, (refl, (refl, (refl, tt)))),
+                                                                                                                                        (
+                                                                                                                                          (refl, (refl, (refl, tt))),
+                                                                                                                                          (
+                                                                                                                                            (refl, (refl, (refl, tt))),
+                                                                                                                                            (
+                                                                                                                                              (refl, tt),
+                                                                                                                                              (
+                                                                                                                                                (refl, (refl, (refl, (refl, tt)))),
+                                                                                                                                                (
+                                                                                                                                                  (refl, (refl, (refl, tt))),
+                                                                                                                                                  (
+                                                                                                                                                    (refl, tt),
+                                                                                                                                                    (
+                                                                                                                                                      (refl, (refl, (refl, tt))),
+                                                                                                                                                      (
+                                                                                                                                                        (refl, (refl, (refl, (refl, tt)))),
+                                                                                                                                                        (
+                                                                                                                                                          (refl, tt),
+                                                                                                                                                          (
+                                                                                                                                                            (refl, operands_back (place_of all_lines) (Register 6 ∷ Register 1 ∷ Number (7 + 2 * 2 ^ z) ∷ []) (let few = places_small in (omega arith, (omega arith, (omega arith, tt)))) (tt, (tt, (tt, tt)))),
+                                                                                                                                                            (
+                                                                                                                                                              (refl, (refl, (refl, tt))),
+                                                                                                                                                              (
+                                                                                                                                                                (refl, tt),
+                                                                                                                                                                (
+                                                                                                                                                                  (refl, (refl, (refl, (refl, tt)))),
+                                                                                                                                                                  (
+                                                                                                                                                                    (refl, (refl, (refl, (refl, tt)))),
+                                                                                                                                                                    (
+                                                                                                                                                                      (refl, (refl, (refl, tt))),
+                                                                                                                                                                      (
+                                                                                                                                                                        (refl, tt),
+                                                                                                                                                                        tt,
+                                                                                                                                                                      ),
+                                                                                                                                                                    ),
+                                                                                                                                                                  ),
+                                                                                                                                                                ),
+                                                                                                                                                              ),
+                                                                                                                                                            ),
+                                                                                                                                                          ),
+                                                                                                                                                        ),
+                                                                                                                                                      ),
+                                                                                                                                                    ),
+                                                                                                                                                  ),
+                                                                                                                                                ),
+                                                                                                                                              ),
+                                                                                                                                            ),
+                                                                                                                                          ),
+                                                                                                                                        ),
+                                                                                                                                      ),
+                                                                                                                                    ),
+                                                                                                                                  ),
+                                                                                                                                ),
+                                                                                                                              ),
+                                                                                                                            ),
+                                                                                                                          ),
+                                                                                                                        ),
+                                                                                                                      ),
+                                                                                                                    ),
+                                                                                                                  ),
+                                                                                                                ),
+                                                                                                              ),
+                                                                                                            ),
+                                                                                                          ),
+                                                                                                        ),
+                                                                                                      ),
+                                                                                                    ),
+                                                                                                  ),
+                                                                                                ),
+                                                                                              ),
+                                                                                            ),
+                                                                                          ),
+                                                                                        ),
+                                                                                      ),
+                                                                                    ),
+                                                                                  ),
+                                                                                ),
+                                                                              ),
+                                                                            ),
+                                                                          ),
+                                                                        ),
+                                                                      ),
+                                                                    ),
+                                                                  ),
+                                                                ),
+                                                              ),
+                                                            ),
+                                                          ),
+                                                        ),
+                                                      ),
+                                                    ),
+                                                  ),
+                                                ),
+                                              ),
+                                            ),
+                                          ),
+                                        ),
+                                      ),
+                                    ),
+                                  ),
+                                ),
+                              ),
+                            ),
+                          ),
+                        ),
+                      ),
+                    ),
+                  ),
+                ),
+              ),
+            ),
+          ),
+        ),
+      ),
+    ),
+  )
 
   pub reads : IsProgramText (queue_text z rounds) (queue z rounds)
   reads = subst (λ (ls : Lines). AreLinesOf ls (queue z rounds)) (sym lines_are) record { labels = labels_of all_lines refl; instructions = instructions; short = lit≤ tt }

@@ -1,5 +1,5 @@
 -- readers and writers: its text is written for its program
-use Rattle.std.proofs.Common.{◌≡◌, ℕ, ◌+◌, ◌-◌, ◌*◌, ◌<◌, ◌≤◌, ◌^◌, List, [], ◌∷◌, ◌++◌, take, drop, codes, decimal, refl, sym, ◌∙◌, ap, subst, arith, lit≤}
+use Rattle.std.proofs.Common.{◌≡◌, ℕ, ◌+◌, ◌<◌, ◌^◌, List, [], ◌∷◌, ◌++◌, drop, codes, decimal, refl, sym, ◌∙◌, ap, subst, arith, lit≤}
 use Rattle.std.proofs.lemmas.Fmt.{decimal_digit}
 use Rattle.ultra_asm.specs.declared.instruction.Mnemonic.TheVariants.{Set}
 use Rattle.ultra_asm.specs.declared.instruction.Operand.TheVariants.{Number, Register}
@@ -9,7 +9,7 @@ use Rattle.ultra_asm.specs.ProgramText.{AreInstructions, statements, AreLinesOf,
 use Rattle.ultra_asm.proofs.Spelled.{operands_back}
 use Rattle.ultra_coordination.specs.ReadersWriters.{readers_writers}
 use Rattle.ultra_colib.specs.Texts.{filled, rw_pieces, rw_numbers, rw_text}
-use Rattle.ultra_colib.proofs.Reading.{Lines, words, number_line, decimal_eleven, labels_of}
+use Rattle.ultra_colib.proofs.Reading.{Lines, words, number_line, labels_of}
 
 module _ (writers : ℕ) (writers_small : writers < 2 ^ 32) (rounds : ℕ) (rounds_small : rounds < 2 ^ 32) where
   -- the text behind the line with number i
@@ -29,50 +29,133 @@ module _ (writers : ℕ) (writers_small : writers < 2 ^ 32) (rounds : ℕ) (roun
   lines_are = ap (λ ls. text_words (codes "pid r1\naddi r2 r1 8\nli r3 1\nli r4 65536") ++ ls) (line_0 ∙ ap (λ ls. words Set (Register 5 ∷ Number rounds ∷ []) ∷ ls) (line_1))
 
   instructions : AreInstructions (place_of all_lines) (statements all_lines) (readers_writers writers rounds)
-  instructions =
-      ((refl, (refl, tt)),
-      ((refl, (refl, (refl, (refl, tt)))),
-      ((refl, (refl, (refl, tt))),
-      ((refl, (refl, (refl, tt))),
-      ((refl, operands_back (place_of all_lines) (Register 5 ∷ Number rounds ∷ []) (omega arith, (omega arith, tt)) (tt, (tt, tt))),
-      ((refl, operands_back (place_of all_lines) (Register 6 ∷ Number writers ∷ []) (omega arith, (omega arith, tt)) (tt, (tt, tt))),
-      ((refl, (refl, (refl, tt))),
-      ((refl, (refl, (refl, tt))),
-      ((refl, (refl, (refl, (refl, tt)))),
-      ((refl, (refl, (refl, (refl, tt)))),
-      ((refl, (refl, (refl, tt))),
-      ((refl, (refl, (refl, (refl, tt)))),
-      ((refl, tt),
-      ((refl, (refl, (refl, (refl, tt)))),
-      ((refl, (refl, (refl, tt))),
-      ((refl, (refl, (refl, (refl, tt)))),
-      ((refl, tt),
-      ((refl, (refl, tt)),
-      ((refl, (refl, (refl, tt))),
-      ((refl, tt),
-      ((refl, (refl, (refl, tt))),
-      ((refl, tt),
-      ((refl, (refl, (refl, (refl, tt)))),
-      ((refl, tt),
-      ((refl, (refl, (refl, (refl, tt)))),
-      ((refl, (refl, (refl, tt))),
-      ((refl, tt),
-      ((refl, (refl, (refl, (refl, tt)))),
-      ((refl, tt),
-      ((refl, (refl, (refl, tt))),
-      ((refl, (refl, (refl, (refl, tt)))),
-      ((refl, tt),
-      ((refl, (refl, tt)),
-      ((refl, (refl, (refl, tt))),
-      ((refl, tt),
-      ((refl, (refl, (refl, tt))),
-      ((refl, tt),
-      ((refl, (refl, (refl, (refl, tt)))),
-      ((refl, tt),
-      ((refl, (refl, (refl, (refl, tt)))),
-      ((refl, (refl, (refl, tt))),
-      ((refl, tt),
-      tt))))))))))))))))))))))))))))))))))))))))))
+  instructions = (
+    (refl, (refl, tt)),
+    (
+      (refl, (refl, (refl, (refl, tt)))),
+      (
+        (refl, (refl, (refl, tt))),
+        (
+          (refl, (refl, (refl, tt))),
+          (
+            (refl, operands_back (place_of all_lines) (Register 5 ∷ Number rounds ∷ []) (omega arith, (omega arith, tt)) (tt, (tt, tt))),
+            (
+              (refl, operands_back (place_of all_lines) (Register 6 ∷ Number writers ∷ []) (omega arith, (omega arith, tt)) (tt, (tt, tt))),
+              (
+                (refl, (refl, (refl, tt))),
+                (
+                  (refl, (refl, (refl, tt))),
+                  (
+                    (refl, (refl, (refl, (refl, tt)))),
+                    (
+                      (refl, (refl, (refl, (refl, tt)))),
+                      (
+                        (refl, (refl, (refl, tt))),
+                        (
+                          (refl, (refl, (refl, (refl, tt)))),
+                          (
+                            (refl, tt),
+                            (
+                              (refl, (refl, (refl, (refl, tt)))),
+                              (
+                                (refl, (refl, (refl, tt))),
+                                (
+                                  (refl, (refl, (refl, (refl, tt)))),
+                                  (
+                                    (refl, tt),
+                                    (
+                                      (refl, (refl, tt)),
+                                      (
+                                        (refl, (refl, (refl, tt))),
+                                        (
+                                          (refl, tt),
+                                          (
+                                            (refl, (refl, (refl, tt))),
+                                            (
+                                              (refl, tt),
+                                              (
+                                                (refl, (refl, (refl, (refl, tt)))),
+                                                (
+                                                  (refl, tt),
+                                                  (
+                                                    (refl, (refl, (refl, (refl, tt)))),
+                                                    (
+                                                      (refl, (refl, (refl, tt))),
+                                                      (
+                                                        (refl, tt),
+                                                        (
+                                                          (refl, (refl, (refl, (refl, tt)))),
+                                                          (
+                                                            (refl, tt),
+                                                            (
+                                                              (refl, (refl, (refl, tt))),
+                                                              (
+                                                                (refl, (refl, (refl, (refl, tt)))),
+                                                                (
+                                                                  (refl, tt),
+                                                                  (
+                                                                    (refl, (refl, tt)),
+                                                                    (
+                                                                      (refl, (refl, (refl, tt))),
+                                                                      (
+                                                                        (refl, tt),
+                                                                        (
+                                                                          (refl, (refl, (refl, tt))),
+                                                                          (
+                                                                            (refl, tt),
+                                                                            (
+                                                                              (refl, (refl, (refl, (refl, tt)))),
+                                                                              (
+                                                                                (refl, tt),
+                                                                                (
+                                                                                  (refl, (refl, (refl, (refl, tt)))),
+                                                                                  (
+                                                                                    (refl, (refl, (refl, tt))),
+                                                                                    (
+                                                                                      (refl, tt),
+                                                                                      tt,
+                                                                                    ),
+                                                                                  ),
+                                                                                ),
+                                                                              ),
+                                                                            ),
+                                                                          ),
+                                                                        ),
+                                                                      ),
+                                                                    ),
+                                                                  ),
+                                                                ),
+                                                              ),
+                                                            ),
+                                                          ),
+                                                        ),
+                                                      ),
+                                                    ),
+                                                  ),
+                                                ),
+                                              ),
+                                            ),
+                                          ),
+                                        ),
+                                      ),
+                                    ),
+                                  ),
+                                ),
+                              ),
+                            ),
+                          ),
+                        ),
+                      ),
+                    ),
+                  ),
+                ),
+              ),
+            ),
+          ),
+        ),
+      ),
+    ),
+  )
 
   pub reads : IsProgramText (rw_text writers rounds) (readers_writers writers rounds)
   reads = subst (λ (ls : Lines). AreLinesOf ls (readers_writers writers rounds)) (sym lines_are) record { labels = labels_of all_lines refl; instructions = instructions; short = lit≤ tt }

@@ -1,5 +1,5 @@
 -- texts into which numbers are put are read as their programs
-use Rattle.std.proofs.Common.{◌≡◌, ℕ, zero, suc, ◌+◌, ◌<◌, ◌≤◌, ◌^◌, Bool, true, false, not, ◌&&◌, List, [], ◌∷◌, ◌++◌, map, length, codes, decimal, Option, Some, None, IfSome, refl, sym, ◌∙◌, ap, subst, append_assoc, append-nil, arith}
+use Rattle.std.proofs.Common.{◌≡◌, ℕ, zero, suc, ◌+◌, ◌<◌, Bool, true, false, not, ◌&&◌, List, [], ◌∷◌, ◌++◌, map, length, codes, decimal, Option, Some, None, IfSome, refl, sym, ◌∙◌, ap, subst, append_assoc, append-nil, arith}
 use Rattle.std.proofs.lemmas.Bool.{and_parts}
 use Rattle.std.proofs.lemmas.Fmt.{decimal_digit, decimal_step}
 use Rattle.ultra_asm.specs.declared.instruction.Mnemonic.{Mnemonic}
@@ -23,7 +23,7 @@ words m os = word_of m ∷ map operand_text os
 pub number_line : (m : Mnemonic) (os : List Operand) (line : List ℕ) (n : ℕ) (rest : List ℕ) → AreWritable os → word_of m ++ operands_text os ≡ line ++ (decimal n ++ []) → text_words (line ++ (decimal n ++ 10 ∷ rest)) ≡ words m os ∷ text_words rest
 number_line m os line n rest writable e =
     let same : line ++ (decimal n ++ 10 ∷ rest) ≡ (word_of m ++ operands_text os) ++ 10 ∷ rest =
-        ap (λ ds. line ++ (ds ++ 10 ∷ rest)) (sym (append-nil (decimal n))) ∙ (sym (append_assoc line (decimal n ++ []) (10 ∷ rest)) ∙ ap (λ xs. xs ++ 10 ∷ rest) (sym e)) in
+    ap (λ ds. line ++ (ds ++ 10 ∷ rest)) (sym (append-nil (decimal n))) ∙ (sym (append_assoc line (decimal n ++ []) (10 ∷ rest)) ∙ ap (λ xs. xs ++ 10 ∷ rest) (sym e)) in
     ap text_words same ∙ text_next (word_of m) rest os (word_plain m) (operands_plain os writable)
 
 not_true : (b : Bool) → not b ≡ true → b ≡ false

@@ -1,15 +1,23 @@
-//! The coordination library.
+//! The coordination library: programs in which processing elements coordinate by fetch-and-add, and the laws that they keep whatever the schedule.
 #![tactic(auto)]
 
-ghost use Rattle.std.specs.Prelude.{◌≡◌, ℕ, ◌<◌, ◌≤◌, ◌^◌, IfOk, string_bytes};
-ghost use Rattle.ultra_asm.specs.ProgramText.{IsProgramText};
-ghost use Rattle.ultra_coordination.specs.Gate.{gate};
-ghost use Rattle.ultra_coordination.specs.ReadersWriters.{readers_writers};
-ghost use Rattle.ultra_coordination.specs.Barrier.{barrier};
-ghost use Rattle.ultra_coordination.specs.Queue.{queue};
-ghost use Rattle.ultra_colib.specs.Texts.{gate_text, rw_text, barrier_text, queue_text};
+mod fault;
+mod programs;
+mod runs;
+mod texts;
 
-/// Probe.
-pub fn probe()
-    ensures gate { (bound rounds : ℕ) → bound < 2 ^ 32 → rounds < 2 ^ 32 → IsProgramText (gate_text bound rounds) (gate bound rounds) }
-{}
+ghost use Rattle.ultra_colib.specs.Laws.{CoordinationLaw};
+
+pub use fault::ColibFault;
+pub use programs::{barrier_program, gate_program, queue_program, rw_program};
+pub use runs::{run_barrier, run_gate, run_rw};
+use ultra_para::paracomputer_law;
+
+/// The law of coordination, as this function's contract: for all settings in their ranges without initial values, all
+/// parameters and every number of cycles, the machine's cells keep the law of each coordination program that it runs.
+/// The function itself does nothing.
+pub fn coordination_law()
+    ensures kept { CoordinationLaw }
+{
+    paracomputer_law();
+}
