@@ -10,7 +10,7 @@ ghost use Rattle.ultra_colib.specs.Laws.{CoordinationLaw};
 
 pub use fault::ColibFault;
 pub use programs::{barrier_program, gate_program, queue_program, rw_program};
-pub use runs::{run_barrier, run_gate, run_rw};
+pub use runs::{run_barrier, run_gate, run_queue, run_rw};
 use ultra_para::paracomputer_law;
 
 /// The law of coordination, as this function's contract: for all settings in their ranges without initial values, all

@@ -6,10 +6,11 @@ ghost use Rattle.ultra_para.specs.Para.{start_para, run_para};
 ghost use Rattle.ultra_coordination.specs.Gate.{gate, AreFewInside};
 ghost use Rattle.ultra_coordination.specs.ReadersWriters.{readers_writers, AreWritersAlone};
 ghost use Rattle.ultra_coordination.specs.Barrier.{barrier, AreInStep};
-ghost use Rattle.ultra_colib.specs.Parameters.{gate_takes, rw_takes, barrier_takes};
+ghost use Rattle.ultra_coordination.specs.Queue.{queue};
+ghost use Rattle.ultra_colib.specs.Parameters.{gate_takes, rw_takes, barrier_takes, queue_takes};
 
 use crate::ColibFault;
-use crate::programs::{barrier_program, gate_program, rw_program};
+use crate::programs::{barrier_program, gate_program, queue_program, rw_program};
 use std::alloc::{AllocError, Global};
 use ultra_isa::Program;
 use ultra_model::Config;
@@ -93,5 +94,26 @@ pub fn run_barrier(
         return Err(ColibFault::BadParameter);
     }
     let program = barrier_program(alloc, rounds)?;
+    Ok(run(alloc, config, &program, schedule)?)
+}
+
+/// The queue with `2^log_size` places on a paracomputer with these settings, all of whose cells are 0 at first, after a schedule: each number is the processing element that makes the step.
+///
+/// `BadParameter` means that a parameter is out of its range or that cells have initial values.
+pub fn run_queue(
+    alloc: Global,
+    config: &Config,
+    log_size: u32,
+    rounds: u32,
+    schedule: &[Pe],
+) -> Result<Para, ColibFault>
+    requires { All (λ p. p < size config.now) schedule.now }
+    ensures state { IfOk result (λ m. m ≡ record { settings = config.now; program = queue log_size rounds; state = run_para config.now (queue log_size rounds) (start_para config.now) schedule.now }) }
+    ensures parameters { (result ≡ Err ColibFault.BadParameter) ↔ ((is_empty config.now.initial && queue_takes log_size rounds) ≡ false) }
+{
+    if !config.initial().is_empty() {
+        return Err(ColibFault::BadParameter);
+    }
+    let program = queue_program(alloc, log_size, rounds)?;
     Ok(run(alloc, config, &program, schedule)?)
 }
