@@ -1,6 +1,6 @@
 -- the gate's invariant
-use Rattle.std.proofs.Common.{◌≡◌, ◌≢◌, ℕ, zero, suc, ◌+◌, ◌-◌, ◌<◌, ◌≤◌, ◌*◌, List, [], ◌∷◌, length, drop, Bool, true, false, refl, sym, ap, ◌∙◌, arith}
-use Rattle.std.specs.Prelude.{slice_set, slice_index, slice_index_or, nat_lt, sum_by, replicate}
+use Rattle.std.proofs.Common.{◌≡◌, ◌≢◌, ℕ, ◌+◌, ◌-◌, ◌<◌, ◌≤◌, ◌*◌, List, [], ◌∷◌, length, drop, Bool, true, false, refl, ap, arith}
+use Rattle.std.specs.Prelude.{slice_set, slice_index, nat_lt, sum_by, replicate}
 use Rattle.std.proofs.lemmas.Grind.{common_steps}
 use Rattle.std.proofs.lemmas.List.Sums.{sum_by-le-sum_by, sum_by-le}
 use Rattle.std.proofs.lemmas.List.Folds.{sum_by-replicate}
@@ -8,7 +8,7 @@ use Rattle.ultra_msg.specs.Act.{plus}
 use Rattle.ultra_model.specs.Machine.{Settings, size}
 use Rattle.ultra_model.specs.Ranges.{AreInRange}
 use Rattle.ultra_para.specs.Para.{Para, start_para}
-use Rattle.ultra_interleaving.proofs.Interleaving.{IsIn, unchanged, sum_changes, within_sum, replicated, few_elements, zero_at_first, Knows, stage_at, ◌▹◌, AreKept, Holds, always}
+use Rattle.ultra_interleaving.proofs.Interleaving.{IsIn, unchanged, sum_changes, within_sum, few_elements, Knows, stage_at, ◌▹◌, AreKept, Holds, always}
 use Rattle.ultra_coordination.specs.Schedules.{total, IsKept}
 use Rattle.ultra_coordination.specs.Gate.{gate, AreFewInside}
 use Rattle.ultra_coordination.proofs.Tally.{at_phase, Tally, counts, raises, tally_at_first, total_flags}
