@@ -1,4 +1,5 @@
-//! All numbers of a board, drawn by 1, 2 or 4 threads, again and again. How often a number was asked for is printed: in each round as often as there are numbers, and once more by each thread.
+//! Draws all numbers of a board by 1, 2 or 4 threads, again and again, and prints how often a
+//! number was asked for: in each round as often as there are numbers, and once more by each thread.
 //!
 //! The words are the number of threads and the number of rounds.
 

@@ -7,7 +7,7 @@ use ultra_block::Blocks;
 use ultra_machine::Machine;
 use ultra_msg::{Cell, Word};
 
-/// The address of the cell at this offset of a module, of so many modules.
+/// The address of the cell at this offset of a module, where there are `modules` modules.
 fn address(module: u32, offset: u32, modules: u32) -> Cell {
     offset.wrapping_mul(modules).wrapping_add(module)
 }

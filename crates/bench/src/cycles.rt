@@ -1,6 +1,8 @@
-//! A machine whose trace isn't written. How many cycles it made is printed, how many memory acts there were in them, and a digest of the cells.
+//! Runs a machine without writing its trace, and prints how many cycles it made, how many memory
+//! acts there were in them, and a digest of the cells.
 //!
-//! The words are the file of a program's text, the number of stages, the number of cycles, and which sizes the parts have: `default`, `narrow` or `deep`.
+//! The words are the file of a program's text, the number of stages, the number of cycles, and
+//! which sizes the parts have: `default`, `narrow` or `deep`.
 
 use crate::cells::{digest, of_machine};
 use crate::setup::{Setup, Sizes};
@@ -9,7 +11,7 @@ use std::rt::Files;
 use ultra_machine::Machine;
 use ultra_msg::Event;
 
-/// Makes so many cycles, or as many as a machine can make, and answers how many memory acts there were.
+/// Makes `cycles` cycles, or as many as the machine can make, and counts the memory acts in them.
 pub(crate) fn make_cycles(machine: &mut Machine, cycles: u32) -> u64 {
     let mut acts = 0u64;
     for _ in 0..cycles {

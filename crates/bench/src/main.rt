@@ -1,6 +1,8 @@
-//! Measures a part of the simulator, for the scripts in `bench/`, which take the time. What is printed is the same on every run.
+//! Measures a part of the simulator, for the scripts in `bench/`, which take the time. What is
+//! printed is the same on every run.
 //!
-//! The first word of the command line says what is measured: `board`, `cycles`, `workers` or `order`. The module of that name tells the other words.
+//! The first word of the command line says what is measured: `board`, `cycles`, `workers` or
+//! `order`. The module of that name describes the other words.
 #![tactic(auto)]
 
 mod board;
@@ -16,13 +18,13 @@ use std::env;
 fn main(rt: HostRuntime) -> anyhow::Result<()> {
     let words: Vec<String> = env::args(&rt)?.skip(1).collect(rt.alloc())?;
     let Some((measured, words)) = words.split_first() else {
-        bail!("the first word is board, cycles, workers or order");
+        bail!("what is measured is missing: board, cycles, workers or order");
     };
     match measured.as_str() {
         "board" => board::measure(&rt, words),
         "cycles" => cycles::measure(&rt, words),
         "workers" => workers::measure(&rt, words),
         "order" => order::measure(&rt, words),
-        _ => bail!("what is measured is the board, cycles, workers or the order"),
+        _ => bail!("what is measured is board, cycles, workers or order"),
     }
 }

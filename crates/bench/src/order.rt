@@ -1,6 +1,9 @@
-//! The serial order and the log of a run, and the check of the one against the other. How many entries the order has is printed, how many issues and answers the log has, and `Ok` or what is wrong.
+//! Makes the serial order and the log of a run, checks the one against the other, and prints how
+//! many entries the order has, how many issues and answers the log has, and `Ok` or what is wrong.
 //!
-//! The words are the file of a program's text, the number of stages, the number of cycles, at most 1,000,000, and how far to go: `order` makes the order alone, `log` the log too, and `check` also checks them. All parts of the machine have the default sizes.
+//! The words are the file of a program's text, the number of stages, the number of cycles, at most
+//! 1,000,000, and how far to go: `order` makes the order alone, `log` the log too, and `check` also
+//! checks them. All parts of the machine have the default sizes.
 
 use crate::cells::of_machine;
 use crate::cycles::make_cycles;

@@ -44,11 +44,14 @@ impl Sizes {
 
     /// The sizes of this name, or `None` where there is no such name.
     pub(crate) fn named(name: &str) -> Option<Sizes> {
-        match name {
-            "default" => Some(Sizes::DEFAULT),
-            "narrow" => Some(Sizes::NARROW),
-            "deep" => Some(Sizes::DEEP),
-            _ => None,
+        if name == "default" {
+            Some(Sizes::DEFAULT)
+        } else if name == "narrow" {
+            Some(Sizes::NARROW)
+        } else if name == "deep" {
+            Some(Sizes::DEEP)
+        } else {
+            None
         }
     }
 

@@ -1,6 +1,9 @@
-//! A machine whose cycles are made by several workers. How many cycles it made is printed, and a digest of its cells: the same for every number of workers.
+//! Has workers make cycles of a machine, and prints how many cycles it made and a digest of its
+//! cells, which is the same for every number of workers.
 //!
-//! The words are the file of a program's text, the number of stages, the number of cycles, the number of workers, and `kept` where their threads are started once or `anew` where they are started for each cycle. All parts of the machine have the default sizes.
+//! The words are the file of a program's text, the number of stages, the number of cycles, the
+//! number of workers, and `kept` where their threads are started once or `anew` where they are
+//! started for each cycle. All parts of the machine have the default sizes.
 
 ghost use Rattle.std.specs.Prelude.{◌≡◌, ◌+◌, ◌<◌, ◌≤◌, ◌^◌, IfOk};
 ghost use Rattle.ultra_block.specs.BlocksState.{IsWhole};
@@ -37,7 +40,7 @@ fn dealt_out(alloc: Global, setup: &Setup, workers: u8) -> anyhow::Result<Blocks
     Ok(Blocks::new(alloc, &setup.config, &setup.program, partition)?)
 }
 
-/// So many cycles, for each of which the threads are started anew.
+/// Makes `count` cycles, and starts the threads anew for each.
 fn make_anew<R: Threads + Wait + Sync>(
     rt: &R,
     alloc: Global,
@@ -57,7 +60,7 @@ fn make_anew<R: Threads + Wait + Sync>(
     Ok(blocks)
 }
 
-/// So many cycles, with threads that are kept over all of them, or started anew for each.
+/// Makes `count` cycles, with threads that are kept over all of them, or are started anew for each.
 fn make_cycles<R: Threads + Wait + Sync>(
     rt: &R,
     alloc: Global,
