@@ -1,4 +1,4 @@
-//! The plain counterpart of the crate `bench_board`: as many threads add to one atomic word until it is past the numbers of a round.
+//! The plain counterpart of what the crate `bench` measures of a board: as many threads add to one atomic word until it is past the numbers of a round.
 use std::sync::atomic::{AtomicU64, Ordering::SeqCst};
 use std::{env, thread};
 

@@ -1,6 +1,8 @@
-//! Tests of the libraries from `ultra_asm` up, over their public calls. They stand in a crate of their own, so that no library is proved a second time with its tests.
+//! Tests of the libraries, over their public calls. They stand in a crate of their own, so that no library is proved a second time with its tests.
 #![tactic(auto)]
 
+#[cfg(test)]
+mod boards;
 #[cfg(test)]
 mod crews;
 #[cfg(test)]
@@ -10,16 +12,26 @@ mod gates;
 #[cfg(test)]
 mod machines;
 #[cfg(test)]
+mod modules;
+#[cfg(test)]
 mod orders;
+#[cfg(test)]
+mod pairs;
 #[cfg(test)]
 mod partitions;
 #[cfg(test)]
 mod programs;
 #[cfg(test)]
+mod routes;
+#[cfg(test)]
 mod settings;
+#[cfg(test)]
+mod switches;
 #[cfg(test)]
 mod texts;
 #[cfg(test)]
 mod traces;
 #[cfg(test)]
 mod trays;
+#[cfg(test)]
+mod waves;

@@ -28,7 +28,8 @@ pub(crate) fn run(rt: &impl Abort, machine: &mut Machine, cycles: u32) {
     }
 }
 
-fn faa(pe: Pe, word: Word) -> Request {
+/// A processing element adds this word.
+pub(crate) fn faa(pe: Pe, word: Word) -> Request {
     Request {
         pe,
         cell: 0,
@@ -36,6 +37,7 @@ fn faa(pe: Pe, word: Word) -> Request {
     }
 }
 
+/// A processing element is answered this word.
 pub(crate) fn answer(pe: Pe, word: Word) -> ReplyMessage {
     ReplyMessage {
         pe,

@@ -1,4 +1,4 @@
-//! Programs that several tests run.
+//! Programs that several tests run, and how far a jump may go.
 
 ghost use Rattle.std.specs.Prelude.{◌<◌};
 
@@ -42,4 +42,13 @@ pub(crate) fn add_number(alloc: Global) -> Result<Program, Fail> {
         Instr::Faa(old, zero, number),
         Instr::Halt,
     ]?)
+}
+
+#[test]
+fn a_jump_goes_to_the_end_at_most(rt: HostRuntime) -> Result<(), Fail> {
+    let at_the_end = program(vec![in rt.alloc(); Instr::Jump(1)]?)?;
+    assert_eq!(rt; at_the_end.len(), 1);
+    let past_the_end = Program::new(vec![in rt.alloc(); Instr::Jump(2)]?);
+    assert!(rt; past_the_end.is_err());
+    Ok(())
 }

@@ -1,30 +1,9 @@
 //! The program `ultra`: it runs programs on a simulated machine.
 #![tactic(auto)]
 
-ghost use Rattle.std.specs.Prelude.{◌≡◌, ◌≢◌, ◌+◌, ◌++◌, IfErr, OnOk};
-ghost use Rattle.ultra_msg.specs.Bytes.{IsBeginning};
-ghost use Rattle.ultra.specs.declared.command_line.Parsed.{Parsed};
-ghost use Rattle.ultra.specs.declared.failure.Failure.{Failure};
-ghost use Rattle.ultra.specs.Failure.{status_of, text_of, read_failures, write_failures};
-ghost use Rattle.ultra.specs.Outcome.{status_failures, traffic, IsRefusal, IsStatus, Obeyed, NotObeyed};
+ghost use Rattle.std.specs.Prelude.{◌≡◌, ◌+◌, IfOk, OnErr};
+ghost use Rattle.ultra_cli.specs.Outcome.{status_failures, IsRefusal, IsStatus};
 
-mod account;
-mod command_line;
-mod failure;
-mod inputs;
-mod list;
-mod order;
-mod run;
-mod settings;
-mod source;
-mod streams;
-#[cfg(test)]
-mod tests;
-mod workers;
-
-use command_line::{Command, Parsed};
-use failure::Failure;
-use source::{FileSource, Source};
 use std::env::Env;
 use std::io::ErrorKind;
 use std::process::ExitCode;
@@ -32,104 +11,26 @@ use std::rt::Files;
 use std::sync::Wait;
 use std::thread::Threads;
 use std::{env, io};
-use streams::Stream;
-use ultra_msg::{Sink, write_all};
+use ultra_cli::{Failure, give_up, main_with};
+use ultra_io::{FileSource, Stream};
+use ultra_msg::Sink;
 
-/// Does what the words ask for, and answers the status that the program ends with: 0 done, 2 a usage fault, 3 refused input, 4 no memory or no thread, 5 a failed write.
-///
-/// The first word is the program's name. Results and help go to `out`; what is wrong goes to `err`. Which words ask for what, and the texts of help and usage faults, are `clap`'s, and shown by tests. A run by several workers starts threads, and the call may wait for them.
-pub fn main_with<'w, R: AllocGlobal + Threads + Wait + Sync, F: Source, O: Sink, E: Sink>(
-    rt: &R,
-    words: &'w [&'w str],
-    source: &mut F,
-    out: &mut O,
-    err: &mut E,
-) -> u8
-    ensures status { IsStatus result }
-    ensures nothing { IsRefusal result → O.taken out.new ≡ O.taken out.old }
-    ensures counted { O.failures out.new ≡ O.failures out.old + status_failures result }
-    ensures done { result ≡ 0 → (p : Parsed) × Obeyed p
-        (traffic (F.files source.old) (O.taken out.old)) (traffic (F.files source.new) (O.taken out.new)) }
-    ensures silent { result ≡ 0 → E.taken err.new ≡ E.taken err.old }
-    ensures failed { result ≢ 0 → (p : Parsed) × (f : Failure) × (status_of f ≡ result) × NotObeyed p
-        (traffic (F.files source.old) (O.taken out.old)) (traffic (F.files source.new) (O.taken out.new)) f
-        × IsBeginning (E.taken err.new) (E.taken err.old ++ text_of f) }
-{
-    match obey(rt, command_line::parse(rt.alloc(), words), source, out) {
-        Ok(()) => 0,
-        Err(failure) => give_up(&failure, err),
-    }
-}
-
-/// Does what is asked for.
-fn obey<'w, R: AllocGlobal + Threads + Wait + Sync, F: Source, O: Sink>(
-    rt: &R,
-    parsed: Parsed<'w>,
-    source: &mut F,
-    out: &mut O,
-) -> Result<(), Failure<'w>>
-    ensures ok { OnOk result (Obeyed parsed.entry
-        (traffic (F.files source.old) (O.taken out.old)) (traffic (F.files source.new) (O.taken out.new))) }
-    ensures err { IfErr result (NotObeyed parsed.entry
-        (traffic (F.files source.old) (O.taken out.old)) (traffic (F.files source.new) (O.taken out.new))) }
-    ensures write_still { OnOk result (O.failures out.new ≡ O.failures out.old) }
-    ensures write_counted { IfErr result (λ f. O.failures out.new ≡ O.failures out.old + write_failures f) }
-{
-    match parsed {
-        Parsed::Command(command) => carry_out(rt, command, source, out),
-        Parsed::Help(text) => match write_all(out, text.as_bytes()) {
-            Ok(()) => Ok(()),
-            Err(_) => Err(Failure::NotWritten),
-        },
-        Parsed::Usage(text) => Err(Failure::Usage(text)),
-        Parsed::NoMemory => Err(Failure::NoMemory),
-    }
-}
-
-/// Carries out a command.
-fn carry_out<'w, R: AllocGlobal + Threads + Wait + Sync, F: Source, O: Sink>(
-    rt: &R,
-    command: Command<'w>,
-    source: &mut F,
-    out: &mut O,
-) -> Result<(), Failure<'w>>
-    ensures ok { OnOk result (Obeyed (Parsed.Command command.entry)
-        (traffic (F.files source.old) (O.taken out.old)) (traffic (F.files source.new) (O.taken out.new))) }
-    ensures err { IfErr result (NotObeyed (Parsed.Command command.entry)
-        (traffic (F.files source.old) (O.taken out.old)) (traffic (F.files source.new) (O.taken out.new))) }
-    ensures write_still { OnOk result (O.failures out.new ≡ O.failures out.old) }
-    ensures write_counted { IfErr result (λ f. O.failures out.new ≡ O.failures out.old + write_failures f) }
-{
-    let alloc = rt.alloc();
-    match command {
-        Command::Run {
-            settings,
-            program,
-            workers,
-        } => run::run(rt, alloc, settings, program, workers, source, out),
-        Command::Order { settings, program } => {
-            order::order(alloc, settings, program, source, out)
-        }
-        Command::List { program } => list::list(alloc, program, source, out),
-    }
-}
-
-/// Tells a failure, and answers its status. Where `err` fails too, the status alone tells it.
-fn give_up<E: Sink>(failure: &Failure, err: &mut E) -> u8
-    ensures status { result ≡ status_of failure.now }
-    ensures told { IsBeginning (E.taken err.new) (E.taken err.old ++ text_of failure.now) }
-    ensures whole { E.failures err.new ≡ E.failures err.old → E.taken err.new ≡ E.taken err.old ++ text_of failure.now }
-{
-    let _ = failure.write_to(err);
-    failure.status()
-}
-
-/// Calls `main_with` with the program's own words and files, and with these streams. An error says that the words couldn't be had.
+/// Calls `main_with` with the program's own words and files, and with these streams. An error says
+/// that the words
+/// couldn't be had; nothing is written then.
 fn start<R: AllocGlobal + Env + Files + Threads + Wait + Sync, O: Sink, E: Sink>(
     rt: &R,
     out: &mut O,
     err: &mut E,
-) -> io::Result<u8> {
+) -> io::Result<u8>
+    ensures status { IfOk result (λ s. IsStatus s) }
+    ensures nothing { IfOk result (λ s. IsRefusal s → O.taken out.new ≡ O.taken out.old) }
+    ensures counted { IfOk result
+        (λ s. O.failures out.new ≡ O.failures out.old + status_failures s) }
+    ensures silent { IfOk result (λ s. s ≡ 0 → E.taken err.new ≡ E.taken err.old) }
+    ensures no_words { OnErr result (O.taken out.new ≡ O.taken out.old) }
+    ensures no_word_of_it { OnErr result (E.taken err.new ≡ E.taken err.old) }
+{
     let args: Vec<String> = env::args(rt)?.collect(rt.alloc())?;
     let words: Vec<&str> = args.iter().map(|word| word.as_str()).collect(rt.alloc())?;
     let mut source = FileSource::new(rt);

@@ -197,10 +197,7 @@ fn write_operand<S: Sink>(sink: &mut S, operand: Operand) -> Result<(), SinkFaul
     ensures { Writes result (operand_text operand) (S.taken sink.old) (S.taken sink.new) (S.failures sink.old) (S.failures sink.new) }
 {
     match operand {
-        Operand::Register(register) => {
-            write(sink, b"r")?;
-            write_number(sink, register.index())
-        }
+        Operand::Register(register) => write_numbered(sink, b"r", register.index()),
         Operand::Number(number) => write_number(sink, number as usize),
         Operand::Bits(shift) => write_number(sink, shift.bits() as usize),
         Operand::Label(place) => write_label(sink, usize::from(place)),
@@ -211,8 +208,15 @@ fn write_operand<S: Sink>(sink: &mut S, operand: Operand) -> Result<(), SinkFaul
 fn write_label<S: Sink>(sink: &mut S, place: usize) -> Result<(), SinkFault>
     ensures { Writes result (label_text place) (S.taken sink.old) (S.taken sink.new) (S.failures sink.old) (S.failures sink.new) }
 {
-    write(sink, b"L")?;
-    write_number(sink, place)
+    write_numbered(sink, b"L", place)
+}
+
+/// Writes a letter, and a number behind it in decimal digits.
+fn write_numbered<S: Sink>(sink: &mut S, letter: &[u8], number: usize) -> Result<(), SinkFault>
+    ensures { Writes result (letter.now ++ decimal number) (S.taken sink.old) (S.taken sink.new) (S.failures sink.old) (S.failures sink.new) }
+{
+    write(sink, letter)?;
+    write_number(sink, number)
 }
 
 /// Writes a number in decimal digits.

@@ -7,7 +7,7 @@ ghost use Rattle.ultra_asm.specs.Instruction.{word_of, mnemonic_named};
 use ultra_msg::{Register, Shift, Word};
 
 /// What an instruction is, without its operands. The names are those of `Instr`.
-#[derive(Clone, Copy, PartialEq, Eq, Debug, Drop)]
+#[derive(Clone, Copy, Drop)]
 pub enum Mnemonic {
     Set,
     Add,
@@ -31,7 +31,7 @@ pub enum Mnemonic {
 }
 
 /// One operand of an instruction.
-#[derive(Clone, Copy, PartialEq, Eq, Debug, Drop)]
+#[derive(Clone, Copy, Drop)]
 pub enum Operand {
     Register(Register),
     Number(Word),

@@ -10,7 +10,7 @@ use std::collections::BTreeMap;
 use ultra_isa::MOST_INSTRUCTIONS;
 
 /// Where a label is defined.
-#[derive(Clone, Copy, PartialEq, Eq, Debug, Drop)]
+#[derive(Clone, Copy, Drop)]
 pub struct Definition {
     /// The line, by its index from 0.
     pub line: usize,

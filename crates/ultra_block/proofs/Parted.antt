@@ -9,8 +9,7 @@ use Rattle.std.proofs.lemmas.List.{length-map, get_or-map, take_more, length-tak
 use Rattle.ultra_model.specs.Balance.{weight}
 use Rattle.ultra_block.specs.BlockState.{BlockState}
 use Rattle.ultra_block.specs.Cut.{no_block, units_of, AreNew, AreDone}
-use Rattle.ultra_block.specs.Parted.{put_if, parted, share, home_in, AreParted, AreFilled, AreCut, ForThis, switch_blocks, module_blocks, element_blocks}
-use Rattle.ultra_model.specs.Places.{places}
+use Rattle.ultra_block.specs.Parted.{put_if, parted, share, home_in, all_homes, AreParted, AreListsOf, AreFilled, AreCut, ForThis, switch_blocks, module_blocks, element_blocks}
 use Rattle.ultra_block.specs.declared.switch_unit.SwitchUnit.{SwitchUnit}
 use Rattle.ultra_block.specs.declared.module_unit.ModuleUnit.{ModuleUnit}
 use Rattle.ultra_block.specs.declared.element_unit.ElementUnit.{ElementUnit}
@@ -224,7 +223,7 @@ module _ {U : Type 0} (kind : BlockState → List U) (number_of : U → ℕ) (no
   }
 
 -- ---- what holds of each unit holds of each in a list
-pub each_parted : {X : Type 0} (P : X → Type 0) (ps : List ℕ) (os : List (Option X)) (lists : List (Vec X Global)) → AreParted ps os lists → length ps ≡ length os → ((n : ℕ) → n < length os → ForThis (get_or os n None) P)
+each_parted : {X : Type 0} (P : X → Type 0) (ps : List ℕ) (os : List (Option X)) (lists : List (Vec X Global)) → AreParted ps os lists → length ps ≡ length os → ((n : ℕ) → n < length os → ForThis (get_or os n None) P)
     → (b : ℕ) (d : Vec X Global) → b < 64 → All P (get_or lists b d).items
 each_parted P ps os lists a long all b d hb i x hi =
     let xs = (get_or lists b d).items in
@@ -236,6 +235,9 @@ each_parted P ps os lists a long all b d hb i x hi =
     let is : Some (get_or xs i x) ≡ get_or os o.number None =
     sym (get_or-map (λ x. Some x) xs i x None hi) ∙ ap (λ ys. get_or ys i None) same ∙ ap (λ j. get_or (parted b ps os) j None) (sym o.index) ∙ at_home b ps os o.number None o.small long o.block in
     subst (λ y. ForThis y P) (sym is) (all o.number (omega (arith, s, long)))
+
+pub parted_lists : {X : Type 0} (P : X → Type 0) (ps : List ℕ) (os : List (Option X)) (lists : List (Vec X Global)) → AreParted ps os lists → length ps ≡ length os → ((n : ℕ) → n < length os → ForThis (get_or os n None) P) → AreListsOf P lists
+parted_lists P ps os lists a long all = record { blocks = a.blocks; placed = each_parted P ps os lists a long all }
 
 -- ---- how many there are of each kind
 module _ (d : ℕ) (ps : List ℕ) (all : length ps ≡ d * 2 ^ (d - 1) + 2 * 2 ^ d) where
@@ -257,23 +259,21 @@ some_of [] h = absurd (omega (arith, h))
 some_of (x ∷ xs) h = x
 
 module _ (d n : ℕ) (ps : List ℕ) (switches : List (Vec SwitchUnit Global)) (modules : List (Vec ModuleUnit Global)) (elements : List (Vec ElementUnit Global)) (bs : List BlockState) (blocks : length bs ≡ 64)
-    (filled : (b : ℕ) → b < length bs → AreFilled n switches modules elements b (get_or bs b no_block))
+    (filled : (b : ℕ) → b < 64 → AreFilled n switches modules elements b (get_or bs b no_block))
     (sw : List (Option SwitchUnit)) (mo : List (Option ModuleUnit)) (el : List (Option ElementUnit)) (p : AreParted (switch_blocks d ps) sw switches) (q : AreParted (module_blocks d ps) mo modules) (r : AreParted (element_blocks d ps) el elements) where
-  pub cut_is : (hs : List Home)
-      → hs ≡ places (length (switch_blocks d ps)) (home_in (switch_blocks d ps)) ++ places (length (module_blocks d ps)) (home_in (module_blocks d ps)) ++ places (length (element_blocks d ps)) (home_in (element_blocks d ps))
-      → AreCut d ps n sw mo el hs bs
+  pub cut_is : (hs : List Home) → hs ≡ all_homes d ps → AreCut d ps n sw mo el hs bs
   unfolding AreDone
   cut_is hs e = record {
     homes = e;
     blocks = blocks;
-    done = λ b h. (filled b h).done;
+    done = λ b h. (filled b (omega (arith, h, blocks))).done;
     some_switches = λ b h.
         let x = some_of switches (omega (arith, p.blocks)) in
-        ap (λ ws. map (λ (w : SwitchUnit). Some w) ws) ((filled b (omega (arith, h, blocks))).some_switches x) ∙ p.units b x h;
+        ap (λ ws. map (λ (w : SwitchUnit). Some w) ws) ((filled b h).some_switches x) ∙ p.units b x h;
     some_modules = λ b h.
         let x = some_of modules (omega (arith, q.blocks)) in
-        ap (λ ws. map (λ (w : ModuleUnit). Some w) ws) ((filled b (omega (arith, h, blocks))).some_modules x) ∙ q.units b x h;
+        ap (λ ws. map (λ (w : ModuleUnit). Some w) ws) ((filled b h).some_modules x) ∙ q.units b x h;
     some_elements = λ b h.
         let x = some_of elements (omega (arith, r.blocks)) in
-        ap (λ ws. map (λ (w : ElementUnit). Some w) ws) ((filled b (omega (arith, h, blocks))).some_elements x) ∙ r.units b x h;
+        ap (λ ws. map (λ (w : ElementUnit). Some w) ws) ((filled b h).some_elements x) ∙ r.units b x h;
   }

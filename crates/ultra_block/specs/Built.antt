@@ -1,5 +1,5 @@
 -- a machine that is being built: so many of its units stand in blocks, as they are before the first cycle
-use Rattle.std.specs.Prelude.{◌≡◌, ℕ, ◌+◌, ◌-◌, ◌/◌, ◌%◌, ◌^◌, List, length}
+use Rattle.std.specs.Prelude.{◌≡◌, ℕ, ◌+◌, ◌*◌, ◌-◌, ◌/◌, ◌%◌, ◌^◌, List, length}
 use Rattle.ultra_model.specs.Machine.{Settings}
 use Rattle.ultra_block.specs.Numbers.{switch_number}
 use Rattle.ultra_block.specs.BlockState.{BlockState}
@@ -21,3 +21,7 @@ pub record AreBuilt (c : Settings) (switches modules elements : ℕ) (homes : Li
   pub some_elements : AreNew elements_of bs elements (λ p. element_home c.stages homes p) (λ (e : ElementUnit). e.pe) no_element (new_element c)
   pub done : AreDone 0 bs
   pub count : length homes ≡ switches + modules + elements
+
+-- all units
+abbrev pub AreAllBuilt : Settings → List Home → List BlockState → Type 0
+AreAllBuilt c homes bs = AreBuilt c (c.stages * 2 ^ (c.stages - 1)) (2 ^ c.stages) (2 ^ c.stages) homes bs

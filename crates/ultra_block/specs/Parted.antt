@@ -1,5 +1,5 @@
 -- units that are put into blocks in the order of their numbers: which come to a block, and where each stands
-use Rattle.std.specs.Prelude.{◌≡◌, ℕ, ◌*◌, ◌-◌, ◌^◌, ◌<◌, ◌≤◌, List, [], ◌∷◌, ◌++◌, Bool, true, false, ◌==◌, Option, Some, None, Vec, map, take, drop, length, slice_index_or}
+use Rattle.std.specs.Prelude.{◌≡◌, ℕ, ◌*◌, ◌-◌, ◌^◌, ◌<◌, ◌≤◌, List, [], ◌∷◌, ◌++◌, Bool, true, false, ◌==◌, Option, Some, None, Vec, All, map, take, drop, length, slice_index_or}
 use Rattle.std.specs.Vec.{vec_len, vec_capacity}
 use Rattle.std.specs.declared.alloc.Global.{Global}
 use Rattle.ultra_model.specs.Places.{places}
@@ -47,6 +47,11 @@ module _ {X : Type 0} (ps : List ℕ) where
     pub blocks : length lists ≡ 64
     pub units : (b : ℕ) (d : Vec X Global) → b < 64 → map (λ (x : X). Some x) (slice_index_or lists b d).items ≡ parted b ps os
 
+-- 64 lists of units that have their places
+pub record AreListsOf {X : Type 0} (IsPlaced : X → Type 0) (lists : List (Vec X Global)) : Type 0 where
+  pub blocks : length lists ≡ 64
+  pub placed : (b : ℕ) (d : Vec X Global) → b < 64 → All IsPlaced (slice_index_or lists b d).items
+
 -- there is a value, and of it this is so
 abbrev pub ForThis : {X : Type 0} → Option X → (X → Type 0) → Type 0
 ForThis None P = ⊥
@@ -70,9 +75,13 @@ module _ (d : ℕ) (ps : List ℕ) where
   abbrev pub element_blocks : List ℕ
   element_blocks = drop (2 ^ d) (drop (d * 2 ^ (d - 1)) ps)
 
+  -- the homes of all units
+  abbrev pub all_homes : List Home
+  all_homes = places (length switch_blocks) (home_in switch_blocks) ++ places (length module_blocks) (home_in module_blocks) ++ places (length element_blocks) (home_in element_blocks)
+
   -- all units have come to their blocks, which have made n cycles, and their homes are known
   pub record AreCut (n : ℕ) (switches : List (Option SwitchUnit)) (modules : List (Option ModuleUnit)) (elements : List (Option ElementUnit)) (hs : List Home) (bs : List BlockState) : Type 0 where
-    pub homes : hs ≡ places (length switch_blocks) (home_in switch_blocks) ++ places (length module_blocks) (home_in module_blocks) ++ places (length element_blocks) (home_in element_blocks)
+    pub homes : hs ≡ all_homes
     pub blocks : length bs ≡ 64
     pub done : AreDone n bs
     pub some_switches : (b : ℕ) → b < 64 → map (λ (w : SwitchUnit). Some w) (units_of switches_of bs b) ≡ parted b switch_blocks switches

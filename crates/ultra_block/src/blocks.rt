@@ -9,7 +9,7 @@ ghost use Rattle.ultra_model.specs.Phases.{cycle as next_cycle};
 
 use crate::apart::{Parts, gather};
 use crate::block::Block;
-use crate::building::{add_elements, add_modules, add_switches, empty_blocks};
+use crate::building::{new_tables, new_units};
 use crate::cutting::Room;
 use crate::element::ProcessingElement;
 use crate::element_unit::ElementUnit;
@@ -101,19 +101,16 @@ impl Blocks {
         }
         let _valid = config.initial();
         let net = config.net();
-        let switches = (net.stages() * (net.size() / 2)) as usize;
-        let size = net.size() as usize;
-        let mut blocks = empty_blocks(alloc, blocks_named(partition))?;
-        let mut homes = Vec::new(alloc);
-        add_switches(alloc, config, partition, &mut blocks, &mut homes)?;
-        add_modules(alloc, config, partition, switches, &mut blocks, &mut homes)?;
-        add_elements(config, partition, switches + size, &mut blocks, &mut homes)?;
+        let settings = config.try_clone()?;
+        let program = program.try_clone(alloc)?;
+        let (rooms, mail) = new_tables(alloc, net)?;
+        let (homes, blocks) = new_units(alloc, config, partition)?;
         Ok(Blocks {
-            rooms: Rooms::new(alloc, net)?,
-            mail: Mail::new(alloc, (net.stages() as usize + 1) * size)?,
-            config: config.try_clone()?,
-            program: program.try_clone(alloc)?,
+            config: settings,
+            program,
             homes,
+            rooms,
+            mail,
             done: 0,
             blocks,
         })
@@ -440,25 +437,6 @@ fn units_wanted(config: &Config) -> usize
     let net = config.net();
     let stages = net.stages();
     (stages * (net.size() / 2) + 2 * net.size()) as usize
-}
-
-/// How many blocks a partition names: one more than the last of them.
-fn blocks_named(partition: &[u8]) -> usize
-    ensures { All (λ (b : ℕ). b < result) partition.now }
-{
-    let mut count = 0;
-    for block in partition {
-        count = larger(count, *block as usize + 1);
-    }
-    count
-}
-
-/// The larger of two numbers.
-fn larger(a: usize, b: usize) -> usize
-    ensures first { a ≤ result }
-    ensures second { b ≤ result }
-{
-    if a < b { b } else { a }
 }
 
 /// Whether each is a block from 0 to 63.

@@ -3,19 +3,23 @@
 ghost use Rattle.std.specs.Prelude.{◌≡◌, ℕ, ◌+◌, ◌*◌, ◌-◌, ◌^◌, ◌<◌, ◌≤◌, ◌++◌, ◌∷◌, [], All, IfOk, OnOk, length, replicate, slice_index_or, slice_set};
 ghost use Rattle.ultra_mem.specs.Serve.{new_bank};
 ghost use Rattle.ultra_block.specs.Fresh.{filled, new_cells, new_element as fresh_element, new_module as fresh_module, new_switch as fresh_switch};
-ghost use Rattle.ultra_block.specs.Built.{AreBuilt};
-ghost use Rattle.ultra_block.specs.Cut.{no_block};
+ghost use Rattle.ultra_block.specs.Built.{AreBuilt, AreAllBuilt};
+ghost use Rattle.ultra_block.specs.Cut.{no_block, HasLinks, HasPlaces};
+ghost use Rattle.ultra_block.specs.Partition.{unit_count};
 ghost use Rattle.ultra_block.specs.BlockSteps.{with_element, with_module, with_switch};
 ghost use Rattle.ultra_block.specs.SwitchSteps as switch;
 ghost use Rattle.ultra_block.specs.ModuleSteps as bank;
 ghost use Rattle.ultra_block.specs.ElementSteps as element;
 
 use crate::block::Block;
+use crate::cutting::switch_count;
 use crate::element::ProcessingElement;
 use crate::element_unit::ElementUnit;
 use crate::home::Home;
 use crate::idle::Idle;
+use crate::mail::Mail;
 use crate::module_unit::ModuleUnit;
+use crate::rooms::Rooms;
 use crate::switch_unit::SwitchUnit;
 use std::alloc::{AllocError, Global};
 use ultra_isa::Processor;
@@ -23,6 +27,7 @@ use ultra_mem::Module;
 use ultra_model::Config;
 use ultra_msg::{Cell, Pe, Word};
 use ultra_pni::Pni;
+use ultra_route::Net;
 use ultra_switch::{Ports, Switch};
 
 /// Puts the initial values of this module, one of `size`, into its cells, which are all 0.
@@ -219,8 +224,27 @@ pub(crate) fn empty_blocks(alloc: Global, count: usize) -> Result<Vec<Block>, Al
     Ok(blocks)
 }
 
+/// How many blocks a partition names: one more than the last of them.
+fn blocks_named(partition: &[u8]) -> usize
+    ensures { All (λ (b : ℕ). b < result) partition.now }
+{
+    let mut count = 0;
+    for block in partition {
+        count = larger(count, *block as usize + 1);
+    }
+    count
+}
+
+/// The larger of two numbers.
+fn larger(a: usize, b: usize) -> usize
+    ensures first { a ≤ result }
+    ensures second { b ≤ result }
+{
+    if a < b { b } else { a }
+}
+
 /// All switches are made and put into their blocks. An error says that memory was refused.
-pub(crate) fn add_switches(
+fn add_switches(
     alloc: Global,
     config: &Config,
     partition: &[u8],
@@ -243,7 +267,7 @@ pub(crate) fn add_switches(
 }
 
 /// All modules are made and put into their blocks, which the partition names from `first` on. An error says that memory was refused.
-pub(crate) fn add_modules(
+fn add_modules(
     alloc: Global,
     config: &Config,
     partition: &[u8],
@@ -266,7 +290,7 @@ pub(crate) fn add_modules(
 }
 
 /// All processing elements are made and put into their blocks, which the partition names from `first` on. An error says that memory was refused.
-pub(crate) fn add_elements(
+fn add_elements(
     config: &Config,
     partition: &[u8],
     first: usize,
@@ -285,4 +309,51 @@ pub(crate) fn add_elements(
         put_element(blocks, homes, place, unit)?;
     }
     Ok(())
+}
+
+/// All units are made and put into their blocks, which the partition names. An error says that memory was refused.
+fn add_units(
+    alloc: Global,
+    config: &Config,
+    partition: &[u8],
+    blocks: &mut Vec<Block>,
+    homes: &mut Vec<Home>,
+) -> Result<(), AllocError>
+    requires units { length partition.now ≡ unit_count config.now }
+    requires places { All (λ (b : ℕ). b < length blocks.old.items) partition.now }
+    requires none { AreBuilt config.now 0 0 0 homes.old.items blocks.old.items }
+    ensures { OnOk result (AreAllBuilt config.now homes.new.items blocks.new.items) }
+{
+    let net = config.net();
+    let switches = switch_count(net);
+    let size = net.size() as usize;
+    add_switches(alloc, config, partition, blocks, homes)?;
+    add_modules(alloc, config, partition, switches, blocks, homes)?;
+    add_elements(config, partition, switches + size, blocks, homes)
+}
+
+/// The homes of all units, and the blocks in which they stand, by a partition. An error says that memory was refused.
+pub(crate) fn new_units(
+    alloc: Global,
+    config: &Config,
+    partition: &[u8],
+) -> Result<(Vec<Home>, Vec<Block>), AllocError>
+    requires { length partition.now ≡ unit_count config.now }
+    ensures { IfOk result (λ made. AreAllBuilt config.now made.0.items made.1.items) }
+{
+    let mut homes = Vec::new(alloc);
+    let mut blocks = empty_blocks(alloc, blocks_named(partition))?;
+    add_units(alloc, config, partition, &mut blocks, &mut homes)?;
+    Ok((homes, blocks))
+}
+
+/// Tables of the rooms and of the links of a network, with nothing on a link. An error says that memory was refused.
+pub(crate) fn new_tables(alloc: Global, net: Net) -> Result<(Rooms, Mail), AllocError>
+    ensures rooms { IfOk result (λ tables. HasPlaces net tables.0) }
+    ensures links { IfOk result (λ tables. HasLinks net tables.1) }
+{
+    let links = (net.stages() as usize + 1) * net.size() as usize;
+    let rooms = Rooms::new(alloc, net)?;
+    let mail = Mail::new(alloc, links)?;
+    Ok((rooms, mail))
 }

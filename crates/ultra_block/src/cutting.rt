@@ -12,7 +12,7 @@ ghost use Rattle.ultra_block.specs.ElementSteps as element;
 ghost use Rattle.ultra_block.specs.declared.switch_unit.SwitchUnit.{SwitchUnit};
 ghost use Rattle.ultra_block.specs.declared.module_unit.ModuleUnit.{ModuleUnit};
 ghost use Rattle.ultra_block.specs.declared.element_unit.ElementUnit.{ElementUnit};
-ghost use Rattle.ultra_block.specs.Parted.{AreCut, AreFilled, AreParted, AreThere, HasRoom, home_in, share};
+ghost use Rattle.ultra_block.specs.Parted.{AreCut, AreFilled, AreListsOf, AreParted, AreThere, HasRoom, all_homes, element_blocks, home_in, module_blocks, share, switch_blocks};
 
 use crate::apart::Parts;
 use crate::block::Block;
@@ -162,27 +162,55 @@ impl Room {
         requires places { All (λ (b : ℕ). b < 64) partition.now }
         ensures { AreCut net partition.now done parts.switches.items parts.modules.items parts.elements.items result.0.items result.1.items }
     {
+        self.settle_units(net, partition, &mut parts);
+        self.fill_blocks(done);
+        (self.homes, self.blocks)
+    }
+
+    /// Every unit goes to the end of the list of its block, and its home is noted: first those of the switches, then of the modules, then of the processing elements.
+    fn settle_units(&mut self, net: Net, partition: &[u8], parts: &mut Parts)
+        requires room { IsRoomFor net partition.now self.old }
+        requires parts { AreThere net parts.old }
+        requires units { length partition.now ≡ net * 2 ^ (net - 1) + 2 * 2 ^ net }
+        requires places { All (λ (b : ℕ). b < 64) partition.now }
+        ensures switches { AreParted (switch_blocks net partition.now) parts.old.switches.items self.new.switches.items }
+        ensures modules { AreParted (module_blocks net partition.now) parts.old.modules.items self.new.modules.items }
+        ensures elements { AreParted (element_blocks net partition.now) parts.old.elements.items self.new.elements.items }
+        ensures homes { self.new.homes.items ≡ all_homes net partition.now }
+        ensures blocks { self.new.blocks ≡ self.old.blocks }
+    {
         let (switches, others) = partition.split_at(switch_count(net));
         let (modules, elements) = others.split_at(net.size() as usize);
-        let homes = &mut self.homes;
         settle(
             parts.switches.as_mut_slice(),
             switches,
             self.switches.as_mut_slice(),
-            homes,
+            &mut self.homes,
         );
         settle(
             parts.modules.as_mut_slice(),
             modules,
             self.modules.as_mut_slice(),
-            homes,
+            &mut self.homes,
         );
         settle(
             parts.elements.as_mut_slice(),
             elements,
             self.elements.as_mut_slice(),
-            homes,
+            &mut self.homes,
         );
+    }
+
+    /// The units of each list go into the block of its number, which has made so many cycles.
+    fn fill_blocks(&mut self, done: u32)
+        requires blocks { length self.old.blocks.items ≡ 64 }
+        requires switches { AreListsOf switch.IsPlaced self.old.switches.items }
+        requires modules { AreListsOf bank.IsPlaced self.old.modules.items }
+        requires elements { AreListsOf element.IsPlaced self.old.elements.items }
+        ensures blocks { length self.new.blocks.items ≡ 64 }
+        ensures filled { (b : ℕ) → b < 64 → AreFilled done self.old.switches.items self.old.modules.items self.old.elements.items b (slice_index_or self.new.blocks.items b no_block) }
+        ensures homes { self.new.homes ≡ self.old.homes }
+    {
         fill(
             self.blocks.as_mut_slice(),
             done,
@@ -190,7 +218,6 @@ impl Room {
             self.modules.as_mut_slice(),
             self.elements.as_mut_slice(),
         );
-        (self.homes, self.blocks)
     }
 }
 

@@ -9,8 +9,6 @@
 mod board;
 mod rule;
 mod seat;
-#[cfg(test)]
-mod tests;
 mod words;
 
 pub use board::{Board, BoardFault};

@@ -9,7 +9,7 @@ use std::collections::LinkedList;
 use std::marker::{Brand, PhantomData};
 
 /// What a board is opened with.
-#[derive(Clone, Copy, PartialEq, Eq, Debug, Drop)]
+#[derive(Clone, Copy, Drop)]
 pub struct Limits {
     /// The numbers that are drawn are those below the limit.
     pub limit: u64,

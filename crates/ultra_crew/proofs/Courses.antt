@@ -1,7 +1,10 @@
 -- the course of a machine: it is that of its own start, and goes on with each cycle
 use Rattle.std.proofs.Common.{◌≡◌, ℕ, suc, ◌+◌, ◌-◌, List, refl, arith, ap, ◌∙◌, subst}
 use Rattle.ultra_block.specs.Cycle.{first_rooms, second_rooms, with_replies_come, with_replies_taken, with_memory_served, with_requests_come, with_requests_taken, with_steps_made}
+use Rattle.std.specs.Prelude.{Result, Ok, Err, IfOk, map}
 use Rattle.ultra_block.specs.Course.{IsAt}
+use Rattle.ultra_block.specs.Making.{made}
+use Rattle.ultra_crew.specs.declared.crew.CrewFault.{CrewFault}
 use Rattle.ultra_block.specs.declared.blocks.Blocks.{Blocks}
 use Rattle.ultra_block.specs.declared.half.Half.{Half}
 use Rattle.ultra_block.specs.declared.half.Half.TheVariants.{SendReplies, TakeReplies, Serve, SendRequests, TakeRequests, Execute}
@@ -71,3 +74,9 @@ module _ (results : ℕ → Half → ℕ → List Task) (workers : ℕ) (old : B
       let mail = ap (λ (x : Blocks). x.mail) counted ∙ at.mail in
       let stands : stand_of new ≡ next_stand old.program (stand_of old) = rw (blocks, rooms, mail) refl in
       course_on new (ap (λ (x : Blocks). x.done) counted ∙ ap (λ n. n + 1) at.done) (ap (λ (x : Blocks). x.program) counted ∙ at.program) stands
+
+-- what a half that may fail has made of the blocks, where it has not
+pub half_made : (b : Blocks) (h : Half) (r : Result Blocks CrewFault) → IfOk r (λ new. new.blocks.items ≡ map (made h b.rooms b.program) b.blocks.items) → IfOk r (λ new. new ≡ record b { blocks = new.blocks })
+    → (P : Blocks → Type 0) → ((new : Blocks) → new ≡ record b { blocks = new.blocks } → new.blocks.items ≡ map (made h b.rooms b.program) b.blocks.items → P new) → IfOk r P
+half_made b h (Ok new) blocks rest P f = f new rest blocks
+half_made b h (Err e) blocks rest P f = tt

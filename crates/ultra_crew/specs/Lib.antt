@@ -1,3 +1,4 @@
 pub mod Tasks
 pub mod Course
 pub mod Cycles
+pub mod Phases

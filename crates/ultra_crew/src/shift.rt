@@ -8,6 +8,8 @@ ghost use Rattle.ultra_model.specs.Phases.{cycle as next_cycle};
 ghost use Rattle.ultra_crew.specs.Tasks.{CanBeMade, task_made};
 ghost use Rattle.ultra_crew.specs.Course.{AreResults, IsCourse, results_of};
 ghost use Rattle.ultra_crew.specs.Cycles.{HasMade};
+ghost use Rattle.ultra_crew.specs.Phases.{HasExecuted, HasServed, HasServedIn};
+ghost use Rattle.ultra_block.specs.declared.blocks.Blocks.{Blocks};
 
 use crate::course::Course;
 use crate::crew::CrewFault;
@@ -86,19 +88,47 @@ impl<J: Course> Shift<J> {
         ensures done { IfOk result (λ b. b.done ≡ blocks.done + 1) }
         ensures course { IfOk result (λ b. IsCourse J.results self.now b) }
     {
-        let mut blocks = blocks;
+        let blocks = self.reply_and_serve(rt, alloc, blocks)?;
+        let mut blocks = self.request_and_execute(rt, alloc, blocks)?;
+        blocks.end_cycle();
+        Ok(blocks)
+    }
+
+    /// The first phases of a cycle, replies and memory, each half of them by the workers.
+    fn reply_and_serve<R: Wait>(
+        &self,
+        rt: &R,
+        alloc: Global,
+        mut blocks: Blocks,
+    ) -> Result<Blocks, CrewFault>
+        requires whole { IsWhole blocks }
+        requires some_worker { 1 ≤ self.now }
+        requires course { IsCourse J.results self.now blocks }
+        ensures { IfOk result (HasServed blocks) }
+    {
         blocks.note_rooms();
         let mut blocks = self.make(rt, alloc, blocks, Half::SendReplies)?;
         blocks.exchange();
         let blocks = self.make(rt, alloc, blocks, Half::TakeReplies)?;
-        let mut blocks = self.make(rt, alloc, blocks, Half::Serve)?;
+        self.make(rt, alloc, blocks, Half::Serve)
+    }
+
+    /// The last phases of a cycle, requests and processors, each half of them by the workers.
+    fn request_and_execute<R: Wait>(
+        &self,
+        rt: &R,
+        alloc: Global,
+        mut blocks: Blocks,
+    ) -> Result<Blocks, CrewFault>
+        requires some_worker { 1 ≤ self.now }
+        requires served { HasServedIn J.results self.now blocks }
+        ensures { IfOk result (λ b. (old : Blocks) → HasServed old blocks → HasExecuted old b) }
+    {
         blocks.note_rooms();
         let mut blocks = self.make(rt, alloc, blocks, Half::SendRequests)?;
         blocks.exchange();
         let blocks = self.make(rt, alloc, blocks, Half::TakeRequests)?;
-        let mut blocks = self.make(rt, alloc, blocks, Half::Execute)?;
-        blocks.end_cycle();
-        Ok(blocks)
+        self.make(rt, alloc, blocks, Half::Execute)
     }
 
     /// The machine makes so many cycles, each as by `cycle`.

@@ -30,7 +30,7 @@ enum Effect {
 }
 
 /// A processing element without its network interface: sixteen registers, a place in the program, and what it is doing (this project's profile).
-#[derive(Debug, Drop)]
+#[derive(Drop)]
 pub struct Processor {
     pe: Pe,
     size: u32,

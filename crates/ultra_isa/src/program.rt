@@ -8,7 +8,7 @@ use std::alloc::{AllocError, Global};
 use std::marker::Model;
 
 /// A program: at most 4096 instructions, whose jumps go to places from 0 to the program's length (this project's profile).
-#[derive(Debug, Drop)]
+#[derive(Drop)]
 pub struct Program {
     instructions: Vec<Instr>,
 }

@@ -13,7 +13,7 @@ use ultra_msg::{Op, Reply, ReplyMessage, Request, Word};
 pub const MOST_CELLS: u32 = 4096;
 
 /// A request that waits for a module, with the offset of its cell there.
-#[derive(Clone, Copy, PartialEq, Eq, Debug, Drop)]
+#[derive(Clone, Copy, Drop)]
 pub struct Placed {
     /// The request.
     pub request: Request,
@@ -190,62 +190,5 @@ impl Module {
         ensures taken { self.new ≡ record self.old { out = None } }
     {
         self.out.take()
-    }
-}
-
-#[cfg(test)]
-mod tests {
-    use super::*;
-    use std::test::Fail;
-
-    /// The module's side of the run `combined_pair`: the combined fetch-and-add of 2 finds 0 and leaves 2.
-    #[test]
-    fn combined_pair(rt: HostRuntime) -> Result<(), Fail> {
-        let request = Request {
-            pe: 1,
-            cell: 0,
-            op: Op::Faa(2),
-        };
-        let reply = Reply::Value(0);
-        let message = ReplyMessage {
-            pe: 1,
-            cell: 0,
-            reply,
-        };
-
-        let mut module = Module::new(rt.alloc(), 16)?;
-        assert_eq!(rt; module.cell_count(), 16);
-        assert_eq!(rt; module.serve(), None);
-        assert!(rt; module.is_idle());
-
-        module.put(request, 0);
-        assert_eq!(rt; module.request(), Some(request));
-        assert!(rt; !module.is_idle());
-
-        let served = Served {
-            request,
-            reply,
-            now: 2,
-        };
-        assert_eq!(rt; module.serve(), Some(served));
-        assert_eq!(rt; module.peek(0), Some(2));
-        assert_eq!(rt; module.reply(), Some(message));
-        assert_eq!(rt; module.take_reply(), Some(message));
-        assert!(rt; module.is_idle());
-        Ok(())
-    }
-
-    #[test]
-    fn cells_out_of_range(rt: HostRuntime) -> Result<(), Fail> {
-        for cells in [0, 4097] {
-            let fault = Module::new(rt.alloc(), cells).err();
-            assert_eq!(rt; fault, Some(ModuleFault::CellsOutOfRange), "at {cells}");
-        }
-        let mut module = Module::new(rt.alloc(), 4096)?;
-        assert_eq!(rt; module.cell_count(), 4096);
-        module.set(4095, 7);
-        assert_eq!(rt; module.peek(4095), Some(7));
-        assert_eq!(rt; module.peek(4096), None);
-        Ok(())
     }
 }

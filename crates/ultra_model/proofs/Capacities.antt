@@ -46,7 +46,7 @@ filter_shorter : {X : Type 0} (p : X → Bool) (xs : List X) → length (filter 
 filter_shorter p [] = omega arith
 filter_shorter p (x ∷ xs) = let h = filter_step (p x) x (filter p xs) (length xs) (filter_shorter p xs) in omega (arith, h)
 
--- ---- units
+-- ---- places
 -- a reply becomes at most two, and takes no place in the wait buffer
 replies_of_two : (m : ReplyMessage) (ws : List WaitRecord) → length (replies_of m ws) ≤ 2
 replies_of_two m [] = omega arith

@@ -89,7 +89,7 @@ pub some_known : {X : Type 0} (P Q : X → Type 0) (o : Option X) → IfSome o P
 some_known P Q None h f = tt
 some_known P Q (Some x) h f = f x refl h
 
--- ---- units, and the references whose processing element and cell pass a test
+-- ---- places, and the references whose processing element and cell pass a test
 module _ (t : ℕ → ℕ → Bool) where
   -- a combination leaves as many in the queue, and its partner is for the same cell
   abbrev CombinesWell : Request → List Entry → Option Combination → Type 0

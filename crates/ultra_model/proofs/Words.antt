@@ -103,7 +103,7 @@ get_named [] k h = tt
 get_named (i ∷ is) zero h = h.0
 get_named (i ∷ is) (suc k) h = get_named is k h.1
 
--- ---- units
+-- ---- places
 abbrev Gives : WaitRecord → Type 0
 Gives w = AddsWord w.give_old × AddsWord w.give_new
 

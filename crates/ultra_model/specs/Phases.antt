@@ -22,7 +22,7 @@ use Rattle.ultra_model.specs.declared.Stop.{Stop}
 use Rattle.ultra_model.specs.Places.{places, table, after_leaving, present, joined}
 use Rattle.ultra_model.specs.Machine.{Settings, Machine, Element, size, last_stage, site, request_exit, reply_exit, lane_at, replies_at, bank_at, element_at, start}
 
--- ---- what a phase does to one unit
+-- ---- what a phase does to one place, module or processing element
 abbrev pub delivery : Option ReplyMessage → Option Event
 delivery None = None
 delivery (Some r) = Some (Delivered r)

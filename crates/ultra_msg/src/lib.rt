@@ -7,8 +7,6 @@ ghost use Rattle.ultra_msg.specs.Pair.{pair_of, is_fixed, KeepsBoth};
 
 mod pieces;
 mod sink;
-#[cfg(test)]
-mod tests;
 
 pub use pieces::write_pieces;
 pub use sink::{Sink, SinkFault, write_all};
@@ -24,7 +22,7 @@ pub type Pe = u32;
 pub type Cell = u32;
 
 /// One of the sixteen registers of a processing element, by its number from 0 to 15.
-#[derive(Clone, Copy, PartialEq, Eq, Debug, Drop)]
+#[derive(Clone, Copy, PartialEq, Eq, Drop)]
 pub struct Register {
     index: u8,
 }
@@ -64,7 +62,7 @@ impl Register {
 }
 
 /// By how many bits a word is shifted: from 0 to 31.
-#[derive(Clone, Copy, PartialEq, Eq, Debug, Drop)]
+#[derive(Clone, Copy, Drop)]
 pub struct Shift {
     bits: u8,
 }

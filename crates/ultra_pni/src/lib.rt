@@ -16,7 +16,7 @@ use ultra_msg::{Cell, Register, ReplyMessage, Request};
 pub const MOST_OPEN: usize = 8;
 
 /// A cell with an outstanding reference, and the register that its value goes to, if it goes to one.
-#[derive(Clone, Copy, PartialEq, Eq, Debug, Default, Drop)]
+#[derive(Clone, Copy, Default, Drop)]
 pub struct OpenCell {
     pub cell: Cell,
     pub target: Option<Register>,
@@ -35,7 +35,7 @@ impl OpenCell {
 }
 
 /// What became of a request that a processing element would issue.
-#[derive(Clone, Copy, PartialEq, Eq, Debug, Drop)]
+#[derive(Clone, Copy, Drop)]
 pub enum Issue {
     /// It stands at the end of the list, and its cell is open.
     Sent,
@@ -48,7 +48,7 @@ pub enum Issue {
 /// The network interface of one processing element (this project's profile).
 ///
 /// It holds the requests that the element has issued and that are not yet in the network, in the order of their issues, and the cells that are open: those with a reference that hasn't been answered. No cell is open twice, as in the 1983 paper.
-#[derive(Debug, Drop)]
+#[derive(Drop)]
 pub struct Pni {
     opened: ArrayVec<OpenCell, MOST_OPEN>,
     pending: RequestRing,

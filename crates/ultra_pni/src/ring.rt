@@ -7,7 +7,7 @@ use std::marker::Model;
 use ultra_msg::Request;
 
 /// Requests in the order in which they came, in a ring over 8 places: the first place, and how many from there on.
-#[derive(Debug, Drop)]
+#[derive(Drop)]
 pub(crate) struct RequestRing {
     places: [Request; MOST_OPEN],
     first: usize,

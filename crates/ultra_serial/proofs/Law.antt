@@ -117,7 +117,7 @@ module _ (c : Settings) (n : ℕ) (m : Machine) (h : History) (w : IsSerial c n 
 eq_turned : (a b : ℕ) → (a == b) ≡ (b == a)
 eq_turned a b = grind (arith, nat_tests)
 
-given_is : (is : List (ℕ × ℕ)) (m : Cells) (a : ℕ) → given_over m is a ≡ given_value is a (m a)
+pub given_is : (is : List (ℕ × ℕ)) (m : Cells) (a : ℕ) → given_over m is a ≡ given_value is a (m a)
 given_is [] m a = refl
 given_is (i ∷ is) m a =
     let f : Bool → ℕ = λ b. elim b [ true ↦ i.1 | false ↦ m a ] in
@@ -196,7 +196,7 @@ request_cells c b None = refl
 request_cells c b (Some r) = refl
 
 -- the serial list only grows at its end
-grows-noted : (n : ℕ) (es : List Event) (h : History) → (rest : List Leaf) × ((noted n es h).order ≡ h.order ++ rest)
+pub grows-noted : (n : ℕ) (es : List Event) (h : History) → (rest : List Leaf) × ((noted n es h).order ≡ h.order ++ rest)
 grows-noted n [] h = ([], sym (append-nil h.order))
 grows-noted n (e ∷ es) h =
     let more = grows-noted n es (after_event n h e) in
@@ -213,14 +213,17 @@ module _ (c : Settings) (range : AreInRange c) (program : List Instr) (n : ℕ) 
   pub any_delivery : (P : Event → Type 0) (m : Machine) → ((r : ReplyMessage) → P (Delivered r)) → AllByRecursion P (deliveries m)
   any_delivery P m f = each_delivery P m (λ p h. some_any (delivered c m p) (λ r. P (Delivered r)) f)
 
-  delivers_well : (m : Machine) (h : History) → IsSerial c n m h → AllByRecursion (DeliversWell h.log.issues (list_of c h)) (deliveries m)
-  delivers_well m h w =
-      each_delivery (DeliversWell h.log.issues (list_of c h)) m (λ p hp.
+  -- the reply that is delivered to p is that of an entry
+  pub delivered_entry : (m : Machine) (h : History) → IsSerial c n m h → (p : ℕ) → p < size c → IfSome (delivered c m p) (λ (r : ReplyMessage). IsIn (answered_by (leaf_of h.log.issues r.pe r.cell) r.reply) (list_of c h))
+  delivered_entry m h w p hp =
       let v = shuffled c.stages p in
       let some = range.some_stages in
       some-weaker (IsAnswered c m h.log.issues (list_of c h) 0) (λ (r : ReplyMessage). IsIn (answered_by (leaf_of h.log.issues r.pe r.cell) r.reply) (list_of c h)) (slice_get (replies_at m 0 v) 0)
       (λ r k. subst (λ t. IsExplained (list_of c h) t r.reply) (built_leaf c m h.log.issues r.pe r.cell) k)
-      (each-first (IsAnswered c m h.log.issues (list_of c h) 0) (replies_at m 0 v) (w.forest.replies 0 v (omega arith) (turns_back c range p hp).entry_small)))
+      (each-first (IsAnswered c m h.log.issues (list_of c h) 0) (replies_at m 0 v) (w.forest.replies 0 v (omega arith) (turns_back c range p hp).entry_small))
+
+  delivers_well : (m : Machine) (h : History) → IsSerial c n m h → AllByRecursion (DeliversWell h.log.issues (list_of c h)) (deliveries m)
+  delivers_well m h w = each_delivery (DeliversWell h.log.issues (list_of c h)) m (λ p hp. delivered_entry m h w p hp)
 
   same_cells_replied : (m : Machine) (a : ℕ) → cells_of c (reply_phase c m) a ≡ cells_of c m a
   same_cells_replied m a =
@@ -246,7 +249,7 @@ module _ (c : Settings) (range : AreInRange c) (program : List Instr) (n : ℕ) 
       }
 
   -- ---- memory
-  each_serving : (P : Event → Type 0) (m : Machine) → ((k : ℕ) (a : Act) → P (Served k a.request a.reply a.now)) → AllByRecursion P (present (places (size c) (λ k. serving k (served (bank_at m k)))))
+  pub each_serving : (P : Event → Type 0) (m : Machine) → ((k : ℕ) (a : Act) → P (Served k a.request a.reply a.now)) → AllByRecursion P (present (places (size c) (λ k. serving k (served (bank_at m k)))))
   each_serving P m f = each-present P (places (size c) (λ k. serving k (served (bank_at m k)))) (each-places (λ o. IfSome o P) (size c) (λ k. serving k (served (bank_at m k))) (λ k h. some_serving P k (served (bank_at m k)) (λ a. f k a)))
 
   same_element_served : (m : Machine) (p : ℕ) → (element_at (memory_phase c m) p).issued ≡ (element_at m p).issued
@@ -276,7 +279,7 @@ module _ (c : Settings) (range : AreInRange c) (program : List Instr) (n : ℕ) 
   abbrev pub meetings : Machine → List Event
   meetings m = joined (joined (table c.stages (size c) (λ s x. combinations c.wait_places s x (lane_after_leaving c m s x) (arrivals c m s x))))
 
-  each_meeting : (P : Event → Type 0) (m : Machine) → ((s x a p q : ℕ) (f : Bool) → P (Combined s x a p q f)) → AllByRecursion P (meetings m)
+  pub each_meeting : (P : Event → Type 0) (m : Machine) → ((s x a p q : ℕ) (f : Bool) → P (Combined s x a p q f)) → AllByRecursion P (meetings m)
   each_meeting P m f =
       each-joined P (joined (table c.stages (size c) (λ s x. combinations c.wait_places s x (lane_after_leaving c m s x) (arrivals c m s x))))
       (each-joined (λ es. AllByRecursion P es) (table c.stages (size c) (λ s x. combinations c.wait_places s x (lane_after_leaving c m s x) (arrivals c m s x)))

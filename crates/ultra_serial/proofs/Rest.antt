@@ -24,8 +24,7 @@ use Rattle.ultra_model.specs.Phases.{delivery, serving, issue_event, combination
 use Rattle.ultra_model.proofs.Each.{each-places, each-joined, if_tested, length-places}
 use Rattle.ultra_model.proofs.Counting.{both_true}
 use Rattle.ultra_model.proofs.AtPlaces.{element-reply_phase, element-request_phase, element-processor_phase}
-use Rattle.ultra_serial.specs.Legal.{given, replayed}
-use Rattle.ultra_serial.specs.SerialList.{History, noted, history, serial_list}
+use Rattle.ultra_serial.specs.SerialList.{noted, history}
 
 -- ---- tests
 nothing_in : {X : Type 0} (xs : List X) → is_empty xs ≡ true → xs ≡ []
@@ -328,11 +327,5 @@ module _ (c : Settings) where
         let r = rest_later n m (omega (arith, l, ne)) h in
         (rest_cycle (after c program m) r.0, ap (λ es. noted m es (history c program m)) (nothing_happens (after c program m) r.0) ∙ r.1)) (cases_eq n (suc m))
 
-    quiet_history : (n m : ℕ) → n ≤ m → is_quiet (after c program n) ≡ true → history c program m ≡ history c program n
-    quiet_history n m l q = (rest_later n m l (rest_if_quiet (after c program n) (all_elements n) q)).1
-
-    pub quiet_order : (n m : ℕ) → n ≤ m → is_quiet (after c program n) ≡ true → serial_list c program n ≡ serial_list c program m
-    quiet_order n m l q = ap (λ (h : History). replayed (given c.initial) h.order) (sym (quiet_history n m l q))
-
-    pub quiet_log : (n m : ℕ) → n ≤ m → is_quiet (after c program n) ≡ true → (history c program n).log ≡ (history c program m).log
-    quiet_log n m l q = ap (λ (h : History). h.log) (sym (quiet_history n m l q))
+    pub quiet_history : (n m : ℕ) → n ≤ m → is_quiet (after c program n) ≡ true → history c program n ≡ history c program m
+    quiet_history n m l q = sym (rest_later n m l (rest_if_quiet (after c program n) (all_elements n) q)).1

@@ -37,7 +37,7 @@ pub enum BreachKind {
 }
 
 /// Why a list is not accepted.
-#[derive(Clone, Copy, PartialEq, Eq, Debug, Drop)]
+#[derive(Clone, Copy, Debug, Drop)]
 pub enum CheckFault {
     /// Memory was refused.
     NoMemory,

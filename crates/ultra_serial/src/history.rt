@@ -1,6 +1,7 @@
 //! What the requests of a run did one after the other, and when they were issued and answered.
 
 ghost use Rattle.std.specs.Prelude.{◌≡◌, ℕ, ◌∷◌, ◌++◌, ◌≤◌, List, IfOk, OnOk};
+ghost use Rattle.ultra_model.specs.Machine.{start};
 ghost use Rattle.ultra_serial.specs.Legal.{cells_after, replayed};
 ghost use Rattle.ultra_serial.specs.SerialList.{History, empty_history, after_event, noted, history, serial_list};
 ghost use Rattle.ultra_serial.specs.Memory.{cell_in};
@@ -118,19 +119,45 @@ pub fn order(
     requires { cycles ≤ 1000000 }
     ensures { IfOk result (λ list. list.items ≡ serial_list config.now program.now cycles) }
 {
-    let mut machine = Machine::new(alloc, config, program)?;
     let mut serving = Serving::new(alloc, config.initial())?;
-    for _ in 0..cycles {
-        machine.cycle();
-        serving.note_all(machine.events())?;
-        if machine.is_quiet() {
-            break;
-        }
-    }
+    serving.follow(alloc, config, program, cycles)?;
     Ok(serving.into_order())
 }
 
 impl Serving {
+    /// Follows the first `cycles` cycles of a run. An error says that memory was refused.
+    fn follow(
+        &mut self,
+        alloc: Global,
+        config: &Config,
+        program: &Program,
+        cycles: u32,
+    ) -> Result<(), AllocError>
+        requires cycles { cycles ≤ 1000000 }
+        requires before { Follows config.now.initial self.old empty_history }
+        ensures { OnOk result (Follows config.now.initial self.new (history config.now program.now cycles)) }
+    {
+        let mut machine = Machine::new(alloc, config, program)?;
+        self.follow_cycles(&mut machine, cycles)
+    }
+
+    /// Follows a machine from its start for `cycles` cycles, or until it is quiet. An error says that memory was refused.
+    fn follow_cycles(&mut self, machine: &mut Machine, cycles: u32) -> Result<(), AllocError>
+        requires cycles { cycles ≤ 1000000 }
+        requires start { machine.old.state ≡ start machine.old.settings }
+        requires before { Follows machine.old.settings.initial self.old empty_history }
+        ensures { OnOk result (Follows machine.old.settings.initial self.new (history machine.old.settings machine.old.program cycles)) }
+    {
+        for _ in 0..cycles {
+            machine.cycle();
+            self.note_all(machine.events())?;
+            if machine.is_quiet() {
+                break;
+            }
+        }
+        Ok(())
+    }
+
     /// What was served, in order.
     fn into_order(self) -> SerialList
         ensures { result.items ≡ self.order.items }

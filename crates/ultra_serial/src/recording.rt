@@ -1,6 +1,7 @@
 //! When the requests of a run were issued and answered.
 
 ghost use Rattle.std.specs.Prelude.{◌≡◌, ℕ, ◌∷◌, ◌++◌, ◌≤◌, List, IfOk, OnOk};
+ghost use Rattle.ultra_model.specs.Machine.{start};
 ghost use Rattle.ultra_serial.specs.Log.{Log as LogKept, empty_log, log_of, latest_number, logged};
 ghost use Rattle.ultra_serial.specs.SerialList.{history};
 ghost use Rattle.ultra_serial.specs.Recording.{Records, logged_all};
@@ -82,6 +83,39 @@ impl Recording {
         self.numbers.get((pe, cell)).last().copied().unwrap_or(0)
     }
 
+    /// Records the first `cycles` cycles of a run. An error says that memory was refused.
+    fn record(
+        &mut self,
+        alloc: Global,
+        config: &Config,
+        program: &Program,
+        cycles: u32,
+    ) -> Result<(), AllocError>
+        requires cycles { cycles ≤ 1000000 }
+        requires before { Records self.old empty_log }
+        ensures { OnOk result (Records self.new (history config.now program.now cycles).log) }
+    {
+        let mut machine = Machine::new(alloc, config, program)?;
+        self.record_cycles(&mut machine, cycles)
+    }
+
+    /// Records a machine from its start for `cycles` cycles, or until it is quiet. An error says that memory was refused.
+    fn record_cycles(&mut self, machine: &mut Machine, cycles: u32) -> Result<(), AllocError>
+        requires cycles { cycles ≤ 1000000 }
+        requires start { machine.old.state ≡ start machine.old.settings }
+        requires before { Records self.old empty_log }
+        ensures { OnOk result (Records self.new (history machine.old.settings machine.old.program cycles).log) }
+    {
+        for cycle in 0..cycles {
+            machine.cycle();
+            self.note_all(cycle, machine.events())?;
+            if machine.is_quiet() {
+                break;
+            }
+        }
+        Ok(())
+    }
+
     /// The log.
     fn into_log(self) -> Log
         ensures { log_of result ≡ log_of self.log }
@@ -101,14 +135,7 @@ pub fn log(
     requires { cycles ≤ 1000000 }
     ensures { IfOk result (λ log. log_of log ≡ (history config.now program.now cycles).log) }
 {
-    let mut machine = Machine::new(alloc, config, program)?;
     let mut recording = Recording::new(alloc);
-    for cycle in 0..cycles {
-        machine.cycle();
-        recording.note_all(cycle, machine.events())?;
-        if machine.is_quiet() {
-            break;
-        }
-    }
+    recording.record(alloc, config, program, cycles)?;
     Ok(recording.into_log())
 }

@@ -3,7 +3,7 @@
 use ultra_msg::{Cell, Op, Pe, Reply};
 
 /// A request as its processing element issued it. Its name is the element with the number.
-#[derive(Clone, Copy, PartialEq, Eq, Debug, Drop)]
+#[derive(Clone, Copy, Drop)]
 pub struct Leaf {
     /// The element that issued it.
     pub pe: Pe,
@@ -62,7 +62,7 @@ pub struct Answer {
 }
 
 /// What a machine issued and answered in its first cycles.
-#[derive(Debug, Drop)]
+#[derive(Drop)]
 pub struct Log {
     /// All issues, by cycle, then by processing element.
     pub issues: Vec<Issue>,

@@ -17,7 +17,7 @@ use std::alloc::{AllocError, Global};
 use ultra_msg::{Cell, Give, Pe, ReplyMessage, Request};
 
 /// A request in a queue toward memory.
-#[derive(Clone, Copy, PartialEq, Eq, Debug, Default, Drop)]
+#[derive(Clone, Copy, PartialEq, Eq, Debug, Drop)]
 pub struct Entry {
     /// What is sent to memory: the request that arrived, or what stands for it and the one that it combined with.
     pub request: Request,
@@ -59,14 +59,14 @@ pub enum Split {
 }
 
 /// Why a switch could not be made.
-#[derive(Clone, Copy, PartialEq, Eq, Debug, Drop)]
+#[derive(Clone, Copy, Debug, Drop)]
 pub enum SwitchFault {
     /// The memory for a queue was refused.
     NoMemory,
 }
 
 /// What there is at each of the two ports of a switch, port 0 and port 1.
-#[derive(Clone, Copy, PartialEq, Eq, Debug, Drop)]
+#[derive(Clone, Copy, Drop)]
 pub struct Ports<T> {
     pub zero: T,
     pub one: T,
@@ -111,58 +111,5 @@ impl Switch {
 impl From<AllocError> for SwitchFault {
     fn from(_: AllocError) -> SwitchFault {
         SwitchFault::NoMemory
-    }
-}
-
-#[cfg(test)]
-mod tests {
-    use super::*;
-    use std::test::Fail;
-    use ultra_msg::{Op, Reply};
-
-    fn add_one(pe: Pe) -> Request {
-        Request {
-            pe,
-            cell: 0,
-            op: Op::Faa(1),
-        }
-    }
-
-    fn value(pe: Pe, word: u32) -> ReplyMessage {
-        ReplyMessage {
-            pe,
-            cell: 0,
-            reply: Reply::Value(word),
-        }
-    }
-
-    #[test]
-    fn pair_combines_and_splits(rt: HostRuntime) -> Result<(), Fail> {
-        let mut switch = Switch::new(rt.alloc(), 4, 8, 1)?;
-        let requests = &mut switch.to_mm.zero;
-        assert!(rt; requests.has_room());
-        assert_eq!(rt; requests.arrive(add_one(1)), Arrived::Appended);
-        assert!(rt; requests.has_room());
-        assert_eq!(rt; requests.arrive(add_one(0)), Arrived::CombinedWith(1));
-        let sent = requests.leave().ok_or("nothing was sent")?;
-        assert_eq!(rt; sent.op, Op::Faa(2));
-        assert_eq!(rt;
-            requests.split(value(1, 0)),
-            Split::Two(value(1, 0), value(0, 1))
-        );
-        assert!(rt; requests.is_idle());
-        Ok(())
-    }
-
-    #[test]
-    fn reply_waits_and_leaves(rt: HostRuntime) -> Result<(), Fail> {
-        let mut switch = Switch::new(rt.alloc(), 4, 8, 1)?;
-        let replies = &mut switch.to_pe.one;
-        assert!(rt; replies.has_room());
-        replies.put(value(0, 7));
-        assert_eq!(rt; replies.head(), Some(value(0, 7)));
-        assert_eq!(rt; replies.leave(), Some(value(0, 7)));
-        assert!(rt; replies.is_empty());
-        Ok(())
     }
 }

@@ -6,7 +6,7 @@ ghost use Rattle.ultra_switch.specs.Marks.{has_mark};
 use std::marker::Model;
 
 /// Which requests of a queue have combined there: bit i of the word is the mark of the request at place i, counted from the front.
-#[derive(Clone, Copy, PartialEq, Eq, Debug, Drop)]
+#[derive(Clone, Copy, Drop)]
 pub(crate) struct Marks {
     word: u32,
 }

@@ -12,7 +12,7 @@ use Rattle.ultra_block.specs.BlocksState.{machine_of, IsWhole}
 use Rattle.ultra_model.specs.Phases.{after, cycle, reply_phase, memory_phase, request_phase, processor_phase}
 use Rattle.ultra_trace.specs.declared.page.Page.{Page}
 use Rattle.ultra_trace.specs.Page.{Writes, WritesBeginning}
-use Rattle.ultra_trace.specs.Run.{IsAfter}
+use Rattle.ultra_trace.specs.BlocksAfter.{IsAfter}
 use Rattle.ultra_trace.specs.Trace.{by_number, cycle_text, cycles_text, cycle_count, all_cycles_text, last_state, end_text}
 use Rattle.ultra_trace.proofs.Writing.{either, writes_failed, writes_spent}
 use Rattle.ultra_trace.proofs.Numbered.{writes_number}

@@ -1,4 +1,5 @@
 pub mod Text
 pub mod Trace
 pub mod Page
-pub mod Run
+pub mod Faults
+pub mod BlocksAfter

@@ -7,7 +7,8 @@ ghost use Rattle.ultra_block.specs.Partition.{is_partition};
 ghost use Rattle.ultra_block.specs.BlocksState.{machine_of, IsWhole};
 ghost use Rattle.ultra_trace.specs.Trace.{cycle_count, cycle_text, all_cycles_text, trace};
 ghost use Rattle.ultra_trace.specs.declared.running.RunFault.TheVariants.{Write, NoMemory, NoThread};
-ghost use Rattle.ultra_trace.specs.Run.{fault_of_crew, sink_faults, IsAfter};
+ghost use Rattle.ultra_trace.specs.Faults.{fault_of_crew, sink_faults};
+ghost use Rattle.ultra_trace.specs.BlocksAfter.{IsAfter};
 ghost use Rattle.ultra_trace.specs.Text.{newline};
 ghost use Rattle.ultra_trace.specs.Page.{Writes};
 
@@ -83,10 +84,10 @@ pub fn run<R: Threads + Wait + Sync, G: Gate + Sync, S: Sink>(
     ensures alone { workers ≡ 1 → IfErr result (λ e. e ≢ NoThread) }
 {
     if workers == 1 {
-        return run_alone(alloc, config, program, sink);
+        run_alone(alloc, config, program, sink)
+    } else {
+        run_together(rt, alloc, config, program, workers, gate, sink)
     }
-    let blocks = new_blocks(alloc, config, program, workers as u8)?;
-    write_trace_together(rt, alloc, blocks, workers, gate, sink)
 }
 
 /// Runs a program on a machine of these settings in the caller's thread, and writes the trace to the sink. After a fault the sink has taken a beginning of it.
@@ -107,6 +108,27 @@ pub fn run_alone<S: Sink>(
     let mut blocks = new_blocks(alloc, config, program, 1)?;
     write_trace(&mut blocks, sink)?;
     Ok(())
+}
+
+/// Runs a program on a machine of these settings by several workers, each in a thread of its own, and writes the trace to the sink. After a fault the sink has taken a prefix of it.
+fn run_together<R: Threads + Wait + Sync, G: Gate + Sync, S: Sink>(
+    rt: &R,
+    alloc: Global,
+    config: &Config,
+    program: &Program,
+    workers: usize,
+    gate: &G,
+    sink: &mut S,
+) -> Result<(), RunFault>
+    requires some_worker { 1 ≤ workers }
+    requires most_workers { workers ≤ 64 }
+    ensures ok { OnOk result (S.taken sink.new ≡ S.taken sink.old ++ trace config.now program.now) }
+    ensures still { OnOk result (S.failures sink.new ≡ S.failures sink.old) }
+    ensures err { OnErr result (IsBeginning (S.taken sink.new) (S.taken sink.old ++ trace config.now program.now)) }
+    ensures counted { IfErr result (λ e. S.failures sink.new ≡ S.failures sink.old + sink_faults e) }
+{
+    let blocks = new_blocks(alloc, config, program, workers as u8)?;
+    write_trace_together(rt, alloc, blocks, workers, gate, sink)
 }
 
 /// The machine before its first cycle, cut for as many workers: unit `u` stands in block `u mod workers`. An error says that memory was refused.

@@ -5,7 +5,8 @@ ghost use Rattle.ultra_msg.specs.Bytes.{IsBeginning};
 ghost use Rattle.ultra_block.specs.BlocksState.{IsWhole};
 ghost use Rattle.ultra_crew.specs.Course.{IsCourse};
 ghost use Rattle.ultra_trace.specs.Trace.{all_cycles_text, cycle_count, trace};
-ghost use Rattle.ultra_trace.specs.Run.{sink_faults, IsAfter};
+ghost use Rattle.ultra_trace.specs.Faults.{sink_faults};
+ghost use Rattle.ultra_trace.specs.BlocksAfter.{IsAfter};
 ghost use Rattle.ultra_trace.specs.Page.{Writes, WritesBeginning};
 
 use super::page::Page;
@@ -120,13 +121,33 @@ impl<'s, S: Sink> Page<'s, S> {
         ensures err { OnErr result (IsBeginning (S.taken self.new.sink.now) (S.taken self.old.sink.now ++ trace blocks.config blocks.program)) }
         ensures counted { IfErr result (λ e. S.failures self.new.sink.now ≡ S.failures self.old.sink.now + sink_faults e) }
     {
+        self.put_trace_together(rt, alloc, blocks, shift)?;
+        self.finish()?;
+        Ok(())
+    }
+
+    /// Runs a machine from its start by workers, and writes its trace. It ends early where the sink or a worker fails.
+    fn put_trace_together<J: Course, R: Wait>(
+        &mut self,
+        rt: &R,
+        alloc: Global,
+        blocks: Blocks,
+        shift: &Shift<J>,
+    ) -> Result<(), CrewFault>
+        requires some_worker { 1 ≤ shift.now }
+        requires course { IsCourse J.results shift.now blocks }
+        requires start { IsAfter blocks.config blocks.program 0 blocks }
+        requires sound { self.old.failed ≡ false }
+        ensures ok { OnOk result (Writes S.taken S.failures (trace blocks.config blocks.program) self.old self.new) }
+        ensures err { OnErr result (WritesBeginning S.taken S.failures (trace blocks.config blocks.program) self.old self.new) }
+        ensures sound { OnErr result (self.new.failed ≡ false) }
+    {
         self.put_first_line();
         if self.has_failed() {
-            return Err(RunFault::Write);
+            return Ok(());
         }
         let blocks = self.put_cycles_together(rt, alloc, blocks, shift)?;
         self.put_end(&blocks);
-        self.finish()?;
         Ok(())
     }
 

@@ -1,5 +1,5 @@
 use Rattle.ultra_trace.specs.Page.{Writes}
-use Rattle.ultra_trace.specs.Run.{IsAfter}
+use Rattle.ultra_trace.specs.BlocksAfter.{IsAfter}
 use Rattle.ultra_trace.specs.Trace.{cycles_text}
 use Rattle.ultra_trace.proofs.Count.{IsBusy}
 use Rattle.ultra_trace.proofs.page.Page.put_cycles.Given as goal

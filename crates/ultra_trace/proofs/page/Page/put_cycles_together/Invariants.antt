@@ -1,7 +1,7 @@
 use Rattle.std.proofs.Common.{◌≡◌, false}
 use Rattle.ultra_crew.specs.Course.{IsCourse}
 use Rattle.ultra_trace.specs.Page.{Writes}
-use Rattle.ultra_trace.specs.Run.{IsAfter}
+use Rattle.ultra_trace.specs.BlocksAfter.{IsAfter}
 use Rattle.ultra_trace.specs.Trace.{cycles_text}
 use Rattle.ultra_trace.proofs.Count.{IsBusy}
 use Rattle.ultra_trace.proofs.page.Page.put_cycles_together.Given as goal

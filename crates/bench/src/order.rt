@@ -1,0 +1,71 @@
+//! Makes the serial order and the log of a run, checks the one against the other, and prints how
+//! many entries the order has, how many issues and answers the log has, and `Ok` or what is wrong.
+//!
+//! The words are the file of a program's text, the number of stages, the number of cycles, at most
+//! 1,000,000, and how far to go: `order` makes the order alone, `log` the log too, and `check` also
+//! checks them. All parts of the machine have the default sizes.
+
+use crate::cells::of_machine;
+use crate::cycles::make_cycles;
+use crate::setup::{Setup, Sizes};
+use anyhow::bail;
+use std::rt::Files;
+use ultra_machine::Machine;
+use ultra_msg::{Cell, Word};
+use ultra_serial::{CheckFault, Log, SerialList, check, log, order};
+
+/// The most cycles of a run.
+const MOST_CYCLES: u32 = 1_000_000;
+
+/// All cells at the end of the run.
+fn last_cells(rt: &impl AllocGlobal, setup: &Setup) -> anyhow::Result<Vec<(Cell, Word)>> {
+    let mut machine = Machine::new(rt.alloc(), &setup.config, &setup.program)?;
+    let _acts = make_cycles(&mut machine, setup.cycles);
+    Ok(of_machine(rt.alloc(), &machine)?)
+}
+
+/// Checks an order against a log and the cells of the run's end, and prints what comes of it.
+fn check_all(
+    rt: &(impl AllocGlobal + Print),
+    setup: &Setup,
+    log: &Log,
+    list: &SerialList,
+) -> anyhow::Result<()> {
+    let cells = last_cells(rt, setup)?;
+    let initial = setup.config.initial();
+    match check(rt.alloc(), initial, log, cells.as_slice(), list.as_slice()) {
+        Ok(()) => println!(rt; "Ok")?,
+        Err(CheckFault::NoMemory) => bail!("memory was refused"),
+        Err(CheckFault::Breach(kind, index)) => println!(rt; "{kind:?} {index}")?,
+    }
+    Ok(())
+}
+
+/// Goes as far as the words ask for.
+pub(crate) fn measure(
+    rt: &(impl AllocGlobal + Files + Print),
+    words: &[String],
+) -> anyhow::Result<()> {
+    let [path, stages, cycles, goal] = words else {
+        bail!("four words are wanted: a file, stages, cycles, and order, log or check");
+    };
+    let setup = Setup::read(rt, path, stages, cycles, Sizes::DEFAULT)?;
+    if setup.cycles > MOST_CYCLES {
+        bail!("at most 1,000,000 cycles can be made");
+    }
+    let Ok(list) = order(rt.alloc(), &setup.config, &setup.program, setup.cycles) else {
+        bail!("memory was refused");
+    };
+    println!(rt; "entries {}", list.len())?;
+    if goal.as_str() == "order" {
+        return Ok(());
+    }
+    let Ok(log) = log(rt.alloc(), &setup.config, &setup.program, setup.cycles) else {
+        bail!("memory was refused");
+    };
+    println!(rt; "issues {} answers {}", log.issues.len(), log.answers.len())?;
+    if goal.as_str() == "check" {
+        check_all(rt, &setup, &log, &list)?;
+    }
+    Ok(())
+}

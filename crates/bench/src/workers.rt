@@ -1,0 +1,114 @@
+//! Has workers make cycles of a machine, and prints how many cycles it made and a digest of its
+//! cells, which is the same for every number of workers.
+//!
+//! The words are the file of a program's text, the number of stages, the number of cycles, the
+//! number of workers, and `kept` where their threads are started once or `anew` where they are
+//! started for each cycle. All parts of the machine have the default sizes.
+
+ghost use Rattle.std.specs.Prelude.{◌≡◌, ◌+◌, ◌<◌, ◌≤◌, ◌^◌, IfOk};
+ghost use Rattle.ultra_block.specs.BlocksState.{IsWhole};
+
+use crate::cells::{digest, of_blocks};
+use crate::setup::{Setup, Sizes};
+use anyhow::bail;
+use std::alloc::Global;
+use std::rt::Files;
+use std::sync::Wait;
+use std::thread::Threads;
+use ultra_block::{Blocks, Half};
+use ultra_crew::{Crew, CrewFault, Gate, MOST_WORKERS};
+
+/// A gate that holds nobody up.
+struct Open;
+
+impl Gate for Open {
+    fn before<R: Wait>(&self, _rt: &R, _cycle: u32, _half: Half, _block: usize) {}
+}
+
+/// The machine before its first cycle, with unit `u` in block `u` modulo the number of workers.
+fn dealt_out(alloc: Global, setup: &Setup, workers: u8) -> anyhow::Result<Blocks>
+    requires { 1 ≤ workers }
+    ensures whole { IfOk result (λ b. IsWhole b) }
+    ensures done { IfOk result (λ b. b.done ≡ 0) }
+{
+    let net = setup.config.net();
+    let mut partition = Vec::new(alloc);
+    for unit in 0..net.stages() * (net.size() / 2) + 2 * net.size() {
+        partition.push((unit % u32::from(workers)) as u8)?;
+    }
+    let partition = partition.as_slice();
+    Ok(Blocks::new(alloc, &setup.config, &setup.program, partition)?)
+}
+
+/// Makes `count` cycles, and starts the threads anew for each.
+fn make_anew<R: Threads + Wait + Sync>(
+    rt: &R,
+    alloc: Global,
+    mut blocks: Blocks,
+    workers: usize,
+    count: u32,
+) -> Result<Blocks, CrewFault>
+    requires whole { IsWhole blocks }
+    requires done { blocks.done ≡ 0 }
+    requires some_worker { 1 ≤ workers }
+    requires most_workers { workers ≤ 64 }
+    ensures { IfOk result (λ b. IsWhole b) }
+{
+    for _ in 0..count {
+        blocks = Crew::cycle(rt, alloc, blocks, workers, &Open)?;
+    }
+    Ok(blocks)
+}
+
+/// Makes `count` cycles, with threads that are kept over all of them, or are started anew for each.
+fn make_cycles<R: Threads + Wait + Sync>(
+    rt: &R,
+    alloc: Global,
+    blocks: Blocks,
+    workers: usize,
+    count: u32,
+    kept: bool,
+) -> Result<Blocks, CrewFault>
+    requires whole { IsWhole blocks }
+    requires done { blocks.done ≡ 0 }
+    requires some_worker { 1 ≤ workers }
+    requires most_workers { workers ≤ 64 }
+    ensures { IfOk result (λ b. IsWhole b) }
+{
+    if kept {
+        return Crew::cycles(rt, alloc, blocks, workers, &Open, count);
+    }
+    make_anew(rt, alloc, blocks, workers, count)
+}
+
+/// Makes the cycles that the words ask for.
+pub(crate) fn measure<R: AllocGlobal + Files + Print + Threads + Wait + Sync>(
+    rt: &R,
+    words: &[String],
+) -> anyhow::Result<()> {
+    let [path, stages, cycles, workers, threads] = words else {
+        bail!("five words are wanted: a file, stages, cycles, workers, and kept or anew");
+    };
+    let Ok(workers) = workers.as_str().parse::<u8>() else {
+        bail!("the workers are a number");
+    };
+    let several = usize::from(workers);
+    if several == 0 || several > MOST_WORKERS {
+        bail!("there are 1 to 64 workers");
+    }
+    let kept = match threads.as_str() {
+        "kept" => true,
+        "anew" => false,
+        _ => bail!("threads are kept, or started anew"),
+    };
+    let setup = Setup::read(rt, path, stages, cycles, Sizes::DEFAULT)?;
+    let blocks = dealt_out(rt.alloc(), &setup, workers)?;
+    let blocks = make_cycles(rt, rt.alloc(), blocks, several, setup.cycles, kept)?;
+    let cells = of_blocks(rt.alloc(), &blocks)?;
+    println!(rt;
+        "cycles {} digest {}",
+        blocks.done(),
+        digest(cells.as_slice())
+    )?;
+    Ok(())
+}

@@ -1,0 +1,9 @@
+//! Tests of the coordination library, over its public calls.
+#![tactic(auto)]
+
+#[cfg(test)]
+mod listings;
+#[cfg(test)]
+mod runs;
+#[cfg(test)]
+mod trays;

@@ -1,0 +1,146 @@
+//! The pairs of the runs written out in the documents, and the greatest numbers.
+
+use ultra_msg::{Give, Op, Paired, Register, Reply, Shift, pair};
+
+/// A pair of the runs written out in the documents: what each was answered there, from the reply to what was sent.
+struct Meeting {
+    run: &'static str,
+    old: Op,
+    new: Op,
+    sent: Op,
+    reply: Reply,
+    to_old: Reply,
+    to_new: Reply,
+    old_first: bool,
+}
+
+const MEETINGS: [Meeting; 7] = [
+    Meeting {
+        run: "combined_pair",
+        old: Op::Faa(1),
+        new: Op::Faa(1),
+        sent: Op::Faa(2),
+        reply: Reply::Value(0),
+        to_old: Reply::Value(0),
+        to_new: Reply::Value(1),
+        old_first: true,
+    },
+    Meeting {
+        run: "load_then_store",
+        old: Op::Load,
+        new: Op::Store(7),
+        sent: Op::Store(7),
+        reply: Reply::Ack,
+        to_old: Reply::Value(7),
+        to_new: Reply::Ack,
+        old_first: false,
+    },
+    Meeting {
+        run: "store_then_faa",
+        old: Op::Store(10),
+        new: Op::Faa(3),
+        sent: Op::Store(13),
+        reply: Reply::Ack,
+        to_old: Reply::Ack,
+        to_new: Reply::Value(10),
+        old_first: true,
+    },
+    Meeting {
+        run: "wraparound",
+        old: Op::Faa(4294967295),
+        new: Op::Faa(4294967295),
+        sent: Op::Faa(4294967294),
+        reply: Reply::Value(1),
+        to_old: Reply::Value(1),
+        to_new: Reply::Value(0),
+        old_first: true,
+    },
+    Meeting {
+        run: "faa_then_store",
+        old: Op::Faa(3),
+        new: Op::Store(10),
+        sent: Op::Store(13),
+        reply: Reply::Ack,
+        to_old: Reply::Value(10),
+        to_new: Reply::Ack,
+        old_first: false,
+    },
+    Meeting {
+        run: "two_swaps",
+        old: Op::Swap(8),
+        new: Op::Swap(7),
+        sent: Op::Swap(7),
+        reply: Reply::Value(0),
+        to_old: Reply::Value(0),
+        to_new: Reply::Value(8),
+        old_first: true,
+    },
+    Meeting {
+        run: "swap_then_faa",
+        old: Op::Swap(10),
+        new: Op::Faa(3),
+        sent: Op::Swap(13),
+        reply: Reply::Value(5),
+        to_old: Reply::Value(5),
+        to_new: Reply::Value(10),
+        old_first: true,
+    },
+];
+
+#[test]
+fn pairs_of_the_runs(rt: HostRuntime) {
+    for meeting in &MEETINGS {
+        let run = meeting.run;
+        let paired = pair(meeting.old, meeting.new);
+        assert_eq!(rt; paired.sent, meeting.sent, "sent in {run}");
+        assert_eq!(rt;
+            paired.give_old.of(meeting.reply),
+            meeting.to_old,
+            "to old in {run}"
+        );
+        assert_eq!(rt;
+            paired.give_new.of(meeting.reply),
+            meeting.to_new,
+            "to new in {run}"
+        );
+        assert_eq!(rt; paired.old_first, meeting.old_first, "first in {run}");
+        assert_eq!(rt;
+            paired.give_old.old_goes_first(),
+            meeting.old_first,
+            "first in {run}"
+        );
+    }
+}
+
+#[test]
+fn sums_of_a_store_wrap_around(rt: HostRuntime) {
+    assert_eq!(rt;
+        pair(Op::Store(5), Op::Faa(4294967295)),
+        Paired {
+            sent: Op::Store(4),
+            give_old: Give::Ack,
+            give_new: Give::Fixed(5),
+            old_first: true,
+        }
+    );
+    assert_eq!(rt;
+        pair(Op::Faa(5), Op::Store(4294967295)),
+        Paired {
+            sent: Op::Store(4),
+            give_old: Give::Fixed(4294967295),
+            give_new: Give::Ack,
+            old_first: false,
+        }
+    );
+}
+
+#[test]
+fn greatest_numbers(rt: HostRuntime) {
+    assert_eq!(rt;
+        Register::new(15).map(|register| register.index()),
+        Some(15)
+    );
+    assert!(rt; Register::new(16).is_none());
+    assert_eq!(rt; Shift::new(31).map(|shift| shift.bits()), Some(31));
+    assert!(rt; Shift::new(32).is_none());
+}

@@ -1,0 +1,27 @@
+//! Tests of the program over its public calls, with files and streams in memory. They stand in a
+//! crate of their own, so
+//! that no library is proved a second time with its tests.
+#![tactic(auto)]
+
+#[cfg(test)]
+mod command_lines;
+#[cfg(test)]
+mod examples;
+#[cfg(test)]
+mod host;
+#[cfg(test)]
+mod orders;
+#[cfg(test)]
+mod partitions;
+#[cfg(test)]
+mod programs;
+#[cfg(test)]
+mod settings;
+#[cfg(test)]
+mod shelf;
+#[cfg(test)]
+mod traces;
+#[cfg(test)]
+mod tray;
+#[cfg(test)]
+mod two_stage_traces;

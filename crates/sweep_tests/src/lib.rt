@@ -1,0 +1,16 @@
+//! Tests of sweeps and of files of jobs, over public calls. They stand in a crate of their own, so
+//! that no library is proved a second time with its tests.
+#![tactic(auto)]
+
+#[cfg(test)]
+mod files;
+#[cfg(test)]
+mod gates;
+#[cfg(test)]
+mod gathers;
+#[cfg(test)]
+mod jobs;
+#[cfg(test)]
+mod sweeps;
+#[cfg(test)]
+mod trays;

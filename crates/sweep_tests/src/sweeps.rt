@@ -1,0 +1,136 @@
+//! Sweeps by one thread and by two.
+
+ghost use Rattle.std.specs.Prelude.{◌≡◌};
+
+use crate::gates::{Counter, Meeting};
+use crate::jobs::two_jobs;
+use crate::trays::Tray;
+use std::process::Abort;
+use std::sync::Wait;
+use std::sync::atomic::Ordering;
+use std::test::Fail;
+use std::thread::{self, Threads};
+use ultra_board::Board;
+use ultra_sweep::{Job, JobGate, JobResult, RunAlone, gather, report, work};
+
+/// The report of a job that halts at once, and of one in which two processing elements add 1 each
+/// to cell 0.
+const REPORT: &str = "\
+job 0
+ultra trace 2
+cycle 0
+end quiet
+pe 0 halted 0
+pe 1 halted 0
+job 1
+ultra trace 2
+cycle 0
+cycle 1
+cycle 2
+pni 0: 0@0 faa 1
+pni 1: 1@0 faa 1
+cycle 3
+req 0 0: 1@0 faa 2 *
+wait 0 0: 1@0 same 0 plus 1
+cycle 4
+wait 0 0: 1@0 same 0 plus 1
+inp 0: 1@0 faa 2
+cycle 5
+act 0 1@0 faa 2 = 0 now 2
+wait 0 0: 1@0 same 0 plus 1
+out 0: 1@0 = 0
+cycle 6
+rep 0 0: 0@0 = 1
+rep 0 1: 1@0 = 0
+cycle 7
+got 0@0 = 1
+got 1@0 = 0
+end quiet
+cell 0 2
+pe 0 halted 3 r2=1 r3=1
+pe 1 halted 3 r2=1
+";
+
+/// The results of all jobs, by the thread of the test.
+pub(crate) fn sweep_alone<R: Wait + AllocGlobal>(
+    rt: &R,
+    jobs: &[Job],
+) -> Result<Vec<JobResult>, Fail> {
+    let alloc = rt.alloc();
+    let (board, seat) = Board::open(alloc, jobs.len() as u64, 1, 1)?;
+    let (_seat, results) = work(rt, alloc, &board, seat, jobs, &RunAlone);
+    Ok(results?)
+}
+
+/// The results of all jobs, by two threads, `at_once` jobs at once.
+fn sweep_by_two<R: Threads + Wait + Sync + Abort + AllocGlobal, G: JobGate + Sync>(
+    rt: &R,
+    jobs: &[Job],
+    at_once: u64,
+    gate: &G,
+) -> Result<Vec<JobResult>, Fail> {
+    let alloc = rt.alloc();
+    let (board, seat) = Board::open(alloc, jobs.len() as u64, at_once, 2)?;
+    let Ok((first, second)) = board.split(seat) else {
+        panic!(rt; "a seat of two places was not split")
+    };
+    let (first, second) = thread::join(
+        rt,
+        || work(rt, alloc, &board, first, jobs, gate),
+        || work(rt, alloc, &board, second, jobs, gate),
+    );
+    let mut results = first.1?;
+    results.append(&mut second.1?)?;
+    Ok(results)
+}
+
+/// Asserts that the results of the two jobs make their report.
+fn check_report<R: Abort + AllocGlobal>(rt: &R, results: Vec<JobResult>) -> Result<(), Fail> {
+    let gathered = gather(rt.alloc(), 2, results)?;
+    let mut out = Tray::failing_after(rt, usize::MAX);
+    report(&gathered, &mut out)?;
+    assert_eq!(rt; out.text()?, REPORT);
+    Ok(())
+}
+
+#[test]
+fn two_job_sweep(rt: HostRuntime) -> Result<(), Fail> {
+    let jobs = two_jobs(rt.alloc())?;
+    check_report(&rt, sweep_alone(&rt, jobs.as_slice())?)?;
+    for at_once in [1, 2, 64] {
+        check_report(&rt, sweep_by_two(&rt, jobs.as_slice(), at_once, &RunAlone)?)?;
+    }
+    Ok(())
+}
+
+/// Two threads. Where two jobs may run at once, each waits in its run for the other's; where one
+/// may, none ever runs beside another. A `work` that runs one job at a time, as one in which a job
+/// waits until as many jobs are finished as its number says, is refused here: the turns run out. So
+/// is one that goes past the passes: two runs are under way at once.
+#[test]
+fn jobs_meet(rt: HostRuntime) -> Result<(), Fail> {
+    let jobs = two_jobs(rt.alloc())?;
+    let meeting = Meeting::new();
+    check_report(&rt, sweep_by_two(&rt, jobs.as_slice(), 2, &meeting)?)?;
+    assert_eq!(rt; meeting.flags[0].load(Ordering::SeqCst), 1);
+    assert_eq!(rt; meeting.flags[1].load(Ordering::SeqCst), 1);
+    assert_eq!(rt; meeting.missed.load(Ordering::SeqCst), 0);
+    let counter = Counter::new();
+    check_report(&rt, sweep_by_two(&rt, jobs.as_slice(), 1, &counter)?)?;
+    assert_eq!(rt; counter.runs.load(Ordering::SeqCst), 2);
+    assert_eq!(rt; counter.beside.load(Ordering::SeqCst), 0);
+    Ok(())
+}
+
+/// A sink that fails at each of its writes in turn has taken a prefix of the report.
+#[test]
+fn report_into_a_failing_sink(rt: HostRuntime) -> Result<(), Fail> {
+    let jobs = two_jobs(rt.alloc())?;
+    let gathered = gather(rt.alloc(), 2, sweep_alone(&rt, jobs.as_slice())?)?;
+    for count in 0..20 {
+        let mut out = Tray::failing_after(&rt, count);
+        assert!(rt; report(&gathered, &mut out).is_err(), "after {count}");
+        assert!(rt; REPORT.starts_with(out.text()?), "after {count}");
+    }
+    Ok(())
+}

@@ -1,0 +1,18 @@
+use Rattle.std.proofs.Common.{refl}
+use Rattle.ultra_coordination.specs.Gate.{gate, AreFewInside}
+use Rattle.ultra_coordination.specs.ReadersWriters.{readers_writers, AreWritersAlone}
+use Rattle.ultra_coordination.specs.Barrier.{barrier, AreInStep}
+use Rattle.ultra_coordination.proofs.Gate as gate_proof
+use Rattle.ultra_coordination.proofs.ReadersWriters as rw_proof
+use Rattle.ultra_coordination.proofs.Barrier as barrier_proof
+use Rattle.ultra_colib.proofs.OnMachine.{kept_by_machine}
+use Rattle.ultra_colib.proofs.coordination_law.Goals as goal
+
+pub returns : goal.returns
+returns c = record {
+  kept = record {
+    gate = λ bound rounds. kept_by_machine c.paracomputer_law.ensures.sees_paracomputer (gate bound rounds) refl (AreFewInside bound) (gate_proof.kept bound rounds);
+    readers_writers = λ writers rounds. kept_by_machine c.paracomputer_law.ensures.sees_paracomputer (readers_writers writers rounds) refl AreWritersAlone (rw_proof.kept writers rounds);
+    barrier = λ rounds some few. kept_by_machine c.paracomputer_law.ensures.sees_paracomputer (barrier rounds) refl AreInStep (barrier_proof.kept rounds some few);
+  };
+}

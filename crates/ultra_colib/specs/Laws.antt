@@ -1,0 +1,25 @@
+-- the laws of the coordination programs on the machine
+use Rattle.std.specs.Prelude.{◌≡◌, ℕ, ◌*◌, ◌≤◌, List, [], true, false, nat_lt}
+use Rattle.ultra_isa.specs.declared.Instr.{Instr}
+use Rattle.ultra_model.specs.Machine.{Settings, Machine, size}
+use Rattle.ultra_model.specs.Phases.{after}
+use Rattle.ultra_model.specs.Ranges.{AreInRange}
+use Rattle.ultra_serial.specs.SerialList.{cells_of}
+use Rattle.ultra_coordination.specs.Schedules.{Words}
+use Rattle.ultra_coordination.specs.Gate.{gate, AreFewInside}
+use Rattle.ultra_coordination.specs.ReadersWriters.{readers_writers, AreWritersAlone}
+use Rattle.ultra_coordination.specs.Barrier.{barrier, AreInStep}
+
+-- the word in each cell of a machine; one that the memory hasn't counts as 0
+abbrev pub words_of : Settings → Machine → Words
+words_of c m a = elim (nat_lt a (size c * c.cells)) [ true ↦ cells_of c m a | false ↦ 0 ]
+
+-- for all settings in their ranges without initial values and every number of cycles, the law of so many processing elements holds
+abbrev pub IsKeptByMachine : List Instr → (ℕ → Words → Type 0) → Type 0
+IsKeptByMachine program Law = (c : Settings) → AreInRange c → c.initial ≡ [] → (n : ℕ) → Law (size c) (words_of c (after c program n))
+
+-- the gate lets few in at once, a writer is inside alone, and the rounds of the barrier are in step
+pub record CoordinationLaw : Type 0 where
+  pub gate : (bound rounds : ℕ) → IsKeptByMachine (gate bound rounds) (AreFewInside bound)
+  pub readers_writers : (writers rounds : ℕ) → IsKeptByMachine (readers_writers writers rounds) AreWritersAlone
+  pub barrier : (rounds : ℕ) → 1 ≤ rounds → rounds ≤ 1000 → IsKeptByMachine (barrier rounds) AreInStep

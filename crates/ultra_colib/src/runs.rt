@@ -1,0 +1,119 @@
+//! The coordination programs on the paracomputer.
+
+ghost use Rattle.std.specs.Prelude.{◌≡◌, ◌↔◌, ◌<◌, ◌&&◌, All, false, IfOk, slice_index};
+ghost use Rattle.ultra_model.specs.Machine.{size, is_empty};
+ghost use Rattle.ultra_para.specs.Para.{start_para, run_para};
+ghost use Rattle.ultra_coordination.specs.Gate.{gate, AreFewInside};
+ghost use Rattle.ultra_coordination.specs.ReadersWriters.{readers_writers, AreWritersAlone};
+ghost use Rattle.ultra_coordination.specs.Barrier.{barrier, AreInStep};
+ghost use Rattle.ultra_coordination.specs.Queue.{queue};
+ghost use Rattle.ultra_colib.specs.Parameters.{gate_takes, rw_takes, barrier_takes, queue_takes};
+
+use crate::ColibFault;
+use crate::programs::{barrier_program, gate_program, queue_program, rw_program};
+use std::alloc::{AllocError, Global};
+use ultra_isa::Program;
+use ultra_model::Config;
+use ultra_msg::Pe;
+use ultra_para::Para;
+
+/// The paracomputer of these settings and this program after a schedule.
+fn run(
+    alloc: Global,
+    config: &Config,
+    program: &Program,
+    schedule: &[Pe],
+) -> Result<Para, AllocError>
+    requires { All (λ p. p < size config.now) schedule.now }
+    ensures { IfOk result (λ m. m ≡ record { settings = config.now; program = program.now; state = run_para config.now program.now (start_para config.now) schedule.now }) }
+{
+    let mut para = Para::new(alloc, config, program)?;
+    para.run(schedule);
+    Ok(para)
+}
+
+/// The gate on a paracomputer with these settings, all of whose cells are 0 at first, after a schedule: each number is the processing element that makes the step.
+///
+/// At most `bound` processing elements are inside. `BadParameter` means that a parameter is out of its range or that cells have initial values.
+pub fn run_gate(
+    alloc: Global,
+    config: &Config,
+    bound: u32,
+    rounds: u32,
+    schedule: &[Pe],
+) -> Result<Para, ColibFault>
+    requires { All (λ p. p < size config.now) schedule.now }
+    ensures state { IfOk result (λ m. m ≡ record { settings = config.now; program = gate bound rounds; state = run_para config.now (gate bound rounds) (start_para config.now) schedule.now }) }
+    ensures law { IfOk result (λ m. AreFewInside bound (size config.now) (slice_index m.state.cells)) }
+    ensures parameters { (result ≡ Err ColibFault.BadParameter) ↔ ((is_empty config.now.initial && gate_takes bound rounds) ≡ false) }
+{
+    if !config.initial().is_empty() {
+        return Err(ColibFault::BadParameter);
+    }
+    let program = gate_program(alloc, bound, rounds)?;
+    Ok(run(alloc, config, &program, schedule)?)
+}
+
+/// The readers and writers on a paracomputer with these settings, all of whose cells are 0 at first, after a schedule: each number is the processing element that makes the step.
+///
+/// Where a writer is inside, nobody else is. `BadParameter` means that a parameter is out of its range or that cells have initial values.
+pub fn run_rw(
+    alloc: Global,
+    config: &Config,
+    writers: u32,
+    rounds: u32,
+    schedule: &[Pe],
+) -> Result<Para, ColibFault>
+    requires { All (λ p. p < size config.now) schedule.now }
+    ensures state { IfOk result (λ m. m ≡ record { settings = config.now; program = readers_writers writers rounds; state = run_para config.now (readers_writers writers rounds) (start_para config.now) schedule.now }) }
+    ensures law { IfOk result (λ m. AreWritersAlone (size config.now) (slice_index m.state.cells)) }
+    ensures parameters { (result ≡ Err ColibFault.BadParameter) ↔ ((is_empty config.now.initial && rw_takes writers rounds) ≡ false) }
+{
+    if !config.initial().is_empty() {
+        return Err(ColibFault::BadParameter);
+    }
+    let program = rw_program(alloc, writers, rounds)?;
+    Ok(run(alloc, config, &program, schedule)?)
+}
+
+/// The barrier on a paracomputer with these settings, all of whose cells are 0 at first, after a schedule: each number is the processing element that makes the step.
+///
+/// Nobody has finished more rounds than anybody has begun. `BadParameter` means that the rounds are out of their range or that cells have initial values.
+pub fn run_barrier(
+    alloc: Global,
+    config: &Config,
+    rounds: u32,
+    schedule: &[Pe],
+) -> Result<Para, ColibFault>
+    requires { All (λ p. p < size config.now) schedule.now }
+    ensures state { IfOk result (λ m. m ≡ record { settings = config.now; program = barrier rounds; state = run_para config.now (barrier rounds) (start_para config.now) schedule.now }) }
+    ensures law { IfOk result (λ m. AreInStep (size config.now) (slice_index m.state.cells)) }
+    ensures parameters { (result ≡ Err ColibFault.BadParameter) ↔ ((is_empty config.now.initial && barrier_takes rounds) ≡ false) }
+{
+    if !config.initial().is_empty() {
+        return Err(ColibFault::BadParameter);
+    }
+    let program = barrier_program(alloc, rounds)?;
+    Ok(run(alloc, config, &program, schedule)?)
+}
+
+/// The queue with `2^log_size` places on a paracomputer with these settings, all of whose cells are 0 at first, after a schedule: each number is the processing element that makes the step.
+///
+/// `BadParameter` means that a parameter is out of its range or that cells have initial values.
+pub fn run_queue(
+    alloc: Global,
+    config: &Config,
+    log_size: u32,
+    rounds: u32,
+    schedule: &[Pe],
+) -> Result<Para, ColibFault>
+    requires { All (λ p. p < size config.now) schedule.now }
+    ensures state { IfOk result (λ m. m ≡ record { settings = config.now; program = queue log_size rounds; state = run_para config.now (queue log_size rounds) (start_para config.now) schedule.now }) }
+    ensures parameters { (result ≡ Err ColibFault.BadParameter) ↔ ((is_empty config.now.initial && queue_takes log_size rounds) ≡ false) }
+{
+    if !config.initial().is_empty() {
+        return Err(ColibFault::BadParameter);
+    }
+    let program = queue_program(alloc, log_size, rounds)?;
+    Ok(run(alloc, config, &program, schedule)?)
+}

@@ -1,0 +1,4 @@
+pub mod Tally
+pub mod Gate
+pub mod ReadersWriters
+pub mod Barrier

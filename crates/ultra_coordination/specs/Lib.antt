@@ -1,0 +1,5 @@
+pub mod Schedules
+pub mod Gate
+pub mod ReadersWriters
+pub mod Barrier
+pub mod Queue

@@ -1,0 +1,5 @@
+pub mod Taken
+pub mod Grown
+pub mod Everyone
+pub mod Law
+pub mod Waves

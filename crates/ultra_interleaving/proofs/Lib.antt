@@ -1,0 +1,2 @@
+pub mod Interleaving
+pub mod Tickets

@@ -1,0 +1,17 @@
+-- what a source of files has read, and how it fails; this project's profile
+use Rattle.std.specs.Prelude.{ℕ, List}
+use Rattle.ultra_io.specs.declared.source.SourceFault.{SourceFault}
+use Rattle.ultra_io.specs.declared.source.SourceFault.TheVariants.{NotRead, NoMemory}
+
+-- a file that was read: its path and its bytes
+pub record File : Type 0 where
+  pub path : List ℕ
+  pub bytes : List ℕ
+
+abbrev pub file_of : List ℕ → List ℕ → File
+file_of path bytes = record { path = path; bytes = bytes }
+
+-- how often the source itself failed in a call that ended with the fault: want of memory is no failure of the source
+abbrev pub failures_of : SourceFault → ℕ
+failures_of NotRead = 1
+failures_of NoMemory = 0

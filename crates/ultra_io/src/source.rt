@@ -1,0 +1,91 @@
+//! Where the files of a program come from.
+
+ghost use Rattle.std.specs.Prelude.{◌≡◌, ℕ, ◌+◌, List, [], ◌∷◌, ◌++◌, IfOk, OnOk, IfErr, OnErr};
+ghost use Rattle.ultra_io.specs.Account.{SourceTold, source_told};
+ghost use Rattle.ultra_io.specs.Source.{File, file_of, failures_of};
+
+use crate::account::Account;
+use std::alloc::Global;
+use std::io::{ErrorKind, Read};
+use std::marker::Model;
+use std::rt::Files;
+use std::{fs, io};
+
+/// Why a file wasn't read.
+#[derive(Clone, Copy, PartialEq, Eq, Debug, Drop)]
+pub enum SourceFault {
+    /// The source failed in this call: the file isn't there, or can't be read.
+    NotRead,
+    /// Memory for the file's bytes was refused.
+    NoMemory,
+}
+
+/// A place that files are read from: a file system, or files in memory.
+pub trait Source {
+    /// The files that it has read, in their order.
+    ghost files: { Self → List File };
+
+    /// How often it has failed.
+    ghost failures: { Self → ℕ };
+
+    /// All bytes of the file at a path. `NotRead` comes only where the source failed in this call.
+    fn read(&mut self, alloc: Global, path: &str) -> Result<Vec<u8>, SourceFault>
+        ensures ok { IfOk result
+            (λ v. files self.new ≡ files self.old ++ file_of path.now v.items ∷ []) }
+        ensures still { OnOk result (failures self.new ≡ failures self.old) }
+        ensures err { OnErr result (files self.new ≡ files self.old) }
+        ensures counted { IfErr result
+            (λ f. failures self.new ≡ failures self.old + failures_of f) };
+}
+
+/// The files of a file system of std.
+#[derive(Drop)]
+pub struct FileSource<'r, R: Files> {
+    files: &'r R,
+    account: Account,
+}
+
+impl<'r, R: Files> Model for FileSource<'r, R> {
+    ghost Value = { SourceTold };
+
+    ghost view = { λ s. source_told s.account };
+}
+
+impl<'r, R: Files> FileSource<'r, R> {
+    /// The files that `files` reaches; nothing has been read yet.
+    pub fn new(files: &'r R) -> FileSource<'r, R>
+        ensures { result ≡ record { files = []; failures = 0 } }
+    {
+        FileSource {
+            files,
+            account: Account::Opened,
+        }
+    }
+}
+
+impl<R: Files> Source for FileSource<'_, R> {
+    ghost files = { λ s. s.files };
+
+    ghost failures = { λ s. s.failures };
+
+    fn read(&mut self, alloc: Global, path: &str) -> Result<Vec<u8>, SourceFault> {
+        match read_whole(alloc, self.files, path) {
+            Ok(bytes) => {
+                self.account.note_read(path, &bytes);
+                Ok(bytes)
+            }
+            Err(error) if error.kind() == ErrorKind::OutOfMemory => Err(SourceFault::NoMemory),
+            Err(_) => {
+                self.account.note_failure();
+                Err(SourceFault::NotRead)
+            }
+        }
+    }
+}
+
+/// All bytes of the file at a path.
+fn read_whole<R: Files>(alloc: Global, files: &R, path: &str) -> io::Result<Vec<u8>> {
+    let mut bytes = Vec::new(alloc);
+    fs::open(files, path)?.read_to_end(&mut bytes)?;
+    Ok(bytes)
+}

@@ -1,0 +1,53 @@
+//! The output streams of a program.
+
+ghost use Rattle.std.specs.Prelude.{◌≡◌, []};
+ghost use Rattle.ultra_io.specs.Account.{SinkTold, sink_told};
+
+use crate::account::Account;
+use std::io::Write;
+use std::marker::Model;
+use ultra_msg::{Sink, SinkFault};
+
+/// A writer of std as a sink. It hands on each piece as it comes, and copies nothing.
+#[derive(Drop)]
+pub struct Stream<W> {
+    writer: W,
+    account: Account,
+}
+
+impl<W> Model for Stream<W> {
+    ghost Value = { SinkTold };
+
+    ghost view = { λ s. sink_told s.account };
+}
+
+impl<W: Write> Stream<W> {
+    /// A sink that hands its bytes to `writer`; it has taken nothing yet.
+    pub fn new(writer: W) -> Stream<W>
+        ensures { result ≡ record { taken = []; failures = 0 } }
+    {
+        Stream {
+            writer,
+            account: Account::Opened,
+        }
+    }
+}
+
+impl<W: Write> Sink for Stream<W> {
+    ghost taken = { λ s. s.taken };
+
+    ghost failures = { λ s. s.failures };
+
+    fn write(&mut self, bytes: &[u8]) -> Result<usize, SinkFault> {
+        match self.writer.write(bytes) {
+            Ok(count) if count > 0 || bytes.is_empty() => {
+                self.account.note_taken(&bytes[..count]);
+                Ok(count)
+            }
+            _ => {
+                self.account.note_failure();
+                Err(SinkFault)
+            }
+        }
+    }
+}

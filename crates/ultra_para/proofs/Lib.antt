@@ -1,0 +1,12 @@
+pub mod Rows
+pub mod Alone
+pub mod Relation
+pub mod Serving
+pub mod Delivering
+pub mod Stepping
+pub mod Law
+pub mod Sending
+pub mod Fences
+pub mod Peopled
+pub mod Starting
+pub mod Schedules

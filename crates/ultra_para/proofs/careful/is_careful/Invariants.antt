@@ -1,0 +1,6 @@
+use Rattle.std.specs.Prelude.{◌≡◌, drop}
+use Rattle.ultra_para.specs.Careful.{is_careful}
+use Rattle.ultra_para.proofs.careful.is_careful.Given as goal
+
+abbrev pub invariant-loop-place : goal.invariant-loop-place
+invariant-loop-place l = is_careful l.program ≡ is_careful (drop l.place l.program)

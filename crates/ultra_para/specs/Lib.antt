@@ -1,0 +1,4 @@
+pub mod Para
+pub mod Careful
+pub mod Law
+pub mod Programmed

@@ -1,0 +1,49 @@
+//! Careful programs.
+
+ghost use Rattle.std.specs.Prelude.{◌≡◌, ◌<◌, length, slice_get};
+ghost use Rattle.ultra_para.specs.Careful.{is_careful as careful, refers_to_cell, is_some_fence, is_fenced_place};
+
+use ultra_isa::{Instr, Program};
+
+/// Whether an instruction refers to a cell.
+fn refers(instruction: Instr) -> bool
+    ensures { result ≡ refers_to_cell instruction }
+{
+    match instruction {
+        Instr::Load(_, _) | Instr::Store(_, _) | Instr::Faa(_, _, _) | Instr::Swap(_, _, _) => true,
+        _ => false,
+    }
+}
+
+/// Whether a fence stands at a place.
+fn is_fence_at(program: &Program, place: usize) -> bool
+    ensures { result ≡ is_some_fence (slice_get program.now place) }
+{
+    match program.instruction(place) {
+        Some(Instr::Fence) => true,
+        _ => false,
+    }
+}
+
+/// Whether the instruction at a place refers to no cell or is directly followed by a fence.
+fn is_fenced_at(program: &Program, place: usize) -> bool
+    requires { place < length program.now }
+    ensures { result ≡ is_fenced_place program.now place }
+{
+    match program.instruction(place) {
+        Some(instruction) => !refers(instruction) || is_fence_at(program, place + 1),
+        None => true,
+    }
+}
+
+/// Whether a program is careful: each `ld`, `st`, `faa` and `swap` is directly followed by `fence`.
+pub fn is_careful(program: &Program) -> bool
+    ensures { result ≡ careful program.now }
+{
+    for place in 0..program.len() {
+        if !is_fenced_at(program, place) {
+            return false;
+        }
+    }
+    true
+}

@@ -1,0 +1,20 @@
+//! The paracomputer, whose memory acts at once, and the law that careful programs can't tell the machine from it.
+#![tactic(auto)]
+
+mod at_once;
+mod careful;
+mod paracomputer;
+
+ghost use Rattle.ultra_para.specs.Law.{ParacomputerLaw};
+
+pub use careful::is_careful;
+pub use paracomputer::Para;
+
+/// The paracomputer law, as this function's contract: for all settings in their ranges, every careful program and every
+/// number of cycles there is a schedule after which the paracomputer has the machine's cells and, of each processing
+/// element without an open cell, its registers, place and state.
+///
+/// The paracomputer is the 1983 paper's; the machine is this project's profile of it. The function itself does nothing.
+pub fn paracomputer_law()
+    ensures sees_paracomputer { ParacomputerLaw }
+{}

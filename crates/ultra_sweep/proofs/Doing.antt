@@ -1,0 +1,48 @@
+-- jobs that are done one after the other
+use Rattle.std.proofs.Common.{◌≡◌, ℕ, ◌<◌, ◌≤◌, List, [], ◌∷◌, ◌++◌, length, refl, sym, ap, subst, ◌∙◌, append_assoc, get_or, arith}
+use Rattle.std.specs.Prelude.{Some, IfSome, slice_get, Contains}
+use Rattle.std.proofs.lemmas.Option.{slice_get_read}
+use Rattle.ultra_board.specs.declared.rule.View.{View}
+use Rattle.ultra_board.specs.View.{times, times_below}
+use Rattle.ultra_sweep.specs.declared.job.Job.{Job}
+use Rattle.ultra_sweep.specs.declared.job.JobResult.{JobResult}
+use Rattle.ultra_sweep.specs.Job.{numbers, IsOutcomeOf, IsResultOf, IsResultAmong}
+use Rattle.ultra_sweep.specs.Work.{HasDone, HasDoneAll}
+use Rattle.ultra_sweep.proofs.Numbers.{room, not_in_second}
+
+-- a number more was drawn, and then finished
+pub done_more : (ns : List ℕ) (i : ℕ) (v s u w : View) → HasDoneAll ns v s → u ≡ record s { drawn = s.drawn ++ i ∷ [] } → HasDone i u w → HasDoneAll (ns ++ i ∷ []) v w
+done_more ns i v s u w done drew did =
+    let drawn : w.drawn ≡ v.drawn ++ (ns ++ i ∷ []) =
+    ap (λ (x : View). x.drawn) did ∙ (ap (λ (x : View). x.drawn) drew ∙ (ap (λ (x : View). x.drawn ++ i ∷ []) done ∙ append_assoc v.drawn ns (i ∷ []))) in
+    let finished : w.finished ≡ v.finished ++ (ns ++ i ∷ []) =
+    ap (λ (x : View). x.finished) did ∙ (ap (λ (x : View). x.finished ++ i ∷ []) drew ∙ (ap (λ (x : View). x.finished ++ i ∷ []) done ∙ append_assoc v.finished ns (i ∷ []))) in
+    let reads : w.reads ≡ v.reads = ap (λ (x : View). x.reads) did ∙ (ap (λ (x : View). x.reads) drew ∙ ap (λ (x : View). x.reads) done) in
+    let spent : w.spent ≡ v.spent = ap (λ (x : View). x.spent) did ∙ (ap (λ (x : View). x.spent) drew ∙ ap (λ (x : View). x.spent) done) in
+    let held : w.held ≡ v.held = ap (λ (x : View). x.held) did ∙ (ap (λ (x : View). x.held) drew ∙ ap (λ (x : View). x.held) done) in
+    let tries : w.tries ≡ v.tries = ap (λ (x : View). x.tries) did ∙ (ap (λ (x : View). x.tries) drew ∙ ap (λ (x : View). x.tries) done) in
+    let limit : w.limit ≡ v.limit = ap (λ (x : View). x.limit) did ∙ (ap (λ (x : View). x.limit) drew ∙ ap (λ (x : View). x.limit) done) in
+    let bound : w.bound ≡ v.bound = ap (λ (x : View). x.bound) did ∙ (ap (λ (x : View). x.bound) drew ∙ ap (λ (x : View). x.bound) done) in
+    let places : w.places ≡ v.places = ap (λ (x : View). x.places) did ∙ (ap (λ (x : View). x.places) drew ∙ ap (λ (x : View). x.places) done) in
+    rw (sym drawn, sym finished, sym reads, sym spent, sym held, sym tries, sym limit, sym bound, sym places) refl
+
+-- a result of the job at a place is one of these jobs
+pub among : (jobs : List Job) (i : ℕ) (job : Job) (r : JobResult) → i < length jobs → job ≡ get_or jobs i job → IsResultOf i job r → IsResultAmong jobs r
+among jobs i job r below at its =
+    let here : slice_get jobs r.number ≡ Some job = ap (slice_get jobs) its.number ∙ slice_get_read jobs (length jobs) i job refl below at in
+    record {
+      named = subst (λ k. k < length jobs) (sym its.number) below;
+      outcome = subst (λ o. IfSome o (λ j. IsOutcomeOf j r.outcome)) (sym here) its.outcome;
+    }
+
+-- a number that was drawn names a job that no result names yet, so there is room for one result more
+module _ (jobs : List Job) (rs : List JobResult) (i : ℕ) (v s : View) (done : HasDoneAll (numbers rs) v s) (limit : v.limit ≡ length jobs)
+    (within : (k : ℕ) → times k (numbers rs) ≤ times_below k (length jobs)) (below : i < s.limit) (fresh : ¬ Contains s.drawn i) where
+  pub is_below : i < length jobs
+  is_below = let same = ap (λ (x : View). x.limit) done in omega arith
+
+  pub is_new : times i (numbers rs) ≡ 0
+  is_new = not_in_second i v.drawn (numbers rs) (subst (λ ns. ¬ Contains ns i) (ap (λ (x : View). x.drawn) done) fresh)
+
+  pub has_room : length rs < length jobs
+  has_room = room (length jobs) rs i within is_below is_new

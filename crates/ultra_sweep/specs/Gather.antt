@@ -1,0 +1,54 @@
+-- the results of the jobs below a number n, put together; this project's profile
+use Rattle.std.specs.Prelude.{◌≡◌, ◌<◌, ◌≤◌, ℕ, List, [], ◌∷◌, ◌++◌, All, Some, IsSome, Contains, length, slice_index_or, ⊤}
+use Rattle.ultra_board.specs.View.{times, times_below}
+use Rattle.ultra_sweep.specs.declared.job.JobResult.{JobResult}
+use Rattle.ultra_sweep.specs.declared.gathering.GatherFault.{GatherFault}
+use Rattle.ultra_sweep.specs.declared.gathering.GatherFault.TheVariants.{Double, Stranger, Missing, NoMemory}
+use Rattle.ultra_sweep.specs.Job.{numbers, text_in}
+
+-- every job below n is named once, and no other number is named
+abbrev pub NamesEachOnce : ℕ → List JobResult → Type 0
+NamesEachOnce n results = (i : ℕ) → times i (numbers results) ≡ times_below i n
+
+-- one of the results is that of job i, with this text
+pub record HasText (results : List JobResult) (i : ℕ) (t : List ℕ) : Type 0 where
+  pub result : JobResult
+  pub there : Contains results result
+  pub number : result.number ≡ i
+  pub text : text_in result.outcome ≡ Some t
+
+-- the texts are those of all jobs below n, in order
+pub record AreGathered (n : ℕ) (results : List JobResult) (ts : List (List ℕ)) : Type 0 where
+  pub once : NamesEachOnce n results
+  pub count : length ts ≡ n
+  pub texts : (i : ℕ) → i < n → HasText results i (slice_index_or ts i [])
+
+-- no job is named twice, each number is below n, and each result has a text
+pub record AreSound (n : ℕ) (results : List JobResult) : Type 0 where
+  pub within : (i : ℕ) → times i (numbers results) ≤ times_below i n
+  pub texts : All (λ r. IsSome (text_in r.outcome)) results
+
+-- these results are sound, and the next one names job i
+pub record IsNext (n : ℕ) (results : List JobResult) (i : ℕ)
+    (before : List JobResult) : Type 0 where
+  pub sound : AreSound n before
+  pub result : JobResult
+  pub number : result.number ≡ i
+  pub rest : List JobResult
+  pub there : before ++ result ∷ rest ≡ results
+
+-- the results are sound, and job i is the first that none names
+pub record IsFirstMissing (n : ℕ) (results : List JobResult) (i : ℕ) : Type 0 where
+  pub sound : AreSound n results
+  pub below : i < n
+  pub missing : times i (numbers results) ≡ 0
+  pub first : (k : ℕ) → k < i → times k (numbers results) ≡ 1
+
+-- why there is not one result for each job
+abbrev pub ExplainsFault : ℕ → List JobResult → GatherFault → Type 0
+ExplainsFault n results (Double i) =
+    (before : List JobResult) × IsNext n results i before × (times i (numbers before) ≡ 1)
+ExplainsFault n results (Stranger i) =
+    (before : List JobResult) × IsNext n results i before × (n ≤ i)
+ExplainsFault n results (Missing i) = IsFirstMissing n results i
+ExplainsFault n results NoMemory = ⊤

@@ -1,0 +1,35 @@
+-- jobs and their results; this project's profile
+use Rattle.std.specs.Prelude.{◌≡◌, ◌<◌, ℕ, List, map, length, Option, Some, None, IfSome, slice_get, ⊤}
+use Rattle.ultra_trace.specs.Trace.{trace}
+use Rattle.ultra_sweep.specs.declared.job.Job.{Job}
+use Rattle.ultra_sweep.specs.declared.job.JobResult.{JobResult}
+use Rattle.ultra_sweep.specs.declared.job.Outcome.{Outcome}
+use Rattle.ultra_sweep.specs.declared.job.Outcome.TheVariants.{Trace, NoMemory}
+
+-- the trace of a job's run
+abbrev pub trace_of : Job → List ℕ
+trace_of job = trace job.config job.program
+
+-- what became of a job: its trace, or nothing is known of it
+abbrev pub IsOutcomeOf : Job → Outcome → Type 0
+IsOutcomeOf job (Trace text) = text.items ≡ trace_of job
+IsOutcomeOf job NoMemory = ⊤
+
+-- a result names its job, and holds what became of it
+pub record IsResultOf (i : ℕ) (job : Job) (result : JobResult) : Type 0 where
+  pub number : result.number ≡ i
+  pub outcome : IsOutcomeOf job result.outcome
+
+-- a result of one of these jobs, the one at the place that it names
+pub record IsResultAmong (jobs : List Job) (result : JobResult) : Type 0 where
+  pub named : result.number < length jobs
+  pub outcome : IfSome (slice_get jobs result.number) (λ job. IsOutcomeOf job result.outcome)
+
+-- the numbers of the jobs that results name
+abbrev pub numbers : List JobResult → List ℕ
+numbers results = map (λ r. r.number) results
+
+-- the text of a job that has one
+abbrev pub text_in : Outcome → Option (List ℕ)
+text_in (Trace text) = Some text.items
+text_in NoMemory = None

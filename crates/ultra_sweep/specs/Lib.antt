@@ -1,0 +1,7 @@
+pub mod Job
+pub mod Work
+pub mod Places
+pub mod Gather
+pub mod Report
+pub mod Text
+pub mod Law

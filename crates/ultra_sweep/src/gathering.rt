@@ -1,0 +1,149 @@
+//! What all threads brought back, put together.
+
+ghost use Rattle.std.specs.Prelude.{◌≡◌, IfOk, IfErr, OnOk, All, List, length, map, replicate, true};
+ghost use Rattle.ultra_sweep.specs.declared.job.Job.{Job};
+ghost use Rattle.ultra_sweep.specs.Job.{numbers, trace_of, IsResultAmong};
+ghost use Rattle.ultra_sweep.specs.Gather.{AreGathered, ExplainsFault};
+ghost use Rattle.ultra_sweep.specs.Places.{IsPut, ExplainsRefusal, ExplainsEmpty};
+
+use crate::job::{JobResult, Outcome};
+use std::alloc::{AllocError, Global};
+use std::marker::Model;
+use ultra_board::{Board, Seat};
+
+/// Why the results aren't one for each job.
+#[derive(Clone, Copy, PartialEq, Eq, Debug, Drop)]
+pub enum GatherFault {
+    /// The job of this number is named by two results.
+    Double(u64),
+    /// This number is named, but there is no such job.
+    Stranger(u64),
+    /// The job of this number is the first that no result names.
+    Missing(u64),
+    /// Memory was refused, here or to a job.
+    NoMemory,
+}
+
+impl From<AllocError> for GatherFault {
+    ghost use Rattle.ultra_sweep.specs.declared.gathering.GatherFault.TheVariants.{NoMemory};
+
+    ghost from_gives = { λ _ fault. fault ≡ NoMemory };
+
+    fn from(_: AllocError) -> GatherFault {
+        GatherFault::NoMemory
+    }
+}
+
+/// The traces of all jobs, in the order of their numbers. Contracts see the list of them.
+#[derive(Drop)]
+pub struct Gathered {
+    pub(crate) texts: Vec<Vec<u8>>,
+}
+
+impl Model for Gathered {
+    ghost use Rattle.std.specs.Prelude.{ℕ, List, map};
+
+    ghost Value = { List (List ℕ) };
+
+    ghost view = { λ g. map (λ t. t.items) g.texts.items };
+}
+
+/// Puts the results of `count` jobs together, each at its number.
+///
+/// The results are looked at in their order, and at each of them it is `Stranger` where there is no
+/// such job, else `Double` where an earlier result names the same job, else `NoMemory` where memory
+/// was refused to the job. Then it is `Missing` with the first job that isn't named. `NoMemory` may
+/// come in place of any other answer.
+pub fn gather(alloc: Global, count: u64, results: Vec<JobResult>) -> Result<Gathered, GatherFault>
+    ensures ok { IfOk result (λ g. AreGathered count results.items g) }
+    ensures err { IfErr result (ExplainsFault count results.items) }
+    ensures traces { (jobs : List Job) → length jobs ≡ count →
+        All (IsResultAmong jobs) results.items → IfOk result (λ g. g ≡ map trace_of jobs) }
+{
+    let mut places = empty_places(alloc, count as usize)?;
+    for result in results {
+        put(places.as_mut_slice(), result)?;
+    }
+    Ok(Gathered {
+        texts: texts_in(alloc, places)?,
+    })
+}
+
+/// Closes the board of `count` jobs, by the seat that has all its places, and puts the results
+/// together. The results are those of all calls of `work` there, and no number was drawn elsewhere.
+/// So each job has one, and an error says that memory was refused, here or to a job.
+pub fn close_and_gather(
+    alloc: Global,
+    board: Board,
+    seat: Seat,
+    count: u64,
+    results: Vec<JobResult>,
+) -> Result<Gathered, AllocError>
+    requires board { seat.board ≡ board.id }
+    requires all { seat.view.places ≡ board.limits.seats }
+    requires spent { seat.view.spent ≡ true }
+    requires count { seat.view.limit ≡ count }
+    requires drawn { seat.view.drawn ≡ numbers results.items }
+    ensures ok { IfOk result (λ g. AreGathered count results.items g) }
+    ensures traces { (jobs : List Job) → length jobs ≡ count →
+        All (IsResultAmong jobs) results.items → IfOk result (λ g. g ≡ map trace_of jobs) }
+{
+    let _totals = board.close(seat);
+    match gather(alloc, count, results) {
+        Ok(gathered) => Ok(gathered),
+        Err(GatherFault::NoMemory) => Err(AllocError),
+        Err(GatherFault::Double(_)) => unreachable!(),
+        Err(GatherFault::Stranger(_)) => unreachable!(),
+        Err(GatherFault::Missing(_)) => unreachable!(),
+    }
+}
+
+/// As many empty places as there are jobs. An error says that memory was refused.
+fn empty_places(alloc: Global, count: usize) -> Result<Vec<Option<Vec<u8>>>, AllocError>
+    ensures { IfOk result (λ v. v.items ≡ replicate count None) }
+{
+    let mut places = Vec::with_capacity(alloc, count)?;
+    for _ in 0..count {
+        places.push(None)?;
+    }
+    Ok(places)
+}
+
+/// Puts the trace of a job into the job's place.
+fn put(places: &mut [Option<Vec<u8>>], it: JobResult) -> Result<(), GatherFault>
+    ensures ok { OnOk result (IsPut it places.old places.new) }
+    ensures err { IfErr result (ExplainsRefusal it places.old) }
+{
+    let JobResult { number, outcome } = it;
+    if number >= places.len() as u64 {
+        return Err(GatherFault::Stranger(number));
+    }
+    let place = &mut places[number as usize];
+    if place.is_some() {
+        return Err(GatherFault::Double(number));
+    }
+    match outcome {
+        Outcome::Trace(text) => {
+            *place = Some(text);
+            Ok(())
+        }
+        Outcome::NoMemory => Err(GatherFault::NoMemory),
+    }
+}
+
+/// The texts in their places, all of which have to be full.
+fn texts_in(alloc: Global, places: Vec<Option<Vec<u8>>>) -> Result<Vec<Vec<u8>>, GatherFault>
+    ensures ok { IfOk result (λ v. map Some v.items ≡ places.items) }
+    ensures err { IfErr result (ExplainsEmpty places.items) }
+{
+    let mut texts = Vec::with_capacity(alloc, places.len())?;
+    let mut number: u64 = 0;
+    for place in places {
+        let Some(text) = place else {
+            return Err(GatherFault::Missing(number));
+        };
+        texts.push_reserved(text);
+        number += 1;
+    }
+    Ok(texts)
+}

@@ -1,0 +1,49 @@
+//! Jobs, what becomes of them, and who runs them.
+
+ghost use Rattle.std.specs.Prelude.{◌<◌, Contains};
+ghost use Rattle.ultra_sweep.specs.Job.{IsResultOf};
+
+use std::alloc::Global;
+use std::sync::Wait;
+use ultra_board::Seat;
+use ultra_isa::Program;
+use ultra_model::Config;
+
+/// A job: the run of a program on a machine of these settings. Its number is its place in the list
+/// of jobs, from 0.
+#[derive(Drop)]
+pub struct Job {
+    /// The settings.
+    pub config: Config,
+    /// The program.
+    pub program: Program,
+}
+
+/// What became of a job.
+#[derive(Drop)]
+pub enum Outcome {
+    /// The trace of its run.
+    Trace(Vec<u8>),
+    /// Memory was refused, to its run or to its text.
+    NoMemory,
+}
+
+/// A job's result.
+#[derive(Drop)]
+pub struct JobResult {
+    /// The job's number.
+    pub number: u64,
+    /// What became of it.
+    pub outcome: Outcome,
+}
+
+/// Who runs the jobs that are drawn.
+pub trait JobGate {
+    /// Runs a job, which the seat has drawn and hasn't finished, under the pass that the seat
+    /// holds. It may wait, for another job too.
+    fn run<R: Wait>(&self, rt: &R, alloc: Global, seat: &Seat, number: u64, job: &Job) -> JobResult
+        requires pass { 0 < seat.now.view.held }
+        requires drawn { Contains seat.now.view.drawn number }
+        requires unfinished { ¬ Contains seat.now.view.finished number }
+        ensures { IsResultOf number job.now result };
+}

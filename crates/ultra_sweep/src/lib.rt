@@ -1,0 +1,22 @@
+//! A sweep: many jobs by threads of the host, and one report whose bytes depend neither on the
+//! number of threads nor on how many jobs run at once.
+//!
+//! A job is a run of a machine. Threads draw the jobs from a board (`ultra_board`), each with a
+//! seat of its own, and run each one under a pass by a [`JobGate`]. What the threads bring back is
+//! put together by [`gather`] and written by [`report`].
+#![tactic(auto)]
+
+mod gathering;
+mod job;
+mod law;
+mod reporting;
+mod single;
+mod text;
+mod working;
+
+pub use gathering::{GatherFault, Gathered, close_and_gather, gather};
+pub use job::{Job, JobGate, JobResult, Outcome};
+pub use law::sweep_law;
+pub use reporting::report;
+pub use single::RunAlone;
+pub use working::{WorkFault, work};
