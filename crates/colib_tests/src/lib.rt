@@ -1,9 +1,0 @@
-//! Tests of the coordination library, over its public calls.
-#![tactic(auto)]
-
-#[cfg(test)]
-mod listings;
-#[cfg(test)]
-mod runs;
-#[cfg(test)]
-mod trays;
