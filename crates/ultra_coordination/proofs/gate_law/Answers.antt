@@ -1,3 +1,4 @@
+use Rattle.ultra_coordination.proofs.Queue.{steps}
 use Rattle.ultra_coordination.proofs.Gate.{kept}
 use Rattle.ultra_coordination.proofs.gate_law.Goals as goal
 
