@@ -26,3 +26,8 @@ pub mod Rest
 pub mod Numbers
 pub mod Explaining
 pub mod ByName
+pub mod Taken
+pub mod Grown
+pub mod Everyone
+pub mod Waves
+pub mod HotSpot

@@ -11,3 +11,4 @@ pub mod Following
 pub mod Recording
 pub mod Breach
 pub mod Examined
+pub mod HotSpot
