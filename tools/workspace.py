@@ -46,9 +46,9 @@ def below(listed, name):
     return with_all_below(listed, [name])[:-1]
 
 
-def lines_of(name):
-    """The lines of a crate's sources, definitions and proofs."""
-    folders = [ROOT / "crates" / name / part for part in ("src", "specs", "proofs")]
+def lines_of(name, parts=("src", "specs", "proofs")):
+    """The lines of a crate's sources, definitions and proofs, or of some of these parts."""
+    folders = [ROOT / "crates" / name / part for part in parts]
     files = [it for folder in folders for it in folder.rglob("*") if it.is_file()]
     return sum(it.read_bytes().count(b"\n") for it in files)
 
