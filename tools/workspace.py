@@ -67,6 +67,13 @@ def processors():
     return max(1, min(len(os.sched_getaffinity(0)), memory // MEMORY_OF_A_JOB))
 
 
+def lanes_asked(words):
+    """How many jobs may run at once, by the option `--jobs N` or else by the machine, and the words that follow."""
+    if words[:1] == ["--jobs"] and words[1:2] and words[1].isdigit():
+        return max(1, int(words[1])), words[2:]
+    return processors(), words
+
+
 def furnish(room, listed, name):
     """Makes a room for the crate: its sources, and the libraries that it stands on, as far as they are built."""
     shutil.rmtree(room, ignore_errors=True)
