@@ -32,3 +32,8 @@ pub mod Fitting
 pub mod KeptTrees
 pub mod NewRequests
 pub mod ExplicableRuns
+pub mod Taken
+pub mod Grown
+pub mod Everyone
+pub mod Waves
+pub mod HotSpot

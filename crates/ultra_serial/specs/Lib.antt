@@ -12,3 +12,4 @@ pub mod Recording
 pub mod Breach
 pub mod Examined
 pub mod Explicable
+pub mod HotSpot

@@ -13,6 +13,7 @@ mod waiting;
 
 ghost use Rattle.ultra_serial.specs.Chain.{SerializationLaw};
 ghost use Rattle.ultra_serial.specs.Explicable.{ExplainingLaw};
+ghost use Rattle.ultra_serial.specs.HotSpot.{HotSpotLaw};
 
 pub use checking::{BreachKind, CheckFault, check};
 pub use history::{OrderFault, order};
@@ -39,4 +40,17 @@ pub fn serialization_law()
 /// processing element. The function itself does nothing.
 pub fn explaining_law()
     ensures explained { ExplainingLaw }
+{}
+
+/// The hot spot law, as this function's contract: whenever all queues, wait buffers and modules are
+/// empty and each processing element has one request that is not yet in the network, all for one
+/// cell, the memory serves them by one act. With d stages and the cycles counted from there, the
+/// act is in cycle d + 1, its tree has height d and a leaf for each of the 2^d processing elements,
+/// and each of them is answered in cycle 2d + 2. In these cycles there is no other act on the cell.
+///
+/// It holds for all settings in their ranges with a place in each wait buffer, and for every
+/// program. That requests for one cell combine at every stage is the 1983 paper's; the counts of
+/// cycles are this project's profile of it. The function itself does nothing.
+pub fn hot_spot_law()
+    ensures at_once { HotSpotLaw }
 {}

@@ -16,7 +16,7 @@ use Rattle.ultra_model.proofs.Counting.{both_true}
 use Rattle.ultra_model.proofs.Neighbours.{itself, other}
 use Rattle.ultra_wave.specs.AllAtOnce.{acts_on}
 use Rattle.ultra_serial.specs.Tree.{Tree, Kept, is_under, tree_of, without, trees_after}
-use Rattle.ultra_hot_spot.specs.HotSpot.{listed, tree_taken, trees_taken}
+use Rattle.ultra_serial.specs.HotSpot.{listed, tree_taken, trees_taken}
 
 -- ---- trees of other cells
 under_other : (p a q b : ℕ) (k : Kept) → b ≢ a → is_under q b k ≡ true → is_under p a k ≡ false

@@ -15,7 +15,7 @@ use Rattle.ultra_model.proofs.Levels.{two_stages, add_number}
 use Rattle.ultra_serial.specs.Tree.{Tree, leaf, pair}
 use Rattle.ultra_serial.specs.SerialList.{history}
 use Rattle.ultra_wave.specs.AllAtOnce.{acts_on, events_of}
-use Rattle.ultra_hot_spot.specs.HotSpot.{trees_taken}
+use Rattle.ultra_serial.specs.HotSpot.{trees_taken}
 
 -- the requests for cell a that are served in each of k cycles from cycle n on
 abbrev acts_by_cycle : Settings → List Instr → ℕ → ℕ → ℕ → List (List Request)

@@ -26,10 +26,10 @@ use Rattle.ultra_serial.specs.SerialList.{History, history}
 use Rattle.ultra_serial.proofs.Forest.{built}
 use Rattle.ultra_serial.proofs.Explained.{IsKept}
 use Rattle.ultra_serial.proofs.Law.{serial_after}
-use Rattle.ultra_hot_spot.specs.HotSpot.{trees_taken, IsHotSpot, HotSpotLaw}
-use Rattle.ultra_hot_spot.proofs.Taken.{none_taken, taken-append, kept_after, one_taken, IsEarly, early_deliveries, early_servings}
-use Rattle.ultra_hot_spot.proofs.Everyone.{everyone}
-use Rattle.ultra_hot_spot.proofs.Grown.{IsFull, wave_is_full}
+use Rattle.ultra_serial.specs.HotSpot.{trees_taken, IsHotSpot, HotSpotLaw}
+use Rattle.ultra_serial.proofs.Taken.{none_taken, taken-append, kept_after, one_taken, IsEarly, early_deliveries, early_servings}
+use Rattle.ultra_serial.proofs.Everyone.{everyone}
+use Rattle.ultra_serial.proofs.Grown.{IsFull, wave_is_full}
 
 module _ (c : Settings) (range : AreInRange c) (some_waits : 1 ≤ c.wait_places) (program : List Instr) (n a : ℕ) (w : AreAllAt c a (after c program n)) where
   abbrev home : ℕ

@@ -19,8 +19,8 @@ use Rattle.ultra_wave.proofs.Fronts.{front_is_old}
 use Rattle.ultra_wave.proofs.Onward.{leads_first}
 use Rattle.ultra_wave.proofs.Returning.{one_of_ports}
 use Rattle.ultra_wave.proofs.Stages.{is_on, IsAsked, fronts, HasLeft}
-use Rattle.ultra_hot_spot.specs.HotSpot.{IsOf}
-use Rattle.ultra_hot_spot.proofs.Grown.{old_first, grown_is}
+use Rattle.ultra_serial.specs.HotSpot.{IsOf}
+use Rattle.ultra_serial.proofs.Grown.{old_first, grown_is}
 
 in_pair : (s x : ℕ) (old new : Tree) (f : Bool) (p : ℕ) → IsOf old p ⊎ IsOf new p → IsOf (pair s x old new f) p
 in_pair s x old new true p h =

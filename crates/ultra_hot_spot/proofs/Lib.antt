@@ -1,5 +1,0 @@
-pub mod Taken
-pub mod Grown
-pub mod Everyone
-pub mod Law
-pub mod Waves
