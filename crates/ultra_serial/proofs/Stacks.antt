@@ -25,19 +25,19 @@ module _ (p a : ℕ) (k : Kept) (ks : List Kept) where
   unfolding rest_at
   rest_when t e = ap rest_at e
 
-  tree_here : is_under p a k ≡ true → tree_of p a (k ∷ ks) ≡ Some k.tree
+  pub tree_here : is_under p a k ≡ true → tree_of p a (k ∷ ks) ≡ Some k.tree
   unfolding tree_at
   tree_here e = tree_when true e
 
-  tree_later : is_under p a k ≡ false → tree_of p a (k ∷ ks) ≡ tree_of p a ks
+  pub tree_later : is_under p a k ≡ false → tree_of p a (k ∷ ks) ≡ tree_of p a ks
   unfolding tree_at
   tree_later e = tree_when false e
 
-  rest_here : is_under p a k ≡ true → without p a (k ∷ ks) ≡ ks
+  pub rest_here : is_under p a k ≡ true → without p a (k ∷ ks) ≡ ks
   unfolding rest_at
   rest_here e = rest_when true e
 
-  rest_later : is_under p a k ≡ false → without p a (k ∷ ks) ≡ k ∷ without p a ks
+  pub rest_later : is_under p a k ≡ false → without p a (k ∷ ks) ≡ k ∷ without p a ks
   unfolding rest_at
   rest_later e = rest_when false e
 

@@ -3,43 +3,13 @@ use Rattle.std.proofs.Common.{◌≡◌, ◌≢◌, ℕ, List, [], ◌∷◌, �
 use Rattle.std.proofs.lemmas.Bool.{cases_Bool}
 use Rattle.std.proofs.lemmas.Bool.Decides.{nat_tests}
 use Rattle.ultra_serial.specs.Tree.{Tree, Kept, is_under, tree_of, without}
+use Rattle.ultra_serial.proofs.Stacks.{tree_here, tree_later, rest_here, rest_later}
 
 pub same_identity : (p a q b : ℕ) → (p == q) && (a == b) ≡ true → (p ≡ q) × (a ≡ b)
 same_identity p a q b e = (grind (arith, nat_tests), grind (arith, nat_tests))
 
 pub other_identity : (p a q b : ℕ) → p ≢ q → (p == q) && (a == b) ≡ false
 other_identity p a q b e = grind (arith, nat_tests)
-
-module _ (p a : ℕ) (k : Kept) (ks : List Kept) where
-  tree_at : Bool → Option Tree
-  tree_at b = elim b [ true ↦ Some k.tree | false ↦ tree_of p a ks ]
-
-  rest_at : Bool → List Kept
-  rest_at b = elim b [ true ↦ ks | false ↦ k ∷ without p a ks ]
-
-  tree_when : (t : Bool) → is_under p a k ≡ t → tree_of p a (k ∷ ks) ≡ tree_at t
-  unfolding tree_at
-  tree_when t e = ap tree_at e
-
-  rest_when : (t : Bool) → is_under p a k ≡ t → without p a (k ∷ ks) ≡ rest_at t
-  unfolding rest_at
-  rest_when t e = ap rest_at e
-
-  pub tree_here : is_under p a k ≡ true → tree_of p a (k ∷ ks) ≡ Some k.tree
-  unfolding tree_at
-  tree_here e = tree_when true e
-
-  pub tree_later : is_under p a k ≡ false → tree_of p a (k ∷ ks) ≡ tree_of p a ks
-  unfolding tree_at
-  tree_later e = tree_when false e
-
-  pub rest_here : is_under p a k ≡ true → without p a (k ∷ ks) ≡ ks
-  unfolding rest_at
-  rest_here e = rest_when true e
-
-  pub rest_later : is_under p a k ≡ false → without p a (k ∷ ks) ≡ k ∷ without p a ks
-  unfolding rest_at
-  rest_later e = rest_when false e
 
 -- ---- one more behind all others
 module _ (p a : ℕ) (k : Kept) where

@@ -9,7 +9,8 @@ use Rattle.ultra_tree.specs.declared.held.Held.{Held}
 use Rattle.ultra_tree.specs.Seen.{seen, kept_as, trees_of, IsLatest}
 use Rattle.std.proofs.lemmas.Bool.{cases_Bool}
 use Rattle.ultra_tree.proofs.Counted.{equal_of, apart_of}
-use Rattle.ultra_tree.proofs.Kept.{same_identity, tree_here, tree_later, rest_here, tree_more, tree_same, rest_more, rest_same}
+use Rattle.ultra_serial.proofs.Stacks.{tree_here, tree_later, rest_here}
+use Rattle.ultra_tree.proofs.Kept.{same_identity, tree_more, tree_same, rest_more, rest_same}
 
 module _ {A : Type 0} (p a : ℕ) where
   -- none from this place on is under the identity
