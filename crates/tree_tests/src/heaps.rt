@@ -1,0 +1,45 @@
+//! Explainers whose heap refuses memory.
+
+use crate::events::{absorb, absorb_all, all_combined, explainer, issue, settings};
+use linked_list_allocator::LocalHeap;
+use std::process::Abort;
+use std::test::Fail;
+use ultra_tree::{ExplainFault, Explainer};
+
+/// How many bytes of a large heap are taken once this many events of the run are absorbed.
+fn bytes_after<R: AllocGlobal + Abort>(rt: &R, events: usize) -> usize {
+    let heap = LocalHeap::new(rt.alloc(), 16384).expect(rt, "no memory");
+    let mut explainer = explainer(rt, &heap);
+    let run = all_combined();
+    let first = run.get(..events).expect(rt, "too many events");
+    assert_eq!(rt; absorb_all(rt, &mut explainer, first), events);
+    heap.used()
+}
+
+/// With a heap that is full after this many events of the run, the next is refused, all memory of trees comes back, and
+/// whatever comes then is refused too.
+fn check_full<R: AllocGlobal + Abort>(rt: &R, events: usize) {
+    let heap = LocalHeap::new(rt.alloc(), bytes_after(rt, events)).expect(rt, "no memory");
+    let mut explainer = explainer(rt, &heap);
+    assert_eq!(rt; absorb_all(rt, &mut explainer, &all_combined()), events);
+    assert_eq!(rt; heap.used(), bytes_after(rt, 0));
+    let later = absorb(rt, &mut explainer, &issue(0, 1, 1));
+    assert!(rt; matches!(later, Err(ExplainFault::Spent)));
+}
+
+/// A heap with room for an explainer alone refuses the first combination, one with room for two pairs the third.
+#[test]
+fn a_heap_that_is_full(rt: HostRuntime) -> Result<(), Fail> {
+    check_full(&rt, 4);
+    check_full(&rt, 6);
+    Ok(())
+}
+
+/// Where there is no room for the places of the trees, there is no explainer.
+#[test]
+fn a_heap_without_room(rt: HostRuntime) -> Result<(), Fail> {
+    let heap = LocalHeap::new(rt.alloc(), 64)?;
+    let refused = Explainer::new(&settings(&rt, 2), &heap);
+    assert!(&rt; matches!(refused, Err(ExplainFault::Full)));
+    Ok(())
+}

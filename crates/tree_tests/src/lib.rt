@@ -1,0 +1,13 @@
+//! Tests of the explainer, over its public calls.
+#![tactic(auto)]
+
+#[cfg(test)]
+mod events;
+#[cfg(test)]
+mod heaps;
+#[cfg(test)]
+mod high;
+#[cfg(test)]
+mod trays;
+#[cfg(test)]
+mod trees;
