@@ -1,3 +1,1 @@
-pub mod Failure
-pub mod Order
 pub mod Outcome

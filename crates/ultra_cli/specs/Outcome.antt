@@ -1,23 +1,18 @@
--- what a command does with files and standard output, and with which status it ends; this project's profile
-use Rattle.std.specs.Prelude.{◌≡◌, ◌≢◌, ℕ, List, [], ◌∷◌, ◌++◌, ◌⊎◌, None, false, ◌==◌, if◌then◌else◌, IsUtf8, string_bytes, ⊤}
+-- which commands were obeyed, and with which status the program ends; this project's profile
+use Rattle.std.specs.Prelude.{◌≡◌, ℕ, List, [], ◌∷◌, ◌++◌, ◌⊎◌, ◌==◌, if◌then◌else◌, string_bytes}
 use Rattle.ultra_msg.specs.Bytes.{IsBeginning}
 use Rattle.ultra_isa.specs.declared.Instr.{Instr}
-use Rattle.ultra_model.specs.Machine.{Settings}
-use Rattle.ultra_model.specs.declared.config.RawSettings.{RawSettings}
-use Rattle.ultra_model.specs.Accepted.{first_bad, settings_of}
-use Rattle.ultra_settings.specs.declared.SettingsFault.TheVariants as settings
-use Rattle.ultra_settings.specs.SettingsText as settings_text
-use Rattle.ultra_settings.specs.SettingsText.{Gives}
-use Rattle.ultra_asm.specs.Words.{text_words}
-use Rattle.ultra_asm.specs.ProgramText.{IsProgramText, IsFirstFault}
 use Rattle.ultra_asm.specs.Listing.{listing_text}
 use Rattle.ultra_command_line.specs.declared.Command.TheVariants.{Run, Order, List as ListOf}
 use Rattle.ultra_command_line.specs.declared.Parsed.{Parsed}
 use Rattle.ultra_command_line.specs.declared.Parsed.TheVariants as parsed
-use Rattle.ultra_cli.specs.declared.failure.Failure.{Failure}
-use Rattle.ultra_cli.specs.declared.failure.Failure.TheVariants.{Usage, NotRead, NotToml, BadField, UnknownKey, NotUtf8, BadLine, NoMemory, NoThread, NotWritten}
-use Rattle.ultra_io.specs.Source.{File, file_of}
-use Rattle.ultra_cli.specs.Order.{order_of}
+use Rattle.ultra_inputs.specs.declared.failure.Failure.{Failure}
+use Rattle.ultra_inputs.specs.declared.failure.Failure.TheVariants.{Usage, NoMemory, NotWritten}
+use Rattle.ultra_inputs.specs.Inputs.{IsProgramOf, IsUnread, ExplainsProgram}
+use Rattle.ultra_inputs.specs.Traffic.{Traffic, with_files, IsStopped, WroteText, TextFails}
+use Rattle.ultra_io.specs.Source.{file_of}
+use Rattle.run_command.specs.Stops.{IsStoppedBy}
+use Rattle.order_command.specs.Order.{order_of}
 use Rattle.ultra_trace.specs.Trace.{trace}
 
 -- one of the program's statuses: done, a usage fault, refused input, no memory or thread, a failed write
@@ -31,93 +26,6 @@ IsRefusal s = (s ≡ 2) ⊎ (s ≡ 3)
 -- how often standard output failed where the program ended with the status
 abbrev pub status_failures : ℕ → ℕ
 status_failures s = if s == 5 then 1 else 0
-
--- what went in and out so far: the files that were read, and the bytes that standard output took
-pub record Traffic : Type 0 where
-  pub files : List File
-  pub written : List ℕ
-
-abbrev pub traffic : List File → List ℕ → Traffic
-traffic files written = record { files = files; written = written }
-
-abbrev pub with_files : Traffic → List File → Traffic
-with_files t files = record t { files = t.files ++ files }
-
--- the text of a file gives these settings, and they are accepted
-abbrev pub IsAccepted : List ℕ → Settings → Type 0
-IsAccepted text c = (r : RawSettings) × Gives text r false × (first_bad r ≡ None) × (c ≡ settings_of r)
-
--- the text of a file is written for this program
-abbrev pub IsProgramOf : List ℕ → List Instr → Type 0
-IsProgramOf text p = IsUtf8 text × IsProgramText text p
-
--- why a file isn't had
-abbrev pub IsUnread : List ℕ → Failure → Type 0
-IsUnread path (NotRead p) = p.now ≡ path
-IsUnread path NoMemory = ⊤
-IsUnread path _ = ⊥
-
--- why the text of a file gives no settings that are accepted
-abbrev pub ExplainsSettings : List ℕ → List ℕ → Failure → Type 0
-ExplainsSettings path text (NotToml p) = (p.now ≡ path) × settings_text.ExplainsFault text settings.NotToml
-ExplainsSettings path text (BadField p f) = (p.now ≡ path) × settings_text.ExplainsFault text (settings.BadField f)
-ExplainsSettings path text (UnknownKey p) = (p.now ≡ path) × settings_text.ExplainsFault text settings.UnknownKey
-ExplainsSettings path text NoMemory = ⊤
-ExplainsSettings path text _ = ⊥
-
--- why the text of a file is no program
-abbrev pub ExplainsProgram : List ℕ → List ℕ → Failure → Type 0
-ExplainsProgram path text (NotUtf8 p) = (p.now ≡ path) × ¬ IsUtf8 text
-ExplainsProgram path text (BadLine p l k) = (p.now ≡ path) × IsFirstFault (text_words text) (record { line = l; kind = k })
-ExplainsProgram path text NoMemory = ⊤
-ExplainsProgram path text _ = ⊥
-
--- a file was read, and its text gives this value
-pub record FileGave {A : Type 0} (Gives : List ℕ → A → Type 0) (path : List ℕ) (old new : List File) (value : A) : Type 0 where
-  pub text : List ℕ
-  pub given : Gives text value
-  pub files : new ≡ old ++ file_of path text ∷ []
-
--- why a file gives no value: it isn't had, or its text is refused
-pub data FileGaveNothing (Explains : List ℕ → List ℕ → Failure → Type 0) (path : List ℕ) (old new : List File) (f : Failure) : Type 0 where
-  not_had : IsUnread path f → new ≡ old → FileGaveNothing Explains path old new f
-  not_accepted : (text : List ℕ) → Explains path text f → new ≡ old ++ file_of path text ∷ [] → FileGaveNothing Explains path old new f
-
--- two files were read, and they give these settings and this program
-pub record Gave (conf prog : List ℕ) (old new : List File) (c : Settings) (p : List Instr) : Type 0 where
-  pub settings_bytes : List ℕ
-  pub program_bytes : List ℕ
-  pub accepted : IsAccepted settings_bytes c
-  pub assembled : IsProgramOf program_bytes p
-  pub files : new ≡ old ++ file_of conf settings_bytes ∷ file_of prog program_bytes ∷ []
-
--- why two files give no settings and program: the first is accepted or refused before the second is read
-pub data GaveNothing (conf prog : List ℕ) (old new : List File) (f : Failure) : Type 0 where
-  unread_settings : IsUnread conf f → new ≡ old → GaveNothing conf prog old new f
-  refused_settings : (text : List ℕ) → ExplainsSettings conf text f → new ≡ old ++ file_of conf text ∷ [] → GaveNothing conf prog old new f
-  unread_program : (text : List ℕ) (c : Settings) → IsAccepted text c → IsUnread prog f → new ≡ old ++ file_of conf text ∷ [] → GaveNothing conf prog old new f
-  refused_program : (text program_text : List ℕ) (c : Settings) → IsAccepted text c → ExplainsProgram prog program_text f → new ≡ old ++ file_of conf text ∷ file_of prog program_text ∷ [] → GaveNothing conf prog old new f
-
--- why a text ended early
-abbrev pub IsStopped : Failure → Type 0
-IsStopped f = (f ≡ NoMemory) ⊎ (f ≡ NotWritten)
-
--- why a run by n workers ended early: one worker needs no thread to be started
-abbrev pub IsStoppedBy : ℕ → Failure → Type 0
-IsStoppedBy workers f = IsStopped f ⊎ ((f ≡ NoThread) × (workers ≢ 1))
-
-module _ (text : Settings → List Instr → List ℕ) where
-  -- two files were read, and the text of their settings and program was written
-  pub record WroteText (conf prog : List ℕ) (old new : Traffic) : Type 0 where
-    pub settings : Settings
-    pub program : List Instr
-    pub gave : Gave conf prog old.files new.files settings program
-    pub written : new.written ≡ old.written ++ text settings program
-
-  -- how that fails: both files are accepted before a byte is written, and what stops the text is such a failure
-  pub data TextFails (Stops : Failure → Type 0) (conf prog : List ℕ) (old new : Traffic) (f : Failure) : Type 0 where
-    refused : GaveNothing conf prog old.files new.files f → new.written ≡ old.written → TextFails Stops conf prog old new f
-    stopped : (c : Settings) (p : List Instr) → Gave conf prog old.files new.files c p → Stops f → IsBeginning new.written (old.written ++ text c p) → TextFails Stops conf prog old new f
 
 -- a file was read, and the canonical text of its program was written
 pub record WroteListing (prog : List ℕ) (old new : Traffic) : Type 0 where

@@ -5,20 +5,17 @@
 ghost use Rattle.std.specs.Prelude.{◌≡◌, ◌≢◌, ◌+◌, ◌++◌, IfErr, OnOk};
 ghost use Rattle.ultra_msg.specs.Bytes.{IsBeginning};
 ghost use Rattle.ultra_command_line.specs.declared.Parsed.{Parsed};
-ghost use Rattle.ultra_cli.specs.declared.failure.Failure.{Failure};
-ghost use Rattle.ultra_cli.specs.Failure.{status_of, text_of, read_failures, write_failures};
-ghost use Rattle.ultra_cli.specs.Outcome.{status_failures, traffic, IsRefusal, IsStatus, Obeyed, NotObeyed};
+ghost use Rattle.ultra_inputs.specs.declared.failure.Failure.{Failure};
+ghost use Rattle.ultra_inputs.specs.Failure.{status_of, text_of, read_failures, write_failures};
+ghost use Rattle.ultra_inputs.specs.Traffic.{traffic};
+ghost use Rattle.ultra_cli.specs.Outcome.{status_failures, IsRefusal, IsStatus, Obeyed, NotObeyed};
 
-mod failure;
-mod inputs;
 mod list;
-mod order;
-mod run;
 
-pub use failure::Failure;
 use std::sync::Wait;
 use std::thread::Threads;
 use ultra_command_line::{Command, Parsed, parse};
+pub use ultra_inputs::{Failure, give_up};
 use ultra_io::Source;
 use ultra_msg::{Sink, write_all};
 
@@ -99,22 +96,10 @@ fn carry_out<'w, R: AllocGlobal + Threads + Wait + Sync, F: Source, O: Sink>(
             settings,
             program,
             workers,
-        } => run::run(rt, alloc, settings, program, workers, source, out),
+        } => run_command::run(rt, alloc, settings, program, workers, source, out),
         Command::Order { settings, program } => {
-            order::order(alloc, settings, program, source, out)
+            order_command::order(alloc, settings, program, source, out)
         }
         Command::List { program } => list::list(alloc, program, source, out),
     }
-}
-
-/// Reports a failure on `err`, and answers its status. Where `err` fails too, the status alone
-/// reports it.
-pub fn give_up<E: Sink>(failure: &Failure, err: &mut E) -> u8
-    ensures status { result ≡ status_of failure.now }
-    ensures told { IsBeginning (E.taken err.new) (E.taken err.old ++ text_of failure.now) }
-    ensures whole { E.failures err.new ≡ E.failures err.old → E.taken err.new ≡ E.taken err.old ++
-        text_of failure.now }
-{
-    let _ = failure.write_to(err);
-    failure.status()
 }

@@ -1,13 +1,13 @@
 //! The command `list`: it writes the canonical text of a program.
 
 ghost use Rattle.std.specs.Prelude.{◌≡◌, ◌+◌, IfErr, OnOk};
-ghost use Rattle.ultra_cli.specs.Failure.{read_failures, write_failures};
-ghost use Rattle.ultra_cli.specs.Outcome.{traffic, WroteListing, ListFails};
+ghost use Rattle.ultra_inputs.specs.Failure.{read_failures, write_failures};
+ghost use Rattle.ultra_inputs.specs.Traffic.{traffic};
+ghost use Rattle.ultra_cli.specs.Outcome.{WroteListing, ListFails};
 
-use crate::failure::Failure;
-use crate::inputs::read_program;
 use std::alloc::Global;
 use ultra_asm::listing;
+use ultra_inputs::{Failure, read_program};
 use ultra_io::Source;
 use ultra_msg::Sink;
 

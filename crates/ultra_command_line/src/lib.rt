@@ -1,10 +1,15 @@
 //! The command line of the program.
 #![tactic(auto)]
 
+mod grammar;
+mod heap;
+mod reading;
 mod workers;
 
 use clap::error::ErrorKind;
-use clap::{Arg, ArgMatches, value_parser};
+use grammar::ultra_command;
+pub use heap::HeapBytes;
+use reading::{Misreading, named_command};
 use std::alloc::{AllocError, Global};
 pub use workers::Workers;
 
@@ -27,11 +32,47 @@ pub enum Command<'w> {
         /// The path of the program's text.
         program: &'w str,
     },
+    /// To write the combining tree of each memory act of a run:
+    /// `ultra explain CONF PROG [--heap BYTES]`.
+    Explain {
+        /// The path of the settings.
+        settings: &'w str,
+        /// The path of the program's text.
+        program: &'w str,
+        /// The heap of the trees: of 1,048,576 bytes where the words don't say it.
+        heap: HeapBytes,
+    },
     /// To write the canonical text of a program: `ultra list PROG`.
     List {
         /// The path of the program's text.
         program: &'w str,
     },
+    /// To write the traces of many runs: `ultra sweep JOBS --workers H --at-once B [--progress]`.
+    Sweep {
+        /// The path of the file of jobs.
+        jobs: &'w str,
+        /// How many threads of the host do the jobs.
+        workers: Workers,
+        /// How many of them may run a job at once.
+        at_once: Workers,
+        /// Whether standard error shows how many jobs are finished.
+        progress: bool,
+    },
+    /// To write the canonical text of a coordination program: `ultra lib NAME NUMBER..`.
+    Lib(Coordination),
+}
+
+/// A coordination program with its parameters, as they are given: they may be out of their ranges.
+#[derive(Clone, Copy, PartialEq, Eq)]
+pub enum Coordination {
+    /// A gate: `ultra lib gate B T`.
+    Gate { bound: u32, rounds: u32 },
+    /// A queue of `2^log_size` places: `ultra lib queue Z T`.
+    Queue { log_size: u32, rounds: u32 },
+    /// Readers and writers: `ultra lib rw G T`.
+    ReadersWriters { writers: u32, rounds: u32 },
+    /// A barrier: `ultra lib barrier T`.
+    Barrier { rounds: u32 },
 }
 
 /// What the words of a command line tell.
@@ -82,124 +123,24 @@ fn read_words<'w>(
     words: &'w [&'w str],
 ) -> Result<Command<'w>, clap::Error> {
     match matched_command(ultra, words)? {
-        Some(command) => Ok(command),
-        None => Err(ultra.error(ErrorKind::MissingSubcommand, "no command")?),
+        Ok(command) => Ok(command),
+        Err(Misreading::NoCommand) => {
+            Err(ultra.error(ErrorKind::MissingSubcommand, "no command")?)
+        }
+        Err(Misreading::NotDecimal) => Err(ultra.error(
+            ErrorKind::ValueValidation,
+            "a number of a coordination program is written in decimal digits",
+        )?),
     }
 }
 
-/// The command that the words name, if they are accepted and name one.
+/// The command that the words name, if `clap` accepts them.
 fn matched_command<'w>(
     ultra: &mut clap::Command<'w>,
     words: &'w [&'w str],
-) -> Result<Option<Command<'w>>, clap::Error> {
+) -> Result<Result<Command<'w>, Misreading>, clap::Error> {
     match ultra.try_get_matches_from_mut(words) {
         Ok(matches) => Ok(named_command(&matches)),
         Err(error) => Err(error),
     }
-}
-
-/// The command that accepted words name.
-fn named_command<'w>(matches: &ArgMatches<'w>) -> Option<Command<'w>> {
-    let (name, words) = matches.subcommand()?;
-    match name {
-        "run" => run_in(words),
-        "order" => order_in(words),
-        "list" => list_in(words),
-        _ => None,
-    }
-}
-
-/// The command `run` with the words that follow it.
-fn run_in<'w>(words: &ArgMatches<'w>) -> Option<Command<'w>> {
-    Some(Command::Run {
-        settings: words.get_str("CONF")?,
-        program: words.get_str("PROG")?,
-        workers: Workers::new(words.get_one("workers")?)?,
-    })
-}
-
-/// The command `order` with the words that follow it.
-fn order_in<'w>(words: &ArgMatches<'w>) -> Option<Command<'w>> {
-    Some(Command::Order {
-        settings: words.get_str("CONF")?,
-        program: words.get_str("PROG")?,
-    })
-}
-
-/// The command `list` with the words that follow it.
-fn list_in<'w>(words: &ArgMatches<'w>) -> Option<Command<'w>> {
-    Some(Command::List {
-        program: words.get_str("PROG")?,
-    })
-}
-
-/// The command line of the program, as `clap` knows it.
-fn ultra_command<'c>(alloc: Global) -> Result<clap::Command<'c>, AllocError> {
-    let ultra = clap::Command::new(alloc, "ultra")
-        .about("Simulates the NYU Ultracomputer cycle by cycle")
-        .subcommand_required(true);
-    let ultra = with_command(ultra, run_command(alloc))?;
-    let ultra = with_command(ultra, order_command(alloc))?;
-    with_command(ultra, list_command(alloc))
-}
-
-/// The command line with one more command, unless memory for that was refused.
-fn with_command<'c>(
-    ultra: clap::Command<'c>,
-    command: Result<clap::Command<'c>, AllocError>,
-) -> Result<clap::Command<'c>, AllocError> {
-    ultra.subcommand(command?)
-}
-
-/// The command `run`, as `clap` knows it.
-fn run_command<'c>(alloc: Global) -> Result<clap::Command<'c>, AllocError> {
-    command_on_a_run(alloc, "run", "Writes the trace of a run")?.arg(workers_option(alloc))
-}
-
-/// The command `order`, as `clap` knows it.
-fn order_command<'c>(alloc: Global) -> Result<clap::Command<'c>, AllocError> {
-    command_on_a_run(alloc, "order", "Writes the serial order of a run")
-}
-
-/// The command `list`, as `clap` knows it.
-fn list_command<'c>(alloc: Global) -> Result<clap::Command<'c>, AllocError> {
-    clap::Command::new(alloc, "list")
-        .about("Writes the canonical text of a program")
-        .arg(program_argument(alloc))
-}
-
-/// A command of this name with the files of a run: its settings, and its program.
-fn command_on_a_run<'c>(
-    alloc: Global,
-    name: &'c str,
-    about: &'c str,
-) -> Result<clap::Command<'c>, AllocError> {
-    clap::Command::new(alloc, name)
-        .about(about)
-        .arg(settings_argument(alloc))?
-        .arg(program_argument(alloc))
-}
-
-/// The option that says how many threads of the host make the cycles.
-fn workers_option<'c>(alloc: Global) -> Arg<'c> {
-    Arg::new(alloc, "workers")
-        .long("workers")
-        .value_name("H")
-        .help("How many threads of the host make the cycles, 1 to 64")
-        .value_parser(value_parser!(usize).range(1..=64))
-        .default_value("1")
-}
-
-/// The argument that names the settings.
-fn settings_argument<'c>(alloc: Global) -> Arg<'c> {
-    Arg::new(alloc, "CONF")
-        .help("The settings of the machine, a TOML file")
-        .required(true)
-}
-
-/// The argument that names the program's text.
-fn program_argument<'c>(alloc: Global) -> Arg<'c> {
-    Arg::new(alloc, "PROG")
-        .help("The program of the processing elements")
-        .required(true)
 }

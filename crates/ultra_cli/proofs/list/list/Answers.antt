@@ -2,8 +2,10 @@
 use Rattle.std.proofs.Common.{ℕ, List, ap, refl}
 use Rattle.std.proofs.lemmas.Result.{err_from_is_err_and}
 use Rattle.ultra_io.specs.Source.{File}
-use Rattle.ultra_cli.specs.declared.failure.Failure.{Failure}
-use Rattle.ultra_cli.specs.Outcome.{traffic, ExplainsProgram, FileGaveNothing, not_had, not_accepted, ListFails, unread_text, refused_text, unwritten}
+use Rattle.ultra_inputs.specs.declared.failure.Failure.{Failure}
+use Rattle.ultra_inputs.specs.Inputs.{ExplainsProgram, FileGaveNothing, not_had, not_accepted}
+use Rattle.ultra_inputs.specs.Traffic.{traffic}
+use Rattle.ultra_cli.specs.Outcome.{ListFails, unread_text, refused_text, unwritten}
 use Rattle.ultra_cli.proofs.list.list.Goals as goal
 
 -- a file that gave no program fails the listing, and nothing is written

@@ -1,0 +1,30 @@
+//! How large the heap of the combining trees is.
+
+ghost use Rattle.std.specs.Prelude.{◌≡◌, ◌≤◌, ◌↔◌, IfSome, IsSome};
+
+/// The fewest bytes that the heap of the trees may have, and the most.
+const FEWEST_BYTES: usize = 256;
+
+const MOST_BYTES: usize = 16_777_216;
+
+/// The bytes of the heap of the trees, 256 to 16,777,216.
+#[derive(Clone, Copy, PartialEq, Eq)]
+pub struct HeapBytes {
+    pub count: usize,
+    ghost least: { 256 ≤ count },
+    ghost most: { count ≤ 16777216 },
+}
+
+impl HeapBytes {
+    /// A heap of `count` bytes, or `None` where `count` isn't 256 to 16,777,216.
+    pub fn new(count: usize) -> Option<HeapBytes>
+        ensures in_range { IsSome result ↔ ((256 ≤ count) × (count ≤ 16777216)) }
+        ensures value { IfSome result (λ h. h.count ≡ count) }
+    {
+        if (FEWEST_BYTES..=MOST_BYTES).contains(&count) {
+            Some(HeapBytes { count })
+        } else {
+            None
+        }
+    }
+}

@@ -1,0 +1,221 @@
+//! How a command ends that fails.
+
+ghost use Rattle.std.specs.Prelude.{◌≡◌, ◌+◌, ◌++◌, codes, decimal, OnOk, OnErr};
+ghost use Rattle.ultra_msg.specs.Bytes.{IsBeginning, Writes};
+ghost use Rattle.ultra_inputs.specs.Failure.{kind_text, path_text, status_of, text_of};
+
+use itoa::Buffer;
+use std::alloc::AllocError;
+use ultra_asm::AsmFaultKind;
+use ultra_model::Field;
+use ultra_msg::{Sink, SinkFault, write_all, write_pieces};
+
+/// Why a command failed. A path is that of the file at fault, as the command names it.
+#[derive(Drop)]
+pub enum Failure<'a> {
+    /// The words are no command; the text says what is wrong with them.
+    Usage(String),
+    /// The words aren't UTF-8.
+    NotWords,
+    /// The file can't be read.
+    NotRead(&'a str),
+    /// The settings aren't TOML.
+    NotToml(&'a str),
+    /// A value of the settings is missing, of another kind than wanted or out of its range.
+    BadField(&'a str, Field),
+    /// The settings have a key that is no setting.
+    UnknownKey(&'a str),
+    /// The program isn't UTF-8.
+    NotUtf8(&'a str),
+    /// A line of the program has a fault. Lines count from 1.
+    BadLine {
+        path: &'a str,
+        line: usize,
+        kind: AsmFaultKind,
+    },
+    /// The file lists no jobs, or not as a file of jobs does.
+    BadJob(&'a str),
+    /// A number for a coordination program is out of its range.
+    BadParameter,
+    /// Memory was refused.
+    NoMemory,
+    /// A thread couldn't be started.
+    NoThread,
+    /// The heap of the combining trees is full.
+    HeapFull,
+    /// Standard output failed.
+    NotWritten,
+}
+
+impl<'a> From<AllocError> for Failure<'a> {
+    ghost use Rattle.ultra_inputs.specs.declared.failure.Failure.TheVariants.{NoMemory};
+
+    ghost from_gives = { λ _ failure. failure ≡ NoMemory };
+
+    fn from(_: AllocError) -> Failure<'a> {
+        Failure::NoMemory
+    }
+}
+
+impl Failure<'_> {
+    /// The status that the program ends with: 2 for a usage fault, 3 for refused input, 4 for want
+    /// of memory or of a thread, 5 for a failed write.
+    pub fn status(&self) -> u8
+        ensures { result ≡ status_of self.now }
+    {
+        match self {
+            Failure::Usage(_) | Failure::NotWords => 2,
+            Failure::NotRead(_)
+            | Failure::NotToml(_)
+            | Failure::BadField(_, _)
+            | Failure::UnknownKey(_)
+            | Failure::NotUtf8(_)
+            | Failure::BadLine { .. }
+            | Failure::BadJob(_)
+            | Failure::BadParameter => 3,
+            Failure::NoMemory | Failure::NoThread | Failure::HeapFull => 4,
+            Failure::NotWritten => 5,
+        }
+    }
+
+    /// Writes what goes to standard error: the text of a usage fault, else one line. It takes no
+    /// memory.
+    pub fn write_to<E: Sink>(&self, err: &mut E) -> Result<(), SinkFault>
+        ensures ok { OnOk result (E.taken err.new ≡ E.taken err.old ++ text_of self.now) }
+        ensures still { OnOk result (E.failures err.new ≡ E.failures err.old) }
+        ensures err { OnErr result (IsBeginning (E.taken err.new)
+            (E.taken err.old ++ text_of self.now)) }
+        ensures counted { OnErr result (E.failures err.new ≡ E.failures err.old + 1) }
+    {
+        self.write_text(err)
+    }
+
+    /// Writes what `write_to` writes.
+    fn write_text<E: Sink>(&self, err: &mut E) -> Result<(), SinkFault>
+        ensures { Writes result (text_of self.now) (E.taken err.old) (E.taken err.new)
+            (E.failures err.old) (E.failures err.new) }
+    {
+        match self {
+            Failure::Usage(text) => write_all(err, text.as_bytes()),
+            Failure::NotWords => write_all(err, b"ultra: arguments: not utf-8\n"),
+            Failure::NotRead(path) => write_unread(err, path),
+            Failure::NotToml(path) => write_refusal(err, path, "not toml"),
+            Failure::BadField(path, field) => write_bad_value(err, path, field.name()),
+            Failure::UnknownKey(path) => write_refusal(err, path, "unknown key"),
+            Failure::NotUtf8(path) => write_refusal(err, path, "not utf-8"),
+            Failure::BadLine { path, line, kind } => write_bad_line(err, path, *line, *kind),
+            Failure::BadJob(path) => write_refusal(err, path, "bad job"),
+            Failure::BadParameter => write_all(err, b"ultra: bad parameter\n"),
+            Failure::NoMemory => write_all(err, b"ultra: no memory\n"),
+            Failure::NoThread => write_all(err, b"ultra: no thread\n"),
+            Failure::HeapFull => write_all(err, b"ultra: heap full\n"),
+            Failure::NotWritten => write_all(err, b"ultra: write failed\n"),
+        }
+    }
+}
+
+/// Reports a failure on `err`, and answers its status. Where `err` fails too, the status alone
+/// reports it.
+pub fn give_up<E: Sink>(failure: &Failure, err: &mut E) -> u8
+    ensures status { result ≡ status_of failure.now }
+    ensures told { IsBeginning (E.taken err.new) (E.taken err.old ++ text_of failure.now) }
+    ensures whole { E.failures err.new ≡ E.failures err.old → E.taken err.new ≡ E.taken err.old ++
+        text_of failure.now }
+{
+    let _ = failure.write_to(err);
+    failure.status()
+}
+
+/// Writes the line of a file that can't be read.
+fn write_unread<E: Sink>(err: &mut E, path: &str) -> Result<(), SinkFault>
+    ensures { Writes result (codes "ultra: cannot read " ++ path.now ++ codes "\n")
+        (E.taken err.old) (E.taken err.new) (E.failures err.old) (E.failures err.new) }
+{
+    write_pieces(err, &[b"ultra: cannot read ", path.as_bytes(), b"\n"])
+}
+
+/// Writes the line of a refused file: its path, and what is wrong with it.
+fn write_refusal<E: Sink>(err: &mut E, path: &str, what: &str) -> Result<(), SinkFault>
+    ensures { Writes result (path_text path.now ++ what.now ++ codes "\n") (E.taken err.old)
+        (E.taken err.new) (E.failures err.old) (E.failures err.new) }
+{
+    write_pieces(
+        err,
+        &[b"ultra: ", path.as_bytes(), b": ", what.as_bytes(), b"\n"],
+    )
+}
+
+/// Writes the line of settings with a bad value of this name.
+fn write_bad_value<E: Sink>(err: &mut E, path: &str, name: &str) -> Result<(), SinkFault>
+    ensures { Writes result (path_text path.now ++ codes "bad " ++ name.now ++ codes "\n")
+        (E.taken err.old) (E.taken err.new) (E.failures err.old) (E.failures err.new) }
+{
+    write_pieces(
+        err,
+        &[
+            b"ultra: ",
+            path.as_bytes(),
+            b": ",
+            b"bad ",
+            name.as_bytes(),
+            b"\n",
+        ],
+    )
+}
+
+/// Writes the line of a program with a fault in the line of this number.
+fn write_bad_line<E: Sink>(
+    err: &mut E,
+    path: &str,
+    line: usize,
+    kind: AsmFaultKind,
+) -> Result<(), SinkFault>
+    ensures { Writes result
+        (path_text path.now ++ codes "line " ++ decimal line ++ codes ": " ++ kind_text kind ++
+        codes "\n") (E.taken err.old) (E.taken err.new) (E.failures err.old) (E.failures err.new) }
+{
+    let mut digits = Buffer::new();
+    write_line_fault(err, path, digits.format(line), kind_text(kind))
+}
+
+/// Writes the line of a program with this fault in the line of this number.
+fn write_line_fault<E: Sink>(
+    err: &mut E,
+    path: &str,
+    number: &str,
+    what: &str,
+) -> Result<(), SinkFault>
+    ensures { Writes result
+        (path_text path.now ++ codes "line " ++ number.now ++ codes ": " ++ what.now ++ codes "\n")
+        (E.taken err.old) (E.taken err.new) (E.failures err.old) (E.failures err.new) }
+{
+    write_pieces(
+        err,
+        &[
+            b"ultra: ",
+            path.as_bytes(),
+            b": ",
+            b"line ",
+            number.as_bytes(),
+            b": ",
+            what.as_bytes(),
+            b"\n",
+        ],
+    )
+}
+
+/// What is wrong in a line of a program.
+fn kind_text(kind: AsmFaultKind) -> &'static str
+    ensures { result.now ≡ kind_text kind }
+{
+    match kind {
+        AsmFaultKind::NoMemory => "no memory",
+        AsmFaultKind::UnknownWord => "unknown word",
+        AsmFaultKind::BadRegister => "bad register",
+        AsmFaultKind::BadNumber => "bad number",
+        AsmFaultKind::UnknownLabel => "unknown label",
+        AsmFaultKind::DoubleLabel => "double label",
+        AsmFaultKind::TooLong => "too long",
+        AsmFaultKind::WrongOperands => "wrong operands",
+    }
+}

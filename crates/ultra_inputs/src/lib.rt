@@ -1,0 +1,9 @@
+//! The files that the program's commands read, each accepted or refused, and how a command ends that
+//! fails.
+#![tactic(auto)]
+
+mod failure;
+mod inputs;
+
+pub use failure::{Failure, give_up};
+pub use inputs::{Inputs, read_file, read_inputs, read_program};
