@@ -229,7 +229,7 @@ module _ (z rounds : ℕ) (few_places : z ≤ 6) (some : 1 ≤ rounds) (few : ro
   place_of : (t : ℕ) → t % 2 ^ z < 2 ^ z
   place_of t = mod-lt t (pow_pos z)
 
-  small_round : (t : ℕ) → t < 64000 → t / 2 ^ z < 64000
+  small_round : (t : ℕ) → t + 1 ≤ 64000 → t / 2 ^ z < 64000
   small_round t l = let less : t / 2 ^ z ≤ t = div-le_self t (2 ^ z) in omega arith
 
   -- an index after a ticket was drawn
