@@ -422,8 +422,8 @@ module _ (size places rounds : ℕ) where
         deleting = λ t x y. absurd x;
       })
       (λ t a. pick (λ (x : ℕ). IsOfRound x (slice_set phases p (inserts j i r))) s.value s.insert_index v t
-          (λ _. record { element = p; its_round = j; within = b; drawn = rw (get_or-set_same phases p (inserts j i r) out is.within) (omega arith); value = refl })
-          (λ d. of_round_after phases p (idle j) (inserts j i r) is (omega arith) (s.value t) (g.of_round t (omega arith))))
+      (λ _. record { element = p; its_round = j; within = b; drawn = rw (get_or-set_same phases p (inserts j i r) out is.within) (omega arith); value = refl })
+      (λ d. of_round_after phases p (idle j) (inserts j i r) is (omega arith) (s.value t) (g.of_round t (omega arith))))
 
   -- at most as many tickets as processing elements have rounds
   pub few_tickets : (s : Queue) (phases : List Phase) → length phases ≤ 64 → rounds ≤ 1000 → Keeps s phases → s.insert_index ≤ 64000
