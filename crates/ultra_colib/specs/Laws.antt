@@ -9,6 +9,7 @@ use Rattle.ultra_coordination.specs.Schedules.{Words}
 use Rattle.ultra_coordination.specs.Gate.{gate, AreFewInside}
 use Rattle.ultra_coordination.specs.ReadersWriters.{readers_writers, AreWritersAlone}
 use Rattle.ultra_coordination.specs.Barrier.{barrier, AreInStep}
+use Rattle.ultra_coordination.specs.Queue.{queue, AreItemsOnce}
 
 -- the word in each cell of a machine; one that the memory hasn't counts as 0
 abbrev pub words_of : Settings → Machine → Words
@@ -18,8 +19,9 @@ words_of c m a = elim (nat_lt a (size c * c.cells)) [ true ↦ cells_of c m a | 
 abbrev pub IsKeptByMachine : List Instr → (ℕ → Words → Type 0) → Type 0
 IsKeptByMachine program Law = (c : Settings) → AreInRange c → c.initial ≡ [] → (n : ℕ) → Law (size c) (words_of c (after c program n))
 
--- the gate lets few in at once, a writer is inside alone, and the rounds of the barrier are in step
+-- the gate lets few in at once, a writer is inside alone, the rounds of the barrier are in step, and the queue gives each item once
 pub record CoordinationLaw : Type 0 where
   pub gate : (bound rounds : ℕ) → IsKeptByMachine (gate bound rounds) (AreFewInside bound)
   pub readers_writers : (writers rounds : ℕ) → IsKeptByMachine (readers_writers writers rounds) AreWritersAlone
   pub barrier : (rounds : ℕ) → 1 ≤ rounds → rounds ≤ 1000 → IsKeptByMachine (barrier rounds) AreInStep
+  pub queue : (z rounds : ℕ) → z ≤ 6 → 1 ≤ rounds → rounds ≤ 1000 → IsKeptByMachine (queue z rounds) (AreItemsOnce z rounds)

@@ -6,7 +6,7 @@ ghost use Rattle.ultra_para.specs.Para.{start_para, run_para};
 ghost use Rattle.ultra_coordination.specs.Gate.{gate, AreFewInside};
 ghost use Rattle.ultra_coordination.specs.ReadersWriters.{readers_writers, AreWritersAlone};
 ghost use Rattle.ultra_coordination.specs.Barrier.{barrier, AreInStep};
-ghost use Rattle.ultra_coordination.specs.Queue.{queue};
+ghost use Rattle.ultra_coordination.specs.Queue.{queue, AreItemsOnce};
 ghost use Rattle.ultra_colib.specs.Parameters.{gate_takes, rw_takes, barrier_takes, queue_takes};
 
 use crate::ColibFault;
@@ -99,7 +99,7 @@ pub fn run_barrier(
 
 /// The queue with `2^log_size` places on a paracomputer with these settings, all of whose cells are 0 at first, after a schedule: each number is the processing element that makes the step.
 ///
-/// `BadParameter` means that a parameter is out of its range or that cells have initial values.
+/// The results that aren't 0 are pairwise different inserted values. `BadParameter` means that a parameter is out of its range or that cells have initial values.
 pub fn run_queue(
     alloc: Global,
     config: &Config,
@@ -109,6 +109,7 @@ pub fn run_queue(
 ) -> Result<Para, ColibFault>
     requires { All (λ p. p < size config.now) schedule.now }
     ensures state { IfOk result (λ m. m ≡ record { settings = config.now; program = queue log_size rounds; state = run_para config.now (queue log_size rounds) (start_para config.now) schedule.now }) }
+    ensures law { IfOk result (λ m. AreItemsOnce log_size rounds (size config.now) (slice_index m.state.cells)) }
     ensures parameters { (result ≡ Err ColibFault.BadParameter) ↔ ((is_empty config.now.initial && queue_takes log_size rounds) ≡ false) }
 {
     if !config.initial().is_empty() {

@@ -2,3 +2,5 @@ pub mod Tally
 pub mod Gate
 pub mod ReadersWriters
 pub mod Barrier
+pub mod QueueState
+pub mod Queue

@@ -5,6 +5,7 @@
 
 ghost use Rattle.ultra_coordination.specs.Barrier.{BarrierLaw};
 ghost use Rattle.ultra_coordination.specs.Gate.{GateLaw};
+ghost use Rattle.ultra_coordination.specs.Queue.{QueueLaw};
 ghost use Rattle.ultra_coordination.specs.ReadersWriters.{ReadersWritersLaw};
 
 /// The gate's law, as this function's contract: at most `bound` processing elements are inside at once, after every
@@ -23,4 +24,10 @@ pub fn readers_writers_law()
 /// schedule. The function itself does nothing.
 pub fn barrier_law()
     ensures kept { BarrierLaw }
+{}
+
+/// The queue's law, as this function's contract: the results that aren't 0 are pairwise different inserted values, after
+/// every schedule. The function itself does nothing.
+pub fn queue_law()
+    ensures kept { QueueLaw }
 {}
