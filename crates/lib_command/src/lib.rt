@@ -15,7 +15,7 @@ use ultra_msg::Sink;
 
 /// Writes the canonical text of a coordination program to `out`. The parameters are accepted before
 /// a byte is written: `BadParameter` means that one is out of its range.
-pub fn lib<'p, O: Sink>(
+pub fn write_program<'p, O: Sink>(
     alloc: Global,
     coordination: Coordination,
     out: &mut O,
