@@ -1,10 +1,13 @@
 //! Runs of the coordination programs on the paracomputer.
 
+ghost use Rattle.std.specs.Prelude.{◌<◌, ◌↔◌, All, IsTrue};
+
 use crate::cases::{LEAST, OUT_OF_RANGE};
 use std::alloc::Global;
 use std::test::Fail;
 use ultra_colib::{ColibFault, run_barrier};
 use ultra_model::{Config, RawSettings};
+use ultra_msg::Pe;
 
 /// The default settings with one stage and these initial values.
 fn config(alloc: Global, initial: &[(i64, i64)]) -> Result<Config, Fail> {
@@ -31,11 +34,20 @@ fn cells_are_zero_before_the_first_step(rt: HostRuntime) -> Result<(), Fail> {
     Ok(())
 }
 
+/// Whether each number of a schedule is a processing element's.
+fn is_schedule(schedule: &[Pe], size: u32) -> bool
+    ensures { IsTrue result ↔ All (λ p. p < size) schedule.now }
+{
+    schedule.iter().all(|&pe| pe < size)
+}
+
 /// Processing element 0 takes 40 steps: it has begun its round, and waits for processing element 1.
 #[test]
 fn one_alone_waits_at_the_barrier(rt: HostRuntime) -> Result<(), Fail> {
     let config = config(rt.alloc(), &[])?;
-    let para = run_barrier(rt.alloc(), &config, 1, &[0; 40])?;
+    let schedule = [0; 40];
+    assert!(rt; is_schedule(&schedule, config.net().size()));
+    let para = run_barrier(rt.alloc(), &config, 1, &schedule)?;
     for (cell, word) in [(0, 1), (8, 1), (9, 0), (10, 0), (11, 0)] {
         assert_eq!(rt; para.peek(cell), Some(word));
     }
