@@ -18,7 +18,7 @@ fn check_listing<R: AllocGlobal + Abort>(rt: &R, case: Case, wanted: &str) -> Re
 
 #[test]
 fn gates(rt: HostRuntime) -> Result<(), Fail> {
-    for (bound, rounds) in [(1, 1), (64, 1000)] {
+    for (bound, rounds) in [(1, 1), (1, 1000), (64, 1), (64, 1000)] {
         let wanted = format!(in rt.alloc();
             "pid r1\naddi r1 r1 8\nli r3 1\nli r4 {bound}\nli r5 {rounds}\nli r8 4294967295\nL6:\nld r6 r0\nfence\nslt r7 r6 r4\njz r7 L6\nfaa r6 r0 r3\nfence\nslt r7 r6 r4\njnz r7 L17\nfaa r6 r0 r8\nfence\njmp L6\nL17:\nst r1 r3\nfence\nst r1 r0\nfence\nfaa r6 r0 r8\nfence\nsub r5 r5 r3\njnz r5 L6\nhalt\n"
         )?;
@@ -29,7 +29,7 @@ fn gates(rt: HostRuntime) -> Result<(), Fail> {
 
 #[test]
 fn readers_and_writers(rt: HostRuntime) -> Result<(), Fail> {
-    for (writers, rounds) in [(0, 1), (64, 1000)] {
+    for (writers, rounds) in [(0, 1), (0, 1000), (64, 1), (64, 1000)] {
         let wanted = format!(in rt.alloc();
             "pid r1\naddi r2 r1 8\nli r3 1\nli r4 65536\nli r5 {rounds}\nli r6 {writers}\nli r10 4294967295\nli r11 2\nsub r12 r0 r4\nslt r7 r1 r6\njnz r7 L27\nL11:\nfaa r8 r0 r3\nfence\nslt r9 r8 r4\njnz r9 L18\nfaa r8 r0 r10\nfence\njmp L11\nL18:\nst r2 r3\nfence\nst r2 r0\nfence\nfaa r8 r0 r10\nfence\nsub r5 r5 r3\njnz r5 L11\nhalt\nL27:\nfaa r8 r0 r4\nfence\njz r8 L33\nfaa r8 r0 r12\nfence\njmp L27\nL33:\nst r2 r11\nfence\nst r2 r0\nfence\nfaa r8 r0 r12\nfence\nsub r5 r5 r3\njnz r5 L27\nhalt\n"
         )?;
@@ -59,6 +59,8 @@ fn barriers(rt: HostRuntime) -> Result<(), Fail> {
 fn queues(rt: HostRuntime) -> Result<(), Fail> {
     for (log_size, rounds, places, last, data, results) in [
         (0, 1, 1, 0, 9, 9),
+        (0, 1000, 1, 0, 9, 9),
+        (6, 1, 64, 63, 72, 135),
         (6, 1000, 64, 63, 72, 135),
     ] {
         let wanted = format!(in rt.alloc();

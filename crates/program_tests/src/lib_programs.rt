@@ -162,7 +162,7 @@ fn wrong_words_are_usage_faults(rt: HostRuntime) -> Result<(), Fail> {
     ];
     for words in rows {
         let err = check_lib(&rt, words, 2)?;
-        assert!(rt; err.text()?.contains("Usage: ultra"), "{words:?}");
+        assert!(rt; err.text()?.starts_with("error: "), "{words:?}");
     }
     Ok(())
 }
