@@ -10,6 +10,8 @@ mod examples;
 #[cfg(test)]
 mod host;
 #[cfg(test)]
+mod lib_programs;
+#[cfg(test)]
 mod orders;
 #[cfg(test)]
 mod partitions;

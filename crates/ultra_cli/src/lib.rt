@@ -101,5 +101,6 @@ fn carry_out<'w, R: AllocGlobal + Threads + Wait + Sync, F: Source, O: Sink>(
             order_command::order(alloc, settings, program, source, out)
         }
         Command::List { program } => list::list(alloc, program, source, out),
+        Command::Lib(coordination) => lib_command::write_program(alloc, coordination, out),
     }
 }

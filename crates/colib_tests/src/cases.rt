@@ -1,0 +1,106 @@
+//! The coordination programs with parameters.
+
+use std::alloc::Global;
+use ultra_colib::{
+    ColibFault, barrier_program, gate_program, queue_program, run_barrier, run_gate, run_queue,
+    run_rw, rw_program,
+};
+use ultra_isa::Program;
+use ultra_model::Config;
+use ultra_para::Para;
+
+/// A coordination program with its parameters.
+#[derive(Clone, Copy)]
+pub(crate) enum Case {
+    Gate { bound: u32, rounds: u32 },
+    Queue { log_size: u32, rounds: u32 },
+    ReadersWriters { writers: u32, rounds: u32 },
+    Barrier { rounds: u32 },
+}
+
+impl Case {
+    /// The program.
+    pub(crate) fn program(self, alloc: Global) -> Result<Program, ColibFault> {
+        match self {
+            Case::Gate { bound, rounds } => gate_program(alloc, bound, rounds),
+            Case::Queue { log_size, rounds } => queue_program(alloc, log_size, rounds),
+            Case::ReadersWriters { writers, rounds } => rw_program(alloc, writers, rounds),
+            Case::Barrier { rounds } => barrier_program(alloc, rounds),
+        }
+    }
+
+    /// The paracomputer of the program before its first step.
+    pub(crate) fn start(self, alloc: Global, config: &Config) -> Result<Para, ColibFault> {
+        match self {
+            Case::Gate { bound, rounds } => run_gate(alloc, config, bound, rounds, &[]),
+            Case::Queue { log_size, rounds } => run_queue(alloc, config, log_size, rounds, &[]),
+            Case::ReadersWriters { writers, rounds } => {
+                run_rw(alloc, config, writers, rounds, &[])
+            }
+            Case::Barrier { rounds } => run_barrier(alloc, config, rounds, &[]),
+        }
+    }
+}
+
+/// The least parameters of each program.
+pub(crate) const LEAST: [Case; 4] = [
+    Case::Gate {
+        bound: 1,
+        rounds: 1,
+    },
+    Case::Queue {
+        log_size: 0,
+        rounds: 1,
+    },
+    Case::ReadersWriters {
+        writers: 0,
+        rounds: 1,
+    },
+    Case::Barrier { rounds: 1 },
+];
+
+/// Parameters just out of their ranges.
+pub(crate) const OUT_OF_RANGE: [Case; 12] = [
+    Case::Gate {
+        bound: 0,
+        rounds: 1,
+    },
+    Case::Gate {
+        bound: 65,
+        rounds: 1,
+    },
+    Case::Gate {
+        bound: 1,
+        rounds: 0,
+    },
+    Case::Gate {
+        bound: 1,
+        rounds: 1001,
+    },
+    Case::Queue {
+        log_size: 7,
+        rounds: 1,
+    },
+    Case::Queue {
+        log_size: 6,
+        rounds: 0,
+    },
+    Case::Queue {
+        log_size: 6,
+        rounds: 1001,
+    },
+    Case::ReadersWriters {
+        writers: 65,
+        rounds: 1,
+    },
+    Case::ReadersWriters {
+        writers: 64,
+        rounds: 0,
+    },
+    Case::ReadersWriters {
+        writers: 64,
+        rounds: 1001,
+    },
+    Case::Barrier { rounds: 0 },
+    Case::Barrier { rounds: 1001 },
+];
