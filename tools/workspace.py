@@ -46,9 +46,9 @@ def below(listed, name):
     return with_all_below(listed, [name])[:-1]
 
 
-def lines_of(name):
-    """The lines of a crate's sources, definitions and proofs."""
-    folders = [ROOT / "crates" / name / part for part in ("src", "specs", "proofs")]
+def lines_of(name, parts=("src", "specs", "proofs")):
+    """The lines of a crate's sources, definitions and proofs, or of some of these parts."""
+    folders = [ROOT / "crates" / name / part for part in parts]
     files = [it for folder in folders for it in folder.rglob("*") if it.is_file()]
     return sum(it.read_bytes().count(b"\n") for it in files)
 
@@ -65,6 +65,13 @@ def processors():
     """How many jobs may run at once: one a processor, as memory allows."""
     memory = os.sysconf("SC_PHYS_PAGES") * os.sysconf("SC_PAGE_SIZE")
     return max(1, min(len(os.sched_getaffinity(0)), memory // MEMORY_OF_A_JOB))
+
+
+def lanes_asked(words):
+    """How many jobs may run at once, by the option `--jobs N` or else by the machine, and the words that follow."""
+    if words[:1] == ["--jobs"] and words[1:2] and words[1].isdigit():
+        return max(1, int(words[1])), words[2:]
+    return processors(), words
 
 
 def furnish(room, listed, name):

@@ -46,7 +46,7 @@ pub(crate) fn answer(pe: Pe, word: Word) -> ReplyMessage {
     }
 }
 
-/// Makes so many cycles. In the last of them the processing elements issue their first requests: each adds this word.
+/// Makes n cycles. In the last of them the processing elements issue their first requests: each adds this word.
 fn issue(rt: &impl Abort, machine: &mut Machine, cycles: u32, wanted: &[(Pe, Word)]) {
     run(rt, machine, cycles);
     let mut events = machine.events().iter();
@@ -60,7 +60,7 @@ fn issue(rt: &impl Abort, machine: &mut Machine, cycles: u32, wanted: &[(Pe, Wor
     assert!(rt; events.next().is_none());
 }
 
-/// Makes so many cycles. In the last of them requests combine: at this stage and position, that of the first processing element with that of the second.
+/// Makes n cycles. In the last of them requests combine: at this stage and position, that of the first processing element with that of the second.
 pub(crate) fn combine(
     rt: &impl Abort,
     machine: &mut Machine,
@@ -83,7 +83,7 @@ pub(crate) fn combine(
     assert!(rt; events.next().is_none());
 }
 
-/// Makes so many cycles. In the last of them processing elements get these values, and module 0 serves requests: that of a processing element which adds a word, with the value before and after.
+/// Makes n cycles. In the last of them processing elements get these values, and module 0 serves requests: that of a processing element which adds a word, with the value before and after.
 fn answer_and_serve(
     rt: &impl Abort,
     machine: &mut Machine,

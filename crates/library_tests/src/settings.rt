@@ -4,7 +4,7 @@ use std::alloc::Global;
 use std::test::Fail;
 use ultra_machine::{Config, ConfigFault, Field, RawSettings};
 
-/// The default settings with so many stages.
+/// The default settings with n stages.
 pub(crate) fn defaults(alloc: Global, stages: i64) -> RawSettings {
     RawSettings {
         stages: Some(stages),

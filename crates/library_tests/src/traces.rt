@@ -100,7 +100,7 @@ pe 2 halted 3 r2=3
 pe 3 halted 3 r2=4 r3=4
 ";
 
-/// Asserts that a run by so many workers writes this trace.
+/// Asserts that a run by n workers writes this trace.
 fn check_run<R: Threads + Wait + Sync + Abort + AllocGlobal, G: Gate + Sync>(
     rt: &R,
     config: &Config,
@@ -162,7 +162,7 @@ fn gate_meets(rt: HostRuntime) -> Result<(), Fail> {
     Ok(())
 }
 
-/// Asserts that a run by so many workers, into a sink that takes so many bytes, one a write, and then fails, answers `Write`, has written these bytes of the trace, and offers nothing after the fault.
+/// Asserts that a run by n workers, into a sink that takes n bytes, one a write, and then fails, answers `Write`, has written these bytes of the trace, and offers nothing after the fault.
 fn check_failing_sink<R: Threads + Wait + Sync + Abort + AllocGlobal>(
     rt: &R,
     config: &Config,
@@ -197,7 +197,7 @@ fn sink_fails_at_each_write(rt: HostRuntime) -> Result<(), Fail> {
     Ok(())
 }
 
-/// A run by so many workers, short enough to refuse each of its allocations in turn: it ends with a fault then, and what went out is a beginning of the trace.
+/// A run by n workers, short enough to refuse each of its allocations in turn: it ends with a fault then, and what went out is a beginning of the trace.
 fn check_short_run<R: Threads + Wait + Sync + Abort + AllocGlobal>(
     rt: &R,
     workers: usize,

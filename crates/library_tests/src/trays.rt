@@ -7,7 +7,7 @@ use std::str;
 use std::test::Fail;
 use ultra_msg::{Sink, SinkFault};
 
-/// A sink in memory. It takes so many bytes a write at most, and fails from one of its writes on.
+/// A sink in memory. It takes at most n bytes a write, and fails from one of its writes on.
 #[derive(Drop)]
 pub(crate) struct Tray<'r, R: Abort> {
     rt: &'r R,
@@ -41,7 +41,7 @@ impl<'r, R: Abort + AllocGlobal> Tray<'r, R> {
         }
     }
 
-    /// A tray that takes all that it is offered, and has memory for so many bytes. An error says that memory was refused.
+    /// A tray that takes all that it is offered, and has memory for n bytes. An error says that memory was refused.
     pub(crate) fn with_room(rt: &'r R, count: usize) -> Result<Self, Fail> {
         Ok(Tray {
             rt,
@@ -52,7 +52,7 @@ impl<'r, R: Abort + AllocGlobal> Tray<'r, R> {
         })
     }
 
-    /// A tray that takes a byte a write, and fails after so many.
+    /// A tray that takes a byte a write, and fails after n.
     pub(crate) fn failing_after(rt: &'r R, count: usize) -> Self {
         Tray {
             rt,

@@ -25,7 +25,7 @@ fn act_is(rt: &impl Abort, machine: &Machine, wanted: bool) {
     assert_eq!(rt; served, wanted);
 }
 
-/// In the last cycle so many processing elements were answered for cell 0.
+/// In the last cycle n processing elements were answered for cell 0.
 fn answers_are(rt: &impl Abort, machine: &Machine, size: u32) {
     let mut events = machine.events().iter();
     for pe in 0..size {

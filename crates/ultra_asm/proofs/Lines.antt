@@ -164,7 +164,7 @@ module _ (ls : Lines) (defined : List ℕ → Option Definition) (table : (q : L
   places_same : (w : List ℕ) → fault_unless (place_of ls w) UnknownLabel ≡ fault_unless (option_map near_place (defined w)) UnknownLabel
   places_same w = found_same (definition_of ls w) ∙ ap (λ d. fault_unless (option_map near_place d) UnknownLabel) (sym (table w))
 
-  -- the line as it is read, where so many instructions stand before it
+  -- the line as it is read, where n instructions stand before it
   abbrev pub read_at : ℕ → Result (Option Instr) AsmFaultKind
   read_at n = read_line defined k (nat_lt n 4096) (line_at ls k)
 

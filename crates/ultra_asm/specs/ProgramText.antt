@@ -102,7 +102,7 @@ module _ (places : List ℕ → Option ℕ) where
   abbrev pub fault_of_operands : List Sort → List (List ℕ) → Option AsmFaultKind
   fault_of_operands ss ws = or_else (fault_if (not (length ws == length ss)) WrongOperands) (operands_fault ss ws)
 
-  -- of a word and its operands, where so many instructions stand before
+  -- of a word and its operands, where n instructions stand before
   abbrev pub instruction_fault : ℕ → Option Mnemonic → List (List ℕ) → Option AsmFaultKind
   instruction_fault before None ws = Some UnknownWord
   instruction_fault before (Some m) ws = or_else (fault_if (nat_le 4096 before) TooLong) (fault_of_operands (sorts_of m) ws)

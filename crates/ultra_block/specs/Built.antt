@@ -1,4 +1,4 @@
--- a machine that is being built: so many of its units stand in blocks, as they are before the first cycle
+-- a machine that is being built: n of its units stand in blocks, as they are before the first cycle
 use Rattle.std.specs.Prelude.{◌≡◌, ℕ, ◌+◌, ◌*◌, ◌-◌, ◌/◌, ◌%◌, ◌^◌, List, length}
 use Rattle.ultra_model.specs.Machine.{Settings}
 use Rattle.ultra_block.specs.Numbers.{switch_number}

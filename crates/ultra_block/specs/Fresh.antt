@@ -11,7 +11,7 @@ use Rattle.ultra_block.specs.declared.switch_unit.SwitchUnit.{SwitchUnit}
 use Rattle.ultra_block.specs.declared.module_unit.ModuleUnit.{ModuleUnit}
 use Rattle.ultra_block.specs.declared.element_unit.ElementUnit.{ElementUnit}
 
--- module m of as many as `size`, with so many cells that have the values of a list of addresses with values
+-- module m of as many as `size`, with n cells that have the values of a list of addresses with values
 abbrev pub filled : ℕ → ℕ → ℕ → List (ℕ × ℕ) → Bank
 filled size m cells initial = record { cells = places cells (λ o. given_value initial (o * size + m) 0); inp = None; out = None }
 

@@ -25,7 +25,7 @@ with_replies q rs = record q { replies = q.replies ++ rs }
 abbrev pub replies_without : {X : Type 0} → SizedReplies → Option X → SizedReplies
 replies_without q o = record q { replies = after_leaving o q.replies }
 
--- whether it has free places for so many more
+-- whether it has free places for n more
 abbrev pub has_room_for : ℕ → SizedReplies → Bool
 has_room_for n q = nat_le (length q.replies + n) q.places
 
@@ -50,7 +50,7 @@ lane_without l o = record l { lane = record l.lane { queue = after_leaving o l.l
 abbrev pub lane_with : SizedLane → List Request → SizedLane
 lane_with l rs = record l { lane = arrive_all l.wait_places l.lane rs }
 
--- whether it has free places for so many more
+-- whether it has free places for n more
 abbrev pub has_place_for : ℕ → SizedLane → Bool
 has_place_for n l = nat_le (length l.lane.queue + n) l.request_places
 

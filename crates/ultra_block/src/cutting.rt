@@ -148,7 +148,7 @@ impl Room {
         })
     }
 
-    /// The units go into their blocks, which have made so many cycles: the homes and the blocks. All units have to be there.
+    /// The units go into their blocks, which have made n cycles: the homes and the blocks. All units have to be there.
     pub(crate) fn cut(
         mut self,
         net: Net,
@@ -201,7 +201,7 @@ impl Room {
         );
     }
 
-    /// The units of each list go into the block of its number, which has made so many cycles.
+    /// The units of each list go into the block of its number, which has made n cycles.
     fn fill_blocks(&mut self, done: u32)
         requires blocks { length self.old.blocks.items ≡ 64 }
         requires switches { AreListsOf switch.IsPlaced self.old.switches.items }

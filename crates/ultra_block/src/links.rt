@@ -29,7 +29,7 @@ impl<T> Model for Links<T> {
 }
 
 impl<T: Copy> Links<T> {
-    /// Empty links, so many. An error says that their memory was refused.
+    /// This many empty links. An error says that their memory was refused.
     pub(crate) fn new(alloc: Global, count: usize) -> Result<Links<T>, AllocError>
         ensures { IfOk result (λ l. l ≡ replicate count None) }
     {

@@ -24,7 +24,7 @@ impl Model for Mail {
 }
 
 impl Mail {
-    /// Empty links, so many. An error says that their memory was refused.
+    /// This many empty links. An error says that their memory was refused.
     pub(crate) fn new(alloc: Global, links: usize) -> Result<Mail, AllocError>
         ensures { IfOk result (λ m. m ≡ record { replies = replicate links None; requests = replicate links None }) }
     {

@@ -37,7 +37,7 @@ pub record IsKept (k : Limits) (s : State ℕ View) : Type 0 where
   pub words : length s.words ≡ 3
   -- the numbers drawn are those below the lesser of claim and the limit, each in one view, once
   pub drawn : (i : ℕ) → total (λ (v : View). times i v.drawn) s.views ≡ times_below i (min (slice_index s.words CLAIM) k.limit)
-  -- so many numbers are drawn
+  -- n numbers are drawn
   pub drawn_count : total (λ (v : View). length v.drawn) s.views ≡ min (slice_index s.words CLAIM) k.limit
   -- claim is past the limit by at most the places of spent seats
   pub claim : slice_index s.words CLAIM ≤ k.limit + total spent_places s.views

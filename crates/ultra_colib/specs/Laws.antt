@@ -14,7 +14,7 @@ use Rattle.ultra_coordination.specs.Barrier.{barrier, AreInStep}
 abbrev pub words_of : Settings → Machine → Words
 words_of c m a = elim (nat_lt a (size c * c.cells)) [ true ↦ cells_of c m a | false ↦ 0 ]
 
--- for all settings in their ranges without initial values and every number of cycles, the law of so many processing elements holds
+-- for all settings in their ranges without initial values and every number of cycles, the law of n processing elements holds
 abbrev pub IsKeptByMachine : List Instr → (ℕ → Words → Type 0) → Type 0
 IsKeptByMachine program Law = (c : Settings) → AreInRange c → c.initial ≡ [] → (n : ℕ) → Law (size c) (words_of c (after c program n))
 

@@ -129,7 +129,7 @@ module _ (rounds : ℕ) (some : 1 ≤ rounds) (few : rounds ≤ 1000) (c : Setti
   abbrev Local : ℕ → ℕ → List ℕ → Phase → Type 0
   Local p k r φ = Says (stage_at stages_of over k) p k r φ
 
-  -- what holds of one processing element's phase, where so many have arrived
+  -- what holds of one processing element's phase, where n have arrived
   pub record Fair (arrived : ℕ) (φ : Phase) : Type 0 where
     pub passes : passed φ * size c ≤ arrived
     pub finishes : finished φ ≤ passed φ

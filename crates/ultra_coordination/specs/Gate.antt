@@ -14,7 +14,7 @@ gate bound rounds =
     ∷ Store 1 3 ∷ Fence ∷ Store 1 0 ∷ Fence ∷ Faa 6 0 8 ∷ Fence
     ∷ Subtract 5 5 3 ∷ JumpIfNotZero 5 6 ∷ Halt ∷ []
 
--- so many flags at most are up
+-- at most n flags are up
 abbrev pub AreFewInside : ℕ → ℕ → Words → Type 0
 AreFewInside bound size word = total size (λ p. word (8 + p)) ≤ bound
 

@@ -38,7 +38,7 @@ rooms_before s TakeRequests = second_rooms s.blocks s.rooms s.mail
 rooms_before s Execute = second_rooms s.blocks s.rooms s.mail
 
 module _ (program : List Instr) where
-  -- and after it, and after so many cycles
+  -- and after it, and after n cycles
   unfoldable pub next_stand : Stand → Stand
   next_stand s = record { blocks = with_steps_made s.blocks s.rooms s.mail program; rooms = second_rooms s.blocks s.rooms s.mail; mail = s.mail }
 

@@ -6,7 +6,7 @@ use Rattle.ultra_model.specs.Phases.{cycle}
 use Rattle.ultra_block.specs.BlocksState.{machine_of, IsWhole}
 use Rattle.ultra_block.specs.declared.blocks.Blocks.{Blocks}
 
--- the machine so many cycles later
+-- the machine n cycles later
 unfoldable pub cycles_on : Settings → List Instr → ℕ → Machine → Machine
 cycles_on c program zero m = m
 cycles_on c program (suc n) m = cycle c program (cycles_on c program n m)

@@ -59,7 +59,7 @@ pub fn cycle_alone(blocks: &mut Blocks)
 pub struct Crew;
 
 impl Crew {
-    /// The machine makes one cycle, each half of it by so many workers, 1 to 64. What comes of it is the same for every partition, every number of workers and every gate. Of several workers each has a thread of its own, and the one of number `b` modulo the number of workers calls the gate and then makes the half for block `b`. One worker is the caller's thread, and calls no gate.
+    /// The machine makes one cycle, each half of it by n workers, 1 to 64. What comes of it is the same for every partition, every number of workers and every gate. Of several workers each has a thread of its own, and the one of number `b` modulo the number of workers calls the gate and then makes the half for block `b`. One worker is the caller's thread, and calls no gate.
     ///
     /// The machine has to be between two cycles, and its count of cycles below `2^32 - 1`. The call may wait. In every end the threads that were started are joined.
     ///
@@ -90,7 +90,7 @@ impl Crew {
         Ok(blocks)
     }
 
-    /// The machine makes so many cycles, each as by `cycle`, but the workers' threads are started once. With one worker the call succeeds.
+    /// The machine makes n cycles, each as by `cycle`, but the workers' threads are started once. With one worker the call succeeds.
     ///
     /// The machine has to be between two cycles, and its count of cycles below `2^32` after these too. The call may wait. In every end the threads that were started are joined.
     ///
@@ -122,7 +122,7 @@ impl Crew {
     }
 }
 
-/// The machine makes so many cycles, in the caller's thread.
+/// The machine makes n cycles, in the caller's thread.
 fn cycles_alone(blocks: &mut Blocks, count: u32)
     requires whole { IsWhole blocks.old }
     requires counted { blocks.old.done + count < 2 ^ 32 }

@@ -7,7 +7,7 @@ use crate::task::{Name, Task};
 use std::alloc::{AllocError, Global};
 use ultra_block::{Block, Half};
 
-/// As many teams of tasks as there are workers, all empty, each with room for so many. An error says that memory was refused.
+/// As many teams of tasks as there are workers, all empty, each with room for n. An error says that memory was refused.
 fn empty_teams(alloc: Global, workers: usize, room: usize) -> Result<Vec<Vec<Task>>, AllocError>
     ensures count { IfOk result (λ v. length v.items ≡ workers) }
     ensures empty { IfOk result (λ v. (w : ℕ) (d : _) → w < workers → (slice_index_or v.items w d).items ≡ []) }

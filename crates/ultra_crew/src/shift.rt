@@ -38,7 +38,7 @@ impl<J: Course> Model for Shift<J> {
 }
 
 impl<J: Course> Shift<J> {
-    /// Starts the threads of so many workers, which call this gate before each half of a block. In every end the threads that were started are joined: by `end`, or here where one could not be started.
+    /// Starts the threads of n workers, which call this gate before each half of a block. In every end the threads that were started are joined: by `end`, or here where one could not be started.
     ///
     /// `NoThread` says that a thread could not be started, `NoMemory` that memory was refused.
     pub fn begin<'s, E, R: Threads + Wait + Sync, G: Gate + Sync>(
@@ -131,7 +131,7 @@ impl<J: Course> Shift<J> {
         self.make(rt, alloc, blocks, Half::Execute)
     }
 
-    /// The machine makes so many cycles, each as by `cycle`.
+    /// The machine makes n cycles, each as by `cycle`.
     pub(crate) fn cycles<R: Wait>(
         &self,
         rt: &R,

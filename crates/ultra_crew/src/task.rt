@@ -9,7 +9,7 @@ use ultra_block::{Block, Half, Rooms};
 use ultra_isa::Program;
 
 /// Which block in which half of which cycle: the name of a task, and of its result.
-#[derive(Clone, Copy, PartialEq, Eq, Debug, Drop)]
+#[derive(Clone, Copy, PartialEq, Eq, Drop)]
 pub(crate) struct Name {
     pub(crate) cycle: u32,
     pub(crate) half: Half,

@@ -17,7 +17,7 @@ use Rattle.ultra_serial.specs.SerialList.{history}
 use Rattle.ultra_wave.specs.AllAtOnce.{acts_on, events_of}
 use Rattle.ultra_hot_spot.specs.HotSpot.{trees_taken}
 
--- the requests for cell a that are served in each of so many cycles from cycle n on
+-- the requests for cell a that are served in each of k cycles from cycle n on
 abbrev acts_by_cycle : Settings → List Instr → ℕ → ℕ → ℕ → List (List Request)
 acts_by_cycle c program n a count = map (λ k. acts_on a (events_of c program n a k)) (range_with_len 0 count)
 

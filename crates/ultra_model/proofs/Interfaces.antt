@@ -53,7 +53,7 @@ module _ (c : Settings) (range : AreInRange c) (m : Machine) (w : IsRouted c m) 
       count-all (passes (is_of_element p)) (element_at m p).interface.pending
       (each-weaker (IsOwn c p) (λ (r : Request). (r.pe == p) ≡ true) (element_at m p).interface.pending (λ r k. rw k.0 (itself p)) (w.pending p h))
 
-  -- at most so many requests wait as cells are open
+  -- at most as many requests wait as cells are open
   pub pending_within : (p : ℕ) → p < size c → length (element_at m p).interface.pending ≤ length (element_at m p).interface.opened
   pending_within p h =
       let some = total_term (size c) (λ q. pending_on_way (is_of_element p) (element_at m q)) p h in

@@ -42,7 +42,7 @@ is_within least most None = false
 is_within least most (Some (pos n)) = nat_le least n && nat_le n most
 is_within least most (Some (negsuc n)) = false
 
--- whether a pair is the address of one of so many cells with a word
+-- whether a pair is the address of one of n cells with a word
 abbrev pub is_cell : ℕ → ℤ × ℤ → Bool
 is_cell cells i = is_below cells i.0 && is_below (2 ^ 32) i.1
 
@@ -62,7 +62,7 @@ abbrev pub are_different : List (ℕ × ℕ) → Bool
 are_different [] = true
 are_different (i ∷ is) = not (is_named i.0 is) && are_different is
 
--- whether each pair is one of so many cells with a word, and no cell stands twice
+-- whether each pair is one of n cells with a word, and no cell stands twice
 abbrev pub are_initial : ℕ → List (ℤ × ℤ) → Bool
 are_initial cells is = list_all (is_cell cells) is && are_different (cells_of is)
 

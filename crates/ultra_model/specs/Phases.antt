@@ -218,7 +218,7 @@ module _ (c : Settings) where
   unfoldable pub cycle : List Instr → Machine → Machine
   cycle program m = processor_phase program (request_phase (memory_phase (reply_phase m)))
 
-  -- the machine after so many cycles
+  -- the machine after n cycles
   unfoldable pub after : List Instr → ℕ → Machine
   after program zero = start c
   after program (suc n) = cycle program (after program n)

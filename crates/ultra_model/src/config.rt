@@ -13,7 +13,7 @@ use ultra_msg::{Cell, Word};
 use ultra_route::{MOST_STAGES, Net};
 
 /// The settings as they are given: the number of each key, or its default where the key is absent. `None` is a value that is missing, or of another kind than wanted.
-#[derive(Debug, Drop)]
+#[derive(Drop)]
 pub struct RawSettings {
     pub stages: Option<i64>,
     pub request_places: Option<i64>,
@@ -97,7 +97,7 @@ impl<T: Drop> From<AllocFailed<T>> for ConfigFault {
 }
 
 /// Settings that are accepted: each is in its range, and no address is given two values.
-#[derive(Debug, Drop)]
+#[derive(Drop)]
 pub struct Config {
     stages: u32,
     request_places: u32,

@@ -9,7 +9,7 @@ use ultra_isa::MachineFault;
 use ultra_msg::Pe;
 
 /// A processing element that faulted in the last cycle, and why.
-#[derive(Clone, Copy, PartialEq, Eq, Debug, Drop)]
+#[derive(Clone, Copy, Drop)]
 pub struct Stop {
     pub pe: Pe,
     pub fault: MachineFault,

@@ -37,7 +37,7 @@ goes_to r (Some t) = r == t
 abbrev pub is_awaited : ℕ → List OpenCell → Bool
 is_awaited r os = list_any (λ o. goes_to r o.target) os
 
--- what becomes of a request, of at most so many open cells
+-- what becomes of a request, of at most n open cells
 abbrev pub issue_of : ℕ → Interface → Request → Issue
 issue_of most_open i r = if is_open r.cell i.opened then CellOpen else if nat_lt (length i.opened) most_open then Sent else Full
 

@@ -73,7 +73,7 @@ fn place_of(opened: &[OpenCell], cell: Cell) -> Option<usize>
 }
 
 impl Pni {
-    /// An interface with nothing open and nothing pending, which can hold so many cells open: at most 8.
+    /// An interface with nothing open and nothing pending, which can hold `most_open` cells open, at most 8.
     pub fn new(most_open: usize) -> Pni
         requires { most_open ≤ 8 }
         ensures { result ≡ record { interface = empty_interface; most_open = most_open } }

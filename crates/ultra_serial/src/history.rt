@@ -107,7 +107,7 @@ fn serve(
     Ok(())
 }
 
-/// The serial order of a run of so many cycles, at most 1,000,000: for each cycle and module the requests that were served there, each with its reply where all act one after the other.
+/// The serial order of a run of n cycles, at most 1,000,000: for each cycle and module the requests that were served there, each with its reply where all act one after the other.
 ///
 /// It explains the run: see [`crate::serialization_law`]. `NoMemory` means that memory was refused.
 pub fn order(

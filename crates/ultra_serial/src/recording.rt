@@ -125,7 +125,7 @@ impl Recording {
     }
 }
 
-/// What a run of so many cycles, at most 1,000,000, issued and answered. `NoMemory` means that memory was refused.
+/// What a run of n cycles, at most 1,000,000, issued and answered. `NoMemory` means that memory was refused.
 pub fn log(
     alloc: Global,
     config: &Config,

@@ -41,7 +41,7 @@ module _ (test : ℕ → Bool) where
     ]
   ]
 
--- ---- the machine after so many cycles
+-- ---- the machine after n cycles
 module _ (c : Settings) (program : List Instr) where
   pub after_none : after c program 0 ≡ start c
   unfolding after
@@ -60,7 +60,7 @@ module _ (c : Settings) (program : List Instr) where
   cycles_after zero = refl
   cycles_after (suc n) = cycles_next (after c program n) ∙ rw (cycles_after n, add-one) refl
 
--- ---- the blocks after so many cycles
+-- ---- the blocks after n cycles
 module _ (c : Settings) (program : List Instr) (n : ℕ) where
   -- a cycle more
   pub next_after : (old new : Blocks) → IsAfter c program n old → machine_of new ≡ cycle old.config old.program (machine_of old) → IsWhole new → new.config ≡ old.config → new.program ≡ old.program → IsAfter c program (n + 1) new
@@ -86,7 +86,7 @@ module _ (c : Settings) (program : List Instr) (n : ℕ) where
   pub end_after : (b : Blocks) → IsAfter c program n b → end_text b.config (machine_of b) ≡ end_text c (after c program n)
   end_after b a = ap (λ d. end_text d (machine_of b)) a.settings ∙ ap (λ m. end_text c m) a.state
 
--- where the machine is busy after so many cycles, from the first on
+-- where the machine is busy after n cycles, from the first on
 abbrev pub IsBusy : Settings → List Instr → ℕ → Type 0
 IsBusy c program n = (j : ℕ) → 1 ≤ j → j ≤ n → is_quiet (after c program j) ≡ false
 

@@ -61,7 +61,7 @@ impl From<CrewFault> for RunFault {
     }
 }
 
-/// Runs a program on a machine of these settings by so many workers, 1 to 64, and writes the trace to the sink: the same bytes for every number of workers and every gate. After a fault the sink has taken a beginning of it.
+/// Runs a program on a machine of these settings by n workers, 1 to 64, and writes the trace to the sink: the same bytes for every number of workers and every gate. After a fault the sink has taken a beginning of it.
 ///
 /// Unit `u` of the machine stands in block `u` modulo the number of workers. With one worker the run is `run_alone`, and no gate is called. Several workers have a thread of their own each, which is started once and kept for all cycles; memory is asked for in each cycle. The call may wait, and in every end the threads that were started are joined.
 ///

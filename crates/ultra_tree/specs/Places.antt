@@ -23,7 +23,7 @@ module _ {A : Type 0} where
   depth_of_first t zero = 0
   depth_of_first t (suc i) = max (depth_at t i) (depth_of_first t i)
 
-  -- the text of a leaf with what opens before it and closes behind it, where so many pairs close behind the whole tree, and then a mark comes
+  -- the text of a leaf with what opens before it and closes behind it, where n pairs close behind the whole tree, and then a mark comes
   abbrev pub piece : Node A → ℕ → ℕ → Option Bool → List ℕ
   piece (node.Leaf p n o) i closing mark = leaf_text p n ++ closings closing ++ mark_text mark
   piece (Pair' s x p old q new f k l) i closing mark =
