@@ -39,7 +39,7 @@ const RUN_BY_THREE: [&str; 6] = ["ultra", "run", "c.toml", "p.s", "--workers", "
 
 /// Asserts what a command does with settings and a program: its status, and what it writes to
 /// standard output and standard error.
-fn check_command<R: Host>(
+pub(crate) fn check_command<R: Host>(
     rt: &R,
     words: &[&str],
     settings: &[u8],
@@ -343,7 +343,7 @@ fn files_are_read_in_order(rt: HostRuntime) -> Result<(), Fail> {
 
 /// Asserts that the words are a usage fault, though the files are there, and that its text says
 /// this.
-fn check_usage_fault<R: Host>(rt: &R, words: &[&str], told: &str) -> Result<(), Fail> {
+pub(crate) fn check_usage_fault<R: Host>(rt: &R, words: &[&str], told: &str) -> Result<(), Fail> {
     let files: [(&str, &[u8]); 2] = [("c.toml", b"stages = 1"), ("p.s", b"halt")];
     let ended = call(rt, words, &files);
     assert!(rt; ended.err.text()?.contains(told), "{words:?}");
@@ -361,7 +361,7 @@ fn wrong_words_are_usage_faults(rt: HostRuntime) -> Result<(), Fail> {
         &["ultra", "run", "c.toml"],
         &["ultra", "run", "c.toml", "p.s", "q.s"],
         &["ultra", "order", "c.toml"],
-        &["ultra", "explain", "c.toml", "p.s"],
+        &["ultra", "explain", "c.toml"],
         &["ultra", "list"],
         &[
             "ultra",

@@ -1,0 +1,23 @@
+-- how each exit is one of the ways in which an explanation isn't written
+use Rattle.std.proofs.Common.{◌≡◌, refl}
+use Rattle.std.proofs.lemmas.Result.{err_from_is_err_and}
+use Rattle.ultra_inputs.specs.Traffic.{refused, stopped}
+use Rattle.explain_command.proofs.explain.Goals as goal
+
+pub returns-in_err-config-clause-err : goal.returns-in_err-config-clause-err
+returns-in_err-config-clause-err g c =
+    let p = err_from_is_err_and c.from_residual.result c.from_residual.ensures.1 in
+    rw (p.1, p.2) (refused c.in_err-config.ensures.err (refl {a = g.O.Sink.taken c.args.out.now}))
+
+pub returns-in_err-explain_run-clause-err : goal.returns-in_err-explain_run-clause-err
+returns-in_err-explain_run-clause-err g c =
+    let p = err_from_is_err_and c.from_residual-in_err-explain_run.result c.from_residual-in_err-explain_run.ensures.1 in
+    rw (p.1, p.2) (stopped c.in_ok-config.config c.in_ok-config.program (rw (← c.in_ok-config.config-is, ← c.in_ok-config.program-is) c.in_ok-config.ensures.ok) c.in_err-explain_run.ensures.fault c.in_err-explain_run.ensures.err)
+
+pub returns-clause-ok : goal.returns-clause-ok
+returns-clause-ok g c = record {
+  settings = c.in_ok-config.config;
+  program = c.in_ok-config.program;
+  gave = rw (← c.in_ok-config.config-is, ← c.in_ok-config.program-is) c.in_ok-config.ensures.ok;
+  written = c.in_ok-explain_run.ensures.ok;
+}
