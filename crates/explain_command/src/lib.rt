@@ -67,6 +67,7 @@ fn explain_run<'p, O: Sink>(
     heap_bytes: usize,
     out: &mut O,
 ) -> Result<(), Failure<'p>>
+    requires { AreInRange config.now }
     ensures ok { OnOk result
         (O.taken out.new ≡ O.taken out.old ++ explanation_of config.now program.now) }
     ensures err { OnErr result (IsBeginning (O.taken out.new)
@@ -94,6 +95,7 @@ fn explain_cycles<'p, A: Allocator + Clone, O: Sink>(
     lines: &mut Lines,
     out: &mut O,
 ) -> Result<(), Failure<'p>>
+    requires in_range { AreInRange machine.old.settings }
     requires start { machine.old.state ≡ start machine.old.settings }
     requires none_held { explainer.old
         ≡ nothing_absorbed (size machine.old.settings) machine.old.settings.most_open }
@@ -109,8 +111,6 @@ fn explain_cycles<'p, A: Allocator + Clone, O: Sink>(
         (λ f. O.failures out.new ≡ O.failures out.old + write_failures f) }
 {
     explaining_law();
-    // the law is about settings in their ranges, and these are
-    let _initial = machine.config().initial();
     for cycle in 0..machine.config().cycles() {
         machine.cycle();
         explain_cycle(cycle, machine.events(), explainer, lines, out)?;

@@ -2,6 +2,7 @@
 use Rattle.std.proofs.Common.{◌≡◌, refl}
 use Rattle.std.proofs.lemmas.Result.{err_from_is_err_and}
 use Rattle.ultra_inputs.specs.Traffic.{refused, stopped}
+use Rattle.explain_command.proofs.InRange.{accepted_in_range}
 use Rattle.explain_command.proofs.explain.Goals as goal
 
 pub returns-in_err-config-clause-err : goal.returns-in_err-config-clause-err
@@ -21,3 +22,8 @@ returns-clause-ok g c = record {
   gave = rw (← c.in_ok-config.config-is, ← c.in_ok-config.program-is) c.in_ok-config.ensures.ok;
   written = c.in_ok-explain_run.ensures.ok;
 }
+
+pub explain_run-requires : goal.explain_run-requires
+explain_run-requires g c =
+    let a = c.in_ok-config.ensures.ok.accepted in
+    rw (c.in_ok-config.config-is, a.1.2) (accepted_in_range a.0 a.1.1)
