@@ -1,13 +1,31 @@
--- what is left of a cycle's events
+-- prefixes, and what is left of a cycle's events
 use Rattle.std.proofs.Common.{◌≡◌, ◌∙◌, ℕ, ◌+◌, ◌<◌, ◌≤◌, List, [], ◌∷◌, ◌++◌, drop, get_or, length, ap, sym, subst, add-one, append_assoc, append-nil}
 use Rattle.std.proofs.Math.Seq.{drop-cons}
 use Rattle.std.proofs.lemmas.List.{drop_all}
+use Rattle.std.specs.Prelude.{Result, Ok, Err, OnOk, OnErr}
 use Rattle.ultra_msg.specs.Bytes.{IsBeginning}
 use Rattle.ultra_msg.specs.declared.Event.{Event}
 use Rattle.ultra_serial.specs.Tree.{Kept, trees_after}
 use Rattle.ultra_serial.specs.Explicable.{AreAbsorbable}
 use Rattle.explain_command.specs.Explanation.{event_line, event_lines, trees_after_all}
 
+-- ---- prefixes
+pub begins_more : (xs ys zs : List ℕ) → IsBeginning xs ys → IsBeginning xs (ys ++ zs)
+begins_more xs ys zs (rest, e) = (rest ++ zs, sym (append_assoc xs rest zs) ∙ ap (λ t. t ++ zs) e)
+
+pub begins_same : (xs ys : List ℕ) → xs ≡ ys → IsBeginning xs ys
+begins_same xs ys e = ([], append-nil xs ∙ e)
+
+-- a prefix of a text that ends with a prefix
+pub begins_within : (xs first part last : List ℕ) → IsBeginning xs (first ++ part) → IsBeginning part last → IsBeginning xs (first ++ last)
+begins_within xs first part last b (rest, e) = rw (← e, ← append_assoc first part rest) (begins_more xs (first ++ part) rest b)
+
+-- what was put, whether all of it or not
+pub put_part : {T E : Type 0} (r : Result T E) (part whole : List ℕ) → OnOk r (part ≡ whole) → OnErr r (IsBeginning part whole) → IsBeginning part whole
+put_part (Ok x) part whole same begun = begins_same part whole same
+put_part (Err e) part whole same begun = begun
+
+-- ---- what is left
 module _ (c n m : ℕ) (whole : List ℕ) (last : List Kept) where
   -- with these trees and this text, the events that are left can come; their lines make the whole text, and their trees are the last
   pub record IsLeft (ks : List Kept) (text : List ℕ) (es : List Event) : Type 0 where
