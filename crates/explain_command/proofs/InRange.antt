@@ -1,12 +1,11 @@
 -- settings that are accepted are in their ranges
-use Rattle.std.proofs.Common.{◌≡◌, ℕ, ◌*◌, ◌<◌, ◌≤◌, ◌^◌, List, [], ◌∷◌, map, Bool, true, false, not, ◌&&◌, Option, Some, None, refl, sym, ◌∙◌, ap, cond}
+use Rattle.std.proofs.Common.{◌≡◌, ℕ, ◌<◌, ◌≤◌, List, [], ◌∷◌, Bool, true, false, not, Option, Some, None, refl, cond}
 use Rattle.std.specs.Prelude.{ℤ, pos, negsuc, Vec, find}
 use Rattle.std.specs.declared.alloc.Global.{Global}
 use Rattle.std.specs.List.{AllByRecursion, list_all}
 use Rattle.std.proofs.lemmas.Bool.{leb-true, ltb-true}
-use Rattle.ultra_model.specs.Machine.{Settings, size}
 use Rattle.ultra_model.specs.Ranges.{AreInRange}
-use Rattle.ultra_model.specs.Accepted.{number_of, is_below, is_within, is_cell, cells_of, are_different, are_initial, are_initial_given, initial_of, all_cells_of, is_good, numbers, first_bad, settings_of}
+use Rattle.ultra_model.specs.Accepted.{number_of, is_within, is_cell, cells_of, are_different, are_initial_given, initial_of, all_cells_of, is_good, first_bad, settings_of}
 use Rattle.ultra_model.specs.declared.config.RawSettings.{RawSettings}
 use Rattle.ultra_model.specs.declared.config.Field.{Field}
 use Rattle.ultra_model.specs.declared.config.Field.TheVariants.{Stages, RequestPlaces, ReplyPlaces, WaitPlaces, MostOpen, Cells, Cycles, Initial}

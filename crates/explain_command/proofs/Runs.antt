@@ -1,10 +1,10 @@
 -- the lines of a run, cycle by cycle
-use Rattle.std.proofs.Common.{◌≡◌, ◌∙◌, ℕ, zero, suc, ◌+◌, ◌≤◌, List, [], ◌∷◌, ◌++◌, Bool, true, false, refl, sym, ap, subst, arith, add-one, append_assoc, append-nil, ⊎_elim, length}
+use Rattle.std.proofs.Common.{◌≡◌, ◌∙◌, ℕ, zero, suc, ◌+◌, ◌≤◌, List, [], ◌∷◌, ◌++◌, true, false, refl, sym, ap, subst, arith, add-one, append_assoc, append-nil, ⊎_elim, length}
 use Rattle.std.proofs.lemmas.Bool.{cases_eq}
 use Rattle.ultra_msg.specs.Bytes.{IsBeginning}
 use Rattle.ultra_msg.specs.declared.Event.{Event}
 use Rattle.ultra_isa.specs.declared.Instr.{Instr}
-use Rattle.ultra_model.specs.Machine.{Settings, Machine, fresh_element, size, start, is_quiet}
+use Rattle.ultra_model.specs.Machine.{Settings, fresh_element, size, start, is_quiet}
 use Rattle.ultra_model.specs.Phases.{processor_phase, cycle, after}
 use Rattle.ultra_model.proofs.Each.{length-places}
 use Rattle.ultra_serial.specs.Tree.{Kept, trees_after}
@@ -59,8 +59,7 @@ module _ (c : Settings) (program : List Instr) where
   rest_later n (suc m) l h =
       ⊎_elim (λ e. (subst (λ k. IsAtRest c (after c program k)) e h, ap (λ k. lines_of_first c program k) (sym e)))
       (λ ne.
-      let r = rest_later n m (omega (arith, l, ne)) h in
-      (
+      let r = rest_later n m (omega (arith, l, ne)) h in (
         rest_cycle c program (after c program m) r.0,
         ap (λ es. lines_of_first c program m ++ event_lines m (history c program m).trees es) (nothing_happens c program (after c program m) r.0) ∙ (append-nil (lines_of_first c program m) ∙ r.1),
       )) (cases_eq n (suc m))

@@ -99,12 +99,7 @@ fn write_act<A: Allocator, S: Sink>(
 }
 
 /// Writes when and where an act was done, as `cycle 6 module 0 cell 0 `.
-fn write_place<S: Sink>(
-    cycle: u32,
-    bank: u32,
-    cell: Cell,
-    sink: &mut S,
-) -> Result<(), SinkFault>
+fn write_place<S: Sink>(cycle: u32, bank: u32, cell: Cell, sink: &mut S) -> Result<(), SinkFault>
     ensures { Writes result
         (codes "cycle " ++ decimal cycle ++ codes " module " ++ decimal bank ++ codes " cell " ++
         decimal cell ++ codes " ") (S.taken sink.old) (S.taken sink.new) (S.failures sink.old)

@@ -1,5 +1,5 @@
 -- how each exit is one of the ways in which an explanation isn't written
-use Rattle.std.proofs.Common.{◌≡◌, refl}
+use Rattle.std.proofs.Common.{refl}
 use Rattle.std.proofs.lemmas.Result.{err_from_is_err_and}
 use Rattle.ultra_inputs.specs.Traffic.{refused, stopped}
 use Rattle.explain_command.proofs.InRange.{accepted_in_range}
