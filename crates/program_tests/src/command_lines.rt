@@ -45,7 +45,10 @@ fn an_explanation_is_asked_for(rt: HostRuntime) -> Result<(), Fail> {
     let rows: [(&[&str], usize); 3] = [
         (&["ultra", "explain", "c.toml", "p.s"], 1_048_576),
         (&["ultra", "explain", "c.toml", "p.s", "--heap", "256"], 256),
-        (&["ultra", "explain", "--heap=16777216", "c.toml", "p.s"], 16_777_216),
+        (
+            &["ultra", "explain", "--heap=16777216", "c.toml", "p.s"],
+            16_777_216,
+        ),
     ];
     for (words, bytes) in rows {
         let Parsed::Command(command) = parse(rt.alloc(), words) else {
