@@ -1,7 +1,7 @@
 //! What the words of a command line ask for.
 
 use std::test::Fail;
-use ultra_command_line::{Command, Parsed, Workers, parse};
+use ultra_command_line::{Command, HeapBytes, Parsed, Workers, parse};
 
 #[test]
 fn a_run_is_asked_for(rt: HostRuntime) -> Result<(), Fail> {
@@ -41,6 +41,30 @@ fn an_order_is_asked_for(rt: HostRuntime) -> Result<(), Fail> {
 }
 
 #[test]
+fn an_explanation_is_asked_for(rt: HostRuntime) -> Result<(), Fail> {
+    let rows: [(&[&str], usize); 3] = [
+        (&["ultra", "explain", "c.toml", "p.s"], 1_048_576),
+        (&["ultra", "explain", "c.toml", "p.s", "--heap", "256"], 256),
+        (
+            &["ultra", "explain", "--heap=16777216", "c.toml", "p.s"],
+            16_777_216,
+        ),
+    ];
+    for (words, bytes) in rows {
+        let Parsed::Command(command) = parse(rt.alloc(), words) else {
+            return Err("no command".into());
+        };
+        let wanted = Command::Explain {
+            settings: "c.toml",
+            program: "p.s",
+            heap: HeapBytes::new(bytes).ok_or("no heap")?,
+        };
+        assert!(rt; command == wanted);
+    }
+    Ok(())
+}
+
+#[test]
 fn wrong_words_are_usage_faults(rt: HostRuntime) -> Result<(), Fail> {
     let rows: [&[&str]; 7] = [
         &["ultra"],
@@ -48,7 +72,7 @@ fn wrong_words_are_usage_faults(rt: HostRuntime) -> Result<(), Fail> {
         &["ultra", "run", "c.toml"],
         &["ultra", "run", "c.toml", "p.s", "x"],
         &["ultra", "order", "c.toml"],
-        &["ultra", "explain", "c.toml", "p.s"],
+        &["ultra", "explain", "c.toml"],
         &["ultra", "--version"],
     ];
     for words in rows {

@@ -8,6 +8,8 @@ mod command_lines;
 #[cfg(test)]
 mod examples;
 #[cfg(test)]
+mod explanations;
+#[cfg(test)]
 mod host;
 #[cfg(test)]
 mod lib_programs;

@@ -34,12 +34,14 @@ const RUN: [&str; 4] = ["ultra", "run", "c.toml", "p.s"];
 
 const ORDER: [&str; 4] = ["ultra", "order", "c.toml", "p.s"];
 
+const EXPLAIN: [&str; 4] = ["ultra", "explain", "c.toml", "p.s"];
+
 /// A run by three workers.
 const RUN_BY_THREE: [&str; 6] = ["ultra", "run", "c.toml", "p.s", "--workers", "3"];
 
 /// Asserts what a command does with settings and a program: its status, and what it writes to
 /// standard output and standard error.
-fn check_command<R: Host>(
+pub(crate) fn check_command<R: Host>(
     rt: &R,
     words: &[&str],
     settings: &[u8],
@@ -64,13 +66,20 @@ fn check_run<R: Host>(
     check_command(rt, &RUN, settings, program, wanted)
 }
 
-/// Asserts which traces and which serial orders these runs have.
+/// Asserts which traces, serial orders and explanations these runs have.
 fn check_examples<R: Host>(rt: &R, examples: &[Example]) -> Result<(), Fail> {
     for example in examples {
         let settings = example.settings.as_bytes();
         let program = example.program.as_bytes();
         check_command(rt, &RUN, settings, program, (0, example.trace, ""))?;
         check_command(rt, &ORDER, settings, program, (0, example.order, ""))?;
+        check_command(
+            rt,
+            &EXPLAIN,
+            settings,
+            program,
+            (0, example.explanation, ""),
+        )?;
     }
     Ok(())
 }
@@ -343,7 +352,7 @@ fn files_are_read_in_order(rt: HostRuntime) -> Result<(), Fail> {
 
 /// Asserts that the words are a usage fault, though the files are there, and that its text says
 /// this.
-fn check_usage_fault<R: Host>(rt: &R, words: &[&str], told: &str) -> Result<(), Fail> {
+pub(crate) fn check_usage_fault<R: Host>(rt: &R, words: &[&str], told: &str) -> Result<(), Fail> {
     let files: [(&str, &[u8]); 2] = [("c.toml", b"stages = 1"), ("p.s", b"halt")];
     let ended = call(rt, words, &files);
     assert!(rt; ended.err.text()?.contains(told), "{words:?}");
@@ -361,7 +370,7 @@ fn wrong_words_are_usage_faults(rt: HostRuntime) -> Result<(), Fail> {
         &["ultra", "run", "c.toml"],
         &["ultra", "run", "c.toml", "p.s", "q.s"],
         &["ultra", "order", "c.toml"],
-        &["ultra", "explain", "c.toml", "p.s"],
+        &["ultra", "explain", "c.toml"],
         &["ultra", "list"],
         &[
             "ultra",
@@ -408,7 +417,7 @@ fn help_goes_to_standard_output(rt: HostRuntime) -> Result<(), Fail> {
     let ended = call(&rt, &["ultra", "--help"], &[]);
     let text = ended.out.text()?;
     assert!(rt; text.contains("Usage: ultra"), "{text}");
-    for command in ["run", "order", "list"] {
+    for command in ["run", "order", "explain", "list"] {
         let line = format!(in rt.alloc(); "\n  {command} ")?;
         assert!(rt; text.contains(line.as_str()), "{text}");
     }
@@ -450,6 +459,8 @@ fn a_prefix_is_written_to_a_short_failing_sink(rt: HostRuntime) -> Result<(), Fa
     assert_eq!(rt; trace.as_str(), "ultra tr");
     let order = short_failing_sink(&rt, &ORDER)?;
     assert_eq!(rt; order.as_str(), "1.0 faa ");
+    let explanation = short_failing_sink(&rt, &EXPLAIN)?;
+    assert_eq!(rt; explanation.as_str(), "cycle 5 ");
     let help = short_failing_sink(&rt, &["ultra", "--help"])?;
     assert_eq!(rt; help.len(), 8);
     Ok(())

@@ -3,7 +3,7 @@
 ghost use Rattle.std.specs.Prelude.{◌<◌};
 ghost use Rattle.ultra_io.specs.Account.{failures_in};
 
-use std::alloc::Global;
+use std::alloc::{AllocError, Global};
 use std::str;
 use std::test::Fail;
 use ultra_io::Account;
@@ -28,6 +28,13 @@ impl Tray {
             most: usize::MAX,
             sound_writes: usize::MAX,
         }
+    }
+
+    /// A tray that takes 4096 bytes without asking for memory.
+    pub(crate) fn with_room(alloc: Global) -> Result<Tray, AllocError> {
+        let mut tray = Tray::new(alloc);
+        tray.bytes.reserve(4096)?;
+        Ok(tray)
     }
 
     pub(crate) fn text(&self) -> Result<&str, Fail> {

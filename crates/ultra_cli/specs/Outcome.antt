@@ -3,7 +3,7 @@ use Rattle.std.specs.Prelude.{◌≡◌, ℕ, List, [], ◌∷◌, ◌++◌, ◌
 use Rattle.ultra_msg.specs.Bytes.{IsBeginning}
 use Rattle.ultra_isa.specs.declared.Instr.{Instr}
 use Rattle.ultra_asm.specs.Listing.{listing_text}
-use Rattle.ultra_command_line.specs.declared.Command.TheVariants.{Run, Order, List as ListOf, Lib}
+use Rattle.ultra_command_line.specs.declared.Command.TheVariants.{Run, Order, Explain, List as ListOf, Lib}
 use Rattle.ultra_command_line.specs.declared.Parsed.{Parsed}
 use Rattle.ultra_command_line.specs.declared.Parsed.TheVariants as parsed
 use Rattle.ultra_inputs.specs.declared.failure.Failure.{Failure}
@@ -13,6 +13,7 @@ use Rattle.ultra_inputs.specs.Traffic.{Traffic, with_files, IsStopped, WroteText
 use Rattle.ultra_io.specs.Source.{file_of}
 use Rattle.run_command.specs.Stops.{IsStoppedBy}
 use Rattle.order_command.specs.Order.{order_of}
+use Rattle.explain_command.specs.Explanation.{explanation_of, IsCutShort}
 use Rattle.lib_command.specs.Coordination.{WroteProgram, LibFails}
 use Rattle.ultra_trace.specs.Trace.{trace}
 
@@ -46,6 +47,7 @@ pub data ListFails (prog : List ℕ) (old new : Traffic) (f : Failure) : Type 0 
 abbrev pub Obeyed : Parsed → Traffic → Traffic → Type 0
 Obeyed (parsed.Command (Run conf prog workers)) old new = WroteText trace conf.now prog.now old new
 Obeyed (parsed.Command (Order conf prog)) old new = WroteText order_of conf.now prog.now old new
+Obeyed (parsed.Command (Explain conf prog heap)) old new = WroteText explanation_of conf.now prog.now old new
 Obeyed (parsed.Command (ListOf prog)) old new = WroteListing prog.now old new
 Obeyed (parsed.Command (Lib coordination)) old new = (new.files ≡ old.files) × WroteProgram coordination old.written new.written
 Obeyed (parsed.Help text) old new = new ≡ record old { written = old.written ++ string_bytes text }
@@ -56,6 +58,7 @@ Obeyed parsed.NoMemory old new = ⊥
 abbrev pub NotObeyed : Parsed → Traffic → Traffic → Failure → Type 0
 NotObeyed (parsed.Command (Run conf prog workers)) old new f = TextFails trace (IsStoppedBy workers.count) conf.now prog.now old new f
 NotObeyed (parsed.Command (Order conf prog)) old new f = TextFails order_of IsStopped conf.now prog.now old new f
+NotObeyed (parsed.Command (Explain conf prog heap)) old new f = TextFails explanation_of IsCutShort conf.now prog.now old new f
 NotObeyed (parsed.Command (ListOf prog)) old new f = ListFails prog.now old new f
 NotObeyed (parsed.Command (Lib coordination)) old new f = (new.files ≡ old.files) × LibFails coordination old.written new.written f
 NotObeyed (parsed.Help text) old new f = (f ≡ NotWritten) × (new.files ≡ old.files) × IsBeginning new.written (old.written ++ string_bytes text)

@@ -100,6 +100,11 @@ fn carry_out<'w, R: AllocGlobal + Threads + Wait + Sync, F: Source, O: Sink>(
         Command::Order { settings, program } => {
             order_command::order(alloc, settings, program, source, out)
         }
+        Command::Explain {
+            settings,
+            program,
+            heap,
+        } => explain_command::explain(alloc, settings, program, heap.count, source, out),
         Command::List { program } => list::list(alloc, program, source, out),
         Command::Lib(coordination) => lib_command::write_program(alloc, coordination, out),
     }

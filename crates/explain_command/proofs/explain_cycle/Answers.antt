@@ -1,0 +1,26 @@
+use Rattle.std.proofs.Common.{◌++◌, append_assoc}
+use Rattle.std.proofs.lemmas.Result.{err_from_is_err_and}
+use Rattle.ultra_msg.proofs.Parts.{at_error}
+use Rattle.explain_command.specs.Explanation.{event_lines}
+use Rattle.explain_command.proofs.Left.{begins_same, begins_within, put_part}
+use Rattle.explain_command.proofs.explain_cycle.Goals as goal
+
+pub returns-in_err-hand_on-clause-err : goal.returns-in_err-hand_on-clause-err
+returns-in_err-hand_on-clause-err g c =
+    let p = err_from_is_err_and c.from_residual.result c.from_residual.ensures.1 in
+    let before = g.O.Sink.taken c.args.out.now in
+    let waited = c.args.lines.now.bytes.items in
+    let more = event_lines c.args.cycle c.args.explainer.now.trees c.args.events.now in
+    let waits = c.put_lines-explained.new.lines.bytes.items in
+    let put = put_part c.put_lines-explained.result waits (waited ++ more) c.put_lines-explained.ensures.ok c.put_lines-explained.ensures.err in
+    rw (p.1, append_assoc before waited more) (begins_within (g.O.Sink.taken c.hand_on.new.out) before waits (waited ++ more) c.in_err-hand_on.ensures.err put)
+
+pub returns-in_ok-hand_on-clause-err : goal.returns-in_ok-hand_on-clause-err
+returns-in_ok-hand_on-clause-err g c =
+    let before = g.O.Sink.taken c.args.out.now in
+    let waited = c.args.lines.now.bytes.items in
+    let more = event_lines c.args.cycle c.args.explainer.now.trees c.args.events.now in
+    let waits = c.put_lines-explained.new.lines.bytes.items in
+    let after = g.O.Sink.taken c.hand_on.new.out in
+    let put = put_part c.put_lines-explained.result waits (waited ++ more) c.put_lines-explained.ensures.ok c.put_lines-explained.ensures.err in
+    at_error c.put_lines-explained.result (rw (append_assoc before waited more) (begins_within after before waits (waited ++ more) (begins_same after (before ++ waits) c.in_ok-hand_on.ensures.ok) put))

@@ -1,0 +1,123 @@
+//! The lines of memory acts, over the trees that an explainer keeps.
+
+ghost use Rattle.std.specs.Prelude.{◌≡◌, ◌⊎◌, ◌++◌, false, codes, decimal, IfErr, OnErr, OnOk};
+ghost use Rattle.ultra_msg.specs.Bytes.{IsBeginning, Writes};
+ghost use Rattle.ultra_serial.specs.Tree.{trees_after};
+ghost use Rattle.ultra_serial.specs.Explicable.{AreAbsorbable, IsAbsorbable};
+ghost use Rattle.ultra_tree.specs.Seen.{seen};
+ghost use Rattle.ultra_inputs.specs.declared.failure.Failure.TheVariants.{HeapFull, NoMemory};
+ghost use Rattle.explain_command.specs.Explanation.{act_line, event_line, event_lines, trees_after_all};
+
+use crate::lines::Lines;
+use itoa::Buffer;
+use std::alloc::Allocator;
+use ultra_inputs::Failure;
+use ultra_msg::{Cell, Event, Sink, SinkFault, write_all, write_pieces};
+use ultra_tree::{Explainer, Tree, write_tree};
+
+/// Puts the lines of a cycle's acts at the end of the lines that wait. `HeapFull` means that the
+/// explainer's memory was refused, and `NoMemory` that memory for the lines was; a prefix of them
+/// was put then.
+pub(crate) fn put_lines<'p, A: Allocator + Clone>(
+    cycle: u32,
+    events: &[Event],
+    explainer: &mut Explainer<A>,
+    lines: &mut Lines,
+) -> Result<(), Failure<'p>>
+    requires working { explainer.old.is_spent ≡ false }
+    requires absorbable { AreAbsorbable explainer.old.elements explainer.old.most_open
+        explainer.old.trees events.now }
+    ensures trees { OnOk result (explainer.new ≡ record explainer.old {
+      trees = trees_after_all explainer.old.trees events.now;
+    }) }
+    ensures ok { OnOk result (lines.new.bytes.items
+        ≡ lines.old.bytes.items ++ event_lines cycle explainer.old.trees events.now) }
+    ensures err { OnErr result (IsBeginning lines.new.bytes.items
+        (lines.old.bytes.items ++ event_lines cycle explainer.old.trees events.now)) }
+    ensures fault { IfErr result (λ f. (f ≡ HeapFull) ⊎ (f ≡ NoMemory)) }
+{
+    for event in events {
+        put_event(cycle, event, explainer, lines)?;
+    }
+    Ok(())
+}
+
+/// Puts the line of an event, if it is an act, at the end of the lines that wait, and tells the
+/// explainer of it.
+fn put_event<'p, A: Allocator + Clone>(
+    cycle: u32,
+    event: &Event,
+    explainer: &mut Explainer<A>,
+    lines: &mut Lines,
+) -> Result<(), Failure<'p>>
+    requires working { explainer.old.is_spent ≡ false }
+    requires absorbable { IsAbsorbable explainer.old.elements explainer.old.most_open
+        explainer.old.trees event.now }
+    ensures trees { OnOk result (explainer.new ≡ record explainer.old {
+      trees = trees_after explainer.old.trees event.now;
+    }) }
+    ensures ok { OnOk result (lines.new.bytes.items
+        ≡ lines.old.bytes.items ++ event_line cycle explainer.old.trees event.now) }
+    ensures err { OnErr result (IsBeginning lines.new.bytes.items
+        (lines.old.bytes.items ++ event_line cycle explainer.old.trees event.now)) }
+    ensures fault { IfErr result (λ f. (f ≡ HeapFull) ⊎ (f ≡ NoMemory)) }
+{
+    let Ok(served) = explainer.absorb(event) else {
+        return Err(Failure::HeapFull);
+    };
+    let Event::Served {
+        module: bank,
+        request,
+        ..
+    } = *event
+    else {
+        return Ok(());
+    };
+    let Some(tree) = served else {
+        return Ok(());
+    };
+    match write_act(cycle, bank, request.cell, &tree, lines) {
+        Ok(()) => Ok(()),
+        Err(_) => Err(Failure::NoMemory),
+    }
+}
+
+/// Writes the line of an act, as `cycle 6 module 0 cell 0 [s0x0 0.0 > 1.0]`.
+fn write_act<A: Allocator, S: Sink>(
+    cycle: u32,
+    bank: u32,
+    cell: Cell,
+    tree: &Tree<A>,
+    sink: &mut S,
+) -> Result<(), SinkFault>
+    ensures { Writes result (act_line cycle bank cell (seen cell tree.now))
+        (S.taken sink.old) (S.taken sink.new) (S.failures sink.old) (S.failures sink.new) }
+{
+    write_place(cycle, bank, cell, sink)?;
+    write_tree(tree, sink)?;
+    write_all(sink, b"\n")
+}
+
+/// Writes when and where an act was done, as `cycle 6 module 0 cell 0 `.
+fn write_place<S: Sink>(cycle: u32, bank: u32, cell: Cell, sink: &mut S) -> Result<(), SinkFault>
+    ensures { Writes result
+        (codes "cycle " ++ decimal cycle ++ codes " module " ++ decimal bank ++ codes " cell " ++
+        decimal cell ++ codes " ") (S.taken sink.old) (S.taken sink.new) (S.failures sink.old)
+        (S.failures sink.new) }
+{
+    let mut of_cycle = Buffer::new();
+    let mut of_bank = Buffer::new();
+    let mut of_cell = Buffer::new();
+    write_pieces(
+        sink,
+        &[
+            b"cycle ",
+            of_cycle.format(cycle).as_bytes(),
+            b" module ",
+            of_bank.format(bank).as_bytes(),
+            b" cell ",
+            of_cell.format(cell).as_bytes(),
+            b" ",
+        ],
+    )
+}

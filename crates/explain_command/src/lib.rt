@@ -1,0 +1,155 @@
+//! The command `explain`: it writes the combining tree of each memory act of a run.
+#![tactic(auto)]
+
+mod acts;
+mod lines;
+
+ghost use Rattle.std.specs.Prelude.{◌≡◌, ◌+◌, ◌++◌, false, IfErr, OnErr, OnOk};
+ghost use Rattle.ultra_msg.specs.Bytes.{IsBeginning};
+ghost use Rattle.ultra_model.specs.Machine.{size, start};
+ghost use Rattle.ultra_model.specs.Ranges.{AreInRange};
+ghost use Rattle.ultra_serial.specs.Explicable.{AreAbsorbable};
+ghost use Rattle.ultra_tree.specs.Absorb.{nothing_absorbed};
+ghost use Rattle.ultra_inputs.specs.Failure.{read_failures, write_failures};
+ghost use Rattle.ultra_inputs.specs.Traffic.{traffic, WroteText, TextFails};
+ghost use Rattle.explain_command.specs.Explanation.{event_lines, trees_after_all, explanation_of, IsCutShort};
+
+use acts::put_lines;
+use lines::Lines;
+use linked_list_allocator::LocalHeap;
+use std::alloc::{Allocator, Global};
+use ultra_inputs::{Failure, Inputs, read_inputs};
+use ultra_io::Source;
+use ultra_isa::Program;
+use ultra_machine::{Config, Machine};
+use ultra_msg::{Event, Sink};
+use ultra_serial::explaining_law;
+use ultra_tree::Explainer;
+
+/// Lines of this many bytes are written; fewer wait for the next cycle.
+const PIECE_BYTES: usize = 4096;
+
+/// Reads settings and a program, and writes to `out` the combining tree of each memory act of the
+/// run, a line for each. Each file is accepted before the next is read, and both before a byte is
+/// written.
+///
+/// The trees live in a heap of `heap_bytes` bytes, and nothing else does. `HeapFull` means that it
+/// has no room for them; the lines of the acts before that are written.
+pub fn explain<'p, F: Source, O: Sink>(
+    alloc: Global,
+    settings_path: &'p str,
+    program_path: &'p str,
+    heap_bytes: usize,
+    source: &mut F,
+    out: &mut O,
+) -> Result<(), Failure<'p>>
+    ensures ok { OnOk result (WroteText explanation_of settings_path.now program_path.now
+        (traffic (F.files source.old) (O.taken out.old)) (traffic (F.files source.new) (O.taken out.new))) }
+    ensures err { IfErr result (TextFails explanation_of IsCutShort settings_path.now program_path.now
+        (traffic (F.files source.old) (O.taken out.old)) (traffic (F.files source.new) (O.taken out.new))) }
+    ensures read_still { OnOk result (F.failures source.new ≡ F.failures source.old) }
+    ensures read_counted { IfErr result
+        (λ f. F.failures source.new ≡ F.failures source.old + read_failures f) }
+    ensures write_still { OnOk result (O.failures out.new ≡ O.failures out.old) }
+    ensures write_counted { IfErr result
+        (λ f. O.failures out.new ≡ O.failures out.old + write_failures f) }
+{
+    let Inputs { config, program } = read_inputs(alloc, settings_path, program_path, source)?;
+    explain_run(alloc, &config, &program, heap_bytes, out)?;
+    Ok(())
+}
+
+/// Writes the lines of a run, with the trees in a heap of their own.
+fn explain_run<'p, O: Sink>(
+    alloc: Global,
+    config: &Config,
+    program: &Program,
+    heap_bytes: usize,
+    out: &mut O,
+) -> Result<(), Failure<'p>>
+    requires { AreInRange config.now }
+    ensures ok { OnOk result
+        (O.taken out.new ≡ O.taken out.old ++ explanation_of config.now program.now) }
+    ensures err { OnErr result (IsBeginning (O.taken out.new)
+        (O.taken out.old ++ explanation_of config.now program.now)) }
+    ensures fault { IfErr result IsCutShort }
+    ensures still { OnOk result (O.failures out.new ≡ O.failures out.old) }
+    ensures counted { IfErr result
+        (λ f. O.failures out.new ≡ O.failures out.old + write_failures f) }
+{
+    let heap = LocalHeap::new(alloc, heap_bytes)?;
+    let Ok(mut explainer) = Explainer::new(config, &heap) else {
+        return Err(Failure::HeapFull);
+    };
+    let mut machine = Machine::new(alloc, config, program)?;
+    let mut lines = Lines::new(alloc);
+    explain_cycles(&mut machine, &mut explainer, &mut lines, out)?;
+    lines.hand_on(out)?;
+    Ok(())
+}
+
+/// Follows a machine from its start to the end of its run. Of its lines some may be left to write.
+fn explain_cycles<'p, A: Allocator + Clone, O: Sink>(
+    machine: &mut Machine,
+    explainer: &mut Explainer<A>,
+    lines: &mut Lines,
+    out: &mut O,
+) -> Result<(), Failure<'p>>
+    requires in_range { AreInRange machine.old.settings }
+    requires start { machine.old.state ≡ start machine.old.settings }
+    requires none_held { explainer.old
+        ≡ nothing_absorbed (size machine.old.settings) machine.old.settings.most_open }
+    ensures ok { OnOk result (O.taken out.new ++ lines.new.bytes.items
+        ≡ (O.taken out.old ++ lines.old.bytes.items) ++ explanation_of machine.old.settings
+        machine.old.program) }
+    ensures err { OnErr result (IsBeginning (O.taken out.new)
+        ((O.taken out.old ++ lines.old.bytes.items) ++ explanation_of machine.old.settings
+        machine.old.program)) }
+    ensures fault { IfErr result IsCutShort }
+    ensures still { OnOk result (O.failures out.new ≡ O.failures out.old) }
+    ensures counted { IfErr result
+        (λ f. O.failures out.new ≡ O.failures out.old + write_failures f) }
+{
+    explaining_law();
+    for cycle in 0..machine.config().cycles() {
+        machine.cycle();
+        explain_cycle(cycle, machine.events(), explainer, lines, out)?;
+        if machine.is_quiet() {
+            break;
+        }
+    }
+    Ok(())
+}
+
+/// Follows the events of a cycle. Lines of `PIECE_BYTES` bytes or more are written, and so are the
+/// lines before what stops it.
+fn explain_cycle<'p, A: Allocator + Clone, O: Sink>(
+    cycle: u32,
+    events: &[Event],
+    explainer: &mut Explainer<A>,
+    lines: &mut Lines,
+    out: &mut O,
+) -> Result<(), Failure<'p>>
+    requires working { explainer.old.is_spent ≡ false }
+    requires absorbable { AreAbsorbable explainer.old.elements explainer.old.most_open
+        explainer.old.trees events.now }
+    ensures trees { OnOk result (explainer.new ≡ record explainer.old {
+      trees = trees_after_all explainer.old.trees events.now;
+    }) }
+    ensures ok { OnOk result (O.taken out.new ++ lines.new.bytes.items
+        ≡ (O.taken out.old ++ lines.old.bytes.items) ++ event_lines cycle explainer.old.trees
+        events.now) }
+    ensures err { OnErr result (IsBeginning (O.taken out.new)
+        ((O.taken out.old ++ lines.old.bytes.items) ++ event_lines cycle explainer.old.trees
+        events.now)) }
+    ensures fault { IfErr result IsCutShort }
+    ensures still { OnOk result (O.failures out.new ≡ O.failures out.old) }
+    ensures counted { IfErr result
+        (λ f. O.failures out.new ≡ O.failures out.old + write_failures f) }
+{
+    let explained = put_lines(cycle, events, explainer, lines);
+    if explained.is_err() || lines.len() >= PIECE_BYTES {
+        lines.hand_on(out)?;
+    }
+    explained
+}

@@ -1,0 +1,168 @@
+//! The explanations of the examples, and what small heaps and refused memory do.
+
+use crate::examples::ADDS_ONE;
+use crate::programs::{check_command, check_usage_fault};
+use crate::shelf::Shelf;
+use crate::tray::Tray;
+use std::test::Fail;
+use ultra_cli::main_with;
+use ultra_io::Account;
+
+pub(crate) const COMBINED_PAIR: &str = "cycle 5 module 0 cell 0 [s0x0 1.0 < 0.0]\n";
+
+pub(crate) const UNCOMBINED_PAIR: &str = "\
+cycle 5 module 0 cell 0 1.0
+cycle 6 module 0 cell 0 0.0
+";
+
+pub(crate) const WRAPAROUND: &str = "cycle 5 module 0 cell 0 [s0x0 1.0 < 0.0]\n";
+
+pub(crate) const WAIT_BUFFER_FULL: &str = "\
+cycle 5 module 0 cell 0 [s0x0 1.0 < 0.0]
+cycle 6 module 0 cell 2 0.1
+cycle 7 module 0 cell 2 1.1
+";
+
+pub(crate) const NARROW_REPLY_QUEUES: &str = "\
+cycle 5 module 0 cell 0 [s0x0 1.0 < 0.0]
+cycle 6 module 1 cell 1 [s0x1 0.1 < 1.1]
+";
+
+pub(crate) const HALT: &str = "";
+
+pub(crate) const EMPTY: &str = "";
+
+pub(crate) const ONE_OPEN: &str = "\
+cycle 5 module 0 cell 0 [s0x0 1.0 < 0.0]
+cycle 10 module 1 cell 1 [s0x1 0.1 < 1.1]
+";
+
+pub(crate) const CYCLE_LIMIT: &str = "";
+
+pub(crate) const LOAD_THEN_STORE: &str = "cycle 6 module 0 cell 0 [s0x0 0.0 > 1.0]\n";
+
+pub(crate) const STORE_THEN_FAA: &str = "cycle 7 module 0 cell 0 [s0x0 1.0 < 0.0]\n";
+
+pub(crate) const OPEN_CELL_STALL: &str = "\
+cycle 6 module 0 cell 0 0.0
+cycle 11 module 0 cell 0 0.1
+";
+
+pub(crate) const ADDRESS_FAULT: &str = "cycle 6 module 0 cell 0 0.0\n";
+
+pub(crate) const FAA_THEN_STORE: &str = "cycle 7 module 0 cell 0 [s0x0 1.0 > 0.0]\n";
+
+pub(crate) const TWO_SWAPS: &str = "cycle 5 module 0 cell 0 [s0x0 1.0 < 0.0]\n";
+
+pub(crate) const SWAP_THEN_FAA: &str = "cycle 7 module 0 cell 0 [s0x0 1.0 < 0.0]\n";
+
+pub(crate) const FOUR_TO_ONE_CELL: &str = "\
+cycle 6 module 0 cell 0 [s1x0 [s0x0 2.0 < 0.0] < [s0x2 3.0 < 1.0]]
+";
+
+pub(crate) const TWO_LEVEL_TREE: &str = "\
+cycle 6 module 0 cell 0 [s1x0 [s0x0 2.0 < 0.0] < [s0x2 3.0 < 1.0]]
+";
+
+pub(crate) const NARROW_REQUEST_QUEUES: &str = "\
+cycle 6 module 0 cell 0 2.0
+cycle 7 module 0 cell 0 3.0
+cycle 9 module 0 cell 0 1.0
+cycle 10 module 0 cell 0 0.0
+";
+
+pub(crate) const MARKED_ONCE: &str = "\
+cycle 7 module 0 cell 4 3.0
+cycle 7 module 2 cell 2 1.0
+cycle 7 module 3 cell 3 2.0
+cycle 8 module 0 cell 0 [s1x0 0.0 < 2.1]
+cycle 9 module 0 cell 0 [s0x2 3.1 < 1.1]
+";
+
+pub(crate) const IDENTITY_NOT_CELL: &str = "\
+cycle 5 module 0 cell 0 0.0
+cycle 5 module 1 cell 1 1.0
+cycle 5 module 2 cell 2 2.0
+cycle 5 module 3 cell 3 3.0
+cycle 6 module 0 cell 0 [s1x0 2.1 < [s0x2 3.1 < 1.1]]
+cycle 12 module 0 cell 0 0.1
+";
+
+pub(crate) const FRONTMOST: &str = "\
+cycle 6 module 0 cell 0 [s1x0 [s0x0 2.0 < 0.0] < [s0x2 3.0 < 1.0]]
+cycle 7 module 1 cell 25 [s1x1 1.1 < 0.1]
+cycle 8 module 1 cell 25 2.1
+cycle 9 module 1 cell 25 3.1
+cycle 10 module 1 cell 5 [s1x1 3.2 < 0.2]
+cycle 11 module 1 cell 5 2.2
+cycle 12 module 1 cell 5 1.2
+";
+
+/// The words that explain a run, with the trees in a heap of this many bytes.
+fn with_heap(bytes: &str) -> [&str; 6] {
+    ["ultra", "explain", "c.toml", "p.s", "--heap", bytes]
+}
+
+/// Eight fetch-and-adds become one over three stages.
+const THREE_LEVELS: &str = "\
+cycle 7 module 0 cell 0 [s2x0 [s1x4 [s0x2 5.0 < 1.0] < [s0x6 7.0 < 3.0]] < [s1x0 [s0x0 4.0 < 0.0] < [s0x4 6.0 < 2.0]]]
+";
+
+/// Processing element 0 adds 1 to cell 1, and when that is done all add 1 to cell 0.
+const ONE_THEN_ALL: &str = "\
+li r2 1
+pid r1
+jnz r1 all
+faa r3 r2 r2
+all:
+li r4 0
+li r4 0
+li r4 0
+li r4 0
+li r4 0
+faa r3 r0 r2
+halt
+";
+
+/// A heap has room for the trees, or is full: from the start, or after some lines.
+#[test]
+fn heaps_hold_the_trees_or_are_full(rt: HostRuntime) -> Result<(), Fail> {
+    let full = "ultra: heap full\n";
+    let one_act = "cycle 7 module 1 cell 1 0.0\n";
+    for (settings, program, bytes, wanted) in [
+        ("stages = 3", ADDS_ONE, "4096", (0, THREE_LEVELS, "")),
+        ("stages = 6", ADDS_ONE, "256", (4, "", full)),
+        (
+            "stages = 2\nopen = 1",
+            ONE_THEN_ALL,
+            "448",
+            (4, one_act, full),
+        ),
+    ] {
+        let words = with_heap(bytes);
+        check_command(&rt, &words, settings.as_bytes(), program.as_bytes(), wanted)?;
+    }
+    check_usage_fault(&rt, &with_heap("255"), "'--heap <BYTES>'")?;
+    check_usage_fault(&rt, &with_heap("16777217"), "'--heap <BYTES>'")
+}
+
+/// With each allocation refused in turn, an explanation is the refusal or the whole text.
+#[test]
+fn an_explanation_is_refused_or_whole(rt: HostRuntime) -> Result<(), Fail> {
+    let files: [(&str, &[u8]); 2] = [("c.toml", b"stages = 3"), ("p.s", ADDS_ONE.as_bytes())];
+    let mut shelf = Shelf {
+        files: &files,
+        account: Account::Opened,
+    };
+    let mut out = Tray::with_room(rt.alloc())?;
+    let mut err = Tray::with_room(rt.alloc())?;
+    let status = main_with(&rt, &with_heap("4096"), &mut shelf, &mut out, &mut err);
+    if err.text()? == "ultra: no memory\n" {
+        assert!(rt; out.bytes.is_empty());
+        assert_eq!(rt; status, 4);
+        return Err("no memory".into());
+    }
+    assert_eq!(rt; out.text()?, THREE_LEVELS);
+    assert_eq!(rt; status, 0);
+    Ok(())
+}
