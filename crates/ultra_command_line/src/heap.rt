@@ -4,6 +4,7 @@ ghost use Rattle.std.specs.Prelude.{◌≡◌, ◌≤◌, ◌↔◌, IfSome, IsS
 
 /// The fewest bytes that the heap of the trees may have, and the most.
 const FEWEST_BYTES: usize = 256;
+
 const MOST_BYTES: usize = 16_777_216;
 
 /// The bytes of the heap of the trees, 256 to 16,777,216.
