@@ -1,12 +1,18 @@
 -- the threads of a sweep, and what they bring back; this project's profile
-use Rattle.std.specs.Prelude.{◌≡◌, ℕ, ◌+◌, List, [], All, true, length}
+use Rattle.std.specs.Prelude.{◌≡◌, ℕ, ◌+◌, ◌-◌, min, if◌then◌else◌, List, [], All, true, length}
 use Rattle.ultra_board.specs.Seat.{Seated, Opened}
 use Rattle.ultra_board.specs.declared.rule.View.{View}
 use Rattle.ultra_sweep.specs.declared.job.Job.{Job}
 use Rattle.ultra_sweep.specs.Job.{numbers, IsResultAmong}
+use Rattle.sweep_command.specs.declared.Plan.{Plan}
 use Rattle.sweep_command.specs.declared.share.Share.{Share}
 use Rattle.sweep_command.specs.declared.task.Task.{Task}
 use Rattle.sweep_command.specs.declared.crew.Crew.{Crew}
+
+-- how many threads are started: the caller's does jobs too, or it watches, with one of 64 seats
+abbrev pub threads_of : Plan → ℕ
+threads_of plan =
+    if plan.progress then min plan.workers.count 63 else plan.workers.count - 1
 
 -- a seat with this many places that has drawn nothing and holds no pass
 pub record IsFresh (board : Opened) (places : ℕ) (seat : Seated) : Type 0 where
@@ -26,7 +32,7 @@ pub record IsShare (board : Opened) (jobs : List Job) (places : ℕ) (share : Sh
 
 -- all of it: no job is left to draw
 pub record IsWhole (board : Opened) (jobs : List Job) (places : ℕ) (share : Share) : Type 0 where
-  pub share : IsShare board jobs places share
+  pub part : IsShare board jobs places share
   pub spent : share.seat.view.spent ≡ true
 
 -- the board is one of these jobs

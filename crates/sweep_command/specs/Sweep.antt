@@ -11,6 +11,8 @@ use Rattle.ultra_inputs.specs.Traffic.{Traffic, with_files}
 use Rattle.ultra_sweep.specs.declared.job.Job.{Job}
 use Rattle.ultra_sweep.specs.Job.{trace_of}
 use Rattle.ultra_sweep.specs.Report.{report_text}
+use Rattle.sweep_command.specs.declared.fault.SweepFault.{SweepFault}
+use Rattle.sweep_command.specs.declared.fault.SweepFault.TheVariants as fault
 use Rattle.sweep_command.specs.Jobs.{ExplainsJobs, GaveJobs, GaveNoJobs}
 use Rattle.sweep_command.specs.Shown.{IsShown}
 
@@ -18,13 +20,14 @@ use Rattle.sweep_command.specs.Shown.{IsShown}
 abbrev pub report_of : List Job → List ℕ
 report_of jobs = report_text (map trace_of jobs)
 
--- want of memory or of a thread
-abbrev pub IsWanting : Failure → Type 0
-IsWanting f = (f ≡ NoMemory) ⊎ (f ≡ NoThread)
+-- what a fault of the threads is for the command
+abbrev pub failure_of : SweepFault → Failure
+failure_of fault.NoMemory = NoMemory
+failure_of fault.NoThread = NoThread
 
 -- why a report was not written, or not whole
 abbrev pub CanStop : Failure → Type 0
-CanStop f = IsWanting f ⊎ (f ≡ NotWritten)
+CanStop f = (f ≡ NoMemory) ⊎ (f ≡ NoThread) ⊎ (f ≡ NotWritten)
 
 -- the jobs at these paths were read, their report was written, and the last count shown is that of
 -- all jobs

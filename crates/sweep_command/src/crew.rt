@@ -4,8 +4,9 @@ ghost use Rattle.std.specs.Prelude.{◌≡◌, ◌≤◌, ◌<◌, ℕ, ◌+◌,
 ghost use Rattle.ultra_io.specs.Account.{SinkTold};
 ghost use Rattle.sweep_command.specs.Share.{IsFresh, IsShare, IsWhole, IsTask, IsCrew, HasRead};
 ghost use Rattle.sweep_command.specs.Shown.{stream, HasShown};
-ghost use Rattle.sweep_command.specs.Sweep.{IsWanting};
+ghost use Rattle.sweep_command.specs.declared.fault.SweepFault.TheVariants.{NoThread};
 
+use crate::fault::SweepFault;
 use crate::meter::Meter;
 use crate::share::{Share, join_shares};
 use crate::task::Task;
@@ -13,7 +14,6 @@ use std::alloc::{AllocError, Global};
 use std::sync::Wait;
 use std::thread::{self, PromisedHandle, Scope, Threads};
 use ultra_board::{Board, Seat};
-use ultra_inputs::Failure;
 use ultra_msg::Sink;
 use ultra_sweep::{RunAlone, work};
 
@@ -34,21 +34,20 @@ pub struct Crew<'a> {
 impl<'a> Crew<'a> {
     /// Starts `count` threads, each with a seat of its own. In every end the threads that were
     /// started are joined: by `finish`, or here where one couldn't be started.
-    pub(crate) fn start<'f, S, R: Threads + Wait + Sync>(
+    pub(crate) fn start<S, R: Threads + Wait + Sync>(
         scope: &Scope<'a, S>,
         rt: &'a R,
         alloc: Global,
         task: Task<'a>,
         seat: Seat,
         count: usize,
-    ) -> Result<Crew<'a>, Failure<'f>>
+    ) -> Result<Crew<'a>, SweepFault>
         requires task { IsTask task }
         requires fresh { IsFresh task.board.now (count + 1) seat }
         requires few { count < 64 }
         ensures crew { IfOk result IsCrew }
         ensures count { IfOk result (λ crew. length crew.threads.items ≡ count) }
         ensures task { IfOk result (λ crew. crew.task ≡ task.entry) }
-        ensures wanting { IfErr result IsWanting }
     {
         let threads = Vec::with_capacity(alloc, count)?;
         let mut crew = Crew {
@@ -61,9 +60,9 @@ impl<'a> Crew<'a> {
             crew.seat = rest;
             match start_thread(scope, rt, alloc, task, one) {
                 Ok(thread) => crew.threads.push_reserved(thread),
-                Err(failure) => {
+                Err(fault) => {
                     crew.disband(rt);
-                    return Err(failure);
+                    return Err(fault);
                 }
             }
         }
@@ -158,21 +157,27 @@ fn split_off(board: &Board, seat: Seat) -> (Seat, Seat)
 }
 
 /// Starts a thread that takes part with this seat. `NoThread` says that it couldn't be started.
-fn start_thread<'a, 'f, S, R: Threads + Wait + Sync>(
+fn start_thread<'a, S, R: Threads + Wait + Sync>(
     scope: &Scope<'a, S>,
     rt: &'a R,
     alloc: Global,
     task: Task<'a>,
     seat: Seat,
-) -> Result<Thread<'a>, Failure<'f>>
+) -> Result<Thread<'a>, SweepFault>
     requires task { IsTask task }
     requires fresh { IsFresh task.board.now 1 seat }
     ensures part { IfOk result (λ thread. thread.promise ≡ task.entry) }
-    ensures wanting { IfErr result IsWanting }
+    ensures refused { IfErr result (λ f. f ≡ NoThread) }
 {
-    match scope.spawn_with(task, move || task.take_part(rt, alloc, seat)) {
+    let Task { board, jobs, bell } = task;
+    let part = move || -> Share
+        requires task { board.now.limits.limit ≡ length jobs.now }
+        requires fresh { IsFresh board.now 1 seat }
+        ensures { IsShare board.entry.now jobs.entry.now 1 result }
+    { Task { board, jobs, bell }.take_part(rt, alloc, seat) };
+    match scope.spawn_with(task, part) {
         Ok(thread) => Ok(thread),
-        Err(_) => Err(Failure::NoThread),
+        Err(_) => Err(SweepFault::NoThread),
     }
 }
 
@@ -199,7 +204,7 @@ fn join_all<'a, R: Threads>(
 ) -> Result<Share, AllocError>
     requires own { IsWhole task.board.now task.jobs.now 1 own }
     requires parts { All (λ thread. thread.promise ≡ task) threads.items }
-    ensures { IfOk result (IsWhole task.entry.board.now task.entry.jobs.now (length threads.items + 1)) }
+    ensures { IfOk result (IsWhole task.entry.board.now task.entry.jobs.now (length threads.entry.items + 1)) }
 {
     let mut all = Ok(own);
     for thread in threads {

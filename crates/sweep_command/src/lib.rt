@@ -12,6 +12,7 @@ ghost use Rattle.sweep_command.specs.Sweep.{Swept, SweepFails, SweptJobs, JobsFa
 
 mod bell;
 mod crew;
+mod fault;
 mod listing;
 mod meter;
 mod running;
@@ -101,9 +102,11 @@ fn sweep_jobs<'l, R: Threads + Wait + Sync, F: Source, O: Sink, E: Sink>(
         (λ f. O.failures out.new ≡ O.failures out.old + write_failures f) }
 {
     let jobs = read_jobs(alloc, list, source)?;
-    let gathered = run_jobs(rt, alloc, jobs.as_slice(), plan, err)?;
-    match report(&gathered, out) {
-        Ok(()) => Ok(()),
-        Err(_) => Err(Failure::NotWritten),
+    match run_jobs(rt, alloc, jobs.as_slice(), plan, err) {
+        Ok(gathered) => match report(&gathered, out) {
+            Ok(()) => Ok(()),
+            Err(_) => Err(Failure::NotWritten),
+        },
+        Err(fault) => Err(fault.failure()),
     }
 }

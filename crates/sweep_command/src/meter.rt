@@ -1,6 +1,6 @@
 //! How many jobs are finished, as standard error shows it.
 
-ghost use Rattle.std.specs.Prelude.{◌≡◌, min, max};
+ghost use Rattle.std.specs.Prelude.{◌≡◌, false, min, max};
 ghost use Rattle.ultra_msg.specs.Bytes.{Writes};
 ghost use Rattle.ultra_io.specs.Account.{SinkTold};
 ghost use Rattle.sweep_command.specs.Shown.{stream, progress_line, HasShown};

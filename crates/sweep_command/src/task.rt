@@ -47,6 +47,7 @@ impl Task<'_> {
 }
 
 /// Runs each job as the program does, and rings the bell when it is done.
+#[derive(Clone, Copy)]
 struct RingingGate<'b>(&'b Bell);
 
 impl JobGate for RingingGate<'_> {
