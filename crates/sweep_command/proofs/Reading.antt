@@ -19,15 +19,18 @@ gave-more (q ∷ qs) (j ∷ js) old mid new p job (first, here, rest) gave = (fi
 abbrev Texts : Type 0
 Texts = String Global × String Global
 
-both : (a b x y : List ℕ) → a ≡ x → b ≡ y → (a, b) ≡ (x, y)
-both a b x y e f = ap (λ t. (t, b)) e ∙ ap (λ t. (x, t)) f
+both : (a b x y : List ℕ) → a ≡ x → b ≡ y → ◌≡◌ {A = Paths} (a, b) (x, y)
+both a b x y e f = let first : List ℕ → Paths = λ t. (t, b) in let second : List ℕ → Paths = λ t. (x, t) in ap first e ∙ ap second f
+
+abbrev paths_at : Texts → Paths
+paths_at t = (string_bytes t.0, string_bytes t.1)
 
 module _ (list : List Texts) (k : ℕ) (item : Texts) (within : k < length list) (here : item ≡ get_or list k item) (conf prog : List ℕ) (is_conf : conf ≡ string_bytes item.0) (is_prog : prog ≡ string_bytes item.1) where
   paths-more : all_paths (take (k + 1) list) ≡ all_paths (take k list) ++ (conf, prog) ∷ []
   paths-more =
       ap all_paths (take_more list k item within)
-      ∙ (map-append (λ (t : Texts). (string_bytes t.0, string_bytes t.1)) (take k list) (get_or list k item ∷ [])
-      ∙ ap (λ (p : Paths). all_paths (take k list) ++ p ∷ []) (ap (λ (t : Texts). (string_bytes t.0, string_bytes t.1)) (sym here) ∙ both (string_bytes item.0) (string_bytes item.1) conf prog (sym is_conf) (sym is_prog)))
+      ∙ (map-append paths_at (take k list) (get_or list k item ∷ [])
+      ∙ ap (λ (p : Paths). all_paths (take k list) ++ p ∷ []) (ap paths_at (sym here) ∙ both (string_bytes item.0) (string_bytes item.1) conf prog (sym is_conf) (sym is_prog)))
 
   pub gave-next : (jobs : List Job) (old mid new : List File) (job : Job) → GaveJobs (all_paths (take k list)) old mid jobs → Gave conf prog mid new job.config job.program → GaveJobs (all_paths (take (k + 1) list)) old new (jobs ++ job ∷ [])
   gave-next jobs old mid new job before gave =
@@ -39,6 +42,6 @@ module _ (list : List Texts) (k : ℕ) (item : Texts) (within : k < length list)
       let all : all_paths (take k list) ++ (conf, prog) ∷ rest ≡ all_paths list =
       sym (append_assoc (all_paths (take k list)) ((conf, prog) ∷ []) rest)
       ∙ (ap (λ ps. ps ++ rest) (sym paths-more)
-      ∙ (sym (map-append (λ (t : Texts). (string_bytes t.0, string_bytes t.1)) (take (k + 1) list) (drop (k + 1) list))
+      ∙ (sym (map-append paths_at (take (k + 1) list) (drop (k + 1) list))
       ∙ ap all_paths (take-append-drop (k + 1) list))) in
       refused (all_paths (take k list)) rest (conf, prog) jobs mid all before why

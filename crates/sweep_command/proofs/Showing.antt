@@ -1,12 +1,12 @@
 -- one count more is shown
-use Rattle.std.proofs.Common.{◌≡◌, ◌≢◌, ◌∙◌, ◌<◌, ◌≤◌, ◌+◌, ℕ, Bool, true, false, List, [], ◌∷◌, ◌++◌, refl, sym, ap, subst, append_assoc, append-nil, arith}
+use Rattle.std.proofs.Common.{◌≡◌, ◌∙◌, ◌<◌, ◌≤◌, ◌+◌, ℕ, Bool, true, false, List, [], ◌∷◌, ◌++◌, refl, sym, ap, subst, append_assoc, append-nil, arith}
 use Rattle.std.proofs.lemmas.Grind.{flat_map-append}
 use Rattle.std.specs.Prelude.{Result, Ok, Err}
 use Rattle.std.specs.Result.{is_err}
 use Rattle.ultra_msg.specs.Bytes.{IsBeginning, Writes}
 use Rattle.ultra_io.specs.Account.{SinkTold}
 use Rattle.sweep_command.specs.declared.meter.Meter.{Meter}
-use Rattle.sweep_command.specs.Shown.{GrowTo, progress_line, progress_text, stream, Shows, IsShown, HasShown}
+use Rattle.sweep_command.specs.Shown.{GrowTo, progress_line, progress_text, Shows, IsShown, HasShown}
 
 pub grow-more : (first : ℕ) (ks : List ℕ) (last k : ℕ) → GrowTo first ks last → last < k → GrowTo first (ks ++ k ∷ []) k
 grow-more first [] last k same more = (subst (λ n. n < k) same more, refl)

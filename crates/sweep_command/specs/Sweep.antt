@@ -27,7 +27,7 @@ failure_of fault.NoThread = NoThread
 
 -- why a report was not written, or not whole
 abbrev pub CanStop : Failure → Type 0
-CanStop f = (f ≡ NoMemory) ⊎ (f ≡ NoThread) ⊎ (f ≡ NotWritten)
+CanStop f = (f ≡ NotWritten) ⊎ ((f ≡ NoMemory) ⊎ (f ≡ NoThread))
 
 -- the jobs at these paths were read, their report was written, and the last count shown is that of
 -- all jobs

@@ -81,7 +81,11 @@ impl<'a> Crew<'a> {
             HasShown meter.old start (stream (E.taken err.old) (E.failures err.old)) →
             HasShown meter.new start (stream (E.taken err.new) (E.failures err.new)) }
     {
-        let Task { board, jobs: _, bell } = self.task;
+        let Task {
+            board,
+            jobs: _,
+            bell,
+        } = self.task;
         let threads = self.threads.len() as u64;
         for _ in rt.forever() {
             let (rings, ended) = bell.heard();

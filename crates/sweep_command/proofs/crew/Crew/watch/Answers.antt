@@ -23,6 +23,6 @@ loop-preserved g c =
 pub returns-clause-shown : goal.returns-clause-shown
 returns-clause-shown g c start shown =
     elim c.match-next.branch [
-      in-None w ↦ rw (w.meter-is, w.err-is) (c.loop.invariant.shown start shown)
-    | in-Some+then-ended-threads w ↦ rw (w.meter-is, w.err-is) (w.show_progress.ensures.shown start (c.loop.invariant.shown start shown))
+      | in-None w ↦ rw (w.meter-is, w.err-is) (c.loop.invariant.shown start shown)
+      | in-Some+then-ended-threads w ↦ rw (w.meter-is, w.err-is) (w.show_progress.ensures.shown start (c.loop.invariant.shown start shown))
     ]

@@ -1,4 +1,4 @@
-use Rattle.std.proofs.Common.{◌≤◌, min, arith}
+use Rattle.std.proofs.Common.{◌≤◌, arith}
 use Rattle.sweep_command.specs.Shown.{stream}
 use Rattle.sweep_command.proofs.Showing.{shown-unwritten, shown-more}
 use Rattle.sweep_command.proofs.meter.Meter.show.Goals as goal
