@@ -10,17 +10,16 @@ returns-in_err-config-clause-err g c =
     let p = err_from_is_err_and c.from_residual.result c.from_residual.ensures.1 in
     rw (p.1, p.2) (refused c.in_err-config.ensures.err (refl {a = g.O.Sink.taken c.args.out.now}))
 
-pub returns-in_err-list-clause-err : goal.returns-in_err-list-clause-err
-returns-in_err-list-clause-err g c =
-    let p = err_from_is_err_and c.from_residual-in_err-list.result c.from_residual-in_err-list.ensures.1 in
-    rw (p.1, p.2) (stopped c.in_ok-config.config c.in_ok-config.program (rw (← c.in_ok-config.config-is, ← c.in_ok-config.program-is) c.in_ok-config.ensures.ok) (inl refl) (order_of c.in_ok-config.config c.in_ok-config.program, refl))
+pub returns-in_default-clause-err : goal.returns-in_default-clause-err
+returns-in_default-clause-err g c =
+    stopped c.in_ok-config.config c.in_ok-config.program (rw (← c.in_ok-config.config-is, ← c.in_ok-config.program-is) c.in_ok-config.ensures.ok) (inl refl) (order_of c.in_ok-config.config c.in_ok-config.program, refl)
 
 pub returns-in_err-write_order-clause-err : goal.returns-in_err-write_order-clause-err
 returns-in_err-write_order-clause-err g c =
     let p = err_from_is_err_and c.from_residual-in_err-write_order.result c.from_residual-in_err-write_order.ensures.1 in
     let lines : order_text c.as_slice.result.now ≡ order_of c.in_ok-config.config c.in_ok-config.program =
     let text = c.as_slice.ensures.value in
-    let list = c.in_ok-list.ensures in
+    let list = c.in-Ok.ensures in
     let cycles = c.cycles.ensures.value in
     cc in
     rw (p.1, p.2) (stopped c.in_ok-config.config c.in_ok-config.program (rw (← c.in_ok-config.config-is, ← c.in_ok-config.program-is) c.in_ok-config.ensures.ok) c.in_err-write_order.ensures.stopped (rw lines at c.in_err-write_order.ensures.err))
@@ -29,7 +28,7 @@ pub returns-clause-ok : goal.returns-clause-ok
 returns-clause-ok g c =
     let lines : order_text c.as_slice.result.now ≡ order_of c.in_ok-config.config c.in_ok-config.program =
     let text = c.as_slice.ensures.value in
-    let list = c.in_ok-list.ensures in
+    let list = c.in-Ok.ensures in
     let cycles = c.cycles.ensures.value in
     cc in
     record {

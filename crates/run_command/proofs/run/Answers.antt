@@ -21,4 +21,4 @@ returns-in_err-config-clause-err g c =
 pub returns-clause-err : goal.returns-clause-err
 returns-clause-err g c =
     let inputs = c.in_ok-config.field-0 in
-    stopped inputs.config inputs.program c.in_ok-config.ensures.ok (stops c.args.workers.count c.in-Err.field-0 c.in-Err.ensures.alone) c.in-Err.ensures.err
+    rw c.failure_of_run.ensures (stopped inputs.config inputs.program c.in_ok-config.ensures.ok (stops c.args.workers.count c.in-Err.fault c.in-Err.ensures.alone) c.in-Err.ensures.err)
