@@ -14,8 +14,10 @@ use std::test::Fail;
 use std::thread::Threads;
 use ultra_block::{Blocks, ProcessingElement};
 use ultra_crew::{Crew, CrewFault, Gate, cycle_alone};
+use ultra_isa::MachineFault;
 use ultra_mem::Module;
-use ultra_msg::{Register, Reply};
+use ultra_model::Stop;
+use ultra_msg::{Pe, Register, Reply};
 use ultra_switch::{ToMm, ToPe};
 
 /// So many cycles, each by these workers.
@@ -137,8 +139,14 @@ fn same_places(rt: &impl Abort, a: &Blocks, b: &Blocks)
         assert_eq!(rt; a.delivered(number), b.delivered(number));
         assert_eq!(rt; a.served(number), b.served(number));
         assert_eq!(rt; a.issued(number), b.issued(number));
-        assert_eq!(rt; a.stop(number), b.stop(number));
+        assert_eq!(rt; cause(a.stop(number)), cause(b.stop(number)));
     }
+}
+
+/// Which processing element stopped, and why.
+fn cause(stop: Option<Stop>) -> Option<(Pe, MachineFault)> {
+    let stop = stop?;
+    Some((stop.pe, stop.fault))
 }
 
 /// In cycle 9 every processing element gets its own value, and cell 0 holds the sum.
