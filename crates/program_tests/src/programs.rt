@@ -354,7 +354,7 @@ fn check_usage_fault<R: Host>(rt: &R, words: &[&str], told: &str) -> Result<(), 
 
 #[test]
 fn wrong_words_are_usage_faults(rt: HostRuntime) -> Result<(), Fail> {
-    let rows: [&[&str]; 9] = [
+    let rows: [&[&str]; 8] = [
         &[],
         &["ultra"],
         &["ultra", "walk", "c.toml", "p.s"],
@@ -363,15 +363,6 @@ fn wrong_words_are_usage_faults(rt: HostRuntime) -> Result<(), Fail> {
         &["ultra", "order", "c.toml"],
         &["ultra", "explain", "c.toml", "p.s"],
         &["ultra", "list"],
-        &[
-            "ultra",
-            "sweep",
-            "jobs.toml",
-            "--workers",
-            "2",
-            "--at-once",
-            "1",
-        ],
     ];
     for words in rows {
         check_usage_fault(&rt, words, "Usage: ultra")?;
@@ -408,7 +399,7 @@ fn help_goes_to_standard_output(rt: HostRuntime) -> Result<(), Fail> {
     let ended = call(&rt, &["ultra", "--help"], &[]);
     let text = ended.out.text()?;
     assert!(rt; text.contains("Usage: ultra"), "{text}");
-    for command in ["run", "order", "list"] {
+    for command in ["run", "order", "list", "sweep"] {
         let line = format!(in rt.alloc(); "\n  {command} ")?;
         assert!(rt; text.contains(line.as_str()), "{text}");
     }
