@@ -27,7 +27,6 @@ fn start<R: AllocGlobal + Env + Files + Threads + Wait + Sync, O: Sink, E: Sink>
     ensures nothing { IfOk result (λ s. IsRefusal s → O.taken out.new ≡ O.taken out.old) }
     ensures counted { IfOk result
         (λ s. O.failures out.new ≡ O.failures out.old + status_failures s) }
-    ensures silent { IfOk result (λ s. s ≡ 0 → E.taken err.new ≡ E.taken err.old) }
     ensures no_words { OnErr result (O.taken out.new ≡ O.taken out.old) }
     ensures no_word_of_it { OnErr result (E.taken err.new ≡ E.taken err.old) }
 {
