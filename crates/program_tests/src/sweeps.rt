@@ -162,7 +162,12 @@ fn files_of_a_sweep_are_read_in_order(rt: HostRuntime) -> Result<(), Fail> {
         "--workers=1",
         "--at-once=1",
     ];
-    check_sweep(&rt, &words, "", (3, "", "ultra: cannot read no-such-file\n"))
+    check_sweep(
+        &rt,
+        &words,
+        "",
+        (3, "", "ultra: cannot read no-such-file\n"),
+    )
 }
 
 /// Both options are required, and are from 1 to 64.
@@ -170,9 +175,18 @@ fn files_of_a_sweep_are_read_in_order(rt: HostRuntime) -> Result<(), Fail> {
 fn wrong_words_of_a_sweep_are_usage_faults(rt: HostRuntime) -> Result<(), Fail> {
     let rows: [(&[&str], &str); 6] = [
         (&["ultra", "sweep", "jobs.toml"], "--workers <H>"),
-        (&["ultra", "sweep", "jobs.toml", "--workers", "1"], "--at-once <B>"),
-        (&["ultra", "sweep", "jobs.toml", "--at-once", "1"], "--workers <H>"),
-        (&["ultra", "sweep", "--workers", "1", "--at-once", "1"], "<JOBS>"),
+        (
+            &["ultra", "sweep", "jobs.toml", "--workers", "1"],
+            "--at-once <B>",
+        ),
+        (
+            &["ultra", "sweep", "jobs.toml", "--at-once", "1"],
+            "--workers <H>",
+        ),
+        (
+            &["ultra", "sweep", "--workers", "1", "--at-once", "1"],
+            "<JOBS>",
+        ),
         (&words_of("65", "1"), "'--workers <H>'"),
         (&words_of("1", "0"), "'--at-once <B>'"),
     ];
@@ -197,7 +211,10 @@ fn a_prefix_of_a_report_is_written(rt: HostRuntime) -> Result<(), Fail> {
             sound_writes,
         };
         let ended = sweep(&rt, &words_of("2", "1"), TWO_JOBS, out)?;
-        assert!(rt; report.as_str().starts_with(ended.out.text()?), "{sound_writes}");
+        assert!(rt;
+            report.as_str().starts_with(ended.out.text()?),
+            "{sound_writes}"
+        );
         assert_eq!(rt; ended.err.text()?, "ultra: write failed\n");
         assert_eq!(rt; ended.status, 5);
     }

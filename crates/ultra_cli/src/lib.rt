@@ -96,7 +96,10 @@ fn carry_out<'w, R: AllocGlobal + Threads + Wait + Sync, F: Source, O: Sink, E: 
             ended(done, err)
         }
         Command::Order { settings, program } => {
-            ended(order_command::order(alloc, settings, program, source, out), err)
+            ended(
+                order_command::order(alloc, settings, program, source, out),
+                err,
+            )
         }
         Command::Explain {
             settings,
