@@ -68,6 +68,8 @@ pub fn sweep<R: Threads + Wait + Sync, F: Source, O: Sink, E: Sink>(
         (stream (E.taken err.old) (E.failures err.old)) shown f
         × Told f shown (stream (E.taken err.new) (E.failures err.new)) }
     ensures still { result ≡ 0 → O.failures out.new ≡ O.failures out.old }
+    ensures counted { result ≢ 0 → (f : Failure) × (status_of f ≡ result)
+        × (O.failures out.new ≡ O.failures out.old + write_failures f) }
 {
     let list = match list_jobs(alloc, jobs_path, source) {
         Ok(list) => list,

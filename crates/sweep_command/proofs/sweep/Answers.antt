@@ -1,8 +1,9 @@
 -- how a sweep that fails is reported
-use Rattle.std.proofs.Common.{refl, sym}
+use Rattle.std.proofs.Common.{◌+◌, ap, arith, refl, sym}
 use Rattle.ultra_jobs.specs.JobsText.{all_paths}
 use Rattle.sweep_command.specs.Shown.{stream}
 use Rattle.sweep_command.specs.Sweep.{unlisted, listed}
+use Rattle.sweep_command.proofs.Counted.{unlisted_none}
 use Rattle.sweep_command.proofs.sweep.Goals as goal
 
 pub returns-in-Err-clause-failed : goal.returns-in-Err-clause-failed
@@ -25,3 +26,12 @@ returns-clause-failed g c ne =
       listed gave.text (all_paths c.in-Ok.list.items) gave.given (rw gave.files at (rw c.as_slice.ensures.value at c.in-Err-sweep_jobs.ensures.err)),
       record { begun = told.told; whole = told.whole },
     )
+
+pub returns-in-Err-clause-counted : goal.returns-in-Err-clause-counted
+returns-in-Err-clause-counted g c ne =
+    let none = unlisted_none _ _ _ _ c.in-Err.ensures.err in
+    (c.in-Err.failure, sym c.give_up.ensures.status, omega (arith, none))
+
+pub returns-clause-counted : goal.returns-clause-counted
+returns-clause-counted g c ne =
+    (c.in-Err-sweep_jobs.failure, sym c.give_up-in-Err-sweep_jobs.ensures.status, c.in-Err-sweep_jobs.ensures.write_counted)
