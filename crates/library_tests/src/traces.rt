@@ -197,7 +197,7 @@ fn sink_fails_at_each_write(rt: HostRuntime) -> Result<(), Fail> {
     Ok(())
 }
 
-/// A run by n workers, short enough to refuse each of its allocations in turn: it ends with a fault then, and what went out is a beginning of the trace.
+/// A run by n workers, short enough to refuse each of its allocations in turn: it ends with a fault then, and what went out is a prefix of the trace.
 fn check_short_run<R: Threads + Wait + Sync + Abort + AllocGlobal>(
     rt: &R,
     workers: usize,
