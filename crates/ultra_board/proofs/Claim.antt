@@ -50,10 +50,10 @@ module _ (k : Limits) (s : State ℕ View) (h : IsKept k s) (place : ℕ) (v : V
       omega arith
 
   drawn : 0 < v.places → slice_index s.words 0 < k.limit
-      → IsKept k record { words = slice_set s.words 0 (slice_index s.words 0 + 1); homes = s.homes; views = slice_set s.views place (record v { drawn = v.drawn ++ slice_index s.words 0 ∷ [] }) }
+      → IsKept k record { words = slice_set s.words 0 (slice_index s.words 0 + 1); homes = s.homes; views = slice_set s.views place (record v { drawn = v.drawn ++ slice_index s.words 0 ∷ []; claims = v.claims + 1 }) }
   drawn some_place lt =
       let n = slice_index s.words 0 in
-      let w : View = record v { drawn = v.drawn ++ n ∷ [] } in
+      let w : View = record v { drawn = v.drawn ++ n ∷ []; claims = v.claims + 1 } in
       let mine = h.views place v e in
       let at = after_claim s.words (n + 1) h.words in
       record {
@@ -70,6 +70,7 @@ module _ (k : Limits) (s : State ℕ View) (h : IsKept k s) (place : ℕ) (v : V
             let push = length-append v.drawn (n ∷ []) in
             let before = h.drawn_count in
             rw at.0 (omega arith);
+        claims = let sum = total-set (λ (v : View). v.claims) s.views place v w e in let before = h.claims in rw at.0 (omega arith);
         claim = rw (at.0, same spent_places w refl) (omega arith);
         done = rw (at.1, same (λ (v : View). length v.finished) w refl) h.done;
         passes = rw (at.2, same (λ (v : View). v.held + v.tries) w refl) h.passes;
@@ -86,10 +87,10 @@ module _ (k : Limits) (s : State ℕ View) (h : IsKept k s) (place : ℕ) (v : V
       }
 
   spent : v.spent ≡ false → 0 < v.places → k.limit ≤ slice_index s.words 0
-      → IsKept k record { words = slice_set s.words 0 (slice_index s.words 0 + 1); homes = s.homes; views = slice_set s.views place (record v { spent = true }) }
+      → IsKept k record { words = slice_set s.words 0 (slice_index s.words 0 + 1); homes = s.homes; views = slice_set s.views place (record v { spent = true; claims = v.claims + 1 }) }
   spent unspent some_place le =
       let n = slice_index s.words 0 in
-      let w : View = record v { spent = true } in
+      let w : View = record v { spent = true; claims = v.claims + 1 } in
       let mine = h.views place v e in
       let at = after_claim s.words (n + 1) h.words in
       record {
@@ -102,6 +103,7 @@ module _ (k : Limits) (s : State ℕ View) (h : IsKept k s) (place : ℕ) (v : V
             let before' = rw this at before in
             rw (at.0, same (λ (v : View). times i v.drawn) w refl, next) before';
         drawn_count = let before = h.drawn_count in rw (at.0, same (λ (v : View). length v.drawn) w refl) (omega arith);
+        claims = let sum = total-set (λ (v : View). v.claims) s.views place v w e in let before = h.claims in rw at.0 (omega arith);
         claim =
             let sum = total-set spent_places s.views place v w e in
             let none : spent_places v ≡ 0 = rw unspent refl in
@@ -134,6 +136,6 @@ module _ (k : Limits) (s : State ℕ View) (h : IsKept k s) (place : ℕ) (v : V
       let no_wrap : (n + 1) % 2 ^ 64 ≡ n + 1 = omega arith in
       let limit = ((h.views place v e).limits some_place).0 in
       elim (dec_le k.limit n) [
-        | yes le ↦ (record v { spent = true }, rw no_wrap (spent unspent some_place le), record { drawn = λ lt. absurd (omega arith); fresh = λ lt. absurd (omega arith); unfinished = λ lt. absurd (omega arith); spent = λ q. refl })
-        | no ne ↦ let lt : n < k.limit = omega arith in (record v { drawn = v.drawn ++ n ∷ [] }, rw no_wrap (drawn some_place lt), record { drawn = λ q. refl; fresh = λ q. not_contained-times n v.drawn (fresh lt); unfinished = λ q. not_contained-times n v.finished (let none = fresh lt in let le = (h.views place v e).finished n in omega arith); spent = λ q. absurd (omega arith) })
+        | yes le ↦ (record v { spent = true; claims = v.claims + 1 }, rw no_wrap (spent unspent some_place le), record { drawn = λ lt. absurd (omega arith); fresh = λ lt. absurd (omega arith); unfinished = λ lt. absurd (omega arith); spent = λ q. refl })
+        | no ne ↦ let lt : n < k.limit = omega arith in (record v { drawn = v.drawn ++ n ∷ []; claims = v.claims + 1 }, rw no_wrap (drawn some_place lt), record { drawn = λ q. refl; fresh = λ q. not_contained-times n v.drawn (fresh lt); unfinished = λ q. not_contained-times n v.finished (let none = fresh lt in let le = (h.views place v e).finished n in omega arith); spent = λ q. absurd (omega arith) })
       ]

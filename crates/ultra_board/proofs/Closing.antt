@@ -20,7 +20,7 @@ module _ (k : Limits) (s : State ℕ View) (h : IsKept k s) (place : ℕ) (v : V
   none_drawn f none other u q empty = ap f ((h.views other u q).no_seat empty).0 ∙ none
 
   none_held : (other : ℕ) (u : View) → get_elem? s.views other ≡ some u → u.places ≡ 0 → u.held + u.tries ≡ 0
-  none_held other u q empty = let its = h.views other u q in let one = its.one_try in let held = (its.no_seat empty).1 in omega arith
+  none_held other u q empty = let its = h.views other u q in let one = its.one_try in let held = (its.no_seat empty).2 in omega arith
 
   pub total_of_all : IsTotal v (slice_index s.words 0) (slice_index s.words 1) (slice_index s.words 2)
   total_of_all =
@@ -30,11 +30,12 @@ module _ (k : Limits) (s : State ℕ View) (h : IsKept k s) (place : ℕ) (v : V
       let drawn_count = sole (λ (v : View). length v.drawn) (none_drawn (λ (xs : List ℕ). length xs) refl) in
       let finished = sole (λ (v : View). length v.finished) (λ other u q empty. let its = h.views other u q in length-within_none u.finished u.drawn (its.no_seat empty).0 its.finished) in
       let passes = sole (λ (v : View). v.held + v.tries) none_held in
-      let held = sole (λ (v : View). v.held) (λ other u q empty. ((h.views other u q).no_seat empty).1) in
+      let held = sole (λ (v : View). v.held) (λ other u q empty. ((h.views other u q).no_seat empty).2) in
       let spent = sole spent_places (λ other u q empty. let le = spent_places-le u in omega arith) in
       let count = h.drawn_count in
       let count' : min (slice_index s.words 0) k.limit ≡ length v.drawn = omega arith in
       record {
+        asked = h.claims ∙ sole (λ (v : View). v.claims) (λ other u q empty. ((h.views other u q).no_seat empty).1);
         claimed = omega arith;
         spent = λ q. let past = mine.spent q in omega arith;
         most_claimed = let most = h.claim in omega arith;

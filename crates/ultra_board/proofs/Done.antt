@@ -40,6 +40,7 @@ module _ (k : Limits) (s : State ℕ View) (h : IsKept k s) (place : ℕ) (v : V
           words = h.words;
           drawn = λ i. rw (same (λ (v : View). times i v.drawn) w refl) (h.drawn i);
           drawn_count = rw (same (λ (v : View). length v.drawn) w refl) h.drawn_count;
+          claims = rw (same (λ (v : View). v.claims) w refl) h.claims;
           claim = rw (same spent_places w refl) h.claim;
           done = rw (same (λ (v : View). length v.finished) w refl) h.done;
           passes = rw (same (λ (v : View). v.held + v.tries) w refl) h.passes;
@@ -77,6 +78,7 @@ module _ (k : Limits) (s : State ℕ View) (h : IsKept k s) (place : ℕ) (v : V
         words = at.3;
         drawn = λ j. rw (at.0, same (λ (v : View). times j v.drawn) w refl) (h.drawn j);
         drawn_count = rw (at.0, same (λ (v : View). length v.drawn) w refl) h.drawn_count;
+        claims = rw (at.0, same (λ (v : View). v.claims) w refl) h.claims;
         claim = rw (at.0, same spent_places w refl) h.claim;
         done =
             let sum = total-set (λ (v : View). length v.finished) s.views place v w e in

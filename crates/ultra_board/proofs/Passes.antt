@@ -32,10 +32,10 @@ module _ (k : Limits) (s : State ℕ View) (h : IsKept k s) (place : ℕ) (v : V
       omega arith
 
   -- passes becomes n, and of the view the passes held, the tries, and what is counted
-  passes_become : (n held tries full adds : ℕ) → n + (v.held + v.tries) ≡ slice_index s.words 2 + (held + tries) → tries ≤ 1 → total (λ (v : View). v.held) s.views + held ≤ k.bound + v.held
-      → IsKept k record { words = slice_set s.words 2 n; homes = s.homes; views = slice_set s.views place (record v { held = held; tries = tries; full = full; adds = adds }) }
-  passes_become n held tries full adds balance one within =
-      let w : View = record v { held = held; tries = tries; full = full; adds = adds } in
+  passes_become : (n held tries full loads adds : ℕ) → n + (v.held + v.tries) ≡ slice_index s.words 2 + (held + tries) → tries ≤ 1 → total (λ (v : View). v.held) s.views + held ≤ k.bound + v.held
+      → IsKept k record { words = slice_set s.words 2 n; homes = s.homes; views = slice_set s.views place (record v { held = held; tries = tries; full = full; loads = loads; adds = adds }) }
+  passes_become n held tries full loads adds balance one within =
+      let w : View = record v { held = held; tries = tries; full = full; loads = loads; adds = adds } in
       let at = after_passes s.words n h.words in
       let mine = h.views place v e in
       record {
@@ -43,6 +43,7 @@ module _ (k : Limits) (s : State ℕ View) (h : IsKept k s) (place : ℕ) (v : V
         words = at.3;
         drawn = λ i. rw (at.0, same (λ (v : View). times i v.drawn) w refl) (h.drawn i);
         drawn_count = rw (at.0, same (λ (v : View). length v.drawn) w refl) h.drawn_count;
+        claims = rw (at.0, same (λ (v : View). v.claims) w refl) h.claims;
         claim = rw (at.0, same spent_places w refl) h.claim;
         done = rw (at.1, same (λ (v : View). length v.finished) w refl) h.done;
         passes = let sum = total-set (λ (v : View). v.held + v.tries) s.views place v w e in let before = h.passes in rw at.2 (omega arith);
@@ -66,8 +67,8 @@ module _ (k : Limits) (s : State ℕ View) (h : IsKept k s) (place : ℕ) (v : V
       let n = slice_index s.words 2 in
       let within = h.bounded in
       elim (dec_le v.bound n) [
-        | yes le ↦ (record v { full = v.full + 1 }, passes_become n v.held v.tries (v.full + 1) v.adds refl (omega arith) (omega arith), record { free = λ lt. absurd (omega arith); full = λ q. refl })
-        | no ne ↦ (v, passes_become n v.held v.tries v.full v.adds refl (omega arith) (omega arith), record { free = λ q. refl; full = λ q. absurd (omega arith) })
+        | yes le ↦ (record v { full = v.full + 1; loads = v.loads + 1 }, passes_become n v.held v.tries (v.full + 1) (v.loads + 1) v.adds refl (omega arith) (omega arith), record { free = λ lt. absurd (omega arith); full = λ q. refl })
+        | no ne ↦ (record v { loads = v.loads + 1 }, passes_become n v.held v.tries v.full (v.loads + 1) v.adds refl (omega arith) (omega arith), record { free = λ q. refl; full = λ q. absurd (omega arith) })
       ]
 
   -- where the word is below the bound, fewer passes are held than the bound allows
@@ -83,8 +84,8 @@ module _ (k : Limits) (s : State ℕ View) (h : IsKept k s) (place : ℕ) (v : V
       let held_le = total-le (λ (v : View). v.held) (λ (v : View). v.held + v.tries) s.views (λ v. omega arith) in
       let bound = same_bound in
       elim (dec_le v.bound n) [
-        | yes le ↦ (record v { tries = v.tries + 1; full = v.full + 1; adds = v.adds + 1 }, rw no_wrap (passes_become (n + 1) v.held (v.tries + 1) (v.full + 1) (v.adds + 1) (omega arith) (omega arith) (omega arith)), record { free = λ lt. absurd (omega arith); full = λ q. refl })
-        | no ne ↦ (record v { held = v.held + 1; adds = v.adds + 1 }, rw no_wrap (passes_become (n + 1) (v.held + 1) v.tries v.full (v.adds + 1) (omega arith) (omega arith) (omega arith)), record { free = λ q. refl; full = λ q. absurd (omega arith) })
+        | yes le ↦ (record v { tries = v.tries + 1; full = v.full + 1; adds = v.adds + 1 }, rw no_wrap (passes_become (n + 1) v.held (v.tries + 1) (v.full + 1) v.loads (v.adds + 1) (omega arith) (omega arith) (omega arith)), record { free = λ lt. absurd (omega arith); full = λ q. refl })
+        | no ne ↦ (record v { held = v.held + 1; adds = v.adds + 1 }, rw no_wrap (passes_become (n + 1) (v.held + 1) v.tries v.full v.loads (v.adds + 1) (omega arith) (omega arith) (omega arith)), record { free = λ q. refl; full = λ q. absurd (omega arith) })
       ]
 
   -- the word after a subtraction, which doesn't wrap where the seat holds a pass or has a try under way
@@ -104,7 +105,7 @@ module _ (k : Limits) (s : State ℕ View) (h : IsKept k s) (place : ℕ) (v : V
       let all = h.passes in
       let within = h.bounded in
       let less = one_less (omega arith) in
-      (record v { tries = v.tries - 1 }, rw less (passes_become (n - 1) v.held (v.tries - 1) v.full v.adds (omega arith) (omega arith) (omega arith)), record { undone = λ q. refl; left = λ q. absurd (omega arith) })
+      (record v { tries = v.tries - 1 }, rw less (passes_become (n - 1) v.held (v.tries - 1) v.full v.loads v.adds (omega arith) (omega arith) (omega arith)), record { undone = λ q. refl; left = λ q. absurd (omega arith) })
 
   gives_back : v.tries ≡ 0 → 0 < v.held → (w : View) × IsKept k record { words = slice_set s.words 2 ((slice_index s.words 2 + (2 ^ 64 - 1)) % 2 ^ 64); homes = s.homes; views = slice_set s.views place w } × SubtractsFromPasses v w
   gives_back no_try some_pass =
@@ -113,7 +114,7 @@ module _ (k : Limits) (s : State ℕ View) (h : IsKept k s) (place : ℕ) (v : V
       let all = h.passes in
       let within = h.bounded in
       let less = one_less (omega arith) in
-      (record v { held = v.held - 1 }, rw less (passes_become (n - 1) (v.held - 1) v.tries v.full v.adds (omega arith) (omega arith) (omega arith)), record { undone = λ q. absurd (omega arith); left = λ q. refl })
+      (record v { held = v.held - 1 }, rw less (passes_become (n - 1) (v.held - 1) v.tries v.full v.loads v.adds (omega arith) (omega arith) (omega arith)), record { undone = λ q. absurd (omega arith); left = λ q. refl })
 
   pub subtracts_from_passes : 0 < v.held + v.tries → v.tries ≤ 1 → (w : View) × IsKept k record { words = slice_set s.words 2 ((slice_index s.words 2 + (2 ^ 64 - 1)) % 2 ^ 64); homes = s.homes; views = slice_set s.views place w } × SubtractsFromPasses v w
   subtracts_from_passes some_pass one_try = elim (dec_le 1 v.tries) [ yes le ↦ undoes_try (omega arith) | no ne ↦ gives_back (omega arith) (omega arith) ]

@@ -56,6 +56,7 @@ module _ (k : Limits) (s : State ℕ View) (h : IsKept k s) (place : ℕ) (v : V
         words = h.words;
         drawn = λ i. let t = total_after (λ (v : View). times i v.drawn) in let before = h.drawn i in omega arith;
         drawn_count = let t = total_after (λ (v : View). length v.drawn) in let before = h.drawn_count in omega arith;
+        claims = let t = total_after (λ (v : View). v.claims) in let before = h.claims in omega arith;
         claim = let t = total_after spent_places in let parts = split_spent v.spent v.places two in let before = h.claim in omega arith;
         done = let t = total_after (λ (v : View). length v.finished) in let before = h.done in omega arith;
         passes = let t = total_after (λ (v : View). v.held + v.tries) in let before = h.passes in omega arith;
@@ -96,7 +97,7 @@ module _ (k : Limits) (s : State ℕ View) (h : IsKept k s) (place other : ℕ) 
     spent = λ q. cc;
     one_try = omega arith;
     limits = λ q. absurd (omega arith);
-    no_seat = λ q. (refl, refl);
+    no_seat = λ q. (refl, refl, refl);
   }
 
   both_sound : IsSoundView k (slice_index s.words 0) (slice_index s.words 1) (joined_view v u)
@@ -122,6 +123,7 @@ module _ (k : Limits) (s : State ℕ View) (h : IsKept k s) (place other : ℕ) 
         words = h.words;
         drawn = λ i. let t = total_joined (λ (v : View). times i v.drawn) refl in let both = times-append i v.drawn u.drawn in let before = h.drawn i in omega arith;
         drawn_count = let t = total_joined (λ (v : View). length v.drawn) refl in let both = length-append v.drawn u.drawn in let before = h.drawn_count in omega arith;
+        claims = let t = total_joined (λ (v : View). v.claims) refl in let before = h.claims in omega arith;
         claim = let t = total_joined spent_places refl in let both = both_spent v.spent u.spent v.places u.places in let before = h.claim in omega arith;
         done = let t = total_joined (λ (v : View). length v.finished) refl in let both = length-append v.finished u.finished in let before = h.done in omega arith;
         passes = let t = total_joined (λ (v : View). v.held + v.tries) refl in let before = h.passes in omega arith;

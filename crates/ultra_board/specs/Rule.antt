@@ -29,7 +29,7 @@ pub record IsSoundView (k : Limits) (claim done : ℕ) (v : View) : Type 0 where
   -- every seat holds the limit and the bound
   pub limits : 0 < v.places → (v.limit ≡ k.limit) × (v.bound ≡ k.bound)
   -- a view without places is no seat
-  pub no_seat : v.places ≡ 0 → (v.drawn ≡ []) × (v.held ≡ 0)
+  pub no_seat : v.places ≡ 0 → (v.drawn ≡ []) × (v.claims ≡ 0) × (v.held ≡ 0)
 
 -- the rule: of the three words, and over all views
 pub record IsKept (k : Limits) (s : State ℕ View) : Type 0 where
@@ -39,7 +39,9 @@ pub record IsKept (k : Limits) (s : State ℕ View) : Type 0 where
   pub drawn : (i : ℕ) → total (λ (v : View). times i v.drawn) s.views ≡ times_below i (min (slice_index s.words CLAIM) k.limit)
   -- n numbers are drawn
   pub drawn_count : total (λ (v : View). length v.drawn) s.views ≡ min (slice_index s.words CLAIM) k.limit
-  -- claim is past the limit by at most the places of spent seats
+  -- claim is the count of the adds to it
+  pub claims : slice_index s.words CLAIM ≡ total (λ (v : View). v.claims) s.views
+  -- it is past the limit by at most the places of spent seats
   pub claim : slice_index s.words CLAIM ≤ k.limit + total spent_places s.views
   -- done is the count of the numbers finished
   pub done : slice_index s.words DONE ≡ total (λ (v : View). length v.finished) s.views

@@ -30,6 +30,7 @@ pub record IsSeat (limit bound places : ℕ) (spent : Bool) (me : Me ℕ View) :
 
 -- what the words claim, done and passes are where the view v has all places
 pub record IsTotal (v : View) (claim done passes : ℕ) : Type 0 where
+  pub asked : claim ≡ v.claims
   pub claimed : min claim v.limit ≡ length v.drawn
   pub spent : v.spent ≡ true → v.limit ≤ claim
   pub most_claimed : claim ≤ v.limit + spent_places v

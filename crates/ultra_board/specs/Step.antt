@@ -9,12 +9,12 @@ use Rattle.ultra_board.specs.View.{times}
 abbrev pub Tells : (View → ℕ → View → Type 0) → Me ℕ View → ℕ → Me ℕ View → Type 0
 Tells fact m n w = fact m.0 n w.0 × (w.1 ≡ m.1)
 
--- add to claim: an old value below the limit is drawn, which wasn't drawn or finished before; else the seat is spent
+-- add to claim, which is counted: an old value below the limit is drawn, which wasn't drawn or finished before; else the seat is spent
 pub record AddsToClaim (v : View) (n : ℕ) (w : View) : Type 0 where
-  pub drawn : n < v.limit → w ≡ record v { drawn = v.drawn ++ n ∷ [] }
+  pub drawn : n < v.limit → w ≡ record v { drawn = v.drawn ++ n ∷ []; claims = v.claims + 1 }
   pub fresh : n < v.limit → ¬ Contains v.drawn n
   pub unfinished : n < v.limit → ¬ Contains v.finished n
-  pub spent : v.limit ≤ n → w ≡ record v { spent = true }
+  pub spent : v.limit ≤ n → w ≡ record v { spent = true; claims = v.claims + 1 }
 
 -- add to done: the number i is finished, and the new value is seen
 pub record AddsToDone (i : ℕ) (v : View) (n : ℕ) (w : View) : Type 0 where
@@ -28,12 +28,12 @@ pub record LoadsDone (v : View) (n : ℕ) (w : View) : Type 0 where
   pub later : v.seen ≤ n
   pub own : length v.finished ≤ n
 
--- load of passes: a value at or above the bound is counted
+-- load of passes, which is counted, and so is a value at or above the bound
 pub record LoadsPasses (v : View) (n : ℕ) (w : View) : Type 0 where
-  pub free : n < v.bound → w ≡ v
-  pub full : v.bound ≤ n → w ≡ record v { full = v.full + 1 }
+  pub free : n < v.bound → w ≡ record v { loads = v.loads + 1 }
+  pub full : v.bound ≤ n → w ≡ record v { full = v.full + 1; loads = v.loads + 1 }
 
--- add to passes: an old value below the bound is a pass; else a try is under way, and the value is counted
+-- add to passes, which is counted: an old value below the bound is a pass; else a try is under way, and the value is counted
 pub record AddsToPasses (v : View) (n : ℕ) (w : View) : Type 0 where
   pub free : n < v.bound → w ≡ record v { held = v.held + 1; adds = v.adds + 1 }
   pub full : v.bound ≤ n → w ≡ record v { tries = v.tries + 1; full = v.full + 1; adds = v.adds + 1 }

@@ -5,20 +5,22 @@ use Rattle.ultra_board.specs.declared.rule.Limits.{Limits}
 
 -- the first seat of a board: it has all places and nothing else
 abbrev pub first_view : Limits → View
-first_view k = record { drawn = []; finished = []; seen = 0; reads = 0; full = 0; adds = 0; spent = false; held = 0; tries = 0; limit = k.limit; bound = k.bound; places = k.seats }
+first_view k = record { drawn = []; claims = 0; finished = []; seen = 0; reads = 0; full = 0; loads = 0; adds = 0; spent = false; held = 0; tries = 0; limit = k.limit; bound = k.bound; places = k.seats }
 
 -- the second seat of a split: one place and nothing else, spent if the first was
 abbrev pub second_view : View → View
-second_view v = record { drawn = []; finished = []; seen = 0; reads = 0; full = 0; adds = 0; spent = v.spent; held = 0; tries = 0; limit = v.limit; bound = v.bound; places = 1 }
+second_view v = record { drawn = []; claims = 0; finished = []; seen = 0; reads = 0; full = 0; loads = 0; adds = 0; spent = v.spent; held = 0; tries = 0; limit = v.limit; bound = v.bound; places = 1 }
 
 -- two seats as one
 abbrev pub joined_view : View → View → View
 joined_view v u = record {
   drawn = v.drawn ++ u.drawn;
+  claims = v.claims + u.claims;
   finished = v.finished ++ u.finished;
   seen = max v.seen u.seen;
   reads = v.reads + u.reads;
   full = v.full + u.full;
+  loads = v.loads + u.loads;
   adds = v.adds + u.adds;
   spent = v.spent || u.spent;
   held = v.held + u.held;
@@ -30,7 +32,7 @@ joined_view v u = record {
 
 -- what is left behind of the second seat of a join, which is no seat: it has no numbers, passes or places
 abbrev pub no_view : View
-no_view = record { drawn = []; finished = []; seen = 0; reads = 0; full = 0; adds = 0; spent = false; held = 0; tries = 0; limit = 0; bound = 0; places = 0 }
+no_view = record { drawn = []; claims = 0; finished = []; seen = 0; reads = 0; full = 0; loads = 0; adds = 0; spent = false; held = 0; tries = 0; limit = 0; bound = 0; places = 0 }
 
 abbrev pub one_if : Bool → ℕ
 one_if true = 1

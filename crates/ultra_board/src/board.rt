@@ -157,13 +157,15 @@ impl Board {
     /// Draws the next number, which no seat of this board has drawn before. `None` says that no number was left, and from then on this seat is spent: it answers `None` without a step.
     pub fn draw(&self, seat: &mut Seat) -> Option<u64>
         requires { seat.old.board ≡ self.now.id }
-        ensures number { IfSome result (λ i. seat.new ≡ record seat.old { view = record seat.old.view { drawn = seat.old.view.drawn ++ i ∷ [] } }) }
+        ensures number { IfSome result (λ i. seat.new ≡ record seat.old { view = record seat.old.view { drawn = seat.old.view.drawn ++ i ∷ []; claims = seat.old.view.claims + 1 } }) }
         ensures below { IfSome result (λ i. i < seat.old.view.limit) }
         ensures fresh { IfSome result (λ i. ¬ Contains seat.old.view.drawn i) }
         ensures drawn { IfSome result (λ i. Contains seat.new.view.drawn i) }
         ensures unfinished { IfSome result (λ i. ¬ Contains seat.new.view.finished i) }
         ensures unspent { OnSome result (seat.old.view.spent ≡ false) }
-        ensures none { IfNone result (seat.new ≡ record seat.old { view = record seat.old.view { spent = true } }) }
+        ensures none { IfNone result (seat.new ≡ record seat.old { view = record seat.old.view { spent = true; claims = seat.new.view.claims } }) }
+        ensures asked { IfNone result (seat.old.view.spent ≡ false → seat.new.view.claims ≡ seat.old.view.claims + 1) }
+        ensures no_step { seat.old.view.spent ≡ true → seat.new ≡ seat.old }
     {
         if seat.spent {
             return None;
@@ -201,12 +203,12 @@ impl Board {
 
     /// Tries to take a pass, by a test, an increment and a retest, and says whether it did. The seat holds none yet.
     ///
-    /// It adds to the passes at most once. Where it takes none, it has found the passes at or above the bound, and nothing that it did is left.
+    /// It loads the passes once and adds to them at most once. Where it takes none, it has found the passes at or above the bound, and nothing that it did is left.
     pub fn try_enter(&self, seat: &mut Seat) -> bool
         requires board { seat.old.board ≡ self.now.id }
         requires no_pass { seat.old.view.held ≡ 0 }
-        ensures entered { OnTrue result (seat.new ≡ record seat.old { view = record seat.old.view { held = seat.old.view.held + 1; adds = seat.old.view.adds + 1 } }) }
-        ensures refused { OnFalse result (seat.new ≡ record seat.old { view = record seat.old.view { full = seat.old.view.full + 1; adds = seat.new.view.adds } }) }
+        ensures entered { OnTrue result (seat.new ≡ record seat.old { view = record seat.old.view { held = seat.old.view.held + 1; loads = seat.old.view.loads + 1; adds = seat.old.view.adds + 1 } }) }
+        ensures refused { OnFalse result (seat.new ≡ record seat.old { view = record seat.old.view { full = seat.old.view.full + 1; loads = seat.old.view.loads + 1; adds = seat.new.view.adds } }) }
         ensures one_add { seat.new.view.adds ≤ seat.old.view.adds + 1 }
     {
         if self.words.load_passes(&mut seat.token) >= seat.bound {
@@ -232,6 +234,7 @@ impl Board {
     pub fn close(self, seat: Seat) -> Totals
         requires board { seat.board ≡ self.id }
         requires all { seat.view.places ≡ self.limits.seats }
+        ensures asked { result.claimed ≡ seat.view.claims }
         ensures claimed { min result.claimed seat.view.limit ≡ length seat.view.drawn }
         ensures spent { seat.view.spent ≡ true → seat.view.limit ≤ result.claimed }
         ensures most_claimed { result.claimed ≤ seat.view.limit + spent_places seat.view }

@@ -23,6 +23,8 @@ pub struct Limits {
 pub struct View {
     /// The numbers drawn, in their order.
     pub drawn: LinkedList<u64>,
+    /// How often one was added to claim.
+    pub claims: u64,
     /// The numbers finished, in their order.
     pub finished: LinkedList<u64>,
     /// The last count of all numbers finished that was found.
@@ -31,6 +33,8 @@ pub struct View {
     pub reads: u64,
     /// How often the passes were found at or above the bound.
     pub full: u64,
+    /// How often the passes were loaded.
+    pub loads: u64,
     /// How often one was added to the passes.
     pub adds: u64,
     /// Whether no number was left.

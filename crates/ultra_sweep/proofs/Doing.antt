@@ -1,5 +1,5 @@
 -- jobs that are done one after the other
-use Rattle.std.proofs.Common.{◌≡◌, ℕ, ◌<◌, ◌≤◌, List, [], ◌∷◌, ◌++◌, length, refl, sym, ap, subst, ◌∙◌, append_assoc, get_or, arith}
+use Rattle.std.proofs.Common.{◌≡◌, ℕ, ◌+◌, ◌<◌, ◌≤◌, List, [], ◌∷◌, ◌++◌, length, refl, sym, ap, subst, ◌∙◌, append_assoc, get_or, arith}
 use Rattle.std.specs.Prelude.{Some, IfSome, slice_get, Contains}
 use Rattle.std.proofs.lemmas.Option.{slice_get_read}
 use Rattle.ultra_board.specs.declared.rule.View.{View}
@@ -11,7 +11,7 @@ use Rattle.ultra_sweep.specs.Work.{HasDone, HasDoneAll}
 use Rattle.ultra_sweep.proofs.Numbers.{room, not_in_second}
 
 -- a number more was drawn, and then finished
-pub done_more : (ns : List ℕ) (i : ℕ) (v s u w : View) → HasDoneAll ns v s → u ≡ record s { drawn = s.drawn ++ i ∷ [] } → HasDone i u w → HasDoneAll (ns ++ i ∷ []) v w
+pub done_more : (ns : List ℕ) (i : ℕ) (v s u w : View) → HasDoneAll ns v s → u ≡ record s { drawn = s.drawn ++ i ∷ []; claims = s.claims + 1 } → HasDone i u w → HasDoneAll (ns ++ i ∷ []) v w
 done_more ns i v s u w done drew did =
     let drawn : w.drawn ≡ v.drawn ++ (ns ++ i ∷ []) =
     ap (λ (x : View). x.drawn) did ∙ (ap (λ (x : View). x.drawn) drew ∙ (ap (λ (x : View). x.drawn ++ i ∷ []) done ∙ append_assoc v.drawn ns (i ∷ []))) in

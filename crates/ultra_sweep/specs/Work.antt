@@ -6,9 +6,9 @@ use Rattle.ultra_sweep.specs.declared.job.Job.{Job}
 use Rattle.ultra_sweep.specs.declared.job.JobResult.{JobResult}
 use Rattle.ultra_sweep.specs.Job.{numbers, IsResultAmong}
 
--- a pass was taken. How often the passes were found to be full is open
+-- a pass was taken. How often the passes were loaded, found to be full and added to is open
 abbrev pub HasEntered : View → View → Type 0
-HasEntered v w = w ≡ record v { held = 1; full = w.full; adds = w.adds }
+HasEntered v w = w ≡ record v { held = 1; full = w.full; loads = w.loads; adds = w.adds }
 
 -- a number was finished
 abbrev pub HasDone : ℕ → View → View → Type 0
@@ -17,6 +17,7 @@ HasDone number v w =
       finished = v.finished ++ number ∷ [];
       seen = w.seen;
       full = w.full;
+      loads = w.loads;
       adds = w.adds;
     }
 
@@ -25,9 +26,11 @@ abbrev pub HasDoneAll : List ℕ → View → View → Type 0
 HasDoneAll ns v w =
     w ≡ record v {
       drawn = v.drawn ++ ns;
+      claims = w.claims;
       finished = v.finished ++ ns;
       seen = w.seen;
       full = w.full;
+      loads = w.loads;
       adds = w.adds;
     }
 

@@ -5,5 +5,5 @@ abbrev pub invariant-loop : goal.invariant-loop
 invariant-loop g l = record {
   can : (goal.iterator-loop g).can_next l.iterator';
   board : l.seat.board ≡ l.initial.seat.board;
-  view : l.seat.view ≡ record l.initial.seat.view { full = l.seat.view.full; adds = l.seat.view.adds };
+  view : l.seat.view ≡ record l.initial.seat.view { full = l.seat.view.full; loads = l.seat.view.loads; adds = l.seat.view.adds };
 }
