@@ -19,7 +19,7 @@ pub record SizedInterface : Type 0 where
   pub interface : Interface
   pub most_open : ℕ
 
--- what is true of every interface: no cell is open twice, at most `most_open` cells are open, and each pending request is that of an open cell
+-- what is true of every interface: at most `most_open` cells are open, which is at most 8, no more requests are pending than cells are open, and no cell is open twice
 pub record IsWithin (i : Interface) (most_open : ℕ) : Type 0 where
   pub small : most_open ≤ 8
   pub opened : length i.opened ≤ most_open
