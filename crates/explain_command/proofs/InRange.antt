@@ -4,6 +4,7 @@ use Rattle.std.specs.Prelude.{ℤ, pos, negsuc, Vec, find}
 use Rattle.std.specs.declared.alloc.Global.{Global}
 use Rattle.std.specs.List.{AllByRecursion, list_all}
 use Rattle.std.proofs.lemmas.Bool.{leb-true, ltb-true}
+use Rattle.std.proofs.lemmas.List.Elements.{All-from_recursion}
 use Rattle.ultra_model.specs.Ranges.{AreInRange}
 use Rattle.ultra_model.specs.Accepted.{number_of, is_within, is_cell, cells_of, are_different, are_initial_given, initial_of, all_cells_of, is_good, first_bad, settings_of}
 use Rattle.ultra_model.specs.declared.config.RawSettings.{RawSettings}
@@ -60,5 +61,5 @@ accepted_in_range r h =
       few_open = opened.1;
       some_cells = cells.0;
       most_cells = cells.1;
-      addresses = all_below (all_cells_of r) r.initial g.1.1.1.1.1.1.1.0;
+      addresses = All-from_recursion (λ (i : ℕ × ℕ). i.0 < all_cells_of r) (initial_of r.initial) (all_below (all_cells_of r) r.initial g.1.1.1.1.1.1.1.0);
     }

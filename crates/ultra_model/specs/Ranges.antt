@@ -1,12 +1,12 @@
 -- the ranges of the settings of a machine: this project's profile
-use Rattle.std.specs.Prelude.{ℕ, ◌*◌, ◌<◌, ◌≤◌}
-use Rattle.std.specs.List.{AllByRecursion}
+use Rattle.std.specs.Prelude.{ℕ, ◌*◌, ◌<◌, ◌≤◌, All}
+use Rattle.ultra_route.specs.declared.TheConstants.{MOST_STAGES}
 use Rattle.ultra_model.specs.Machine.{Settings, size}
 
 -- stages 1 to 6, places of a queue toward memory 2 to 32, of a queue toward the processing elements 4 to 64, of a wait buffer 0 to 16, open cells 1 to 8, cells of a module 1 to 4096; the initial cells are cells of the memory
 pub record AreInRange (c : Settings) : Type 0 where
   pub some_stages : 1 ≤ c.stages
-  pub most_stages : c.stages ≤ 6
+  pub most_stages : c.stages ≤ MOST_STAGES
   pub some_request_places : 2 ≤ c.request_places
   pub most_request_places : c.request_places ≤ 32
   pub some_reply_places : 4 ≤ c.reply_places
@@ -16,4 +16,4 @@ pub record AreInRange (c : Settings) : Type 0 where
   pub few_open : c.most_open ≤ 8
   pub some_cells : 1 ≤ c.cells
   pub most_cells : c.cells ≤ 4096
-  pub addresses : AllByRecursion (λ (i : ℕ × ℕ). i.0 < size c * c.cells) c.initial
+  pub addresses : All (λ (i : ℕ × ℕ). i.0 < size c * c.cells) c.initial

@@ -6,6 +6,7 @@ use Rattle.std.proofs.lemmas.Bool.{cases_lt}
 use Rattle.std.proofs.lemmas.Bool.Decides.{nat_tests}
 use Rattle.std.proofs.lemmas.Nat.{pow_pos, div_below, div-add-mod'}
 use Rattle.std.proofs.lemmas.List.{get_or_past, append-nil}
+use Rattle.std.proofs.lemmas.List.Elements.{recursion_from_All}
 use Rattle.ultra_msg.specs.declared.Request.{Request}
 use Rattle.ultra_msg.specs.declared.ReplyMessage.{ReplyMessage}
 use Rattle.ultra_msg.specs.declared.Event.{Event}
@@ -142,7 +143,7 @@ module _ (c : Settings) (range : AreInRange c) where
       (λ l.
       let long = length-places c.cells (λ o. given_value c.initial (o * size c + k) 0) in
       let past : size c * c.cells ≤ a = ⊎_elim (λ z. absurd (omega (arith, l, div_below a (size c) c.cells some (omega (arith, z))))) (λ z. z) (cases_lt a (size c * c.cells)) in
-      get_or_past (places c.cells (λ o. given_value c.initial (o * size c + k) 0)) (a / size c) 0 (omega (arith, long, l)) ∙ sym (given_past c.initial (size c * c.cells) a 0 past range.addresses))
+      get_or_past (places c.cells (λ o. given_value c.initial (o * size c + k) 0)) (a / size c) 0 (omega (arith, long, l)) ∙ sym (given_past c.initial (size c * c.cells) a 0 past (recursion_from_All (λ (i : ℕ × ℕ). i.0 < size c * c.cells) c.initial range.addresses)))
       (cases_lt (a / size c) c.cells)
 
   serial-start : IsSerial c 0 (start c) empty_history

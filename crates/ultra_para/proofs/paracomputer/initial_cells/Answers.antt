@@ -14,6 +14,6 @@ loop-cell-preserved c =
     let given = c.initial-cell-items.result.now in
     let k = c.loop-cell.cell-index in
     let x = get_or given k (0, 0) in
-    let addresses : All (λ (i : ℕ × ℕ). i.0 < size config * config.cells) given = rw c.initial-cell-items.ensures.value c.initial-cell-items.ensures.valid.addresses in
+    let addresses : All (λ (i : ℕ × ℕ). i.0 < size config * config.cells) given = rw c.initial-cell-items.ensures.value c.initial-cell-items.ensures.valid.range.addresses in
     let small = All-get_or (λ (i : ℕ × ℕ). i.0 < size config * config.cells) given k (0, 0) c.loop-cell-test.true addresses in
     ap (λ cells. set cells x.0 x.1) c.loop-cell.invariant ∙ (one_given_more config (take k given) x small ∙ ap (λ values. cells_given config values) (sym (take_more given k (0, 0) c.loop-cell-test.true)))
