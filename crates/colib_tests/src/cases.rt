@@ -42,8 +42,8 @@ impl Case {
     }
 }
 
-/// The least parameters of each program.
-pub(crate) const LEAST: [Case; 4] = [
+/// Each program with small parameters.
+pub(crate) const SMALL: [Case; 4] = [
     Case::Gate {
         bound: 1,
         rounds: 1,
@@ -53,7 +53,7 @@ pub(crate) const LEAST: [Case; 4] = [
         rounds: 1,
     },
     Case::ReadersWriters {
-        writers: 0,
+        writers: 1,
         rounds: 1,
     },
     Case::Barrier { rounds: 1 },

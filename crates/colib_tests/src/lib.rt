@@ -9,3 +9,5 @@ mod listings;
 mod runs;
 #[cfg(test)]
 mod trays;
+#[cfg(test)]
+mod wrong_programs;

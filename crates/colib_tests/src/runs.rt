@@ -2,7 +2,7 @@
 
 ghost use Rattle.std.specs.Prelude.{◌<◌, ◌↔◌, All, IsTrue};
 
-use crate::cases::{LEAST, OUT_OF_RANGE};
+use crate::cases::{OUT_OF_RANGE, SMALL};
 use std::alloc::Global;
 use std::test::Fail;
 use ultra_colib::{ColibFault, run_barrier};
@@ -10,7 +10,7 @@ use ultra_model::{Config, RawSettings};
 use ultra_msg::Pe;
 
 /// The default settings with one stage and these initial values.
-fn config(alloc: Global, initial: &[(i64, i64)]) -> Result<Config, Fail> {
+pub(crate) fn config(alloc: Global, initial: &[(i64, i64)]) -> Result<Config, Fail> {
     let raw = RawSettings {
         stages: Some(1),
         request_places: Some(4),
@@ -27,7 +27,7 @@ fn config(alloc: Global, initial: &[(i64, i64)]) -> Result<Config, Fail> {
 #[test]
 fn cells_are_zero_before_the_first_step(rt: HostRuntime) -> Result<(), Fail> {
     let config = config(rt.alloc(), &[])?;
-    for case in LEAST {
+    for case in SMALL {
         let para = case.start(rt.alloc(), &config)?;
         assert_eq!(rt; para.peek(0), Some(0));
     }
@@ -35,7 +35,7 @@ fn cells_are_zero_before_the_first_step(rt: HostRuntime) -> Result<(), Fail> {
 }
 
 /// Whether each number of a schedule is a processing element's.
-fn is_schedule(schedule: &[Pe], size: u32) -> bool
+pub(crate) fn is_schedule(schedule: &[Pe], size: u32) -> bool
     ensures { IsTrue result ↔ All (λ p. p < size) schedule.now }
 {
     schedule.iter().all(|&pe| pe < size)
@@ -57,7 +57,7 @@ fn one_alone_waits_at_the_barrier(rt: HostRuntime) -> Result<(), Fail> {
 #[test]
 fn initial_values_are_refused(rt: HostRuntime) -> Result<(), Fail> {
     let config = config(rt.alloc(), &[(1, 0)])?;
-    for case in LEAST {
+    for case in SMALL {
         match case.start(rt.alloc(), &config) {
             Ok(_) => return Err("accepted".into()),
             Err(fault) => assert_eq!(rt; fault, ColibFault::BadParameter),
