@@ -52,7 +52,7 @@ fn target(instruction: Instr) -> Option<u16>
 
 /// Writes the canonical text of a program: each instruction on a line of its own, and the line `Lk:` before the one at place `k`, or at the end, where some jump goes there.
 ///
-/// It takes no memory, and fails only where the sink does. After a fault the sink has taken a beginning of the text.
+/// It takes no memory, and fails only where the sink does. After a fault the sink has taken a prefix of the text.
 pub fn listing<S: Sink>(program: &Program, sink: &mut S) -> Result<(), SinkFault>
     ensures ok { OnOk result (S.taken sink.new ≡ S.taken sink.old ++ listing_text program.now) }
     ensures still { OnOk result (S.failures sink.new ≡ S.failures sink.old) }

@@ -20,7 +20,7 @@ taken_more n start bytes old now new h e p =
       taken = t ∙ rw (e, take-add start n bytes) (append_assoc old (take start bytes) (take n (drop start bytes)));
     }
 
--- what was taken of the bytes is a beginning of them
+-- what was taken of the bytes is a prefix of them
 pub taken_so_far : (start : ℕ) (bytes old now new : List ℕ) → now ≡ old ++ take start bytes → new ≡ now → IsBeginning new (old ++ bytes)
 taken_so_far start bytes old now new e h = (drop start bytes, rw (h, e) (append_assoc old (take start bytes) (drop start bytes) ∙ ap (λ xs. old ++ xs) (take-append-drop start bytes)))
 

@@ -8,7 +8,7 @@ writes_nothing old before = record { ok = sym (append-nil old); still = refl; er
 begins_more : (xs ys zs : List ℕ) → IsBeginning xs ys → IsBeginning xs (ys ++ zs)
 begins_more xs ys zs (rest, e) = (rest ++ zs, sym (append_assoc xs rest zs) ∙ ap (λ t. t ++ zs) e)
 
--- the first text was written, and then the second or a beginning of it
+-- the first text was written, and then the second or a prefix of it
 pub writes_then : {T U E : Type 0} {x : U} {a b s t u : List ℕ} {k l m : ℕ} (r : Result T E) → Writes {E = E} (Ok x) a s t k l → Writes r b t u l m → Writes r (a ++ b) s u k m
 writes_then {a = a} {b = b} {s = s} (Ok y) v w = record {
   ok = w.ok ∙ ap (λ xs. xs ++ b) v.ok ∙ append_assoc s a b;
@@ -23,7 +23,7 @@ writes_then {a = a} {b = b} {s = s} (Err y) v w = record {
   counted = w.counted ∙ ap (λ n. n + 1) v.still;
 }
 
--- only a beginning of the first text was written
+-- only a prefix of the first text was written
 pub writes_failed : {T U E : Type 0} {a s t : List ℕ} {k l : ℕ} {e : E} (b : List ℕ) (r : Result U E) → IsErr r → Writes {T = T} (Err e) a s t k l → Writes r (a ++ b) s t k l
 writes_failed b (Ok x) bad w = absurd cc
 writes_failed {a = a} {s = s} {t = t} b (Err f) bad w = record {

@@ -3,7 +3,7 @@ use Rattle.std.specs.Prelude.{◌≡◌, ◌≤◌, ◌<◌, ◌+◌, ℕ, List,
 use Rattle.std.specs.Borrow.{Bor}
 use Rattle.std.specs.List.{flat_map}
 
--- the first list is a beginning of the second
+-- the first list is a prefix of the second
 abbrev pub IsBeginning : List ℕ → List ℕ → Type 0
 IsBeginning xs ys = (rest : List ℕ) × (xs ++ rest ≡ ys)
 
@@ -17,7 +17,7 @@ pub record TakesPart (n : ℕ) (bytes old new : List ℕ) : Type 0 where
 abbrev pub in_a_row : List (Bor (List ℕ)) → List ℕ
 in_a_row pieces = flat_map (λ piece. piece.now) pieces
 
--- the bytes were written, or the sink has failed once and has taken a beginning of them
+-- the bytes were written, or the sink has failed once and has taken a prefix of them
 pub record Writes {T E : Type 0} (result : Result T E) (bytes old new : List ℕ) (before after : ℕ) : Type 0 where
   pub ok : OnOk result (new ≡ old ++ bytes)
   pub still : OnOk result (after ≡ before)

@@ -24,7 +24,7 @@ pub trait Sink {
         ensures counted { OnErr result (failures self.new ≡ failures self.old + 1) };
 }
 
-/// Writes all of the bytes, however few the sink takes at a time. After a fault the sink has taken a beginning of them.
+/// Writes all of the bytes, however few the sink takes at a time. After a fault the sink has taken a prefix of them.
 pub fn write_all<S: Sink>(sink: &mut S, bytes: &[u8]) -> Result<(), SinkFault>
     ensures ok { OnOk result (S.taken sink.new ≡ S.taken sink.old ++ bytes.now) }
     ensures still { OnOk result (S.failures sink.new ≡ S.failures sink.old) }

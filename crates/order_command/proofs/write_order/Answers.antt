@@ -15,7 +15,7 @@ module _ (old : List ℕ) (es : List Entry) where
       ∙ (flat_map_more order_line old (take k es) (get_or es k d)
       ∙ ap (λ ys. old ++ order_text ys) (sym (take_more es k d within)))
 
-  -- a beginning of the first lines is one of all lines
+  -- a prefix of the first lines is one of all lines
   of_all : (new : List ℕ) (n : ℕ) → IsBeginning new (old ++ order_text (take n es)) → IsBeginning new (old ++ order_text es)
   of_all new n (rest, e) =
       let first = order_text (take n es) in
