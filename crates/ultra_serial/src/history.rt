@@ -2,8 +2,8 @@
 
 ghost use Rattle.std.specs.Prelude.{◌≡◌, ℕ, ◌∷◌, ◌++◌, ◌≤◌, List, IfOk, OnOk};
 ghost use Rattle.ultra_model.specs.Machine.{start};
-ghost use Rattle.ultra_serial.specs.Legal.{cells_after, replayed};
-ghost use Rattle.ultra_serial.specs.SerialList.{History, empty_history, after_event, noted, history, serial_list};
+ghost use Rattle.ultra_law.specs.Legal.{cells_after, replayed};
+ghost use Rattle.ultra_law.specs.SerialList.{History, empty_history, after_event, noted, history, serial_list};
 ghost use Rattle.ultra_serial.specs.Memory.{cell_in};
 ghost use Rattle.ultra_serial.specs.Following.{Follows};
 ghost use Rattle.ultra_serial.specs.declared.history.OrderFault.TheVariants.{NoMemory};
