@@ -222,7 +222,7 @@ module _ (c : Settings) (range : AreInRange c) (program : List Instr) (n : ℕ) 
       (λ r k. subst (λ t. IsExplained (list_of c h) t r.reply) (built_leaf c m h.log.issues r.pe r.cell) k)
       (each-first (IsAnswered c m h.log.issues (list_of c h) 0) (replies_at m 0 v) (w.forest.replies 0 v (omega arith) (turns_back c range p hp).entry_small))
 
-  delivers_well : (m : Machine) (h : History) → IsSerial c n m h → AllByRecursion (DeliversWell h.log.issues (list_of c h)) (deliveries m)
+  pub delivers_well : (m : Machine) (h : History) → IsSerial c n m h → AllByRecursion (DeliversWell h.log.issues (list_of c h)) (deliveries m)
   delivers_well m h w = each_delivery (DeliversWell h.log.issues (list_of c h)) m (λ p hp. delivered_entry m h w p hp)
 
   same_cells_replied : (m : Machine) (a : ℕ) → cells_of c (reply_phase c m) a ≡ cells_of c m a

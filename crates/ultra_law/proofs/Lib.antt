@@ -30,3 +30,5 @@ pub mod Everyone
 pub mod Waves
 pub mod HotSpot
 pub mod Latest
+pub mod Replies
+pub mod Prefixes

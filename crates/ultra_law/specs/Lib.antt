@@ -5,3 +5,4 @@ pub mod SerialList
 pub mod Chain
 pub mod Explicable
 pub mod HotSpot
+pub mod Replies

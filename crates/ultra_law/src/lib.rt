@@ -8,6 +8,7 @@ mod records;
 ghost use Rattle.ultra_law.specs.Chain.{SerializationLaw};
 ghost use Rattle.ultra_law.specs.Explicable.{ExplainingLaw};
 ghost use Rattle.ultra_law.specs.HotSpot.{HotSpotLaw};
+ghost use Rattle.ultra_law.specs.Replies.{ReplyLaw};
 
 pub use records::{Answer, Entry, Issue, Leaf, Log, SerialList};
 
@@ -21,6 +22,17 @@ pub use records::{Answer, Entry, Issue, Leaf, Log, SerialList};
 /// itself does nothing.
 pub fn serialization_law()
     ensures chained { SerializationLaw }
+{}
+
+/// The replies of a run are the answers of its log, as this function's contract: for all settings in their ranges, every
+/// program and every number of cycles, the log's answers are the replies that were delivered so far, one by one and in
+/// the same order, each with its processing element, its value and its cycle. The request of each was issued in an
+/// earlier cycle, by that element, for the cell of the reply, and has the number that the answer tells.
+///
+/// So what the serialization law says of answers it says of the replies that come to the processing elements. The
+/// function itself does nothing.
+pub fn reply_law()
+    ensures answered { ReplyLaw }
 {}
 
 /// What every run's events are to the trees that an explainer keeps, as this function's contract: for all settings in
