@@ -15,5 +15,6 @@ pub use history::{OrderFault, order};
 pub use memory::SerialMemory;
 pub use recording::log;
 pub use ultra_law::{
-    Answer, Entry, Issue, Leaf, Log, SerialList, explaining_law, hot_spot_law, serialization_law,
+    Answer, Entry, Issue, Leaf, Log, SerialList, explaining_law, hot_spot_law, reply_law,
+    serialization_law,
 };
