@@ -5,8 +5,8 @@ use Rattle.std.proofs.lemmas.List.{drop_all}
 use Rattle.std.specs.Prelude.{Result, Ok, Err, OnOk, OnErr}
 use Rattle.ultra_msg.specs.Bytes.{IsBeginning}
 use Rattle.ultra_msg.specs.declared.Event.{Event}
-use Rattle.ultra_serial.specs.Tree.{Kept, trees_after}
-use Rattle.ultra_serial.specs.Explicable.{AreAbsorbable}
+use Rattle.ultra_law.specs.Tree.{Kept, trees_after}
+use Rattle.ultra_law.specs.Explicable.{AreAbsorbable}
 use Rattle.explain_command.specs.Explanation.{event_line, event_lines, trees_after_all}
 
 -- ---- prefixes

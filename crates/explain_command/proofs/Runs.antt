@@ -7,12 +7,12 @@ use Rattle.ultra_isa.specs.declared.Instr.{Instr}
 use Rattle.ultra_model.specs.Machine.{Settings, fresh_element, size, start, is_quiet}
 use Rattle.ultra_model.specs.Phases.{processor_phase, cycle, after}
 use Rattle.ultra_model.proofs.Each.{length-places}
-use Rattle.ultra_serial.specs.Tree.{Kept, trees_after}
-use Rattle.ultra_serial.specs.SerialList.{History, history}
+use Rattle.ultra_law.specs.Tree.{Kept, trees_after}
+use Rattle.ultra_law.specs.SerialList.{History, history}
 use Rattle.ultra_serial.proofs.Cycles.{history_next}
-use Rattle.ultra_serial.proofs.Mentions.{trees_noted, noted_trees}
-use Rattle.ultra_serial.specs.Explicable.{AreAbsorbable, AreExplicable}
-use Rattle.ultra_serial.proofs.Rest.{IsAtRest, rest_if_quiet, rest_cycle, nothing_happens}
+use Rattle.ultra_law.proofs.Mentions.{trees_noted, noted_trees}
+use Rattle.ultra_law.specs.Explicable.{AreAbsorbable, AreExplicable}
+use Rattle.ultra_law.proofs.Rest.{IsAtRest, rest_if_quiet, rest_cycle, nothing_happens}
 use Rattle.ultra_tree.specs.Absorb.{Explained}
 use Rattle.explain_command.specs.Explanation.{event_lines, trees_after_all, lines_of_first}
 use Rattle.explain_command.proofs.Left.{begins_more}

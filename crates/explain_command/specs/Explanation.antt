@@ -8,8 +8,8 @@ use Rattle.ultra_model.specs.Phases.{after}
 use Rattle.ultra_inputs.specs.declared.failure.Failure.{Failure}
 use Rattle.ultra_inputs.specs.declared.failure.Failure.TheVariants.{HeapFull}
 use Rattle.ultra_inputs.specs.Traffic.{IsStopped}
-use Rattle.ultra_serial.specs.Tree.{Tree, Kept, tree_of, trees_after}
-use Rattle.ultra_serial.specs.SerialList.{history}
+use Rattle.ultra_law.specs.Tree.{Tree, Kept, tree_of, trees_after}
+use Rattle.ultra_law.specs.SerialList.{history}
 use Rattle.ultra_tree.specs.Text.{tree_text}
 
 -- the line of an act, `cycle C module M cell A TREE`

@@ -2,8 +2,8 @@
 
 ghost use Rattle.std.specs.Prelude.{◌≡◌, ◌⊎◌, ◌++◌, false, codes, decimal, IfErr, OnErr, OnOk};
 ghost use Rattle.ultra_msg.specs.Bytes.{IsBeginning, Writes};
-ghost use Rattle.ultra_serial.specs.Tree.{trees_after};
-ghost use Rattle.ultra_serial.specs.Explicable.{AreAbsorbable, IsAbsorbable};
+ghost use Rattle.ultra_law.specs.Tree.{trees_after};
+ghost use Rattle.ultra_law.specs.Explicable.{AreAbsorbable, IsAbsorbable};
 ghost use Rattle.ultra_tree.specs.Seen.{seen};
 ghost use Rattle.ultra_inputs.specs.declared.failure.Failure.TheVariants.{HeapFull, NoMemory};
 ghost use Rattle.explain_command.specs.Explanation.{act_line, event_line, event_lines, trees_after_all};

@@ -8,7 +8,7 @@ ghost use Rattle.std.specs.Prelude.{◌≡◌, ◌+◌, ◌++◌, false, IfErr, 
 ghost use Rattle.ultra_msg.specs.Bytes.{IsBeginning};
 ghost use Rattle.ultra_model.specs.Machine.{size, start};
 ghost use Rattle.ultra_model.specs.Ranges.{AreInRange};
-ghost use Rattle.ultra_serial.specs.Explicable.{AreAbsorbable};
+ghost use Rattle.ultra_law.specs.Explicable.{AreAbsorbable};
 ghost use Rattle.ultra_tree.specs.Absorb.{nothing_absorbed};
 ghost use Rattle.ultra_inputs.specs.Failure.{read_failures, write_failures};
 ghost use Rattle.ultra_inputs.specs.Traffic.{traffic, WroteText, TextFails};

@@ -10,7 +10,7 @@ use Rattle.ultra_isa.specs.declared.Instr.{Instr}
 use Rattle.ultra_model.specs.Machine.{Settings, size, given_value}
 use Rattle.ultra_model.specs.Phases.{after}
 use Rattle.ultra_model.proofs.Each.{length-places}
-use Rattle.ultra_serial.specs.SerialList.{cells_of}
+use Rattle.ultra_law.specs.SerialList.{cells_of}
 use Rattle.ultra_para.specs.Para.{Para, core_at, cells_acted, start_para, alone, para_step, run_para}
 use Rattle.ultra_para.specs.Careful.{is_careful}
 use Rattle.ultra_para.specs.Law.{ParacomputerLaw}

@@ -4,7 +4,7 @@ use Rattle.ultra_isa.specs.declared.Instr.{Instr}
 use Rattle.ultra_model.specs.Machine.{Settings, Machine, size}
 use Rattle.ultra_model.specs.Phases.{after}
 use Rattle.ultra_model.specs.Ranges.{AreInRange}
-use Rattle.ultra_serial.specs.SerialList.{cells_of}
+use Rattle.ultra_law.specs.SerialList.{cells_of}
 use Rattle.ultra_coordination.specs.Schedules.{Words}
 use Rattle.ultra_coordination.specs.Gate.{gate, AreFewInside}
 use Rattle.ultra_coordination.specs.ReadersWriters.{readers_writers, AreWritersAlone}

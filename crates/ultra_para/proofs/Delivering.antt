@@ -10,14 +10,14 @@ use Rattle.ultra_isa.specs.Step.{Core, received}
 use Rattle.ultra_model.specs.Machine.{Settings}
 use Rattle.ultra_model.specs.Balance.{weight, count}
 use Rattle.ultra_model.proofs.Neighbours.{itself, other}
-use Rattle.ultra_serial.specs.declared.Issue.{Issue}
-use Rattle.ultra_serial.specs.declared.Entry.{Entry as Done}
-use Rattle.ultra_serial.specs.Log.{latest_number}
-use Rattle.ultra_serial.specs.Legal.{request_of}
-use Rattle.ultra_serial.proofs.Explained.{IsIn}
-use Rattle.ultra_serial.proofs.Issued.{is_named}
-use Rattle.ultra_serial.proofs.LaneForest.{in_counts}
-use Rattle.ultra_serial.proofs.Tidy.{that_is}
+use Rattle.ultra_law.specs.declared.Issue.{Issue}
+use Rattle.ultra_law.specs.declared.Entry.{Entry as Done}
+use Rattle.ultra_law.specs.Log.{latest_number}
+use Rattle.ultra_law.specs.Legal.{request_of}
+use Rattle.ultra_law.proofs.Explained.{IsIn}
+use Rattle.ultra_law.proofs.Issued.{is_named}
+use Rattle.ultra_law.proofs.LaneForest.{in_counts}
+use Rattle.ultra_law.proofs.Tidy.{that_is}
 use Rattle.ultra_para.proofs.Relation.{IsWaiting, State, opening}
 
 -- two in a list of what is counted once are one

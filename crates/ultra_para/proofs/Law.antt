@@ -18,24 +18,24 @@ use Rattle.ultra_model.specs.Balance.{count}
 use Rattle.ultra_model.proofs.Each.{each-append, each-weaker, each-right, places_at, length-places}
 use Rattle.ultra_model.proofs.AtPlaces.{element-start, element-reply_phase, element-memory_phase, element-request_phase, element-processor_phase}
 use Rattle.ultra_model.proofs.ReplyBalance.{delivered_open}
-use Rattle.ultra_serial.specs.declared.Issue.{Issue}
-use Rattle.ultra_serial.specs.declared.Entry.{Entry as Done}
-use Rattle.ultra_serial.specs.declared.Leaf.{Leaf}
-use Rattle.ultra_serial.specs.Log.{latest_number}
-use Rattle.ultra_serial.specs.Legal.{Cells, given, answered_by, request_of, cells_after, replayed}
-use Rattle.ultra_serial.specs.SerialList.{History, noted, history}
-use Rattle.ultra_serial.proofs.Forest.{leaf_of}
-use Rattle.ultra_serial.proofs.Explained.{IsIn, in-append}
-use Rattle.ultra_serial.proofs.Mentions.{in-places}
-use Rattle.ultra_serial.proofs.MemoryForest.{noted-append}
-use Rattle.ultra_serial.proofs.ProcessorForest.{issues_noted, noted_issues}
-use Rattle.ultra_serial.proofs.RequestForest.{in_holds}
-use Rattle.ultra_serial.proofs.Named.{IsNoIssue, IsLogged, AreLogged, noted_logged}
-use Rattle.ultra_serial.proofs.Issued.{is_named, IsEarlier, same_issues, NewIssue, each_issued, sent_own}
-use Rattle.ultra_serial.proofs.Answered.{IsNoAct, same_order}
-use Rattle.ultra_serial.proofs.Lists.{count_replayed, each_replayed}
-use Rattle.ultra_serial.proofs.Replays.{replayed-append}
-use Rattle.ultra_serial.proofs.Law.{IsSerial, serial_after, grows-noted, deliveries, servings, meetings, issues_of, any_delivery, each_serving, each_meeting, events_of, delivered_entry, history_next, given_is}
+use Rattle.ultra_law.specs.declared.Issue.{Issue}
+use Rattle.ultra_law.specs.declared.Entry.{Entry as Done}
+use Rattle.ultra_law.specs.declared.Leaf.{Leaf}
+use Rattle.ultra_law.specs.Log.{latest_number}
+use Rattle.ultra_law.specs.Legal.{Cells, given, answered_by, request_of, cells_after, replayed}
+use Rattle.ultra_law.specs.SerialList.{History, noted, history}
+use Rattle.ultra_law.proofs.Forest.{leaf_of}
+use Rattle.ultra_law.proofs.Explained.{IsIn, in-append}
+use Rattle.ultra_law.proofs.Mentions.{in-places}
+use Rattle.ultra_law.proofs.MemoryForest.{noted-append}
+use Rattle.ultra_law.proofs.ProcessorForest.{issues_noted, noted_issues}
+use Rattle.ultra_law.proofs.RequestForest.{in_holds}
+use Rattle.ultra_law.proofs.Named.{IsNoIssue, IsLogged, AreLogged, noted_logged}
+use Rattle.ultra_law.proofs.Issued.{is_named, IsEarlier, same_issues, NewIssue, each_issued, sent_own}
+use Rattle.ultra_law.proofs.Answered.{IsNoAct, same_order}
+use Rattle.ultra_law.proofs.Lists.{count_replayed, each_replayed}
+use Rattle.ultra_law.proofs.Replays.{replayed-append}
+use Rattle.ultra_law.proofs.Law.{IsSerial, serial_after, grows-noted, deliveries, servings, meetings, issues_of, any_delivery, each_serving, each_meeting, events_of, delivered_entry, history_next, given_is}
 use Rattle.ultra_para.specs.Para.{Para, core_at, start_para, run_para}
 use Rattle.ultra_para.specs.Careful.{is_careful}
 use Rattle.ultra_para.specs.Law.{IsReached, ParacomputerLaw}

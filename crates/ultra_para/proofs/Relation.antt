@@ -12,11 +12,11 @@ use Rattle.ultra_isa.specs.Step.{Core, received}
 use Rattle.ultra_isa.proofs.Steps.{SendsInto, step_is}
 use Rattle.ultra_model.specs.Machine.{Settings, Element, size, site}
 use Rattle.ultra_model.proofs.Each.{each-weaker}
-use Rattle.ultra_serial.specs.declared.Issue.{Issue}
-use Rattle.ultra_serial.specs.declared.Entry.{Entry as Done}
-use Rattle.ultra_serial.specs.Log.{latest_number}
-use Rattle.ultra_serial.specs.Legal.{Cells}
-use Rattle.ultra_serial.proofs.Explained.{IsIn, in-append}
+use Rattle.ultra_law.specs.declared.Issue.{Issue}
+use Rattle.ultra_law.specs.declared.Entry.{Entry as Done}
+use Rattle.ultra_law.specs.Log.{latest_number}
+use Rattle.ultra_law.specs.Legal.{Cells}
+use Rattle.ultra_law.proofs.Explained.{IsIn, in-append}
 use Rattle.ultra_para.specs.Para.{Para, core_at, alone}
 
 -- a request with this name has acted

@@ -14,18 +14,18 @@ use Rattle.ultra_model.specs.Balance.{weight, count}
 use Rattle.ultra_model.proofs.Each.{each-weaker}
 use Rattle.ultra_model.proofs.Counting.{count-append}
 use Rattle.ultra_model.proofs.Neighbours.{itself}
-use Rattle.ultra_serial.specs.declared.Leaf.{Leaf}
-use Rattle.ultra_serial.specs.declared.Issue.{Issue}
-use Rattle.ultra_serial.specs.declared.Entry.{Entry as Done}
-use Rattle.ultra_serial.specs.Legal.{Cells, with_cell, answered_by, cells_after, replayed, request_of}
-use Rattle.ultra_serial.proofs.Explained.{in-append, in-append_right}
-use Rattle.ultra_serial.proofs.Issued.{is_named}
-use Rattle.ultra_serial.proofs.Named.{IsLogged}
-use Rattle.ultra_serial.proofs.RequestForest.{in_holds}
-use Rattle.ultra_serial.proofs.LaneForest.{in_counts}
-use Rattle.ultra_serial.proofs.Lists.{count_replayed}
-use Rattle.ultra_serial.proofs.Tidy.{that_is}
-use Rattle.ultra_serial.proofs.Replays.{cells-append, replayed-append, with_other}
+use Rattle.ultra_law.specs.declared.Leaf.{Leaf}
+use Rattle.ultra_law.specs.declared.Issue.{Issue}
+use Rattle.ultra_law.specs.declared.Entry.{Entry as Done}
+use Rattle.ultra_law.specs.Legal.{Cells, with_cell, answered_by, cells_after, replayed, request_of}
+use Rattle.ultra_law.proofs.Explained.{in-append, in-append_right}
+use Rattle.ultra_law.proofs.Issued.{is_named}
+use Rattle.ultra_law.proofs.Named.{IsLogged}
+use Rattle.ultra_law.proofs.RequestForest.{in_holds}
+use Rattle.ultra_law.proofs.LaneForest.{in_counts}
+use Rattle.ultra_law.proofs.Lists.{count_replayed}
+use Rattle.ultra_law.proofs.Tidy.{that_is}
+use Rattle.ultra_law.proofs.Replays.{cells-append, replayed-append, with_other}
 use Rattle.ultra_para.specs.Para.{Para, core_at, cells_acted, core_answered, alone, after_alone, para_step, run_para}
 use Rattle.ultra_para.proofs.Relation.{IsServed, IsServedIssue, IsServedOr, IsAsking, IsActed, State, AreRelated, state_other, IsOpening, opening}
 

@@ -16,16 +16,16 @@ use Rattle.ultra_model.specs.Machine.{Settings, Element, size, site}
 use Rattle.ultra_model.specs.Phases.{issues_after as count_after}
 use Rattle.ultra_model.proofs.Each.{each-weaker}
 use Rattle.ultra_model.proofs.Counting.{is_reference}
-use Rattle.ultra_serial.specs.declared.Issue.{Issue}
-use Rattle.ultra_serial.specs.declared.Entry.{Entry as Done}
-use Rattle.ultra_serial.specs.Log.{latest_number, is_issue_for}
-use Rattle.ultra_serial.specs.Legal.{Cells, request_of}
-use Rattle.ultra_serial.proofs.Explained.{IsIn}
-use Rattle.ultra_serial.proofs.Issued.{NewIssue, each_issue}
-use Rattle.ultra_serial.proofs.Named.{IsLogged}
-use Rattle.ultra_serial.proofs.Tidy.{is_that, that_is}
-use Rattle.ultra_serial.proofs.RequestForest.{in_holds}
-use Rattle.ultra_serial.proofs.ProcessorForest.{issues_after, issues_noted}
+use Rattle.ultra_law.specs.declared.Issue.{Issue}
+use Rattle.ultra_law.specs.declared.Entry.{Entry as Done}
+use Rattle.ultra_law.specs.Log.{latest_number, is_issue_for}
+use Rattle.ultra_law.specs.Legal.{Cells, request_of}
+use Rattle.ultra_law.proofs.Explained.{IsIn}
+use Rattle.ultra_law.proofs.Issued.{NewIssue, each_issue}
+use Rattle.ultra_law.proofs.Named.{IsLogged}
+use Rattle.ultra_law.proofs.Tidy.{is_that, that_is}
+use Rattle.ultra_law.proofs.RequestForest.{in_holds}
+use Rattle.ultra_law.proofs.ProcessorForest.{issues_after, issues_noted}
 use Rattle.ultra_para.specs.Para.{Para, core_at, alone, para_step, run_para}
 use Rattle.ultra_para.specs.Careful.{is_careful}
 use Rattle.ultra_para.proofs.Alone.{same_step, reference_step, careful_next, fence_stalls}

@@ -4,12 +4,15 @@ use Rattle.std.specs.Prelude.{◌≢◌}
 use Rattle.std.proofs.lemmas.Bool.Decides.{nat_tests}
 use Rattle.ultra_serial.specs.declared.by_name.ByName.{ByName}
 use Rattle.ultra_serial.specs.ByPair.{is_pair, list_of, with_item, lists_with}
-use Rattle.ultra_serial.specs.Log.{Issue, Answer, Log}
-use Rattle.ultra_serial.specs.Legal.{Entry, Has, IsIssueNamed, IsAnswerTo, IsIssueOf}
+use Rattle.ultra_law.specs.declared.records.Issue.{Issue}
+use Rattle.ultra_law.specs.declared.records.Answer.{Answer}
+use Rattle.ultra_law.specs.Log.{Log}
+use Rattle.ultra_law.specs.declared.records.Entry.{Entry}
+use Rattle.ultra_law.specs.Legal.{Has, IsIssueNamed, IsAnswerTo, IsIssueOf}
 use Rattle.ultra_serial.specs.Breach.{HasNameOf}
 use Rattle.ultra_serial.specs.Examined.{IsListed}
 use Rattle.ultra_serial.specs.ByName.{AreByName, Holds}
-use Rattle.ultra_serial.proofs.Lists.{get_left}
+use Rattle.ultra_law.proofs.Lists.{get_left}
 use Rattle.ultra_serial.proofs.Explaining.{has_push, get_last}
 
 nothing_has : {X : Type 0} (x : X) → Has [] x → ⊥

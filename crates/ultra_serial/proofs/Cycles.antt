@@ -5,7 +5,7 @@ use Rattle.ultra_isa.specs.declared.Instr.{Instr}
 use Rattle.ultra_model.specs.Machine.{Settings, Machine, start}
 use Rattle.ultra_model.specs.Phases.{after, cycle, reply_phase, memory_phase, request_phase, processor_phase}
 use Rattle.ultra_machine.specs.Running.{Running}
-use Rattle.ultra_serial.specs.SerialList.{empty_history, noted, history}
+use Rattle.ultra_law.specs.SerialList.{empty_history, noted, history}
 
 module _ (c : Settings) (program : List Instr) where
   cycles_next : (m : Machine) → (cycle c program m).cycles ≡ m.cycles + 1

@@ -7,13 +7,16 @@ use Rattle.ultra_msg.specs.Act.{act}
 use Rattle.ultra_serial.specs.declared.checking.BreachKind.{BreachKind}
 use Rattle.ultra_serial.specs.declared.checking.BreachKind.TheVariants.{NotIssued, Repeated, WrongReplay, WrongAnswer, TooLate, Missing, WrongCell}
 use Rattle.ultra_serial.specs.declared.checking.CheckFault.TheVariants.{Breach}
-use Rattle.ultra_serial.specs.Log.{Issue, Answer, Log}
-use Rattle.ultra_serial.specs.Tree.{Leaf}
-use Rattle.ultra_serial.specs.Legal.{Entry, Cells, Has, with_cell, given_over, given, answered_by, request_of, cells_after, replayed, IsIssueNamed, IsAnswerTo, IsLegal}
+use Rattle.ultra_law.specs.declared.records.Issue.{Issue}
+use Rattle.ultra_law.specs.declared.records.Answer.{Answer}
+use Rattle.ultra_law.specs.Log.{Log}
+use Rattle.ultra_law.specs.declared.records.Leaf.{Leaf}
+use Rattle.ultra_law.specs.declared.records.Entry.{Entry}
+use Rattle.ultra_law.specs.Legal.{Cells, Has, with_cell, given_over, given, answered_by, request_of, cells_after, replayed, IsIssueNamed, IsAnswerTo, IsLegal}
 use Rattle.ultra_serial.specs.Breach.{cells_past, IsFaulty, IsBreach, part, turn, IsFirstBreach, ExplainsFault}
 use Rattle.ultra_serial.specs.Examined.{WasIssued, IsNew, IsReplayed, IsAgreed, Finds, IsFirstAfter, AreExplained, IsListed, IsFirstMissing, IsFine}
-use Rattle.ultra_serial.proofs.Lists.{get_left}
-use Rattle.ultra_serial.proofs.Replays.{cells-append, replayed-append, with_other}
+use Rattle.ultra_law.proofs.Lists.{get_left}
+use Rattle.ultra_law.proofs.Replays.{cells-append, replayed-append, with_other}
 
 -- ---- places of a list with one element more
 get_push : {X : Type 0} (xs : List X) (y : X) (k : ℕ) (x : X) → slice_get (xs ++ y ∷ []) k ≡ Some x → ((k < length xs) × (slice_get xs k ≡ Some x)) ⊎ ((k ≡ length xs) × (y ≡ x))

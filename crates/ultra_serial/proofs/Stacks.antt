@@ -4,43 +4,15 @@ use Rattle.std.specs.Prelude.{option_map, IfNone}
 use Rattle.std.specs.Global.{Vec}
 use Rattle.std.proofs.lemmas.Bool.{cases_Bool}
 use Rattle.std.proofs.lemmas.List.{same_from_push, append-nil, length_push}
-use Rattle.ultra_serial.specs.Tree.{Tree, pair, Leaf, leaves, Kept, kept, is_under, tree_of, without, paired}
+use Rattle.ultra_law.specs.declared.records.Leaf.{Leaf}
+use Rattle.ultra_law.specs.Tree.{Tree, pair, leaves, Kept, kept, is_under, tree_of, without, paired}
 use Rattle.ultra_serial.specs.ByPair.{is_pair, list_of, with_item}
 use Rattle.ultra_serial.specs.declared.waiting.Waiting.{Waiting}
 use Rattle.ultra_serial.specs.Waiting.{stacked, chains_of, Keeps, items_in}
+use Rattle.ultra_law.proofs.Latest.{tree_here, tree_later, rest_here, rest_later}
 use Rattle.ultra_serial.proofs.ByPair.{same_pair}
 
 module _ (p a : ℕ) (k : Kept) (ks : List Kept) where
-  tree_at : Bool → Option Tree
-  tree_at b = elim b [ true ↦ Some k.tree | false ↦ tree_of p a ks ]
-
-  rest_at : Bool → List Kept
-  rest_at b = elim b [ true ↦ ks | false ↦ k ∷ without p a ks ]
-
-  tree_when : (t : Bool) → is_under p a k ≡ t → tree_of p a (k ∷ ks) ≡ tree_at t
-  unfolding tree_at
-  tree_when t e = ap tree_at e
-
-  rest_when : (t : Bool) → is_under p a k ≡ t → without p a (k ∷ ks) ≡ rest_at t
-  unfolding rest_at
-  rest_when t e = ap rest_at e
-
-  pub tree_here : is_under p a k ≡ true → tree_of p a (k ∷ ks) ≡ Some k.tree
-  unfolding tree_at
-  tree_here e = tree_when true e
-
-  pub tree_later : is_under p a k ≡ false → tree_of p a (k ∷ ks) ≡ tree_of p a ks
-  unfolding tree_at
-  tree_later e = tree_when false e
-
-  pub rest_here : is_under p a k ≡ true → without p a (k ∷ ks) ≡ ks
-  unfolding rest_at
-  rest_here e = rest_when true e
-
-  pub rest_later : is_under p a k ≡ false → without p a (k ∷ ks) ≡ k ∷ without p a ks
-  unfolding rest_at
-  rest_later e = rest_when false e
-
   stack_here : is_under p a k ≡ true → stacked p a (k ∷ ks) ≡ stacked p a ks ++ leaves k.tree ∷ []
   stack_here e = ap (λ t. with_item t (stacked p a ks) (leaves k.tree)) e
 

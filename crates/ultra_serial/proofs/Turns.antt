@@ -8,15 +8,16 @@ use Rattle.ultra_msg.specs.declared.Event.{Event}
 use Rattle.ultra_msg.specs.declared.Event.TheVariants.{Delivered}
 use Rattle.ultra_msg.specs.declared.Reply.TheVariants.{Value}
 use Rattle.ultra_msg.specs.Act.{act}
-use Rattle.ultra_serial.specs.Tree.{Tree, Leaf, leaves, trees_after, leaves_of, served_leaves}
-use Rattle.ultra_serial.specs.Legal.{Cells, with_cell, given, answered_by, cells_after, replayed}
-use Rattle.ultra_serial.specs.SerialList.{History, noted, after_event}
+use Rattle.ultra_law.specs.declared.records.Leaf.{Leaf}
+use Rattle.ultra_law.specs.Tree.{Tree, leaves, trees_after, leaves_of, served_leaves}
+use Rattle.ultra_law.specs.Legal.{Cells, with_cell, given, answered_by, cells_after, replayed}
+use Rattle.ultra_law.specs.SerialList.{History, noted, after_event}
 use Rattle.ultra_serial.specs.Memory.{cell_in}
 use Rattle.ultra_serial.specs.Waiting.{Keeps, items_in}
 use Rattle.ultra_serial.specs.declared.history.Serving.{Serving}
 use Rattle.ultra_serial.specs.Following.{Follows}
-use Rattle.ultra_serial.proofs.MemoryForest.{noted-append}
-use Rattle.ultra_serial.proofs.Replays.{cells-append, replayed-append}
+use Rattle.ultra_law.proofs.MemoryForest.{noted-append}
+use Rattle.ultra_law.proofs.Replays.{cells-append, replayed-append}
 
 module _ (m : Cells) (ls : List Leaf) (k : ℕ) (d : Leaf) (h : k < length ls) where
   abbrev next : Leaf

@@ -5,8 +5,11 @@ use Rattle.ultra_serial.specs.declared.checking.BreachKind.{BreachKind}
 use Rattle.ultra_serial.specs.declared.checking.BreachKind.TheVariants.{NotIssued, Repeated, WrongReplay, WrongAnswer, TooLate, Missing, WrongCell}
 use Rattle.ultra_serial.specs.declared.checking.CheckFault.{CheckFault}
 use Rattle.ultra_serial.specs.declared.checking.CheckFault.TheVariants.{NoMemory, Breach}
-use Rattle.ultra_serial.specs.Log.{Issue, Answer, Log}
-use Rattle.ultra_serial.specs.Legal.{Entry, Cells, request_of, cells_after, Has, IsIssueNamed, IsAnswerTo, IsIssueOf, IsLegal}
+use Rattle.ultra_law.specs.declared.records.Issue.{Issue}
+use Rattle.ultra_law.specs.declared.records.Answer.{Answer}
+use Rattle.ultra_law.specs.Log.{Log}
+use Rattle.ultra_law.specs.declared.records.Entry.{Entry}
+use Rattle.ultra_law.specs.Legal.{Cells, request_of, cells_after, Has, IsIssueNamed, IsAnswerTo, IsIssueOf, IsLegal}
 
 abbrev pub HasNameOf : Entry → Entry → Type 0
 HasNameOf f e = (f.pe ≡ e.pe) × (f.number ≡ e.number)

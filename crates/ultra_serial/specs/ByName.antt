@@ -2,8 +2,11 @@
 use Rattle.std.specs.Prelude.{ℕ, List}
 use Rattle.ultra_serial.specs.declared.by_name.ByName.{ByName}
 use Rattle.ultra_serial.specs.ByPair.{list_of}
-use Rattle.ultra_serial.specs.Log.{Issue, Answer, Log}
-use Rattle.ultra_serial.specs.Legal.{Entry, Has}
+use Rattle.ultra_law.specs.declared.records.Issue.{Issue}
+use Rattle.ultra_law.specs.declared.records.Answer.{Answer}
+use Rattle.ultra_law.specs.Log.{Log}
+use Rattle.ultra_law.specs.declared.records.Entry.{Entry}
+use Rattle.ultra_law.specs.Legal.{Has}
 
 -- the lists of the names hold what the whole list does, each element under its own name
 pub record AreByName {X : Type 0} (pe number : X → ℕ) (lists : ℕ → ℕ → List X) (whole : List X) : Type 0 where

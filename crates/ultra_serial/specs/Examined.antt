@@ -3,8 +3,11 @@ use Rattle.std.specs.Prelude.{◌≡◌, ◌≢◌, ◌<◌, ◌≤◌, ◌+◌,
 use Rattle.ultra_msg.specs.Act.{act}
 use Rattle.ultra_serial.specs.declared.checking.BreachKind.{BreachKind}
 use Rattle.ultra_serial.specs.declared.checking.BreachKind.TheVariants.{NotIssued, Repeated, WrongReplay, WrongAnswer, TooLate, Missing, WrongCell}
-use Rattle.ultra_serial.specs.Log.{Issue, Answer, Log}
-use Rattle.ultra_serial.specs.Legal.{Entry, Cells, Has, IsIssueNamed, IsAnswerTo, IsIssueOf, request_of, replayed}
+use Rattle.ultra_law.specs.declared.records.Issue.{Issue}
+use Rattle.ultra_law.specs.declared.records.Answer.{Answer}
+use Rattle.ultra_law.specs.Log.{Log}
+use Rattle.ultra_law.specs.declared.records.Entry.{Entry}
+use Rattle.ultra_law.specs.Legal.{Cells, Has, IsIssueNamed, IsAnswerTo, IsIssueOf, request_of, replayed}
 use Rattle.ultra_serial.specs.Breach.{HasNameOf}
 
 module _ (log : Log) (before : List Entry) (from : ℕ) (cells : Cells) (e : Entry) where

@@ -1,8 +1,8 @@
 -- what it is to have followed a run
 use Rattle.std.specs.Prelude.{◌≡◌, ℕ, List}
 use Rattle.ultra_serial.specs.declared.history.Serving.{Serving}
-use Rattle.ultra_serial.specs.Legal.{given, cells_after, replayed}
-use Rattle.ultra_serial.specs.SerialList.{History}
+use Rattle.ultra_law.specs.Legal.{given, cells_after, replayed}
+use Rattle.ultra_law.specs.SerialList.{History}
 use Rattle.ultra_serial.specs.Memory.{cell_in}
 use Rattle.ultra_serial.specs.Waiting.{Keeps}
 

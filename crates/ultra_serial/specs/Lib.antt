@@ -1,8 +1,3 @@
-pub mod Tree
-pub mod Log
-pub mod Legal
-pub mod SerialList
-pub mod Chain
 pub mod ByPair
 pub mod ByName
 pub mod Memory
@@ -11,5 +6,3 @@ pub mod Following
 pub mod Recording
 pub mod Breach
 pub mod Examined
-pub mod Explicable
-pub mod HotSpot

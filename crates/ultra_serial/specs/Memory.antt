@@ -3,7 +3,7 @@ use Rattle.std.specs.Prelude.{ℕ, List, Option}
 use Rattle.std.specs.Option.{unwrap_or}
 use Rattle.std.specs.Map.{lookup}
 use Rattle.std.specs.Ordering.{nat_cmp, is_eq}
-use Rattle.ultra_serial.specs.Legal.{Cells}
+use Rattle.ultra_law.specs.Legal.{Cells}
 
 -- the value that an address has in a list in which no address stands twice, if it stands in it
 abbrev pub value_in : List (ℕ × ℕ) → ℕ → Option ℕ

@@ -2,7 +2,8 @@
 use Rattle.std.specs.Prelude.{◌≡◌, ℕ, List, [], ◌∷◌, map, Option, option_map}
 use Rattle.std.specs.Global.{Vec}
 use Rattle.ultra_serial.specs.declared.waiting.Waiting.{Waiting}
-use Rattle.ultra_serial.specs.Tree.{Leaf, leaves, Kept, is_under}
+use Rattle.ultra_law.specs.declared.records.Leaf.{Leaf}
+use Rattle.ultra_law.specs.Tree.{leaves, Kept, is_under}
 use Rattle.ultra_serial.specs.ByPair.{list_of, with_item}
 
 abbrev pub stacked : ℕ → ℕ → List Kept → List (List Leaf)

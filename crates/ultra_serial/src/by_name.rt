@@ -1,8 +1,8 @@
 //! A log and entries, each kept under its name.
 
 ghost use Rattle.std.specs.Prelude.{List, [], ◌∷◌, ◌++◌, IfOk, OnOk};
-ghost use Rattle.ultra_serial.specs.declared.records.Entry.{Entry as EntryOf};
-ghost use Rattle.ultra_serial.specs.Log.{Log as LogOf, log_of};
+ghost use Rattle.ultra_law.specs.declared.records.Entry.{Entry as EntryOf};
+ghost use Rattle.ultra_law.specs.Log.{Log as LogOf, log_of};
 ghost use Rattle.ultra_serial.specs.ByPair.{list_of};
 ghost use Rattle.ultra_serial.specs.ByName.{AreIssuesByName, AreAnswersByName, Holds};
 

@@ -1,10 +1,10 @@
 //! Whether a serial list explains a log.
 
 ghost use Rattle.std.specs.Prelude.{◌≡◌, ◌<◌, ℕ, List, true, false, Some, None, IfOk, OnOk, IfErr, IfSome, slice_get};
-ghost use Rattle.ultra_serial.specs.declared.records.Answer.{Answer as AnswerOf};
-ghost use Rattle.ultra_serial.specs.declared.records.Entry.{Entry as EntryOf};
-ghost use Rattle.ultra_serial.specs.Log.{Log as LogOf, log_of};
-ghost use Rattle.ultra_serial.specs.Legal.{Cells, given, Has, IsAnswerTo, IsLegal};
+ghost use Rattle.ultra_law.specs.declared.records.Answer.{Answer as AnswerOf};
+ghost use Rattle.ultra_law.specs.declared.records.Entry.{Entry as EntryOf};
+ghost use Rattle.ultra_law.specs.Log.{Log as LogOf, log_of};
+ghost use Rattle.ultra_law.specs.Legal.{Cells, given, Has, IsAnswerTo, IsLegal};
 ghost use Rattle.ultra_serial.specs.Memory.{cell_in};
 ghost use Rattle.ultra_serial.specs.Breach.{cells_past, ExplainsFault};
 ghost use Rattle.ultra_serial.specs.Examined.{AreExplained, IsListed, IsFirstMissing, IsFine, IsWrongAt};

@@ -2,11 +2,11 @@
 
 ghost use Rattle.std.specs.Prelude.{◌≡◌, ◌≢◌, ◌<◌, ◌≤◌, ◌+◌, ◌⊎◌, List, true, false, IfOk};
 ghost use Rattle.ultra_msg.specs.Act.{act as effect};
-ghost use Rattle.ultra_serial.specs.declared.records.Issue.{Issue as IssueOf};
-ghost use Rattle.ultra_serial.specs.declared.records.Answer.{Answer as AnswerOf};
-ghost use Rattle.ultra_serial.specs.declared.records.Entry.{Entry as EntryOf};
-ghost use Rattle.ultra_serial.specs.Log.{Log as LogOf};
-ghost use Rattle.ultra_serial.specs.Legal.{Has, IsIssueNamed, IsAnswerTo, IsIssueOf, with_cell};
+ghost use Rattle.ultra_law.specs.declared.records.Issue.{Issue as IssueOf};
+ghost use Rattle.ultra_law.specs.declared.records.Answer.{Answer as AnswerOf};
+ghost use Rattle.ultra_law.specs.declared.records.Entry.{Entry as EntryOf};
+ghost use Rattle.ultra_law.specs.Log.{Log as LogOf};
+ghost use Rattle.ultra_law.specs.Legal.{Has, IsIssueNamed, IsAnswerTo, IsIssueOf, with_cell};
 ghost use Rattle.ultra_serial.specs.Memory.{cell_in};
 ghost use Rattle.ultra_serial.specs.Breach.{HasNameOf};
 ghost use Rattle.ultra_serial.specs.Examined.{Finds};

@@ -2,8 +2,10 @@
 
 ghost use Rattle.std.specs.Prelude.{◌≡◌, ℕ, ◌∷◌, ◌++◌, ◌≤◌, List, IfOk, OnOk};
 ghost use Rattle.ultra_model.specs.Machine.{start};
-ghost use Rattle.ultra_serial.specs.Legal.{cells_after, replayed};
-ghost use Rattle.ultra_serial.specs.SerialList.{History, empty_history, after_event, noted, history, serial_list};
+ghost use Rattle.ultra_model.specs.Phases.{after};
+ghost use Rattle.ultra_law.specs.Legal.{given, cells_after, replayed, IsLegal};
+ghost use Rattle.ultra_law.specs.SerialList.{History, empty_history, after_event, noted, cells_of, history, serial_list};
+ghost use Rattle.ultra_law.specs.Chain.{IsBeginningOf};
 ghost use Rattle.ultra_serial.specs.Memory.{cell_in};
 ghost use Rattle.ultra_serial.specs.Following.{Follows};
 ghost use Rattle.ultra_serial.specs.declared.history.OrderFault.TheVariants.{NoMemory};
@@ -109,7 +111,7 @@ fn serve(
 
 /// The serial order of a run of n cycles, at most 1,000,000: for each cycle and module the requests that were served there, each with its reply where all act one after the other.
 ///
-/// It explains the run: see [`crate::serialization_law`]. `NoMemory` means that memory was refused.
+/// It explains the run, and at every number of cycles up to n its prefix does: that is the serial order of these cycles, and legal for their log and for the cells after them (see [`crate::serialization_law`]). So [`crate::check`] accepts it, memory aside. `NoMemory` means that memory was refused.
 pub fn order(
     alloc: Global,
     config: &Config,
@@ -117,7 +119,9 @@ pub fn order(
     cycles: u32,
 ) -> Result<SerialList, OrderFault>
     requires { cycles ≤ 1000000 }
-    ensures { IfOk result (λ list. list.items ≡ serial_list config.now program.now cycles) }
+    ensures list { IfOk result (λ list. list.items ≡ serial_list config.now program.now cycles) }
+    ensures prefixes { IfOk result (λ list. (n : ℕ) → n ≤ cycles → IsBeginningOf (serial_list config.now program.now n) list.items) }
+    ensures legal { OnOk result ((n : ℕ) → n ≤ cycles → IsLegal (given config.now.initial) (history config.now program.now n).log (cells_of config.now (after config.now program.now n)) (serial_list config.now program.now n)) }
 {
     let mut serving = Serving::new(alloc, config.initial())?;
     serving.follow(alloc, config, program, cycles)?;

@@ -1,4 +1,4 @@
-//! The serial order of what a machine's requests did, and what it is for such an order to explain a run.
+//! The serial order of what a machine's requests did, its log, and whether such an order explains a log.
 #![tactic(auto)]
 
 mod by_name;
@@ -8,49 +8,13 @@ mod examining;
 mod history;
 mod memory;
 mod recording;
-mod records;
 mod waiting;
-
-ghost use Rattle.ultra_serial.specs.Chain.{SerializationLaw};
-ghost use Rattle.ultra_serial.specs.Explicable.{ExplainingLaw};
-ghost use Rattle.ultra_serial.specs.HotSpot.{HotSpotLaw};
 
 pub use checking::{BreachKind, CheckFault, check};
 pub use history::{OrderFault, order};
 pub use memory::SerialMemory;
 pub use recording::log;
-pub use records::{Answer, Entry, Issue, Leaf, Log, SerialList};
-
-/// The serialization law, as this function's contract: for all settings in their ranges, every program and every
-/// number of cycles, the serial lists of the cycles so far are a chain. Each is a beginning of the next, and each
-/// explains the replies that were given and the cells: a request stands in it at most once, every answer is its
-/// entry's reply in a replay of the list, the replay ends with the cells, and a request that was answered before
-/// another was issued stands before it.
-///
-/// The serialization principle is that of the 1983 paper; the machine is this project's profile of it. The function
-/// itself does nothing.
-pub fn serialization_law()
-    ensures chained { SerializationLaw }
-{}
-
-/// What every run's events are to the trees that an explainer keeps, as this function's contract: for all settings in
-/// their ranges, every program and every number of cycles, each event of the next cycle can come to the trees of the
-/// cycles so far. A request that is served or combines is held, one that is issued isn't held yet, and there is room
-/// for it. The tree of a request that is served is no higher than the stages, and has at most one leaf of each
-/// processing element. The function itself does nothing.
-pub fn explaining_law()
-    ensures explained { ExplainingLaw }
-{}
-
-/// The hot spot law, as this function's contract: whenever all queues, wait buffers and modules are
-/// empty and each processing element has one request that is not yet in the network, all for one
-/// cell, the memory serves them by one act. With d stages and the cycles counted from there, the
-/// act is in cycle d + 1, its tree has height d and a leaf for each of the 2^d processing elements,
-/// and each of them is answered in cycle 2d + 2. In these cycles there is no other act on the cell.
-///
-/// It holds for all settings in their ranges with a place in each wait buffer, and for every
-/// program. That requests for one cell combine at every stage is the 1983 paper's; the counts of
-/// cycles are this project's profile of it. The function itself does nothing.
-pub fn hot_spot_law()
-    ensures at_once { HotSpotLaw }
-{}
+pub use ultra_law::{
+    Answer, Entry, Issue, Leaf, Log, SerialList, explaining_law, hot_spot_law, reply_law,
+    serialization_law,
+};

@@ -2,7 +2,7 @@
 
 ghost use Rattle.std.specs.Prelude.{◌≡◌, IfOk, OnOk, OnErr};
 ghost use Rattle.ultra_msg.specs.Act.{act as effect};
-ghost use Rattle.ultra_serial.specs.Legal.{given, with_cell};
+ghost use Rattle.ultra_law.specs.Legal.{given, with_cell};
 ghost use Rattle.ultra_serial.specs.Memory.{value_in, cell_in};
 
 use std::alloc::{AllocError, Global};

@@ -2,7 +2,7 @@
 
 ghost use Rattle.std.specs.Prelude.{◌≡◌, ℕ, List, [], ◌∷◌, ◌++◌, IfOk, OnOk, option_map};
 ghost use Rattle.ultra_msg.specs.declared.Event.TheVariants.{Combined, Issued};
-ghost use Rattle.ultra_serial.specs.Tree.{Tree, leaves as leaves_in, Kept, kept, tree_of, without, trees_after};
+ghost use Rattle.ultra_law.specs.Tree.{Tree, leaves as leaves_in, Kept, kept, tree_of, without, trees_after};
 ghost use Rattle.ultra_serial.specs.Waiting.{Keeps, items_in};
 
 use crate::Leaf;

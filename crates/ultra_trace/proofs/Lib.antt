@@ -4,3 +4,4 @@ pub mod Listed
 pub mod Numbered
 pub mod Told
 pub mod WorkedTraces
+pub mod Headlines

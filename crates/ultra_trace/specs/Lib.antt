@@ -3,3 +3,4 @@ pub mod Trace
 pub mod Page
 pub mod Faults
 pub mod BlocksAfter
+pub mod Headline

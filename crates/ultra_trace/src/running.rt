@@ -1,6 +1,6 @@
 //! The trace of a run, from the start of a machine to the end.
 
-ghost use Rattle.std.specs.Prelude.{◌≡◌, ◌≢◌, ◌+◌, ◌*◌, ◌<◌, ◌≤◌, [], ◌++◌, ◌||◌, true, false, codes, OnOk, OnErr, IfOk, IfErr};
+ghost use Rattle.std.specs.Prelude.{◌≡◌, ◌≢◌, ℕ, ◌+◌, ◌*◌, ◌<◌, ◌≤◌, List, [], ◌++◌, ◌||◌, true, false, codes, OnOk, OnErr, IfOk, IfErr};
 ghost use Rattle.ultra_msg.specs.Bytes.{IsBeginning};
 ghost use Rattle.ultra_model.specs.Machine.{start as at_start, is_quiet as quiet};
 ghost use Rattle.ultra_block.specs.Partition.{is_partition};
@@ -9,6 +9,7 @@ ghost use Rattle.ultra_trace.specs.Trace.{cycle_count, cycle_text, all_cycles_te
 ghost use Rattle.ultra_trace.specs.declared.running.RunFault.TheVariants.{Write, NoMemory, NoThread};
 ghost use Rattle.ultra_trace.specs.Faults.{fault_of_crew, sink_faults};
 ghost use Rattle.ultra_trace.specs.BlocksAfter.{IsAfter};
+ghost use Rattle.ultra_trace.specs.Headline.{Headline};
 ghost use Rattle.ultra_trace.specs.Text.{newline};
 ghost use Rattle.ultra_trace.specs.Page.{Writes};
 
@@ -63,6 +64,8 @@ impl From<CrewFault> for RunFault {
 
 /// Runs a program on a machine of these settings by n workers, 1 to 64, and writes the trace to the sink: the same bytes for every number of workers and every gate. After a fault the sink has taken a beginning of it.
 ///
+/// With `Ok` the whole headline holds (`Headline`): what was written is exactly the trace, the serial lists of this run are a chain of legal lists, and the replies that the trace tells are the answers that these lists explain.
+///
 /// Unit `u` of the machine stands in block `u` modulo the number of workers. With one worker the run is `run_alone`, and no gate is called. Several workers have a thread of their own each, which is started once and kept for all cycles; memory is asked for in each cycle. The call may wait, and in every end the threads that were started are joined.
 ///
 /// `Write` says that the sink failed, `NoMemory` that memory was refused, and `NoThread` that a thread could not be started, which is never answered with one worker.
@@ -77,6 +80,7 @@ pub fn run<R: Threads + Wait + Sync, G: Gate + Sync, S: Sink>(
 ) -> Result<(), RunFault>
     requires some_worker { 1 ≤ workers }
     requires most_workers { workers ≤ 64 }
+    ensures headline { OnOk result ((written : List ℕ) × (S.taken sink.new ≡ S.taken sink.old ++ written) × Headline config.now program.now written) }
     ensures ok { OnOk result (S.taken sink.new ≡ S.taken sink.old ++ trace config.now program.now) }
     ensures still { OnOk result (S.failures sink.new ≡ S.failures sink.old) }
     ensures err { OnErr result (IsBeginning (S.taken sink.new) (S.taken sink.old ++ trace config.now program.now)) }
@@ -90,7 +94,7 @@ pub fn run<R: Threads + Wait + Sync, G: Gate + Sync, S: Sink>(
     }
 }
 
-/// Runs a program on a machine of these settings in the caller's thread, and writes the trace to the sink. After a fault the sink has taken a beginning of it.
+/// Runs a program on a machine of these settings in the caller's thread, and writes the trace to the sink; with `Ok` the whole headline holds, as in [`run`]. After a fault the sink has taken a beginning of the trace.
 ///
 /// `Write` says that the sink failed, and `NoMemory` that memory was refused; it is asked for only before the first byte is written. `NoThread` is never answered.
 pub fn run_alone<S: Sink>(
@@ -99,6 +103,7 @@ pub fn run_alone<S: Sink>(
     program: &Program,
     sink: &mut S,
 ) -> Result<(), RunFault>
+    ensures headline { OnOk result ((written : List ℕ) × (S.taken sink.new ≡ S.taken sink.old ++ written) × Headline config.now program.now written) }
     ensures ok { OnOk result (S.taken sink.new ≡ S.taken sink.old ++ trace config.now program.now) }
     ensures still { OnOk result (S.failures sink.new ≡ S.failures sink.old) }
     ensures err { OnErr result (IsBeginning (S.taken sink.new) (S.taken sink.old ++ trace config.now program.now)) }
@@ -122,6 +127,7 @@ fn run_together<R: Threads + Wait + Sync, G: Gate + Sync, S: Sink>(
 ) -> Result<(), RunFault>
     requires some_worker { 1 ≤ workers }
     requires most_workers { workers ≤ 64 }
+    ensures headline { OnOk result ((written : List ℕ) × (S.taken sink.new ≡ S.taken sink.old ++ written) × Headline config.now program.now written) }
     ensures ok { OnOk result (S.taken sink.new ≡ S.taken sink.old ++ trace config.now program.now) }
     ensures still { OnOk result (S.failures sink.new ≡ S.failures sink.old) }
     ensures err { OnErr result (IsBeginning (S.taken sink.new) (S.taken sink.old ++ trace config.now program.now)) }

@@ -4,10 +4,10 @@ use Rattle.std.specs.Prelude.{IsSome}
 use Rattle.std.specs.List.{AllByRecursion}
 use Rattle.std.proofs.lemmas.Bool.{cases_Bool}
 use Rattle.std.proofs.lemmas.Bool.Decides.{nat_tests}
-use Rattle.ultra_serial.specs.Tree.{Tree, Kept, kept, is_under, tree_of, without}
-use Rattle.ultra_serial.specs.Explicable.{one_if, held_by}
+use Rattle.ultra_law.specs.Tree.{Tree, Kept, kept, is_under, tree_of, without}
+use Rattle.ultra_law.specs.Explicable.{one_if, held_by}
 use Rattle.ultra_tree.specs.Absorb.{AreWithin}
-use Rattle.ultra_serial.proofs.Stacks.{tree_later, rest_here, rest_later}
+use Rattle.ultra_law.proofs.Latest.{tree_later, rest_here, rest_later}
 use Rattle.ultra_tree.proofs.Kept.{same_identity}
 
 pub equal_test : (a b : ℕ) → a ≡ b → (a == b) ≡ true

@@ -3,8 +3,8 @@ use Rattle.std.specs.Prelude.{◌≡◌, ℕ, ◌<◌, ◌≤◌, List, [], Bool
 use Rattle.std.specs.List.{AllByRecursion}
 use Rattle.ultra_msg.specs.declared.Event.{Event}
 use Rattle.ultra_msg.specs.declared.Event.TheVariants.{Delivered, Served, Combined, Issued}
-use Rattle.ultra_serial.specs.Tree.{Kept}
-use Rattle.ultra_serial.specs.Explicable.{held_by}
+use Rattle.ultra_law.specs.Tree.{Kept}
+use Rattle.ultra_law.specs.Explicable.{held_by}
 use Rattle.ultra_tree.specs.declared.explaining.ExplainFault.{ExplainFault}
 use Rattle.ultra_tree.specs.declared.explaining.ExplainFault.TheVariants.{Full, Spent}
 

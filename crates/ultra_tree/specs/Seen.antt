@@ -1,7 +1,7 @@
 -- how the trees of the code are seen as those of the definition
 use Rattle.std.specs.Prelude.{◌≡◌, ℕ, List, [], ◌∷◌, ◌++◌, Some, remove, slice_get}
-use Rattle.ultra_serial.specs.Tree.{Tree as SerialTree, leaf, pair, Kept, kept, tree_of, without}
-use Rattle.ultra_serial.specs.declared.records.Leaf.{Leaf as SerialLeaf}
+use Rattle.ultra_law.specs.Tree.{Tree as SerialTree, leaf, pair, Kept, kept, tree_of, without}
+use Rattle.ultra_law.specs.declared.records.Leaf.{Leaf as SerialLeaf}
 use Rattle.ultra_tree.specs.declared.listing.Leaf.{Leaf}
 use Rattle.ultra_tree.specs.declared.trees.Node.{Node, Pair'}
 use Rattle.ultra_tree.specs.declared.trees.Node as node

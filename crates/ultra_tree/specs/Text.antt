@@ -1,6 +1,6 @@
 -- the text of a tree: this project's profile
 use Rattle.std.specs.Prelude.{ℕ, zero, suc, List, [], ◌++◌, Bool, true, false, Option, Some, None, codes, decimal}
-use Rattle.ultra_serial.specs.Tree.{Tree, leaf, pair}
+use Rattle.ultra_law.specs.Tree.{Tree, leaf, pair}
 
 -- the name of a request
 abbrev pub leaf_text : ℕ → ℕ → List ℕ

@@ -3,8 +3,8 @@
 ghost use Rattle.std.specs.Prelude.{◌≡◌, ◌≢◌, ℕ, ◌*◌, ◌^◌, ◌<◌, ◌≤◌, [], ◌∷◌, ◌↔◌, None, Some, false, true, not, option_map, IfOk, IfErr, IsSome, IsTrue, OnOk};
 ghost use Rattle.ultra_model.specs.Machine.{size};
 ghost use Rattle.ultra_msg.specs.declared.Event.TheVariants.{Combined};
-ghost use Rattle.ultra_serial.specs.Tree.{tree_of as tree_in, kept, without, trees_after};
-ghost use Rattle.ultra_serial.specs.Explicable.{IsAbsorbable, served_tree, held_by};
+ghost use Rattle.ultra_law.specs.Tree.{tree_of as tree_in, kept, without, trees_after};
+ghost use Rattle.ultra_law.specs.Explicable.{IsAbsorbable, served_tree, held_by};
 ghost use Rattle.ultra_tree.specs.Absorb.{cell_of, nothing_absorbed, ExplainsFault};
 ghost use Rattle.ultra_tree.specs.Seen.{seen};
 ghost use Rattle.ultra_tree.specs.declared.explaining.ExplainFault.TheVariants.{Full, Spent};

@@ -1,7 +1,7 @@
 //! The height of a tree.
 
 ghost use Rattle.std.specs.Prelude.{◌≡◌, ℕ, ◌<◌, ◌^◌};
-ghost use Rattle.ultra_serial.specs.Tree.{height as height_of};
+ghost use Rattle.ultra_law.specs.Tree.{height as height_of};
 ghost use Rattle.ultra_tree.specs.Counts.{leaf_count, HasRightCounts};
 ghost use Rattle.ultra_tree.specs.Places.{depth_at};
 ghost use Rattle.ultra_tree.specs.Seen.{seen};

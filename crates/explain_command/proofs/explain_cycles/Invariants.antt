@@ -1,6 +1,6 @@
 use Rattle.std.proofs.Common.{◌≡◌, ◌++◌, false}
 use Rattle.ultra_model.specs.Machine.{size}
-use Rattle.ultra_serial.specs.SerialList.{history}
+use Rattle.ultra_law.specs.SerialList.{history}
 use Rattle.ultra_serial.proofs.Cycles.{running_after}
 use Rattle.explain_command.specs.Explanation.{lines_of_first}
 use Rattle.explain_command.proofs.explain_cycles.Given as goal

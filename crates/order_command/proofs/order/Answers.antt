@@ -19,7 +19,7 @@ returns-in_err-write_order-clause-err g c =
     let p = err_from_is_err_and c.from_residual-in_err-write_order.result c.from_residual-in_err-write_order.ensures.1 in
     let lines : order_text c.as_slice.result.now ≡ order_of c.in_ok-config.config c.in_ok-config.program =
     let text = c.as_slice.ensures.value in
-    let list = c.in-Ok.ensures in
+    let list = c.in-Ok.ensures.list in
     let cycles = c.cycles.ensures.value in
     cc in
     rw (p.1, p.2) (stopped c.in_ok-config.config c.in_ok-config.program (rw (← c.in_ok-config.config-is, ← c.in_ok-config.program-is) c.in_ok-config.ensures.ok) c.in_err-write_order.ensures.stopped (rw lines at c.in_err-write_order.ensures.err))
@@ -28,7 +28,7 @@ pub returns-clause-ok : goal.returns-clause-ok
 returns-clause-ok g c =
     let lines : order_text c.as_slice.result.now ≡ order_of c.in_ok-config.config c.in_ok-config.program =
     let text = c.as_slice.ensures.value in
-    let list = c.in-Ok.ensures in
+    let list = c.in-Ok.ensures.list in
     let cycles = c.cycles.ensures.value in
     cc in
     record {

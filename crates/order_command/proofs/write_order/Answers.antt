@@ -3,7 +3,7 @@ use Rattle.std.proofs.lemmas.Result.{err_from_is_err_and}
 use Rattle.std.proofs.lemmas.List.{take_all, take_more, take-append-drop, flat_map_more}
 use Rattle.std.proofs.lemmas.Grind.{flat_map-append}
 use Rattle.ultra_msg.specs.Bytes.{IsBeginning}
-use Rattle.ultra_serial.specs.declared.records.Entry.{Entry}
+use Rattle.ultra_law.specs.declared.records.Entry.{Entry}
 use Rattle.order_command.specs.Order.{order_line, order_text}
 use Rattle.order_command.proofs.write_order.Goals as goal
 

@@ -2,7 +2,7 @@ use Rattle.std.proofs.Common.{arith, take, get_or, subst, sym}
 use Rattle.std.proofs.lemmas.List.{take_more}
 use Rattle.ultra_msg.specs.declared.Reply.TheVariants.{Value}
 use Rattle.ultra_serial.specs.ByPair.{list_of}
-use Rattle.ultra_serial.specs.Log.{Answer}
+use Rattle.ultra_law.specs.declared.records.Answer.{Answer}
 use Rattle.ultra_serial.specs.ByName.{AreAnswersByName}
 use Rattle.ultra_serial.proofs.ByName.{none_by_name, more_by_name}
 use Rattle.ultra_serial.proofs.by_name.answers_by_name.Goals as goal

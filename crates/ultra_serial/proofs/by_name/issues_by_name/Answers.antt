@@ -2,7 +2,7 @@ use Rattle.std.proofs.Common.{arith, take, get_or, subst, sym}
 use Rattle.std.proofs.lemmas.List.{take_more}
 use Rattle.ultra_msg.specs.declared.Op.TheVariants.{Load}
 use Rattle.ultra_serial.specs.ByPair.{list_of}
-use Rattle.ultra_serial.specs.Log.{Issue}
+use Rattle.ultra_law.specs.declared.records.Issue.{Issue}
 use Rattle.ultra_serial.specs.ByName.{AreIssuesByName}
 use Rattle.ultra_serial.proofs.ByName.{none_by_name, more_by_name}
 use Rattle.ultra_serial.proofs.by_name.issues_by_name.Goals as goal

@@ -1,8 +1,8 @@
 use Rattle.std.proofs.Common.{subst}
 use Rattle.std.proofs.lemmas.Result.{err_from_is_err_and}
 use Rattle.ultra_serial.specs.declared.checking.BreachKind.TheVariants.{Missing, WrongCell}
-use Rattle.ultra_serial.specs.Log.{log_of}
-use Rattle.ultra_serial.specs.Legal.{given}
+use Rattle.ultra_law.specs.Log.{log_of}
+use Rattle.ultra_law.specs.Legal.{given}
 use Rattle.ultra_serial.specs.Memory.{cell_in}
 use Rattle.ultra_serial.specs.Examined.{IsFine, IsWrongAt}
 use Rattle.ultra_serial.proofs.Explaining.{told, first_missing_fault, fine_everywhere, wrong_cell_found, legal_found}

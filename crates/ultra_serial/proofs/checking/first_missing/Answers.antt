@@ -4,7 +4,7 @@ use Rattle.std.proofs.lemmas.Bool.{cases_eq}
 use Rattle.std.proofs.lemmas.Option.{slice_get-get_or, get_or_from_slice_get, slice_get_within}
 use Rattle.ultra_msg.specs.declared.Reply.TheVariants.{Value}
 use Rattle.ultra_serial.specs.ByPair.{list_of}
-use Rattle.ultra_serial.specs.Log.{Answer}
+use Rattle.ultra_law.specs.declared.records.Answer.{Answer}
 use Rattle.ultra_serial.specs.Examined.{IsListed}
 use Rattle.ultra_serial.proofs.ByName.{listed, not_listed}
 use Rattle.ultra_serial.proofs.checking.first_missing.Goals as goal

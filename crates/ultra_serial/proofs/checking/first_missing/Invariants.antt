@@ -1,7 +1,7 @@
 use Rattle.std.proofs.Common.{◌≡◌, ◌<◌, ℕ, Some}
 use Rattle.std.specs.Prelude.{slice_get}
 use Rattle.ultra_serial.specs.ByPair.{list_of}
-use Rattle.ultra_serial.specs.Log.{Answer}
+use Rattle.ultra_law.specs.declared.records.Answer.{Answer}
 use Rattle.ultra_serial.specs.Examined.{IsListed}
 use Rattle.ultra_serial.proofs.checking.first_missing.Given as goal
 

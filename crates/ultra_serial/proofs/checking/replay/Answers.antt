@@ -4,8 +4,9 @@ use Rattle.std.proofs.lemmas.Option.{slice_get-get_or}
 use Rattle.ultra_msg.specs.declared.Op.TheVariants.{Load}
 use Rattle.ultra_msg.specs.declared.Reply.TheVariants.{Value}
 use Rattle.ultra_msg.specs.Act.{act}
-use Rattle.ultra_serial.specs.Log.{log_of}
-use Rattle.ultra_serial.specs.Legal.{Entry, Cells, with_cell, given}
+use Rattle.ultra_law.specs.Log.{log_of}
+use Rattle.ultra_law.specs.declared.records.Entry.{Entry}
+use Rattle.ultra_law.specs.Legal.{Cells, with_cell, given}
 use Rattle.ultra_serial.specs.Memory.{cell_in}
 use Rattle.ultra_serial.specs.Breach.{cells_past}
 use Rattle.ultra_serial.specs.Examined.{Finds, IsFirstAfter, AreExplained}

@@ -1,6 +1,6 @@
 use Rattle.std.proofs.Common.{◌≡◌, ◌≤◌, take}
-use Rattle.ultra_serial.specs.Log.{log_of}
-use Rattle.ultra_serial.specs.Legal.{given}
+use Rattle.ultra_law.specs.Log.{log_of}
+use Rattle.ultra_law.specs.Legal.{given}
 use Rattle.ultra_serial.specs.Memory.{cell_in}
 use Rattle.ultra_serial.specs.Breach.{cells_past}
 use Rattle.ultra_serial.specs.Examined.{IsFirstAfter, AreExplained}

@@ -1,6 +1,6 @@
 use Rattle.std.proofs.Common.{◌≡◌, ◌+◌, ◌∷◌, [], ◌++◌, take, arith, ap, sym, ◌∙◌, add-one}
 use Rattle.std.proofs.Math.Seq.{take-suc}
-use Rattle.ultra_serial.specs.Explicable.{held_by, one_if}
+use Rattle.ultra_law.specs.Explicable.{held_by, one_if}
 use Rattle.ultra_tree.specs.Seen.{trees_of}
 use Rattle.ultra_tree.proofs.Counted.{equal_test, other_test}
 use Rattle.ultra_tree.proofs.Latest.{trees_push}

@@ -1,5 +1,5 @@
 use Rattle.ultra_serial.specs.ByPair.{list_of}
-use Rattle.ultra_serial.specs.Legal.{Entry}
+use Rattle.ultra_law.specs.declared.records.Entry.{Entry}
 use Rattle.ultra_serial.proofs.ByName.{more_by_name}
 use Rattle.ultra_serial.proofs.by_name.ByName.add.Goals as goal
 

@@ -1,10 +1,10 @@
 use Rattle.std.proofs.Common.{◌≡◌, ◌+◌, true, rules, arith, sym, ap, subst, ◌∙◌}
 use Rattle.ultra_machine.specs.Running.{Running}
 use Rattle.ultra_model.specs.Machine.{is_quiet}
-use Rattle.ultra_serial.specs.SerialList.{history}
+use Rattle.ultra_law.specs.SerialList.{history}
 use Rattle.ultra_serial.specs.Following.{Follows}
 use Rattle.ultra_serial.proofs.Cycles.{cycles_after, running_start, running_next, history_start, history_next}
-use Rattle.ultra_serial.proofs.Rest.{quiet_history}
+use Rattle.ultra_law.proofs.Rest.{quiet_history}
 use Rattle.ultra_serial.proofs.history.Serving.follow_cycles.Goals as goal
 
 pub loop-init : goal.loop-init

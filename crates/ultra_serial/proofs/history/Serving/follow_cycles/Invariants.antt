@@ -1,5 +1,5 @@
 use Rattle.std.proofs.Common.{◌≡◌}
-use Rattle.ultra_serial.specs.SerialList.{history}
+use Rattle.ultra_law.specs.SerialList.{history}
 use Rattle.ultra_serial.specs.Following.{Follows}
 use Rattle.ultra_serial.proofs.Cycles.{running_after}
 use Rattle.ultra_serial.proofs.history.Serving.follow_cycles.Given as goal

@@ -1,9 +1,9 @@
 use Rattle.std.proofs.Common.{sym, subst, ◌∙◌}
-use Rattle.ultra_serial.specs.Tree.{tree_of}
+use Rattle.ultra_law.specs.Tree.{tree_of}
 use Rattle.ultra_serial.specs.declared.history.Serving.{Serving}
 use Rattle.ultra_msg.specs.declared.Event.{Event}
 use Rattle.ultra_msg.specs.declared.Event.TheVariants.{Served}
-use Rattle.ultra_serial.specs.SerialList.{after_event}
+use Rattle.ultra_law.specs.SerialList.{after_event}
 use Rattle.ultra_serial.specs.Following.{Follows}
 use Rattle.ultra_serial.proofs.Turns.{serving_more, leaves_taken}
 use Rattle.ultra_serial.proofs.history.Serving.note.Goals as goal

@@ -1,5 +1,5 @@
 use Rattle.std.proofs.Common.{arith, take, subst, sym}
-use Rattle.ultra_serial.specs.SerialList.{noted}
+use Rattle.ultra_law.specs.SerialList.{noted}
 use Rattle.ultra_serial.specs.Following.{Follows}
 use Rattle.ultra_serial.proofs.Turns.{noted_more, some_event}
 use Rattle.ultra_serial.proofs.history.Serving.note_all.Goals as goal

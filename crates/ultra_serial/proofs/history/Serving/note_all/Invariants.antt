@@ -1,5 +1,5 @@
 use Rattle.std.proofs.Common.{ℕ, List, take}
-use Rattle.ultra_serial.specs.SerialList.{History, noted}
+use Rattle.ultra_law.specs.SerialList.{History, noted}
 use Rattle.ultra_serial.specs.Following.{Follows}
 use Rattle.ultra_serial.proofs.history.Serving.note_all.Given as goal
 

@@ -1,6 +1,7 @@
 use Rattle.std.proofs.Common.{◌≡◌, ◌∙◌, ap, sym}
 use Rattle.std.specs.Global.{Vec}
-use Rattle.ultra_serial.specs.Tree.{Leaf, without}
+use Rattle.ultra_law.specs.declared.records.Leaf.{Leaf}
+use Rattle.ultra_law.specs.Tree.{without}
 use Rattle.ultra_serial.specs.Waiting.{items_in}
 use Rattle.ultra_serial.proofs.Stacks.{in_turn, keeps_pair}
 use Rattle.ultra_serial.proofs.waiting.Waiting.combine.Goals as goal
