@@ -10,7 +10,7 @@ use Rattle.ultra_law.specs.SerialList.{cells_of, history, serial_list}
 abbrev pub IsBeginningOf : {X : Type 0} → List X → List X → Type 0
 IsBeginningOf {X} xs ys = (rest : List X) × (xs ++ rest ≡ ys)
 
--- each list is a beginning of the next, and legal for the log and the cells of its cycle
+-- each list is a prefix of the next, and legal for the log and the cells of its cycle
 pub record AreChained (c : Settings) (program : List Instr) : Type 0 where
   pub grows : (n : ℕ) → IsBeginningOf (serial_list c program n) (serial_list c program (n + 1))
   pub legal : (n : ℕ) → IsLegal (given c.initial) (history c program n).log (cells_of c (after c program n)) (serial_list c program n)

@@ -13,7 +13,7 @@ ghost use Rattle.ultra_law.specs.Replies.{ReplyLaw};
 pub use records::{Answer, Entry, Issue, Leaf, Log, SerialList};
 
 /// The serialization law, as this function's contract: for all settings in their ranges, every program and every
-/// number of cycles, the serial lists of the cycles so far are a chain. Each is a beginning of the next, and each
+/// number of cycles, the serial lists of the cycles so far are a chain. Each is a prefix of the next, and each
 /// explains the replies that were given and the cells: a request stands in it at most once, every answer is its
 /// entry's reply in a replay of the list, the replay ends with the cells, and a request that was answered before
 /// another was issued stands before it.

@@ -89,14 +89,14 @@ pub at_ok : {T E P : Type 0} (r : Result T E) → IsOk r → OnOk r P → P
 at_ok (Ok x) ok p = p
 at_ok (Err e) ok p = absurd cc
 
--- on an empty page all that was written has been taken where nothing is left, and a beginning of it after a fault
+-- on an empty page all that was written has been taken where nothing is left, and a prefix of it after a fault
 pub all_taken : (bytes : List ℕ) (s t : State) → s.waiting ≡ [] → t.failed ≡ false → t.waiting ≡ [] → Wrote bytes s t → t.taken ≡ s.taken ++ bytes
 all_taken bytes s t b g e w = sym (append-nil t.taken) ∙ rw (b, e, append-nil s.taken) at (w.whole g).0
 
 pub beginning_taken : (bytes : List ℕ) (s t : State) → s.waiting ≡ [] → s.failed ≡ false → t.failed ≡ true → Wrote bytes s t → IsBeginning t.taken (s.taken ++ bytes)
 beginning_taken bytes s t b f g w = rw (b, append-nil s.taken) at (w.beginning f g).0
 
--- and where the sink hasn't failed, a beginning of all that begins with what was written
+-- and where the sink hasn't failed, a prefix of all that begins with what was written
 pub part_taken : (part bytes : List ℕ) (s t : State) → s.waiting ≡ [] → t.failed ≡ false → IsBeginning part bytes → Wrote part s t → IsBeginning t.taken (s.taken ++ bytes)
 part_taken part bytes s t b f (rest, e) w = (
   t.waiting ++ rest,

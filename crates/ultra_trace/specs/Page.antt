@@ -14,7 +14,7 @@ pub record State : Type 0 where
 abbrev pub text : State → List ℕ
 text s = s.taken ++ s.waiting
 
--- bytes were written. The first fault of the sink is the last: nothing is written after it, and the sink has then taken a beginning of the text
+-- bytes were written. The first fault of the sink is the last: nothing is written after it, and the sink has then taken a prefix of the text
 pub record Wrote (bytes : List ℕ) (old new : State) : Type 0 where
   pub spent : old.failed ≡ true → new ≡ old
   pub whole : new.failed ≡ false → (text new ≡ text old ++ bytes) × (new.failures ≡ old.failures)
@@ -29,6 +29,6 @@ module _ {S : Type 0} (taken : S → List ℕ) (failures : S → ℕ) where
     pub same_reference : new.sink.ghost_name ≡ old.sink.ghost_name
     pub wrote : Wrote bytes (state_of old) (state_of new)
 
-  -- a beginning of the bytes was written
+  -- a prefix of the bytes was written
   abbrev pub WritesBeginning : List ℕ → Page S → Page S → Type 0
   WritesBeginning bytes old new = (part : List ℕ) × IsBeginning part bytes × Writes part old new

@@ -12,7 +12,7 @@ use super::page::Page;
 use ultra_block::Blocks;
 use ultra_msg::{Sink, SinkFault};
 
-/// Writes the lines of the last cycle to the sink. After a fault the sink has taken a beginning of them.
+/// Writes the lines of the last cycle to the sink. After a fault the sink has taken a prefix of them.
 ///
 /// The machine has to be between two cycles, and to have made at least one. The lines take no memory, and go to the sink in large pieces.
 pub fn write_cycle<S: Sink>(blocks: &Blocks, sink: &mut S) -> Result<(), SinkFault>

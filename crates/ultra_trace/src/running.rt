@@ -62,7 +62,7 @@ impl From<CrewFault> for RunFault {
     }
 }
 
-/// Runs a program on a machine of these settings by n workers, 1 to 64, and writes the trace to the sink: the same bytes for every number of workers and every gate. After a fault the sink has taken a beginning of it.
+/// Runs a program on a machine of these settings by n workers, 1 to 64, and writes the trace to the sink: the same bytes for every number of workers and every gate. After a fault the sink has taken a prefix of it.
 ///
 /// With `Ok` the whole headline holds (`Headline`): what was written is exactly the trace, the serial lists of this run are a chain of legal lists, and the replies that the trace tells are the answers that these lists explain.
 ///
@@ -94,7 +94,7 @@ pub fn run<R: Threads + Wait + Sync, G: Gate + Sync, S: Sink>(
     }
 }
 
-/// Runs a program on a machine of these settings in the caller's thread, and writes the trace to the sink; with `Ok` the whole headline holds, as in [`run`]. After a fault the sink has taken a beginning of the trace.
+/// Runs a program on a machine of these settings in the caller's thread, and writes the trace to the sink; with `Ok` the whole headline holds, as in [`run`]. After a fault the sink has taken a prefix of the trace.
 ///
 /// `Write` says that the sink failed, and `NoMemory` that memory was refused; it is asked for only before the first byte is written. `NoThread` is never answered.
 pub fn run_alone<S: Sink>(
@@ -171,7 +171,7 @@ fn dealt_out(alloc: Global, config: &Config, workers: u8) -> Result<Vec<u8>, All
     Ok(partition)
 }
 
-/// Runs a machine from its start, and writes its trace to a sink. After a fault the sink has taken a beginning of it.
+/// Runs a machine from its start, and writes its trace to a sink. After a fault the sink has taken a prefix of it.
 fn write_trace<S: Sink>(blocks: &mut Blocks, sink: &mut S) -> Result<(), SinkFault>
     requires { IsAfter blocks.old.config blocks.old.program 0 blocks.old }
     ensures ok { OnOk result (S.taken sink.new ≡ S.taken sink.old ++ trace blocks.old.config blocks.old.program) }

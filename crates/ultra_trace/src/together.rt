@@ -19,7 +19,7 @@ use ultra_block::Blocks;
 use ultra_crew::{Course, CrewFault, Gate, Shift};
 use ultra_msg::Sink;
 
-/// Runs a machine from its start by workers, and writes its trace to a sink. The workers' threads are kept for the whole run, and joined at its end. After a fault the sink has taken a beginning of the trace.
+/// Runs a machine from its start by workers, and writes its trace to a sink. The workers' threads are kept for the whole run, and joined at its end. After a fault the sink has taken a prefix of the trace.
 pub fn write_trace_together<R: Threads + Wait + Sync, G: Gate + Sync, S: Sink>(
     rt: &R,
     alloc: Global,
@@ -81,7 +81,7 @@ fn write_by_workers<'s, J: Course + Send, R: Threads + Wait + Sync, G: Gate + Sy
     )
 }
 
-/// Runs a machine from its start by the workers of a shift, and writes its trace to a sink. After a fault the sink has taken a beginning of it.
+/// Runs a machine from its start by the workers of a shift, and writes its trace to a sink. After a fault the sink has taken a prefix of it.
 fn write_by_shift<J: Course, R: Wait, S: Sink>(
     rt: &R,
     alloc: Global,
