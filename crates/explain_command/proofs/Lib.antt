@@ -1,3 +1,3 @@
+pub mod Firsts
 pub mod InRange
-pub mod Left
 pub mod Runs

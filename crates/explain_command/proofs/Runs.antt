@@ -1,5 +1,5 @@
 -- the lines of a run, cycle by cycle
-use Rattle.std.proofs.Common.{◌≡◌, ◌∙◌, ℕ, zero, suc, ◌+◌, ◌≤◌, List, [], ◌∷◌, ◌++◌, true, false, refl, sym, ap, subst, arith, add-one, append_assoc, append-nil, ⊎_elim, length}
+use Rattle.std.proofs.Common.{◌≡◌, ◌∙◌, ℕ, zero, suc, ◌+◌, ◌<◌, ◌≤◌, List, [], ◌∷◌, ◌++◌, true, false, refl, sym, ap, subst, arith, add-one, append_assoc, append-nil, ⊎_elim, length}
 use Rattle.std.proofs.lemmas.Bool.{cases_eq}
 use Rattle.ultra_msg.specs.Bytes.{IsBeginning}
 use Rattle.ultra_msg.specs.declared.Event.{Event}
@@ -14,8 +14,8 @@ use Rattle.ultra_law.proofs.Mentions.{trees_noted, noted_trees}
 use Rattle.ultra_law.specs.Explicable.{AreAbsorbable, AreExplicable}
 use Rattle.ultra_law.proofs.Rest.{IsAtRest, rest_if_quiet, rest_cycle, nothing_happens}
 use Rattle.ultra_tree.specs.Absorb.{Explained}
-use Rattle.explain_command.specs.Explanation.{event_lines, trees_after_all, lines_of_first}
-use Rattle.explain_command.proofs.Left.{begins_more}
+use Rattle.explain_command.specs.Explanation.{event_lines, trees_after_all, lines_of_first, StopsAtCombination, StopsFull, in_cycle}
+use Rattle.explain_command.proofs.Firsts.{begins_more}
 
 noted_all : (es : List Event) (ks : List Kept) → trees_noted es ks ≡ trees_after_all ks es
 noted_all [] ks = refl
@@ -95,3 +95,6 @@ module _ (c : Settings) (program : List Instr) where
       begun_next new m h b =
           let p = lines_grow (n + 1) m h in
           rw (← p.1, ← append_assoc old (lines_of_first c program (n + 1)) p.0) (begins_more new (old ++ lines_of_first c program (n + 1)) p.0 (rw all_so_far at b))
+
+      pub full_there : (new : List ℕ) → n < c.cycles → StopsAtCombination n e.trees es now new → StopsFull c program old new
+      full_there new h s = in_cycle n h (rw (now_is, here, so_far) at s)

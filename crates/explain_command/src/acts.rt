@@ -1,12 +1,13 @@
 //! The lines of memory acts, over the trees that an explainer keeps.
 
-ghost use Rattle.std.specs.Prelude.{◌≡◌, ◌⊎◌, ◌++◌, false, codes, decimal, IfErr, OnErr, OnOk};
+ghost use Rattle.std.specs.Prelude.{◌≡◌, ◌⊎◌, ◌++◌, false, true, codes, decimal, IfErr, OnErr, OnOk};
 ghost use Rattle.ultra_msg.specs.Bytes.{IsBeginning, Writes};
 ghost use Rattle.ultra_law.specs.Tree.{trees_after};
 ghost use Rattle.ultra_law.specs.Explicable.{AreAbsorbable, IsAbsorbable};
+ghost use Rattle.ultra_tree.specs.Absorb.{IsCombination};
 ghost use Rattle.ultra_tree.specs.Seen.{seen};
 ghost use Rattle.ultra_inputs.specs.declared.failure.Failure.TheVariants.{HeapFull, NoMemory};
-ghost use Rattle.explain_command.specs.Explanation.{act_line, event_line, event_lines, trees_after_all};
+ghost use Rattle.explain_command.specs.Explanation.{act_line, event_line, event_lines, trees_after_all, StopsAtCombination};
 
 use crate::lines::Lines;
 use itoa::Buffer;
@@ -35,6 +36,11 @@ pub(crate) fn put_lines<'p, A: Allocator + Clone>(
     ensures err { OnErr result (IsBeginning lines.new.bytes.items
         (lines.old.bytes.items ++ event_lines cycle explainer.old.trees events.now)) }
     ensures fault { IfErr result (λ f. (f ≡ HeapFull) ⊎ (f ≡ NoMemory)) }
+    ensures heap_full { IfErr result (λ f. f ≡ HeapFull → explainer.new.is_spent ≡ true) }
+    ensures no_memory { IfErr result (λ f. f ≡ NoMemory → explainer.new.is_spent ≡ false) }
+    ensures whole_lines { IfErr result (λ f. f ≡ HeapFull
+        → StopsAtCombination cycle explainer.old.trees events.now lines.old.bytes.items
+        lines.new.bytes.items) }
 {
     for event in events {
         put_event(cycle, event, explainer, lines)?;
@@ -61,6 +67,11 @@ fn put_event<'p, A: Allocator + Clone>(
     ensures err { OnErr result (IsBeginning lines.new.bytes.items
         (lines.old.bytes.items ++ event_line cycle explainer.old.trees event.now)) }
     ensures fault { IfErr result (λ f. (f ≡ HeapFull) ⊎ (f ≡ NoMemory)) }
+    ensures heap_full { IfErr result (λ f. f ≡ HeapFull → explainer.new.is_spent ≡ true) }
+    ensures no_memory { IfErr result (λ f. f ≡ NoMemory → explainer.new.is_spent ≡ false) }
+    ensures combines { IfErr result (λ f. f ≡ HeapFull → IsCombination event.now) }
+    ensures no_line { IfErr result
+        (λ f. f ≡ HeapFull → lines.new.bytes.items ≡ lines.old.bytes.items) }
 {
     let Ok(served) = explainer.absorb(event) else {
         return Err(Failure::HeapFull);

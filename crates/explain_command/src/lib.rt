@@ -10,9 +10,10 @@ ghost use Rattle.ultra_model.specs.Machine.{size, start};
 ghost use Rattle.ultra_model.specs.Ranges.{AreInRange};
 ghost use Rattle.ultra_law.specs.Explicable.{AreAbsorbable};
 ghost use Rattle.ultra_tree.specs.Absorb.{nothing_absorbed};
+ghost use Rattle.ultra_inputs.specs.declared.failure.Failure.TheVariants.{HeapFull};
 ghost use Rattle.ultra_inputs.specs.Failure.{read_failures, write_failures};
 ghost use Rattle.ultra_inputs.specs.Traffic.{traffic, WroteText, TextFails};
-ghost use Rattle.explain_command.specs.Explanation.{event_lines, trees_after_all, explanation_of, IsCutShort};
+ghost use Rattle.explain_command.specs.Explanation.{event_lines, trees_after_all, explanation_of, EndsFull, IsCutShort, StopsAtCombination, StopsFull};
 
 use acts::put_lines;
 use lines::Lines;
@@ -47,6 +48,8 @@ pub fn explain<'p, F: Source, O: Sink>(
         (traffic (F.files source.old) (O.taken out.old)) (traffic (F.files source.new) (O.taken out.new))) }
     ensures err { IfErr result (TextFails explanation_of IsCutShort settings_path.now program_path.now
         (traffic (F.files source.old) (O.taken out.old)) (traffic (F.files source.new) (O.taken out.new))) }
+    ensures full { IfErr result (λ f. f ≡ HeapFull → EndsFull settings_path.now program_path.now
+        (traffic (F.files source.old) (O.taken out.old)) (traffic (F.files source.new) (O.taken out.new))) }
     ensures read_still { OnOk result (F.failures source.new ≡ F.failures source.old) }
     ensures read_counted { IfErr result
         (λ f. F.failures source.new ≡ F.failures source.old + read_failures f) }
@@ -73,6 +76,8 @@ fn explain_run<'p, O: Sink>(
     ensures err { OnErr result (IsBeginning (O.taken out.new)
         (O.taken out.old ++ explanation_of config.now program.now)) }
     ensures fault { IfErr result IsCutShort }
+    ensures full { IfErr result (λ f. f ≡ HeapFull
+        → StopsFull config.now program.now (O.taken out.old) (O.taken out.new)) }
     ensures still { OnOk result (O.failures out.new ≡ O.failures out.old) }
     ensures counted { IfErr result
         (λ f. O.failures out.new ≡ O.failures out.old + write_failures f) }
@@ -106,6 +111,8 @@ fn explain_cycles<'p, A: Allocator + Clone, O: Sink>(
         ((O.taken out.old ++ lines.old.bytes.items) ++ explanation_of machine.old.settings
         machine.old.program)) }
     ensures fault { IfErr result IsCutShort }
+    ensures full { IfErr result (λ f. f ≡ HeapFull → StopsFull machine.old.settings
+        machine.old.program (O.taken out.old ++ lines.old.bytes.items) (O.taken out.new)) }
     ensures still { OnOk result (O.failures out.new ≡ O.failures out.old) }
     ensures counted { IfErr result
         (λ f. O.failures out.new ≡ O.failures out.old + write_failures f) }
@@ -143,6 +150,9 @@ fn explain_cycle<'p, A: Allocator + Clone, O: Sink>(
         ((O.taken out.old ++ lines.old.bytes.items) ++ event_lines cycle explainer.old.trees
         events.now)) }
     ensures fault { IfErr result IsCutShort }
+    ensures full { IfErr result (λ f. f ≡ HeapFull
+        → StopsAtCombination cycle explainer.old.trees events.now
+        (O.taken out.old ++ lines.old.bytes.items) (O.taken out.new)) }
     ensures still { OnOk result (O.failures out.new ≡ O.failures out.old) }
     ensures counted { IfErr result
         (λ f. O.failures out.new ≡ O.failures out.old + write_failures f) }

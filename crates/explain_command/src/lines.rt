@@ -30,7 +30,9 @@ impl Lines {
     }
 
     /// How many bytes wait.
-    pub fn len(&self) -> usize {
+    pub fn len(&self) -> usize
+        ensures { result ≡ length self.now.bytes.items }
+    {
         self.bytes.len()
     }
 

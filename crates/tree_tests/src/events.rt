@@ -3,12 +3,12 @@
 use linked_list_allocator::LocalHeap;
 use std::alloc::Allocator;
 use std::process::Abort;
-use ultra_model::{Config, RawSettings};
+use ultra_model::{Config, ConfigFault, RawSettings};
 use ultra_msg::{Event, Op, Pe, Reply, Request, Word};
 use ultra_tree::{ExplainFault, Explainer, Tree};
 
 /// The default settings with this many stages.
-pub(crate) fn settings<R: AllocGlobal + Abort>(rt: &R, stages: i64) -> Config {
+pub(crate) fn settings<R: AllocGlobal>(rt: &R, stages: i64) -> Result<Config, ConfigFault> {
     let raw = RawSettings {
         stages: Some(stages),
         request_places: Some(4),
@@ -19,7 +19,7 @@ pub(crate) fn settings<R: AllocGlobal + Abort>(rt: &R, stages: i64) -> Config {
         cycles: Some(1000),
         initial: Some(Vec::new(rt.alloc())),
     };
-    Config::new(rt.alloc(), &raw).expect(rt, "settings are refused")
+    Config::new(rt.alloc(), &raw)
 }
 
 /// An explainer of four processing elements, with its trees in this heap.
@@ -27,7 +27,8 @@ pub(crate) fn explainer<'h, R: AllocGlobal + Abort>(
     rt: &R,
     heap: &'h LocalHeap,
 ) -> Explainer<&'h LocalHeap> {
-    Explainer::new(&settings(rt, 2), heap).expect(rt, "no room for an explainer")
+    let settings = settings(rt, 2).expect(rt, "settings are refused");
+    Explainer::new(&settings, heap).expect(rt, "no room for an explainer")
 }
 
 /// Absorbs an event that the explainer accepts.

@@ -39,7 +39,7 @@ fn a_heap_that_is_full(rt: HostRuntime) -> Result<(), Fail> {
 #[test]
 fn a_heap_without_room(rt: HostRuntime) -> Result<(), Fail> {
     let heap = LocalHeap::new(rt.alloc(), 64)?;
-    let refused = Explainer::new(&settings(&rt, 2), &heap);
+    let refused = Explainer::new(&settings(&rt, 2)?, &heap);
     assert!(&rt; matches!(refused, Err(ExplainFault::Full)));
     Ok(())
 }

@@ -1,15 +1,22 @@
 //! Trees that are higher than those of any machine.
 
 use crate::events::{absorb, absorb_all, issue, meeting, serving, settings};
-use std::alloc::Global;
+use linked_list_allocator::LocalHeap;
+use std::alloc::Allocator;
 use std::process::Abort;
 use std::test::Fail;
-use ultra_tree::{Explainer, Tree, height, leaves};
+use ultra_model::Config;
+use ultra_msg::{Op, Pe};
+use ultra_tree::{Explainer, Leaf, Tree, height, leaves};
 
 /// A tree of this height: processing element 1 issues anew as soon as its request has combined.
-fn high_tree<R: AllocGlobal + Abort>(rt: &R, levels: u32) -> Tree<Global> {
-    let new = Explainer::new(&settings(rt, 2), rt.alloc());
-    let mut explainer = new.expect(rt, "no memory");
+fn high_tree<A: Allocator + Clone>(
+    rt: &impl Abort,
+    settings: &Config,
+    alloc: A,
+    levels: u32,
+) -> Tree<A> {
+    let mut explainer = Explainer::new(settings, alloc).expect(rt, "no memory");
     assert!(rt; absorb(rt, &mut explainer, &issue(0, 0, 1)).is_ok());
     for number in 0..levels {
         let level = [issue(1, number, 1), meeting(0, 0, 0, 1)];
@@ -21,7 +28,7 @@ fn high_tree<R: AllocGlobal + Abort>(rt: &R, levels: u32) -> Tree<Global> {
 
 #[test]
 fn a_high_tree(rt: HostRuntime) -> Result<(), Fail> {
-    let tree = high_tree(&rt, 1000);
+    let tree = high_tree(&rt, &settings(&rt, 2)?, rt.alloc(), 1000);
     assert_eq!(&rt; height(&tree), 1000);
     let all = leaves(rt.alloc(), &tree)?;
     assert_eq!(&rt; all.len(), 1001);
@@ -32,6 +39,27 @@ fn a_high_tree(rt: HostRuntime) -> Result<(), Fail> {
 /// A drop that called itself for each level would need more stack than there is.
 #[test]
 fn a_high_tree_is_dropped(rt: HostRuntime) -> Result<(), Fail> {
-    drop(high_tree(&rt, 200_000));
+    drop(high_tree(&rt, &settings(&rt, 2)?, rt.alloc(), 200_000));
+    Ok(())
+}
+
+/// A request that adds 1.
+fn leaf(pe: Pe, number: u32) -> Leaf {
+    Leaf {
+        pe,
+        number,
+        op: Op::Faa(1),
+    }
+}
+
+/// With each allocation refused in turn, the list of leaves is refused or whole. The tree itself is made in the memory
+/// of a heap.
+#[test]
+fn leaves_are_refused_or_whole(rt: HostRuntime) -> Result<(), Fail> {
+    let heap = LocalHeap::new(rt.alloc(), 4096)?;
+    let tree = high_tree(&rt, &settings(&rt, 2)?, &heap, 4);
+    let in_order = [leaf(0, 0), leaf(1, 0), leaf(1, 1), leaf(1, 2), leaf(1, 3)];
+    let all = leaves(rt.alloc(), &tree)?;
+    assert_eq!(&rt; all.as_slice(), in_order.as_slice());
     Ok(())
 }

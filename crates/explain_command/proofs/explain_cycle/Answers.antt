@@ -2,7 +2,7 @@ use Rattle.std.proofs.Common.{◌++◌, append_assoc}
 use Rattle.std.proofs.lemmas.Result.{err_from_is_err_and}
 use Rattle.ultra_msg.proofs.Parts.{at_error}
 use Rattle.explain_command.specs.Explanation.{event_lines}
-use Rattle.explain_command.proofs.Left.{begins_same, begins_within, put_part}
+use Rattle.explain_command.proofs.Firsts.{begins_same, begins_within, put_part, stops_behind}
 use Rattle.explain_command.proofs.explain_cycle.Goals as goal
 
 pub returns-in_err-hand_on-clause-err : goal.returns-in_err-hand_on-clause-err
@@ -24,3 +24,10 @@ returns-in_ok-hand_on-clause-err g c =
     let after = g.O.Sink.taken c.hand_on.new.out in
     let put = put_part c.put_lines-explained.result waits (waited ++ more) c.put_lines-explained.ensures.ok c.put_lines-explained.ensures.err in
     at_error c.put_lines-explained.result (rw (append_assoc before waited more) (begins_within after before waits (waited ++ more) (begins_same after (before ++ waits) c.in_ok-hand_on.ensures.ok) put))
+
+pub returns-in_ok-hand_on-clause-full : goal.returns-in_ok-hand_on-clause-full
+returns-in_ok-hand_on-clause-full g c =
+    let before = g.O.Sink.taken c.args.out.now in
+    let waited = c.args.lines.now.bytes.items in
+    let waits = c.put_lines-explained.new.lines.bytes.items in
+    stops_behind c.args.cycle c.args.explainer.now.trees c.args.events.now before waited waits (g.O.Sink.taken c.hand_on.new.out) c.in_ok-hand_on.ensures.ok c.put_lines-explained.result c.put_lines-explained.ensures.whole_lines

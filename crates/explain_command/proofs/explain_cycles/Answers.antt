@@ -4,7 +4,7 @@ use Rattle.ultra_machine.specs.Running.{Running}
 use Rattle.ultra_model.specs.Machine.{Settings, is_quiet}
 use Rattle.ultra_serial.proofs.Cycles.{cycles_after, running_start, running_next, history_start}
 use Rattle.explain_command.specs.Explanation.{lines_of_first}
-use Rattle.explain_command.proofs.Runs.{no_lines, quiet_lines, can_come, explained_next, written_next, begun_next}
+use Rattle.explain_command.proofs.Runs.{no_lines, quiet_lines, can_come, explained_next, written_next, begun_next, full_there}
 use Rattle.explain_command.proofs.explain_cycles.Goals as goal
 use Rattle.explain_command.proofs.explain_cycles.Goals.{else-loop-cycle-test, then-loop-cycle-test+in_ok-explain_cycle+then-is_quiet}
 
@@ -45,6 +45,19 @@ returns-in_err-explain_cycle-clause-err g c =
     let taken = g.O.Sink.taken c.loop-cycle.out ++ c.loop-cycle.lines.bytes.items in
     let end : c.cycles-cycle-end.result ≡ v.cycles = c.cycles-cycle-end.ensures.value ∙ ap (λ (s : Settings). s.cycles) c.config.ensures in
     rw r.1 (begun_next v p n c.events.result.now events c.loop-cycle.explainer c.loop-cycle.invariant.explainer old taken c.loop-cycle.invariant.written _ v.cycles (omega (arith, end)) c.in_err-explain_cycle.ensures.err)
+
+pub returns-in_err-explain_cycle-clause-full : goal.returns-in_err-explain_cycle-clause-full
+returns-in_err-explain_cycle-clause-full g c =
+    let r = err_from_is_err_and c.from_residual.result c.from_residual.ensures.1 in
+    let v = c.args.machine.now.settings in
+    let p = c.args.machine.now.program in
+    let n = c.loop-cycle.cycle in
+    let now = running_next v p c.loop-cycle.machine c.cycle.new.self n c.loop-cycle.invariant.machine c.cycle.ensures in
+    let events = c.events.ensures ∙ ap (λ (r : Running). r.state.events) now in
+    let old = g.O.Sink.taken c.args.out.now ++ c.args.lines.now.bytes.items in
+    let taken = g.O.Sink.taken c.loop-cycle.out ++ c.loop-cycle.lines.bytes.items in
+    let end : c.cycles-cycle-end.result ≡ v.cycles = c.cycles-cycle-end.ensures.value ∙ ap (λ (s : Settings). s.cycles) c.config.ensures in
+    rw (r.1, r.2) (λ full. full_there v p n c.events.result.now events c.loop-cycle.explainer c.loop-cycle.invariant.explainer old taken c.loop-cycle.invariant.written _ (omega (arith, end)) (c.in_err-explain_cycle.ensures.full full))
 
 pub loop-cycle-preserved : goal.loop-cycle-preserved
 loop-cycle-preserved g c =
