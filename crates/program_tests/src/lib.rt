@@ -24,6 +24,8 @@ mod settings;
 #[cfg(test)]
 mod shelf;
 #[cfg(test)]
+mod sweeps;
+#[cfg(test)]
 mod traces;
 #[cfg(test)]
 mod tray;

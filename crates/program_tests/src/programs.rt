@@ -363,7 +363,7 @@ pub(crate) fn check_usage_fault<R: Host>(rt: &R, words: &[&str], told: &str) -> 
 
 #[test]
 fn wrong_words_are_usage_faults(rt: HostRuntime) -> Result<(), Fail> {
-    let rows: [&[&str]; 9] = [
+    let rows: [&[&str]; 8] = [
         &[],
         &["ultra"],
         &["ultra", "walk", "c.toml", "p.s"],
@@ -372,15 +372,6 @@ fn wrong_words_are_usage_faults(rt: HostRuntime) -> Result<(), Fail> {
         &["ultra", "order", "c.toml"],
         &["ultra", "explain", "c.toml"],
         &["ultra", "list"],
-        &[
-            "ultra",
-            "sweep",
-            "jobs.toml",
-            "--workers",
-            "2",
-            "--at-once",
-            "1",
-        ],
     ];
     for words in rows {
         check_usage_fault(&rt, words, "Usage: ultra")?;
@@ -417,7 +408,7 @@ fn help_goes_to_standard_output(rt: HostRuntime) -> Result<(), Fail> {
     let ended = call(&rt, &["ultra", "--help"], &[]);
     let text = ended.out.text()?;
     assert!(rt; text.contains("Usage: ultra"), "{text}");
-    for command in ["run", "order", "explain", "list"] {
+    for command in ["run", "order", "explain", "list", "sweep", "lib"] {
         let line = format!(in rt.alloc(); "\n  {command} ")?;
         assert!(rt; text.contains(line.as_str()), "{text}");
     }

@@ -3,7 +3,7 @@
 use std::alloc::Global;
 use std::process::Abort;
 use std::test::Fail;
-use ultra_jobs::{JobsFault, jobs_from};
+use ultra_sweep::{JobsFault, jobs_from};
 
 /// Asserts that a text is refused with this fault.
 fn check_refused<R: Abort + AllocGlobal>(

@@ -5,26 +5,15 @@ ghost use Rattle.std.specs.Prelude.{◌≡◌, IfOk, vec_len};
 use std::alloc::Global;
 use std::test::Fail;
 use ultra_asm::assemble;
-use ultra_model::{Config, RawSettings};
-use ultra_sweep::Job;
+use ultra_sweep::{Job, settings_from};
 
 /// Each processing element adds 1 to cell 0.
 const ADD_ONE: &str = "li r1 0\nli r2 1\nfaa r3 r1 r2\nhalt\n";
 
 /// A job on the smallest machine.
 fn job(alloc: Global, program: &str) -> Result<Job, Fail> {
-    let raw = RawSettings {
-        stages: Some(1),
-        request_places: Some(4),
-        reply_places: Some(8),
-        wait_places: Some(4),
-        most_open: Some(2),
-        cells: Some(16),
-        cycles: Some(1000),
-        initial: Some(Vec::new(alloc)),
-    };
     Ok(Job {
-        config: Config::new(alloc, &raw)?,
+        config: settings_from(alloc, b"stages = 1")?,
         program: assemble(alloc, program)?,
     })
 }

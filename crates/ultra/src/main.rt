@@ -1,8 +1,12 @@
 //! The program `ultra`: it runs programs on a simulated machine.
 #![tactic(auto)]
 
-ghost use Rattle.std.specs.Prelude.{◌≡◌, ◌+◌, IfOk, OnErr};
-ghost use Rattle.ultra_cli.specs.Outcome.{status_failures, IsRefusal, IsStatus};
+ghost use Rattle.std.specs.Prelude.{◌≡◌, ◌≢◌, ◌+◌, List, [], IfOk, OnErr};
+ghost use Rattle.ultra_io.specs.Source.{File};
+ghost use Rattle.ultra_command_line.specs.declared.Parsed.{Parsed};
+ghost use Rattle.ultra_inputs.specs.Traffic.{traffic};
+ghost use Rattle.sweep_command.specs.Shown.{stream};
+ghost use Rattle.ultra_cli.specs.Outcome.{status_failures, IsRefusal, IsStatus, Obeyed, Failed};
 
 use std::env::Env;
 use std::io::ErrorKind;
@@ -16,8 +20,7 @@ use ultra_io::{FileSource, Stream};
 use ultra_msg::Sink;
 
 /// Calls `main_with` with the program's own words and files, and with these streams. An error says
-/// that the words
-/// couldn't be had; nothing is written then.
+/// that the words couldn't be had; nothing is written then.
 fn start<R: AllocGlobal + Env + Files + Threads + Wait + Sync, O: Sink, E: Sink>(
     rt: &R,
     out: &mut O,
@@ -27,7 +30,14 @@ fn start<R: AllocGlobal + Env + Files + Threads + Wait + Sync, O: Sink, E: Sink>
     ensures nothing { IfOk result (λ s. IsRefusal s → O.taken out.new ≡ O.taken out.old) }
     ensures counted { IfOk result
         (λ s. O.failures out.new ≡ O.failures out.old + status_failures s) }
-    ensures silent { IfOk result (λ s. s ≡ 0 → E.taken err.new ≡ E.taken err.old) }
+    ensures done { IfOk result (λ s. s ≡ 0 → (p : Parsed) × (files : List File) × Obeyed p
+        (traffic [] (O.taken out.old)) (traffic files (O.taken out.new))
+        (stream (E.taken err.old) (E.failures err.old))
+        (stream (E.taken err.new) (E.failures err.new))) }
+    ensures failed { IfOk result (λ s. s ≢ 0 → (p : Parsed) × (files : List File) × Failed p
+        (traffic [] (O.taken out.old)) (traffic files (O.taken out.new))
+        (stream (E.taken err.old) (E.failures err.old))
+        (stream (E.taken err.new) (E.failures err.new)) s) }
     ensures no_words { OnErr result (O.taken out.new ≡ O.taken out.old) }
     ensures no_word_of_it { OnErr result (E.taken err.new ≡ E.taken err.old) }
 {

@@ -1,20 +1,24 @@
 -- which commands were obeyed, and with which status the program ends; this project's profile
-use Rattle.std.specs.Prelude.{◌≡◌, ℕ, List, [], ◌∷◌, ◌++◌, ◌⊎◌, ◌==◌, if◌then◌else◌, string_bytes}
+use Rattle.std.specs.Prelude.{◌≡◌, ◌≢◌, ◌+◌, ℕ, List, [], ◌∷◌, ◌++◌, ◌⊎◌, ◌==◌, if◌then◌else◌, string_bytes, Result, OnOk, IfErr}
 use Rattle.ultra_msg.specs.Bytes.{IsBeginning}
 use Rattle.ultra_isa.specs.declared.Instr.{Instr}
 use Rattle.ultra_asm.specs.Listing.{listing_text}
-use Rattle.ultra_command_line.specs.declared.Command.TheVariants.{Run, Order, Explain, List as ListOf, Lib}
+use Rattle.ultra_command_line.specs.declared.Command.TheVariants.{Run, Order, Explain, List as ListOf, Sweep, Lib}
 use Rattle.ultra_command_line.specs.declared.Parsed.{Parsed}
 use Rattle.ultra_command_line.specs.declared.Parsed.TheVariants as parsed
 use Rattle.ultra_inputs.specs.declared.failure.Failure.{Failure}
 use Rattle.ultra_inputs.specs.declared.failure.Failure.TheVariants.{Usage, NoMemory, NotWritten}
 use Rattle.ultra_inputs.specs.Inputs.{IsProgramOf, IsUnread, ExplainsProgram}
 use Rattle.ultra_inputs.specs.Traffic.{Traffic, with_files, IsStopped, WroteText, TextFails}
+use Rattle.ultra_inputs.specs.Failure.{status_of}
+use Rattle.ultra_io.specs.Account.{SinkTold}
 use Rattle.ultra_io.specs.Source.{file_of}
 use Rattle.run_command.specs.Stops.{IsStoppedBy}
 use Rattle.order_command.specs.Order.{order_of}
 use Rattle.explain_command.specs.Explanation.{explanation_of, IsCutShort}
 use Rattle.lib_command.specs.Coordination.{WroteProgram, LibFails}
+use Rattle.sweep_command.specs.Shown.{Told}
+use Rattle.sweep_command.specs.Sweep.{Swept, SweepFails}
 use Rattle.ultra_trace.specs.Trace.{trace}
 
 -- one of the program's statuses: done, a usage fault, refused input, no memory or thread, a failed write
@@ -43,24 +47,47 @@ pub data ListFails (prog : List ℕ) (old new : Traffic) (f : Failure) : Type 0 
   refused_text : (text : List ℕ) → ExplainsProgram prog text f → new ≡ with_files old (file_of prog text ∷ []) → ListFails prog old new f
   unwritten : (text : List ℕ) (p : List Instr) → IsProgramOf text p → f ≡ NotWritten → new.files ≡ old.files ++ file_of prog text ∷ [] → IsBeginning new.written (old.written ++ listing_text p) → ListFails prog old new f
 
--- what was asked for was done
-abbrev pub Obeyed : Parsed → Traffic → Traffic → Type 0
-Obeyed (parsed.Command (Run conf prog workers)) old new = WroteText trace conf.now prog.now old new
-Obeyed (parsed.Command (Order conf prog)) old new = WroteText order_of conf.now prog.now old new
-Obeyed (parsed.Command (Explain conf prog heap)) old new = WroteText explanation_of conf.now prog.now old new
-Obeyed (parsed.Command (ListOf prog)) old new = WroteListing prog.now old new
-Obeyed (parsed.Command (Lib coordination)) old new = (new.files ≡ old.files) × WroteProgram coordination old.written new.written
-Obeyed (parsed.Help text) old new = new ≡ record old { written = old.written ++ string_bytes text }
-Obeyed (parsed.Usage text) old new = ⊥
-Obeyed parsed.NoMemory old new = ⊥
+-- what was asked for was done. Standard error took nothing, but for the progress of a sweep
+abbrev pub Obeyed : Parsed → Traffic → Traffic → SinkTold → SinkTold → Type 0
+Obeyed (parsed.Command (Run conf prog workers)) old new before after = WroteText trace conf.now prog.now old new × (after ≡ before)
+Obeyed (parsed.Command (Order conf prog)) old new before after = WroteText order_of conf.now prog.now old new × (after ≡ before)
+Obeyed (parsed.Command (Explain conf prog heap)) old new before after = WroteText explanation_of conf.now prog.now old new × (after ≡ before)
+Obeyed (parsed.Command (ListOf prog)) old new before after = WroteListing prog.now old new × (after ≡ before)
+Obeyed (parsed.Command (Sweep jobs workers at_once progress)) old new before after = Swept jobs.now progress old new before after
+Obeyed (parsed.Command (Lib coordination)) old new before after = (new.files ≡ old.files) × WroteProgram coordination old.written new.written × (after ≡ before)
+Obeyed (parsed.Help text) old new before after = (new ≡ record old { written = old.written ++ string_bytes text }) × (after ≡ before)
+Obeyed (parsed.Usage text) old new before after = ⊥
+Obeyed parsed.NoMemory old new before after = ⊥
 
--- how it wasn't done
-abbrev pub NotObeyed : Parsed → Traffic → Traffic → Failure → Type 0
-NotObeyed (parsed.Command (Run conf prog workers)) old new f = TextFails trace (IsStoppedBy workers.count) conf.now prog.now old new f
-NotObeyed (parsed.Command (Order conf prog)) old new f = TextFails order_of IsStopped conf.now prog.now old new f
-NotObeyed (parsed.Command (Explain conf prog heap)) old new f = TextFails explanation_of IsCutShort conf.now prog.now old new f
-NotObeyed (parsed.Command (ListOf prog)) old new f = ListFails prog.now old new f
-NotObeyed (parsed.Command (Lib coordination)) old new f = (new.files ≡ old.files) × LibFails coordination old.written new.written f
-NotObeyed (parsed.Help text) old new f = (f ≡ NotWritten) × (new.files ≡ old.files) × IsBeginning new.written (old.written ++ string_bytes text)
-NotObeyed (parsed.Usage text) old new f = (f ≡ Usage text) × (new ≡ old)
-NotObeyed parsed.NoMemory old new f = (f ≡ NoMemory) × (new ≡ old)
+-- how it wasn't done, before the failure was reported
+abbrev pub NotObeyed : Parsed → Traffic → Traffic → SinkTold → SinkTold → Failure → Type 0
+NotObeyed (parsed.Command (Run conf prog workers)) old new before after f = TextFails trace (IsStoppedBy workers.count) conf.now prog.now old new f × (after ≡ before)
+NotObeyed (parsed.Command (Order conf prog)) old new before after f = TextFails order_of IsStopped conf.now prog.now old new f × (after ≡ before)
+NotObeyed (parsed.Command (Explain conf prog heap)) old new before after f = TextFails explanation_of IsCutShort conf.now prog.now old new f × (after ≡ before)
+NotObeyed (parsed.Command (ListOf prog)) old new before after f = ListFails prog.now old new f × (after ≡ before)
+NotObeyed (parsed.Command (Sweep jobs workers at_once progress)) old new before after f = SweepFails jobs.now progress old new before after f
+NotObeyed (parsed.Command (Lib coordination)) old new before after f = (new.files ≡ old.files) × LibFails coordination old.written new.written f × (after ≡ before)
+NotObeyed (parsed.Help text) old new before after f = (f ≡ NotWritten) × (new.files ≡ old.files) × IsBeginning new.written (old.written ++ string_bytes text) × (after ≡ before)
+NotObeyed (parsed.Usage text) old new before after f = (f ≡ Usage text) × (new ≡ old) × (after ≡ before)
+NotObeyed parsed.NoMemory old new before after f = (f ≡ NoMemory) × (new ≡ old) × (after ≡ before)
+
+-- the failure was reported, after what was shown before
+pub record Failed (p : Parsed) (old new : Traffic) (before after : SinkTold) (status : ℕ) : Type 0 where
+  pub failure : Failure
+  pub shown : SinkTold
+  pub same_status : status_of failure ≡ status
+  pub why : NotObeyed p old new before shown failure
+  pub told : Told failure shown after
+
+-- a failure was reported, and else nothing
+pub record HasReported {T : Type 0} (done : Result T Failure) (before after : SinkTold) (status : ℕ) : Type 0 where
+  pub well : OnOk done ((status ≡ 0) × (after ≡ before))
+  pub badly : IfErr done (λ f. (status ≡ status_of f) × Told f before after)
+
+-- the program ended: what was asked for was done, or a failure was reported
+pub record HasEnded (p : Parsed) (old new : Traffic) (before after : SinkTold) (failures failures_after end : ℕ) : Type 0 where
+  pub status : IsStatus end
+  pub nothing : IsRefusal end → new.written ≡ old.written
+  pub counted : failures_after ≡ failures + status_failures end
+  pub done : end ≡ 0 → Obeyed p old new before after
+  pub failed : end ≢ 0 → Failed p old new before after end

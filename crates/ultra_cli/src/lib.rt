@@ -2,18 +2,17 @@
 //! its streams.
 #![tactic(auto)]
 
-ghost use Rattle.std.specs.Prelude.{◌≡◌, ◌≢◌, ◌+◌, ◌++◌, IfErr, OnOk};
-ghost use Rattle.ultra_msg.specs.Bytes.{IsBeginning};
+ghost use Rattle.std.specs.Prelude.{◌≡◌, ◌≢◌, ◌+◌};
 ghost use Rattle.ultra_command_line.specs.declared.Parsed.{Parsed};
-ghost use Rattle.ultra_inputs.specs.declared.failure.Failure.{Failure};
-ghost use Rattle.ultra_inputs.specs.Failure.{status_of, text_of, read_failures, write_failures};
+ghost use Rattle.sweep_command.specs.Shown.{stream};
 ghost use Rattle.ultra_inputs.specs.Traffic.{traffic};
-ghost use Rattle.ultra_cli.specs.Outcome.{status_failures, IsRefusal, IsStatus, Obeyed, NotObeyed};
+ghost use Rattle.ultra_cli.specs.Outcome.{status_failures, IsRefusal, IsStatus, Obeyed, Failed, HasEnded, HasReported};
 
 mod list;
 
 use std::sync::Wait;
 use std::thread::Threads;
+use sweep_command::{Plan, sweep};
 use ultra_command_line::{Command, Parsed, parse};
 pub use ultra_inputs::{Failure, give_up};
 use ultra_io::Source;
@@ -36,59 +35,55 @@ pub fn main_with<'w, R: AllocGlobal + Threads + Wait + Sync, F: Source, O: Sink,
     ensures nothing { IsRefusal result → O.taken out.new ≡ O.taken out.old }
     ensures counted { O.failures out.new ≡ O.failures out.old + status_failures result }
     ensures done { result ≡ 0 → (p : Parsed) × Obeyed p
-        (traffic (F.files source.old) (O.taken out.old)) (traffic (F.files source.new) (O.taken out.new)) }
-    ensures silent { result ≡ 0 → E.taken err.new ≡ E.taken err.old }
-    ensures failed { result ≢ 0 → (p : Parsed) × (f : Failure) ×
-        (status_of f ≡ result) × NotObeyed p
-        (traffic (F.files source.old) (O.taken out.old)) (traffic (F.files source.new) (O.taken out.new)) f
-        × IsBeginning (E.taken err.new) (E.taken err.old ++ text_of f) }
+        (traffic (F.files source.old) (O.taken out.old)) (traffic (F.files source.new) (O.taken out.new))
+        (stream (E.taken err.old) (E.failures err.old))
+        (stream (E.taken err.new) (E.failures err.new)) }
+    ensures failed { result ≢ 0 → (p : Parsed) × Failed p
+        (traffic (F.files source.old) (O.taken out.old)) (traffic (F.files source.new) (O.taken out.new))
+        (stream (E.taken err.old) (E.failures err.old))
+        (stream (E.taken err.new) (E.failures err.new)) result }
 {
-    match obey(rt, parse(rt.alloc(), words), source, out) {
-        Ok(()) => 0,
-        Err(failure) => give_up(&failure, err),
-    }
+    obey(rt, parse(rt.alloc(), words), source, out, err)
 }
 
-/// Does what is asked for.
-fn obey<'w, R: AllocGlobal + Threads + Wait + Sync, F: Source, O: Sink>(
+/// Does what is asked for, and answers the status.
+fn obey<'w, R: AllocGlobal + Threads + Wait + Sync, F: Source, O: Sink, E: Sink>(
     rt: &R,
     parsed: Parsed<'w>,
     source: &mut F,
     out: &mut O,
-) -> Result<(), Failure<'w>>
-    ensures ok { OnOk result (Obeyed parsed.entry
-        (traffic (F.files source.old) (O.taken out.old)) (traffic (F.files source.new) (O.taken out.new))) }
-    ensures err { IfErr result (NotObeyed parsed.entry
-        (traffic (F.files source.old) (O.taken out.old)) (traffic (F.files source.new) (O.taken out.new))) }
-    ensures write_still { OnOk result (O.failures out.new ≡ O.failures out.old) }
-    ensures write_counted { IfErr result
-        (λ f. O.failures out.new ≡ O.failures out.old + write_failures f) }
+    err: &mut E,
+) -> u8
+    ensures { HasEnded parsed.entry
+        (traffic (F.files source.old) (O.taken out.old)) (traffic (F.files source.new) (O.taken out.new))
+        (stream (E.taken err.old) (E.failures err.old))
+        (stream (E.taken err.new) (E.failures err.new))
+        (O.failures out.old) (O.failures out.new) result }
 {
     match parsed {
-        Parsed::Command(command) => carry_out(rt, command, source, out),
+        Parsed::Command(command) => carry_out(rt, command, source, out, err),
         Parsed::Help(text) => match write_all(out, text.as_bytes()) {
-            Ok(()) => Ok(()),
-            Err(_) => Err(Failure::NotWritten),
+            Ok(()) => 0,
+            Err(_) => give_up(&Failure::NotWritten, err),
         },
-        Parsed::Usage(text) => Err(Failure::Usage(text)),
-        Parsed::NoMemory => Err(Failure::NoMemory),
+        Parsed::Usage(text) => give_up(&Failure::Usage(text), err),
+        Parsed::NoMemory => give_up(&Failure::NoMemory, err),
     }
 }
 
-/// Carries out a command.
-fn carry_out<'w, R: AllocGlobal + Threads + Wait + Sync, F: Source, O: Sink>(
+/// Carries out a command, and answers the status.
+fn carry_out<'w, R: AllocGlobal + Threads + Wait + Sync, F: Source, O: Sink, E: Sink>(
     rt: &R,
     command: Command<'w>,
     source: &mut F,
     out: &mut O,
-) -> Result<(), Failure<'w>>
-    ensures ok { OnOk result (Obeyed (Parsed.Command command.entry)
-        (traffic (F.files source.old) (O.taken out.old)) (traffic (F.files source.new) (O.taken out.new))) }
-    ensures err { IfErr result (NotObeyed (Parsed.Command command.entry)
-        (traffic (F.files source.old) (O.taken out.old)) (traffic (F.files source.new) (O.taken out.new))) }
-    ensures write_still { OnOk result (O.failures out.new ≡ O.failures out.old) }
-    ensures write_counted { IfErr result
-        (λ f. O.failures out.new ≡ O.failures out.old + write_failures f) }
+    err: &mut E,
+) -> u8
+    ensures { HasEnded (Parsed.Command command.entry)
+        (traffic (F.files source.old) (O.taken out.old)) (traffic (F.files source.new) (O.taken out.new))
+        (stream (E.taken err.old) (E.failures err.old))
+        (stream (E.taken err.new) (E.failures err.new))
+        (O.failures out.old) (O.failures out.new) result }
 {
     let alloc = rt.alloc();
     match command {
@@ -96,16 +91,51 @@ fn carry_out<'w, R: AllocGlobal + Threads + Wait + Sync, F: Source, O: Sink>(
             settings,
             program,
             workers,
-        } => run_command::run(rt, alloc, settings, program, workers, source, out),
+        } => {
+            let done = run_command::run(rt, alloc, settings, program, workers, source, out);
+            ended(done, err)
+        }
         Command::Order { settings, program } => {
-            order_command::order(alloc, settings, program, source, out)
+            ended(
+                order_command::order(alloc, settings, program, source, out),
+                err,
+            )
         }
         Command::Explain {
             settings,
             program,
             heap,
-        } => explain_command::explain(alloc, settings, program, heap.count, source, out),
-        Command::List { program } => list::list(alloc, program, source, out),
-        Command::Lib(coordination) => lib_command::write_program(alloc, coordination, out),
+        } => {
+            let done = explain_command::explain(alloc, settings, program, heap.count, source, out);
+            ended(done, err)
+        }
+        Command::List { program } => ended(list::list(alloc, program, source, out), err),
+        Command::Sweep {
+            jobs,
+            workers,
+            at_once,
+            progress,
+        } => {
+            let plan = Plan {
+                workers,
+                at_once,
+                progress,
+            };
+            sweep(rt, alloc, jobs, plan, source, out, err)
+        }
+        Command::Lib(coordination) => {
+            ended(lib_command::write_program(alloc, coordination, out), err)
+        }
+    }
+}
+
+/// The status of a command that is done or has failed; a failure is reported.
+fn ended<'p, E: Sink>(done: Result<(), Failure<'p>>, err: &mut E) -> u8
+    ensures { HasReported done.entry (stream (E.taken err.old) (E.failures err.old))
+        (stream (E.taken err.new) (E.failures err.new)) result }
+{
+    match done {
+        Ok(()) => 0,
+        Err(failure) => give_up(&failure, err),
     }
 }

@@ -1,7 +1,7 @@
 //! The commands and their words, as `clap` knows them.
 
 use clap::builder::ValueParser;
-use clap::{Arg, Command};
+use clap::{Arg, ArgAction, Command};
 use std::alloc::{AllocError, Global};
 
 /// The command line of the program.
@@ -13,6 +13,7 @@ pub fn ultra_command<'c>(alloc: Global) -> Result<Command<'c>, AllocError> {
     let ultra = with_command(ultra, order_command(alloc))?;
     let ultra = with_command(ultra, explain_command(alloc))?;
     let ultra = with_command(ultra, list_command(alloc))?;
+    let ultra = with_command(ultra, sweep_command(alloc))?;
     with_command(ultra, lib_command(alloc))
 }
 
@@ -65,6 +66,37 @@ fn list_command<'c>(alloc: Global) -> Result<Command<'c>, AllocError> {
     Command::new(alloc, "list")
         .about("Writes the canonical text of a program")
         .arg(program_argument(alloc))
+}
+
+/// The command `sweep`.
+fn sweep_command<'c>(alloc: Global) -> Result<Command<'c>, AllocError> {
+    let workers = option(
+        alloc,
+        "workers",
+        "H",
+        "How many threads of the host do the jobs, 1 to 64",
+        1,
+        64,
+    );
+    let at_once = option(
+        alloc,
+        "at-once",
+        "B",
+        "How many jobs may run at once, 1 to 64",
+        1,
+        64,
+    );
+    let jobs = argument(
+        alloc,
+        "JOBS",
+        "The settings and programs of the runs, a TOML file",
+    );
+    Command::new(alloc, "sweep")
+        .about("Writes the traces of many runs, one after the other")
+        .arg(jobs)?
+        .arg(workers.required(true))?
+        .arg(at_once.required(true))?
+        .arg(progress_flag(alloc))
 }
 
 /// The command `lib`, with a command for each coordination program.
@@ -146,4 +178,12 @@ fn option<'c>(
         .value_name(number)
         .help(help)
         .value_parser(ValueParser::unsigned(least, most))
+}
+
+/// The option that asks to see how many jobs are finished.
+fn progress_flag<'c>(alloc: Global) -> Arg<'c> {
+    Arg::new(alloc, "progress")
+        .long("progress")
+        .help("Shows on standard error how many jobs are finished")
+        .action(ArgAction::SetTrue)
 }

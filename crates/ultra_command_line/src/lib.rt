@@ -47,6 +47,17 @@ pub enum Command<'w> {
         /// The path of the program's text.
         program: &'w str,
     },
+    /// To write the traces of many runs: `ultra sweep JOBS --workers H --at-once B [--progress]`.
+    Sweep {
+        /// The path of the file of jobs.
+        jobs: &'w str,
+        /// How many threads of the host do the jobs.
+        workers: Workers,
+        /// How many of them may run a job at once.
+        at_once: Workers,
+        /// Whether standard error shows how many jobs are finished.
+        progress: bool,
+    },
     /// To write the canonical text of a coordination program: `ultra lib NAME NUMBER..`.
     Lib(Coordination),
 }

@@ -33,6 +33,8 @@ fn command_in<'w>(name: &str, words: &ArgMatches<'w>) -> Option<Command<'w>> {
         explain_in(words)
     } else if name == "list" {
         list_in(words)
+    } else if name == "sweep" {
+        sweep_in(words)
     } else {
         None
     }
@@ -68,6 +70,16 @@ fn explain_in<'w>(words: &ArgMatches<'w>) -> Option<Command<'w>> {
 fn list_in<'w>(words: &ArgMatches<'w>) -> Option<Command<'w>> {
     Some(Command::List {
         program: words.get_str("PROG")?,
+    })
+}
+
+/// The command `sweep` with the words that follow it.
+fn sweep_in<'w>(words: &ArgMatches<'w>) -> Option<Command<'w>> {
+    Some(Command::Sweep {
+        jobs: words.get_str("JOBS")?,
+        workers: Workers::new(words.get_one("workers")?)?,
+        at_once: Workers::new(words.get_one("at-once")?)?,
+        progress: words.get_flag("progress"),
     })
 }
 

@@ -13,8 +13,8 @@ use Rattle.ultra_sweep.specs.declared.job.Outcome.TheVariants as outcome
 use Rattle.ultra_sweep.specs.declared.gathering.GatherFault.{GatherFault}
 use Rattle.ultra_sweep.specs.declared.gathering.GatherFault.TheVariants.{Double, Stranger, Missing, NoMemory}
 use Rattle.ultra_sweep.specs.Job.{numbers, text_in, trace_of, IsOutcomeOf, IsResultAmong}
-use Rattle.ultra_sweep.specs.Gather.{HasText, AreGathered, AreSound, ExplainsFault}
-use Rattle.ultra_sweep.specs.Places.{Places, place_of, IsPut, ExplainsRefusal, ExplainsEmpty}
+use Rattle.ultra_sweep.specs.Gather.{HasText, AreGathered, AreSound, IsFirstMissing, ExplainsFault, ExplainsEnd}
+use Rattle.ultra_sweep.specs.Places.{Places, place_of, IsPut, ExplainsRefusal, IsFirstEmpty}
 use Rattle.ultra_sweep.proofs.Numbers.{one_if-case, times_below-in, times_below-out, times-numbers_push, within-push}
 
 abbrev pub Bytes : Type 0
@@ -100,14 +100,24 @@ some-one : (o : Option Bytes) → IsSome o → count_in o ≡ 1
 some-one (Some t) s = refl
 some-one None s = absurd cc
 
-pub refused : (n : ℕ) (rs all rest : List JobResult) (r : JobResult) (old : Places) → IsFilled n rs old → rs ++ r ∷ rest ≡ all → (fault : GatherFault) → ExplainsRefusal r old fault → ExplainsFault n all fault
+pub refused : (n : ℕ) (rs all rest : List JobResult) (r : JobResult) (old : Places) → IsFilled n rs old → rs ++ r ∷ rest ≡ all → (fault : GatherFault) → ExplainsRefusal r old fault → ExplainsEnd n all fault
 refused n rs all rest r old h there (Double i) (number, below, full) =
     let lt : i < n = let l = h.long in omega arith in
     (rs, record { sound = h.sound; result = r; number = number; rest = rest; there = there }, sym (h.named i lt) ∙ some-one (place_of old i) full)
 refused n rs all rest r old h there (Stranger i) (number, far) =
     (rs, record { sound = h.sound; result = r; number = number; rest = rest; there = there }, let l = h.long in omega arith)
 refused n rs all rest r old h there (Missing i) why = absurd why
-refused n rs all rest r old h there NoMemory why = tt
+refused n rs all rest r old h there NoMemory (below, empty, memory) =
+    let lt : r.number < n = let l = h.long in omega arith in (
+      r.number,
+      rs,
+      record {
+        next = record { sound = h.sound; result = r; number = refl; rest = rest; there = there };
+        below = lt;
+        new = sym (h.named r.number lt) ∙ ap count_in empty;
+        no_text = ap text_in memory;
+      },
+    )
 
 -- a place that isn't full is empty
 pub is-empty : (o : Option Bytes) → is_some o ≡ false → o ≡ None
@@ -133,10 +143,8 @@ text-at [] i lt = absurd (omega arith)
 text-at (t ∷ ts) zero lt = (t, refl, refl)
 text-at (t ∷ ts) (suc i) lt = text-at ts i (omega arith)
 
-pub missing : (n : ℕ) (rs : List JobResult) (places : Places) → IsFilled n rs places → (fault : GatherFault) → ExplainsEmpty places fault → ExplainsFault n rs fault
-missing n rs places h (Double i) why = absurd why
-missing n rs places h (Stranger i) why = absurd why
-missing n rs places h (Missing i) why =
+pub missing : (n : ℕ) (rs : List JobResult) (places : Places) → IsFilled n rs places → (i : ℕ) → IsFirstEmpty places i → IsFirstMissing n rs i
+missing n rs places h i why =
     let below : i < n = (let l = h.long in let e = ap length why.there in let s = length-full why.full why.rest in let k = why.number in omega arith) in
     record {
       sound = h.sound;
@@ -147,7 +155,13 @@ missing n rs places h (Missing i) why =
           let full : IsSome (place_of places k) = subst (λ ps. IsSome (place_of ps k)) why.there (place-some why.full (None ∷ why.rest) k (let m = why.number in omega arith)) in
           sym (h.named k at) ∙ some-one (place_of places k) full;
     }
-missing n rs places h NoMemory why = tt
+
+-- what explains the end explains the fault
+pub fault_of_end : (n : ℕ) (rs : List JobResult) (fault : GatherFault) → ExplainsEnd n rs fault → ExplainsFault n rs fault
+fault_of_end n rs (Double i) why = why
+fault_of_end n rs (Stranger i) why = why
+fault_of_end n rs (Missing i) why = why
+fault_of_end n rs NoMemory why = tt
 
 pub gathered : (n : ℕ) (rs : List JobResult) (places : Places) (ts : List Bytes) → IsFilled n rs places → map Some ts ≡ places → AreGathered n rs (map (λ (b : Bytes). b.items) ts)
 gathered n rs places ts h e =

@@ -1,5 +1,5 @@
 -- the results of the jobs below a number n, put together; this project's profile
-use Rattle.std.specs.Prelude.{◌≡◌, ◌<◌, ◌≤◌, ℕ, List, [], ◌∷◌, ◌++◌, All, Some, IsSome, Contains, length, slice_index_or, ⊤}
+use Rattle.std.specs.Prelude.{◌≡◌, ◌<◌, ◌≤◌, ℕ, List, [], ◌∷◌, ◌++◌, All, Some, None, IsSome, Contains, length, slice_index_or, ⊤}
 use Rattle.ultra_board.specs.View.{times, times_below}
 use Rattle.ultra_sweep.specs.declared.job.JobResult.{JobResult}
 use Rattle.ultra_sweep.specs.declared.gathering.GatherFault.{GatherFault}
@@ -37,6 +37,14 @@ pub record IsNext (n : ℕ) (results : List JobResult) (i : ℕ)
   pub rest : List JobResult
   pub there : before ++ result ∷ rest ≡ results
 
+-- these results are sound, and the next one says that memory was refused to job i
+pub record IsRefused (n : ℕ) (results : List JobResult) (i : ℕ)
+    (before : List JobResult) : Type 0 where
+  pub next : IsNext n results i before
+  pub below : i < n
+  pub new : times i (numbers before) ≡ 0
+  pub no_text : text_in next.result.outcome ≡ None
+
 -- the results are sound, and job i is the first that none names
 pub record IsFirstMissing (n : ℕ) (results : List JobResult) (i : ℕ) : Type 0 where
   pub sound : AreSound n results
@@ -52,3 +60,11 @@ ExplainsFault n results (Stranger i) =
     (before : List JobResult) × IsNext n results i before × (n ≤ i)
 ExplainsFault n results (Missing i) = IsFirstMissing n results i
 ExplainsFault n results NoMemory = ⊤
+
+-- the same where there is memory to put them together: `NoMemory` comes just where it was refused to
+-- a job
+abbrev pub ExplainsEnd : ℕ → List JobResult → GatherFault → Type 0
+ExplainsEnd n results (Double i) = ExplainsFault n results (Double i)
+ExplainsEnd n results (Stranger i) = ExplainsFault n results (Stranger i)
+ExplainsEnd n results (Missing i) = ExplainsFault n results (Missing i)
+ExplainsEnd n results NoMemory = (i : ℕ) × (before : List JobResult) × IsRefused n results i before

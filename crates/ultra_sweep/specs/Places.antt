@@ -1,5 +1,5 @@
 -- a place for the text of each job; this project's profile
-use Rattle.std.specs.Prelude.{◌≡◌, ◌<◌, ◌≤◌, ℕ, List, ◌∷◌, ◌++◌, Option, Some, None, IsSome, Vec, length, map, slice_index_or, slice_set, ⊤}
+use Rattle.std.specs.Prelude.{◌≡◌, ◌<◌, ◌≤◌, ℕ, List, ◌∷◌, ◌++◌, Option, Some, None, IsSome, Vec, length, map, slice_index_or, slice_set}
 use Rattle.std.specs.declared.alloc.Global.{Global}
 use Rattle.ultra_sweep.specs.declared.job.JobResult.{JobResult}
 use Rattle.ultra_sweep.specs.declared.job.Outcome.TheVariants as outcome
@@ -27,7 +27,8 @@ ExplainsRefusal it places (Double i) =
     (it.number ≡ i) × (i < length places) × IsSome (place_of places i)
 ExplainsRefusal it places (Stranger i) = (it.number ≡ i) × (length places ≤ i)
 ExplainsRefusal it places (Missing i) = ⊥
-ExplainsRefusal it places NoMemory = ⊤
+ExplainsRefusal it places NoMemory =
+    (it.number < length places) × (place_of places it.number ≡ None) × (it.outcome ≡ outcome.NoMemory)
 
 -- the first empty place is that of job i
 pub record IsFirstEmpty (places : Places) (i : ℕ) : Type 0 where
@@ -35,10 +36,3 @@ pub record IsFirstEmpty (places : Places) (i : ℕ) : Type 0 where
   pub rest : Places
   pub there : map Some full ++ None ∷ rest ≡ places
   pub number : length full ≡ i
-
--- why not all places are full
-abbrev pub ExplainsEmpty : Places → GatherFault → Type 0
-ExplainsEmpty places (Double i) = ⊥
-ExplainsEmpty places (Stranger i) = ⊥
-ExplainsEmpty places (Missing i) = IsFirstEmpty places i
-ExplainsEmpty places NoMemory = ⊤

@@ -1,10 +1,10 @@
 //! What all threads brought back, put together.
 
-ghost use Rattle.std.specs.Prelude.{◌≡◌, IfOk, IfErr, OnOk, All, List, length, map, replicate, true};
+ghost use Rattle.std.specs.Prelude.{◌≡◌, ◌≤◌, [], IfOk, IfErr, OnOk, All, List, length, map, replicate, true, vec_len, vec_capacity};
 ghost use Rattle.ultra_sweep.specs.declared.job.Job.{Job};
 ghost use Rattle.ultra_sweep.specs.Job.{numbers, trace_of, IsResultAmong};
-ghost use Rattle.ultra_sweep.specs.Gather.{AreGathered, ExplainsFault};
-ghost use Rattle.ultra_sweep.specs.Places.{IsPut, ExplainsRefusal, ExplainsEmpty};
+ghost use Rattle.ultra_sweep.specs.Gather.{AreGathered, ExplainsFault, ExplainsEnd};
+ghost use Rattle.ultra_sweep.specs.Places.{IsPut, ExplainsRefusal, IsFirstEmpty};
 
 use crate::job::{JobResult, Outcome};
 use std::alloc::{AllocError, Global};
@@ -60,13 +60,9 @@ pub fn gather(alloc: Global, count: u64, results: Vec<JobResult>) -> Result<Gath
     ensures traces { (jobs : List Job) → length jobs ≡ count →
         All (IsResultAmong jobs) results.items → IfOk result (λ g. g ≡ map trace_of jobs) }
 {
-    let mut places = empty_places(alloc, count as usize)?;
-    for result in results {
-        put(places.as_mut_slice(), result)?;
-    }
-    Ok(Gathered {
-        texts: texts_in(alloc, places)?,
-    })
+    let places = empty_places(alloc, count as usize)?;
+    let texts = Vec::with_capacity(alloc, count as usize)?;
+    gather_into(places, texts, results)
 }
 
 /// Closes the board of `count` jobs, by the seat that has all its places, and puts the results
@@ -95,6 +91,28 @@ pub fn close_and_gather(
         Err(GatherFault::Double(_)) => unreachable!(),
         Err(GatherFault::Stranger(_)) => unreachable!(),
         Err(GatherFault::Missing(_)) => unreachable!(),
+    }
+}
+
+/// Puts the results together in memory that is there: in `places`, one for each job and all empty,
+/// and then in `texts`, which has room for all. `NoMemory` says that memory was refused to a job.
+fn gather_into(
+    mut places: Vec<Option<Vec<u8>>>,
+    texts: Vec<Vec<u8>>,
+    results: Vec<JobResult>,
+) -> Result<Gathered, GatherFault>
+    requires empty { places.items ≡ replicate (vec_len places) None }
+    requires no_texts { texts.items ≡ [] }
+    requires room { vec_len places ≤ vec_capacity texts }
+    ensures ok { IfOk result (λ g. AreGathered (vec_len places) results.items g) }
+    ensures err { IfErr result (ExplainsEnd (vec_len places) results.items) }
+{
+    for result in results {
+        put(places.as_mut_slice(), result)?;
+    }
+    match texts_in(places, texts) {
+        Ok(texts) => Ok(Gathered { texts }),
+        Err(number) => Err(GatherFault::Missing(number)),
     }
 }
 
@@ -131,16 +149,17 @@ fn put(places: &mut [Option<Vec<u8>>], it: JobResult) -> Result<(), GatherFault>
     }
 }
 
-/// The texts in their places, all of which have to be full.
-fn texts_in(alloc: Global, places: Vec<Option<Vec<u8>>>) -> Result<Vec<Vec<u8>>, GatherFault>
+/// The texts in their places, appended to `texts`. An error is the number of the first empty place.
+fn texts_in(places: Vec<Option<Vec<u8>>>, mut texts: Vec<Vec<u8>>) -> Result<Vec<Vec<u8>>, u64>
+    requires no_texts { texts.items ≡ [] }
+    requires room { vec_len places ≤ vec_capacity texts }
     ensures ok { IfOk result (λ v. map Some v.items ≡ places.items) }
-    ensures err { IfErr result (ExplainsEmpty places.items) }
+    ensures err { IfErr result (IsFirstEmpty places.items) }
 {
-    let mut texts = Vec::with_capacity(alloc, places.len())?;
     let mut number: u64 = 0;
     for place in places {
         let Some(text) = place else {
-            return Err(GatherFault::Missing(number));
+            return Err(number);
         };
         texts.push_reserved(text);
         number += 1;

@@ -1,8 +1,9 @@
 //! A sweep: many jobs by threads of the host, and one report whose bytes depend neither on the
 //! number of threads nor on how many jobs run at once.
 //!
-//! A job is a run of a machine. Threads draw the jobs from a board (`ultra_board`), each with a
-//! seat of its own, and run each one under a pass by a [`JobGate`]. What the threads bring back is
+//! A job is a run of a machine. A file of jobs names the settings and the program of each
+//! ([`jobs_from`], [`settings_from`]). Threads draw the jobs from a board (`ultra_board`), each with
+//! a seat of its own, and run each one under a pass by a [`JobGate`]. What the threads bring back is
 //! put together by [`gather`] and written by [`report`].
 #![tactic(auto)]
 
@@ -19,4 +20,6 @@ pub use job::{Job, JobGate, JobResult, Outcome};
 pub use law::sweep_law;
 pub use reporting::report;
 pub use single::RunAlone;
+pub use ultra_jobs::{JobsFault, jobs_from};
+pub use ultra_settings::{SettingsFault, settings_from};
 pub use working::{WorkFault, work};

@@ -1,0 +1,4 @@
+pub mod Reading
+pub mod Showing
+pub mod Sharing
+pub mod Counted

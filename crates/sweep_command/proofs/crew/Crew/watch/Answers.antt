@@ -1,0 +1,28 @@
+use Rattle.std.proofs.Common.{◌∙◌}
+use Rattle.sweep_command.proofs.Sharing.{fresh-read}
+use Rattle.sweep_command.proofs.crew.Crew.watch.Goals as goal
+use Rattle.sweep_command.proofs.crew.Crew.watch.Goals.{in-None, in-Some+then-ended-threads}
+
+pub loop-preserved : goal.loop-preserved
+loop-preserved g c =
+    let so_far = c.loop.invariant in
+    let told = c.show_progress.ensures in
+    record {
+      can = tt;
+      crew = record {
+        task = so_far.crew.task;
+        fresh = fresh-read c.loop.self.task.board.now 1 c.loop.self.seat c.show_progress.new.seat told.board told.read so_far.crew.fresh;
+        parts = so_far.crew.parts;
+      };
+      task = so_far.task;
+      threads = so_far.threads;
+      count = told.count ∙ so_far.count;
+      shown = λ start shown. told.shown start (so_far.shown start shown);
+    }
+
+pub returns-clause-shown : goal.returns-clause-shown
+returns-clause-shown g c start shown =
+    elim c.match-next.branch [
+      | in-None w ↦ rw (w.meter-is, w.err-is) (c.loop.invariant.shown start shown)
+      | in-Some+then-ended-threads w ↦ rw (w.meter-is, w.err-is) (w.show_progress.ensures.shown start (c.loop.invariant.shown start shown))
+    ]

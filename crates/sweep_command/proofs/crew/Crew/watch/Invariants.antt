@@ -1,0 +1,15 @@
+use Rattle.std.proofs.Common.{◌≡◌}
+use Rattle.ultra_io.specs.Account.{SinkTold}
+use Rattle.sweep_command.specs.Share.{IsCrew}
+use Rattle.sweep_command.specs.Shown.{stream, HasShown}
+use Rattle.sweep_command.proofs.crew.Crew.watch.Given as goal
+
+abbrev pub invariant-loop : goal.invariant-loop
+invariant-loop g l = record {
+  can : (goal.iterator-loop g).can_next l.iterator';
+  crew : IsCrew l.self;
+  task : l.self.task ≡ l.initial.self.task;
+  threads : l.self.threads ≡ l.initial.self.threads;
+  count : l.meter.count ≡ l.initial.meter.count;
+  shown : (start : SinkTold) → HasShown l.initial.meter start (stream (g.E.Sink.taken l.initial.err) (g.E.Sink.failures l.initial.err)) → HasShown l.meter start (stream (g.E.Sink.taken l.err) (g.E.Sink.failures l.err));
+}

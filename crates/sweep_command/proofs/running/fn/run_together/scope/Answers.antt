@@ -1,0 +1,17 @@
+use Rattle.std.proofs.Common.{◌∙◌, refl}
+use Rattle.sweep_command.specs.Shown.{stream}
+use Rattle.sweep_command.proofs.Showing.{shown-first}
+use Rattle.sweep_command.proofs.running.fn.run_together.scope.Goals as goal
+
+pub returns : goal.returns
+returns g c =
+    let start = stream (g.E.Sink.taken c.captures.err.now) (g.E.Sink.failures c.captures.err.now) in
+    let meter = c.new-meter in
+    let done = c.conduct-share.ensures in
+    record {
+      share = done.share;
+      count = done.count ∙ meter.ensures.count;
+      same_err = refl;
+      shown = done.shown start (shown-first meter.result start meter.ensures.last meter.ensures.sound);
+      quiet = done.quiet;
+    }

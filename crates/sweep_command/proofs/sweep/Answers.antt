@@ -1,0 +1,37 @@
+-- how a sweep that fails is reported
+use Rattle.std.proofs.Common.{arith, refl, sym}
+use Rattle.ultra_jobs.specs.JobsText.{all_paths}
+use Rattle.sweep_command.specs.Shown.{stream}
+use Rattle.sweep_command.specs.Sweep.{unlisted, listed}
+use Rattle.sweep_command.proofs.Counted.{unlisted_none}
+use Rattle.sweep_command.proofs.sweep.Goals as goal
+
+pub returns-in-Err-clause-failed : goal.returns-in-Err-clause-failed
+returns-in-Err-clause-failed g c ne =
+    let before = stream (g.E.Sink.taken c.args.err.now) (g.E.Sink.failures c.args.err.now) in (
+      c.in-Err.failure,
+      before,
+      sym c.give_up.ensures.status,
+      unlisted c.in-Err.ensures.err (refl {a = g.O.Sink.taken c.args.out.now}) (refl {a = before}),
+      record { begun = c.give_up.ensures.told; whole = c.give_up.ensures.whole },
+    )
+
+pub returns-clause-failed : goal.returns-clause-failed
+returns-clause-failed g c ne =
+    let gave = c.in-Ok.ensures.ok in
+    let told = c.give_up-in-Err-sweep_jobs.ensures in (
+      c.in-Err-sweep_jobs.failure,
+      stream (g.E.Sink.taken c.sweep_jobs.new.err) (g.E.Sink.failures c.sweep_jobs.new.err),
+      sym told.status,
+      listed gave.text (all_paths c.in-Ok.list.items) gave.given (rw gave.files at (rw c.as_slice.ensures.value at c.in-Err-sweep_jobs.ensures.err)),
+      record { begun = told.told; whole = told.whole },
+    )
+
+pub returns-in-Err-clause-counted : goal.returns-in-Err-clause-counted
+returns-in-Err-clause-counted g c ne =
+    let none = unlisted_none _ _ _ _ c.in-Err.ensures.err in
+    (c.in-Err.failure, sym c.give_up.ensures.status, omega (arith, none))
+
+pub returns-clause-counted : goal.returns-clause-counted
+returns-clause-counted g c ne =
+    (c.in-Err-sweep_jobs.failure, sym c.give_up-in-Err-sweep_jobs.ensures.status, c.in-Err-sweep_jobs.ensures.write_counted)

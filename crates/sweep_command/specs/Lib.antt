@@ -1,0 +1,4 @@
+pub mod Jobs
+pub mod Shown
+pub mod Share
+pub mod Sweep

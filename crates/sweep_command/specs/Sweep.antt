@@ -1,0 +1,55 @@
+-- what a sweep reads, writes and shows; this project's profile
+use Rattle.std.specs.Prelude.{◌≡◌, ℕ, ◌⊎◌, Bool, List, [], ◌∷◌, ◌++◌, length, map}
+use Rattle.ultra_msg.specs.Bytes.{IsBeginning}
+use Rattle.ultra_io.specs.Account.{SinkTold}
+use Rattle.ultra_io.specs.Source.{file_of}
+use Rattle.ultra_jobs.specs.JobsText.{Paths, Gives}
+use Rattle.ultra_inputs.specs.declared.failure.Failure.{Failure}
+use Rattle.ultra_inputs.specs.declared.failure.Failure.TheVariants.{NoMemory, NoThread, NotWritten}
+use Rattle.ultra_inputs.specs.Inputs.{FileGaveNothing}
+use Rattle.ultra_inputs.specs.Traffic.{Traffic, with_files}
+use Rattle.ultra_sweep.specs.declared.job.Job.{Job}
+use Rattle.ultra_sweep.specs.Job.{trace_of}
+use Rattle.ultra_sweep.specs.Report.{report_text}
+use Rattle.sweep_command.specs.declared.fault.SweepFault.{SweepFault}
+use Rattle.sweep_command.specs.declared.fault.SweepFault.TheVariants as fault
+use Rattle.sweep_command.specs.Jobs.{ExplainsJobs, GaveJobs, GaveNoJobs}
+use Rattle.sweep_command.specs.Shown.{IsShown}
+
+-- for each job in order the line `job I`, and its trace
+abbrev pub report_of : List Job → List ℕ
+report_of jobs = report_text (map trace_of jobs)
+
+-- what a fault of the threads is for the command
+abbrev pub failure_of : SweepFault → Failure
+failure_of fault.NoMemory = NoMemory
+failure_of fault.NoThread = NoThread
+
+-- why a report was not written, or not whole
+abbrev pub CanStop : Failure → Type 0
+CanStop f = (f ≡ NotWritten) ⊎ ((f ≡ NoMemory) ⊎ (f ≡ NoThread))
+
+-- the jobs at these paths were read, their report was written, and the last count shown is that of
+-- all jobs
+pub record SweptJobs (paths : List Paths) (progress : Bool) (old new : Traffic) (before after : SinkTold) : Type 0 where
+  pub jobs : List Job
+  pub gave : GaveJobs paths old.files new.files jobs
+  pub written : new.written ≡ old.written ++ report_of jobs
+  pub shown : IsShown progress (length jobs) (length jobs) before after
+
+-- how that fails: all files are accepted before a byte is written
+pub data JobsFail (paths : List Paths) (progress : Bool) (old new : Traffic) (before after : SinkTold) (f : Failure) : Type 0 where
+  refused : GaveNoJobs paths old.files new.files f → new.written ≡ old.written → after ≡ before → JobsFail paths progress old new before after f
+  stopped : (jobs : List Job) (last : ℕ) → GaveJobs paths old.files new.files jobs → CanStop f → IsBeginning new.written (old.written ++ report_of jobs) → IsShown progress (length jobs) last before after → JobsFail paths progress old new before after f
+
+-- a file of jobs was read, and its jobs were swept
+pub record Swept (path : List ℕ) (progress : Bool) (old new : Traffic) (before after : SinkTold) : Type 0 where
+  pub text : List ℕ
+  pub paths : List Paths
+  pub listed : Gives text paths
+  pub swept : SweptJobs paths progress (with_files old (file_of path text ∷ [])) new before after
+
+-- how that fails: the file is accepted before those that it names are read
+pub data SweepFails (path : List ℕ) (progress : Bool) (old new : Traffic) (before after : SinkTold) (f : Failure) : Type 0 where
+  unlisted : FileGaveNothing ExplainsJobs path old.files new.files f → new.written ≡ old.written → after ≡ before → SweepFails path progress old new before after f
+  listed : (text : List ℕ) (paths : List Paths) → Gives text paths → JobsFail paths progress (with_files old (file_of path text ∷ [])) new before after f → SweepFails path progress old new before after f

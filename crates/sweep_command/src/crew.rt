@@ -1,0 +1,222 @@
+//! The threads of a sweep.
+
+ghost use Rattle.std.specs.Prelude.{◌≡◌, ◌≤◌, ◌<◌, ℕ, ◌+◌, min, max, length, IfOk, IfErr, All};
+ghost use Rattle.ultra_io.specs.Account.{SinkTold};
+ghost use Rattle.sweep_command.specs.Share.{IsFresh, IsShare, IsWhole, IsTask, IsCrew, HasRead};
+ghost use Rattle.sweep_command.specs.Shown.{stream, HasShown};
+ghost use Rattle.sweep_command.specs.declared.fault.SweepFault.TheVariants.{NoThread};
+
+use crate::fault::SweepFault;
+use crate::meter::Meter;
+use crate::share::{Share, join_shares};
+use crate::task::Task;
+use std::alloc::{AllocError, Global};
+use std::sync::Wait;
+use std::thread::{self, PromisedHandle, Scope, Threads};
+use ultra_board::{Board, Seat};
+use ultra_msg::Sink;
+use ultra_sweep::{RunAlone, work};
+
+/// A thread that was started, and brings back a share.
+type Thread<'a> = PromisedHandle<Share, Task<'a>>;
+
+/// The caller with its seat, and the threads that it has started.
+#[derive(Drop)]
+pub struct Crew<'a> {
+    /// The task of all.
+    pub task: Task<'a>,
+    /// The caller's seat.
+    pub seat: Seat,
+    /// The threads.
+    pub threads: Vec<Thread<'a>>,
+}
+
+impl<'a> Crew<'a> {
+    /// Starts `count` threads, each with a seat of its own. In every end the threads that were
+    /// started are joined: by `finish`, or here where one couldn't be started.
+    pub(crate) fn start<S, R: Threads + Wait + Sync>(
+        scope: &Scope<'a, S>,
+        rt: &'a R,
+        alloc: Global,
+        task: Task<'a>,
+        seat: Seat,
+        count: usize,
+    ) -> Result<Crew<'a>, SweepFault>
+        requires task { IsTask task }
+        requires fresh { IsFresh task.board.now (count + 1) seat }
+        requires few { count < 64 }
+        ensures crew { IfOk result IsCrew }
+        ensures count { IfOk result (λ crew. length crew.threads.items ≡ count) }
+        ensures task { IfOk result (λ crew. crew.task ≡ task.entry) }
+    {
+        let threads = Vec::with_capacity(alloc, count)?;
+        let mut crew = Crew {
+            task,
+            seat,
+            threads,
+        };
+        for _ in 0..count {
+            let (rest, one) = split_off(task.board, crew.seat);
+            crew.seat = rest;
+            match start_thread(scope, rt, alloc, task, one) {
+                Ok(thread) => crew.threads.push_reserved(thread),
+                Err(fault) => {
+                    crew.disband(rt);
+                    return Err(fault);
+                }
+            }
+        }
+        Ok(crew)
+    }
+
+    /// Shows how many jobs are finished, whenever a thread has rung the bell, until all threads
+    /// have ended.
+    pub(crate) fn watch<R: Wait, E: Sink>(&mut self, rt: &R, meter: &mut Meter, err: &mut E)
+        requires { IsCrew self.old }
+        ensures crew { IsCrew self.new }
+        ensures task { self.new.task ≡ self.old.task }
+        ensures threads { self.new.threads ≡ self.old.threads }
+        ensures count { meter.new.count ≡ meter.old.count }
+        ensures shown { (start : SinkTold) →
+            HasShown meter.old start (stream (E.taken err.old) (E.failures err.old)) →
+            HasShown meter.new start (stream (E.taken err.new) (E.failures err.new)) }
+    {
+        let Task {
+            board,
+            jobs: _,
+            bell,
+        } = self.task;
+        let threads = self.threads.len() as u64;
+        for _ in rt.forever() {
+            let (rings, ended) = bell.heard();
+            show_progress(board, &mut self.seat, meter, err);
+            if ended >= threads {
+                break;
+            }
+            bell.wait(rt, rings);
+            thread::yield_now();
+        }
+    }
+
+    /// Does jobs too until none is left, and joins the threads. What all have done is one share.
+    pub(crate) fn finish<R: Threads + Wait>(
+        self,
+        rt: &R,
+        alloc: Global,
+    ) -> Result<Share, AllocError>
+        requires { IsCrew self }
+        ensures { IfOk result (IsWhole self.entry.task.board.now self.entry.task.jobs.now
+            (length self.entry.threads.items + 1)) }
+    {
+        let Crew {
+            task,
+            seat,
+            threads,
+        } = self;
+        let (seat, results) = work(rt, alloc, task.board, seat, task.jobs, &RunAlone);
+        let Ok(results) = results else {
+            let crew = Crew {
+                task,
+                seat,
+                threads,
+            };
+            crew.disband(rt);
+            return Err(AllocError);
+        };
+        join_all(rt, task, Share { seat, results }, threads)
+    }
+
+    /// Draws the jobs that are left, so that the threads end after those that they have begun, and
+    /// joins the threads.
+    fn disband<R: Threads>(self, rt: &R)
+        requires { self.seat.board ≡ self.task.board.now.id }
+    {
+        let Crew {
+            task,
+            mut seat,
+            threads,
+        } = self;
+        for _ in 0..task.jobs.len() {
+            if task.board.draw(&mut seat).is_none() {
+                break;
+            }
+        }
+        for thread in threads {
+            thread.join(rt);
+        }
+    }
+}
+
+/// Splits a seat of several places: the rest, and one place.
+fn split_off(board: &Board, seat: Seat) -> (Seat, Seat)
+    requires board { seat.board ≡ board.now.id }
+    requires places { 2 ≤ seat.view.places }
+    ensures rest { (n : ℕ) → IsFresh board.now (n + 1) seat → IsFresh board.now n result.0 }
+    ensures one { (n : ℕ) → IsFresh board.now n seat → IsFresh board.now 1 result.1 }
+{
+    match board.split(seat) {
+        Ok(seats) => seats,
+        Err(_) => unreachable!(),
+    }
+}
+
+/// Starts a thread that takes part with this seat. `NoThread` says that it couldn't be started.
+fn start_thread<'a, S, R: Threads + Wait + Sync>(
+    scope: &Scope<'a, S>,
+    rt: &'a R,
+    alloc: Global,
+    task: Task<'a>,
+    seat: Seat,
+) -> Result<Thread<'a>, SweepFault>
+    requires task { IsTask task }
+    requires fresh { IsFresh task.board.now 1 seat }
+    ensures part { IfOk result (λ thread. thread.promise ≡ task.entry) }
+    ensures refused { IfErr result (λ f. f ≡ NoThread) }
+{
+    let Task { board, jobs, bell } = task;
+    let part = move || -> Share
+        requires task { board.now.limits.limit ≡ length jobs.now }
+        requires fresh { IsFresh board.now 1 seat }
+        ensures { IsShare board.entry.now jobs.entry.now 1 result }
+    { Task { board, jobs, bell }.take_part(rt, alloc, seat) };
+    match scope.spawn_with(task, part) {
+        Ok(thread) => Ok(thread),
+        Err(_) => Err(SweepFault::NoThread),
+    }
+}
+
+/// Reads from the board how many jobs are finished, and shows it.
+fn show_progress<E: Sink>(board: &Board, seat: &mut Seat, meter: &mut Meter, err: &mut E)
+    requires { seat.old.board ≡ board.now.id }
+    ensures board { seat.new.board ≡ seat.old.board }
+    ensures read { HasRead seat.old.view seat.new.view }
+    ensures count { meter.new.count ≡ meter.old.count }
+    ensures last { meter.new.last ≡ max meter.old.last (min seat.new.view.seen meter.old.count) }
+    ensures shown { (start : SinkTold) →
+        HasShown meter.old start (stream (E.taken err.old) (E.failures err.old)) →
+        HasShown meter.new start (stream (E.taken err.new) (E.failures err.new)) }
+{
+    meter.show(board.progress(seat), err);
+}
+
+/// Joins the threads. Their shares and the caller's are one share.
+fn join_all<'a, R: Threads>(
+    rt: &R,
+    task: Task<'a>,
+    own: Share,
+    threads: Vec<Thread<'a>>,
+) -> Result<Share, AllocError>
+    requires own { IsWhole task.board.now task.jobs.now 1 own }
+    requires parts { All (λ thread. thread.promise ≡ task) threads.items }
+    ensures { IfOk result (IsWhole task.entry.board.now task.entry.jobs.now (length threads.entry.items + 1)) }
+{
+    let mut all = Ok(own);
+    for thread in threads {
+        let share = thread.join(rt);
+        all = match all {
+            Ok(all) => join_shares(task.board, all, share),
+            Err(refused) => Err(refused),
+        };
+    }
+    all
+}

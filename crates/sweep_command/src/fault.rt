@@ -1,0 +1,34 @@
+//! Why jobs weren't done.
+
+ghost use Rattle.std.specs.Prelude.{◌≡◌};
+ghost use Rattle.sweep_command.specs.Sweep.{failure_of};
+
+use std::alloc::AllocError;
+use ultra_inputs::Failure;
+
+/// Why jobs weren't done.
+#[derive(Clone, Copy)]
+pub enum SweepFault {
+    /// Memory was refused.
+    NoMemory,
+    /// A thread couldn't be started.
+    NoThread,
+}
+
+impl From<AllocError> for SweepFault {
+    fn from(_: AllocError) -> SweepFault {
+        SweepFault::NoMemory
+    }
+}
+
+impl SweepFault {
+    /// What it is for the command.
+    pub(crate) fn failure<'f>(self) -> Failure<'f>
+        ensures { result ≡ failure_of self }
+    {
+        match self {
+            SweepFault::NoMemory => Failure::NoMemory,
+            SweepFault::NoThread => Failure::NoThread,
+        }
+    }
+}

@@ -1,0 +1,114 @@
+//! The command `sweep`: it writes the traces of many runs, one after the other.
+#![tactic(auto)]
+
+ghost use Rattle.std.specs.Prelude.{◌≡◌, ◌≢◌, ◌+◌, IfErr, OnOk};
+ghost use Rattle.ultra_io.specs.Account.{SinkTold};
+ghost use Rattle.ultra_inputs.specs.declared.failure.Failure.{Failure};
+ghost use Rattle.ultra_inputs.specs.Failure.{status_of, read_failures, write_failures};
+ghost use Rattle.ultra_inputs.specs.Traffic.{traffic};
+ghost use Rattle.ultra_jobs.specs.JobsText.{all_paths};
+ghost use Rattle.sweep_command.specs.Shown.{stream, Told};
+ghost use Rattle.sweep_command.specs.Sweep.{Swept, SweepFails, SweptJobs, JobsFail};
+
+mod bell;
+mod crew;
+mod fault;
+mod listing;
+mod meter;
+mod running;
+mod share;
+mod task;
+
+use listing::{list_jobs, read_jobs};
+use running::run_jobs;
+use std::alloc::Global;
+use std::sync::Wait;
+use std::thread::Threads;
+use ultra_command_line::Workers;
+use ultra_inputs::{Failure, give_up};
+use ultra_io::Source;
+use ultra_msg::Sink;
+use ultra_sweep::report;
+
+/// How a sweep is done. What it writes doesn't depend on it.
+#[derive(Clone, Copy, Drop)]
+pub struct Plan {
+    /// How many threads of the host do the jobs, the caller's among them.
+    pub workers: Workers,
+    /// How many of them may run a job at once.
+    pub at_once: Workers,
+    /// Whether standard error shows how many jobs are finished.
+    pub progress: bool,
+}
+
+/// Reads a file of jobs, and for each job its settings and its program, runs all jobs by threads of
+/// the host, and writes their report to `out`. Answers the status that the program ends with; what
+/// is wrong is reported on `err`.
+///
+/// Each file is accepted before the next is read, and all before a byte is written. The report is
+/// the same for every plan. With `progress`, `err` takes a line `ultra: K of N jobs` as jobs are
+/// finished, and the last one says all of them; where a write to `err` fails, no further line is
+/// written. The call may wait. In every end the threads that were started are joined.
+pub fn sweep<R: Threads + Wait + Sync, F: Source, O: Sink, E: Sink>(
+    rt: &R,
+    alloc: Global,
+    jobs_path: &str,
+    plan: Plan,
+    source: &mut F,
+    out: &mut O,
+    err: &mut E,
+) -> u8
+    ensures done { result ≡ 0 → Swept jobs_path.now plan.progress
+        (traffic (F.files source.old) (O.taken out.old)) (traffic (F.files source.new) (O.taken out.new))
+        (stream (E.taken err.old) (E.failures err.old))
+        (stream (E.taken err.new) (E.failures err.new)) }
+    ensures failed { result ≢ 0 → (f : Failure) × (shown : SinkTold) × (status_of f ≡ result)
+        × SweepFails jobs_path.now plan.progress
+        (traffic (F.files source.old) (O.taken out.old)) (traffic (F.files source.new) (O.taken out.new))
+        (stream (E.taken err.old) (E.failures err.old)) shown f
+        × Told f shown (stream (E.taken err.new) (E.failures err.new)) }
+    ensures still { result ≡ 0 → O.failures out.new ≡ O.failures out.old }
+    ensures counted { result ≢ 0 → (f : Failure) × (status_of f ≡ result)
+        × (O.failures out.new ≡ O.failures out.old + write_failures f) }
+{
+    let list = match list_jobs(alloc, jobs_path, source) {
+        Ok(list) => list,
+        Err(failure) => return give_up(&failure, err),
+    };
+    match sweep_jobs(rt, alloc, list.as_slice(), plan, source, out, err) {
+        Ok(()) => 0,
+        Err(failure) => give_up(&failure, err),
+    }
+}
+
+/// Reads the settings and the program of each job, runs all jobs and writes their report.
+fn sweep_jobs<'l, R: Threads + Wait + Sync, F: Source, O: Sink, E: Sink>(
+    rt: &R,
+    alloc: Global,
+    list: &'l [(String, String)],
+    plan: Plan,
+    source: &mut F,
+    out: &mut O,
+    err: &mut E,
+) -> Result<(), Failure<'l>>
+    ensures ok { OnOk result (SweptJobs (all_paths list.now) plan.progress
+        (traffic (F.files source.old) (O.taken out.old)) (traffic (F.files source.new) (O.taken out.new))
+        (stream (E.taken err.old) (E.failures err.old))
+        (stream (E.taken err.new) (E.failures err.new))) }
+    ensures err { IfErr result (JobsFail (all_paths list.now) plan.progress
+        (traffic (F.files source.old) (O.taken out.old)) (traffic (F.files source.new) (O.taken out.new))
+        (stream (E.taken err.old) (E.failures err.old))
+        (stream (E.taken err.new) (E.failures err.new))) }
+    ensures write_still { OnOk result (O.failures out.new ≡ O.failures out.old) }
+    ensures write_counted { IfErr result
+        (λ f. O.failures out.new ≡ O.failures out.old + write_failures f) }
+{
+    let jobs = read_jobs(alloc, list, source)?;
+    match run_jobs(rt, alloc, jobs.as_slice(), plan, err) {
+        Ok(gathered) => match report(&gathered, out) {
+            Ok(()) => Ok(()),
+            Err(_) => Err(Failure::NotWritten),
+        },
+        Err(fault) => Err(fault.failure()),
+    }
+}

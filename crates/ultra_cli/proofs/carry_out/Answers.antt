@@ -1,0 +1,67 @@
+-- how each command ends
+use Rattle.std.proofs.Common.{refl}
+use Rattle.ultra_command_line.specs.declared.Command.TheVariants.{Run, Order, Explain, List as ListOf, Sweep, Lib}
+use Rattle.ultra_command_line.specs.declared.Parsed.TheVariants as parsed
+use Rattle.ultra_inputs.specs.Traffic.{traffic, IsStopped, WroteText, TextFails}
+use Rattle.ultra_trace.specs.Trace.{trace}
+use Rattle.run_command.specs.Stops.{IsStoppedBy}
+use Rattle.order_command.specs.Order.{order_of}
+use Rattle.explain_command.specs.Explanation.{explanation_of, IsCutShort}
+use Rattle.lib_command.specs.Coordination.{WroteProgram, LibFails}
+use Rattle.ultra_cli.specs.Outcome.{WroteListing, ListFails}
+use Rattle.ultra_cli.proofs.Endings.{run_refused, order_refused, explain_refused, list_refused, lib_refused, command_ended, sweep_ended}
+use Rattle.ultra_cli.proofs.carry_out.Goals as goal
+
+pub returns-in-Run : goal.returns-in-Run
+returns-in-Run g c =
+    let a = c.in-Run in
+    let conf = a.settings.now in
+    let prog = a.program.now in
+    let old = traffic (g.F.Source.files c.args.source.now) (g.O.Sink.taken c.args.out.now) in
+    let new = traffic (g.F.Source.files c.run-done.new.source) (g.O.Sink.taken c.run-done.new.out) in
+    let did = c.run-done.ensures in
+    rw a.is (command_ended (parsed.Command (Run a.settings a.program a.workers)) old new _ _ _ _ _ c.run-done.result (WroteText trace conf prog old new) (TextFails trace (IsStoppedBy a.workers.count) conf prog old new) (λ d same. (d, same)) (λ f why. (why, refl)) (λ f. run_refused conf prog old new f trace a.workers.count) did.ok did.err did.write_still did.write_counted c.ended.ensures)
+
+pub returns-in-Order : goal.returns-in-Order
+returns-in-Order g c =
+    let a = c.in-Order in
+    let conf = a.settings.now in
+    let prog = a.program.now in
+    let old = traffic (g.F.Source.files c.args.source.now) (g.O.Sink.taken c.args.out.now) in
+    let new = traffic (g.F.Source.files c.order.new.source) (g.O.Sink.taken c.order.new.out) in
+    let did = c.order.ensures in
+    rw a.is (command_ended (parsed.Command (Order a.settings a.program)) old new _ _ _ _ _ c.order.result (WroteText order_of conf prog old new) (TextFails order_of IsStopped conf prog old new) (λ d same. (d, same)) (λ f why. (why, refl)) (λ f. order_refused conf prog old new f order_of) did.ok did.err did.write_still did.write_counted c.ended-in-Order.ensures)
+
+pub returns-in-Explain : goal.returns-in-Explain
+returns-in-Explain g c =
+    let a = c.in-Explain in
+    let conf = a.settings.now in
+    let prog = a.program.now in
+    let old = traffic (g.F.Source.files c.args.source.now) (g.O.Sink.taken c.args.out.now) in
+    let new = traffic (g.F.Source.files c.explain-done.new.source) (g.O.Sink.taken c.explain-done.new.out) in
+    let did = c.explain-done.ensures in
+    rw a.is (command_ended (parsed.Command (Explain a.settings a.program a.heap)) old new _ _ _ _ _ c.explain-done.result (WroteText explanation_of conf prog old new) (TextFails explanation_of IsCutShort conf prog old new) (λ d same. (d, same)) (λ f why. (why, refl)) (λ f. explain_refused conf prog old new f explanation_of) did.ok did.err did.write_still did.write_counted c.ended-in-Explain.ensures)
+
+pub returns-in-List : goal.returns-in-List
+returns-in-List g c =
+    let a = c.in-List in
+    let prog = a.program.now in
+    let old = traffic (g.F.Source.files c.args.source.now) (g.O.Sink.taken c.args.out.now) in
+    let new = traffic (g.F.Source.files c.list.new.source) (g.O.Sink.taken c.list.new.out) in
+    let did = c.list.ensures in
+    rw a.is (command_ended (parsed.Command (ListOf a.program)) old new _ _ _ _ _ c.list.result (WroteListing prog old new) (ListFails prog old new) (λ d same. (d, same)) (λ f why. (why, refl)) (λ f. list_refused prog old new f) did.ok did.err did.write_still did.write_counted c.ended-in-List.ensures)
+
+pub returns-in-Sweep : goal.returns-in-Sweep
+returns-in-Sweep g c =
+    let a = c.in-Sweep in
+    let did = c.sweep.ensures in
+    rw a.is (sweep_ended (parsed.Command (Sweep a.jobs a.workers a.at_once a.progress)) _ _ _ _ _ _ _ a.jobs.now a.progress (λ d. d) (λ f shown why. why) did.done did.failed did.still did.counted)
+
+pub returns-in-Lib : goal.returns-in-Lib
+returns-in-Lib g c =
+    let a = c.in-Lib in
+    let files = g.F.Source.files c.args.source.now in
+    let old = g.O.Sink.taken c.args.out.now in
+    let new = g.O.Sink.taken c.write_program.new.out in
+    let did = c.write_program.ensures in
+    rw a.is (command_ended (parsed.Command (Lib a.coordination)) (traffic files old) (traffic files new) _ _ _ _ _ c.write_program.result (WroteProgram a.coordination old new) (LibFails a.coordination old new) (λ d same. (refl, d, same)) (λ f why. (refl, why, refl)) (λ f. lib_refused a.coordination old new f) did.ok did.err did.still did.counted c.ended-in-Lib.ensures)
