@@ -15,7 +15,7 @@ grow-more first (j ∷ ks) last k (above, rest) more = (above, grow-more j ks la
 text-more : (n : ℕ) (ks : List ℕ) (k : ℕ) → progress_text n (ks ++ k ∷ []) ≡ progress_text n ks ++ progress_line n k
 text-more n ks k = flat_map-append (progress_line n) ks (k ∷ []) ∙ ap (λ t. progress_text n ks ++ t) (append-nil (progress_line n k))
 
--- a beginning of a text is one of a longer text
+-- a prefix of a text is one of a longer text
 begun-longer : (xs text more : List ℕ) → IsBeginning xs text → IsBeginning xs (text ++ more)
 begun-longer xs text more (rest, e) = (rest ++ more, sym (append_assoc xs rest more) ∙ ap (λ t. t ++ more) e)
 

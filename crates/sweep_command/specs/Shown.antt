@@ -25,7 +25,7 @@ abbrev pub progress_text : ℕ → List ℕ → List ℕ
 progress_text n counts = flat_map (progress_line n) counts
 
 -- lines went to a stream that say how many of n jobs are finished, the last of them this many; where
--- the stream has failed, a beginning of them
+-- the stream has failed, a prefix of them
 pub record Shows (n last : ℕ) (before after : SinkTold) : Type 0 where
   pub counts : List ℕ
   pub growing : GrowTo 0 counts last

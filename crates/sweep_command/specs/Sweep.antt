@@ -25,9 +25,9 @@ abbrev pub failure_of : SweepFault → Failure
 failure_of fault.NoMemory = NoMemory
 failure_of fault.NoThread = NoThread
 
--- why a report was not written, or not whole
-abbrev pub CanStop : Failure → Type 0
-CanStop f = (f ≡ NotWritten) ⊎ ((f ≡ NoMemory) ⊎ (f ≡ NoThread))
+-- why jobs that were read have no report
+abbrev pub StopsJobs : Failure → Type 0
+StopsJobs f = (f ≡ NoMemory) ⊎ (f ≡ NoThread)
 
 -- the jobs at these paths were read, their report was written, and the last count shown is that of
 -- all jobs
@@ -37,10 +37,12 @@ pub record SweptJobs (paths : List Paths) (progress : Bool) (old new : Traffic) 
   pub written : new.written ≡ old.written ++ report_of jobs
   pub shown : IsShown progress (length jobs) (length jobs) before after
 
--- how that fails: all files are accepted before a byte is written
+-- how that fails: all files are accepted before a byte is written, and all jobs are run. So a report is not begun, or
+-- the last count shown is that of all jobs and the report is cut
 pub data JobsFail (paths : List Paths) (progress : Bool) (old new : Traffic) (before after : SinkTold) (f : Failure) : Type 0 where
   refused : GaveNoJobs paths old.files new.files f → new.written ≡ old.written → after ≡ before → JobsFail paths progress old new before after f
-  stopped : (jobs : List Job) (last : ℕ) → GaveJobs paths old.files new.files jobs → CanStop f → IsBeginning new.written (old.written ++ report_of jobs) → IsShown progress (length jobs) last before after → JobsFail paths progress old new before after f
+  not_run : (jobs : List Job) (last : ℕ) → GaveJobs paths old.files new.files jobs → StopsJobs f → new.written ≡ old.written → IsShown progress (length jobs) last before after → JobsFail paths progress old new before after f
+  unwritten : (jobs : List Job) → GaveJobs paths old.files new.files jobs → f ≡ NotWritten → IsBeginning new.written (old.written ++ report_of jobs) → IsShown progress (length jobs) (length jobs) before after → JobsFail paths progress old new before after f
 
 -- a file of jobs was read, and its jobs were swept
 pub record Swept (path : List ℕ) (progress : Bool) (old new : Traffic) (before after : SinkTold) : Type 0 where

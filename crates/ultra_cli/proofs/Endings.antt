@@ -18,7 +18,7 @@ use Rattle.ultra_command_line.specs.declared.Coordination.{Coordination}
 use Rattle.ultra_command_line.specs.declared.Parsed.{Parsed}
 use Rattle.sweep_command.specs.Shown.{Told}
 use Rattle.sweep_command.specs.Sweep as sweep
-use Rattle.sweep_command.specs.Sweep.{Swept, SweepFails, JobsFail, CanStop}
+use Rattle.sweep_command.specs.Sweep.{Swept, SweepFails, JobsFail, StopsJobs}
 use Rattle.ultra_cli.specs.Outcome.{IsStatus, IsRefusal, status_failures, ListFails, unread_text, refused_text, unwritten, Obeyed, NotObeyed, HasReported, HasEnded}
 
 two : IsStatus 2
@@ -67,14 +67,12 @@ not_five (inr e) = cc
 ended_by : (f g : Failure) → f ≡ g → ¬ IsRefusal (status_of g) → ¬ IsRefusal (status_of f)
 ended_by f g same never r = never (subst (λ x. IsRefusal (status_of x)) same r)
 
-can_stop : (f : Failure) → CanStop f → ¬ IsRefusal (status_of f)
-can_stop f (inl e) = ended_by f NotWritten e not_five
-can_stop f (inr (inl e)) = ended_by f NoMemory e not_four
-can_stop f (inr (inr e)) = ended_by f NoThread e not_four
+is_unwritten : (f : Failure) → f ≡ NotWritten → ¬ IsRefusal (status_of f)
+is_unwritten f e = ended_by f NotWritten e not_five
 
 is_stopped : (f : Failure) → IsStopped f → ¬ IsRefusal (status_of f)
 is_stopped f (inl e) = ended_by f NoMemory e not_four
-is_stopped f (inr e) = ended_by f NotWritten e not_five
+is_stopped f (inr e) = is_unwritten f e
 
 is_stopped_by : (workers : ℕ) (f : Failure) → IsStoppedBy workers f → ¬ IsRefusal (status_of f)
 is_stopped_by workers f (inl s) = is_stopped f s
@@ -102,16 +100,17 @@ module _ (conf prog : List ℕ) (old new : Traffic) (f : Failure) (text : Settin
 pub list_refused : (prog : List ℕ) (old new : Traffic) (f : Failure) → ListFails prog old new f → IsRefusal (status_of f) → new.written ≡ old.written
 list_refused prog old new f (unread_text why same) r = ap (λ t. t.written) same
 list_refused prog old new f (refused_text text why same) r = ap (λ t. t.written) same
-list_refused prog old new f (unwritten text p gave why files begun) r = absurd (can_stop f (inl why) r)
+list_refused prog old new f (unwritten text p gave why files begun) r = absurd (is_unwritten f why r)
 
 pub lib_refused : (c : Coordination) (old new : List ℕ) (f : Failure) → LibFails c old new f → IsRefusal (status_of f) → new ≡ old
 lib_refused c old new f (lib.refused bad why same) r = same
 lib_refused c old new f (lib.no_memory good why same) r = same
-lib_refused c old new f (lib.unwritten good why begun) r = absurd (can_stop f (inl why) r)
+lib_refused c old new f (lib.unwritten good why begun) r = absurd (is_unwritten f why r)
 
 jobs_refused : (paths : List Paths) (progress : Bool) (old new : Traffic) (before after : SinkTold) (f : Failure) → JobsFail paths progress old new before after f → IsRefusal (status_of f) → new.written ≡ old.written
 jobs_refused paths progress old new before after f (sweep.refused gave same still) r = same
-jobs_refused paths progress old new before after f (sweep.stopped jobs last gave stops begun shown) r = absurd (can_stop f stops r)
+jobs_refused paths progress old new before after f (sweep.not_run jobs last gave stops same shown) r = same
+jobs_refused paths progress old new before after f (sweep.unwritten jobs gave why begun shown) r = absurd (is_unwritten f why r)
 
 sweep_refused : (path : List ℕ) (progress : Bool) (old new : Traffic) (before after : SinkTold) (f : Failure) → SweepFails path progress old new before after f → IsRefusal (status_of f) → new.written ≡ old.written
 sweep_refused path progress old new before after f (sweep.unlisted gave same still) r = same

@@ -6,12 +6,12 @@ use Rattle.ultra_sweep.specs.Report.{report_text}
 use Rattle.sweep_command.specs.declared.fault.SweepFault.{SweepFault}
 use Rattle.sweep_command.specs.declared.fault.SweepFault.TheVariants.{NoMemory, NoThread}
 use Rattle.sweep_command.specs.Shown.{stream, IsShown}
-use Rattle.sweep_command.specs.Sweep.{report_of, failure_of, CanStop, refused, stopped}
+use Rattle.sweep_command.specs.Sweep.{report_of, failure_of, StopsJobs, refused, not_run, unwritten}
 use Rattle.sweep_command.proofs.sweep_jobs.Goals as goal
 
-can_stop : (fault : SweepFault) → CanStop (failure_of fault)
-can_stop NoMemory = inr (inl refl)
-can_stop NoThread = inr (inr refl)
+stops_jobs : (fault : SweepFault) → StopsJobs (failure_of fault)
+stops_jobs NoMemory = inl refl
+stops_jobs NoThread = inr refl
 
 pub returns-in_err-jobs-clause-err : goal.returns-in_err-jobs-clause-err
 returns-in_err-jobs-clause-err g c =
@@ -25,7 +25,7 @@ returns-in-Ok-clause-err g c =
     let text : report_text c.in-Ok.gathered ≡ report_of jobs = ap report_text c.in-Ok.ensures.ok ∙ ap report_of same in
     let before = stream (g.E.Sink.taken c.args.err.now) (g.E.Sink.failures c.args.err.now) in
     let after = stream (g.E.Sink.taken c.run_jobs.new.err) (g.E.Sink.failures c.run_jobs.new.err) in
-    stopped jobs (length jobs) c.in_ok-jobs.ensures.ok (inl refl)
+    unwritten jobs c.in_ok-jobs.ensures.ok refl
     (subst (λ t. IsBeginning (g.O.Sink.taken c.report.new.sink) (g.O.Sink.taken c.args.out.now ++ t)) text (rw c.in-Err-report.is at c.report.ensures.err))
     (subst (λ js. IsShown c.args.plan.progress (length js) (length js) before after) same c.in-Ok.ensures.all_shown)
 
@@ -36,5 +36,5 @@ returns-clause-err g c =
     let some = c.in-Err.ensures.some_shown in
     let before = stream (g.E.Sink.taken c.args.err.now) (g.E.Sink.failures c.args.err.now) in
     let after = stream (g.E.Sink.taken c.run_jobs.new.err) (g.E.Sink.failures c.run_jobs.new.err) in
-    stopped jobs some.0 c.in_ok-jobs.ensures.ok (subst CanStop (sym c.failure.ensures) (can_stop c.in-Err.fault)) (report_of jobs, refl)
+    not_run jobs some.0 c.in_ok-jobs.ensures.ok (subst StopsJobs (sym c.failure.ensures) (stops_jobs c.in-Err.fault)) refl
     (subst (λ js. IsShown c.args.plan.progress (length js) some.0 before after) same some.1)
