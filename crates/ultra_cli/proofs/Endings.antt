@@ -18,7 +18,7 @@ use Rattle.ultra_command_line.specs.declared.Coordination.{Coordination}
 use Rattle.ultra_command_line.specs.declared.Parsed.{Parsed}
 use Rattle.sweep_command.specs.Shown.{Told}
 use Rattle.sweep_command.specs.Sweep as sweep
-use Rattle.sweep_command.specs.Sweep.{Swept, SweepFails, JobsFail, StopsJobs}
+use Rattle.sweep_command.specs.Sweep.{Swept, SweepFails, JobsFail}
 use Rattle.ultra_cli.specs.Outcome.{IsStatus, IsRefusal, status_failures, ListFails, unread_text, refused_text, unwritten, Obeyed, NotObeyed, HasReported, HasEnded}
 
 two : IsStatus 2
