@@ -16,6 +16,10 @@ pub enum SweepFault {
 }
 
 impl From<AllocError> for SweepFault {
+    ghost use Rattle.sweep_command.specs.declared.fault.SweepFault.TheVariants.{NoMemory};
+
+    ghost from_gives = { λ _ fault. fault ≡ NoMemory };
+
     fn from(_: AllocError) -> SweepFault {
         SweepFault::NoMemory
     }
