@@ -6,7 +6,7 @@ ghost use Rattle.ultra_units.specs.Set.{HasNoBitFrom, HasNoneFrom, IsFirstBit, I
 use std::marker::Model;
 
 /// How many units the largest machine has: 192 switches, 64 modules and 64 processing elements.
-const UNITS: usize = 320;
+pub(crate) const UNITS: usize = 320;
 
 /// How many words of 64 bits that takes.
 const WORDS: usize = 5;

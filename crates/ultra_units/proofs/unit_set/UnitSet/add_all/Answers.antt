@@ -1,4 +1,4 @@
-use Rattle.std.proofs.Common.{◌/◌, arith, ◌∙◌}
+use Rattle.std.proofs.Common.{arith}
 use Rattle.ultra_units.proofs.Set.{united}
 use Rattle.ultra_units.proofs.unit_set.UnitSet.add_all.Goals as goal
 
