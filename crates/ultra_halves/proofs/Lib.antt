@@ -1,0 +1,4 @@
+pub mod Arrivals
+pub mod Going
+pub mod Combinations
+pub mod Rests
