@@ -1,0 +1,4 @@
+pub mod Readers
+pub mod Marks
+pub mod ReplyMarks
+pub mod RequestMarks

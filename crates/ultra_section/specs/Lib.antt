@@ -1,0 +1,4 @@
+pub mod Sets
+pub mod Links
+pub mod Units
+pub mod Marks
