@@ -2,3 +2,5 @@ pub mod Sets
 pub mod Links
 pub mod Units
 pub mod Marks
+pub mod BlockState
+pub mod RepliesSent

@@ -1,8 +1,14 @@
 //! Blocks: some units of a machine, by their numbers, and the links between them.
 #![tactic(auto)]
 
+mod block;
 mod links;
 mod replies;
 mod requests;
+mod rooms;
+mod send_replies;
 mod sets;
 mod unit;
+
+pub use block::Block;
+pub use rooms::Rooms;
