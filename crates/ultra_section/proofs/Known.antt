@@ -134,7 +134,7 @@ module _ (d : ℕ) (old now : Sets) (ws : List (Option Switch)) (bs : List (Opti
       → UnitsAreKnown d now ws (set bs m (Some c)) es
   module_changed n m o b c own read is agree noted =
       let was = subst (λ k. KnowsModule (facts_at old k) (Some b)) (sym own.number)
-          (subst (λ x. KnowsModule (facts_at old (module_number d m)) x) (stands bs m o b (omega (arith, known.module_entries, own.small)) read is) (known.modules m own.small)) in
+      (subst (λ x. KnowsModule (facts_at old (module_number d m)) x) (stands bs m o b (omega (arith, known.module_entries, own.small)) read is) (known.modules m own.small)) in
       module_known d old now ws bs es known m (Some c) own.small (subst (λ k. AgreeBut k old now) own.number agree)
       (subst (λ k. KnowsModule (facts_at now k) (Some c)) own.number (module_noted (facts_at old n) (facts_at now n) b c was noted))
 
@@ -143,6 +143,6 @@ module _ (d : ℕ) (old now : Sets) (ws : List (Option Switch)) (bs : List (Opti
       → UnitsAreKnown d now ws bs (set es p (Some v))
   element_changed n p o e v own read is agree noted =
       let was = subst (λ k. KnowsElement (facts_at old k) (Some e)) (sym own.number)
-          (subst (λ x. KnowsElement (facts_at old (element_number d p)) x) (stands es p o e (omega (arith, known.element_entries, own.small)) read is) (known.elements p own.small)) in
+      (subst (λ x. KnowsElement (facts_at old (element_number d p)) x) (stands es p o e (omega (arith, known.element_entries, own.small)) read is) (known.elements p own.small)) in
       element_known d old now ws bs es known p (Some v) own.small (subst (λ k. AgreeBut k old now) own.number agree)
       (subst (λ k. KnowsElement (facts_at now k) (Some v)) own.number (element_noted (facts_at old n) (facts_at now n) e v was noted))

@@ -1,5 +1,5 @@
 -- which unit of a machine of d stages has a number
-use Rattle.std.specs.Prelude.{◌≡◌, ℕ, ◌+◌, ◌-◌, ◌*◌, ◌/◌, ◌%◌, ◌^◌, ◌<◌, true, false, nat_lt}
+use Rattle.std.specs.Prelude.{◌≡◌, ℕ, ◌+◌, ◌-◌, ◌*◌, ◌/◌, ◌%◌, ◌^◌, ◌<◌, ◌≤◌, true, false, nat_lt}
 use Rattle.ultra_units.specs.Numbers.{switch_count, switch_number, module_number, element_number, unit_count}
 use Rattle.ultra_section.specs.declared.unit.Unit.{Unit}
 use Rattle.ultra_section.specs.declared.unit.Unit.TheVariants.{Switch, Module, Element, Nothing}
@@ -38,3 +38,10 @@ pub record IsModule (d n m : ℕ) : Type 0 where
 pub record IsElement (d n p : ℕ) : Type 0 where
   pub small : p < 2 ^ d
   pub number : n ≡ element_number d p
+
+-- number n is that of the unit
+abbrev pub IsUnit : ℕ → ℕ → Unit → Type 0
+IsUnit d n (Switch s k) = IsSwitch d n s k
+IsUnit d n (Module m) = IsModule d n m
+IsUnit d n (Element p) = IsElement d n p
+IsUnit d n Nothing = unit_count d ≤ n

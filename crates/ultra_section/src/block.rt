@@ -39,15 +39,15 @@ impl Model for Block {
     ghost Value = { BlockState };
 
     ghost view = { λ b. record {
-        stages = b.net;
-        done = b.done;
-        switches = b.switches.items;
-        modules = b.modules.items;
-        elements = b.elements.items;
-        replies = b.replies.table.items;
-        requests = b.requests.table.items;
-        events = b.events.items;
-        stops = b.stops.items;
+      stages = b.net;
+      done = b.done;
+      switches = b.switches.items;
+      modules = b.modules.items;
+      elements = b.elements.items;
+      replies = b.replies.table.items;
+      requests = b.requests.table.items;
+      events = b.events.items;
+      stops = b.stops.items;
     } };
 
     ghost invariant = { λ b. IsKept b.net b.sets b.switches.items b.modules.items b.elements.items b.replies b.requests (vec_capacity b.events) (vec_capacity b.stops) };

@@ -1,7 +1,7 @@
 //! Which unit has a number.
 
 ghost use Rattle.std.specs.Prelude.{◌≡◌, ℕ};
-ghost use Rattle.ultra_section.specs.Units.{unit_of};
+ghost use Rattle.ultra_section.specs.Units.{IsUnit, unit_of};
 
 use ultra_route::Net;
 use ultra_units::switch_count;
@@ -22,7 +22,8 @@ pub(crate) enum Unit {
 /// The unit with this number.
 #[inline(always)]
 pub(crate) fn unit_of(net: Net, number: usize) -> Unit
-    ensures { result ≡ unit_of net number }
+    ensures value { result ≡ unit_of net number }
+    ensures is { IsUnit net number result }
 {
     let switches = switch_count(net);
     let size = net.size() as usize;
