@@ -7,3 +7,4 @@ pub mod Standing
 pub mod Empty
 pub mod Nexts
 pub mod RepliesSent
+pub mod RequestsSent

@@ -4,3 +4,4 @@ pub mod Units
 pub mod Marks
 pub mod BlockState
 pub mod RepliesSent
+pub mod RequestsSent

@@ -7,6 +7,7 @@ mod replies;
 mod requests;
 mod rooms;
 mod send_replies;
+mod send_requests;
 mod sets;
 mod unit;
 
