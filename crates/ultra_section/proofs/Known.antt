@@ -106,7 +106,7 @@ pub element_noted : (f g : UnitFacts) (e v : ProcessingElement) → KnowsElement
 element_noted f g e v known is = rw is record { here = known.here; holds_requests = refl; to_step = refl }
 
 -- what a read of an entry gives
-stands : {X : Type 0} (xs : List (Option X)) (n : ℕ) (o : Option X) (x : X) → n < length xs → o ≡ get_or xs n o → o ≡ Some x → slice_index_or xs n None ≡ Some x
+pub stands : {X : Type 0} (xs : List (Option X)) (n : ℕ) (o : Option X) (x : X) → n < length xs → o ≡ get_or xs n o → o ≡ Some x → slice_index_or xs n None ≡ Some x
 stands xs n o x within read is = get_or_default xs n None o within ∙ sym read ∙ is
 
 -- ---- a unit is changed, and noted: `o` is what was read of its entry
@@ -146,3 +146,11 @@ module _ (d : ℕ) (old now : Sets) (ws : List (Option Switch)) (bs : List (Opti
       (subst (λ x. KnowsElement (facts_at old (element_number d p)) x) (stands es p o e (omega (arith, known.element_entries, own.small)) read is) (known.elements p own.small)) in
       element_known d old now ws bs es known p (Some v) own.small (subst (λ k. AgreeBut k old now) own.number agree)
       (subst (λ k. KnowsElement (facts_at now k) (Some v)) own.number (element_noted (facts_at old n) (facts_at now n) e v was noted))
+
+  -- a processing element is changed so that what is known of it is still true
+  pub element_same : (n p : ℕ) (o : Option ProcessingElement) (e v : ProcessingElement) → IsElement d n p → o ≡ get_or es p o → o ≡ Some e
+      → holds_request v ≡ holds_request e → has_stopped v.processor.core.activity ≡ has_stopped e.processor.core.activity → UnitsAreKnown d old ws bs (set es p (Some v))
+  element_same n p o e v own read is pending stopped =
+      let was = subst (λ x. KnowsElement (facts_at old (element_number d p)) x) (stands es p o e (omega (arith, known.element_entries, own.small)) read is) (known.elements p own.small) in
+      element_known d old old ws bs es known p (Some v) own.small (λ k _. refl)
+      record { here = was.here; holds_requests = was.holds_requests ∙ sym pending; to_step = was.to_step ∙ ap (λ b. not b) (sym stopped) }

@@ -7,4 +7,5 @@ pub mod Standing
 pub mod Empty
 pub mod Nexts
 pub mod RepliesSent
+pub mod RepliesTaken
 pub mod RequestsSent

@@ -1,13 +1,18 @@
 -- What is known of links is kept when something is put on one, and when something is taken.
 use Rattle.std.proofs.Common.{◌≡◌, ◌≢◌, ℕ, ◌+◌, ◌-◌, ◌*◌, ◌<◌, ◌≤◌, List, Bool, true, false, Option, Some, None, length, get_or, set, refl, sym, ◌∙◌, ap, subst, inl, inr, arith, get_or-set_same, get_or-set_other}
 use Rattle.std.specs.Prelude.{is_some, ◌⊎◌}
-use Rattle.std.proofs.lemmas.Bool.{cases_eq}
-use Rattle.std.proofs.lemmas.List.{length-set}
+use Rattle.std.specs.Option.{ForSome}
+use Rattle.std.proofs.lemmas.Bool.{cases_eq, cases_lt}
+use Rattle.std.proofs.lemmas.List.{length-set, get_or_past}
 use Rattle.std.proofs.Math.Nat.{mul-le-mul_right}
 use Rattle.ultra_units.specs.Set.{has_unit}
 use Rattle.ultra_section.specs.Links.{leads, put_on}
 use Rattle.ultra_section.specs.Marks.{IsMarked, on_link}
 use Rattle.ultra_section.specs.declared.links.Links.{Links}
+
+none_there : {M : Type 0} (o : Option M) → (is_some o ≡ true → o ≡ None) → o ≡ None
+none_there None h = refl
+none_there (Some x) h = h refl
 
 leads_more : (here came away came_now away_now : Bool) → (came ≡ true → came_now ≡ true) → (away ≡ true → away_now ≡ true)
     → leads here came away ≡ true → leads here came_now away_now ≡ true
@@ -100,3 +105,37 @@ last_place d n m low h =
     let rows : (d - 1) * n ≤ d * n = mul-le-mul_right n (omega arith) in
     let all : (d + 1) * n ≡ d * n + n = grind arith in
     omega arith
+
+-- ---- of some links something was taken
+abbrev pub Fewer : {M : Type 0} → List (Option M) → List (Option M) → Type 0
+Fewer t now = (link : ℕ) → (on_link now link ≡ on_link t link) ⊎ (on_link now link ≡ None)
+
+pub fewer_set : {M : Type 0} (t : List (Option M)) (a : ℕ) → Fewer t (set t a None)
+fewer_set t a link =
+    elim (cases_eq link a) [
+      | inl same ↦ inr (elim (cases_lt a (length t)) [
+        | inl within ↦ ap (on_link (set t a None)) same ∙ emptied t a within
+        | inr past ↦ get_or_past (set t a None) link None (rw length-set (omega arith))
+      ])
+      | inr other ↦ inl (get_or-set_other t a link None None other)
+    ]
+
+pub fewer_both : {M : Type 0} (t : List (Option M)) (a b : ℕ) → Fewer t (set (set t a None) b None)
+fewer_both t a b link =
+    elim (fewer_set (set t a None) b link) [
+      | inl same ↦ elim (fewer_set t a link) [ inl before ↦ inl (same ∙ before) | inr empty ↦ inr (same ∙ empty) ]
+      | inr empty ↦ inr empty
+    ]
+
+pub for_fewer : {M : Type 0} (o now : Option M) (P : M → Type 0) → (now ≡ o) ⊎ (now ≡ None) → ForSome o P → ForSome now P
+for_fewer o now P (inl same) all x is = all x (sym same ∙ is)
+for_fewer o now P (inr empty) all x is = absurd (let e : None ≡ Some x = sym empty ∙ is in cc)
+
+-- ---- a unit that stands here, and isn't among those to which something is known to lead
+pub nothing_came : {M : Type 0} (here : List ℕ) (l : Links M) (unit link : ℕ) → IsMarked here l unit link → has_unit here unit ≡ true → has_unit l.came unit ≡ false
+    → on_link l.table.items link ≡ None
+nothing_came here l unit link marked stands none = none_there (on_link l.table.items link) (λ some.
+    let led : leads (has_unit here unit) (has_unit l.came unit) (has_unit l.away unit) ≡ true = marked some in
+    let came : leads true false (has_unit l.away unit) ≡ true =
+    subst (λ x. leads true x (has_unit l.away unit) ≡ true) none (subst (λ x. leads x (has_unit l.came unit) (has_unit l.away unit) ≡ true) stands led) in
+    let e : false ≡ true = came in absurd cc)

@@ -1,5 +1,5 @@
 -- a block: some of the units of a machine, and the links
-use Rattle.std.specs.Prelude.{◌≡◌, ℕ, ◌*◌, ◌^◌, ◌<◌, ◌≤◌, List, length, Option, None, slice_index_or}
+use Rattle.std.specs.Prelude.{◌≡◌, ℕ, ◌+◌, ◌*◌, ◌^◌, ◌<◌, ◌≤◌, List, length, Option, None, slice_index_or}
 use Rattle.ultra_msg.specs.declared.Request.{Request}
 use Rattle.ultra_msg.specs.declared.ReplyMessage.{ReplyMessage}
 use Rattle.ultra_msg.specs.declared.Event.{Event}
@@ -56,3 +56,7 @@ pub record IsKept (d : ℕ) (s : Sets) (ws : List (Option Switch)) (bs : List (O
   pub requests : RequestsAreKnown d s.here for_requests
   pub events_fit : most_events ≤ event_places
   pub stops_fit : most_stops ≤ stop_places
+
+-- there is memory for the events of the units from number n on, of 320: each has at most two in a half
+abbrev pub HasEventRoom : ℕ → BlockState → Type 0
+HasEventRoom n b = length b.events + 640 ≤ most_events + 2 * n

@@ -4,4 +4,5 @@ pub mod Units
 pub mod Marks
 pub mod BlockState
 pub mod RepliesSent
+pub mod RepliesTaken
 pub mod RequestsSent

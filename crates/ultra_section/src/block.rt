@@ -1,5 +1,7 @@
 //! Blocks: some of the units of a machine.
 
+ghost use Rattle.std.specs.Prelude.{◌≡◌, ℕ, ◌<◌, ◌≤◌, ◌++◌, ◌∷◌, [], length, vec_capacity};
+
 use crate::links::Links;
 use crate::sets::Sets;
 use std::marker::Model;
@@ -51,4 +53,14 @@ impl Model for Block {
     } };
 
     ghost invariant = { λ b. IsKept b.net b.sets b.switches.items b.modules.items b.elements.items b.replies b.requests (vec_capacity b.events) (vec_capacity b.stops) };
+}
+
+/// Puts an entry at the end of a list that has memory for it.
+#[inline(always)]
+pub(crate) fn tell<T: Drop>(list: &mut Vec<T>, entry: T)
+    requires { length list.old.items < vec_capacity list.old }
+    ensures entries { list.new.items ≡ list.old.items ++ entry ∷ [] }
+    ensures places { vec_capacity list.old ≤ vec_capacity list.new }
+{
+    let _told = list.push(entry);
 }

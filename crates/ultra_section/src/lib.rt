@@ -9,6 +9,7 @@ mod rooms;
 mod send_replies;
 mod send_requests;
 mod sets;
+mod take_replies;
 mod unit;
 
 pub use block::Block;
