@@ -1,5 +1,5 @@
 -- What the sets of a block say of its units is kept when one of them is put anew and noted.
-use Rattle.std.proofs.Common.{◌≡◌, ◌≢◌, ℕ, ◌+◌, ◌*◌, ◌^◌, ◌<◌, List, Bool, Option, Some, None, set, get_or, refl, sym, ◌∙◌, ap, subst, inl, inr, arith, get_or-set_same, get_or-set_other}
+use Rattle.std.proofs.Common.{◌≡◌, ◌≢◌, ℕ, ◌+◌, ◌*◌, ◌^◌, ◌<◌, ◌≤◌, List, Bool, Option, Some, None, set, get_or, refl, sym, ◌∙◌, ap, subst, inl, inr, arith, get_or-set_same, get_or-set_other}
 use Rattle.std.specs.Prelude.{not, ◌&&◌, is_some, length, slice_index_or}
 use Rattle.std.proofs.lemmas.Bool.{cases_eq}
 use Rattle.std.proofs.lemmas.List.{length-set, get_or_default}
@@ -14,7 +14,11 @@ use Rattle.ultra_halves.specs.declared.elements.ProcessingElement.{ProcessingEle
 use Rattle.ultra_section.specs.Units.{IsModule, IsElement}
 use Rattle.ultra_section.specs.declared.sets.Sets.{Sets}
 use Rattle.ultra_section.specs.Sets.{UnitFacts, facts_at, would_serve, KnowsSwitch, KnowsModule, KnowsElement}
-use Rattle.ultra_section.specs.BlockState.{UnitsAreKnown, switch_at, module_at, element_at}
+use Rattle.ultra_msg.specs.declared.Request.{Request}
+use Rattle.ultra_msg.specs.declared.ReplyMessage.{ReplyMessage}
+use Rattle.ultra_section.specs.declared.links.Links.{Links}
+use Rattle.ultra_section.specs.Marks.{RepliesAreKnown, RequestsAreKnown}
+use Rattle.ultra_section.specs.BlockState.{IsKept, UnitsAreKnown, switch_at, module_at, element_at}
 
 -- the sets agree on all units but one
 abbrev pub AgreeBut : ℕ → Sets → Sets → Type 0
@@ -154,3 +158,16 @@ module _ (d : ℕ) (old now : Sets) (ws : List (Option Switch)) (bs : List (Opti
       let was = subst (λ x. KnowsElement (facts_at old (element_number d p)) x) (stands es p o e (omega (arith, known.element_entries, own.small)) read is) (known.elements p own.small) in
       element_known d old old ws bs es known p (Some v) own.small (λ k _. refl)
       record { here = was.here; holds_requests = was.holds_requests ∙ sym pending; to_step = was.to_step ∙ ap (λ b. not b) (sym stopped) }
+
+-- ---- a block whose units have changed, and not what is on its links
+pub units_changed : (d : ℕ) (old now : Sets) (ws vs : List (Option Switch)) (bs cs : List (Option Bank)) (es fs : List (Option ProcessingElement))
+    (for_replies : Links ReplyMessage) (for_requests : Links Request) (event_places stop_places more_event_places more_stop_places : ℕ)
+    → IsKept d old ws bs es for_replies for_requests event_places stop_places → now.here ≡ old.here → UnitsAreKnown d now vs cs fs
+    → event_places ≤ more_event_places → stop_places ≤ more_stop_places → IsKept d now vs cs fs for_replies for_requests more_event_places more_stop_places
+units_changed d old now ws vs bs cs es fs rs qs e s e' s' kept same units more_events more_stops = record {
+  units = units;
+  replies = subst (λ h. RepliesAreKnown d h rs) (sym same) kept.replies;
+  requests = subst (λ h. RequestsAreKnown d h qs) (sym same) kept.requests;
+  events_fit = omega (arith, kept.events_fit);
+  stops_fit = omega (arith, kept.stops_fit);
+}

@@ -7,5 +7,6 @@ pub mod Standing
 pub mod Empty
 pub mod Nexts
 pub mod RepliesSent
+pub mod Serving
 pub mod RepliesTaken
 pub mod RequestsSent

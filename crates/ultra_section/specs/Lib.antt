@@ -4,5 +4,6 @@ pub mod Units
 pub mod Marks
 pub mod BlockState
 pub mod RepliesSent
+pub mod Serving
 pub mod RepliesTaken
 pub mod RequestsSent

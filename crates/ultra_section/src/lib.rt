@@ -8,6 +8,7 @@ mod requests;
 mod rooms;
 mod send_replies;
 mod send_requests;
+mod serve;
 mod sets;
 mod take_replies;
 mod unit;
