@@ -7,3 +7,4 @@ pub mod RepliesSent
 pub mod Serving
 pub mod RepliesTaken
 pub mod RequestsSent
+pub mod RequestsTaken

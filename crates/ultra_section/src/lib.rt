@@ -11,6 +11,7 @@ mod send_requests;
 mod serve;
 mod sets;
 mod take_replies;
+mod take_requests;
 mod unit;
 
 pub use block::Block;
