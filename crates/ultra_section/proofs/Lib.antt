@@ -9,5 +9,6 @@ pub mod Nexts
 pub mod RepliesSent
 pub mod Serving
 pub mod RepliesTaken
+pub mod Execution
 pub mod RequestsSent
 pub mod RequestsTaken

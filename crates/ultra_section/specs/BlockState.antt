@@ -60,3 +60,7 @@ pub record IsKept (d : ℕ) (s : Sets) (ws : List (Option Switch)) (bs : List (O
 -- there is memory for the events of the units from number n on, of 320: each has at most two in a half
 abbrev pub HasEventRoom : ℕ → BlockState → Type 0
 HasEventRoom n b = length b.events + 640 ≤ most_events + 2 * n
+
+-- and for their stops, of which each has at most one
+abbrev pub HasStopRoom : ℕ → BlockState → Type 0
+HasStopRoom n b = length b.stops + 320 ≤ most_stops + n

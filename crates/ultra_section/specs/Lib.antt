@@ -6,5 +6,6 @@ pub mod BlockState
 pub mod RepliesSent
 pub mod Serving
 pub mod RepliesTaken
+pub mod Execution
 pub mod RequestsSent
 pub mod RequestsTaken

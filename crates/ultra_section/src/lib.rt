@@ -2,6 +2,7 @@
 #![tactic(auto)]
 
 mod block;
+mod execute;
 mod links;
 mod replies;
 mod requests;
