@@ -3,6 +3,7 @@ pub mod Marks
 pub mod ReplyMarks
 pub mod RequestMarks
 pub mod Known
+pub mod Moved
 pub mod Standing
 pub mod Empty
 pub mod Nexts

@@ -7,5 +7,7 @@ pub mod RepliesSent
 pub mod Serving
 pub mod RepliesTaken
 pub mod Execution
+pub mod Building
+pub mod Rooms
 pub mod RequestsSent
 pub mod RequestsTaken

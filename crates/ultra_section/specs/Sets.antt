@@ -33,6 +33,19 @@ facts_at s k = record {
   to_step = has_unit s.to_step k;
 }
 
+-- nothing is true of a unit that doesn't stand here
+abbrev pub no_facts : UnitFacts
+no_facts = record {
+  here = false;
+  holds_replies = false;
+  no_reply_room = false;
+  holds_requests = false;
+  no_room_zero = false;
+  no_room_one = false;
+  to_serve = false;
+  to_step = false;
+}
+
 -- whether a module holds a request and no reply
 abbrev pub would_serve : Bank → Bool
 would_serve b = is_some b.inp && not (is_some b.out)

@@ -2,6 +2,7 @@
 #![tactic(auto)]
 
 mod block;
+mod building;
 mod execute;
 mod links;
 mod replies;

@@ -2,7 +2,9 @@
 
 ghost use Rattle.std.specs.Prelude.{ℕ};
 ghost use Rattle.ultra_units.specs.Set.{HasNoneFrom};
+ghost use Rattle.ultra_section.specs.Rooms.{HasNoted};
 
+use crate::block::Block;
 use ultra_switch::Ports;
 use ultra_units::UnitSet;
 
@@ -29,5 +31,17 @@ impl Rooms {
                 one: UnitSet::empty(),
             },
         }
+    }
+}
+
+impl Block {
+    /// Notes which of its switches, queues and modules have no room. Before the first block of a machine does so, there is room everywhere: `Rooms::all_open`.
+    pub fn rooms(&self, rooms: &mut Rooms)
+        ensures { HasNoted self.now rooms.old rooms.new }
+    {
+        rooms.no_reply_room.add_all(&self.sets.no_reply_room);
+        let noted = &mut rooms.no_request_room;
+        noted.zero.add_all(&self.sets.no_request_room.zero);
+        noted.one.add_all(&self.sets.no_request_room.one);
     }
 }

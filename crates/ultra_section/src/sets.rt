@@ -1,10 +1,10 @@
 //! What is known of the units that stand in a block, as sets of their numbers.
 
-ghost use Rattle.std.specs.Prelude.{◌≡◌, ◌≢◌, ℕ, ◌<◌, not, is_some};
+ghost use Rattle.std.specs.Prelude.{◌≡◌, ◌≢◌, ℕ, ◌<◌, true, not, is_some};
 ghost use Rattle.ultra_isa.specs.Step.{has_stopped};
 ghost use Rattle.ultra_halves.specs.Elements.{holds_request};
 ghost use Rattle.ultra_halves.specs.Switches.{has_reply_room, has_request_room, holds_replies, holds_requests};
-ghost use Rattle.ultra_section.specs.Sets.{facts_at, would_serve};
+ghost use Rattle.ultra_section.specs.Sets.{facts_at, no_facts, would_serve};
 
 use ultra_halves::{ProcessingElement, modules, switches};
 use ultra_mem::Module;
@@ -31,6 +31,49 @@ pub(crate) struct Sets {
 }
 
 impl Sets {
+    /// No unit stands there.
+    pub(crate) fn empty() -> Sets
+        ensures { (k : ℕ) → facts_at result k ≡ no_facts }
+    {
+        let none = UnitSet::empty();
+        Sets {
+            here: none,
+            holds_replies: none,
+            no_reply_room: none,
+            holds_requests: none,
+            no_request_room: Ports {
+                zero: none,
+                one: none,
+            },
+            to_serve: none,
+            to_step: none,
+        }
+    }
+
+    /// A unit stands here from now on. What is true of it is noted then.
+    pub(crate) fn stand(&mut self, number: usize)
+        requires { number < 320 }
+        ensures there { facts_at self.new number ≡ record (facts_at self.old number) { here = true } }
+        ensures others { (k : ℕ) → k ≢ number → facts_at self.new k ≡ facts_at self.old k }
+    {
+        self.here.insert(number);
+    }
+
+    /// A unit doesn't stand here any more.
+    pub(crate) fn leave(&mut self, number: usize)
+        ensures there { facts_at self.new number ≡ no_facts }
+        ensures others { (k : ℕ) → k ≢ number → facts_at self.new k ≡ facts_at self.old k }
+    {
+        self.here.remove(number);
+        self.holds_replies.remove(number);
+        self.no_reply_room.remove(number);
+        self.holds_requests.remove(number);
+        self.no_request_room.zero.remove(number);
+        self.no_request_room.one.remove(number);
+        self.to_serve.remove(number);
+        self.to_step.remove(number);
+    }
+
     /// Notes what is true of the replies of a switch that stands here.
     #[inline(always)]
     pub(crate) fn note_replies(&mut self, number: usize, switch: &Switch)
