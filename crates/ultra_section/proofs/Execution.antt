@@ -1,23 +1,21 @@
 -- A processing element that has stopped stays as it is, and what one does, the later ones don't miss.
-use Rattle.std.proofs.Common.{◌≡◌, ℕ, zero, suc, ◌+◌, ◌-◌, ◌*◌, ◌^◌, ◌<◌, ◌≤◌, List, [], ◌∷◌, ◌++◌, Bool, true, false, Option, Some, None, length, length-append, get_or-set_other, refl, sym, ◌∙◌, ap, subst, arith}
+use Rattle.std.proofs.Common.{◌≡◌, ℕ, zero, suc, ◌<◌, ◌≤◌, List, [], ◌∷◌, ◌++◌, true, false, Option, Some, None, length, length-append, get_or-set_other, refl, sym, ◌∙◌, ap, arith}
 use Rattle.std.specs.Prelude.{not, slice_set, ◌||◌, slice_get}
 use Rattle.std.proofs.lemmas.List.{append-nil}
 use Rattle.ultra_msg.specs.declared.Request.{Request}
-use Rattle.ultra_msg.specs.declared.Event.{Event}
 use Rattle.ultra_isa.specs.declared.Instr.{Instr}
 use Rattle.ultra_isa.specs.declared.Step.{Step}
 use Rattle.ultra_isa.specs.declared.Step.TheVariants as step
 use Rattle.ultra_isa.specs.Step.{has_stopped}
 use Rattle.ultra_units.specs.Set.{has_unit}
 use Rattle.ultra_units.specs.Visits.{after_units}
-use Rattle.ultra_model.specs.declared.Stop.{Stop}
 use Rattle.ultra_model.specs.Machine.{Element}
 use Rattle.ultra_model.specs.Places.{present}
 use Rattle.ultra_model.specs.Phases.{issue_event, stop_of}
 use Rattle.ultra_halves.specs.declared.elements.ProcessingElement.{ProcessingElement}
 use Rattle.ultra_halves.specs.Elements.{element_of, executed, step_at, is_at_rest}
 use Rattle.ultra_halves.specs.Rest.{stalls}
-use Rattle.ultra_halves.proofs.Rests.{IsLeft, left_at_rest}
+use Rattle.ultra_halves.proofs.Rests.{left_at_rest}
 use Rattle.ultra_section.specs.declared.sets.Sets.{Sets}
 use Rattle.ultra_section.specs.declared.unit.Unit.{Unit as UnitName}
 use Rattle.ultra_section.specs.declared.unit.Unit.TheVariants as unit

@@ -1,6 +1,6 @@
 -- What the sets of a block say of its units is kept when one of them is put anew and noted.
-use Rattle.std.proofs.Common.{◌≡◌, ◌≢◌, ℕ, ◌+◌, ◌*◌, ◌^◌, ◌<◌, ◌≤◌, List, Bool, Option, Some, None, set, get_or, refl, sym, ◌∙◌, ap, subst, inl, inr, arith, get_or-set_same, get_or-set_other}
-use Rattle.std.specs.Prelude.{not, ◌&&◌, is_some, length, slice_index_or}
+use Rattle.std.proofs.Common.{◌≡◌, ◌≢◌, ℕ, ◌^◌, ◌<◌, ◌≤◌, List, Bool, Option, Some, None, set, get_or, refl, sym, ◌∙◌, ap, subst, inl, inr, arith, get_or-set_same, get_or-set_other}
+use Rattle.std.specs.Prelude.{not, is_some, length, slice_index_or}
 use Rattle.std.proofs.lemmas.Bool.{cases_eq}
 use Rattle.std.proofs.lemmas.List.{length-set, get_or_default}
 use Rattle.ultra_switch.specs.declared.Switch.{Switch}
@@ -18,7 +18,7 @@ use Rattle.ultra_msg.specs.declared.Request.{Request}
 use Rattle.ultra_msg.specs.declared.ReplyMessage.{ReplyMessage}
 use Rattle.ultra_section.specs.declared.links.Links.{Links}
 use Rattle.ultra_section.specs.Marks.{RepliesAreKnown, RequestsAreKnown}
-use Rattle.ultra_section.specs.BlockState.{IsKept, UnitsAreKnown, switch_at, module_at, element_at}
+use Rattle.ultra_section.specs.BlockState.{IsKept, UnitsAreKnown}
 
 -- the sets agree on all units but one
 abbrev pub AgreeBut : ℕ → Sets → Sets → Type 0

@@ -1,10 +1,9 @@
 -- A unit to which no reply comes takes none, and what a unit takes, the later ones don't miss.
-use Rattle.std.proofs.Common.{◌≡◌, ◌≢◌, ℕ, ◌+◌, ◌-◌, ◌*◌, ◌/◌, ◌%◌, ◌^◌, ◌<◌, ◌≤◌, List, [], ◌∷◌, ◌++◌, Bool, true, false, Option, Some, None, length, length-append, set, get_or-set_other, refl, sym, ◌∙◌, ap, subst, arith, inl, inr}
-use Rattle.std.specs.Prelude.{is_some, slice_set, ◌⊎◌}
+use Rattle.std.proofs.Common.{◌≡◌, ℕ, ◌-◌, ◌/◌, ◌%◌, ◌^◌, ◌<◌, ◌≤◌, List, [], ◌∷◌, ◌++◌, true, false, Option, Some, None, length, length-append, set, get_or-set_other, refl, sym, ◌∙◌, ap, subst, arith}
+use Rattle.std.specs.Prelude.{is_some, slice_set}
 use Rattle.std.specs.Option.{ForSome}
 use Rattle.std.proofs.lemmas.List.{append-nil}
 use Rattle.ultra_msg.specs.declared.ReplyMessage.{ReplyMessage}
-use Rattle.ultra_msg.specs.declared.Event.{Event}
 use Rattle.ultra_switch.specs.declared.Switch.{Switch}
 use Rattle.ultra_switch.specs.declared.Ports.{Ports}
 use Rattle.ultra_units.specs.Set.{has_unit}
@@ -12,14 +11,14 @@ use Rattle.ultra_units.specs.Numbers.{element_number}
 use Rattle.ultra_model.specs.Places.{present}
 use Rattle.ultra_model.specs.Phases.{delivery}
 use Rattle.ultra_halves.specs.declared.elements.ProcessingElement.{ProcessingElement}
-use Rattle.ultra_halves.specs.Halves.{ports, with_replies}
+use Rattle.ultra_halves.specs.Halves.{ports}
 use Rattle.ultra_halves.specs.Switches.{CanTakeReplies, after_replies}
 use Rattle.ultra_halves.specs.Elements.{delivered_to}
 use Rattle.ultra_section.specs.declared.sets.Sets.{Sets}
 use Rattle.ultra_section.specs.declared.links.Links.{Links}
 use Rattle.ultra_section.specs.declared.unit.Unit.{Unit as UnitName}
 use Rattle.ultra_section.specs.declared.unit.Unit.TheVariants as unit
-use Rattle.ultra_section.specs.Units.{unit_of, IsUnit, IsSwitch, IsElement}
+use Rattle.ultra_section.specs.Units.{unit_of, IsUnit, IsElement}
 use Rattle.ultra_section.specs.Marks.{RepliesAreKnown, reply_links, delivery_link, on_link, on_both, without_both}
 use Rattle.ultra_section.specs.BlockState.{BlockState, HasEventRoom, UnitsAreKnown, switch_at, element_at}
 use Rattle.ultra_section.specs.RepliesTaken.{replies_at_switch, replies_taken_by, switch_takes_replies, reply_at_element, reply_taken_by, element_takes_reply, takes_replies, UnitCanTakeReplies, CanTakeRepliesAt}

@@ -2,12 +2,11 @@
 use Rattle.std.proofs.Common.{◌≡◌, ◌≢◌, ℕ, ◌+◌, ◌*◌, ◌^◌, ◌<◌, ◌≤◌, List, Option, None, length, set, sym, ◌∙◌, ap, subst, arith, refl}
 use Rattle.std.specs.Prelude.{◌⊎◌}
 use Rattle.std.proofs.lemmas.List.{length-set}
-use Rattle.std.proofs.lemmas.Nat.{pow_pos}
 use Rattle.ultra_msg.specs.declared.Request.{Request}
 use Rattle.ultra_units.specs.Set.{has_unit}
-use Rattle.ultra_units.specs.Numbers.{switch_count, module_number}
+use Rattle.ultra_units.specs.Numbers.{module_number}
 use Rattle.ultra_section.specs.Units.{stage_of, index_of, IsSwitch, IsModule}
-use Rattle.ultra_section.specs.Marks.{RequestsAreKnown, HasAllLinks, on_link, request_links, memory_link, without_both}
+use Rattle.ultra_section.specs.Marks.{RequestsAreKnown, on_link, request_links, memory_link, without_both}
 use Rattle.ultra_section.specs.declared.links.Links.{Links}
 use Rattle.ultra_section.proofs.Readers.{LeadTo, request_reader, requests_to_switch, request_to_module}
 use Rattle.ultra_section.proofs.Marks.{HasPut, put_marked, HasTaken, take_marked, length-put_on, fewer_by_one, fewer_by_two, emptied, emptied_first, emptied_second}

@@ -1,6 +1,6 @@
 -- A unit that holds no request sends none.
-use Rattle.std.proofs.Common.{◌≡◌, ℕ, ◌+◌, ◌*◌, List, Bool, true, false, Option, Some, None, refl, sym, ◌∙◌, ap, subst}
-use Rattle.std.specs.Prelude.{slice_get, slice_set, not}
+use Rattle.std.proofs.Common.{◌≡◌, ℕ, ◌+◌, ◌*◌, List, Bool, true, false, Option, Some, None, refl, sym, ◌∙◌, ap}
+use Rattle.std.specs.Prelude.{slice_get, slice_set}
 use Rattle.ultra_msg.specs.declared.Request.{Request}
 use Rattle.ultra_switch.specs.declared.Switch.{Switch}
 use Rattle.ultra_switch.specs.declared.Ports.{Ports}
@@ -21,7 +21,7 @@ use Rattle.ultra_section.specs.Links.{put_on}
 use Rattle.ultra_section.specs.BlockState.{BlockState, UnitsAreKnown, switch_at, element_at}
 use Rattle.ultra_section.specs.RequestsSent.{request_ways, requests_sent_by, switch_sends_requests, request_sent_by, element_sends_request, sends_requests, has_way_from_element}
 use Rattle.ultra_section.proofs.Standing.{unit_is}
-use Rattle.ultra_section.proofs.Empty.{silent, no_head, both_none, is_none, no_room_none, same_entry}
+use Rattle.ultra_section.proofs.Empty.{no_head, both_none, is_none, no_room_none, same_entry}
 
 silent_lane : (goes : Bool) (xs : List Entry) → has_none xs ≡ true → where_room goes (request_of (slice_get xs 0)) ≡ None
 silent_lane goes xs h = ap (λ o. where_room goes (request_of o)) (no_head xs h) ∙ no_room_none goes

@@ -1,16 +1,15 @@
 -- A unit to which no request comes takes none, and what a unit takes, the later ones don't miss.
-use Rattle.std.proofs.Common.{◌≡◌, ◌≢◌, ℕ, ◌+◌, ◌-◌, ◌*◌, ◌/◌, ◌%◌, ◌^◌, ◌<◌, ◌≤◌, List, [], ◌++◌, Bool, true, false, Option, Some, None, length, set, get_or-set_other, refl, sym, ◌∙◌, ap, subst, arith}
+use Rattle.std.proofs.Common.{◌≡◌, ℕ, ◌+◌, ◌-◌, ◌/◌, ◌%◌, ◌^◌, ◌<◌, ◌≤◌, List, [], ◌++◌, Bool, true, false, Option, Some, None, length, set, get_or-set_other, refl, sym, ◌∙◌, ap, subst, arith}
 use Rattle.std.specs.Prelude.{is_some, slice_set, ◌==◌}
 use Rattle.std.specs.Option.{ForSome}
 use Rattle.std.proofs.lemmas.List.{append-nil}
 use Rattle.ultra_msg.specs.declared.Request.{Request}
-use Rattle.ultra_msg.specs.declared.Event.{Event}
 use Rattle.ultra_switch.specs.declared.Switch.{Switch}
 use Rattle.ultra_switch.specs.declared.Ports.{Ports}
 use Rattle.ultra_mem.specs.Serve.{Bank}
 use Rattle.ultra_units.specs.Set.{has_unit}
 use Rattle.ultra_units.specs.Numbers.{module_number}
-use Rattle.ultra_halves.specs.Halves.{ports, coming_to, first_of, second_of, arrivals}
+use Rattle.ultra_halves.specs.Halves.{ports, coming_to, arrivals}
 use Rattle.ultra_halves.specs.Switches.{CanTakeRequests, HasWay, after_requests, combinations_of}
 use Rattle.ultra_halves.specs.Modules.{bank_with}
 use Rattle.ultra_section.specs.declared.sets.Sets.{Sets}

@@ -1,10 +1,10 @@
 -- A module that has nothing to serve stays as it is.
-use Rattle.std.proofs.Common.{◌≡◌, ℕ, ◌+◌, ◌*◌, ◌<◌, ◌≤◌, List, [], ◌∷◌, ◌++◌, Bool, true, false, Option, Some, None, length, length-append, refl, sym, ◌∙◌, ap, arith}
+use Rattle.std.proofs.Common.{◌≡◌, ℕ, ◌<◌, ◌≤◌, [], ◌∷◌, ◌++◌, false, Option, Some, None, length, length-append, refl, sym, ◌∙◌, ap, arith}
 use Rattle.std.specs.Prelude.{is_some, slice_set, not, ◌&&◌}
 use Rattle.std.proofs.lemmas.List.{append-nil}
 use Rattle.ultra_mem.specs.declared.Placed.{Placed}
 use Rattle.ultra_mem.specs.declared.Served.{Served}
-use Rattle.ultra_mem.specs.Serve.{Bank, serve, served, to_serve, after_serving, act_of}
+use Rattle.ultra_mem.specs.Serve.{Bank, served, after_serving, act_of}
 use Rattle.ultra_msg.specs.declared.ReplyMessage.{ReplyMessage}
 use Rattle.ultra_units.specs.Set.{has_unit}
 use Rattle.ultra_model.specs.Places.{present}

@@ -1,12 +1,11 @@
 -- The unit with a number is that of its kind.
-use Rattle.std.proofs.Common.{◌≡◌, ℕ, ◌+◌, ◌-◌, ◌*◌, ◌/◌, ◌%◌, ◌^◌, ◌<◌, ◌≤◌, Bool, true, false, refl, sym, ◌∙◌, arith, inl, inr}
+use Rattle.std.proofs.Common.{◌≡◌, ℕ, ◌+◌, ◌-◌, ◌^◌, ◌<◌, ◌≤◌, Bool, true, false, refl, sym, arith}
 use Rattle.std.specs.Prelude.{nat_lt}
 use Rattle.std.proofs.lemmas.Bool.Decides.{nat_tests}
 use Rattle.std.proofs.lemmas.Nat.{pow_pos, div-add-mod'}
 use Rattle.std.proofs.Math.Nat.{div-lt_iff_lt-mul}
-use Rattle.ultra_units.specs.Numbers.{switch_count, unit_count, switch_number}
-use Rattle.ultra_section.specs.Units.{unit_of, stage_of, index_of, IsUnit, IsSwitch, IsModule, IsElement}
-use Rattle.ultra_section.specs.declared.unit.Unit.{Unit}
+use Rattle.ultra_units.specs.Numbers.{switch_count, unit_count}
+use Rattle.ultra_section.specs.Units.{unit_of, stage_of, index_of, IsUnit, IsSwitch}
 use Rattle.ultra_section.specs.declared.unit.Unit.TheVariants.{Switch, Module, Element, Nothing}
 
 below : (a b : ℕ) → nat_lt a b ≡ true → a < b

@@ -9,5 +9,6 @@ pub mod RepliesTaken
 pub mod Execution
 pub mod Building
 pub mod Rooms
+pub mod Making
 pub mod RequestsSent
 pub mod RequestsTaken

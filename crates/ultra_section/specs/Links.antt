@@ -1,5 +1,5 @@
 -- links between units, and to which units something is on its way
-use Rattle.std.specs.Prelude.{◌≡◌, ℕ, ◌+◌, ◌-◌, ◌*◌, ◌/◌, ◌%◌, ◌^◌, ◌<◌, Bool, true, false, List, Option, Some, None, is_some, slice_index_or, slice_set}
+use Rattle.std.specs.Prelude.{ℕ, Bool, true, false, List, Option, Some, None, slice_set}
 
 -- a table of links with a message put on one of them, if there is one
 abbrev pub put_on : {M : Type 0} → List (Option M) → ℕ → Option M → List (Option M)

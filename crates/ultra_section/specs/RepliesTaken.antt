@@ -1,5 +1,5 @@
 -- the half of a cycle in which replies come to switches and processing elements
-use Rattle.std.specs.Prelude.{ℕ, ◌+◌, ◌-◌, ◌*◌, ◌<◌, ◌≤◌, List, [], ◌∷◌, ◌++◌, length, Option, Some, None, slice_set}
+use Rattle.std.specs.Prelude.{ℕ, ◌<◌, [], ◌∷◌, ◌++◌, length, Option, Some, None, slice_set}
 use Rattle.std.specs.Option.{ForSome}
 use Rattle.ultra_msg.specs.declared.ReplyMessage.{ReplyMessage}
 use Rattle.ultra_switch.specs.declared.Ports.{Ports}

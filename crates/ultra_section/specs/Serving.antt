@@ -1,5 +1,5 @@
 -- the half of a cycle in which modules serve
-use Rattle.std.specs.Prelude.{ℕ, [], ◌∷◌, ◌++◌, Option, Some, None, slice_set}
+use Rattle.std.specs.Prelude.{ℕ, [], ◌∷◌, ◌++◌, Some, None, slice_set}
 use Rattle.ultra_mem.specs.Serve.{Bank, serve, served}
 use Rattle.ultra_model.specs.Places.{present}
 use Rattle.ultra_model.specs.Phases.{serving}

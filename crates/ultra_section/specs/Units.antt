@@ -1,5 +1,5 @@
 -- which unit of a machine of d stages has a number
-use Rattle.std.specs.Prelude.{◌≡◌, ℕ, ◌+◌, ◌-◌, ◌*◌, ◌/◌, ◌%◌, ◌^◌, ◌<◌, ◌≤◌, true, false, nat_lt}
+use Rattle.std.specs.Prelude.{◌≡◌, ℕ, ◌+◌, ◌-◌, ◌/◌, ◌%◌, ◌^◌, ◌<◌, ◌≤◌, true, false, nat_lt}
 use Rattle.ultra_units.specs.Numbers.{switch_count, switch_number, module_number, element_number, unit_count}
 use Rattle.ultra_section.specs.declared.unit.Unit.{Unit}
 use Rattle.ultra_section.specs.declared.unit.Unit.TheVariants.{Switch, Module, Element, Nothing}

@@ -4,7 +4,9 @@
 mod block;
 mod building;
 mod execute;
+mod half;
 mod links;
+mod making;
 mod replies;
 mod requests;
 mod rooms;
@@ -17,4 +19,5 @@ mod take_requests;
 mod unit;
 
 pub use block::Block;
+pub use half::Half;
 pub use rooms::Rooms;

@@ -1,6 +1,5 @@
-use Rattle.std.proofs.Common.{arith, rules, ◌∙◌, ap, sym, None, set}
+use Rattle.std.proofs.Common.{arith, rules, ◌∙◌, ap}
 use Rattle.ultra_units.specs.Set.{has_unit}
-use Rattle.ultra_section.specs.Marks.{delivery_link}
 use Rattle.ultra_section.proofs.ReplyMarks.{known_taken_by_one}
 use Rattle.ultra_section.proofs.replies.take_at_element.Goals as goal
 

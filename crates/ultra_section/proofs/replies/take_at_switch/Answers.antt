@@ -1,9 +1,7 @@
-use Rattle.std.proofs.Common.{◌≡◌, ◌≢◌, ◌+◌, ◌*◌, ◌^◌, ◌<◌, ℕ, None, arith, refl, sym, ◌∙◌, ap, subst, length, set, get_or-set_other}
+use Rattle.std.proofs.Common.{◌≡◌, ◌+◌, ◌*◌, ◌^◌, ◌<◌, None, arith, refl, sym, ◌∙◌, ap, subst, length, set, get_or-set_other}
 use Rattle.std.proofs.lemmas.List.{length-set}
 use Rattle.ultra_units.specs.Set.{has_unit}
-use Rattle.ultra_section.specs.Units.{stage_of, index_of}
-use Rattle.ultra_section.specs.Marks.{reply_links, on_link, without_both}
-use Rattle.ultra_section.proofs.Readers.{replies_to_switch}
+use Rattle.ultra_section.specs.Marks.{reply_links, on_link}
 use Rattle.ultra_section.proofs.ReplyMarks.{known_taken, both_links}
 use Rattle.ultra_section.proofs.replies.take_at_switch.Goals as goal
 

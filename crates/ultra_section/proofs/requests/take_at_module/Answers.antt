@@ -1,6 +1,5 @@
-use Rattle.std.proofs.Common.{arith, rules, ◌^◌, ◌∙◌, ap, sym, None, set}
+use Rattle.std.proofs.Common.{arith, rules, ◌^◌, ◌∙◌, ap}
 use Rattle.ultra_units.specs.Set.{has_unit}
-use Rattle.ultra_section.specs.Marks.{memory_link}
 use Rattle.ultra_section.proofs.Marks.{last_place}
 use Rattle.ultra_section.proofs.RequestMarks.{known_taken_by_one}
 use Rattle.ultra_section.proofs.requests.take_at_module.Goals as goal

@@ -1,5 +1,4 @@
-use Rattle.std.proofs.Common.{◌≡◌, ◌+◌, ◌*◌, ◌^◌, None, replicate, arith, sym, ◌∙◌, ap, rules}
-use Rattle.ultra_units.specs.Numbers.{switch_count}
+use Rattle.std.proofs.Common.{arith, rules}
 use Rattle.ultra_section.proofs.Moved.{nothing_kept}
 use Rattle.ultra_section.proofs.block.Block.empty.Goals as goal
 

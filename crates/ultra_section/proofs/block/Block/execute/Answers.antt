@@ -1,4 +1,4 @@
-use Rattle.std.proofs.Common.{◌≡◌, ◌+◌, ◌-◌, ◌^◌, ◌<◌, sym, ap, subst, ◌∙◌, arith, rules}
+use Rattle.std.proofs.Common.{◌≡◌, ◌-◌, ◌^◌, ◌<◌, sym, ap, subst, ◌∙◌, rules}
 use Rattle.ultra_section.specs.BlockState.{BlockState}
 use Rattle.ultra_section.proofs.Execution.{done_kept}
 use Rattle.ultra_section.proofs.block.Block.execute.Goals as goal

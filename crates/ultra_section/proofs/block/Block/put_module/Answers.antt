@@ -1,7 +1,6 @@
-use Rattle.std.proofs.Common.{◌≡◌, ◌^◌, ◌<◌, ℕ, Some, None, sym, ap, subst, ◌∙◌}
-use Rattle.ultra_units.specs.Numbers.{switch_count, module_number, element_number}
+use Rattle.std.proofs.Common.{◌^◌, ◌<◌, Some, sym, subst, ◌∙◌}
 use Rattle.ultra_section.specs.BlockState.{BlockState}
-use Rattle.ultra_section.specs.Sets.{facts_at, KnowsModule, KnowsElement}
+use Rattle.ultra_section.specs.Sets.{facts_at, KnowsModule}
 use Rattle.ultra_section.proofs.Known.{AgreeBut, module_known}
 use Rattle.ultra_section.proofs.Moved.{unit_moved, module_put}
 use Rattle.ultra_section.proofs.block.Block.put_module.Goals as goal

@@ -1,5 +1,5 @@
 use Rattle.std.proofs.Common.{sym, subst, arith}
-use Rattle.ultra_section.specs.BlockState.{BlockState, UnitsAreKnown}
+use Rattle.ultra_section.specs.BlockState.{BlockState}
 use Rattle.ultra_section.specs.Units.{IsModule}
 use Rattle.ultra_section.proofs.Known.{module_changed, units_changed}
 use Rattle.ultra_section.proofs.block.Block.serve_module.Goals as goal

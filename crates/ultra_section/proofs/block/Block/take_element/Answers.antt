@@ -1,7 +1,7 @@
-use Rattle.std.proofs.Common.{◌≡◌, ◌^◌, ◌<◌, ℕ, Some, None, sym, ap, subst, ◌∙◌}
-use Rattle.ultra_units.specs.Numbers.{switch_count, module_number, element_number}
+use Rattle.std.proofs.Common.{◌^◌, ◌<◌, None, sym, subst}
+use Rattle.ultra_units.specs.Numbers.{element_number}
 use Rattle.ultra_section.specs.BlockState.{BlockState}
-use Rattle.ultra_section.specs.Sets.{facts_at, KnowsModule, KnowsElement}
+use Rattle.ultra_section.specs.Sets.{facts_at, KnowsElement}
 use Rattle.ultra_section.proofs.Known.{AgreeBut, element_known}
 use Rattle.ultra_section.proofs.Moved.{unit_moved, element_gone}
 use Rattle.ultra_section.proofs.block.Block.take_element.Goals as goal

@@ -1,6 +1,6 @@
-use Rattle.std.proofs.Common.{◌≡◌, Some, None, sym, ap, subst, ◌∙◌, arith}
+use Rattle.std.proofs.Common.{sym, ap, subst, arith}
 use Rattle.ultra_halves.specs.Switches.{has_request_room, holds_requests, CanTakeReplies}
-use Rattle.ultra_section.specs.BlockState.{BlockState, switch_at}
+use Rattle.ultra_section.specs.BlockState.{BlockState}
 use Rattle.ultra_section.specs.Marks.{RepliesAreKnown, RequestsAreKnown}
 use Rattle.ultra_section.specs.RepliesTaken.{SwitchCanTakeReplies}
 use Rattle.ultra_section.specs.Units.{IsSwitch}

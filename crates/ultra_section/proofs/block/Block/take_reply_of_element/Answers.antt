@@ -1,4 +1,4 @@
-use Rattle.std.proofs.Common.{◌≡◌, Some, None, refl, sym, ap, subst, ◌∙◌, arith}
+use Rattle.std.proofs.Common.{refl, sym, ap, subst, ◌∙◌, arith}
 use Rattle.ultra_isa.specs.Step.{has_stopped}
 use Rattle.ultra_halves.specs.Elements.{holds_request}
 use Rattle.ultra_halves.specs.declared.elements.ProcessingElement.{ProcessingElement}

@@ -1,4 +1,4 @@
-use Rattle.std.proofs.Common.{◌≡◌, Some, None, sym, subst, ◌∙◌, arith}
+use Rattle.std.proofs.Common.{sym, subst, ◌∙◌, arith}
 use Rattle.ultra_section.specs.BlockState.{BlockState}
 use Rattle.ultra_section.specs.Marks.{RepliesAreKnown, RequestsAreKnown}
 use Rattle.ultra_section.specs.RequestsTaken.{ModuleCanTakeRequest}

@@ -1,5 +1,5 @@
-use Rattle.std.proofs.Common.{◌≡◌, ◌^◌, ◌<◌, ℕ, Some, None, sym, ap, subst, ◌∙◌}
-use Rattle.ultra_units.specs.Numbers.{switch_count, module_number, element_number}
+use Rattle.std.proofs.Common.{◌<◌, sym, subst}
+use Rattle.ultra_units.specs.Numbers.{switch_count}
 use Rattle.ultra_section.specs.BlockState.{BlockState}
 use Rattle.ultra_section.specs.Sets.{facts_at, KnowsSwitch}
 use Rattle.ultra_section.proofs.Known.{AgreeBut, switch_known}

@@ -1,4 +1,4 @@
-use Rattle.std.proofs.Common.{sym, subst, arith}
+use Rattle.std.proofs.Common.{sym, subst}
 use Rattle.ultra_section.specs.BlockState.{HasEventRoom}
 use Rattle.ultra_section.proofs.Serving.{later_module}
 use Rattle.ultra_section.proofs.serve.ServeVisitBlock.visit.Goals as goal
