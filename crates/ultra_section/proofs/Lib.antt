@@ -7,6 +7,9 @@ pub mod Moved
 pub mod Standing
 pub mod Empty
 pub mod Nexts
+pub mod Once
+pub mod ByKind
+pub mod SendingOnce
 pub mod RepliesSent
 pub mod Serving
 pub mod RepliesTaken

@@ -10,5 +10,6 @@ pub mod Execution
 pub mod Building
 pub mod Rooms
 pub mod Making
+pub mod Shape
 pub mod RequestsSent
 pub mod RequestsTaken

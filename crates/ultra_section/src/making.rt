@@ -2,6 +2,7 @@
 
 ghost use Rattle.std.specs.Prelude.{◌≡◌};
 ghost use Rattle.ultra_section.specs.Making.{CanMake, made};
+ghost use Rattle.ultra_section.specs.Shape.{IsShaped};
 
 use crate::block::Block;
 use crate::half::Half;
@@ -9,6 +10,7 @@ use crate::rooms::Rooms;
 use ultra_isa::Program;
 use ultra_model::Stop;
 use ultra_msg::Event;
+use ultra_route::Net;
 
 impl Block {
     /// Makes this half of a cycle, with the rooms that were noted before it and the machine's program. What it asks is what the half asks.
@@ -38,6 +40,14 @@ impl Block {
         ensures { result.now ≡ self.now.stops }
     {
         self.stops.as_slice()
+    }
+
+    /// The network of the machine. The block has an entry for each unit and for each link.
+    pub fn net(&self) -> Net
+        ensures value { result ≡ self.now.stages }
+        ensures shape { IsShaped result self.now }
+    {
+        self.net
     }
 
     /// How many cycles are done.
