@@ -10,6 +10,8 @@ pub mod Nexts
 pub mod Once
 pub mod ByKind
 pub mod SendingOnce
+pub mod ServedOnce
+pub mod ExecutedOnce
 pub mod RepliesSent
 pub mod Serving
 pub mod RepliesTaken

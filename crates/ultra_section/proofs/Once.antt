@@ -4,6 +4,11 @@ use Rattle.std.proofs.lemmas.Bool.{cases_eq}
 use Rattle.std.proofs.lemmas.List.{append-nil}
 use Rattle.ultra_units.specs.Visits.{after_units}
 
+-- what is told of the units below a number, one after another
+unfoldable pub told_before : {T E : Type 0} → (ℕ → T → List E) → ℕ → T → List E
+told_before told zero t = []
+told_before told (suc n) t = told_before told n t ++ told n t
+
 -- visits keep what they rest on
 module _ {T : Type 0} (f : ℕ → T → T) (P : T → Type 0) (keeps : (j : ℕ) (t : T) → P t → P (f j t)) where
   pub all_keep : (m : ℕ) (t : T) → P t → P (after_units f m t)
@@ -42,16 +47,12 @@ module _ {T : Type 0} (f : ℕ → T → T) (P : T → Type 0) (keeps : (j : ℕ
 
   -- what is told of the units, one after another
   module _ {E : Type 0} (told : ℕ → T → List E) where
-    unfoldable pub told_before : ℕ → T → List E
-    told_before zero t = []
-    told_before (suc n) t = told_before n t ++ told n t
-
     pub all_told : (events : T → List E) → ((j : ℕ) (t : T) → P t → events (f j t) ≡ events t ++ told j t)
-        → ((n : ℕ) (t : T) → P t → told n (after_units f n t) ≡ told n t) → (m : ℕ) (t : T) → P t → events (after_units f m t) ≡ events t ++ told_before m t
+        → ((n : ℕ) (t : T) → P t → told n (after_units f n t) ≡ told n t) → (m : ℕ) (t : T) → P t → events (after_units f m t) ≡ events t ++ told_before told m t
     unfolding after_units told_before
     all_told events tells same zero t p = sym (append-nil (events t))
     all_told events tells same (suc n) t p =
         tells n (after_units f n t) (all_keep n t p)
         ∙ ap (λ es. es ++ told n (after_units f n t)) (all_told events tells same n t p)
-        ∙ ap (λ es. (events t ++ told_before n t) ++ es) (same n t p)
-        ∙ append_assoc (events t) (told_before n t) (told n t)
+        ∙ ap (λ es. (events t ++ told_before told n t) ++ es) (same n t p)
+        ∙ append_assoc (events t) (told_before told n t) (told n t)
