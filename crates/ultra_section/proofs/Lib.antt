@@ -12,6 +12,9 @@ pub mod ByKind
 pub mod SendingOnce
 pub mod ServedOnce
 pub mod ExecutedOnce
+pub mod Emptied
+pub mod RepliesTakenOnce
+pub mod RequestsTakenOnce
 pub mod RepliesSent
 pub mod Serving
 pub mod RepliesTaken
