@@ -9,7 +9,9 @@ pub mod Empty
 pub mod Nexts
 pub mod Once
 pub mod ByKind
-pub mod SendingOnce
+pub mod Put
+pub mod RepliesSentOnce
+pub mod RequestsSentOnce
 pub mod ServedOnce
 pub mod ExecutedOnce
 pub mod Emptied
