@@ -1,10 +1,13 @@
 -- After the half in which replies are taken: each unit has taken what was on its links at the start, and they are empty.
-use Rattle.std.proofs.Common.{◌≡◌, ◌≢◌, ℕ, ◌+◌, ◌*◌, ◌^◌, ◌<◌, ◌≤◌, List, Option, Some, None, length, set, get_or-set_same, get_or-set_other, refl, sym, ◌∙◌, ap, subst, arith}
-use Rattle.std.proofs.lemmas.List.{length-set}
+use Rattle.std.proofs.Common.{◌≡◌, ◌≢◌, ℕ, ◌+◌, ◌*◌, ◌^◌, ◌<◌, ◌≤◌, List, [], ◌∷◌, ◌++◌, Option, Some, None, length, set, get_or-set_same, get_or-set_other, refl, sym, ◌∙◌, ap, subst, arith}
+use Rattle.std.proofs.lemmas.List.{length-set, append-nil}
 use Rattle.ultra_msg.specs.declared.ReplyMessage.{ReplyMessage}
+use Rattle.ultra_msg.specs.declared.Event.{Event}
 use Rattle.ultra_switch.specs.declared.Switch.{Switch}
 use Rattle.ultra_switch.specs.declared.Ports.{Ports}
 use Rattle.ultra_mem.specs.Serve.{Bank}
+use Rattle.ultra_model.specs.Places.{present}
+use Rattle.ultra_model.specs.Phases.{delivery}
 use Rattle.ultra_units.specs.Numbers.{switch_count, element_number}
 use Rattle.ultra_units.specs.Visits.{after_units}
 use Rattle.ultra_halves.specs.Halves.{ports}
@@ -13,18 +16,18 @@ use Rattle.ultra_halves.specs.Switches.{after_replies}
 use Rattle.ultra_halves.specs.Elements.{delivered_to}
 use Rattle.ultra_section.specs.declared.unit.Unit.{Unit}
 use Rattle.ultra_section.specs.declared.unit.Unit.TheVariants as unit
-use Rattle.ultra_section.specs.Units.{unit_of, stage_of, index_of, IsSwitch}
+use Rattle.ultra_section.specs.Units.{unit_of, stage_of, index_of, IsUnit, IsSwitch}
 use Rattle.ultra_section.specs.Marks.{reply_links, delivery_link, on_link, on_both, without_both}
 use Rattle.ultra_section.specs.BlockState.{BlockState, switch_at, module_at, element_at}
 use Rattle.ultra_section.specs.Shape.{IsShaped}
 use Rattle.ultra_section.specs.RepliesTaken.{replies_taken_by, switch_takes_replies, reply_taken_by, element_takes_reply, takes_replies}
-use Rattle.ultra_section.proofs.Standing.{is_switch}
+use Rattle.ultra_section.proofs.Standing.{is_switch, unit_is}
 use Rattle.ultra_section.proofs.Readers.{reply_reader, reply_to_element}
 use Rattle.ultra_section.proofs.ReplyMarks.{both_links}
 use Rattle.ultra_section.proofs.Marks.{emptied}
 use Rattle.ultra_section.proofs.Emptied.{pair, link_apart, link_apart_both, both_apart, both_apart_one, both_emptied}
 use Rattle.ultra_section.proofs.ByKind.{visit, visit_as, not_changed, same_visits, keeps, leaves, own_switch, own_element, or_same}
-use Rattle.ultra_section.proofs.Once.{all_keep, never_changed, changed_once}
+use Rattle.ultra_section.proofs.Once.{all_keep, never_changed, not_yet_changed, changed_once, told_before, all_told}
 
 abbrev no_module : ℕ → BlockState → Bank → BlockState
 no_module m t b = t
@@ -154,3 +157,59 @@ module _ (d : ℕ) (low : 1 ≤ d) (high : d ≤ 6) where
       ∙ changed_once taking_visit (IsShaped d) kept (at_element p) (element_number d p) (element_others p h) after_taking_element
         (λ t q. own_element replies_taken_by no_module reply_taken_by d (at_element p) p h t q.stages
           ∙ element_own p t (element_at t.elements p) q (omega (arith, q.elements)) (subst (λ x. delivery_link d p < x) (sym q.replies) link) refl) 320 b shape small
+
+  -- ---- what nobody changes
+  pub shape_after_taking : (b : BlockState) → IsShaped d b → IsShaped d (after_units takes_replies 320 b)
+  shape_after_taking b shape = subst (IsShaped d) (sym (all_visits b)) (all_keep taking_visit (IsShaped d) kept 320 b shape)
+
+  module _ {X : Type 0} (get : BlockState → X) (same_switch : (n s k : ℕ) (t : BlockState) (w : Switch) → get (replies_taken_by n s k t w) ≡ get t)
+      (same_element : (p : ℕ) (t : BlockState) (e : ProcessingElement) → get (reply_taken_by p t e) ≡ get t) where
+    pub kept_by_taking : (b : BlockState) → IsShaped d b → get (after_units takes_replies 320 b) ≡ get b
+    kept_by_taking b shape =
+        ap get (all_visits b)
+        ∙ never_changed taking_visit (IsShaped d) kept get
+          (λ j t p. leaves replies_taken_by no_module reply_taken_by d get j t p.stages (λ s k is w. same_switch j s k t w) (λ m is b. refl) (λ q is e. same_element q t e)) 320 b shape
+
+  -- ---- events
+  -- what is told of a processing element, and what is on its link
+  abbrev pub delivery_told : Option ProcessingElement × Option ReplyMessage → List Event
+  delivery_told (None, came) = []
+  delivery_told (Some e, came) = present (delivery came ∷ [])
+
+  abbrev pub told_of : BlockState → Unit → List Event
+  told_of t (unit.Switch s k) = []
+  told_of t (unit.Module m) = []
+  told_of t (unit.Element p) = delivery_told (at_element p t)
+  told_of t unit.Nothing = []
+
+  tells_element : (p : ℕ) (t : BlockState) (o : Option ProcessingElement)
+      → BlockState.events (elim o [ None ↦ t | Some e ↦ reply_taken_by p t e ]) ≡ t.events ++ delivery_told (o, on_link t.replies (delivery_link t.stages p))
+  tells_element p t None = sym (append-nil t.events)
+  tells_element p t (Some e) = refl
+
+  tells_switch : (n s k : ℕ) (t : BlockState) (o : Option Switch) → BlockState.events (elim o [ None ↦ t | Some w ↦ replies_taken_by n s k t w ]) ≡ t.events
+  tells_switch n s k t None = refl
+  tells_switch n s k t (Some w) = refl
+
+  tells_as : (n : ℕ) (t : BlockState) (u : Unit) → t.stages ≡ d
+      → BlockState.events (elim u [ unit.Switch s k ↦ switch_takes_replies n s k t | unit.Module m ↦ t | unit.Element p ↦ element_takes_reply p t | unit.Nothing ↦ t ]) ≡ t.events ++ told_of t u
+  tells_as n t (unit.Switch s k) stages = tells_switch n s k t (switch_at t.switches n) ∙ sym (append-nil t.events)
+  tells_as n t (unit.Module m) stages = sym (append-nil t.events)
+  tells_as n t (unit.Element p) stages =
+      tells_element p t (element_at t.elements p) ∙ ap (λ e. t.events ++ delivery_told (element_at t.elements p, on_link t.replies (delivery_link e p))) stages
+  tells_as n t unit.Nothing stages = sym (append-nil t.events)
+
+  same_told : (n : ℕ) (t : BlockState) (u : Unit) → IsShaped d t → IsUnit d n u → told_of (after_units taking_visit n t) u ≡ told_of t u
+  same_told n t (unit.Switch s k) shape is = refl
+  same_told n t (unit.Module m) shape is = refl
+  same_told n t (unit.Element p) shape is =
+      ap delivery_told
+      (not_yet_changed taking_visit (IsShaped d) kept (at_element p) n (λ j t q other. element_others p is.small j t q (λ same. other (same ∙ sym is.number))) n t shape (omega arith))
+  same_told n t unit.Nothing shape is = refl
+
+  pub events_after_taking : (b : BlockState) → IsShaped d b → (after_units takes_replies 320 b).events ≡ b.events ++ told_before (λ n t. told_of t (unit_of d n)) 320 b
+  events_after_taking b shape =
+      ap (λ (t : BlockState). t.events) (all_visits b)
+      ∙ all_told taking_visit (IsShaped d) kept (λ n t. told_of t (unit_of d n)) (λ t. t.events)
+        (λ j t p. ap (λ (t : BlockState). t.events) (sym (is_visit j t)) ∙ tells_as j t (unit_of t.stages j) p.stages ∙ ap (λ e. t.events ++ told_of t (unit_of e j)) p.stages)
+        (λ n t p. same_told n t (unit_of d n) p (unit_is d n)) 320 b shape

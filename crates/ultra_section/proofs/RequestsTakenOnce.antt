@@ -1,7 +1,8 @@
 -- After the half in which requests are taken: each unit has taken what was on its links at the start, and they are empty.
-use Rattle.std.proofs.Common.{◌≡◌, ◌≢◌, ℕ, ◌+◌, ◌*◌, ◌^◌, ◌<◌, ◌≤◌, List, Option, Some, None, length, set, get_or-set_same, get_or-set_other, refl, sym, ◌∙◌, ap, subst, arith}
-use Rattle.std.proofs.lemmas.List.{length-set}
+use Rattle.std.proofs.Common.{◌≡◌, ◌≢◌, ℕ, ◌+◌, ◌*◌, ◌^◌, ◌<◌, ◌≤◌, List, [], ◌∷◌, ◌++◌, Option, Some, None, length, set, get_or-set_same, get_or-set_other, refl, sym, ◌∙◌, ap, subst, arith}
+use Rattle.std.proofs.lemmas.List.{length-set, append-nil}
 use Rattle.ultra_msg.specs.declared.Request.{Request}
+use Rattle.ultra_msg.specs.declared.Event.{Event}
 use Rattle.ultra_switch.specs.declared.Switch.{Switch}
 use Rattle.ultra_switch.specs.declared.Ports.{Ports}
 use Rattle.ultra_mem.specs.Serve.{Bank}
@@ -9,22 +10,22 @@ use Rattle.ultra_units.specs.Numbers.{switch_count, module_number}
 use Rattle.ultra_units.specs.Visits.{after_units}
 use Rattle.ultra_halves.specs.Halves.{ports}
 use Rattle.ultra_halves.specs.declared.elements.ProcessingElement.{ProcessingElement}
-use Rattle.ultra_halves.specs.Switches.{after_requests}
+use Rattle.ultra_halves.specs.Switches.{after_requests, combinations_of}
 use Rattle.ultra_halves.specs.Modules.{bank_with}
 use Rattle.ultra_section.specs.declared.unit.Unit.{Unit}
 use Rattle.ultra_section.specs.declared.unit.Unit.TheVariants as unit
-use Rattle.ultra_section.specs.Units.{unit_of, stage_of, index_of, IsSwitch}
+use Rattle.ultra_section.specs.Units.{unit_of, stage_of, index_of, IsUnit, IsSwitch}
 use Rattle.ultra_section.specs.Marks.{request_links, memory_link, on_link, on_both, without_both}
 use Rattle.ultra_section.specs.BlockState.{BlockState, switch_at, module_at, element_at}
 use Rattle.ultra_section.specs.Shape.{IsShaped}
 use Rattle.ultra_section.specs.RequestsTaken.{requests_taken_by, switch_takes_requests, request_taken_by, module_takes_request, takes_requests}
-use Rattle.ultra_section.proofs.Standing.{is_switch}
+use Rattle.ultra_section.proofs.Standing.{is_switch, unit_is}
 use Rattle.ultra_section.proofs.Readers.{request_reader, request_to_module}
 use Rattle.ultra_section.proofs.RequestMarks.{both_links}
 use Rattle.ultra_section.proofs.Marks.{emptied}
 use Rattle.ultra_section.proofs.Emptied.{pair, link_apart, link_apart_both, both_apart, both_apart_one, both_emptied}
 use Rattle.ultra_section.proofs.ByKind.{visit, visit_as, not_changed, same_visits, keeps, leaves, own_switch, own_module, or_same}
-use Rattle.ultra_section.proofs.Once.{all_keep, never_changed, changed_once}
+use Rattle.ultra_section.proofs.Once.{all_keep, never_changed, not_yet_changed, changed_once, told_before, all_told}
 
 abbrev no_element : ℕ → BlockState → ProcessingElement → BlockState
 no_element p t e = t
@@ -162,3 +163,59 @@ module _ (d c : ℕ) (low : 1 ≤ d) (high : d ≤ 6) where
       ∙ changed_once taking_visit (InCycle d c) kept (at_module p) (module_number d p) (module_others p h) after_taking_module
         (λ t q. own_module requests_taken_by request_taken_by no_element d (at_module p) p h t q.shape.stages
           ∙ module_own p t (module_at t.modules p) q (omega (arith, q.shape.modules)) (subst (λ x. memory_link d p < x) (sym q.shape.requests) link) refl) 320 b shape small
+
+  -- ---- what nobody changes
+  pub shape_after_taking : (b : BlockState) → InCycle d c b → InCycle d c (after_units takes_requests 320 b)
+  shape_after_taking b shape = subst (InCycle d c) (sym (all_visits b)) (all_keep taking_visit (InCycle d c) kept 320 b shape)
+
+  module _ {X : Type 0} (get : BlockState → X) (same_switch : (n s k : ℕ) (t : BlockState) (w : Switch) → get (requests_taken_by n s k t w) ≡ get t)
+      (same_module : (m : ℕ) (t : BlockState) (b : Bank) → get (request_taken_by m t b) ≡ get t) where
+    pub kept_by_taking : (b : BlockState) → InCycle d c b → get (after_units takes_requests 320 b) ≡ get b
+    kept_by_taking b shape =
+        ap get (all_visits b)
+        ∙ never_changed taking_visit (InCycle d c) kept get
+          (λ j t p. leaves requests_taken_by request_taken_by no_element d get j t p.shape.stages (λ s k is w. same_switch j s k t w) (λ m is b. same_module m t b) (λ q is e. refl)) 320 b shape
+
+  -- ---- events
+  -- what is told of switch k of stage s, and what is on its two links
+  abbrev pub combinations_told : ℕ → ℕ → Option Switch × Ports (Option Request) → List Event
+  combinations_told s k (None, came) = []
+  combinations_told s k (Some w, came) = combinations_of d s k c w came
+
+  abbrev pub told_of : ℕ → BlockState → Unit → List Event
+  told_of n t (unit.Switch s k) = combinations_told s k (at_switch n s k t)
+  told_of n t (unit.Module m) = []
+  told_of n t (unit.Element p) = []
+  told_of n t unit.Nothing = []
+
+  tells_switch : (n s k : ℕ) (t : BlockState) (o : Option Switch) → InCycle d c t
+      → BlockState.events (elim o [ None ↦ t | Some w ↦ requests_taken_by n s k t w ]) ≡ t.events ++ combinations_told s k (o, on_both t.requests (request_links d s k))
+  tells_switch n s k t None p = sym (append-nil t.events)
+  tells_switch n s k t (Some w) p =
+      ap (λ e. t.events ++ combinations_of e s k t.done w (on_both t.requests (request_links e s k))) p.shape.stages
+      ∙ ap (λ m. t.events ++ combinations_of d s k m w (on_both t.requests (request_links d s k))) p.done
+
+  tells_module : (m : ℕ) (t : BlockState) (o : Option Bank) → BlockState.events (elim o [ None ↦ t | Some b ↦ request_taken_by m t b ]) ≡ t.events
+  tells_module m t None = refl
+  tells_module m t (Some b) = refl
+
+  tells_as : (n : ℕ) (t : BlockState) (u : Unit) → InCycle d c t
+      → BlockState.events (elim u [ unit.Switch s k ↦ switch_takes_requests n s k t | unit.Module m ↦ module_takes_request m t | unit.Element p ↦ t | unit.Nothing ↦ t ]) ≡ t.events ++ told_of n t u
+  tells_as n t (unit.Switch s k) p = tells_switch n s k t (switch_at t.switches n) p
+  tells_as n t (unit.Module m) p = tells_module m t (module_at t.modules m) ∙ sym (append-nil t.events)
+  tells_as n t (unit.Element q) p = sym (append-nil t.events)
+  tells_as n t unit.Nothing p = sym (append-nil t.events)
+
+  same_told : (n : ℕ) (t : BlockState) (u : Unit) → InCycle d c t → IsUnit d n u → told_of n (after_units taking_visit n t) u ≡ told_of n t u
+  same_told n t (unit.Switch s k) p is =
+      ap (combinations_told s k) (not_yet_changed taking_visit (InCycle d c) kept (at_switch n s k) n (switch_others n s k is) n t p (omega arith))
+  same_told n t (unit.Module m) p is = refl
+  same_told n t (unit.Element q) p is = refl
+  same_told n t unit.Nothing p is = refl
+
+  pub events_after_taking : (b : BlockState) → InCycle d c b → (after_units takes_requests 320 b).events ≡ b.events ++ told_before (λ n t. told_of n t (unit_of d n)) 320 b
+  events_after_taking b shape =
+      ap (λ (t : BlockState). t.events) (all_visits b)
+      ∙ all_told taking_visit (InCycle d c) kept (λ n t. told_of n t (unit_of d n)) (λ t. t.events)
+        (λ j t p. ap (λ (t : BlockState). t.events) (sym (is_visit j t)) ∙ tells_as j t (unit_of t.stages j) p ∙ ap (λ e. t.events ++ told_of j t (unit_of e j)) p.shape.stages)
+        (λ n t p. same_told n t (unit_of d n) p (unit_is d n)) 320 b shape
