@@ -1,5 +1,5 @@
 -- What is on links, after others or they themselves were emptied.
-use Rattle.std.proofs.Common.{◌≡◌, ◌≢◌, ℕ, ◌<◌, List, Option, None, length, set, get_or-set_other, refl, sym, ◌∙◌}
+use Rattle.std.proofs.Common.{◌≡◌, ◌≢◌, ℕ, ◌<◌, List, Option, None, length, set, get_or-set_other, refl, ◌∙◌}
 use Rattle.ultra_switch.specs.declared.Ports.{Ports}
 use Rattle.ultra_halves.specs.Halves.{ports}
 use Rattle.ultra_section.specs.Marks.{on_link, on_both, without_both}

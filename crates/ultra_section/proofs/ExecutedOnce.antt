@@ -1,5 +1,5 @@
 -- After the half in which processing elements make a step: each has made one, and what it issued and its stop are told in the order of the elements.
-use Rattle.std.proofs.Common.{◌≡◌, ◌≢◌, ℕ, ◌+◌, ◌^◌, ◌<◌, List, [], ◌∷◌, ◌++◌, Option, Some, None, length, set, get_or-set_same, get_or-set_other, refl, sym, ◌∙◌, ap, subst, arith}
+use Rattle.std.proofs.Common.{◌≡◌, ◌≢◌, ℕ, ◌^◌, ◌<◌, List, [], ◌∷◌, ◌++◌, Option, Some, None, length, get_or-set_same, get_or-set_other, refl, sym, ◌∙◌, ap, subst, arith}
 use Rattle.std.proofs.lemmas.List.{length-set, append-nil}
 use Rattle.ultra_msg.specs.declared.Event.{Event}
 use Rattle.ultra_isa.specs.declared.Instr.{Instr}
@@ -80,8 +80,8 @@ module _ (program : List Instr) where
     element_after_executing b shape p h small =
         ap (λ (t : BlockState). element_at t.elements p) (all_visits b)
         ∙ changed_once executing_visit (IsShaped d) shape_kept (λ t. element_at t.elements p) (element_number d p) (others p) after_executing
-          (λ t q. own_element no_switch no_module (stepped_by program) d (λ t. element_at t.elements p) p h t q.stages
-            ∙ own_as p t (element_at t.elements p) (omega (arith, q.elements)) refl) 320 b shape small
+        (λ t q. own_element no_switch no_module (stepped_by program) d (λ t. element_at t.elements p) p h t q.stages
+        ∙ own_as p t (element_at t.elements p) (omega (arith, q.elements)) refl) 320 b shape small
 
     -- ---- what nobody changes
     module _ {X : Type 0} (get : BlockState → X) (same : (p : ℕ) (t : BlockState) (e : ProcessingElement) → get (stepped_by program p t e) ≡ get t) where
@@ -89,7 +89,7 @@ module _ (program : List Instr) where
       kept_by_executing b shape =
           ap get (all_visits b)
           ∙ never_changed executing_visit (IsShaped d) shape_kept get
-            (λ j t q. leaves no_switch no_module (stepped_by program) d get j t q.stages (λ s k is w. refl) (λ m is b. refl) (λ p is e. same p t e)) 320 b shape
+          (λ j t q. leaves no_switch no_module (stepped_by program) d get j t q.stages (λ s k is w. refl) (λ m is b. refl) (λ p is e. same p t e)) 320 b shape
 
     -- ---- events and stops
     abbrev pub issue_told : Option ProcessingElement → List Event
@@ -138,7 +138,7 @@ module _ (program : List Instr) where
     same_told tell n t (unit.Element p) shape is =
         ap (tell p)
         (not_yet_changed executing_visit (IsShaped d) shape_kept (λ t. element_at t.elements p) n
-         (λ j t q other. others p j t q (λ same. other (same ∙ sym is.number))) n t shape (omega arith))
+        (λ j t q other. others p j t q (λ same. other (same ∙ sym is.number))) n t shape (omega arith))
     same_told tell n t unit.Nothing shape is = refl
 
     pub events_after_executing : (b : BlockState) → IsShaped d b
@@ -146,13 +146,13 @@ module _ (program : List Instr) where
     events_after_executing b shape =
         ap (λ (t : BlockState). t.events) (all_visits b)
         ∙ all_told executing_visit (IsShaped d) shape_kept (λ n t. told_of (λ p o. issue_told o) t (unit_of d n)) (λ t. t.events)
-          (λ j t q. ap (λ (t : BlockState). t.events) (sym (is_visit j t)) ∙ tells_as t (unit_of t.stages j) ∙ ap (λ e. t.events ++ told_of (λ p o. issue_told o) t (unit_of e j)) q.stages)
-          (λ n t q. same_told (λ p o. issue_told o) n t (unit_of d n) q (unit_is d n)) 320 b shape
+        (λ j t q. ap (λ (t : BlockState). t.events) (sym (is_visit j t)) ∙ tells_as t (unit_of t.stages j) ∙ ap (λ e. t.events ++ told_of (λ p o. issue_told o) t (unit_of e j)) q.stages)
+        (λ n t q. same_told (λ p o. issue_told o) n t (unit_of d n) q (unit_is d n)) 320 b shape
 
     pub stops_after_executing : (b : BlockState) → IsShaped d b
         → (after_units (executes program) 320 b).stops ≡ b.stops ++ told_before (λ n t. told_of stop_told t (unit_of d n)) 320 b
     stops_after_executing b shape =
         ap (λ (t : BlockState). t.stops) (all_visits b)
         ∙ all_told executing_visit (IsShaped d) shape_kept (λ n t. told_of stop_told t (unit_of d n)) (λ t. t.stops)
-          (λ j t q. ap (λ (t : BlockState). t.stops) (sym (is_visit j t)) ∙ stops_as t (unit_of t.stages j) ∙ ap (λ e. t.stops ++ told_of stop_told t (unit_of e j)) q.stages)
-          (λ n t q. same_told stop_told n t (unit_of d n) q (unit_is d n)) 320 b shape
+        (λ j t q. ap (λ (t : BlockState). t.stops) (sym (is_visit j t)) ∙ stops_as t (unit_of t.stages j) ∙ ap (λ e. t.stops ++ told_of stop_told t (unit_of e j)) q.stages)
+        (λ n t q. same_told stop_told n t (unit_of d n) q (unit_is d n)) 320 b shape

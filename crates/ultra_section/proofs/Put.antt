@@ -1,5 +1,5 @@
 -- What is on links, after something was put on others or on them; and that no two places have one link.
-use Rattle.std.proofs.Common.{◌≡◌, ◌≢◌, ℕ, ◌+◌, ◌-◌, ◌*◌, ◌^◌, ◌<◌, ◌≤◌, List, Option, Some, None, length, set, get_or-set_same, get_or-set_other, refl, sym, ◌∙◌, ap, subst, arith}
+use Rattle.std.proofs.Common.{◌≡◌, ◌≢◌, ℕ, ◌+◌, ◌-◌, ◌*◌, ◌^◌, ◌<◌, ◌≤◌, List, Option, Some, None, length, get_or-set_same, get_or-set_other, refl, sym, ◌∙◌, ap, subst, arith}
 use Rattle.std.proofs.lemmas.Nat.{pow_pos}
 use Rattle.ultra_route.proofs.Table.{sizes}
 use Rattle.ultra_switch.specs.declared.Ports.{Ports}
@@ -38,10 +38,10 @@ module _ {M : Type 0} (t : List (Option M)) (p : Ports ℕ) (out : Ports (Option
   pub both_put : p.zero ≢ p.one → p.zero < length t → p.one < length t → on_both (put_both t p out) p ≡ ports (put_or out.zero (on_link t p.zero)) (put_or out.one (on_link t p.one))
   both_put apart zero one =
       let first : on_link (put_both t p out) p.zero ≡ put_or out.zero (on_link t p.zero) =
-          put_apart (put_on t p.zero out.zero) p.one p.zero out.one apart ∙ put_there t p.zero out.zero zero in
+      put_apart (put_on t p.zero out.zero) p.one p.zero out.one apart ∙ put_there t p.zero out.zero zero in
       let second : on_link (put_both t p out) p.one ≡ put_or out.one (on_link t p.one) =
-          put_there (put_on t p.zero out.zero) p.one out.one (subst (λ n. p.one < n) (sym (length-put_on t p.zero out.zero)) one)
-          ∙ ap (put_or out.one) (put_apart t p.zero p.one out.zero (λ same. apart (sym same))) in
+      put_there (put_on t p.zero out.zero) p.one out.one (subst (λ n. p.one < n) (sym (length-put_on t p.zero out.zero)) one)
+      ∙ ap (put_or out.one) (put_apart t p.zero p.one out.zero (λ same. apart (sym same))) in
       rw (first, second) refl
 
 pub both_apart_put_one : {M : Type 0} (t : List (Option M)) (a : ℕ) (o : Option M) (q : Ports ℕ) → q.zero ≢ a → q.one ≢ a → on_both (put_on t a o) q ≡ on_both t q

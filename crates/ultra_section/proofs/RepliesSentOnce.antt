@@ -1,6 +1,5 @@
 -- After the half in which replies leave: each unit is without those that left it, and they are on its links.
-use Rattle.std.proofs.Common.{◌≡◌, ◌≢◌, ℕ, ◌+◌, ◌*◌, ◌^◌, ◌<◌, ◌≤◌, List, Option, Some, None, length, set, get_or-set_same, get_or-set_other, refl, sym, ◌∙◌, ap, subst, arith}
-use Rattle.std.specs.Prelude.{slice_get}
+use Rattle.std.proofs.Common.{◌≡◌, ◌≢◌, ℕ, ◌^◌, ◌<◌, ◌≤◌, List, Option, Some, None, length, set, get_or-set_same, get_or-set_other, refl, sym, ◌∙◌, ap, subst, arith}
 use Rattle.std.proofs.lemmas.List.{length-set}
 use Rattle.ultra_msg.specs.declared.ReplyMessage.{ReplyMessage}
 use Rattle.ultra_switch.specs.declared.Switch.{Switch}
@@ -77,7 +76,7 @@ module _ (closed : List ℕ) where
       kept_by_sending b shape =
           ap get (all_visits b)
           ∙ never_changed sending_visit (IsShaped d) shape_kept get
-            (λ j t p. leaves (replies_sent_by closed) (reply_sent_by closed) no_element d get j t p.stages (λ s k is w. same_switch j s k t w) (λ q is x. same_module q t x) (λ q is e. refl)) 320 b shape
+          (λ j t p. leaves (replies_sent_by closed) (reply_sent_by closed) no_element d get j t p.stages (λ s k is w. same_switch j s k t w) (λ q is x. same_module q t x) (λ q is e. refl)) 320 b shape
 
     -- ---- a switch, and what is on its two links
     abbrev pub after_sending_switch : ℕ → ℕ → Option Switch × Ports (Option ReplyMessage) → Option Switch × Ports (Option ReplyMessage)
@@ -97,24 +96,24 @@ module _ (closed : List ℕ) where
         let here = has_places d n s k low high own in
         ap (λ e. (switch_at (set t.switches n (Some (without_replies w (replies_leaving (reply_ways closed e s k) w)))) n, on_both (put_both t.replies (places_of e s k) (replies_leaving (reply_ways closed e s k) w)) (places_of d s k))) p.stages
         ∙ pair _ _ _ _ (get_or-set_same t.switches n _ None within)
-          (both_put t.replies (places_of d s k) (replies_leaving (reply_ways closed d s k) w) (λ same. absurd (omega (arith, here.first, here.second, same)))
-           (subst (λ x. (places_of d s k).zero < x) (sym p.replies) here.first_small) (subst (λ x. (places_of d s k).one < x) (sym p.replies) here.second_small))
+        (both_put t.replies (places_of d s k) (replies_leaving (reply_ways closed d s k) w) (λ same. absurd (omega (arith, here.first, here.second, same)))
+        (subst (λ x. (places_of d s k).zero < x) (sym p.replies) here.first_small) (subst (λ x. (places_of d s k).one < x) (sym p.replies) here.second_small))
         ∙ sym (ap (after_sending_switch s k) (ap (λ o. (o, on_both t.replies (places_of d s k))) is))
 
     switch_others : (n s k : ℕ) → IsSwitch d n s k → (j : ℕ) (t : BlockState) → IsShaped d t → j ≢ n → at_switch n s k (sending_visit j t) ≡ at_switch n s k t
     switch_others n s k own j t p other =
         let here = has_places d n s k low high own in
         leaves (replies_sent_by closed) (reply_sent_by closed) no_element d (at_switch n s k) j t p.stages
-          (λ s' k' is w.
-          let there = has_places d j s' k' low high is in
-          pair _ _ _ _ (get_or-set_other t.switches j n _ None (λ same. other (sym same))) (subst (λ e. on_both (put_both t.replies (places_of e s' k') (replies_leaving (reply_ways closed t.stages s' k') w)) (places_of d s k) ≡ on_both t.replies (places_of d s k)) (sym p.stages)
-          (both_apart_put t.replies (places_of d s' k') (replies_leaving (reply_ways closed t.stages s' k') w) (places_of d s k)
-           (λ same. other (omega (arith, there.first, here.first, same))) (λ same. absurd (omega (arith, there.second, here.first, same)))
-           (λ same. absurd (omega (arith, there.first, here.second, same))) (λ same. other (omega (arith, there.second, here.second, same))))))
-          (λ q is x. pair _ _ _ _ refl (subst (λ e. on_both (put_on t.replies (place_number e e q) (where_room (has_way_from_module closed t.stages q) x.out)) (places_of d s k) ≡ on_both t.replies (places_of d s k)) (sym p.stages)
-          (let behind = place_behind d q low high in let within = own.within in both_apart_put_one t.replies (place_number d d q) (where_room (has_way_from_module closed t.stages q) x.out) (places_of d s k)
-           (λ same. absurd (omega (arith, here.first, same))) (λ same. absurd (omega (arith, here.second, same))))))
-          (λ p is e. refl)
+        (λ s' k' is w.
+        let there = has_places d j s' k' low high is in
+        pair _ _ _ _ (get_or-set_other t.switches j n _ None (λ same. other (sym same))) (subst (λ e. on_both (put_both t.replies (places_of e s' k') (replies_leaving (reply_ways closed t.stages s' k') w)) (places_of d s k) ≡ on_both t.replies (places_of d s k)) (sym p.stages)
+        (both_apart_put t.replies (places_of d s' k') (replies_leaving (reply_ways closed t.stages s' k') w) (places_of d s k)
+        (λ same. other (omega (arith, there.first, here.first, same))) (λ same. absurd (omega (arith, there.second, here.first, same)))
+        (λ same. absurd (omega (arith, there.first, here.second, same))) (λ same. other (omega (arith, there.second, here.second, same))))))
+        (λ q is x. pair _ _ _ _ refl (subst (λ e. on_both (put_on t.replies (place_number e e q) (where_room (has_way_from_module closed t.stages q) x.out)) (places_of d s k) ≡ on_both t.replies (places_of d s k)) (sym p.stages)
+        (let behind = place_behind d q low high in let within = own.within in both_apart_put_one t.replies (place_number d d q) (where_room (has_way_from_module closed t.stages q) x.out) (places_of d s k)
+        (λ same. absurd (omega (arith, here.first, same))) (λ same. absurd (omega (arith, here.second, same))))))
+        (λ p is e. refl)
 
     pub switch_after_sending : (b : BlockState) → IsShaped d b → (n : ℕ) → n < switch_count d → n < 320
         → at_switch n (stage_of d n) (index_of d n) (after_units (sends_replies closed) 320 b) ≡ after_sending_switch (stage_of d n) (index_of d n) (at_switch n (stage_of d n) (index_of d n) b)
@@ -124,8 +123,8 @@ module _ (closed : List ℕ) where
         let own = is_switch d n h in
         ap (at_switch n s k) (all_visits b)
         ∙ changed_once sending_visit (IsShaped d) shape_kept (at_switch n s k) n (switch_others n s k own) (after_sending_switch s k)
-          (λ t p. own_switch (replies_sent_by closed) (reply_sent_by closed) no_element d (at_switch n s k) n h t p.stages
-            ∙ switch_own n s k t (switch_at t.switches n) p own (omega (arith, p.switches)) refl) 320 b shape small
+        (λ t p. own_switch (replies_sent_by closed) (reply_sent_by closed) no_element d (at_switch n s k) n h t p.stages
+        ∙ switch_own n s k t (switch_at t.switches n) p own (omega (arith, p.switches)) refl) 320 b shape small
 
     -- ---- a module, and what is on its link
     abbrev pub after_sending_module : ℕ → Option Bank × Option ReplyMessage → Option Bank × Option ReplyMessage
@@ -142,25 +141,25 @@ module _ (closed : List ℕ) where
     module_own p t (Some x) q h within is =
         ap (λ e. (module_at (set t.modules p (Some (without_reply x (where_room (has_way_from_module closed e p) x.out)))) p, on_link (put_on t.replies (place_number e e p) (where_room (has_way_from_module closed e p) x.out)) (place_number d d p))) q.stages
         ∙ pair _ _ _ _ (get_or-set_same t.modules p _ None within)
-          (put_there t.replies (place_number d d p) (where_room (has_way_from_module closed d p) x.out) (subst (λ x. place_number d d p < x) (sym q.replies) (place_behind_small d p h)))
+        (put_there t.replies (place_number d d p) (where_room (has_way_from_module closed d p) x.out) (subst (λ x. place_number d d p < x) (sym q.replies) (place_behind_small d p h)))
         ∙ sym (ap (after_sending_module p) (ap (λ o. (o, on_link t.replies (place_number d d p))) is))
 
     module_others : (p : ℕ) → p < 2 ^ d → (j : ℕ) (t : BlockState) → IsShaped d t → j ≢ module_number d p → at_module p (sending_visit j t) ≡ at_module p t
     module_others p h j t q other =
         leaves (replies_sent_by closed) (reply_sent_by closed) no_element d (at_module p) j t q.stages
-          (λ s k is w.
-          let there = has_places d j s k low high is in let behind = place_behind d p low high in let within = is.within in
-          pair _ _ _ _ refl (subst (λ e. on_link (put_both t.replies (places_of e s k) (replies_leaving (reply_ways closed t.stages s k) w)) (place_number d d p) ≡ on_link t.replies (place_number d d p)) (sym q.stages)
-          (link_apart_put t.replies (places_of d s k) (replies_leaving (reply_ways closed t.stages s k) w) (place_number d d p) (λ same. absurd (omega (arith, there.first, same))) (λ same. absurd (omega (arith, there.second, same))))))
-          (λ r is x.
-          pair _ _ _ _ (get_or-set_other t.modules r p _ None (λ same. other (omega (arith, is.number)))) (subst (λ e. on_link (put_on t.replies (place_number e e r) (where_room (has_way_from_module closed t.stages r) x.out)) (place_number d d p) ≡ on_link t.replies (place_number d d p)) (sym q.stages)
-          (put_apart t.replies (place_number d d r) (place_number d d p) (where_room (has_way_from_module closed t.stages r) x.out) (λ same. other (omega (arith, is.number))))))
-          (λ p is e. refl)
+        (λ s k is w.
+        let there = has_places d j s k low high is in let behind = place_behind d p low high in let within = is.within in
+        pair _ _ _ _ refl (subst (λ e. on_link (put_both t.replies (places_of e s k) (replies_leaving (reply_ways closed t.stages s k) w)) (place_number d d p) ≡ on_link t.replies (place_number d d p)) (sym q.stages)
+        (link_apart_put t.replies (places_of d s k) (replies_leaving (reply_ways closed t.stages s k) w) (place_number d d p) (λ same. absurd (omega (arith, there.first, same))) (λ same. absurd (omega (arith, there.second, same))))))
+        (λ r is x.
+        pair _ _ _ _ (get_or-set_other t.modules r p _ None (λ same. other (omega (arith, is.number)))) (subst (λ e. on_link (put_on t.replies (place_number e e r) (where_room (has_way_from_module closed t.stages r) x.out)) (place_number d d p) ≡ on_link t.replies (place_number d d p)) (sym q.stages)
+        (put_apart t.replies (place_number d d r) (place_number d d p) (where_room (has_way_from_module closed t.stages r) x.out) (λ same. other (omega (arith, is.number))))))
+        (λ p is e. refl)
 
     pub module_after_sending : (b : BlockState) → IsShaped d b → (p : ℕ) → p < 2 ^ d → module_number d p < 320
         → at_module p (after_units (sends_replies closed) 320 b) ≡ after_sending_module p (at_module p b)
     module_after_sending b shape p h small =
         ap (at_module p) (all_visits b)
         ∙ changed_once sending_visit (IsShaped d) shape_kept (at_module p) (module_number d p) (module_others p h) (after_sending_module p)
-          (λ t q. own_module (replies_sent_by closed) (reply_sent_by closed) no_element d (at_module p) p h t q.stages
-            ∙ module_own p t (module_at t.modules p) q h (omega (arith, q.modules)) refl) 320 b shape small
+        (λ t q. own_module (replies_sent_by closed) (reply_sent_by closed) no_element d (at_module p) p h t q.stages
+        ∙ module_own p t (module_at t.modules p) q h (omega (arith, q.modules)) refl) 320 b shape small

@@ -50,23 +50,23 @@ all_visits b = same_visits takes_replies taking_visit is_visit 320 b
 module _ (d : ℕ) (low : 1 ≤ d) (high : d ≤ 6) where
   shape_kept : (n : ℕ) (t : BlockState) → IsShaped d t → IsShaped d (taking_visit n t)
   shape_kept n t shape = keeps replies_taken_by no_module reply_taken_by (IsShaped d) n t shape
-        (λ s k w. record {
-          stages = shape.stages;
-          switches = length-set t.switches n _ ∙ shape.switches;
-          modules = shape.modules;
-          elements = shape.elements;
-          replies = length-set (set t.replies _ None) _ None ∙ length-set t.replies _ None ∙ shape.replies;
-          requests = shape.requests;
-        })
-        (λ m b. shape)
-        (λ p e. record {
-          stages = shape.stages;
-          switches = shape.switches;
-          modules = shape.modules;
-          elements = length-set t.elements p _ ∙ shape.elements;
-          replies = length-set t.replies _ None ∙ shape.replies;
-          requests = shape.requests;
-        })
+      (λ s k w. record {
+        stages = shape.stages;
+        switches = length-set t.switches n _ ∙ shape.switches;
+        modules = shape.modules;
+        elements = shape.elements;
+        replies = length-set (set t.replies _ None) _ None ∙ length-set t.replies _ None ∙ shape.replies;
+        requests = shape.requests;
+      })
+      (λ m b. shape)
+      (λ p e. record {
+        stages = shape.stages;
+        switches = shape.switches;
+        modules = shape.modules;
+        elements = length-set t.elements p _ ∙ shape.elements;
+        replies = length-set t.replies _ None ∙ shape.replies;
+        requests = shape.requests;
+      })
 
   kept : (n : ℕ) (t : BlockState) → IsShaped d t → IsShaped d (taking_visit n t)
   kept = shape_kept
@@ -93,17 +93,17 @@ module _ (d : ℕ) (low : 1 ≤ d) (high : d ≤ 6) where
   switch_others n s k own j t p other =
       let lead = both_links d low high n s k own in
       leaves replies_taken_by no_module reply_taken_by d (at_switch n s k) j t p.stages
-          (λ s' k' is w.
-          let there = both_links d low high j s' k' is in
-          pair _ _ _ _ (get_or-set_other t.switches j n _ None (λ same. other (sym same))) (subst (λ e. on_both (without_both t.replies (reply_links e s' k')) (reply_links d s k) ≡ on_both t.replies (reply_links d s k)) (sym p.stages)
-          (both_apart t.replies (reply_links d s' k') (reply_links d s k)
-           (λ same. other (sym there.first ∙ ap (reply_reader d) (sym same) ∙ lead.first)) (λ same. other (sym there.second ∙ ap (reply_reader d) (sym same) ∙ lead.first))
-           (λ same. other (sym there.first ∙ ap (reply_reader d) (sym same) ∙ lead.second)) (λ same. other (sym there.second ∙ ap (reply_reader d) (sym same) ∙ lead.second)))))
-          (λ m is b. refl)
-          (λ q is x. pair _ _ _ _ refl (subst (λ e. on_both (set t.replies (delivery_link e q) None) (reply_links d s k) ≡ on_both t.replies (reply_links d s k)) (sym p.stages)
-          (both_apart_one t.replies (delivery_link d q) (reply_links d s k)
-           (λ same. absurd (let e : n ≡ element_number d q = sym lead.first ∙ ap (reply_reader d) same ∙ reply_to_element d low high q is.small in let w = own.within in omega arith))
-           (λ same. absurd (let e : n ≡ element_number d q = sym lead.second ∙ ap (reply_reader d) same ∙ reply_to_element d low high q is.small in let w = own.within in omega arith)))))
+      (λ s' k' is w.
+      let there = both_links d low high j s' k' is in
+      pair _ _ _ _ (get_or-set_other t.switches j n _ None (λ same. other (sym same))) (subst (λ e. on_both (without_both t.replies (reply_links e s' k')) (reply_links d s k) ≡ on_both t.replies (reply_links d s k)) (sym p.stages)
+      (both_apart t.replies (reply_links d s' k') (reply_links d s k)
+      (λ same. other (sym there.first ∙ ap (reply_reader d) (sym same) ∙ lead.first)) (λ same. other (sym there.second ∙ ap (reply_reader d) (sym same) ∙ lead.first))
+      (λ same. other (sym there.first ∙ ap (reply_reader d) (sym same) ∙ lead.second)) (λ same. other (sym there.second ∙ ap (reply_reader d) (sym same) ∙ lead.second)))))
+      (λ m is b. refl)
+      (λ q is x. pair _ _ _ _ refl (subst (λ e. on_both (set t.replies (delivery_link e q) None) (reply_links d s k) ≡ on_both t.replies (reply_links d s k)) (sym p.stages)
+      (both_apart_one t.replies (delivery_link d q) (reply_links d s k)
+      (λ same. absurd (let e : n ≡ element_number d q = sym lead.first ∙ ap (reply_reader d) same ∙ reply_to_element d low high q is.small in let w = own.within in omega arith))
+      (λ same. absurd (let e : n ≡ element_number d q = sym lead.second ∙ ap (reply_reader d) same ∙ reply_to_element d low high q is.small in let w = own.within in omega arith)))))
 
   pub switch_after_taking : (b : BlockState) → IsShaped d b → (n : ℕ) → n < switch_count d → n < 320
       → at_switch n (stage_of d n) (index_of d n) (after_units takes_replies 320 b) ≡ after_taking_switch (stage_of d n) (index_of d n) (at_switch n (stage_of d n) (index_of d n) b)
@@ -114,9 +114,9 @@ module _ (d : ℕ) (low : 1 ≤ d) (high : d ≤ 6) where
       let lead = both_links d low high n s k own in
       ap (at_switch n s k) (all_visits b)
       ∙ changed_once taking_visit (IsShaped d) kept (at_switch n s k) n (switch_others n s k own) (after_taking_switch s k)
-        (λ t p. own_switch replies_taken_by no_module reply_taken_by d (at_switch n s k) n h t p.stages
-          ∙ switch_own n s k t (switch_at t.switches n) p (omega (arith, p.switches))
-            (subst (λ x. (reply_links d s k).zero < x) (sym p.replies) lead.first_small) (subst (λ x. (reply_links d s k).one < x) (sym p.replies) lead.second_small) refl) 320 b shape small
+      (λ t p. own_switch replies_taken_by no_module reply_taken_by d (at_switch n s k) n h t p.stages
+      ∙ switch_own n s k t (switch_at t.switches n) p (omega (arith, p.switches))
+      (subst (λ x. (reply_links d s k).zero < x) (sym p.replies) lead.first_small) (subst (λ x. (reply_links d s k).one < x) (sym p.replies) lead.second_small) refl) 320 b shape small
 
   -- ---- a processing element, and what is on its link
   abbrev pub after_taking_element : Option ProcessingElement × Option ReplyMessage → Option ProcessingElement × Option ReplyMessage
@@ -138,25 +138,25 @@ module _ (d : ℕ) (low : 1 ≤ d) (high : d ≤ 6) where
   element_others : (p : ℕ) → p < 2 ^ d → (j : ℕ) (t : BlockState) → IsShaped d t → j ≢ element_number d p → at_element p (taking_visit j t) ≡ at_element p t
   element_others p h j t q other =
       leaves replies_taken_by no_module reply_taken_by d (at_element p) j t q.stages
-          (λ s k is w.
-          let there = both_links d low high j s k is in
-          pair _ _ _ _ refl (subst (λ e. on_link (without_both t.replies (reply_links e s k)) (delivery_link d p) ≡ on_link t.replies (delivery_link d p)) (sym q.stages)
-          (link_apart_both t.replies (reply_links d s k) (delivery_link d p)
-           (λ same. absurd (let e : element_number d p ≡ j = sym (reply_to_element d low high p h) ∙ ap (reply_reader d) same ∙ there.first in let w = is.within in omega arith))
-           (λ same. absurd (let e : element_number d p ≡ j = sym (reply_to_element d low high p h) ∙ ap (reply_reader d) same ∙ there.second in let w = is.within in omega arith)))))
-          (λ m is b. refl)
-          (λ r is x.
-          pair _ _ _ _ (get_or-set_other t.elements r p _ None (λ same. other (omega (arith, is.number)))) (subst (λ e. on_link (set t.replies (delivery_link e r) None) (delivery_link d p) ≡ on_link t.replies (delivery_link d p)) (sym q.stages)
-          (link_apart t.replies (delivery_link d r) (delivery_link d p)
-           (λ same. other (is.number ∙ sym (reply_to_element d low high r is.small) ∙ ap (reply_reader d) (sym same) ∙ reply_to_element d low high p h)))))
+      (λ s k is w.
+      let there = both_links d low high j s k is in
+      pair _ _ _ _ refl (subst (λ e. on_link (without_both t.replies (reply_links e s k)) (delivery_link d p) ≡ on_link t.replies (delivery_link d p)) (sym q.stages)
+      (link_apart_both t.replies (reply_links d s k) (delivery_link d p)
+      (λ same. absurd (let e : element_number d p ≡ j = sym (reply_to_element d low high p h) ∙ ap (reply_reader d) same ∙ there.first in let w = is.within in omega arith))
+      (λ same. absurd (let e : element_number d p ≡ j = sym (reply_to_element d low high p h) ∙ ap (reply_reader d) same ∙ there.second in let w = is.within in omega arith)))))
+      (λ m is b. refl)
+      (λ r is x.
+      pair _ _ _ _ (get_or-set_other t.elements r p _ None (λ same. other (omega (arith, is.number)))) (subst (λ e. on_link (set t.replies (delivery_link e r) None) (delivery_link d p) ≡ on_link t.replies (delivery_link d p)) (sym q.stages)
+      (link_apart t.replies (delivery_link d r) (delivery_link d p)
+      (λ same. other (is.number ∙ sym (reply_to_element d low high r is.small) ∙ ap (reply_reader d) (sym same) ∙ reply_to_element d low high p h)))))
 
   pub element_after_taking : (b : BlockState) → IsShaped d b → (p : ℕ) → p < 2 ^ d → element_number d p < 320 → delivery_link d p < (d + 1) * 2 ^ d
       → at_element p (after_units takes_replies 320 b) ≡ after_taking_element (at_element p b)
   element_after_taking b shape p h small link =
       ap (at_element p) (all_visits b)
       ∙ changed_once taking_visit (IsShaped d) kept (at_element p) (element_number d p) (element_others p h) after_taking_element
-        (λ t q. own_element replies_taken_by no_module reply_taken_by d (at_element p) p h t q.stages
-          ∙ element_own p t (element_at t.elements p) q (omega (arith, q.elements)) (subst (λ x. delivery_link d p < x) (sym q.replies) link) refl) 320 b shape small
+      (λ t q. own_element replies_taken_by no_module reply_taken_by d (at_element p) p h t q.stages
+      ∙ element_own p t (element_at t.elements p) q (omega (arith, q.elements)) (subst (λ x. delivery_link d p < x) (sym q.replies) link) refl) 320 b shape small
 
   -- ---- what nobody changes
   pub shape_after_taking : (b : BlockState) → IsShaped d b → IsShaped d (after_units takes_replies 320 b)
@@ -168,7 +168,7 @@ module _ (d : ℕ) (low : 1 ≤ d) (high : d ≤ 6) where
     kept_by_taking b shape =
         ap get (all_visits b)
         ∙ never_changed taking_visit (IsShaped d) kept get
-          (λ j t p. leaves replies_taken_by no_module reply_taken_by d get j t p.stages (λ s k is w. same_switch j s k t w) (λ m is b. refl) (λ q is e. same_element q t e)) 320 b shape
+        (λ j t p. leaves replies_taken_by no_module reply_taken_by d get j t p.stages (λ s k is w. same_switch j s k t w) (λ m is b. refl) (λ q is e. same_element q t e)) 320 b shape
 
   -- ---- events
   -- what is told of a processing element, and what is on its link
@@ -211,5 +211,5 @@ module _ (d : ℕ) (low : 1 ≤ d) (high : d ≤ 6) where
   events_after_taking b shape =
       ap (λ (t : BlockState). t.events) (all_visits b)
       ∙ all_told taking_visit (IsShaped d) kept (λ n t. told_of t (unit_of d n)) (λ t. t.events)
-        (λ j t p. ap (λ (t : BlockState). t.events) (sym (is_visit j t)) ∙ tells_as j t (unit_of t.stages j) p.stages ∙ ap (λ e. t.events ++ told_of t (unit_of e j)) p.stages)
-        (λ n t p. same_told n t (unit_of d n) p (unit_is d n)) 320 b shape
+      (λ j t p. ap (λ (t : BlockState). t.events) (sym (is_visit j t)) ∙ tells_as j t (unit_of t.stages j) p.stages ∙ ap (λ e. t.events ++ told_of t (unit_of e j)) p.stages)
+      (λ n t p. same_told n t (unit_of d n) p (unit_is d n)) 320 b shape

@@ -1,5 +1,5 @@
 -- After the half in which requests leave: each unit is without those that left it, and they are on its links.
-use Rattle.std.proofs.Common.{◌≡◌, ◌≢◌, ℕ, ◌+◌, ◌*◌, ◌^◌, ◌<◌, ◌≤◌, List, Option, Some, None, length, set, get_or-set_same, get_or-set_other, refl, sym, ◌∙◌, ap, subst, arith}
+use Rattle.std.proofs.Common.{◌≡◌, ◌≢◌, ℕ, ◌^◌, ◌<◌, ◌≤◌, List, Option, Some, None, length, set, get_or-set_same, get_or-set_other, refl, sym, ◌∙◌, ap, subst, arith}
 use Rattle.std.specs.Prelude.{slice_get}
 use Rattle.std.proofs.lemmas.List.{length-set}
 use Rattle.ultra_msg.specs.declared.Request.{Request}
@@ -77,7 +77,7 @@ module _ (closed : Ports (List ℕ)) where
       kept_by_sending b shape =
           ap get (all_visits b)
           ∙ never_changed sending_visit (IsShaped d) shape_kept get
-            (λ j t p. leaves (requests_sent_by closed) no_module (request_sent_by closed) d get j t p.stages (λ s k is w. same_switch j s k t w) (λ m is b. refl) (λ q is x. same_element q t x)) 320 b shape
+          (λ j t p. leaves (requests_sent_by closed) no_module (request_sent_by closed) d get j t p.stages (λ s k is w. same_switch j s k t w) (λ m is b. refl) (λ q is x. same_element q t x)) 320 b shape
 
     -- ---- a switch, and what is on its two links
     abbrev pub after_sending_switch : ℕ → ℕ → Option Switch × Ports (Option Request) → Option Switch × Ports (Option Request)
@@ -97,24 +97,24 @@ module _ (closed : Ports (List ℕ)) where
         let here = has_places d n s k low high own in
         ap (λ e. (switch_at (set t.switches n (Some (without_requests w (requests_leaving (request_ways closed e s k (request_heads w)) w)))) n, on_both (put_both t.requests (places_of e s k) (requests_leaving (request_ways closed e s k (request_heads w)) w)) (places_of d s k))) p.stages
         ∙ pair _ _ _ _ (get_or-set_same t.switches n _ None within)
-          (both_put t.requests (places_of d s k) (requests_leaving (request_ways closed d s k (request_heads w)) w) (λ same. absurd (omega (arith, here.first, here.second, same)))
-           (subst (λ x. (places_of d s k).zero < x) (sym p.requests) here.first_small) (subst (λ x. (places_of d s k).one < x) (sym p.requests) here.second_small))
+        (both_put t.requests (places_of d s k) (requests_leaving (request_ways closed d s k (request_heads w)) w) (λ same. absurd (omega (arith, here.first, here.second, same)))
+        (subst (λ x. (places_of d s k).zero < x) (sym p.requests) here.first_small) (subst (λ x. (places_of d s k).one < x) (sym p.requests) here.second_small))
         ∙ sym (ap (after_sending_switch s k) (ap (λ o. (o, on_both t.requests (places_of d s k))) is))
 
     switch_others : (n s k : ℕ) → IsSwitch d n s k → (j : ℕ) (t : BlockState) → IsShaped d t → j ≢ n → at_switch n s k (sending_visit j t) ≡ at_switch n s k t
     switch_others n s k own j t p other =
         let here = has_places d n s k low high own in
         leaves (requests_sent_by closed) no_module (request_sent_by closed) d (at_switch n s k) j t p.stages
-          (λ s' k' is w.
-          let there = has_places d j s' k' low high is in
-          pair _ _ _ _ (get_or-set_other t.switches j n _ None (λ same. other (sym same))) (subst (λ e. on_both (put_both t.requests (places_of e s' k') (requests_leaving (request_ways closed t.stages s' k' (request_heads w)) w)) (places_of d s k) ≡ on_both t.requests (places_of d s k)) (sym p.stages)
-          (both_apart_put t.requests (places_of d s' k') (requests_leaving (request_ways closed t.stages s' k' (request_heads w)) w) (places_of d s k)
-           (λ same. other (omega (arith, there.first, here.first, same))) (λ same. absurd (omega (arith, there.second, here.first, same)))
-           (λ same. absurd (omega (arith, there.first, here.second, same))) (λ same. other (omega (arith, there.second, here.second, same))))))
-          (λ m is b. refl)
-          (λ q is x. pair _ _ _ _ refl (subst (λ e. on_both (put_on t.requests (place_number e e q) (where_room (has_way_from_element closed t.stages q (slice_get x.interface.interface.pending 0)) (slice_get x.interface.interface.pending 0))) (places_of d s k) ≡ on_both t.requests (places_of d s k)) (sym p.stages)
-          (let behind = place_behind d q low high in let within = own.within in both_apart_put_one t.requests (place_number d d q) (where_room (has_way_from_element closed t.stages q (slice_get x.interface.interface.pending 0)) (slice_get x.interface.interface.pending 0)) (places_of d s k)
-           (λ same. absurd (omega (arith, here.first, same))) (λ same. absurd (omega (arith, here.second, same))))))
+        (λ s' k' is w.
+        let there = has_places d j s' k' low high is in
+        pair _ _ _ _ (get_or-set_other t.switches j n _ None (λ same. other (sym same))) (subst (λ e. on_both (put_both t.requests (places_of e s' k') (requests_leaving (request_ways closed t.stages s' k' (request_heads w)) w)) (places_of d s k) ≡ on_both t.requests (places_of d s k)) (sym p.stages)
+        (both_apart_put t.requests (places_of d s' k') (requests_leaving (request_ways closed t.stages s' k' (request_heads w)) w) (places_of d s k)
+        (λ same. other (omega (arith, there.first, here.first, same))) (λ same. absurd (omega (arith, there.second, here.first, same)))
+        (λ same. absurd (omega (arith, there.first, here.second, same))) (λ same. other (omega (arith, there.second, here.second, same))))))
+        (λ m is b. refl)
+        (λ q is x. pair _ _ _ _ refl (subst (λ e. on_both (put_on t.requests (place_number e e q) (where_room (has_way_from_element closed t.stages q (slice_get x.interface.interface.pending 0)) (slice_get x.interface.interface.pending 0))) (places_of d s k) ≡ on_both t.requests (places_of d s k)) (sym p.stages)
+        (let behind = place_behind d q low high in let within = own.within in both_apart_put_one t.requests (place_number d d q) (where_room (has_way_from_element closed t.stages q (slice_get x.interface.interface.pending 0)) (slice_get x.interface.interface.pending 0)) (places_of d s k)
+        (λ same. absurd (omega (arith, here.first, same))) (λ same. absurd (omega (arith, here.second, same))))))
 
     pub switch_after_sending : (b : BlockState) → IsShaped d b → (n : ℕ) → n < switch_count d → n < 320
         → at_switch n (stage_of d n) (index_of d n) (after_units (sends_requests closed) 320 b) ≡ after_sending_switch (stage_of d n) (index_of d n) (at_switch n (stage_of d n) (index_of d n) b)
@@ -124,8 +124,8 @@ module _ (closed : Ports (List ℕ)) where
         let own = is_switch d n h in
         ap (at_switch n s k) (all_visits b)
         ∙ changed_once sending_visit (IsShaped d) shape_kept (at_switch n s k) n (switch_others n s k own) (after_sending_switch s k)
-          (λ t p. own_switch (requests_sent_by closed) no_module (request_sent_by closed) d (at_switch n s k) n h t p.stages
-            ∙ switch_own n s k t (switch_at t.switches n) p own (omega (arith, p.switches)) refl) 320 b shape small
+        (λ t p. own_switch (requests_sent_by closed) no_module (request_sent_by closed) d (at_switch n s k) n h t p.stages
+        ∙ switch_own n s k t (switch_at t.switches n) p own (omega (arith, p.switches)) refl) 320 b shape small
 
     -- ---- a processing element, and what is on its link
     abbrev pub after_sending_element : ℕ → Option ProcessingElement × Option Request → Option ProcessingElement × Option Request
@@ -142,25 +142,25 @@ module _ (closed : Ports (List ℕ)) where
     element_own p t (Some x) q h within is =
         ap (λ e. (element_at (set t.elements p (Some (element_without x (where_room (has_way_from_element closed e p (slice_get x.interface.interface.pending 0)) (slice_get x.interface.interface.pending 0))))) p, on_link (put_on t.requests (place_number e e p) (where_room (has_way_from_element closed e p (slice_get x.interface.interface.pending 0)) (slice_get x.interface.interface.pending 0))) (place_number d d p))) q.stages
         ∙ pair _ _ _ _ (get_or-set_same t.elements p _ None within)
-          (put_there t.requests (place_number d d p) (where_room (has_way_from_element closed d p (slice_get x.interface.interface.pending 0)) (slice_get x.interface.interface.pending 0)) (subst (λ x. place_number d d p < x) (sym q.requests) (place_behind_small d p h)))
+        (put_there t.requests (place_number d d p) (where_room (has_way_from_element closed d p (slice_get x.interface.interface.pending 0)) (slice_get x.interface.interface.pending 0)) (subst (λ x. place_number d d p < x) (sym q.requests) (place_behind_small d p h)))
         ∙ sym (ap (after_sending_element p) (ap (λ o. (o, on_link t.requests (place_number d d p))) is))
 
     element_others : (p : ℕ) → p < 2 ^ d → (j : ℕ) (t : BlockState) → IsShaped d t → j ≢ element_number d p → at_element p (sending_visit j t) ≡ at_element p t
     element_others p h j t q other =
         leaves (requests_sent_by closed) no_module (request_sent_by closed) d (at_element p) j t q.stages
-          (λ s k is w.
-          let there = has_places d j s k low high is in let behind = place_behind d p low high in let within = is.within in
-          pair _ _ _ _ refl (subst (λ e. on_link (put_both t.requests (places_of e s k) (requests_leaving (request_ways closed t.stages s k (request_heads w)) w)) (place_number d d p) ≡ on_link t.requests (place_number d d p)) (sym q.stages)
-          (link_apart_put t.requests (places_of d s k) (requests_leaving (request_ways closed t.stages s k (request_heads w)) w) (place_number d d p) (λ same. absurd (omega (arith, there.first, same))) (λ same. absurd (omega (arith, there.second, same))))))
-          (λ m is b. refl)
-          (λ r is x.
-          pair _ _ _ _ (get_or-set_other t.elements r p _ None (λ same. other (omega (arith, is.number)))) (subst (λ e. on_link (put_on t.requests (place_number e e r) (where_room (has_way_from_element closed t.stages r (slice_get x.interface.interface.pending 0)) (slice_get x.interface.interface.pending 0))) (place_number d d p) ≡ on_link t.requests (place_number d d p)) (sym q.stages)
-          (put_apart t.requests (place_number d d r) (place_number d d p) (where_room (has_way_from_element closed t.stages r (slice_get x.interface.interface.pending 0)) (slice_get x.interface.interface.pending 0)) (λ same. other (omega (arith, is.number))))))
+        (λ s k is w.
+        let there = has_places d j s k low high is in let behind = place_behind d p low high in let within = is.within in
+        pair _ _ _ _ refl (subst (λ e. on_link (put_both t.requests (places_of e s k) (requests_leaving (request_ways closed t.stages s k (request_heads w)) w)) (place_number d d p) ≡ on_link t.requests (place_number d d p)) (sym q.stages)
+        (link_apart_put t.requests (places_of d s k) (requests_leaving (request_ways closed t.stages s k (request_heads w)) w) (place_number d d p) (λ same. absurd (omega (arith, there.first, same))) (λ same. absurd (omega (arith, there.second, same))))))
+        (λ m is b. refl)
+        (λ r is x.
+        pair _ _ _ _ (get_or-set_other t.elements r p _ None (λ same. other (omega (arith, is.number)))) (subst (λ e. on_link (put_on t.requests (place_number e e r) (where_room (has_way_from_element closed t.stages r (slice_get x.interface.interface.pending 0)) (slice_get x.interface.interface.pending 0))) (place_number d d p) ≡ on_link t.requests (place_number d d p)) (sym q.stages)
+        (put_apart t.requests (place_number d d r) (place_number d d p) (where_room (has_way_from_element closed t.stages r (slice_get x.interface.interface.pending 0)) (slice_get x.interface.interface.pending 0)) (λ same. other (omega (arith, is.number))))))
 
     pub element_after_sending : (b : BlockState) → IsShaped d b → (p : ℕ) → p < 2 ^ d → element_number d p < 320
         → at_element p (after_units (sends_requests closed) 320 b) ≡ after_sending_element p (at_element p b)
     element_after_sending b shape p h small =
         ap (at_element p) (all_visits b)
         ∙ changed_once sending_visit (IsShaped d) shape_kept (at_element p) (element_number d p) (element_others p h) (after_sending_element p)
-          (λ t q. own_element (requests_sent_by closed) no_module (request_sent_by closed) d (at_element p) p h t q.stages
-            ∙ element_own p t (element_at t.elements p) q h (omega (arith, q.elements)) refl) 320 b shape small
+        (λ t q. own_element (requests_sent_by closed) no_module (request_sent_by closed) d (at_element p) p h t q.stages
+        ∙ element_own p t (element_at t.elements p) q h (omega (arith, q.elements)) refl) 320 b shape small

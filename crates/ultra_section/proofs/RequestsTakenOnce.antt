@@ -1,5 +1,5 @@
 -- After the half in which requests are taken: each unit has taken what was on its links at the start, and they are empty.
-use Rattle.std.proofs.Common.{◌≡◌, ◌≢◌, ℕ, ◌+◌, ◌*◌, ◌^◌, ◌<◌, ◌≤◌, List, [], ◌∷◌, ◌++◌, Option, Some, None, length, set, get_or-set_same, get_or-set_other, refl, sym, ◌∙◌, ap, subst, arith}
+use Rattle.std.proofs.Common.{◌≡◌, ◌≢◌, ℕ, ◌+◌, ◌*◌, ◌^◌, ◌<◌, ◌≤◌, List, [], ◌++◌, Option, Some, None, length, set, get_or-set_same, get_or-set_other, refl, sym, ◌∙◌, ap, subst, arith}
 use Rattle.std.proofs.lemmas.List.{length-set, append-nil}
 use Rattle.ultra_msg.specs.declared.Request.{Request}
 use Rattle.ultra_msg.specs.declared.Event.{Event}
@@ -53,23 +53,23 @@ all_visits b = same_visits takes_requests taking_visit is_visit 320 b
 module _ (d c : ℕ) (low : 1 ≤ d) (high : d ≤ 6) where
   shape_kept : (n : ℕ) (t : BlockState) → IsShaped d t → IsShaped d (taking_visit n t)
   shape_kept n t shape = keeps requests_taken_by request_taken_by no_element (IsShaped d) n t shape
-        (λ s k w. record {
-          stages = shape.stages;
-          switches = length-set t.switches n _ ∙ shape.switches;
-          modules = shape.modules;
-          elements = shape.elements;
-          replies = shape.replies;
-          requests = length-set (set t.requests _ None) _ None ∙ length-set t.requests _ None ∙ shape.requests;
-        })
-        (λ p e. record {
-          stages = shape.stages;
-          switches = shape.switches;
-          modules = length-set t.modules p _ ∙ shape.modules;
-          elements = shape.elements;
-          replies = shape.replies;
-          requests = length-set t.requests _ None ∙ shape.requests;
-        })
-        (λ p e. shape)
+      (λ s k w. record {
+        stages = shape.stages;
+        switches = length-set t.switches n _ ∙ shape.switches;
+        modules = shape.modules;
+        elements = shape.elements;
+        replies = shape.replies;
+        requests = length-set (set t.requests _ None) _ None ∙ length-set t.requests _ None ∙ shape.requests;
+      })
+      (λ p e. record {
+        stages = shape.stages;
+        switches = shape.switches;
+        modules = length-set t.modules p _ ∙ shape.modules;
+        elements = shape.elements;
+        replies = shape.replies;
+        requests = length-set t.requests _ None ∙ shape.requests;
+      })
+      (λ p e. shape)
 
   done_kept : (n : ℕ) (t : BlockState) → t.done ≡ c → BlockState.done (taking_visit n t) ≡ c
   done_kept n t is = keeps requests_taken_by request_taken_by no_element (λ t. t.done ≡ c) n t is (λ s k w. is) (λ m b. is) (λ p e. is)
@@ -99,17 +99,17 @@ module _ (d c : ℕ) (low : 1 ≤ d) (high : d ≤ 6) where
   switch_others n s k own j t p other =
       let lead = both_links d low high n s k own in
       leaves requests_taken_by request_taken_by no_element d (at_switch n s k) j t p.shape.stages
-          (λ s' k' is w.
-          let there = both_links d low high j s' k' is in
-          pair _ _ _ _ (get_or-set_other t.switches j n _ None (λ same. other (sym same))) (subst (λ e. on_both (without_both t.requests (request_links e s' k')) (request_links d s k) ≡ on_both t.requests (request_links d s k)) (sym p.shape.stages)
-          (both_apart t.requests (request_links d s' k') (request_links d s k)
-           (λ same. other (sym there.first ∙ ap (request_reader d) (sym same) ∙ lead.first)) (λ same. other (sym there.second ∙ ap (request_reader d) (sym same) ∙ lead.first))
-           (λ same. other (sym there.first ∙ ap (request_reader d) (sym same) ∙ lead.second)) (λ same. other (sym there.second ∙ ap (request_reader d) (sym same) ∙ lead.second)))))
-          (λ q is x. pair _ _ _ _ refl (subst (λ e. on_both (set t.requests (memory_link e q) None) (request_links d s k) ≡ on_both t.requests (request_links d s k)) (sym p.shape.stages)
-          (both_apart_one t.requests (memory_link d q) (request_links d s k)
-           (λ same. absurd (let e : n ≡ module_number d q = sym lead.first ∙ ap (request_reader d) same ∙ request_to_module d low high q is.small in let w = own.within in omega arith))
-           (λ same. absurd (let e : n ≡ module_number d q = sym lead.second ∙ ap (request_reader d) same ∙ request_to_module d low high q is.small in let w = own.within in omega arith)))))
-          (λ p is e. refl)
+      (λ s' k' is w.
+      let there = both_links d low high j s' k' is in
+      pair _ _ _ _ (get_or-set_other t.switches j n _ None (λ same. other (sym same))) (subst (λ e. on_both (without_both t.requests (request_links e s' k')) (request_links d s k) ≡ on_both t.requests (request_links d s k)) (sym p.shape.stages)
+      (both_apart t.requests (request_links d s' k') (request_links d s k)
+      (λ same. other (sym there.first ∙ ap (request_reader d) (sym same) ∙ lead.first)) (λ same. other (sym there.second ∙ ap (request_reader d) (sym same) ∙ lead.first))
+      (λ same. other (sym there.first ∙ ap (request_reader d) (sym same) ∙ lead.second)) (λ same. other (sym there.second ∙ ap (request_reader d) (sym same) ∙ lead.second)))))
+      (λ q is x. pair _ _ _ _ refl (subst (λ e. on_both (set t.requests (memory_link e q) None) (request_links d s k) ≡ on_both t.requests (request_links d s k)) (sym p.shape.stages)
+      (both_apart_one t.requests (memory_link d q) (request_links d s k)
+      (λ same. absurd (let e : n ≡ module_number d q = sym lead.first ∙ ap (request_reader d) same ∙ request_to_module d low high q is.small in let w = own.within in omega arith))
+      (λ same. absurd (let e : n ≡ module_number d q = sym lead.second ∙ ap (request_reader d) same ∙ request_to_module d low high q is.small in let w = own.within in omega arith)))))
+      (λ p is e. refl)
 
   pub switch_after_taking : (b : BlockState) → InCycle d c b → (n : ℕ) → n < switch_count d → n < 320
       → at_switch n (stage_of d n) (index_of d n) (after_units takes_requests 320 b) ≡ after_taking_switch (stage_of d n) (index_of d n) (at_switch n (stage_of d n) (index_of d n) b)
@@ -120,9 +120,9 @@ module _ (d c : ℕ) (low : 1 ≤ d) (high : d ≤ 6) where
       let lead = both_links d low high n s k own in
       ap (at_switch n s k) (all_visits b)
       ∙ changed_once taking_visit (InCycle d c) kept (at_switch n s k) n (switch_others n s k own) (after_taking_switch s k)
-        (λ t p. own_switch requests_taken_by request_taken_by no_element d (at_switch n s k) n h t p.shape.stages
-          ∙ switch_own n s k t (switch_at t.switches n) p (omega (arith, p.shape.switches))
-            (subst (λ x. (request_links d s k).zero < x) (sym p.shape.requests) lead.first_small) (subst (λ x. (request_links d s k).one < x) (sym p.shape.requests) lead.second_small) refl) 320 b shape small
+      (λ t p. own_switch requests_taken_by request_taken_by no_element d (at_switch n s k) n h t p.shape.stages
+      ∙ switch_own n s k t (switch_at t.switches n) p (omega (arith, p.shape.switches))
+      (subst (λ x. (request_links d s k).zero < x) (sym p.shape.requests) lead.first_small) (subst (λ x. (request_links d s k).one < x) (sym p.shape.requests) lead.second_small) refl) 320 b shape small
 
   -- ---- a module, and what is on its link
   abbrev pub after_taking_module : Option Bank × Option Request → Option Bank × Option Request
@@ -144,25 +144,25 @@ module _ (d c : ℕ) (low : 1 ≤ d) (high : d ≤ 6) where
   module_others : (p : ℕ) → p < 2 ^ d → (j : ℕ) (t : BlockState) → InCycle d c t → j ≢ module_number d p → at_module p (taking_visit j t) ≡ at_module p t
   module_others p h j t q other =
       leaves requests_taken_by request_taken_by no_element d (at_module p) j t q.shape.stages
-          (λ s k is w.
-          let there = both_links d low high j s k is in
-          pair _ _ _ _ refl (subst (λ e. on_link (without_both t.requests (request_links e s k)) (memory_link d p) ≡ on_link t.requests (memory_link d p)) (sym q.shape.stages)
-          (link_apart_both t.requests (request_links d s k) (memory_link d p)
-           (λ same. absurd (let e : module_number d p ≡ j = sym (request_to_module d low high p h) ∙ ap (request_reader d) same ∙ there.first in let w = is.within in omega arith))
-           (λ same. absurd (let e : module_number d p ≡ j = sym (request_to_module d low high p h) ∙ ap (request_reader d) same ∙ there.second in let w = is.within in omega arith)))))
-          (λ r is x.
-          pair _ _ _ _ (get_or-set_other t.modules r p _ None (λ same. other (omega (arith, is.number)))) (subst (λ e. on_link (set t.requests (memory_link e r) None) (memory_link d p) ≡ on_link t.requests (memory_link d p)) (sym q.shape.stages)
-          (link_apart t.requests (memory_link d r) (memory_link d p)
-           (λ same. other (is.number ∙ sym (request_to_module d low high r is.small) ∙ ap (request_reader d) (sym same) ∙ request_to_module d low high p h)))))
-          (λ p is e. refl)
+      (λ s k is w.
+      let there = both_links d low high j s k is in
+      pair _ _ _ _ refl (subst (λ e. on_link (without_both t.requests (request_links e s k)) (memory_link d p) ≡ on_link t.requests (memory_link d p)) (sym q.shape.stages)
+      (link_apart_both t.requests (request_links d s k) (memory_link d p)
+      (λ same. absurd (let e : module_number d p ≡ j = sym (request_to_module d low high p h) ∙ ap (request_reader d) same ∙ there.first in let w = is.within in omega arith))
+      (λ same. absurd (let e : module_number d p ≡ j = sym (request_to_module d low high p h) ∙ ap (request_reader d) same ∙ there.second in let w = is.within in omega arith)))))
+      (λ r is x.
+      pair _ _ _ _ (get_or-set_other t.modules r p _ None (λ same. other (omega (arith, is.number)))) (subst (λ e. on_link (set t.requests (memory_link e r) None) (memory_link d p) ≡ on_link t.requests (memory_link d p)) (sym q.shape.stages)
+      (link_apart t.requests (memory_link d r) (memory_link d p)
+      (λ same. other (is.number ∙ sym (request_to_module d low high r is.small) ∙ ap (request_reader d) (sym same) ∙ request_to_module d low high p h)))))
+      (λ p is e. refl)
 
   pub module_after_taking : (b : BlockState) → InCycle d c b → (p : ℕ) → p < 2 ^ d → module_number d p < 320 → memory_link d p < (d + 1) * 2 ^ d
       → at_module p (after_units takes_requests 320 b) ≡ after_taking_module (at_module p b)
   module_after_taking b shape p h small link =
       ap (at_module p) (all_visits b)
       ∙ changed_once taking_visit (InCycle d c) kept (at_module p) (module_number d p) (module_others p h) after_taking_module
-        (λ t q. own_module requests_taken_by request_taken_by no_element d (at_module p) p h t q.shape.stages
-          ∙ module_own p t (module_at t.modules p) q (omega (arith, q.shape.modules)) (subst (λ x. memory_link d p < x) (sym q.shape.requests) link) refl) 320 b shape small
+      (λ t q. own_module requests_taken_by request_taken_by no_element d (at_module p) p h t q.shape.stages
+      ∙ module_own p t (module_at t.modules p) q (omega (arith, q.shape.modules)) (subst (λ x. memory_link d p < x) (sym q.shape.requests) link) refl) 320 b shape small
 
   -- ---- what nobody changes
   pub shape_after_taking : (b : BlockState) → InCycle d c b → InCycle d c (after_units takes_requests 320 b)
@@ -174,7 +174,7 @@ module _ (d c : ℕ) (low : 1 ≤ d) (high : d ≤ 6) where
     kept_by_taking b shape =
         ap get (all_visits b)
         ∙ never_changed taking_visit (InCycle d c) kept get
-          (λ j t p. leaves requests_taken_by request_taken_by no_element d get j t p.shape.stages (λ s k is w. same_switch j s k t w) (λ m is b. same_module m t b) (λ q is e. refl)) 320 b shape
+        (λ j t p. leaves requests_taken_by request_taken_by no_element d get j t p.shape.stages (λ s k is w. same_switch j s k t w) (λ m is b. same_module m t b) (λ q is e. refl)) 320 b shape
 
   -- ---- events
   -- what is told of switch k of stage s, and what is on its two links
@@ -217,5 +217,5 @@ module _ (d c : ℕ) (low : 1 ≤ d) (high : d ≤ 6) where
   events_after_taking b shape =
       ap (λ (t : BlockState). t.events) (all_visits b)
       ∙ all_told taking_visit (InCycle d c) kept (λ n t. told_of n t (unit_of d n)) (λ t. t.events)
-        (λ j t p. ap (λ (t : BlockState). t.events) (sym (is_visit j t)) ∙ tells_as j t (unit_of t.stages j) p ∙ ap (λ e. t.events ++ told_of j t (unit_of e j)) p.shape.stages)
-        (λ n t p. same_told n t (unit_of d n) p (unit_is d n)) 320 b shape
+      (λ j t p. ap (λ (t : BlockState). t.events) (sym (is_visit j t)) ∙ tells_as j t (unit_of t.stages j) p ∙ ap (λ e. t.events ++ told_of j t (unit_of e j)) p.shape.stages)
+      (λ n t p. same_told n t (unit_of d n) p (unit_is d n)) 320 b shape

@@ -1,5 +1,5 @@
 -- After the half in which modules serve: each has served once, by what it held at the start, and the acts are told in the order of the modules.
-use Rattle.std.proofs.Common.{◌≡◌, ◌≢◌, ℕ, ◌+◌, ◌^◌, ◌<◌, List, [], ◌∷◌, ◌++◌, Option, Some, None, length, set, get_or-set_same, get_or-set_other, refl, sym, ◌∙◌, ap, subst, arith}
+use Rattle.std.proofs.Common.{◌≡◌, ◌≢◌, ℕ, ◌^◌, ◌<◌, List, [], ◌∷◌, ◌++◌, Option, Some, None, length, get_or-set_same, get_or-set_other, refl, sym, ◌∙◌, ap, subst, arith}
 use Rattle.std.proofs.lemmas.List.{length-set, append-nil}
 use Rattle.ultra_msg.specs.declared.Event.{Event}
 use Rattle.ultra_switch.specs.declared.Switch.{Switch}
@@ -76,8 +76,8 @@ module _ (d : ℕ) where
   module_after_serving b shape m h small =
       ap (λ (t : BlockState). module_at t.modules m) (all_visits b)
       ∙ changed_once serving_visit (IsShaped d) shape_kept (λ t. module_at t.modules m) (module_number d m) (others m) after_serving
-        (λ t p. own_module no_switch served_by no_element d (λ t. module_at t.modules m) m h t p.stages
-          ∙ own_as m t (module_at t.modules m) (omega (arith, p.modules)) refl) 320 b shape small
+      (λ t p. own_module no_switch served_by no_element d (λ t. module_at t.modules m) m h t p.stages
+      ∙ own_as m t (module_at t.modules m) (omega (arith, p.modules)) refl) 320 b shape small
 
   -- ---- what nobody changes
   module _ {X : Type 0} (get : BlockState → X) (same : (m : ℕ) (t : BlockState) (bank : Bank) → get (served_by m t bank) ≡ get t) where
@@ -85,7 +85,7 @@ module _ (d : ℕ) where
     kept_by_serving b shape =
         ap get (all_visits b)
         ∙ never_changed serving_visit (IsShaped d) shape_kept get
-          (λ j t p. leaves no_switch served_by no_element d get j t p.stages (λ s k is w. refl) (λ m is bank. same m t bank) (λ p is e. refl)) 320 b shape
+        (λ j t p. leaves no_switch served_by no_element d get j t p.stages (λ s k is w. refl) (λ m is bank. same m t bank) (λ p is e. refl)) 320 b shape
 
   -- ---- events
   -- what is told of the unit with number n
@@ -118,7 +118,7 @@ module _ (d : ℕ) where
   same_told n t (unit.Module m) shape is =
       ap (λ o. act_told o m)
       (not_yet_changed serving_visit (IsShaped d) shape_kept (λ t. module_at t.modules m) n
-       (λ j t p other. others m j t p (λ same. other (same ∙ sym is.number))) n t shape (omega arith))
+      (λ j t p other. others m j t p (λ same. other (same ∙ sym is.number))) n t shape (omega arith))
   same_told n t (unit.Element p) shape is = refl
   same_told n t unit.Nothing shape is = refl
 
@@ -126,5 +126,5 @@ module _ (d : ℕ) where
   events_after_serving b shape =
       ap (λ (t : BlockState). t.events) (all_visits b)
       ∙ all_told serving_visit (IsShaped d) shape_kept told (λ t. t.events)
-        (λ j t p. ap (λ (t : BlockState). t.events) (sym (is_visit j t)) ∙ tells_as j t (unit_of t.stages j) ∙ ap (λ e. t.events ++ told_of t (unit_of e j)) p.stages)
-        (λ n t p. same_told n t (unit_of d n) p (unit_is d n)) 320 b shape
+      (λ j t p. ap (λ (t : BlockState). t.events) (sym (is_visit j t)) ∙ tells_as j t (unit_of t.stages j) ∙ ap (λ e. t.events ++ told_of t (unit_of e j)) p.stages)
+      (λ n t p. same_told n t (unit_of d n) p (unit_is d n)) 320 b shape

@@ -4,7 +4,7 @@ use Rattle.std.specs.Prelude.{nat_lt}
 use Rattle.std.proofs.lemmas.Bool.Decides.{nat_tests}
 use Rattle.std.proofs.lemmas.Nat.{pow_pos, div-add-mod'}
 use Rattle.std.proofs.Math.Nat.{div-lt_iff_lt-mul}
-use Rattle.ultra_units.specs.Numbers.{switch_count, unit_count, switch_number, module_number, element_number}
+use Rattle.ultra_units.specs.Numbers.{switch_count, unit_count, module_number, element_number}
 use Rattle.ultra_section.specs.Units.{unit_of, stage_of, index_of, IsUnit, IsSwitch}
 use Rattle.ultra_section.specs.declared.unit.Unit.TheVariants.{Switch, Module, Element, Nothing}
 
