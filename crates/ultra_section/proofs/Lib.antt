@@ -15,6 +15,7 @@ pub mod RequestsSentOnce
 pub mod ServedOnce
 pub mod ExecutedOnce
 pub mod Emptied
+pub mod Few
 pub mod RepliesTakenOnce
 pub mod RequestsTakenOnce
 pub mod RepliesSent
