@@ -18,7 +18,8 @@ pub trait Visit<T> {
 
     /// Visits a unit. What the visits of later units ask is kept.
     fn visit(&self, target: &mut T, unit: usize)
-        requires { can_visit self.now unit target.old }
+        requires within { unit < 320 }
+        requires can { can_visit self.now unit target.old }
         ensures visited { target.new ≡ visited self.now unit target.old }
         ensures later { (k : ℕ) → unit < k → can_visit self.now k target.old → can_visit self.now k target.new };
 }

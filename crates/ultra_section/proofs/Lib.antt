@@ -1,0 +1,14 @@
+pub mod Readers
+pub mod Marks
+pub mod ReplyMarks
+pub mod RequestMarks
+pub mod Known
+pub mod Standing
+pub mod Empty
+pub mod Nexts
+pub mod RepliesSent
+pub mod Serving
+pub mod RepliesTaken
+pub mod Execution
+pub mod RequestsSent
+pub mod RequestsTaken

@@ -1,0 +1,11 @@
+pub mod Sets
+pub mod Links
+pub mod Units
+pub mod Marks
+pub mod BlockState
+pub mod RepliesSent
+pub mod Serving
+pub mod RepliesTaken
+pub mod Execution
+pub mod RequestsSent
+pub mod RequestsTaken

@@ -1,0 +1,55 @@
+//! The links of a kind of message that lead away from units, and to which units something has been put on its way.
+
+ghost use Rattle.std.specs.Prelude.{◌≡◌, ℕ, ◌<◌, true, None, is_some, length, slice_index_or, slice_set};
+ghost use Rattle.ultra_units.specs.Set.{has_unit};
+ghost use Rattle.ultra_section.specs.Links.{leads, put_on};
+
+use ultra_units::UnitSet;
+
+/// Links by their numbers, each with the message on it, and the units to which messages lead.
+#[derive(Drop)]
+pub(crate) struct Links<M> {
+    /// By the link's number, what is on it.
+    pub(crate) table: Vec<Option<M>>,
+    /// At least the units here to which a message leads.
+    pub(crate) came: UnitSet,
+    /// At least the units elsewhere to which one leads.
+    pub(crate) away: UnitSet,
+}
+
+impl<M: Copy> Links<M> {
+    /// Puts a message, if there is one, on a link, which leads to the unit `target`. `here` are the units that stand here.
+    #[inline(always)]
+    pub(crate) fn put(&mut self, here: &UnitSet, link: usize, target: usize, message: Option<M>)
+        requires link { link < length self.old.table.items }
+        requires target { target < 320 }
+        ensures table { self.new.table.items ≡ put_on self.old.table.items link message }
+        ensures leads { is_some message ≡ true → leads (has_unit here.now target) (has_unit self.new.came target) (has_unit self.new.away target) ≡ true }
+        ensures came { (k : ℕ) → has_unit self.old.came k ≡ true → has_unit self.new.came k ≡ true }
+        ensures away { (k : ℕ) → has_unit self.old.away k ≡ true → has_unit self.new.away k ≡ true }
+    {
+        if message.is_none() {
+            return;
+        }
+        self.table[link] = message;
+        if here.has(target) {
+            self.came.insert(target);
+        } else {
+            self.away.insert(target);
+        }
+    }
+
+    /// Takes what is on a link.
+    #[inline(always)]
+    pub(crate) fn take(&mut self, link: usize) -> Option<M>
+        requires { link < length self.old.table.items }
+        ensures value { result ≡ slice_index_or self.old.table.items link None }
+        ensures table { self.new.table.items ≡ slice_set self.old.table.items link None }
+        ensures came { self.new.came ≡ self.old.came }
+        ensures away { self.new.away ≡ self.old.away }
+    {
+        let message = self.table[link];
+        self.table[link] = None;
+        message
+    }
+}
