@@ -1,0 +1,160 @@
+-- the six halves of a cycle of a machine of d stages, and what happens in each
+use Rattle.std.specs.Prelude.{ℕ, ◌+◌, ◌-◌, ◌*◌, ◌/◌, ◌%◌, ◌^◌, List, ◌++◌, Bool, true, false, ◌==◌, nat_lt, Option, Some, None, slice_get}
+use Rattle.ultra_msg.specs.declared.Request.{Request}
+use Rattle.ultra_msg.specs.declared.ReplyMessage.{ReplyMessage}
+use Rattle.ultra_msg.specs.declared.Event.{Event}
+use Rattle.ultra_route.specs.Route.{shuffled, unshuffled, bit_of}
+use Rattle.ultra_switch.specs.declared.Ports.{Ports}
+use Rattle.ultra_mem.specs.Serve.{serve, served}
+use Rattle.ultra_isa.specs.declared.Instr.{Instr}
+use Rattle.ultra_model.specs.declared.Stop.{Stop}
+use Rattle.ultra_model.specs.Places.{places, present, joined}
+use Rattle.ultra_model.specs.Phases.{delivery, without_reply, serving, issue_event, stop_of}
+use Rattle.ultra_units.specs.Numbers.{switch_number, switch_count, place_number, reply_source, request_source}
+use Rattle.ultra_halves.specs.Halves.{ports, where_room}
+use Rattle.ultra_halves.specs.Switches.{replies_leaving, without_replies, after_replies, request_heads, requests_leaving, without_requests, after_requests, combinations_of}
+use Rattle.ultra_halves.specs.Modules.{bank_with}
+use Rattle.ultra_halves.specs.Elements.{element_of, delivered_to, element_without, step_at, executed}
+use Rattle.ultra_halves.specs.declared.elements.ProcessingElement.{ProcessingElement}
+use Rattle.ultra_course.specs.Ports.{at_port}
+use Rattle.ultra_course.specs.Frame.{Frame, Rooms, rooms_of}
+
+abbrev pub pending_head : ProcessingElement → Option Request
+pending_head e = slice_get e.interface.interface.pending 0
+
+module _ (d : ℕ) where
+  -- what there is of switch k of stage s, by the number of the switch
+  abbrev pub at_switch : {X : Type 0} → (ℕ → ℕ → X) → ℕ → X
+  at_switch g n = g (n / 2 ^ (d - 1)) (n % 2 ^ (d - 1))
+
+  -- what leaves the switches and, behind them, the modules or the processing elements, by the number of the link
+  abbrev pub on_links : {X : Type 0} → (ℕ → Ports X) → (ℕ → X) → ℕ → X
+  on_links g h l = elim (nat_lt l (d * 2 ^ d)) [ true ↦ at_port (g (l / 2)) (l % 2) | false ↦ h (l - d * 2 ^ d) ]
+
+  -- ---- replies
+  -- whether a reply at PE-side position y of stage s goes on: to its processing element always, and else where the switch before has room
+  abbrev pub reply_goes : Rooms → ℕ → ℕ → Bool
+  reply_goes rooms s y = elim (s == 0) [ true ↦ true | false ↦ rooms.reply (switch_number d (s - 1) (unshuffled d y / 2)) ]
+
+  -- the replies that leave switch n, and the one that leaves module m
+  abbrev pub replies_from : Rooms → Frame → ℕ → Ports (Option ReplyMessage)
+  replies_from rooms f n = at_switch (λ s k. replies_leaving (ports (reply_goes rooms s (2 * k)) (reply_goes rooms s (2 * k + 1))) (f.switch n)) n
+
+  abbrev pub reply_from : Rooms → Frame → ℕ → Option ReplyMessage
+  reply_from rooms f m = where_room (rooms.reply (switch_number d (d - 1) (m / 2))) (f.bank m).out
+
+  abbrev pub sends_replies : Rooms → Frame → Frame
+  sends_replies rooms f = record f {
+    switch = λ n. without_replies (f.switch n) (replies_from rooms f n);
+    bank = λ m. without_reply (f.bank m) (reply_from rooms f m);
+    replies = λ l. on_links (λ n. replies_from rooms f n) (λ m. reply_from rooms f m) l;
+  }
+
+  -- the replies on the links to switch n, and the one on the link to processing element p
+  abbrev pub replies_to : Frame → ℕ → Ports (Option ReplyMessage)
+  replies_to f n = at_switch (λ s k. ports (f.replies (reply_source d s (2 * k))) (f.replies (reply_source d s (2 * k + 1)))) n
+
+  abbrev pub reply_to : Frame → ℕ → Option ReplyMessage
+  reply_to f p = f.replies (place_number d 0 (shuffled d p))
+
+  abbrev pub takes_replies : Frame → Frame
+  takes_replies f = record f {
+    switch = λ n. at_switch (λ s k. after_replies d s (f.switch n) (replies_to f n)) n;
+    element = λ p. delivered_to (f.element p) (reply_to f p);
+    replies = λ l. None;
+  }
+
+  unfoldable pub deliveries : Frame → List Event
+  deliveries f = present (places (2 ^ d) (λ p. delivery (reply_to f p)))
+
+  -- ---- memory
+  abbrev pub serves : Frame → Frame
+  serves f = record f { bank = λ m. serve (f.bank m) }
+
+  unfoldable pub servings : Frame → List Event
+  servings f = present (places (2 ^ d) (λ m. serving m (served (f.bank m))))
+
+  -- ---- requests
+  -- whether a request that comes to PE-side position y of stage s finds room in the queue that it goes to
+  abbrev pub finds_room : Rooms → ℕ → ℕ → Option Request → Bool
+  finds_room rooms s y None = false
+  finds_room rooms s y (Some r) = rooms.request (switch_number d s (y / 2)) (bit_of (d - 1 - s) (r.cell % 2 ^ d))
+
+  -- whether a request at memory-side position x of stage s goes on, to its module or to the next stage
+  abbrev pub request_goes : Rooms → ℕ → ℕ → Option Request → Bool
+  request_goes rooms s x o = elim (s == d - 1) [ true ↦ rooms.bank x | false ↦ finds_room rooms (s + 1) (shuffled d x) o ]
+
+  -- the requests that leave switch n, and the one that leaves processing element p
+  abbrev pub requests_from : Rooms → Frame → ℕ → Ports (Option Request)
+  requests_from rooms f n =
+      at_switch
+      (λ s k. requests_leaving (ports (request_goes rooms s (2 * k) (request_heads (f.switch n)).zero) (request_goes rooms s (2 * k + 1) (request_heads (f.switch n)).one)) (f.switch n)) n
+
+  abbrev pub request_from : Rooms → Frame → ℕ → Option Request
+  request_from rooms f p = where_room (finds_room rooms 0 (shuffled d p) (pending_head (f.element p))) (pending_head (f.element p))
+
+  abbrev pub sends_requests : Rooms → Frame → Frame
+  sends_requests rooms f = record f {
+    switch = λ n. without_requests (f.switch n) (requests_from rooms f n);
+    element = λ p. element_without (f.element p) (request_from rooms f p);
+    requests = λ l. on_links (λ n. requests_from rooms f n) (λ p. request_from rooms f p) l;
+  }
+
+  -- the requests on the links to switch n, and the one on the link to module m
+  abbrev pub requests_to : Frame → ℕ → Ports (Option Request)
+  requests_to f n = at_switch (λ s k. ports (f.requests (request_source d s (2 * k))) (f.requests (request_source d s (2 * k + 1)))) n
+
+  abbrev pub request_to : Frame → ℕ → Option Request
+  request_to f m = f.requests (place_number d (d - 1) m)
+
+  -- in cycle i
+  abbrev pub takes_requests : ℕ → Frame → Frame
+  takes_requests i f = record f {
+    switch = λ n. at_switch (λ s k. after_requests d s i (f.switch n) (requests_to f n)) n;
+    bank = λ m. bank_with (2 ^ d) (f.bank m) (request_to f m);
+    requests = λ l. None;
+  }
+
+  unfoldable pub combinations : ℕ → Frame → List Event
+  combinations i f = joined (places (switch_count d) (λ n. at_switch (λ s k. combinations_of d s k i (f.switch n) (requests_to f n)) n))
+
+  -- ---- processors
+  abbrev pub executes : List Instr → Frame → Frame
+  executes program f = record f { element = λ p. executed program (f.element p) }
+
+  unfoldable pub issues : List Instr → Frame → List Event
+  issues program f = present (places (2 ^ d) (λ p. issue_event (element_of (f.element p)) (step_at program (f.element p)).sent))
+
+  unfoldable pub stops : List Instr → Frame → List Stop
+  stops program f = present (places (2 ^ d) (λ p. stop_of p (step_at program (f.element p)).was))
+
+  -- ---- a cycle, half by half
+  abbrev pub with_replies_sent : Frame → Frame
+  with_replies_sent f = sends_replies (rooms_of f) f
+
+  abbrev pub with_replies_taken : Frame → Frame
+  with_replies_taken f = takes_replies (with_replies_sent f)
+
+  abbrev pub with_memory_served : Frame → Frame
+  with_memory_served f = serves (with_replies_taken f)
+
+  abbrev pub with_requests_sent : Frame → Frame
+  with_requests_sent f = sends_requests (rooms_of (with_memory_served f)) (with_memory_served f)
+
+  -- cycle i
+  abbrev pub with_requests_taken : ℕ → Frame → Frame
+  with_requests_taken i f = takes_requests i (with_requests_sent f)
+
+  abbrev pub after_cycle : ℕ → List Instr → Frame → Frame
+  after_cycle i program f = executes program (with_requests_taken i f)
+
+  -- what happens in it: deliveries by processing element, servings by module, combinations by stage, position and arrival, issues by processing element
+  abbrev pub events_of : ℕ → List Instr → Frame → List Event
+  events_of i program f =
+      deliveries (with_replies_sent f)
+      ++ servings (with_replies_taken f)
+      ++ combinations i (with_requests_sent f)
+      ++ issues program (with_requests_taken i f)
+
+  abbrev pub stops_of : ℕ → List Instr → Frame → List Stop
+  stops_of i program f = stops program (with_requests_taken i f)

@@ -1,0 +1,5 @@
+pub mod Ports
+pub mod Frame
+pub mod Course
+pub mod Whole
+pub mod Conditions
