@@ -1,6 +1,6 @@
 -- the machine that the units of a frame make up, place by place
-use Rattle.std.proofs.Common.{◌≡◌, ℕ, zero, suc, ◌+◌, ◌*◌, ◌-◌, ◌/◌, ◌%◌, ◌^◌, ◌<◌, ◌≤◌, List, [], ◌∷◌, refl, arith, ap, ◌∙◌, sym, Bool, true, false, length}
-use Rattle.std.specs.Prelude.{map, nat_le, ◌&&◌}
+use Rattle.std.proofs.Common.{◌≡◌, ℕ, zero, suc, ◌+◌, ◌*◌, ◌-◌, ◌/◌, ◌%◌, ◌^◌, ◌<◌, List, [], ◌∷◌, refl, arith, ap, ◌∙◌, sym, length}
+use Rattle.std.specs.Prelude.{map, nat_le}
 use Rattle.std.specs.List.{range_with_len}
 use Rattle.ultra_msg.specs.declared.ReplyMessage.{ReplyMessage}
 use Rattle.ultra_msg.specs.declared.Event.{Event}
@@ -16,7 +16,7 @@ use Rattle.ultra_model.specs.Ranges.{AreInRange}
 use Rattle.ultra_model.specs.Phases as phase
 use Rattle.ultra_model.proofs.Each.{places_at, table_at}
 use Rattle.ultra_units.specs.Numbers.{switch_number}
-use Rattle.ultra_halves.specs.Halves.{ports, has_place_for}
+use Rattle.ultra_halves.specs.Halves.{has_place_for}
 use Rattle.ultra_halves.specs.Elements.{element_of}
 use Rattle.ultra_course.specs.Ports.{at_port}
 use Rattle.ultra_course.specs.Frame.{Frame, rooms_of}

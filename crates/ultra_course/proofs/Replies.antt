@@ -22,7 +22,7 @@ use Rattle.ultra_halves.specs.Switches.{replies_leaving, after_replies}
 use Rattle.ultra_halves.specs.Elements.{element_of}
 use Rattle.ultra_course.specs.Ports.{at_port}
 use Rattle.ultra_course.specs.Frame.{Frame, Rooms, rooms_of}
-use Rattle.ultra_course.specs.Course.{reply_goes, replies_from, reply_from, replies_to, reply_to, takes_replies, deliveries, with_replies_sent, with_replies_taken}
+use Rattle.ultra_course.specs.Course.{reply_goes, replies_from, reply_from, replies_to, reply_to, deliveries, with_replies_sent, with_replies_taken}
 use Rattle.ultra_course.specs.Whole.{sized_lane, sized_replies, whole, Fits}
 use Rattle.ultra_course.proofs.Numbers.{pick_true, pick_false, at_two, at_both, at_places, at_even, at_odd, at_number, at_link, behind}
 use Rattle.ultra_course.proofs.AtFrame.{same_places, same_table, same_machine, lane_is, replies_is, bank_is, element_is, half_small, even_small, odd_small, reply_room_is}

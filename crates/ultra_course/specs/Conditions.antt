@@ -1,5 +1,5 @@
 -- what the units ask of the halves that take messages
-use Rattle.std.specs.Prelude.{◌≡◌, ℕ, ◌-◌, ◌/◌, ◌%◌, ◌^◌, ◌<◌, length, None}
+use Rattle.std.specs.Prelude.{◌≡◌, ℕ, ◌-◌, ◌/◌, ◌^◌, ◌<◌, length, None}
 use Rattle.std.specs.Option.{ForSome}
 use Rattle.ultra_units.specs.Numbers.{switch_count}
 use Rattle.ultra_halves.specs.Switches as switch

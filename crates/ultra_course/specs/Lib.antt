@@ -3,3 +3,4 @@ pub mod Frame
 pub mod Course
 pub mod Whole
 pub mod Conditions
+pub mod Law
