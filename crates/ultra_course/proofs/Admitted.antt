@@ -10,6 +10,7 @@ use Rattle.ultra_msg.specs.declared.Request.{Request}
 use Rattle.ultra_msg.specs.declared.ReplyMessage.{ReplyMessage}
 use Rattle.ultra_msg.specs.declared.Event.{Event}
 use Rattle.ultra_route.specs.Route.{bit_of}
+use Rattle.ultra_switch.specs.declared.Switch.{Switch}
 use Rattle.ultra_switch.specs.declared.Entry.{Entry}
 use Rattle.ultra_switch.specs.Queues.{request_of}
 use Rattle.ultra_mem.specs.declared.Placed.{Placed}
@@ -25,11 +26,13 @@ use Rattle.ultra_model.proofs.Interfaces.{delivered_waiting}
 use Rattle.ultra_units.specs.Numbers.{switch_number}
 use Rattle.ultra_halves.specs.Halves.{leaves_by}
 use Rattle.ultra_halves.specs.Switches as switch
-use Rattle.ultra_course.specs.Frame.{Frame, Rooms, rooms_of}
-use Rattle.ultra_course.specs.Course.{replies_from, replies_to, requests_from, requests_to, request_to, sends_requests, with_replies_sent}
+use Rattle.ultra_halves.specs.Switches.{without_replies, without_requests}
+use Rattle.ultra_halves.specs.Elements.{element_of}
+use Rattle.ultra_course.specs.Frame.{Frame, Rooms, rooms_of, AreRooms, AreAlike}
+use Rattle.ultra_course.specs.Course.{replies_from, replies_to, requests_from, requests_to, request_to, sends_replies, sends_requests}
 use Rattle.ultra_course.specs.Whole.{whole, Fits}
 use Rattle.ultra_course.specs.Conditions.{CanTakeReplies, CanTakeRequests, CanExecute}
-use Rattle.ultra_course.proofs.Numbers.{at_number, each_number}
+use Rattle.ultra_course.proofs.Numbers.{at_number, number_small, each_number}
 use Rattle.ultra_course.proofs.AtFrame.{even_small, odd_small, bank_is, element_is, reply_room_is}
 use Rattle.ultra_course.proofs.Replies as reply
 use Rattle.ultra_course.proofs.Requests as request
@@ -67,46 +70,44 @@ module _ (c : Settings) (f : Frame) (n : ℕ) (events : List Event) (stops : Lis
   abbrev d : ℕ
   d = c.stages
 
-  abbrev rooms : Rooms
-  rooms = rooms_of f
-
-  -- ---- replies
-  abbrev replied : Frame
-  replied = with_replies_sent d f
-
   arrives_room : (s x : ℕ) (r : ReplyMessage) → arriving_reply c m s x ≡ Some r → has_reply_room c m s (x / 2) ≡ true
   unfolding arriving_reply
   arrives_room s x r e = (let_through (has_reply_room c m s (x / 2)) (reply_before c m s x) r e).0
 
-  room_after : (s k x : ℕ) (r : ReplyMessage) → s < d → k < 2 ^ (d - 1) → x / 2 ≡ k → arriving_reply c m s x ≡ Some r → IsTrue (switch.has_reply_room (replied.switch (switch_number d s k)))
-  room_after s k x r hs hk e came =
-      let w = f.switch (switch_number d s k) in
-      let out = replies_from d rooms f (switch_number d s k) in
-      both_still _ _ _ _ (still_room 4 w.to_pe.zero.places out.zero w.to_pe.zero.replies) (still_room 4 w.to_pe.one.places out.one w.to_pe.one.replies)
-      (reply_room_is c f n events stops range fits s k hs hk ∙ ap (λ k. has_reply_room c m s k) (sym e) ∙ arrives_room s x r came)
-
-  switch_takes_replies : (s k : ℕ) → s < d → k < 2 ^ (d - 1) → switch.CanTakeReplies (replied.switch (switch_number d s k)) (replies_to d replied (switch_number d s k))
-  switch_takes_replies s k hs hk =
-      subst (λ o. switch.CanTakeReplies (replied.switch (switch_number d s k)) o) (sym (reply.arrived_is c f n events stops range fits s k hs hk)) record {
-        zero = λ r came. room_after s k (2 * k) r hs hk (omega arith) came;
-        one = λ r came. room_after s k (2 * k + 1) r hs hk (omega arith) came;
-      }
-
   abbrev waits : Element → Type 0
   waits v = length v.interface.pending < length v.interface.opened
 
-  pub can_take_replies : IsSound c m → CanTakeReplies d replied
-  can_take_replies sound = record {
-    switches = each_number d (λ n. switch.CanTakeReplies (replied.switch n) (replies_to d replied n)) switch_takes_replies;
-    elements = λ p hp r e.
-        let came = sym (reply.comes_home c f n events stops range fits p hp) ∙ e in
-        subst waits (element_is c f n events stops p hp) (if_some (λ r. waits (element_at m p)) (delivered c m p) r (delivered_waiting c range m sound.routes sound.balance p hp) came);
-  }
+  module _ (rooms : Rooms) (noted : AreRooms d f rooms) (sent : Frame) (as_sent : AreAlike d sent (sends_replies d rooms f)) where
+    -- a switch after its replies left
+    abbrev left : ℕ → Switch
+    left q = without_replies (f.switch q) (replies_from d rooms f q)
+
+    room_after : (s k x : ℕ) (r : ReplyMessage) → s < d → k < 2 ^ (d - 1) → x / 2 ≡ k → arriving_reply c m s x ≡ Some r → IsTrue (switch.has_reply_room (left (switch_number d s k)))
+    room_after s k x r hs hk e came =
+        let w = f.switch (switch_number d s k) in
+        let out = replies_from d rooms f (switch_number d s k) in
+        both_still _ _ _ _ (still_room 4 w.to_pe.zero.places out.zero w.to_pe.zero.replies) (still_room 4 w.to_pe.one.places out.one w.to_pe.one.replies)
+        (sym (noted.reply (switch_number d s k) (number_small d s k hs hk)) ∙ reply_room_is c f n events stops range fits rooms noted s k hs hk ∙ ap (λ k. has_reply_room c m s k) (sym e) ∙ arrives_room s x r came)
+
+    switch_takes_replies : (s k : ℕ) → s < d → k < 2 ^ (d - 1) → switch.CanTakeReplies (sent.switch (switch_number d s k)) (replies_to d sent (switch_number d s k))
+    switch_takes_replies s k hs hk =
+        let q = switch_number d s k in
+        subst (λ w. switch.CanTakeReplies w (replies_to d sent q)) (sym (as_sent.switches q (number_small d s k hs hk)))
+        (subst (λ o. switch.CanTakeReplies (left q) o) (sym (reply.arrived_is c f n events stops range fits rooms noted sent as_sent s k hs hk)) record {
+          zero = λ r came. room_after s k (2 * k) r hs hk (omega arith) came;
+          one = λ r came. room_after s k (2 * k + 1) r hs hk (omega arith) came;
+        })
+
+    pub can_take_replies : IsSound c m → CanTakeReplies d sent
+    can_take_replies sound = record {
+      switches = each_number d (λ n. switch.CanTakeReplies (sent.switch n) (replies_to d sent n)) switch_takes_replies;
+      elements = λ p hp r e.
+          let came = sym (reply.comes_home c f n events stops range fits rooms noted sent as_sent p hp) ∙ e in
+          let here : waits (element_at m p) = if_some (λ r. waits (element_at m p)) (delivered c m p) r (delivered_waiting c range m sound.routes sound.balance p hp) came in
+          subst (λ e. waits (element_of e)) (sym (as_sent.elements p hp)) (subst waits (element_is c f n events stops p hp) here);
+    }
 
   -- ---- requests
-  abbrev requested : Frame
-  requested = sends_requests d rooms f
-
   admitted_room : (s y : ℕ) (o : Option Request) (r : Request) → admitted c m s y o ≡ Some r → has_request_room c m s (request_exit c s y r) ≡ true
   admitted_room s y None r e = cc
   admitted_room s y (Some q) r e =
@@ -118,49 +119,59 @@ module _ (c : Settings) (f : Frame) (n : ℕ) (events : List Event) (stops : Lis
   unfolding arriving_request
   arrives_way s y r e = admitted_room s y (request_before c m s y) r e
 
-  -- room by the port by which it leaves
-  way : (s y j : ℕ) (r : Request) → s < d → y < size c → arriving_request c m s y ≡ Some r → leaves_by d s j r ≡ true → rooms.request (switch_number d s (y / 2)) j ≡ true
-  way s y j r hs hy came l =
-      let bit : bit_of (d - 1 - s) (r.cell % 2 ^ d) ≡ j = eqb-true _ _ l in
-      ap (λ j. rooms.request (switch_number d s (y / 2)) j) (sym bit) ∙ request.room_is c f n events stops range fits s y r hs hy ∙ arrives_way s y r came
-
-  has_way : (s k y : ℕ) (r : Request) → s < d → y < size c → y / 2 ≡ k → arriving_request c m s y ≡ Some r → switch.HasWay d s (requested.switch (switch_number d s k)) r
-  has_way s k y r hs hy e came =
-      let w = f.switch (switch_number d s k) in
-      let out = requests_from d rooms f (switch_number d s k) in
-      let at : ℕ → ℕ → Bool = λ k j. rooms.request (switch_number d s k) j in (
-        λ l. still_room 2 w.to_mm.zero.request_places out.zero w.to_mm.zero.lane.queue (ap (λ k. at k 0) (sym e) ∙ way s y 0 r hs hy came l),
-        λ l. still_room 2 w.to_mm.one.request_places out.one w.to_mm.one.lane.queue (ap (λ k. at k 1) (sym e) ∙ way s y 1 r hs hy came l),
-      )
-
-  switch_takes_requests : (s k : ℕ) → s < d → k < 2 ^ (d - 1) → switch.CanTakeRequests d s (requested.switch (switch_number d s k)) (requests_to d requested (switch_number d s k))
-  switch_takes_requests s k hs hk =
-      subst (λ o. switch.CanTakeRequests d s (requested.switch (switch_number d s k)) o) (sym (request.arrived_is c f n events stops range fits s k hs hk)) record {
-        zero = λ r came. has_way s k (2 * k) r hs (even_small c range k hk) (omega arith) came;
-        one = λ r came. has_way s k (2 * k + 1) r hs (odd_small c range k hk) (omega arith) came;
-      }
-
   head_routed : (k : ℕ) (es : List Entry) (r : Request) → AllByRecursion (IsEntryAt c (last_stage c) k) es → request_of (slice_get es 0) ≡ Some r → r.cell < size c * c.cells
   head_routed k [] r a e = cc
   head_routed k (x ∷ xs) r a e = let same : x.request ≡ r = cc in subst (λ (q : Request). q.cell < size c * c.cells) same a.0.reference.cell
 
-  enters : (k : ℕ) (r : Request) → k < size c → request_to d requested k ≡ Some r → ((bank_at m k).inp ≡ None) × (request_of (slice_get (lane_at m (last_stage c) k).queue 0) ≡ Some r)
-  enters k r hk e = entering_cases (bank_at m k).inp (request_of (slice_get (lane_at m (last_stage c) k).queue 0)) r (sym (request.comes_in c f n events stops range fits k hk) ∙ e)
+  module _ (rooms : Rooms) (noted : AreRooms d f rooms) (sent : Frame) (as_sent : AreAlike d sent (sends_requests d rooms f)) where
+    -- a switch after its requests left
+    abbrev gone : ℕ → Switch
+    gone q = without_requests (f.switch q) (requests_from d rooms f q)
 
-  pub can_take_requests : IsSound c m → CanTakeRequests d requested
-  can_take_requests sound = record {
-    switches = each_number d (λ n. switch.CanTakeRequests d (n / 2 ^ (d - 1)) (requested.switch n) (requests_to d requested n))
-        (λ s k hs hk. let q = switch_number d s k in
-        subst (λ s. switch.CanTakeRequests d s (requested.switch q) (requests_to d requested q)) (sym (at_number d (λ s k. s) s k hk)) (switch_takes_requests s k hs hk));
-    within = λ k hk r e.
-        let some : 0 < size c = pow_pos d in
-        let some_stages = range.some_stages in
-        let cell = head_routed k (lane_at m (last_stage c) k).queue r (sound.routes.requests (last_stage c) k (omega (arith, some_stages)) hk) (enters k r hk e).1 in
-        let below : r.cell / size c < c.cells = (div-lt_iff_lt-mul some).1 (omega (arith, cell)) in
-        let cells = fits.modules k hk in
-        omega (arith, below, cells);
-    empty = λ k hk r e. ap (λ (b : Bank). b.inp) (sym (bank_is c f n events stops k hk)) ∙ (enters k r hk e).0;
-  }
+    -- room by the port by which a request leaves
+    way : (s y j : ℕ) (r : Request) → s < d → y < size c → arriving_request c m s y ≡ Some r → leaves_by d s j r ≡ true → rooms.request (switch_number d s (y / 2)) j ≡ true
+    way s y j r hs hy came l =
+        let bit : bit_of (d - 1 - s) (r.cell % 2 ^ d) ≡ j = eqb-true _ _ l in
+        ap (λ j. rooms.request (switch_number d s (y / 2)) j) (sym bit) ∙ request.room_is c f n events stops range fits rooms noted sent as_sent s y r hs hy ∙ arrives_way s y r came
+
+    has_way : (s k y : ℕ) (r : Request) → s < d → k < 2 ^ (d - 1) → y < size c → y / 2 ≡ k → arriving_request c m s y ≡ Some r → switch.HasWay d s (gone (switch_number d s k)) r
+    has_way s k y r hs hk hy e came =
+        let q = switch_number d s k in
+        let w = f.switch q in
+        let out = requests_from d rooms f q in
+        let room : (j : ℕ) → j < 2 → leaves_by d s j r ≡ true → (rooms_of f).request q j ≡ true =
+        λ j hj l. sym (noted.request q j (number_small d s k hs hk) hj) ∙ ap (λ k. rooms.request (switch_number d s k) j) (sym e) ∙ way s y j r hs hy came l in (
+          λ l. still_room 2 w.to_mm.zero.request_places out.zero w.to_mm.zero.lane.queue (room 0 (omega arith) l),
+          λ l. still_room 2 w.to_mm.one.request_places out.one w.to_mm.one.lane.queue (room 1 (omega arith) l),
+        )
+
+    switch_takes_requests : (s k : ℕ) → s < d → k < 2 ^ (d - 1) → switch.CanTakeRequests d s (sent.switch (switch_number d s k)) (requests_to d sent (switch_number d s k))
+    switch_takes_requests s k hs hk =
+        let q = switch_number d s k in
+        subst (λ w. switch.CanTakeRequests d s w (requests_to d sent q)) (sym (as_sent.switches q (number_small d s k hs hk)))
+        (subst (λ o. switch.CanTakeRequests d s (gone q) o) (sym (request.arrived_is c f n events stops range fits rooms noted sent as_sent s k hs hk)) record {
+          zero = λ r came. has_way s k (2 * k) r hs hk (even_small c range k hk) (omega arith) came;
+          one = λ r came. has_way s k (2 * k + 1) r hs hk (odd_small c range k hk) (omega arith) came;
+        })
+
+    enters : (k : ℕ) (r : Request) → k < size c → request_to d sent k ≡ Some r → ((bank_at m k).inp ≡ None) × (request_of (slice_get (lane_at m (last_stage c) k).queue 0) ≡ Some r)
+    enters k r hk e =
+        entering_cases (bank_at m k).inp (request_of (slice_get (lane_at m (last_stage c) k).queue 0)) r (sym (request.comes_in c f n events stops range fits rooms noted sent as_sent k hk) ∙ e)
+
+    pub can_take_requests : IsSound c m → CanTakeRequests d sent
+    can_take_requests sound = record {
+      switches = each_number d (λ n. switch.CanTakeRequests d (n / 2 ^ (d - 1)) (sent.switch n) (requests_to d sent n))
+          (λ s k hs hk. let q = switch_number d s k in
+          subst (λ s. switch.CanTakeRequests d s (sent.switch q) (requests_to d sent q)) (sym (at_number d (λ s k. s) s k hk)) (switch_takes_requests s k hs hk));
+      within = λ k hk r e.
+          let some : 0 < size c = pow_pos d in
+          let some_stages = range.some_stages in
+          let cell = head_routed k (lane_at m (last_stage c) k).queue r (sound.routes.requests (last_stage c) k (omega (arith, some_stages)) hk) (enters k r hk e).1 in
+          let below : r.cell / size c < c.cells = (div-lt_iff_lt-mul some).1 (omega (arith, cell)) in
+          let cells = ap (λ (b : Bank). length b.cells) (as_sent.banks k hk) ∙ fits.modules k hk in
+          omega (arith, below, cells);
+      empty = λ k hk r e. ap (λ (b : Bank). b.inp) (as_sent.banks k hk ∙ sym (bank_is c f n events stops k hk)) ∙ (enters k r hk e).0;
+    }
 
   -- ---- processors
   pub can_execute : n < 2 ^ 32 - 1 → CanExecute d f

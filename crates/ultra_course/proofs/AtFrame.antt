@@ -19,7 +19,7 @@ use Rattle.ultra_units.specs.Numbers.{switch_number}
 use Rattle.ultra_halves.specs.Halves.{has_place_for}
 use Rattle.ultra_halves.specs.Elements.{element_of}
 use Rattle.ultra_course.specs.Ports.{at_port}
-use Rattle.ultra_course.specs.Frame.{Frame, rooms_of}
+use Rattle.ultra_course.specs.Frame.{Frame, Rooms, AreRooms, AreAlike}
 use Rattle.ultra_course.specs.Whole.{sized_lane, sized_replies, whole, emptied, empty_switch, Fits}
 use Rattle.ultra_course.proofs.Numbers.{at_two, at_even, at_odd, number_small}
 
@@ -93,20 +93,35 @@ module _ (c : Settings) (f : Frame) (n : ℕ) (events : List Event) (stops : Lis
     pub sizes_of : (s k j : ℕ) → s < c.stages → k < 2 ^ (c.stages - 1) → AreSizes c (f.switch (switch_number c.stages s k)) j
     sizes_of s k j hs hk = sizes_at c (f.switch (switch_number c.stages s k)) j (fits.switches (switch_number c.stages s k) (number_small c.stages s k hs hk))
 
-    -- ---- rooms, by the definition and by the units
-    pub reply_room_is : (s k : ℕ) → s < c.stages → k < 2 ^ (c.stages - 1) → (rooms_of f).reply (switch_number c.stages s k) ≡ phase.has_reply_room c m s k
-    reply_room_is s k hs hk =
-        let w = f.switch (switch_number c.stages s k) in
-        let queue : ℕ → ℕ → List ReplyMessage = λ k j. (at_port (f.switch (switch_number c.stages s k)).to_pe j).replies in
-        let even : replies_at m s (2 * k) ≡ w.to_pe.zero.replies = replies_is s (2 * k) hs (even_small c range k hk) ∙ at_even queue k in
-        let odd : replies_at m s (2 * k + 1) ≡ w.to_pe.one.replies = replies_is s (2 * k + 1) hs (odd_small c range k hk) ∙ at_odd queue k in
-        let zero_places : w.to_pe.zero.places ≡ c.reply_places = (sizes_of s k 0 hs hk).replies in
-        let one_places : w.to_pe.one.places ≡ c.reply_places = (sizes_of s k 1 hs hk).replies in
-        rw (even, odd, zero_places, one_places) refl
+    -- ---- rooms, by the definition and as they are noted
+    module _ (rooms : Rooms) (noted : AreRooms c.stages f rooms) where
+      pub reply_room_is : (s k : ℕ) → s < c.stages → k < 2 ^ (c.stages - 1) → rooms.reply (switch_number c.stages s k) ≡ phase.has_reply_room c m s k
+      reply_room_is s k hs hk =
+          let w = f.switch (switch_number c.stages s k) in
+          let queue : ℕ → ℕ → List ReplyMessage = λ k j. (at_port (f.switch (switch_number c.stages s k)).to_pe j).replies in
+          let even : replies_at m s (2 * k) ≡ w.to_pe.zero.replies = replies_is s (2 * k) hs (even_small c range k hk) ∙ at_even queue k in
+          let odd : replies_at m s (2 * k + 1) ≡ w.to_pe.one.replies = replies_is s (2 * k + 1) hs (odd_small c range k hk) ∙ at_odd queue k in
+          let zero_places : w.to_pe.zero.places ≡ c.reply_places = (sizes_of s k 0 hs hk).replies in
+          let one_places : w.to_pe.one.places ≡ c.reply_places = (sizes_of s k 1 hs hk).replies in
+          noted.reply (switch_number c.stages s k) (number_small c.stages s k hs hk) ∙ rw (even, odd, zero_places, one_places) refl
 
-    pub request_room_is : (s x : ℕ) → s < c.stages → x < size c → (rooms_of f).request (switch_number c.stages s (x / 2)) (x % 2) ≡ phase.has_request_room c m s x
-    request_room_is s x hs hx =
-        let w = f.switch (switch_number c.stages s (x / 2)) in
-        at_two (λ (l : SizedLane) (k : SizedLane). has_place_for 2 l) w.to_mm w.to_mm (x % 2)
-        ∙ ap (λ n. nat_le (length (sized_lane c f s x).lane.queue + 2) n) (sizes_of s (x / 2) (x % 2) hs (half_small c range x hx)).requests
-        ∙ ap (λ (l : Lane). nat_le (length l.queue + 2) c.request_places) (sym (lane_is s x hs hx))
+      pub request_room_is : (s x : ℕ) → s < c.stages → x < size c → rooms.request (switch_number c.stages s (x / 2)) (x % 2) ≡ phase.has_request_room c m s x
+      request_room_is s x hs hx =
+          let n = switch_number c.stages s (x / 2) in
+          noted.request n (x % 2) (number_small c.stages s (x / 2) hs (half_small c range x hx)) (omega arith)
+          ∙ at_two (λ (l : SizedLane) (k : SizedLane). has_place_for 2 l) (f.switch n).to_mm (f.switch n).to_mm (x % 2)
+          ∙ ap (λ n. nat_le (length (sized_lane c f s x).lane.queue + 2) n) (sizes_of s (x / 2) (x % 2) hs (half_small c range x hx)).requests
+          ∙ ap (λ (l : Lane). nat_le (length l.queue + 2) c.request_places) (sym (lane_is s x hs hx))
+
+-- ---- frames that are alike
+module _ (c : Settings) (range : AreInRange c) (f g : Frame) (a : AreAlike c.stages f g) where
+  pub alike_at : {X : Type 0} (h : Switch → X) (s x : ℕ) → s < c.stages → x < size c → h (f.switch (switch_number c.stages s (x / 2))) ≡ h (g.switch (switch_number c.stages s (x / 2)))
+  alike_at h s x hs hx = ap h (a.switches (switch_number c.stages s (x / 2)) (number_small c.stages s (x / 2) hs (half_small c range x hx)))
+
+  pub whole_alike : (n : ℕ) (events : List Event) (stops : List Stop) → whole c f n events stops ≡ whole c g n events stops
+  unfolding whole
+  whole_alike n events stops =
+      let lanes = same_table c.stages (size c) (λ s x. (sized_lane c f s x).lane) (λ s x. (sized_lane c g s x).lane) (λ s x. alike_at (λ w. (at_port w.to_mm (x % 2)).lane) s x) in
+      let queues = same_table c.stages (size c) (λ s y. (sized_replies c f s y).replies) (λ s y. (sized_replies c g s y).replies) (λ s y. alike_at (λ w. (at_port w.to_pe (y % 2)).replies) s y) in
+      let elements = same_places (size c) (λ p. element_of (f.element p)) (λ p. element_of (g.element p)) (λ p hp. ap (λ e. element_of e) (a.elements p hp)) in
+      same_machine n lanes queues (same_places (size c) (λ k. f.bank k) (λ k. g.bank k) a.banks) elements refl refl

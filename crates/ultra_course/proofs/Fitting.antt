@@ -1,5 +1,5 @@
 -- every half of a cycle keeps the sizes of the units
-use Rattle.std.proofs.Common.{◌≡◌, ℕ, ◌+◌, ◌^◌, ◌≤◌, List, refl, arith, ◌∙◌, length}
+use Rattle.std.proofs.Common.{◌≡◌, ℕ, ◌+◌, ◌^◌, ◌≤◌, List, refl, arith, ap, ◌∙◌, sym, subst, length}
 use Rattle.std.specs.Prelude.{Option, Some, None}
 use Rattle.ultra_msg.specs.declared.Request.{Request}
 use Rattle.ultra_msg.specs.declared.ReplyMessage.{ReplyMessage}
@@ -11,9 +11,9 @@ use Rattle.ultra_model.specs.Phases.{without_reply, issues_after}
 use Rattle.ultra_halves.specs.Modules.{bank_with}
 use Rattle.ultra_halves.specs.Elements.{delivered_to, step_at}
 use Rattle.ultra_halves.specs.declared.elements.ProcessingElement.{ProcessingElement}
-use Rattle.ultra_course.specs.Frame.{Frame, Rooms}
+use Rattle.ultra_course.specs.Frame.{Frame, Rooms, AreAlike}
 use Rattle.ultra_course.specs.Course.{reply_from, reply_to, sends_replies, takes_replies, serves, sends_requests, request_to, takes_requests, executes}
-use Rattle.ultra_course.specs.Whole.{Fits}
+use Rattle.ultra_course.specs.Whole.{emptied, FitsElement, Fits}
 
 cells_without : (b : Bank) (o : Option ReplyMessage) → length (without_reply b o).cells ≡ length b.cells
 cells_without b None = refl
@@ -31,35 +31,49 @@ one_more : (n : ℕ) (o : Option Request) → issues_after n o ≤ n + 1
 one_more n None = omega arith
 one_more n (Some r) = omega arith
 
-module _ (c : Settings) (n : ℕ) (f : Frame) (fits : Fits c n f) (rooms : Rooms) where
-  pub fits_replies : Fits c n (takes_replies c.stages (sends_replies c.stages rooms f))
-  fits_replies = record {
-    switches = fits.switches;
-    modules = λ k hk. cells_without (f.bank k) (reply_from c.stages rooms f k) ∙ fits.modules k hk;
-    elements = λ p hp.
-        let g = fits.elements p hp in
-        let same = delivered_issued (f.element p) (reply_to c.stages (sends_replies c.stages rooms f) p) in
-        let few = g.issued in
-        record { site = g.site; most_open = g.most_open; issued = omega (arith, same, few) };
+module _ (c : Settings) (n : ℕ) (f : Frame) where
+  pub fits_alike : (g : Frame) → AreAlike c.stages f g → Fits c n g → Fits c n f
+  fits_alike g a fits = record {
+    switches = λ k hk. ap (λ w. emptied w) (a.switches k hk) ∙ fits.switches k hk;
+    modules = λ k hk. ap (λ (b : Bank). length b.cells) (a.banks k hk) ∙ fits.modules k hk;
+    elements = λ p hp. subst (λ e. FitsElement c n p e) (sym (a.elements p hp)) (fits.elements p hp);
   }
 
-  pub fits_memory : Fits c n (serves c.stages f)
-  fits_memory = record { switches = fits.switches; modules = λ k hk. length-serve (f.bank k) ∙ fits.modules k hk; elements = fits.elements }
+  module _ (fits : Fits c n f) where
+    pub replies_sent : (rooms : Rooms) → Fits c n (sends_replies c.stages rooms f)
+    replies_sent rooms = record { switches = fits.switches; modules = λ k hk. cells_without (f.bank k) (reply_from c.stages rooms f k) ∙ fits.modules k hk; elements = fits.elements }
 
-  pub fits_requests : Fits c n (takes_requests c.stages n (sends_requests c.stages rooms f))
-  fits_requests = record {
-    switches = fits.switches;
-    modules = λ k hk. cells_with (2 ^ c.stages) (f.bank k) (request_to c.stages (sends_requests c.stages rooms f) k) ∙ fits.modules k hk;
-    elements = λ p hp. let g = fits.elements p hp in record { site = g.site; most_open = g.most_open; issued = g.issued };
-  }
+    pub replies_taken : Fits c n (takes_replies c.stages f)
+    replies_taken = record {
+      switches = fits.switches;
+      modules = fits.modules;
+      elements = λ p hp.
+          let g = fits.elements p hp in
+          let same = delivered_issued (f.element p) (reply_to c.stages f p) in
+          let few = g.issued in
+          record { site = g.site; most_open = g.most_open; issued = omega (arith, same, few) };
+    }
 
-  pub fits_steps : (program : List Instr) → Fits c (n + 1) (executes c.stages program f)
-  fits_steps program = record {
-    switches = fits.switches;
-    modules = fits.modules;
-    elements = λ p hp.
-        let g = fits.elements p hp in
-        let more = one_more (f.element p).issued (step_at program (f.element p)).sent in
-        let few = g.issued in
-        record { site = g.site; most_open = g.most_open; issued = omega (arith, more, few) };
-  }
+    pub memory_served : Fits c n (serves c.stages f)
+    memory_served = record { switches = fits.switches; modules = λ k hk. length-serve (f.bank k) ∙ fits.modules k hk; elements = fits.elements }
+
+    pub requests_sent : (rooms : Rooms) → Fits c n (sends_requests c.stages rooms f)
+    requests_sent rooms = record {
+      switches = fits.switches;
+      modules = fits.modules;
+      elements = λ p hp. let g = fits.elements p hp in record { site = g.site; most_open = g.most_open; issued = g.issued };
+    }
+
+    pub requests_taken : Fits c n (takes_requests c.stages n f)
+    requests_taken = record { switches = fits.switches; modules = λ k hk. cells_with (2 ^ c.stages) (f.bank k) (request_to c.stages f k) ∙ fits.modules k hk; elements = fits.elements }
+
+    pub steps_made : (program : List Instr) → Fits c (n + 1) (executes c.stages program f)
+    steps_made program = record {
+      switches = fits.switches;
+      modules = fits.modules;
+      elements = λ p hp.
+          let g = fits.elements p hp in
+          let more = one_more (f.element p).issued (step_at program (f.element p)).sent in
+          let few = g.issued in
+          record { site = g.site; most_open = g.most_open; issued = omega (arith, more, few) };
+    }

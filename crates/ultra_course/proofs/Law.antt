@@ -1,71 +1,54 @@
 -- a cycle in six halves is one cycle of the definition
-use Rattle.std.proofs.Common.{◌≡◌, ℕ, ◌+◌, List, [], ◌++◌, refl, ap, ◌∙◌, sym, subst}
+use Rattle.std.proofs.Common.{ℕ, ◌+◌, List, [], ◌++◌, ◌∙◌}
 use Rattle.ultra_msg.specs.declared.Event.{Event}
 use Rattle.ultra_isa.specs.declared.Instr.{Instr}
 use Rattle.ultra_model.specs.declared.Stop.{Stop}
 use Rattle.ultra_model.specs.Machine.{Settings, Machine}
-use Rattle.ultra_model.specs.Sound.{IsSound}
-use Rattle.ultra_model.specs.Phases.{reply_phase, memory_phase, request_phase, processor_phase, cycle}
-use Rattle.ultra_model.proofs.Sound.{sound-reply_phase, sound-memory_phase, cycle_is_sound}
-use Rattle.ultra_course.specs.Frame.{Frame, rooms_of}
-use Rattle.ultra_course.specs.Course.{deliveries, servings, combinations, with_replies_sent, with_replies_taken, with_memory_served, with_requests_sent, with_requests_taken, after_cycle, events_of, stops_of}
-use Rattle.ultra_course.specs.Whole.{whole, Fits}
-use Rattle.ultra_course.specs.Law.{IsReady, IsCycled, CycleLaw}
-use Rattle.ultra_course.proofs.Replies.{replies_are}
-use Rattle.ultra_course.proofs.Others.{memory_is, steps_are}
-use Rattle.ultra_course.proofs.Requests.{requests_are}
-use Rattle.ultra_course.proofs.Fitting.{fits_replies, fits_memory, fits_requests, fits_steps}
-use Rattle.ultra_course.proofs.Admitted.{can_take_replies, can_take_requests, can_execute}
+use Rattle.ultra_model.specs.Phases.{reply_phase, memory_phase, request_phase, cycle}
+use Rattle.ultra_course.specs.Course.{deliveries, servings, combinations}
+use Rattle.ultra_course.specs.Whole.{IsFrameOf}
+use Rattle.ultra_course.specs.Law.{Course, IsCourse, events_of, stops_of, IsCycled, CycleLaw}
+use Rattle.ultra_course.proofs.Steps as step
 
-module _ (c : Settings) (n : ℕ) (f : Frame) (events : List Event) (stops : List Stop) (program : List Instr) (ready : IsReady c n f events stops) where
-  abbrev m : Machine
-  m = whole c f n events stops
+module _ (c : Settings) (n : ℕ) (program : List Instr) (x : Course) (events : List Event) (stops : List Stop) (m : Machine) (w : IsFrameOf c n x.start events stops m) (k : IsCourse c.stages n program x) where
+  abbrev d : ℕ
+  d = c.stages
 
-  abbrev sent : Frame
-  sent = with_replies_sent c.stages f
+  abbrev m1 : Machine
+  m1 = reply_phase c m
 
-  abbrev replied : Frame
-  replied = with_replies_taken c.stages f
+  abbrev m2 : Machine
+  m2 = memory_phase c m1
 
-  abbrev served : Frame
-  served = with_memory_served c.stages f
-
-  abbrev requested : Frame
-  requested = with_requests_taken c.stages n f
+  abbrev m3 : Machine
+  m3 = request_phase c m2
 
   -- what is told until the memory has served
   abbrev told : List Event
-  told = deliveries c.stages sent ++ servings c.stages replied
+  told = deliveries d x.replies_sent ++ servings d x.replies_taken
 
-  fits_served : Fits c n served
-  fits_served = fits_memory c n replied (fits_replies c n f ready.fits (rooms_of f)) (rooms_of f)
+  replied : IsFrameOf c n x.replies_taken (deliveries d x.replies_sent) [] m1
+  replied = step.replied c n x.start events stops m w x.first_rooms k.first_rooms x.replies_sent k.replies_sent x.replies_taken k.replies_taken
 
-  fits_requested : Fits c n requested
-  fits_requested = fits_requests c n served fits_served (rooms_of served)
+  served : IsFrameOf c n x.memory_served told [] m2
+  served = step.served c n x.replies_taken (deliveries d x.replies_sent) [] m1 replied x.memory_served k.memory_served
 
-  served_is : whole c served n told [] ≡ memory_phase c (reply_phase c m)
-  served_is = memory_is c replied n (deliveries c.stages sent) [] ∙ ap (λ m. memory_phase c m) (replies_are c f n events stops ready.range ready.fits)
+  requested : IsFrameOf c n x.requests_taken (told ++ combinations d n x.requests_sent) [] m3
+  requested = step.requested c n x.memory_served told [] m2 served x.second_rooms k.second_rooms x.requests_sent k.requests_sent x.requests_taken k.requests_taken
 
-  sound_served : IsSound c (whole c served n told [])
-  sound_served = subst (λ m. IsSound c m) (sym served_is) (sound-memory_phase c ready.range (reply_phase c m) (sound-reply_phase c ready.range m ready.sound))
-
-  cycle_is : whole c (after_cycle c.stages n program f) (n + 1) (events_of c.stages n program f) (stops_of c.stages n program f) ≡ cycle c program m
+  stepped : IsFrameOf c (n + 1) x.steps_made (events_of d n program x) (stops_of d n program x) (cycle c program m)
   unfolding cycle
-  cycle_is =
-      steps_are c requested n (told ++ combinations c.stages n (with_requests_sent c.stages f)) [] fits_requested program
-      ∙ ap (λ m. processor_phase c program m) (requests_are c served n told [] ready.range fits_served ∙ ap (λ m. request_phase c m) served_is)
+  stepped = step.stepped c n x.requests_taken (told ++ combinations d n x.requests_sent) [] m3 requested program x.steps_made k.steps_made
 
-  is_cycled : IsCycled c n f events stops program
+  is_cycled : IsCycled c n program x m
   is_cycled = record {
-    replies = can_take_replies c f n events stops ready.range ready.fits ready.sound;
-    requests = can_take_requests c served n told [] ready.range fits_served sound_served;
-    steps = can_execute c requested n [] [] ready.range fits_requested;
-    machine = cycle_is;
-    again = record {
-      range = ready.range;
-      fits = fits_steps c n requested fits_requested (rooms_of f) program;
-      clear = record { replies = λ l. refl; requests = λ l. refl };
-      sound = subst (λ m. IsSound c m) (sym cycle_is) (cycle_is_sound c ready.range program m ready.sound);
+    replies = step.can_take_replies c n x.start events stops m w x.first_rooms k.first_rooms x.replies_sent k.replies_sent;
+    requests = step.can_take_requests c n x.memory_served told [] m2 served x.second_rooms k.second_rooms x.requests_sent k.requests_sent;
+    steps = step.can_execute c n x.requests_taken (told ++ combinations d n x.requests_sent) [] m3 requested;
+    machine = stepped;
+    clear = record {
+      replies = λ l hl. k.steps_made.replies l hl ∙ k.requests_taken.replies l hl ∙ k.requests_sent.replies l hl ∙ k.memory_served.replies l hl ∙ k.replies_taken.replies l hl;
+      requests = λ l hl. k.steps_made.requests l hl ∙ k.requests_taken.requests l hl;
     };
   }
 

@@ -6,4 +6,5 @@ pub mod Regroup
 pub mod Requests
 pub mod Fitting
 pub mod Admitted
+pub mod Steps
 pub mod Law

@@ -73,6 +73,9 @@ each_number d P f n h =
     subst P here (f (n / w) (n % w) row (omega arith))
 
 -- ---- links
+pub place_small : (d s x : ℕ) → s ≤ d → x < 2 ^ d → place_number d s x < (d + 1) * 2 ^ d
+place_small d s x hs hx = omega (arith, mul-add-lt s (2 ^ d) x (d + 1) (omega (arith, hs)) hx)
+
 half_of : (a h y n : ℕ) → 2 * h ≡ n → (a * n + y) / 2 ≡ a * h + y / 2
 half_of a h y n e = subst (λ n. (a * n + y) / 2 ≡ a * h + y / 2) e (omega arith)
 

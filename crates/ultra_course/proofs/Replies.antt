@@ -18,13 +18,13 @@ use Rattle.ultra_model.specs.Ranges.{AreInRange}
 use Rattle.ultra_model.specs.Phases.{delivery, deliver, without_reply, records_left, replies_made, has_reply_room, reply_before, arriving_reply, leaving_reply, replies_at_exit, next_replies, lane_after_split, delivered, reply_phase}
 use Rattle.ultra_units.specs.Numbers.{switch_number, place_number, reply_source}
 use Rattle.ultra_halves.specs.Halves.{ports, where_room, going_by, lane_after_reply, replies_without, with_arrived}
-use Rattle.ultra_halves.specs.Switches.{replies_leaving, after_replies}
+use Rattle.ultra_halves.specs.Switches.{replies_leaving, without_replies, after_replies}
 use Rattle.ultra_halves.specs.Elements.{element_of}
 use Rattle.ultra_course.specs.Ports.{at_port}
-use Rattle.ultra_course.specs.Frame.{Frame, Rooms, rooms_of}
-use Rattle.ultra_course.specs.Course.{reply_goes, replies_from, reply_from, replies_to, reply_to, deliveries, with_replies_sent, with_replies_taken}
+use Rattle.ultra_course.specs.Frame.{Frame, Rooms, AreRooms, AreAlike}
+use Rattle.ultra_course.specs.Course.{reply_goes, replies_from, reply_from, replies_to, reply_to, sends_replies, takes_replies, deliveries}
 use Rattle.ultra_course.specs.Whole.{sized_lane, sized_replies, whole, Fits}
-use Rattle.ultra_course.proofs.Numbers.{pick_true, pick_false, at_two, at_both, at_places, at_even, at_odd, at_number, at_link, behind}
+use Rattle.ultra_course.proofs.Numbers.{pick_true, pick_false, at_two, at_both, at_places, at_even, at_odd, at_number, number_small, place_small, at_link, behind}
 use Rattle.ultra_course.proofs.AtFrame.{same_places, same_table, same_machine, lane_is, replies_is, bank_is, element_is, half_small, even_small, odd_small, reply_room_is}
 
 pub same_test : (a b y j : ℕ) → y ≡ a + j → (b == j) ≡ (a + b == y)
@@ -35,7 +35,8 @@ filter-same : {X : Type 0} (p q : X → Bool) (xs : List X) → ((x : X) → p x
 filter-same p q [] h = refl
 filter-same p q (x ∷ xs) h = ap (λ b. cond b (x ∷ filter p xs) (filter p xs)) (h x) ∙ ap (λ ys. cond (q x) (x ∷ ys) ys) (filter-same p q xs h)
 
-module _ (c : Settings) (f : Frame) (n : ℕ) (events : List Event) (stops : List Stop) (range : AreInRange c) (fits : Fits c n f) where
+module _ (c : Settings) (f : Frame) (n : ℕ) (events : List Event) (stops : List Stop) (range : AreInRange c) (fits : Fits c n f)
+    (rooms : Rooms) (noted : AreRooms c.stages f rooms) (sent : Frame) (as_sent : AreAlike c.stages sent (sends_replies c.stages rooms f)) where
   abbrev m : Machine
   m = whole c f n events stops
 
@@ -45,14 +46,8 @@ module _ (c : Settings) (f : Frame) (n : ℕ) (events : List Event) (stops : Lis
   abbrev last : ℕ
   last = last_stage c
 
-  abbrev rooms : Rooms
-  rooms = rooms_of f
-
-  abbrev sent : Frame
-  sent = with_replies_sent d f
-
   abbrev after : Frame
-  after = with_replies_taken d f
+  after = takes_replies d sent
 
   low : 1 ≤ d
   low = range.some_stages
@@ -64,7 +59,7 @@ module _ (c : Settings) (f : Frame) (n : ℕ) (events : List Event) (stops : Lis
   half x hx = half_small c range x hx
 
   room_is : (s x : ℕ) → s < d → x < size c → rooms.reply (switch_number d s (x / 2)) ≡ has_reply_room c m s (x / 2)
-  room_is s x hs hx = reply_room_is c f n events stops range fits s (x / 2) hs (half x hx)
+  room_is s x hs hx = reply_room_is c f n events stops range fits rooms noted s (x / 2) hs (half x hx)
 
   -- ---- what leaves
   arriving_where : (s x : ℕ) → where_room (has_reply_room c m s (x / 2)) (reply_before c m s x) ≡ arriving_reply c m s x
@@ -111,7 +106,16 @@ module _ (c : Settings) (f : Frame) (n : ℕ) (events : List Event) (stops : Lis
 
   -- ---- what comes
   on_link : (s y : ℕ) → s < d → y < size c → sent.replies (place_number d s y) ≡ leaving_reply c m s y
-  on_link s y hs hy = at_link d (λ n. replies_from d rooms f n) (λ m. reply_from d rooms f m) s y low high hs hy ∙ leaving_is s y hs hy
+  on_link s y hs hy =
+      as_sent.replies (place_number d s y) (place_small d s y (omega (arith, hs)) hy)
+      ∙ at_link d (λ n. replies_from d rooms f n) (λ m. reply_from d rooms f m) s y low high hs hy
+      ∙ leaving_is s y hs hy
+
+  comes_last : (x : ℕ) → x < size c → sent.replies (place_number d d x) ≡ arriving_reply c m last x
+  comes_last x hx =
+      as_sent.replies (place_number d d x) (place_small d d x (omega arith) hx)
+      ∙ behind d (λ n. replies_from d rooms f n) (λ m. reply_from d rooms f m) x
+      ∙ bank_sends x hx
 
   comes_on : (s x : ℕ) → s + 1 < d → x < size c → sent.replies (place_number d (s + 1) (shuffled d x)) ≡ arriving_reply c m s x
   comes_on s x hs hx =
@@ -128,7 +132,7 @@ module _ (c : Settings) (f : Frame) (n : ℕ) (events : List Event) (stops : Lis
       let there = place_number d d x in
       let on = place_number d (s + 1) (shuffled d x) in
       ⊎_elim
-      (λ e. ap (λ l. sent.replies l) (pick_true (s == d - 1) there on (eq-eqb s (d - 1) e)) ∙ behind d (λ n. replies_from d rooms f n) (λ m. reply_from d rooms f m) x ∙ bank_sends x hx ∙ ap (λ s. arriving_reply c m s x) (sym e))
+      (λ e. ap (λ l. sent.replies l) (pick_true (s == d - 1) there on (eq-eqb s (d - 1) e)) ∙ comes_last x hx ∙ ap (λ s. arriving_reply c m s x) (sym e))
       (λ h. ap (λ l. sent.replies l) (pick_false (s == d - 1) there on (ne_eqb s (d - 1) h)) ∙ comes_on s x (omega (arith, hs, h)) hx)
       (cases_eq s (d - 1))
 
@@ -146,12 +150,17 @@ module _ (c : Settings) (f : Frame) (n : ℕ) (events : List Event) (stops : Lis
       ∙ ap (λ o. ports (arriving_reply c m s (2 * k)) o) (comes s (2 * k + 1) hs (odd_small c range k hk))
 
   -- ---- each place after it
-  switch_after : (s k : ℕ) → s < d → k < 2 ^ (d - 1) → after.switch (switch_number d s k) ≡ after_replies d s (sent.switch (switch_number d s k)) (arrived s k)
+  -- a switch after its replies left
+  abbrev left : ℕ → Switch
+  left q = without_replies (f.switch q) (replies_from d rooms f q)
+
+  switch_after : (s k : ℕ) → s < d → k < 2 ^ (d - 1) → after.switch (switch_number d s k) ≡ after_replies d s (left (switch_number d s k)) (arrived s k)
   switch_after s k hs hk =
       let w = sent.switch (switch_number d s k) in
       let came = replies_to d sent (switch_number d s k) in
       at_number d (λ s k. after_replies d s w came) s k hk
       ∙ ap (λ o. after_replies d s w o) (arrived_is s k hs hk)
+      ∙ ap (λ w. after_replies d s w (arrived s k)) (as_sent.switches (switch_number d s k) (number_small d s k hs hk))
 
   lane_after : (s x : ℕ) → s < d → x < size c → (sized_lane c after s x).lane ≡ lane_after_split c m s x
   lane_after s x hs hx =
@@ -181,7 +190,7 @@ module _ (c : Settings) (f : Frame) (n : ℕ) (events : List Event) (stops : Lis
       let queue : List ReplyMessage → List ReplyMessage → List ReplyMessage → List ReplyMessage = λ q a b. q ++ a ++ b in
       let gone = leaving_reply c m s y in
       ap (λ (v : Switch). (at_port v.to_pe j).replies) (switch_after s k hs (half y hy))
-      ∙ ap (λ q. q.replies) (at_both (λ j q. with_arrived d s j lanes came q) (sent.switch (switch_number d s k)).to_pe y)
+      ∙ ap (λ q. q.replies) (at_both (λ j q. with_arrived d s j lanes came q) (left (switch_number d s k)).to_pe y)
       ∙ ap (λ q. (with_arrived d s j lanes came q).replies) (at_two (λ q o. replies_without q o) w.to_pe out j)
       ∙ ap (λ o. (with_arrived d s j lanes came (replies_without (at_port w.to_pe j) o)).replies) (leaving_is s y hs hy)
       ∙ ap (λ q. queue (after_leaving gone q) (made lanes.zero.lane.records (2 * k)) (made lanes.one.lane.records (2 * k + 1))) (sym (replies_is c f n events stops s y hs hy))
@@ -189,10 +198,16 @@ module _ (c : Settings) (f : Frame) (n : ℕ) (events : List Event) (stops : Lis
       ∙ ap (λ b. queue (after_leaving gone (replies_at m s y)) (replies_at_exit c m s (2 * k) y) b) (made_at s (2 * k + 1) y lanes.one.lane.records hs (odd_small c range k (half y hy)) (omega arith) (sym (at_odd records k)))
 
   bank_after : (k : ℕ) → k < size c → after.bank k ≡ without_reply (bank_at m k) (arriving_reply c m last k)
-  bank_after k hk = ap (λ o. without_reply (f.bank k) o) (bank_sends k hk) ∙ ap (λ b. without_reply b (arriving_reply c m last k)) (sym (bank_is c f n events stops k hk))
+  bank_after k hk =
+      as_sent.banks k hk
+      ∙ ap (λ o. without_reply (f.bank k) o) (bank_sends k hk)
+      ∙ ap (λ b. without_reply b (arriving_reply c m last k)) (sym (bank_is c f n events stops k hk))
 
   element_after : (p : ℕ) → p < size c → element_of (after.element p) ≡ deliver (element_at m p) (delivered c m p)
-  element_after p hp = ap (λ o. deliver (element_of (f.element p)) o) (comes_home p hp) ∙ ap (λ e. deliver e (delivered c m p)) (sym (element_is c f n events stops p hp))
+  element_after p hp =
+      ap (λ o. deliver (element_of (sent.element p)) o) (comes_home p hp)
+      ∙ ap (λ e. deliver (element_of e) (delivered c m p)) (as_sent.elements p hp)
+      ∙ ap (λ e. deliver e (delivered c m p)) (sym (element_is c f n events stops p hp))
 
   delivered_after : deliveries d sent ≡ present (places (size c) (λ p. delivery (delivered c m p)))
   unfolding deliveries

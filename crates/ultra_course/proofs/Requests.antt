@@ -20,15 +20,15 @@ use Rattle.ultra_model.specs.Phases as phase
 use Rattle.ultra_model.specs.Phases.{without_pending, with_request, arrive_all, has_request_room, request_before, admitted, arriving_request, entering, leaving_request, requests_by, arrivals_by, lane_after_leaving, next_lane, request_phase}
 use Rattle.ultra_units.specs.Numbers.{switch_number, switch_count, place_number, request_source}
 use Rattle.ultra_halves.specs.Halves.{ports, where_room, lane_without, lane_with, coming_to, arrivals}
-use Rattle.ultra_halves.specs.Switches.{first_request, request_heads, requests_leaving, after_requests, combinations_at, combinations_of}
+use Rattle.ultra_halves.specs.Switches.{first_request, request_heads, requests_leaving, without_requests, after_requests, combinations_at, combinations_of}
 use Rattle.ultra_halves.specs.Modules.{bank_with}
 use Rattle.ultra_halves.specs.Elements.{element_of}
 use Rattle.ultra_course.specs.Ports.{at_port}
-use Rattle.ultra_course.specs.Frame.{Frame, Rooms, rooms_of}
+use Rattle.ultra_course.specs.Frame.{Frame, Rooms, AreRooms, AreAlike}
 use Rattle.ultra_course.specs.Course.{pending_head, at_switch, finds_room, request_goes, requests_from, request_from, sends_requests, requests_to, request_to, takes_requests, combinations}
-use Rattle.ultra_course.specs.Whole.{sized_lane, whole, Fits}
-use Rattle.ultra_course.proofs.Numbers.{pick_true, pick_false, at_two, at_both, at_places, at_even, at_odd, at_number, each_number, at_link, behind}
-use Rattle.ultra_course.proofs.AtFrame.{same_places, same_table, same_machine, half_small, even_small, odd_small, lane_is, bank_is, element_is, cycles_is, sizes_of, request_room_is}
+use Rattle.ultra_course.specs.Whole.{sized_lane, sized_replies, whole, Fits}
+use Rattle.ultra_course.proofs.Numbers.{pick_true, pick_false, at_two, at_both, at_places, at_even, at_odd, at_number, number_small, each_number, place_small, at_link, behind}
+use Rattle.ultra_course.proofs.AtFrame.{same_places, same_table, same_machine, half_small, even_small, odd_small, lane_is, bank_is, element_is, cycles_is, sizes_of, request_room_is, alike_at}
 use Rattle.ultra_course.proofs.Replies.{same_test}
 use Rattle.ultra_course.proofs.Regroup.{regroup}
 
@@ -42,7 +42,8 @@ enters : (i : Option Placed) (o : Option Request) → where_room (is_nothing i) 
 enters None o = refl
 enters (Some p) o = refl
 
-module _ (c : Settings) (f : Frame) (n : ℕ) (events : List Event) (stops : List Stop) (range : AreInRange c) (fits : Fits c n f) where
+module _ (c : Settings) (f : Frame) (n : ℕ) (events : List Event) (stops : List Stop) (range : AreInRange c) (fits : Fits c n f)
+    (rooms : Rooms) (noted : AreRooms c.stages f rooms) (sent : Frame) (as_sent : AreAlike c.stages sent (sends_requests c.stages rooms f)) where
   abbrev m : Machine
   m = whole c f n events stops
 
@@ -51,12 +52,6 @@ module _ (c : Settings) (f : Frame) (n : ℕ) (events : List Event) (stops : Lis
 
   abbrev last : ℕ
   last = last_stage c
-
-  abbrev rooms : Rooms
-  rooms = rooms_of f
-
-  abbrev sent : Frame
-  sent = sends_requests d rooms f
 
   abbrev after : Frame
   after = takes_requests d n sent
@@ -79,7 +74,7 @@ module _ (c : Settings) (f : Frame) (n : ℕ) (events : List Event) (stops : Lis
       let bit = bit_of (d - 1 - s) (r.cell % 2 ^ d) in
       let row : y / 2 ≡ x / 2 = omega arith in
       let port : bit ≡ x % 2 = omega arith in
-      ap (λ k. rooms.request (switch_number d s k) bit) row ∙ ap (λ j. rooms.request (switch_number d s (x / 2)) j) port ∙ request_room_is c f n events stops range fits s x hs (omega (arith, two, hy))
+      ap (λ k. rooms.request (switch_number d s k) bit) row ∙ ap (λ j. rooms.request (switch_number d s (x / 2)) j) port ∙ request_room_is c f n events stops range fits rooms noted s x hs (omega (arith, two, hy))
 
   finds_is : (s y : ℕ) (o : Option Request) → s < d → y < size c → where_room (finds_room d rooms s y o) o ≡ admitted c m s y o
   finds_is s y None hs hy = refl
@@ -106,7 +101,8 @@ module _ (c : Settings) (f : Frame) (n : ℕ) (events : List Event) (stops : Lis
   -- the first request of the last stage enters its module
   last_sends : (x : ℕ) → x < size c → where_room (rooms.bank x) (head last x) ≡ entering c m x
   last_sends x hx =
-      enters (f.bank x).inp (head last x)
+      ap (λ b. where_room b (head last x)) (noted.bank x hx)
+      ∙ enters (f.bank x).inp (head last x)
       ∙ ap (λ (l : Lane). elim (f.bank x).inp [ None ↦ request_of (slice_get l.queue 0) | Some r ↦ None ]) (sym (lane_is c f n events stops last x (omega (arith, low)) hx))
       ∙ ap (λ (b : Bank). elim b.inp [ None ↦ request_of (slice_get (lane_at m last x).queue 0) | Some r ↦ None ]) (sym (bank_is c f n events stops x hx))
 
@@ -150,12 +146,18 @@ module _ (c : Settings) (f : Frame) (n : ℕ) (events : List Event) (stops : Lis
 
   -- ---- what comes
   on_link : (s x : ℕ) → s < d → x < size c → sent.requests (place_number d s x) ≡ leaving_request c m s x
-  on_link s x hs hx = at_link d (λ n. requests_from d rooms f n) (λ p. request_from d rooms f p) s x low high hs hx ∙ leaving_is s x hs hx
+  on_link s x hs hx =
+      as_sent.requests (place_number d s x) (place_small d s x (omega (arith, hs)) hx)
+      ∙ at_link d (λ n. requests_from d rooms f n) (λ p. request_from d rooms f p) s x low high hs hx
+      ∙ leaving_is s x hs hx
 
   comes_first : (y : ℕ) → y < size c → sent.requests (place_number d d (unshuffled d y)) ≡ arriving_request c m 0 y
   comes_first y hy =
       let b = back d y low high hy in
-      behind d (λ n. requests_from d rooms f n) (λ p. request_from d rooms f p) (unshuffled d y) ∙ element_sends (unshuffled d y) b.line_small ∙ ap (λ y. arriving_request c m 0 y) b.forth
+      as_sent.requests (place_number d d (unshuffled d y)) (place_small d d (unshuffled d y) (omega arith) b.line_small)
+      ∙ behind d (λ n. requests_from d rooms f n) (λ p. request_from d rooms f p) (unshuffled d y)
+      ∙ element_sends (unshuffled d y) b.line_small
+      ∙ ap (λ y. arriving_request c m 0 y) b.forth
 
   comes_on : (s y : ℕ) → s < d → s ≢ 0 → y < size c → sent.requests (place_number d (s - 1) (unshuffled d y)) ≡ arriving_request c m s y
   comes_on s y hs hz hy =
@@ -210,9 +212,13 @@ module _ (c : Settings) (f : Frame) (n : ℕ) (events : List Event) (stops : Lis
       ∙ ap (λ ys. order n (arrivals_by c m s (2 * k) x) ys) one_to
       ∙ ap (λ i. order i (arrivals_by c m s (2 * k) x) (arrivals_by c m s (2 * k + 1) x)) (sym (cycles_is c f n events stops))
 
+  -- a switch after its requests left
+  abbrev left : ℕ → Switch
+  left q = without_requests (f.switch q) (requests_from d rooms f q)
+
   -- what is made of a queue, its wait places and what arrives there
   left_with : {X : Type 0} (g : ℕ → Lane → List Request → X) (s x : ℕ) → s < d → x < size c
-      → (let l = at_port (sent.switch (switch_number d s (x / 2))).to_mm (x % 2) in g l.wait_places l.lane (arrivals d s (x % 2) n (arrived s (x / 2)))) ≡ g c.wait_places (lane_after_leaving c m s x) (phase.arrivals c m s x)
+      → (let l = at_port (left (switch_number d s (x / 2))).to_mm (x % 2) in g l.wait_places l.lane (arrivals d s (x % 2) n (arrived s (x / 2)))) ≡ g c.wait_places (lane_after_leaving c m s x) (phase.arrivals c m s x)
   left_with g s x hs hx =
       let w = f.switch (switch_number d s (x / 2)) in
       let out = requests_from d rooms f (switch_number d s (x / 2)) in
@@ -226,45 +232,41 @@ module _ (c : Settings) (f : Frame) (n : ℕ) (events : List Event) (stops : Lis
       ∙ ap (λ (l : Lane). let v : Lane = record { queue = after_leaving gone l.queue; records = l.records } in g c.wait_places v (phase.arrivals c m s x)) (sym (lane_is c f n events stops s x hs hx))
 
   -- ---- each place after it
-  switch_after : (s k : ℕ) → s < d → k < 2 ^ (d - 1) → after.switch (switch_number d s k) ≡ after_requests d s n (sent.switch (switch_number d s k)) (arrived s k)
-  switch_after s k hs hk =
-      let w = sent.switch (switch_number d s k) in
-      let came = requests_to d sent (switch_number d s k) in
-      at_number d (λ s k. after_requests d s n w came) s k hk
-      ∙ ap (λ o. after_requests d s n w o) (arrived_is s k hs hk)
+  -- what is made of a switch and what came to it
+  came_with : {X : Type 0} (g : ℕ → ℕ → Switch → Ports (Option Request) → X) (s k : ℕ) → s < d → k < 2 ^ (d - 1)
+      → (let q = switch_number d s k in at_switch d (λ s k. g s k (sent.switch q) (requests_to d sent q)) q) ≡ g s k (left (switch_number d s k)) (arrived s k)
+  came_with g s k hs hk =
+      let q = switch_number d s k in
+      at_number d (λ s k. g s k (sent.switch q) (requests_to d sent q)) s k hk
+      ∙ ap (λ o. g s k (sent.switch q) o) (arrived_is s k hs hk)
+      ∙ ap (λ w. g s k w (arrived s k)) (as_sent.switches q (number_small d s k hs hk))
 
   lane_after : (s x : ℕ) → s < d → x < size c → (sized_lane c after s x).lane ≡ next_lane c m s x
   lane_after s x hs hx =
-      let w = sent.switch (switch_number d s (x / 2)) in
       let came = arrived s (x / 2) in
-      ap (λ (v : Switch). (at_port v.to_mm (x % 2)).lane) (switch_after s (x / 2) hs (half x hx))
-      ∙ ap (λ l. l.lane) (at_both (λ j l. lane_with l (arrivals d s j n came)) w.to_mm x)
+      came_with (λ s k w o. (at_port (after_requests d s n w o).to_mm (x % 2)).lane) s (x / 2) hs (half x hx)
+      ∙ ap (λ l. l.lane) (at_both (λ j l. lane_with l (arrivals d s j n came)) (left (switch_number d s (x / 2))).to_mm x)
       ∙ left_with (λ w l rs. arrive_all w l rs) s x hs hx
 
   -- the combinations at a position, by the definition
   abbrev combined : ℕ → ℕ → List Event
   combined s x = phase.combinations c.wait_places s x (lane_after_leaving c m s x) (phase.arrivals c m s x)
 
-  combined_at : (s k : ℕ) → s < d → k < 2 ^ (d - 1) → combinations_of d s k n (sent.switch (switch_number d s k)) (requests_to d sent (switch_number d s k)) ≡ combined s (2 * k) ++ combined s (2 * k + 1)
+  combined_at : (s k : ℕ) → s < d → k < 2 ^ (d - 1) → combinations_of d s k n (left (switch_number d s k)) (arrived s k) ≡ combined s (2 * k) ++ combined s (2 * k + 1)
   combined_at s k hs hk =
-      let w = sent.switch (switch_number d s k) in
-      let at : ℕ → ℕ → ℕ → List Event = λ x k j. combinations_at s x (at_port (sent.switch (switch_number d s k)).to_mm j) (arrivals d s j n (arrived s k)) in
+      let at : ℕ → ℕ → ℕ → List Event = λ x k j. combinations_at s x (at_port (left (switch_number d s k)).to_mm j) (arrivals d s j n (arrived s k)) in
       let even = left_with (λ w l rs. phase.combinations w s (2 * k) l rs) s (2 * k) hs (even_small c range k hk) in
       let odd = left_with (λ w l rs. phase.combinations w s (2 * k + 1) l rs) s (2 * k + 1) hs (odd_small c range k hk) in
-      ap (λ o. combinations_of d s k n w o) (arrived_is s k hs hk)
-      ∙ ap (λ es. es ++ at (2 * k + 1) k 1) (sym (at_even (at (2 * k)) k) ∙ even)
+      ap (λ es. es ++ at (2 * k + 1) k 1) (sym (at_even (at (2 * k)) k) ∙ even)
       ∙ ap (λ es. combined s (2 * k) ++ es) (sym (at_odd (at (2 * k + 1)) k) ∙ odd)
 
   combinations_are : combinations d n sent ≡ joined (joined (table d (size c) combined))
   unfolding combinations
   combinations_are =
       let here = λ (q : ℕ). at_switch d (λ s k. combinations_of d s k n (sent.switch q) (requests_to d sent q)) q in
-      let there = λ (q : ℕ). at_switch d (λ s k. combined s (2 * k) ++ combined s (2 * k + 1)) q in
-      ap (λ ess. joined ess) (same_places (switch_count d) here there (each_number d (λ q. here q ≡ there q)
-      (λ s k hs hk.
-      let w = sent.switch (switch_number d s k) in
-      let came = requests_to d sent (switch_number d s k) in
-      at_number d (λ s k. combinations_of d s k n w came) s k hk ∙ combined_at s k hs hk ∙ sym (at_number d (λ s k. combined s (2 * k) ++ combined s (2 * k + 1)) s k hk))))
+      let both = λ (s : ℕ) (k : ℕ). combined s (2 * k) ++ combined s (2 * k + 1) in
+      ap (λ ess. joined ess) (same_places (switch_count d) here (λ q. at_switch d both q) (each_number d (λ q. here q ≡ at_switch d both q)
+      (λ s k hs hk. came_with (λ s k w o. combinations_of d s k n w o) s k hs hk ∙ combined_at s k hs hk ∙ sym (at_number d both s k hk))))
       ∙ sym (regroup d (sizes d low high).0 combined d)
 
   bank_takes : (b : Bank) (o : Option Request) → bank_with (2 ^ d) b o ≡ with_request c b o
@@ -273,13 +275,15 @@ module _ (c : Settings) (f : Frame) (n : ℕ) (events : List Event) (stops : Lis
 
   bank_after : (k : ℕ) → k < size c → after.bank k ≡ with_request c (bank_at m k) (entering c m k)
   bank_after k hk =
-      bank_takes (f.bank k) (request_to d sent k)
-      ∙ ap (λ o. with_request c (f.bank k) o) (comes_in k hk)
+      bank_takes (sent.bank k) (request_to d sent k)
+      ∙ ap (λ o. with_request c (sent.bank k) o) (comes_in k hk)
+      ∙ ap (λ b. with_request c b (entering c m k)) (as_sent.banks k hk)
       ∙ ap (λ b. with_request c b (entering c m k)) (sym (bank_is c f n events stops k hk))
 
   element_after : (p : ℕ) → p < size c → element_of (after.element p) ≡ without_pending (element_at m p) (arriving_request c m 0 (shuffled d p))
   element_after p hp =
-      ap (λ o. without_pending (element_of (f.element p)) o) (element_sends p hp)
+      ap (λ e. element_of e) (as_sent.elements p hp)
+      ∙ ap (λ o. without_pending (element_of (f.element p)) o) (element_sends p hp)
       ∙ ap (λ e. without_pending e (arriving_request c m 0 (shuffled d p))) (sym (element_is c f n events stops p hp))
 
   pub requests_are : whole c after n (events ++ combinations d n sent) stops ≡ request_phase c m
@@ -288,4 +292,5 @@ module _ (c : Settings) (f : Frame) (n : ℕ) (events : List Event) (stops : Lis
       let lanes = same_table d (size c) (λ s x. (sized_lane c after s x).lane) (λ s x. next_lane c m s x) lane_after in
       let banks = same_places (size c) (λ k. after.bank k) (λ k. with_request c (bank_at m k) (entering c m k)) bank_after in
       let elements = same_places (size c) (λ p. element_of (after.element p)) (λ p. without_pending (element_at m p) (arriving_request c m 0 (shuffled d p))) element_after in
-      same_machine n lanes refl banks elements (ap (λ es. events ++ es) combinations_are) refl
+      let queues = same_table d (size c) (λ s y. (sized_replies c after s y).replies) (λ s y. (sized_replies c f s y).replies) (λ s y. alike_at c range sent (sends_requests d rooms f) as_sent (λ w. (at_port w.to_pe (y % 2)).replies) s y) in
+      same_machine n lanes queues banks elements (ap (λ es. events ++ es) combinations_are) refl

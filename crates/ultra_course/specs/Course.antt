@@ -1,5 +1,5 @@
 -- the six halves of a cycle of a machine of d stages, and what happens in each
-use Rattle.std.specs.Prelude.{ℕ, ◌+◌, ◌-◌, ◌*◌, ◌/◌, ◌%◌, ◌^◌, List, ◌++◌, Bool, true, false, ◌==◌, nat_lt, Option, Some, None, slice_get}
+use Rattle.std.specs.Prelude.{ℕ, ◌+◌, ◌-◌, ◌*◌, ◌/◌, ◌%◌, ◌^◌, List, Bool, true, false, ◌==◌, nat_lt, Option, Some, None, slice_get}
 use Rattle.ultra_msg.specs.declared.Request.{Request}
 use Rattle.ultra_msg.specs.declared.ReplyMessage.{ReplyMessage}
 use Rattle.ultra_msg.specs.declared.Event.{Event}
@@ -17,7 +17,7 @@ use Rattle.ultra_halves.specs.Modules.{bank_with}
 use Rattle.ultra_halves.specs.Elements.{element_of, delivered_to, element_without, step_at, executed}
 use Rattle.ultra_halves.specs.declared.elements.ProcessingElement.{ProcessingElement}
 use Rattle.ultra_course.specs.Ports.{at_port}
-use Rattle.ultra_course.specs.Frame.{Frame, Rooms, rooms_of}
+use Rattle.ultra_course.specs.Frame.{Frame, Rooms}
 
 abbrev pub pending_head : ProcessingElement → Option Request
 pending_head e = slice_get e.interface.interface.pending 0
@@ -127,34 +127,3 @@ module _ (d : ℕ) where
 
   unfoldable pub stops : List Instr → Frame → List Stop
   stops program f = present (places (2 ^ d) (λ p. stop_of p (step_at program (f.element p)).was))
-
-  -- ---- a cycle, half by half
-  abbrev pub with_replies_sent : Frame → Frame
-  with_replies_sent f = sends_replies (rooms_of f) f
-
-  abbrev pub with_replies_taken : Frame → Frame
-  with_replies_taken f = takes_replies (with_replies_sent f)
-
-  abbrev pub with_memory_served : Frame → Frame
-  with_memory_served f = serves (with_replies_taken f)
-
-  abbrev pub with_requests_sent : Frame → Frame
-  with_requests_sent f = sends_requests (rooms_of (with_memory_served f)) (with_memory_served f)
-
-  -- cycle i
-  abbrev pub with_requests_taken : ℕ → Frame → Frame
-  with_requests_taken i f = takes_requests i (with_requests_sent f)
-
-  abbrev pub after_cycle : ℕ → List Instr → Frame → Frame
-  after_cycle i program f = executes program (with_requests_taken i f)
-
-  -- what happens in it: deliveries by processing element, servings by module, combinations by stage, position and arrival, issues by processing element
-  abbrev pub events_of : ℕ → List Instr → Frame → List Event
-  events_of i program f =
-      deliveries (with_replies_sent f)
-      ++ servings (with_replies_taken f)
-      ++ combinations i (with_requests_sent f)
-      ++ issues program (with_requests_taken i f)
-
-  abbrev pub stops_of : ℕ → List Instr → Frame → List Stop
-  stops_of i program f = stops program (with_requests_taken i f)

@@ -1,11 +1,13 @@
 -- the whole machine of which the units are given by their numbers
-use Rattle.std.specs.Prelude.{◌≡◌, ℕ, ◌/◌, ◌%◌, ◌<◌, ◌≤◌, List, None, length}
+use Rattle.std.specs.Prelude.{◌≡◌, ℕ, ◌/◌, ◌%◌, ◌<◌, ◌≤◌, List, length}
 use Rattle.ultra_msg.specs.declared.Event.{Event}
 use Rattle.ultra_switch.specs.declared.Switch.{Switch}
 use Rattle.ultra_switch.specs.Queues.{SizedLane, SizedReplies, empty_requests, empty_replies}
 use Rattle.ultra_model.specs.declared.Stop.{Stop}
 use Rattle.ultra_model.specs.Places.{places, table}
 use Rattle.ultra_model.specs.Machine.{Settings, Machine, size, site}
+use Rattle.ultra_model.specs.Ranges.{AreInRange}
+use Rattle.ultra_model.specs.Sound.{IsSound}
 use Rattle.ultra_units.specs.Numbers.{switch_number, switch_count}
 use Rattle.ultra_halves.specs.Halves.{ports}
 use Rattle.ultra_halves.specs.Elements.{element_of}
@@ -61,7 +63,9 @@ module _ (c : Settings) where
     pub modules : (k : ℕ) → k < size c → length (f.bank k).cells ≡ c.cells
     pub elements : (p : ℕ) → p < size c → FitsElement n p (f.element p)
 
--- no message is on a link
-pub record IsClear (f : Frame) : Type 0 where
-  pub replies : (l : ℕ) → f.replies l ≡ None
-  pub requests : (l : ℕ) → f.requests l ≡ None
+  -- after n cycles, and with what happened in the last one, the units make up the machine m, which is sound
+  pub record IsFrameOf (n : ℕ) (f : Frame) (events : List Event) (stops : List Stop) (m : Machine) : Type 0 where
+    pub range : AreInRange c
+    pub fits : Fits n f
+    pub machine : whole c f n events stops ≡ m
+    pub sound : IsSound c m
