@@ -168,11 +168,11 @@ module _ (c : Settings) (f : Frame) (n : ℕ) (events : List Event) (stops : Lis
           let some_stages = range.some_stages in
           let cell = head_routed k (lane_at m (last_stage c) k).queue r (sound.routes.requests (last_stage c) k (omega (arith, some_stages)) hk) (enters k r hk e).1 in
           let below : r.cell / size c < c.cells = (div-lt_iff_lt-mul some).1 (omega (arith, cell)) in
-          let cells = ap (λ (b : Bank). length b.cells) (as_sent.banks k hk) ∙ fits.modules k hk in
+          let cells = ap (λ (b : Bank). length b.cells) (as_sent.banks k hk) ∙ fits.cells k hk in
           omega (arith, below, cells);
       empty = λ k hk r e. ap (λ (b : Bank). b.inp) (as_sent.banks k hk ∙ sym (bank_is c f n events stops k hk)) ∙ (enters k r hk e).0;
     }
 
   -- ---- processors
   pub can_execute : n < 2 ^ 32 - 1 → CanExecute d f
-  can_execute h = record { counted = λ p hp. let few = (fits.elements p hp).issued in omega (arith, few, h) }
+  can_execute h = record { counted = λ p hp. let few = fits.issued p hp in omega (arith, few, h) }

@@ -16,12 +16,13 @@ use Rattle.ultra_model.specs.Ranges.{AreInRange}
 use Rattle.ultra_model.specs.Phases as phase
 use Rattle.ultra_model.proofs.Each.{places_at, table_at}
 use Rattle.ultra_units.specs.Numbers.{switch_number}
-use Rattle.ultra_halves.specs.Halves.{has_place_for}
+use Rattle.ultra_halves.specs.Halves.{ports, has_place_for}
 use Rattle.ultra_halves.specs.Elements.{element_of}
 use Rattle.ultra_course.specs.Ports.{at_port}
 use Rattle.ultra_course.specs.Frame.{Frame, Rooms, AreRooms, AreAlike}
+use Rattle.ultra_course.specs.Course.{at_switch}
 use Rattle.ultra_course.specs.Whole.{sized_lane, sized_replies, whole, emptied, empty_switch, Fits}
-use Rattle.ultra_course.proofs.Numbers.{at_two, at_even, at_odd, number_small}
+use Rattle.ultra_course.proofs.Numbers.{at_two, at_even, at_odd, at_number, number_small}
 
 -- ---- equal place by place
 same_from : {X : Type 0} (a n : ℕ) (f g : ℕ → X) → ((k : ℕ) → k < a + n → f k ≡ g k) → map f (range_with_len a n) ≡ map g (range_with_len a n)
@@ -64,6 +65,14 @@ module _ (c : Settings) (range : AreInRange c) where
 
   pub odd_small : (k : ℕ) → k < 2 ^ (c.stages - 1) → 2 * k + 1 < size c
   odd_small k h = let two = (sizes c.stages range.some_stages range.most_stages).0 in omega (arith, h)
+
+  -- what there is at both positions of a switch
+  pub at_switches : {X : Type 0} (g h : ℕ → ℕ → X) → ((s x : ℕ) → s < c.stages → x < size c → g s x ≡ h s x) → (s k : ℕ) → s < c.stages → k < 2 ^ (c.stages - 1)
+      → at_switch c.stages (λ s k. ports (g s (2 * k)) (g s (2 * k + 1))) (switch_number c.stages s k) ≡ ports (h s (2 * k)) (h s (2 * k + 1))
+  at_switches g h e s k hs hk =
+      at_number c.stages (λ s k. ports (g s (2 * k)) (g s (2 * k + 1))) s k hk
+      ∙ ap (λ o. ports o (g s (2 * k + 1))) (e s (2 * k) hs (even_small k hk))
+      ∙ ap (λ o. ports (h s (2 * k)) o) (e s (2 * k + 1) hs (odd_small k hk))
 
 module _ (c : Settings) (f : Frame) (n : ℕ) (events : List Event) (stops : List Stop) where
   abbrev m : Machine

@@ -13,7 +13,7 @@ use Rattle.ultra_halves.specs.Elements.{delivered_to, step_at}
 use Rattle.ultra_halves.specs.declared.elements.ProcessingElement.{ProcessingElement}
 use Rattle.ultra_course.specs.Frame.{Frame, Rooms, AreAlike}
 use Rattle.ultra_course.specs.Course.{reply_from, reply_to, sends_replies, takes_replies, serves, sends_requests, request_to, takes_requests, executes}
-use Rattle.ultra_course.specs.Whole.{emptied, FitsElement, Fits}
+use Rattle.ultra_course.specs.Whole.{emptied, Fits}
 
 cells_without : (b : Bank) (o : Option ReplyMessage) → length (without_reply b o).cells ≡ length b.cells
 cells_without b None = refl
@@ -35,45 +35,57 @@ module _ (c : Settings) (n : ℕ) (f : Frame) where
   pub fits_alike : (g : Frame) → AreAlike c.stages f g → Fits c n g → Fits c n f
   fits_alike g a fits = record {
     switches = λ k hk. ap (λ w. emptied w) (a.switches k hk) ∙ fits.switches k hk;
-    modules = λ k hk. ap (λ (b : Bank). length b.cells) (a.banks k hk) ∙ fits.modules k hk;
-    elements = λ p hp. subst (λ e. FitsElement c n p e) (sym (a.elements p hp)) (fits.elements p hp);
+    cells = λ k hk. ap (λ (b : Bank). length b.cells) (a.banks k hk) ∙ fits.cells k hk;
+    sites = λ p hp. ap (λ e. e.processor.site) (a.elements p hp) ∙ fits.sites p hp;
+    most_open = λ p hp. ap (λ e. e.interface.most_open) (a.elements p hp) ∙ fits.most_open p hp;
+    issued = λ p hp. subst (λ e. e.issued ≤ n) (sym (a.elements p hp)) (fits.issued p hp);
   }
 
   module _ (fits : Fits c n f) where
     pub replies_sent : (rooms : Rooms) → Fits c n (sends_replies c.stages rooms f)
-    replies_sent rooms = record { switches = fits.switches; modules = λ k hk. cells_without (f.bank k) (reply_from c.stages rooms f k) ∙ fits.modules k hk; elements = fits.elements }
+    replies_sent rooms = record {
+      switches = fits.switches;
+      cells = λ k hk. cells_without (f.bank k) (reply_from c.stages rooms f k) ∙ fits.cells k hk;
+      sites = fits.sites;
+      most_open = fits.most_open;
+      issued = fits.issued;
+    }
 
     pub replies_taken : Fits c n (takes_replies c.stages f)
     replies_taken = record {
       switches = fits.switches;
-      modules = fits.modules;
-      elements = λ p hp.
-          let g = fits.elements p hp in
-          let same = delivered_issued (f.element p) (reply_to c.stages f p) in
-          let few = g.issued in
-          record { site = g.site; most_open = g.most_open; issued = omega (arith, same, few) };
+      cells = fits.cells;
+      sites = fits.sites;
+      most_open = fits.most_open;
+      issued = λ p hp. let same = delivered_issued (f.element p) (reply_to c.stages f p) in let few = fits.issued p hp in omega (arith, same, few);
     }
 
     pub memory_served : Fits c n (serves c.stages f)
-    memory_served = record { switches = fits.switches; modules = λ k hk. length-serve (f.bank k) ∙ fits.modules k hk; elements = fits.elements }
-
-    pub requests_sent : (rooms : Rooms) → Fits c n (sends_requests c.stages rooms f)
-    requests_sent rooms = record {
+    memory_served = record {
       switches = fits.switches;
-      modules = fits.modules;
-      elements = λ p hp. let g = fits.elements p hp in record { site = g.site; most_open = g.most_open; issued = g.issued };
+      cells = λ k hk. length-serve (f.bank k) ∙ fits.cells k hk;
+      sites = fits.sites;
+      most_open = fits.most_open;
+      issued = fits.issued;
     }
 
+    pub requests_sent : (rooms : Rooms) → Fits c n (sends_requests c.stages rooms f)
+    requests_sent rooms = record { switches = fits.switches; cells = fits.cells; sites = fits.sites; most_open = fits.most_open; issued = fits.issued }
+
     pub requests_taken : Fits c n (takes_requests c.stages n f)
-    requests_taken = record { switches = fits.switches; modules = λ k hk. cells_with (2 ^ c.stages) (f.bank k) (request_to c.stages f k) ∙ fits.modules k hk; elements = fits.elements }
+    requests_taken = record {
+      switches = fits.switches;
+      cells = λ k hk. cells_with (2 ^ c.stages) (f.bank k) (request_to c.stages f k) ∙ fits.cells k hk;
+      sites = fits.sites;
+      most_open = fits.most_open;
+      issued = fits.issued;
+    }
 
     pub steps_made : (program : List Instr) → Fits c (n + 1) (executes c.stages program f)
     steps_made program = record {
       switches = fits.switches;
-      modules = fits.modules;
-      elements = λ p hp.
-          let g = fits.elements p hp in
-          let more = one_more (f.element p).issued (step_at program (f.element p)).sent in
-          let few = g.issued in
-          record { site = g.site; most_open = g.most_open; issued = omega (arith, more, few) };
+      cells = fits.cells;
+      sites = fits.sites;
+      most_open = fits.most_open;
+      issued = λ p hp. let more = one_more (f.element p).issued (step_at program (f.element p)).sent in let few = fits.issued p hp in omega (arith, more, few);
     }

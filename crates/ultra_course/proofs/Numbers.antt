@@ -6,6 +6,7 @@ use Rattle.std.proofs.lemmas.Nat.{pow_pos, div-mul-add, mod-mul-add, mul-add-lt}
 use Rattle.std.proofs.Math.Nat.{div-lt_iff_lt-mul}
 use Rattle.ultra_route.proofs.Table.{sizes}
 use Rattle.ultra_switch.specs.declared.Ports.{Ports}
+use Rattle.ultra_switch.specs.declared.Switch.{Switch}
 use Rattle.ultra_units.specs.Numbers.{switch_number, switch_count, place_number}
 use Rattle.ultra_halves.specs.Halves.{ports}
 use Rattle.ultra_course.specs.Ports.{at_port}
@@ -60,6 +61,10 @@ at_odd g k =
 pub at_number : {X : Type 0} (d : ℕ) (g : ℕ → ℕ → X) (s k : ℕ) → k < 2 ^ (d - 1) → at_switch d g (switch_number d s k) ≡ g s k
 at_number d g s k h = ap (λ a. g a (switch_number d s k % 2 ^ (d - 1))) (div-mul-add s (2 ^ (d - 1)) k h) ∙ ap (λ b. g s b) (mod-mul-add s (2 ^ (d - 1)) k h)
 
+-- what is made there of a switch and of what came to it
+pub with_came : {M X : Type 0} (d : ℕ) (g : ℕ → ℕ → Switch → M → X) (s k : ℕ) {v w : Switch} {o p : M} → k < 2 ^ (d - 1) → v ≡ w → o ≡ p → at_switch d (λ s k. g s k v o) (switch_number d s k) ≡ g s k w p
+with_came d g s k {v} {w} {o} {p} hk e i = at_number d (λ s k. g s k v o) s k hk ∙ ap (λ v. g s k v o) e ∙ ap (λ o. g s k w o) i
+
 pub number_small : (d s k : ℕ) → s < d → k < 2 ^ (d - 1) → switch_number d s k < switch_count d
 number_small d s k hs hk = omega (arith, mul-add-lt s (2 ^ (d - 1)) k d hs hk)
 
@@ -73,7 +78,7 @@ each_number d P f n h =
     subst P here (f (n / w) (n % w) row (omega arith))
 
 -- ---- links
-pub place_small : (d s x : ℕ) → s ≤ d → x < 2 ^ d → place_number d s x < (d + 1) * 2 ^ d
+place_small : (d s x : ℕ) → s ≤ d → x < 2 ^ d → place_number d s x < (d + 1) * 2 ^ d
 place_small d s x hs hx = omega (arith, mul-add-lt s (2 ^ d) x (d + 1) (omega (arith, hs)) hx)
 
 half_of : (a h y n : ℕ) → 2 * h ≡ n → (a * n + y) / 2 ≡ a * h + y / 2
@@ -82,20 +87,22 @@ half_of a h y n e = subst (λ n. (a * n + y) / 2 ≡ a * h + y / 2) e (omega ari
 rest_of : (a h y n : ℕ) → 2 * h ≡ n → (a * n + y) % 2 ≡ y % 2
 rest_of a h y n e = subst (λ n. (a * n + y) % 2 ≡ y % 2) e (omega arith)
 
-module _ {X : Type 0} (d : ℕ) (g : ℕ → Ports X) (h : ℕ → X) where
-  pub at_link : (s x : ℕ) → 1 ≤ d → d ≤ 6 → s < d → x < 2 ^ d → on_links d g h (place_number d s x) ≡ at_port (g (switch_number d s (x / 2))) (x % 2)
-  at_link s x low high hs hx =
+-- on links that what leaves was written on
+module _ {X : Type 0} (d : ℕ) (low : 1 ≤ d) (high : d ≤ 6) (g : ℕ → Ports X) (h : ℕ → X) (on : ℕ → X) (written : (l : ℕ) → l < (d + 1) * 2 ^ d → on l ≡ on_links d g h l) where
+  pub at_link : (s x : ℕ) → s < d → x < 2 ^ d → on (place_number d s x) ≡ at_port (g (switch_number d s (x / 2))) (x % 2)
+  at_link s x hs hx =
       let two = (sizes d low high).0 in
       let l = place_number d s x in
       let below : nat_lt l (d * 2 ^ d) ≡ true = let inside = mul-add-lt s (2 ^ d) x d hs hx in grind (arith, nat_tests, inside) in
-      pick_true (nat_lt l (d * 2 ^ d)) (at_port (g (l / 2)) (l % 2)) (h (l - d * 2 ^ d)) below
+      written l (place_small d s x (omega (arith, hs)) hx)
+      ∙ pick_true (nat_lt l (d * 2 ^ d)) (at_port (g (l / 2)) (l % 2)) (h (l - d * 2 ^ d)) below
       ∙ ap (λ n. at_port (g n) (l % 2)) (half_of s (2 ^ (d - 1)) x (2 ^ d) two)
       ∙ ap (λ j. at_port (g (switch_number d s (x / 2))) j) (rest_of s (2 ^ (d - 1)) x (2 ^ d) two)
 
   -- behind all stages
-  pub behind : (k : ℕ) → on_links d g h (place_number d d k) ≡ h k
-  behind k =
+  pub behind : (k : ℕ) → k < 2 ^ d → on (place_number d d k) ≡ h k
+  behind k hk =
       let l = place_number d d k in
       let past : nat_lt l (d * 2 ^ d) ≡ false = grind (arith, nat_tests) in
       let here : l - d * 2 ^ d ≡ k = omega arith in
-      pick_false (nat_lt l (d * 2 ^ d)) (at_port (g (l / 2)) (l % 2)) (h (l - d * 2 ^ d)) past ∙ ap h here
+      written l (place_small d d k (omega arith) hk) ∙ pick_false (nat_lt l (d * 2 ^ d)) (at_port (g (l / 2)) (l % 2)) (h (l - d * 2 ^ d)) past ∙ ap h here

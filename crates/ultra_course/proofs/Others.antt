@@ -36,10 +36,9 @@ module _ (c : Settings) (f : Frame) (n : ℕ) (events : List Event) (told : List
 
     step_is : (p : ℕ) → p < size c → made p ≡ defined p
     step_is p hp =
-        let g = fits.elements p hp in
         let e = f.element p in
-        ap (λ s. step_of s e.interface.most_open program e.processor.core e.interface.interface) g.site
-        ∙ ap (λ k. step_of (site c p) k program e.processor.core e.interface.interface) g.most_open
+        ap (λ s. step_of s e.interface.most_open program e.processor.core e.interface.interface) (fits.sites p hp)
+        ∙ ap (λ k. step_of (site c p) k program e.processor.core e.interface.interface) (fits.most_open p hp)
         ∙ ap (λ (v : Element). step_of (site c p) c.most_open program v.core v.interface) (sym (element_is c f n events told p hp))
 
     -- what is made of a processing element and its step

@@ -24,8 +24,8 @@ use Rattle.ultra_course.specs.Ports.{at_port}
 use Rattle.ultra_course.specs.Frame.{Frame, Rooms, AreRooms, AreAlike}
 use Rattle.ultra_course.specs.Course.{reply_goes, replies_from, reply_from, replies_to, reply_to, sends_replies, takes_replies, deliveries}
 use Rattle.ultra_course.specs.Whole.{sized_lane, sized_replies, whole, Fits}
-use Rattle.ultra_course.proofs.Numbers.{pick_true, pick_false, at_two, at_both, at_places, at_even, at_odd, at_number, number_small, place_small, at_link, behind}
-use Rattle.ultra_course.proofs.AtFrame.{same_places, same_table, same_machine, lane_is, replies_is, bank_is, element_is, half_small, even_small, odd_small, reply_room_is}
+use Rattle.ultra_course.proofs.Numbers.{pick_true, pick_false, at_two, at_both, at_places, at_even, at_odd, at_number, with_came, number_small, at_link, behind}
+use Rattle.ultra_course.proofs.AtFrame.{same_places, same_table, same_machine, lane_is, replies_is, bank_is, element_is, half_small, even_small, odd_small, at_switches, reply_room_is}
 
 pub same_test : (a b y j : ℕ) → y ≡ a + j → (b == j) ≡ (a + b == y)
 same_test a b y j e =
@@ -106,16 +106,10 @@ module _ (c : Settings) (f : Frame) (n : ℕ) (events : List Event) (stops : Lis
 
   -- ---- what comes
   on_link : (s y : ℕ) → s < d → y < size c → sent.replies (place_number d s y) ≡ leaving_reply c m s y
-  on_link s y hs hy =
-      as_sent.replies (place_number d s y) (place_small d s y (omega (arith, hs)) hy)
-      ∙ at_link d (λ n. replies_from d rooms f n) (λ m. reply_from d rooms f m) s y low high hs hy
-      ∙ leaving_is s y hs hy
+  on_link s y hs hy = at_link d low high (λ n. replies_from d rooms f n) (λ m. reply_from d rooms f m) sent.replies as_sent.replies s y hs hy ∙ leaving_is s y hs hy
 
   comes_last : (x : ℕ) → x < size c → sent.replies (place_number d d x) ≡ arriving_reply c m last x
-  comes_last x hx =
-      as_sent.replies (place_number d d x) (place_small d d x (omega arith) hx)
-      ∙ behind d (λ n. replies_from d rooms f n) (λ m. reply_from d rooms f m) x
-      ∙ bank_sends x hx
+  comes_last x hx = behind d low high (λ n. replies_from d rooms f n) (λ m. reply_from d rooms f m) sent.replies as_sent.replies x hx ∙ bank_sends x hx
 
   comes_on : (s x : ℕ) → s + 1 < d → x < size c → sent.replies (place_number d (s + 1) (shuffled d x)) ≡ arriving_reply c m s x
   comes_on s x hs hx =
@@ -143,11 +137,7 @@ module _ (c : Settings) (f : Frame) (n : ℕ) (events : List Event) (stops : Lis
   arrived s k = ports (arriving_reply c m s (2 * k)) (arriving_reply c m s (2 * k + 1))
 
   pub arrived_is : (s k : ℕ) → s < d → k < 2 ^ (d - 1) → replies_to d sent (switch_number d s k) ≡ arrived s k
-  arrived_is s k hs hk =
-      let on = sent.replies in
-      at_number d (λ s k. ports (on (reply_source d s (2 * k))) (on (reply_source d s (2 * k + 1)))) s k hk
-      ∙ ap (λ o. ports o (on (reply_source d s (2 * k + 1)))) (comes s (2 * k) hs (even_small c range k hk))
-      ∙ ap (λ o. ports (arriving_reply c m s (2 * k)) o) (comes s (2 * k + 1) hs (odd_small c range k hk))
+  arrived_is = at_switches c range (λ s x. sent.replies (reply_source d s x)) (λ s x. arriving_reply c m s x) comes
 
   -- ---- each place after it
   -- a switch after its replies left
@@ -155,12 +145,7 @@ module _ (c : Settings) (f : Frame) (n : ℕ) (events : List Event) (stops : Lis
   left q = without_replies (f.switch q) (replies_from d rooms f q)
 
   switch_after : (s k : ℕ) → s < d → k < 2 ^ (d - 1) → after.switch (switch_number d s k) ≡ after_replies d s (left (switch_number d s k)) (arrived s k)
-  switch_after s k hs hk =
-      let w = sent.switch (switch_number d s k) in
-      let came = replies_to d sent (switch_number d s k) in
-      at_number d (λ s k. after_replies d s w came) s k hk
-      ∙ ap (λ o. after_replies d s w o) (arrived_is s k hs hk)
-      ∙ ap (λ w. after_replies d s w (arrived s k)) (as_sent.switches (switch_number d s k) (number_small d s k hs hk))
+  switch_after s k hs hk = with_came d (λ s k w o. after_replies d s w o) s k hk (as_sent.switches (switch_number d s k) (number_small d s k hs hk)) (arrived_is s k hs hk)
 
   lane_after : (s x : ℕ) → s < d → x < size c → (sized_lane c after s x).lane ≡ lane_after_split c m s x
   lane_after s x hs hx =

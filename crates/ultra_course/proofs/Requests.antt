@@ -27,8 +27,8 @@ use Rattle.ultra_course.specs.Ports.{at_port}
 use Rattle.ultra_course.specs.Frame.{Frame, Rooms, AreRooms, AreAlike}
 use Rattle.ultra_course.specs.Course.{pending_head, at_switch, finds_room, request_goes, requests_from, request_from, sends_requests, requests_to, request_to, takes_requests, combinations}
 use Rattle.ultra_course.specs.Whole.{sized_lane, sized_replies, whole, Fits}
-use Rattle.ultra_course.proofs.Numbers.{pick_true, pick_false, at_two, at_both, at_places, at_even, at_odd, at_number, number_small, each_number, place_small, at_link, behind}
-use Rattle.ultra_course.proofs.AtFrame.{same_places, same_table, same_machine, half_small, even_small, odd_small, lane_is, bank_is, element_is, cycles_is, sizes_of, request_room_is, alike_at}
+use Rattle.ultra_course.proofs.Numbers.{pick_true, pick_false, at_two, at_both, at_places, at_even, at_odd, at_number, with_came, number_small, each_number, at_link, behind}
+use Rattle.ultra_course.proofs.AtFrame.{same_places, same_table, same_machine, half_small, even_small, odd_small, at_switches, lane_is, bank_is, element_is, cycles_is, sizes_of, request_room_is, alike_at}
 use Rattle.ultra_course.proofs.Replies.{same_test}
 use Rattle.ultra_course.proofs.Regroup.{regroup}
 
@@ -146,16 +146,12 @@ module _ (c : Settings) (f : Frame) (n : ℕ) (events : List Event) (stops : Lis
 
   -- ---- what comes
   on_link : (s x : ℕ) → s < d → x < size c → sent.requests (place_number d s x) ≡ leaving_request c m s x
-  on_link s x hs hx =
-      as_sent.requests (place_number d s x) (place_small d s x (omega (arith, hs)) hx)
-      ∙ at_link d (λ n. requests_from d rooms f n) (λ p. request_from d rooms f p) s x low high hs hx
-      ∙ leaving_is s x hs hx
+  on_link s x hs hx = at_link d low high (λ n. requests_from d rooms f n) (λ p. request_from d rooms f p) sent.requests as_sent.requests s x hs hx ∙ leaving_is s x hs hx
 
   comes_first : (y : ℕ) → y < size c → sent.requests (place_number d d (unshuffled d y)) ≡ arriving_request c m 0 y
   comes_first y hy =
       let b = back d y low high hy in
-      as_sent.requests (place_number d d (unshuffled d y)) (place_small d d (unshuffled d y) (omega arith) b.line_small)
-      ∙ behind d (λ n. requests_from d rooms f n) (λ p. request_from d rooms f p) (unshuffled d y)
+      behind d low high (λ n. requests_from d rooms f n) (λ p. request_from d rooms f p) sent.requests as_sent.requests (unshuffled d y) b.line_small
       ∙ element_sends (unshuffled d y) b.line_small
       ∙ ap (λ y. arriving_request c m 0 y) b.forth
 
@@ -187,11 +183,7 @@ module _ (c : Settings) (f : Frame) (n : ℕ) (events : List Event) (stops : Lis
   arrived s k = ports (arriving_request c m s (2 * k)) (arriving_request c m s (2 * k + 1))
 
   pub arrived_is : (s k : ℕ) → s < d → k < 2 ^ (d - 1) → requests_to d sent (switch_number d s k) ≡ arrived s k
-  arrived_is s k hs hk =
-      let on = sent.requests in
-      at_number d (λ s k. ports (on (request_source d s (2 * k))) (on (request_source d s (2 * k + 1)))) s k hk
-      ∙ ap (λ o. ports o (on (request_source d s (2 * k + 1)))) (comes s (2 * k) hs (even_small c range k hk))
-      ∙ ap (λ o. ports (arriving_request c m s (2 * k)) o) (comes s (2 * k + 1) hs (odd_small c range k hk))
+  arrived_is = at_switches c range (λ s y. sent.requests (request_source d s y)) (λ s y. arriving_request c m s y) comes
 
   -- ---- what arrives at a queue
   coming_is : (s x y : ℕ) (o : Option Request) → y / 2 ≡ x / 2 → coming_to d s (x % 2) o ≡ requests_by c s y x o
@@ -235,11 +227,7 @@ module _ (c : Settings) (f : Frame) (n : ℕ) (events : List Event) (stops : Lis
   -- what is made of a switch and what came to it
   came_with : {X : Type 0} (g : ℕ → ℕ → Switch → Ports (Option Request) → X) (s k : ℕ) → s < d → k < 2 ^ (d - 1)
       → (let q = switch_number d s k in at_switch d (λ s k. g s k (sent.switch q) (requests_to d sent q)) q) ≡ g s k (left (switch_number d s k)) (arrived s k)
-  came_with g s k hs hk =
-      let q = switch_number d s k in
-      at_number d (λ s k. g s k (sent.switch q) (requests_to d sent q)) s k hk
-      ∙ ap (λ o. g s k (sent.switch q) o) (arrived_is s k hs hk)
-      ∙ ap (λ w. g s k w (arrived s k)) (as_sent.switches q (number_small d s k hs hk))
+  came_with g s k hs hk = with_came d g s k hk (as_sent.switches (switch_number d s k) (number_small d s k hs hk)) (arrived_is s k hs hk)
 
   lane_after : (s x : ℕ) → s < d → x < size c → (sized_lane c after s x).lane ≡ next_lane c m s x
   lane_after s x hs hx =

@@ -11,7 +11,6 @@ use Rattle.ultra_model.specs.Sound.{IsSound}
 use Rattle.ultra_units.specs.Numbers.{switch_number, switch_count}
 use Rattle.ultra_halves.specs.Halves.{ports}
 use Rattle.ultra_halves.specs.Elements.{element_of}
-use Rattle.ultra_halves.specs.declared.elements.ProcessingElement.{ProcessingElement}
 use Rattle.ultra_course.specs.Ports.{at_port}
 use Rattle.ultra_course.specs.Frame.{Frame}
 
@@ -51,17 +50,13 @@ module _ (c : Settings) where
     to_pe = ports (empty_replies c.reply_places) (empty_replies c.reply_places);
   }
 
-  -- after n cycles a processing element has issued at most a request in each
-  pub record FitsElement (n p : ℕ) (e : ProcessingElement) : Type 0 where
-    pub site : e.processor.site ≡ site c p
-    pub most_open : e.interface.most_open ≡ c.most_open
-    pub issued : e.issued ≤ n
-
-  -- each unit has the settings' sizes
+  -- each unit has the settings' sizes; after n cycles a processing element has issued at most a request in each
   pub record Fits (n : ℕ) (f : Frame) : Type 0 where
     pub switches : (k : ℕ) → k < switch_count c.stages → emptied (f.switch k) ≡ empty_switch
-    pub modules : (k : ℕ) → k < size c → length (f.bank k).cells ≡ c.cells
-    pub elements : (p : ℕ) → p < size c → FitsElement n p (f.element p)
+    pub cells : (k : ℕ) → k < size c → length (f.bank k).cells ≡ c.cells
+    pub sites : (p : ℕ) → p < size c → (f.element p).processor.site ≡ site c p
+    pub most_open : (p : ℕ) → p < size c → (f.element p).interface.most_open ≡ c.most_open
+    pub issued : (p : ℕ) → p < size c → (f.element p).issued ≤ n
 
   -- after n cycles, and with what happened in the last one, the units make up the machine m, which is sound
   pub record IsFrameOf (n : ℕ) (f : Frame) (events : List Event) (stops : List Stop) (m : Machine) : Type 0 where
