@@ -16,13 +16,13 @@ use Rattle.ultra_model.specs.Places.{places, present, after_leaving}
 use Rattle.ultra_model.specs.Machine.{Settings, Machine, size, last_stage, reply_exit, replies_at, bank_at, element_at}
 use Rattle.ultra_model.specs.Ranges.{AreInRange}
 use Rattle.ultra_model.specs.Phases.{delivery, deliver, without_reply, records_left, replies_made, has_reply_room, reply_before, arriving_reply, leaving_reply, replies_at_exit, next_replies, lane_after_split, delivered, reply_phase}
-use Rattle.ultra_units.specs.Numbers.{switch_number, place_number, reply_source}
+use Rattle.ultra_units.specs.Numbers.{switch_number, element_number, place_number, reply_source, reply_target}
 use Rattle.ultra_halves.specs.Halves.{ports, where_room, going_by, lane_after_reply, replies_without, with_arrived}
 use Rattle.ultra_halves.specs.Switches.{replies_leaving, without_replies, after_replies}
 use Rattle.ultra_halves.specs.Elements.{element_of}
 use Rattle.ultra_course.specs.Ports.{at_port}
 use Rattle.ultra_course.specs.Frame.{Frame, Rooms, AreRooms, AreAlike}
-use Rattle.ultra_course.specs.Course.{reply_goes, replies_from, reply_from, replies_to, reply_to, sends_replies, takes_replies, deliveries}
+use Rattle.ultra_course.specs.Course.{reply_goes, replies_go, replies_from, reply_from, replies_to, reply_to, sends_replies, takes_replies, deliveries}
 use Rattle.ultra_course.specs.Whole.{sized_lane, sized_replies, whole, Fits}
 use Rattle.ultra_course.proofs.Numbers.{pick_true, pick_false, at_two, at_both, at_places, at_even, at_odd, at_number, with_came, number_small, at_link, behind}
 use Rattle.ultra_course.proofs.AtFrame.{same_places, same_table, same_machine, lane_is, replies_is, bank_is, element_is, half_small, even_small, odd_small, at_switches, reply_room_is}
@@ -79,7 +79,7 @@ module _ (c : Settings) (f : Frame) (n : ℕ) (events : List Event) (stops : Lis
       let e : s - 1 + 1 ≡ s = omega (arith, hz) in
       let before : reply_before c m (s - 1) x ≡ head s y =
       pick_false (s - 1 == last) (bank_at m x).out (head (s - 1 + 1) (shuffled d x)) (ne_eqb (s - 1) last past) ∙ ap (λ s. head s (shuffled d x)) e ∙ ap (λ y. head s y) b.forth in
-      ap (λ b. where_room b (head s y)) (pick_false (s == 0) true (rooms.reply (switch_number d (s - 1) (x / 2))) t ∙ room_is (s - 1) x (omega (arith, hs, hz)) b.line_small)
+      ap (λ b. where_room b (head s y)) (pick_false (s == 0) true (rooms.reply (reply_target d s y)) t ∙ ap (λ n. rooms.reply n) (pick_false (s == 0) (element_number d x) (switch_number d (s - 1) (x / 2)) t) ∙ room_is (s - 1) x (omega (arith, hs, hz)) b.line_small)
       ∙ ap (λ o. where_room (has_reply_room c m (s - 1) (x / 2)) o) (sym before)
       ∙ arriving_where (s - 1) x
       ∙ sym (pick_false (s == 0) (head s y) (arriving_reply c m (s - 1) x) t)
@@ -90,7 +90,7 @@ module _ (c : Settings) (f : Frame) (n : ℕ) (events : List Event) (stops : Lis
   pub leaving_is : (s y : ℕ) → s < d → y < size c → at_port (replies_from d rooms f (switch_number d s (y / 2))) (y % 2) ≡ leaving_reply c m s y
   leaving_is s y hs hy =
       let w = f.switch (switch_number d s (y / 2)) in
-      ap (λ p. at_port p (y % 2)) (at_number d (λ s k. replies_leaving (ports (reply_goes d rooms s (2 * k)) (reply_goes d rooms s (2 * k + 1))) w) s (y / 2) (half y hy))
+      ap (λ p. at_port p (y % 2)) (at_number d (λ s k. replies_leaving (replies_go d rooms s k) w) s (y / 2) (half y hy))
       ∙ at_places (λ y q. where_room (reply_goes d rooms s y) (slice_get q.replies 0)) w.to_pe y
       ∙ ap (λ q. where_room (reply_goes d rooms s y) (slice_get q 0)) (sym (replies_is c f n events stops s y hs hy))
       ∙ leaves s y hs hy

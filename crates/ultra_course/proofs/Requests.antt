@@ -18,14 +18,14 @@ use Rattle.ultra_model.specs.Machine.{Settings, Machine, Element, size, last_sta
 use Rattle.ultra_model.specs.Ranges.{AreInRange}
 use Rattle.ultra_model.specs.Phases as phase
 use Rattle.ultra_model.specs.Phases.{without_pending, with_request, arrive_all, has_request_room, request_before, admitted, arriving_request, entering, leaving_request, requests_by, arrivals_by, lane_after_leaving, next_lane, request_phase}
-use Rattle.ultra_units.specs.Numbers.{switch_number, switch_count, place_number, request_source}
+use Rattle.ultra_units.specs.Numbers.{switch_number, switch_count, module_number, place_number, request_source, request_target}
 use Rattle.ultra_halves.specs.Halves.{ports, where_room, lane_without, lane_with, coming_to, arrivals}
 use Rattle.ultra_halves.specs.Switches.{first_request, request_heads, requests_leaving, without_requests, after_requests, combinations_at, combinations_of}
 use Rattle.ultra_halves.specs.Modules.{bank_with}
 use Rattle.ultra_halves.specs.Elements.{element_of}
 use Rattle.ultra_course.specs.Ports.{at_port}
 use Rattle.ultra_course.specs.Frame.{Frame, Rooms, AreRooms, AreAlike}
-use Rattle.ultra_course.specs.Course.{pending_head, at_switch, finds_room, request_goes, requests_from, request_from, sends_requests, requests_to, request_to, takes_requests, combinations}
+use Rattle.ultra_course.specs.Course.{pending_head, at_switch, finds_room, request_goes, requests_go, goes_from_element, requests_from, request_from, sends_requests, requests_to, request_to, takes_requests, combinations}
 use Rattle.ultra_course.specs.Whole.{sized_lane, sized_replies, whole, Fits}
 use Rattle.ultra_course.proofs.Numbers.{pick_true, pick_false, at_two, at_both, at_places, at_even, at_odd, at_number, with_came, number_small, each_number, at_link, behind}
 use Rattle.ultra_course.proofs.AtFrame.{same_places, same_table, same_machine, half_small, even_small, odd_small, at_switches, lane_is, bank_is, element_is, cycles_is, sizes_of, request_room_is, alike_at}
@@ -36,6 +36,10 @@ use Rattle.ultra_course.proofs.Regroup.{regroup}
 first_at : {X Y : Type 0} (b : Bool) (g : X → List Y) (p : Ports X) → elim b [ true ↦ g p.zero ++ g p.one | false ↦ g p.one ++ g p.zero ] ≡ g (elim b [ true ↦ p.zero | false ↦ p.one ]) ++ g (elim b [ true ↦ p.one | false ↦ p.zero ])
 first_at true g p = refl
 first_at false g p = refl
+
+none_moves : {X : Type 0} (b : Bool) → where_room {X = X} b None ≡ None
+none_moves true = refl
+none_moves false = refl
 
 -- a request enters a module whose register is empty
 enters : (i : Option Placed) (o : Option Request) → where_room (is_nothing i) o ≡ elim i [ None ↦ o | Some r ↦ None ]
@@ -76,9 +80,8 @@ module _ (c : Settings) (f : Frame) (n : ℕ) (events : List Event) (stops : Lis
       let port : bit ≡ x % 2 = omega arith in
       ap (λ k. rooms.request (switch_number d s k) bit) row ∙ ap (λ j. rooms.request (switch_number d s (x / 2)) j) port ∙ request_room_is c f n events stops range fits rooms noted s x hs (omega (arith, two, hy))
 
-  finds_is : (s y : ℕ) (o : Option Request) → s < d → y < size c → where_room (finds_room d rooms s y o) o ≡ admitted c m s y o
-  finds_is s y None hs hy = refl
-  finds_is s y (Some r) hs hy = ap (λ b. where_room b (Some r)) (room_is s y r hs hy)
+  finds_is : (s y : ℕ) (r : Request) → s < d → y < size c → where_room (finds_room d rooms s (switch_number d s (y / 2)) r) (Some r) ≡ admitted c m s y (Some r)
+  finds_is s y r hs hy = ap (λ b. where_room b (Some r)) (room_is s y r hs hy)
 
   arriving_as : (s y : ℕ) → admitted c m s y (request_before c m s y) ≡ arriving_request c m s y
   unfolding arriving_request
@@ -89,16 +92,23 @@ module _ (c : Settings) (f : Frame) (n : ℕ) (events : List Event) (stops : Lis
   head s x = first_request (sized_lane c f s x)
 
   -- a request of a processing element comes to stage 0
+  goes_in : (p : ℕ) (o : Option Request) → p < size c → where_room (goes_from_element d rooms p o) o ≡ admitted c m 0 (shuffled d p) o
+  goes_in p None hp = refl
+  goes_in p (Some r) hp = finds_is 0 (shuffled d p) r (omega (arith, low)) (back d p low high hp).entry_small
+
   element_sends : (p : ℕ) → p < size c → request_from d rooms f p ≡ arriving_request c m 0 (shuffled d p)
   element_sends p hp =
-      let b = back d p low high hp in
       let y = shuffled d p in
       let o = pending_head (f.element p) in
       let before : request_before c m 0 y ≡ o =
-      ap (λ p. slice_get (element_at m p).interface.pending 0) b.back ∙ ap (λ (e : Element). slice_get e.interface.pending 0) (element_is c f n events stops p hp) in
-      finds_is 0 y o (omega (arith, low)) b.entry_small ∙ ap (λ o. admitted c m 0 y o) (sym before) ∙ arriving_as 0 y
+      ap (λ p. slice_get (element_at m p).interface.pending 0) (back d p low high hp).back ∙ ap (λ (e : Element). slice_get e.interface.pending 0) (element_is c f n events stops p hp) in
+      goes_in p o hp ∙ ap (λ o. admitted c m 0 y o) (sym before) ∙ arriving_as 0 y
 
   -- the first request of the last stage enters its module
+  goes_to_module : (s x : ℕ) (o : Option Request) → s ≡ last → where_room (request_goes d rooms s x o) o ≡ where_room (rooms.bank x) o
+  goes_to_module s x None e = sym (none_moves (rooms.bank x))
+  goes_to_module s x (Some r) e = ap (λ b. where_room b (Some r)) (pick_true (s == last) (rooms.bank x) (finds_room d rooms (s + 1) (request_target d s x) r) (eq-eqb s last e))
+
   last_sends : (x : ℕ) → x < size c → where_room (rooms.bank x) (head last x) ≡ entering c m x
   last_sends x hx =
       ap (λ b. where_room b (head last x)) (noted.bank x hx)
@@ -107,8 +117,16 @@ module _ (c : Settings) (f : Frame) (n : ℕ) (events : List Event) (stops : Lis
       ∙ ap (λ (b : Bank). elim b.inp [ None ↦ request_of (slice_get (lane_at m last x).queue 0) | Some r ↦ None ]) (sym (bank_is c f n events stops x hx))
 
   -- that of another stage comes to the next
-  next_sends : (s x : ℕ) → s + 1 < d → x < size c → where_room (finds_room d rooms (s + 1) (shuffled d x) (head s x)) (head s x) ≡ arriving_request c m (s + 1) (shuffled d x)
-  next_sends s x hs hx =
+  goes_on : (s x : ℕ) (o : Option Request) → s ≢ last → s + 1 < d → x < size c → where_room (request_goes d rooms s x o) o ≡ admitted c m (s + 1) (shuffled d x) o
+  goes_on s x None h hs hx = refl
+  goes_on s x (Some r) h hs hx =
+      let t : (s == last) ≡ false = ne_eqb s last h in
+      ap (λ b. where_room b (Some r)) (pick_false (s == last) (rooms.bank x) (finds_room d rooms (s + 1) (request_target d s x) r) t)
+      ∙ ap (λ q. where_room (finds_room d rooms (s + 1) q r) (Some r)) (pick_false (s == last) (module_number d x) (switch_number d (s + 1) (shuffled d x / 2)) t)
+      ∙ finds_is (s + 1) (shuffled d x) r hs (back d x low high hx).entry_small
+
+  next_sends : (s x : ℕ) → s ≢ last → s + 1 < d → x < size c → where_room (request_goes d rooms s x (head s x)) (head s x) ≡ arriving_request c m (s + 1) (shuffled d x)
+  next_sends s x h hs hx =
       let b = back d x low high hx in
       let y = shuffled d x in
       let e : s + 1 - 1 ≡ s = omega arith in
@@ -117,30 +135,20 @@ module _ (c : Settings) (f : Frame) (n : ℕ) (events : List Event) (stops : Lis
       pick_false (s + 1 == 0) (slice_get (element_at m (unshuffled d y)).interface.pending 0) (queue (s + 1 - 1) (unshuffled d y)) (ne_eqb (s + 1) 0 (omega arith))
       ∙ ap (λ s. queue s (unshuffled d y)) e ∙ ap (λ x. queue s x) b.back
       ∙ ap (λ (l : Lane). request_of (slice_get l.queue 0)) (lane_is c f n events stops s x (omega (arith, hs)) hx) in
-      finds_is (s + 1) y (head s x) hs b.entry_small ∙ ap (λ o. admitted c m (s + 1) y o) (sym before) ∙ arriving_as (s + 1) y
+      goes_on s x (head s x) h hs hx ∙ ap (λ o. admitted c m (s + 1) y o) (sym before) ∙ arriving_as (s + 1) y
 
   leaves : (s x : ℕ) → s < d → x < size c → where_room (request_goes d rooms s x (head s x)) (head s x) ≡ leaving_request c m s x
   leaves s x hs hx =
-      let finds = finds_room d rooms (s + 1) (shuffled d x) (head s x) in
       let on = arriving_request c m (s + 1) (shuffled d x) in
       ⊎_elim
-      (λ e.
-      let t : (s == last) ≡ true = eq-eqb s last e in
-      ap (λ b. where_room b (head s x)) (pick_true (s == last) (rooms.bank x) finds t)
-      ∙ ap (λ s. where_room (rooms.bank x) (head s x)) e ∙ last_sends x hx
-      ∙ sym (pick_true (s == last) (entering c m x) on t))
-      (λ h.
-      let t : (s == last) ≡ false = ne_eqb s last h in
-      ap (λ b. where_room b (head s x)) (pick_false (s == last) (rooms.bank x) finds t)
-      ∙ next_sends s x (omega (arith, hs, h)) hx
-      ∙ sym (pick_false (s == last) (entering c m x) on t))
+      (λ e. goes_to_module s x (head s x) e ∙ ap (λ s. where_room (rooms.bank x) (head s x)) e ∙ last_sends x hx ∙ sym (pick_true (s == last) (entering c m x) on (eq-eqb s last e)))
+      (λ h. next_sends s x h (omega (arith, hs, h)) hx ∙ sym (pick_false (s == last) (entering c m x) on (ne_eqb s last h)))
       (cases_eq s last)
 
   pub leaving_is : (s x : ℕ) → s < d → x < size c → at_port (requests_from d rooms f (switch_number d s (x / 2))) (x % 2) ≡ leaving_request c m s x
   leaving_is s x hs hx =
       let w = f.switch (switch_number d s (x / 2)) in
-      let heads = request_heads w in
-      ap (λ p. at_port p (x % 2)) (at_number d (λ s k. requests_leaving (ports (request_goes d rooms s (2 * k) heads.zero) (request_goes d rooms s (2 * k + 1) heads.one)) w) s (x / 2) (half x hx))
+      ap (λ p. at_port p (x % 2)) (at_number d (λ s k. requests_leaving (requests_go d rooms s k (request_heads w)) w) s (x / 2) (half x hx))
       ∙ at_places (λ x l. where_room (request_goes d rooms s x (first_request l)) (first_request l)) w.to_mm x
       ∙ leaves s x hs hx
 

@@ -3,14 +3,14 @@ use Rattle.std.specs.Prelude.{ℕ, ◌+◌, ◌-◌, ◌*◌, ◌/◌, ◌%◌, 
 use Rattle.ultra_msg.specs.declared.Request.{Request}
 use Rattle.ultra_msg.specs.declared.ReplyMessage.{ReplyMessage}
 use Rattle.ultra_msg.specs.declared.Event.{Event}
-use Rattle.ultra_route.specs.Route.{shuffled, unshuffled, bit_of}
+use Rattle.ultra_route.specs.Route.{shuffled, bit_of}
 use Rattle.ultra_switch.specs.declared.Ports.{Ports}
 use Rattle.ultra_mem.specs.Serve.{serve, served}
 use Rattle.ultra_isa.specs.declared.Instr.{Instr}
 use Rattle.ultra_model.specs.declared.Stop.{Stop}
 use Rattle.ultra_model.specs.Places.{places, present, joined}
 use Rattle.ultra_model.specs.Phases.{delivery, without_reply, serving, issue_event, stop_of}
-use Rattle.ultra_units.specs.Numbers.{switch_number, switch_count, place_number, reply_source, request_source}
+use Rattle.ultra_units.specs.Numbers.{switch_number, switch_count, place_number, reply_source, reply_target, request_source, request_target}
 use Rattle.ultra_halves.specs.Halves.{ports, where_room}
 use Rattle.ultra_halves.specs.Switches.{replies_leaving, without_replies, after_replies, request_heads, requests_leaving, without_requests, after_requests, combinations_of}
 use Rattle.ultra_halves.specs.Modules.{bank_with}
@@ -27,18 +27,26 @@ module _ (d : ℕ) where
   abbrev pub at_switch : {X : Type 0} → (ℕ → ℕ → X) → ℕ → X
   at_switch g n = g (n / 2 ^ (d - 1)) (n % 2 ^ (d - 1))
 
-  -- what leaves the switches and, behind them, the modules or the processing elements, by the number of the link
+  -- what leaves the switches and, behind them, the modules or the processing elements, by the number
+  -- of the link
   abbrev pub on_links : {X : Type 0} → (ℕ → Ports X) → (ℕ → X) → ℕ → X
-  on_links g h l = elim (nat_lt l (d * 2 ^ d)) [ true ↦ at_port (g (l / 2)) (l % 2) | false ↦ h (l - d * 2 ^ d) ]
+  on_links g h l = elim (nat_lt l (d * 2 ^ d)) [
+    | true ↦ at_port (g (l / 2)) (l % 2)
+    | false ↦ h (l - d * 2 ^ d)
+  ]
 
   -- ---- replies
-  -- whether a reply at PE-side position y of stage s goes on: to its processing element always, and else where the switch before has room
+  -- whether a reply at PE-side position y of stage s goes on: to its processing element always, and
+  -- else where the switch before has room
   abbrev pub reply_goes : Rooms → ℕ → ℕ → Bool
-  reply_goes rooms s y = elim (s == 0) [ true ↦ true | false ↦ rooms.reply (switch_number d (s - 1) (unshuffled d y / 2)) ]
+  reply_goes rooms s y = elim (s == 0) [ true ↦ true | false ↦ rooms.reply (reply_target d s y) ]
+
+  abbrev pub replies_go : Rooms → ℕ → ℕ → Ports Bool
+  replies_go rooms s k = ports (reply_goes rooms s (2 * k)) (reply_goes rooms s (2 * k + 1))
 
   -- the replies that leave switch n, and the one that leaves module m
   abbrev pub replies_from : Rooms → Frame → ℕ → Ports (Option ReplyMessage)
-  replies_from rooms f n = at_switch (λ s k. replies_leaving (ports (reply_goes rooms s (2 * k)) (reply_goes rooms s (2 * k + 1))) (f.switch n)) n
+  replies_from rooms f n = at_switch (λ s k. replies_leaving (replies_go rooms s k) (f.switch n)) n
 
   abbrev pub reply_from : Rooms → Frame → ℕ → Option ReplyMessage
   reply_from rooms f m = where_room (rooms.reply (switch_number d (d - 1) (m / 2))) (f.bank m).out
@@ -52,7 +60,8 @@ module _ (d : ℕ) where
 
   -- the replies on the links to switch n, and the one on the link to processing element p
   abbrev pub replies_to : Frame → ℕ → Ports (Option ReplyMessage)
-  replies_to f n = at_switch (λ s k. ports (f.replies (reply_source d s (2 * k))) (f.replies (reply_source d s (2 * k + 1)))) n
+  replies_to f n =
+      at_switch (λ s k. ports (f.replies (reply_source d s (2 * k))) (f.replies (reply_source d s (2 * k + 1)))) n
 
   abbrev pub reply_to : Frame → ℕ → Option ReplyMessage
   reply_to f p = f.replies (place_number d 0 (shuffled d p))
@@ -75,23 +84,33 @@ module _ (d : ℕ) where
   servings f = present (places (2 ^ d) (λ m. serving m (served (f.bank m))))
 
   -- ---- requests
-  -- whether a request that comes to PE-side position y of stage s finds room in the queue that it goes to
-  abbrev pub finds_room : Rooms → ℕ → ℕ → Option Request → Bool
-  finds_room rooms s y None = false
-  finds_room rooms s y (Some r) = rooms.request (switch_number d s (y / 2)) (bit_of (d - 1 - s) (r.cell % 2 ^ d))
+  -- whether a request finds room in the queue by which it leaves stage s, at the switch of a number
+  abbrev pub finds_room : Rooms → ℕ → ℕ → Request → Bool
+  finds_room rooms s n r = rooms.request n (bit_of (d - 1 - s) (r.cell % 2 ^ d))
 
-  -- whether a request at memory-side position x of stage s goes on, to its module or to the next stage
+  -- whether the first request at memory-side position x of stage s, if there is one, goes on: to its
+  -- module, or to the next stage
   abbrev pub request_goes : Rooms → ℕ → ℕ → Option Request → Bool
-  request_goes rooms s x o = elim (s == d - 1) [ true ↦ rooms.bank x | false ↦ finds_room rooms (s + 1) (shuffled d x) o ]
+  request_goes rooms s x None = false
+  request_goes rooms s x (Some r) = elim (s == d - 1) [
+    | true ↦ rooms.bank x
+    | false ↦ finds_room rooms (s + 1) (request_target d s x) r
+  ]
+
+  abbrev pub requests_go : Rooms → ℕ → ℕ → Ports (Option Request) → Ports Bool
+  requests_go rooms s k heads = ports (request_goes rooms s (2 * k) heads.zero) (request_goes rooms s (2 * k + 1) heads.one)
+
+  -- whether that of processing element p goes to its switch of stage 0
+  abbrev pub goes_from_element : Rooms → ℕ → Option Request → Bool
+  goes_from_element rooms p None = false
+  goes_from_element rooms p (Some r) = finds_room rooms 0 (switch_number d 0 (shuffled d p / 2)) r
 
   -- the requests that leave switch n, and the one that leaves processing element p
   abbrev pub requests_from : Rooms → Frame → ℕ → Ports (Option Request)
-  requests_from rooms f n =
-      at_switch
-      (λ s k. requests_leaving (ports (request_goes rooms s (2 * k) (request_heads (f.switch n)).zero) (request_goes rooms s (2 * k + 1) (request_heads (f.switch n)).one)) (f.switch n)) n
+  requests_from rooms f n = at_switch (λ s k. requests_leaving (requests_go rooms s k (request_heads (f.switch n))) (f.switch n)) n
 
   abbrev pub request_from : Rooms → Frame → ℕ → Option Request
-  request_from rooms f p = where_room (finds_room rooms 0 (shuffled d p) (pending_head (f.element p))) (pending_head (f.element p))
+  request_from rooms f p = let head = pending_head (f.element p) in where_room (goes_from_element rooms p head) head
 
   abbrev pub sends_requests : Rooms → Frame → Frame
   sends_requests rooms f = record f {
@@ -102,7 +121,8 @@ module _ (d : ℕ) where
 
   -- the requests on the links to switch n, and the one on the link to module m
   abbrev pub requests_to : Frame → ℕ → Ports (Option Request)
-  requests_to f n = at_switch (λ s k. ports (f.requests (request_source d s (2 * k))) (f.requests (request_source d s (2 * k + 1)))) n
+  requests_to f n =
+      at_switch (λ s k. ports (f.requests (request_source d s (2 * k))) (f.requests (request_source d s (2 * k + 1)))) n
 
   abbrev pub request_to : Frame → ℕ → Option Request
   request_to f m = f.requests (place_number d (d - 1) m)
@@ -116,14 +136,16 @@ module _ (d : ℕ) where
   }
 
   unfoldable pub combinations : ℕ → Frame → List Event
-  combinations i f = joined (places (switch_count d) (λ n. at_switch (λ s k. combinations_of d s k i (f.switch n) (requests_to f n)) n))
+  combinations i f =
+      joined (places (switch_count d) (λ n. at_switch (λ s k. combinations_of d s k i (f.switch n) (requests_to f n)) n))
 
   -- ---- processors
   abbrev pub executes : List Instr → Frame → Frame
   executes program f = record f { element = λ p. executed program (f.element p) }
 
   unfoldable pub issues : List Instr → Frame → List Event
-  issues program f = present (places (2 ^ d) (λ p. issue_event (element_of (f.element p)) (step_at program (f.element p)).sent))
+  issues program f =
+      present (places (2 ^ d) (λ p. issue_event (element_of (f.element p)) (step_at program (f.element p)).sent))
 
   unfoldable pub stops : List Instr → Frame → List Stop
   stops program f = present (places (2 ^ d) (λ p. stop_of p (step_at program (f.element p)).was))
