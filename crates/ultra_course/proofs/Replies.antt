@@ -1,8 +1,9 @@
 -- replies that are sent and taken make up the definition's reply phase
-use Rattle.std.proofs.Common.{◌≡◌, ◌≢◌, ℕ, ◌+◌, ◌*◌, ◌-◌, ◌/◌, ◌%◌, ◌^◌, ◌<◌, ◌≤◌, List, [], ◌∷◌, ◌++◌, Bool, true, false, refl, arith, ap, ◌∙◌, sym, cond, ⊎_elim}
+use Rattle.std.proofs.Common.{◌≡◌, ◌≢◌, ℕ, ◌+◌, ◌*◌, ◌-◌, ◌/◌, ◌%◌, ◌^◌, ◌<◌, ◌≤◌, List, [], ◌++◌, true, false, refl, arith, ap, ◌∙◌, sym, ⊎_elim}
 use Rattle.std.specs.Prelude.{◌==◌, Option, slice_get}
 use Rattle.std.specs.List.{filter}
 use Rattle.std.proofs.lemmas.Bool.{eq-eqb, ne_eqb, cases_eq}
+use Rattle.std.proofs.lemmas.List.Elements.{filter_agree}
 use Rattle.ultra_msg.specs.declared.ReplyMessage.{ReplyMessage}
 use Rattle.ultra_msg.specs.declared.Event.{Event}
 use Rattle.ultra_route.specs.Route.{shuffled, unshuffled, bit_of}
@@ -30,10 +31,6 @@ use Rattle.ultra_course.proofs.AtFrame.{same_places, same_table, same_machine, l
 pub same_test : (a b y j : ℕ) → y ≡ a + j → (b == j) ≡ (a + b == y)
 same_test a b y j e =
     ⊎_elim (λ h. eq-eqb b j h ∙ sym (eq-eqb (a + b) y (omega (arith, h, e)))) (λ h. ne_eqb b j h ∙ sym (ne_eqb (a + b) y (omega (arith, h, e)))) (cases_eq b j)
-
-filter-same : {X : Type 0} (p q : X → Bool) (xs : List X) → ((x : X) → p x ≡ q x) → filter p xs ≡ filter q xs
-filter-same p q [] h = refl
-filter-same p q (x ∷ xs) h = ap (λ b. cond b (x ∷ filter p xs) (filter p xs)) (h x) ∙ ap (λ ys. cond (q x) (x ∷ ys) ys) (filter-same p q xs h)
 
 module _ (c : Settings) (f : Frame) (n : ℕ) (events : List Event) (stops : List Stop) (range : AreInRange c) (fits : Fits c n f)
     (rooms : Rooms) (noted : AreRooms c.stages f rooms) (sent : Frame) (as_sent : AreAlike c.stages sent (sends_replies c.stages rooms f)) where
@@ -158,8 +155,8 @@ module _ (c : Settings) (f : Frame) (n : ℕ) (events : List Event) (stops : Lis
   made_at : (s x y : ℕ) (ws : List WaitRecord) → s < d → x < size c → x / 2 ≡ y / 2 → ws ≡ (sized_lane c f s x).lane.records → going_by d s (y % 2) (replies_made ws (arriving_reply c m s x)) ≡ replies_at_exit c m s x y
   made_at s x y ws hs hx e w =
       let a = arriving_reply c m s x in
-      filter-same (λ (r : ReplyMessage). bit_of (d - 1 - s) r.pe == y % 2) (λ r. reply_exit c s x r == y) (replies_made ws a)
-      (λ r. same_test (2 * (x / 2)) (bit_of (d - 1 - s) r.pe) y (y % 2) (omega (arith, e)))
+      filter_agree (λ (r : ReplyMessage). bit_of (d - 1 - s) r.pe == y % 2) (λ r. reply_exit c s x r == y)
+      (λ r. same_test (2 * (x / 2)) (bit_of (d - 1 - s) r.pe) y (y % 2) (omega (arith, e))) (replies_made ws a)
       ∙ ap (λ ws. filter (λ r. reply_exit c s x r == y) (replies_made ws a)) (w ∙ ap (λ (l : Lane). l.records) (sym (lane_is c f n events stops s x hs hx)))
 
   replies_after : (s y : ℕ) → s < d → y < size c → (sized_replies c after s y).replies ≡ next_replies c m s y

@@ -27,7 +27,8 @@ module _ (d : ℕ) where
   abbrev pub at_switch : {X : Type 0} → (ℕ → ℕ → X) → ℕ → X
   at_switch g n = g (n / 2 ^ (d - 1)) (n % 2 ^ (d - 1))
 
-  -- what leaves the switches and, behind them, the modules or the processing elements, by the number
+  -- what leaves the switches and, behind them, the modules or the processing elements, by the
+  -- number
   -- of the link
   abbrev pub on_links : {X : Type 0} → (ℕ → Ports X) → (ℕ → X) → ℕ → X
   on_links g h l = elim (nat_lt l (d * 2 ^ d)) [
@@ -88,7 +89,8 @@ module _ (d : ℕ) where
   abbrev pub finds_room : Rooms → ℕ → ℕ → Request → Bool
   finds_room rooms s n r = rooms.request n (bit_of (d - 1 - s) (r.cell % 2 ^ d))
 
-  -- whether the first request at memory-side position x of stage s, if there is one, goes on: to its
+  -- whether the first request at memory-side position x of stage s, if there is one, goes on: to
+  -- its
   -- module, or to the next stage
   abbrev pub request_goes : Rooms → ℕ → ℕ → Option Request → Bool
   request_goes rooms s x None = false
@@ -98,7 +100,8 @@ module _ (d : ℕ) where
   ]
 
   abbrev pub requests_go : Rooms → ℕ → ℕ → Ports (Option Request) → Ports Bool
-  requests_go rooms s k heads = ports (request_goes rooms s (2 * k) heads.zero) (request_goes rooms s (2 * k + 1) heads.one)
+  requests_go rooms s k heads =
+      ports (request_goes rooms s (2 * k) heads.zero) (request_goes rooms s (2 * k + 1) heads.one)
 
   -- whether that of processing element p goes to its switch of stage 0
   abbrev pub goes_from_element : Rooms → ℕ → Option Request → Bool
@@ -107,10 +110,13 @@ module _ (d : ℕ) where
 
   -- the requests that leave switch n, and the one that leaves processing element p
   abbrev pub requests_from : Rooms → Frame → ℕ → Ports (Option Request)
-  requests_from rooms f n = at_switch (λ s k. requests_leaving (requests_go rooms s k (request_heads (f.switch n))) (f.switch n)) n
+  requests_from rooms f n =
+      at_switch (λ s k. requests_leaving (requests_go rooms s k (request_heads (f.switch n))) (f.switch n)) n
 
   abbrev pub request_from : Rooms → Frame → ℕ → Option Request
-  request_from rooms f p = let head = pending_head (f.element p) in where_room (goes_from_element rooms p head) head
+  request_from rooms f p =
+      let head = pending_head (f.element p) in
+      where_room (goes_from_element rooms p head) head
 
   abbrev pub sends_requests : Rooms → Frame → Frame
   sends_requests rooms f = record f {

@@ -10,7 +10,8 @@ use Rattle.ultra_model.specs.Machine.{is_nothing}
 use Rattle.ultra_units.specs.Numbers.{switch_count}
 use Rattle.ultra_course.specs.Ports.{at_port}
 
--- its units: switches by their numbers over all stages, modules, and processing elements; and what is on its links, by their numbers
+-- its units: switches by their numbers over all stages, modules, and processing elements; and what
+-- is on its links, by their numbers
 pub record Frame : Type 0 where
   pub switch : ℕ → Switch
   pub bank : ℕ → Bank
@@ -18,7 +19,8 @@ pub record Frame : Type 0 where
   pub replies : ℕ → Option ReplyMessage
   pub requests : ℕ → Option Request
 
--- what has room: which switches for replies, which of their queues toward memory for requests, by switch and port, and which modules for a request
+-- what has room: which switches for replies, which of their queues toward memory for requests, by
+-- switch and port, and which modules for a request
 pub record Rooms : Type 0 where
   pub reply : ℕ → Bool
   pub request : ℕ → ℕ → Bool

@@ -24,7 +24,8 @@ pub record Course : Type 0 where
 
 -- in cycle n of a machine of d stages
 module _ (d n : ℕ) (program : List Instr) (x : Course) where
-  -- each frame is the one before it after a half; the rooms are those of the machine where they are noted, at the start and after the memory has served
+  -- each frame is the one before it after a half; the rooms are those of the machine where they are
+  -- noted, at the start and after the memory has served
   pub record IsCourse : Type 0 where
     pub first_rooms : AreRooms d x.start x.first_rooms
     pub replies_sent : AreAlike d x.replies_sent (sends_replies d x.first_rooms x.start)
@@ -35,7 +36,8 @@ module _ (d n : ℕ) (program : List Instr) (x : Course) where
     pub requests_taken : AreAlike d x.requests_taken (takes_requests d n x.requests_sent)
     pub steps_made : AreAlike d x.steps_made (executes d program x.requests_taken)
 
-  -- what happens: deliveries by processing element, servings by module, combinations by stage, position and arrival, issues by processing element
+  -- what happens: deliveries by processing element, servings by module, combinations by stage,
+  -- position and arrival, issues by processing element
   abbrev pub events_of : List Event
   events_of =
       deliveries d x.replies_sent
@@ -46,15 +48,19 @@ module _ (d n : ℕ) (program : List Instr) (x : Course) where
   abbrev pub stops_of : List Stop
   stops_of = stops d program x.requests_taken
 
--- each half finds what the units ask, the six make up a cycle of the definition, and no message is left on a link
+-- each half finds what the units ask, the six make up a cycle of the definition, and no message is
+-- left on a link
 pub record IsCycled (c : Settings) (n : ℕ) (program : List Instr) (x : Course) (m : Machine) : Type 0 where
   pub replies : CanTakeReplies c.stages x.replies_sent
   pub requests : CanTakeRequests c.stages x.requests_sent
   pub steps : n < 2 ^ 32 - 1 → CanExecute c.stages x.requests_taken
-  pub machine : IsFrameOf c (n + 1) x.steps_made (events_of c.stages n program x) (stops_of c.stages n program x) (cycle c program m)
+  pub machine :
+      IsFrameOf c (n + 1) x.steps_made
+      (events_of c.stages n program x) (stops_of c.stages n program x) (cycle c program m)
   pub clear : IsClear c.stages x.steps_made
 
 abbrev pub CycleLaw : Type 0
 CycleLaw =
-    (c : Settings) (n : ℕ) (program : List Instr) (x : Course) (events : List Event) (stops : List Stop) (m : Machine)
+    (c : Settings) (n : ℕ) (program : List Instr) (x : Course) (events : List Event) (stops : List Stop)
+    (m : Machine)
     → IsFrameOf c n x.start events stops m → IsCourse c.stages n program x → IsCycled c n program x m

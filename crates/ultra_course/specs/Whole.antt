@@ -22,7 +22,8 @@ module _ (c : Settings) (f : Frame) where
   abbrev pub sized_replies : ℕ → ℕ → SizedReplies
   sized_replies s y = at_port (f.switch (switch_number c.stages s (y / 2))).to_pe (y % 2)
 
-  -- the machine that the units make up, with how many cycles it has made and what happened in the last one
+  -- the machine that the units make up, with how many cycles it has made and what happened in the
+  -- last one
   unfoldable pub whole : ℕ → List Event → List Stop → Machine
   whole n events stops = record {
     lanes = table c.stages (size c) (λ s x. (sized_lane s x).lane);
@@ -50,7 +51,8 @@ module _ (c : Settings) where
     to_pe = ports (empty_replies c.reply_places) (empty_replies c.reply_places);
   }
 
-  -- each unit has the settings' sizes; after n cycles a processing element has issued at most a request in each
+  -- each unit has the settings' sizes; after n cycles a processing element has issued at most a
+  -- request in each
   pub record Fits (n : ℕ) (f : Frame) : Type 0 where
     pub switches : (k : ℕ) → k < switch_count c.stages → emptied (f.switch k) ≡ empty_switch
     pub cells : (k : ℕ) → k < size c → length (f.bank k).cells ≡ c.cells
@@ -58,7 +60,8 @@ module _ (c : Settings) where
     pub most_open : (p : ℕ) → p < size c → (f.element p).interface.most_open ≡ c.most_open
     pub issued : (p : ℕ) → p < size c → (f.element p).issued ≤ n
 
-  -- after n cycles, and with what happened in the last one, the units make up the machine m, which is sound
+  -- after n cycles, and with what happened in the last one, the units make up the machine m, which
+  -- is sound
   pub record IsFrameOf (n : ℕ) (f : Frame) (events : List Event) (stops : List Stop) (m : Machine) : Type 0 where
     pub range : AreInRange c
     pub fits : Fits n f
