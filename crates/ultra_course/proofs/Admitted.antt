@@ -1,7 +1,6 @@
 -- what the units ask of the halves that take messages holds in a sound machine
-use Rattle.std.proofs.Common.{◌≡◌, ℕ, ◌+◌, ◌*◌, ◌-◌, ◌/◌, ◌%◌, ◌^◌, ◌<◌, ◌≤◌, List, [], ◌∷◌, Bool, true, false, refl, arith, ap, ◌∙◌, sym, subst, length}
+use Rattle.std.proofs.Common.{◌≡◌, ℕ, ◌+◌, ◌*◌, ◌-◌, ◌/◌, ◌%◌, ◌^◌, ◌<◌, List, Bool, true, false, refl, arith, ap, ◌∙◌, sym, subst, length}
 use Rattle.std.specs.Prelude.{◌&&◌, nat_le, Option, Some, None, IfSome, slice_get, IsTrue}
-use Rattle.std.specs.List.{AllByRecursion}
 use Rattle.std.proofs.lemmas.Bool.{eqb-true}
 use Rattle.std.proofs.lemmas.Bool.Decides.{nat_tests}
 use Rattle.std.proofs.lemmas.Nat.{pow_pos}
@@ -11,17 +10,18 @@ use Rattle.ultra_msg.specs.declared.ReplyMessage.{ReplyMessage}
 use Rattle.ultra_msg.specs.declared.Event.{Event}
 use Rattle.ultra_route.specs.Route.{bit_of}
 use Rattle.ultra_switch.specs.declared.Switch.{Switch}
-use Rattle.ultra_switch.specs.declared.Entry.{Entry}
 use Rattle.ultra_switch.specs.Queues.{request_of}
 use Rattle.ultra_mem.specs.declared.Placed.{Placed}
 use Rattle.ultra_mem.specs.Serve.{Bank}
 use Rattle.ultra_model.specs.declared.Stop.{Stop}
 use Rattle.ultra_model.specs.Places.{after_leaving}
 use Rattle.ultra_model.specs.Machine.{Settings, Machine, Element, size, last_stage, request_exit, lane_at, bank_at, element_at}
-use Rattle.ultra_model.specs.Phases.{has_reply_room, reply_before, arriving_reply, delivered, has_request_room, request_before, admitted, arriving_request}
+use Rattle.ultra_model.specs.Phases.{has_reply_room, reply_before, arriving_reply, delivered, has_request_room, request_before, admitted, arriving_request, entering}
 use Rattle.ultra_model.specs.Ranges.{AreInRange}
-use Rattle.ultra_model.specs.Routed.{IsEntryAt}
+use Rattle.ultra_model.specs.Routed.{IsAtModule}
 use Rattle.ultra_model.specs.Sound.{IsSound}
+use Rattle.ultra_model.proofs.Capacities.{after_leaving_shorter}
+use Rattle.ultra_model.proofs.Routes.{entering_well}
 use Rattle.ultra_model.proofs.Interfaces.{delivered_waiting}
 use Rattle.ultra_units.specs.Numbers.{switch_number}
 use Rattle.ultra_halves.specs.Halves.{leaves_by}
@@ -42,23 +42,18 @@ let_through : {X : Type 0} (b : Bool) (o : Option X) (x : X) → elim b [ true �
 let_through true o x e = (refl, e)
 let_through false o x e = cc
 
-entering_cases : (i : Option Placed) (o : Option Request) (r : Request) → elim i [ None ↦ o | Some p ↦ None ] ≡ Some r → (i ≡ None) × (o ≡ Some r)
-entering_cases None o r e = (refl, e)
-entering_cases (Some p) o r e = cc
+enters_empty : (i : Option Placed) (o : Option Request) (r : Request) → elim i [ None ↦ o | Some p ↦ None ] ≡ Some r → i ≡ None
+enters_empty None o r e = refl
+enters_empty (Some p) o r e = cc
 
 both_still : (a b a' b' : Bool) → (a ≡ true → a' ≡ true) → (b ≡ true → b' ≡ true) → (a && b) ≡ true → (a' && b') ≡ true
 both_still true true a' b' g h e = rw (g refl, h refl) refl
 both_still true false a' b' g h e = cc
 both_still false b a' b' g h e = cc
 
-shorter : {X Y : Type 0} (o : Option Y) (xs : List X) → length (after_leaving o xs) ≤ length xs
-shorter None xs = omega arith
-shorter (Some y) [] = omega arith
-shorter (Some y) (x ∷ xs) = omega arith
-
 -- room for n more stays where something leaves
 still_room : {X Y : Type 0} (n places : ℕ) (o : Option Y) (xs : List X) → nat_le (length xs + n) places ≡ true → nat_le (length (after_leaving o xs) + n) places ≡ true
-still_room n places o xs h = let less = shorter o xs in grind (arith, nat_tests, less)
+still_room n places o xs h = let less = after_leaving_shorter o xs in grind (arith, nat_tests, less)
 
 if_some : {X : Type 0} (P : X → Type 0) (o : Option X) (x : X) → IfSome o P → o ≡ Some x → P x
 if_some {X = X} P o x h e = let Q : Option X → Type 0 = λ o. IfSome o P in subst Q e h
@@ -119,10 +114,6 @@ module _ (c : Settings) (f : Frame) (n : ℕ) (events : List Event) (stops : Lis
   unfolding arriving_request
   arrives_way s y r e = admitted_room s y (request_before c m s y) r e
 
-  head_routed : (k : ℕ) (es : List Entry) (r : Request) → AllByRecursion (IsEntryAt c (last_stage c) k) es → request_of (slice_get es 0) ≡ Some r → r.cell < size c * c.cells
-  head_routed k [] r a e = cc
-  head_routed k (x ∷ xs) r a e = let same : x.request ≡ r = cc in subst (λ (q : Request). q.cell < size c * c.cells) same a.0.reference.cell
-
   module _ (rooms : Rooms) (noted : AreRooms d f rooms) (sent : Frame) (as_sent : AreAlike d sent (sends_requests d rooms f)) where
     -- a switch after its requests left
     abbrev gone : ℕ → Switch
@@ -154,9 +145,8 @@ module _ (c : Settings) (f : Frame) (n : ℕ) (events : List Event) (stops : Lis
           one = λ r came. has_way s k (2 * k + 1) r hs hk (odd_small c range k hk) (omega arith) came;
         })
 
-    enters : (k : ℕ) (r : Request) → k < size c → request_to d sent k ≡ Some r → ((bank_at m k).inp ≡ None) × (request_of (slice_get (lane_at m (last_stage c) k).queue 0) ≡ Some r)
-    enters k r hk e =
-        entering_cases (bank_at m k).inp (request_of (slice_get (lane_at m (last_stage c) k).queue 0)) r (sym (request.comes_in c f n events stops range fits rooms noted sent as_sent k hk) ∙ e)
+    comes_in : (k : ℕ) (r : Request) → k < size c → request_to d sent k ≡ Some r → entering c m k ≡ Some r
+    comes_in k r hk e = sym (request.comes_in c f n events stops range fits rooms noted sent as_sent k hk) ∙ e
 
     pub can_take_requests : IsSound c m → CanTakeRequests d sent
     can_take_requests sound = record {
@@ -165,12 +155,12 @@ module _ (c : Settings) (f : Frame) (n : ℕ) (events : List Event) (stops : Lis
           subst (λ s. switch.CanTakeRequests d s (sent.switch q) (requests_to d sent q)) (sym (at_number d (λ s k. s) s k hk)) (switch_takes_requests s k hs hk));
       within = λ k hk r e.
           let some : 0 < size c = pow_pos d in
-          let some_stages = range.some_stages in
-          let cell = head_routed k (lane_at m (last_stage c) k).queue r (sound.routes.requests (last_stage c) k (omega (arith, some_stages)) hk) (enters k r hk e).1 in
+          let cell = (if_some (λ r. IsAtModule c k r.pe r.cell) (entering c m k) r (entering_well c range m sound.routes k hk) (comes_in k r hk e)).reference.cell in
           let below : r.cell / size c < c.cells = (div-lt_iff_lt-mul some).1 (omega (arith, cell)) in
           let cells = ap (λ (b : Bank). length b.cells) (as_sent.banks k hk) ∙ fits.cells k hk in
           omega (arith, below, cells);
-      empty = λ k hk r e. ap (λ (b : Bank). b.inp) (as_sent.banks k hk ∙ sym (bank_is c f n events stops k hk)) ∙ (enters k r hk e).0;
+      empty = λ k hk r e.
+          ap (λ (b : Bank). b.inp) (as_sent.banks k hk ∙ sym (bank_is c f n events stops k hk)) ∙ enters_empty (bank_at m k).inp (request_of (slice_get (lane_at m (last_stage c) k).queue 0)) r (comes_in k r hk e);
     }
 
   -- ---- processors

@@ -31,61 +31,37 @@ one_more : (n : ℕ) (o : Option Request) → issues_after n o ≤ n + 1
 one_more n None = omega arith
 one_more n (Some r) = omega arith
 
-module _ (c : Settings) (n : ℕ) (f : Frame) where
-  pub fits_alike : (g : Frame) → AreAlike c.stages f g → Fits c n g → Fits c n f
-  fits_alike g a fits = record {
-    switches = λ k hk. ap (λ w. emptied w) (a.switches k hk) ∙ fits.switches k hk;
-    cells = λ k hk. ap (λ (b : Bank). length b.cells) (a.banks k hk) ∙ fits.cells k hk;
-    sites = λ p hp. ap (λ e. e.processor.site) (a.elements p hp) ∙ fits.sites p hp;
-    most_open = λ p hp. ap (λ e. e.interface.most_open) (a.elements p hp) ∙ fits.most_open p hp;
-    issued = λ p hp. subst (λ e. e.issued ≤ n) (sym (a.elements p hp)) (fits.issued p hp);
+module _ (c : Settings) (n : ℕ) (f : Frame) (fits : Fits c n f) (h : Frame) where
+  abbrev d : ℕ
+  d = c.stages
+
+  -- a frame alike to one with the sizes of this one, after k cycles
+  kept : (g : Frame) → AreAlike d h g → (k : ℕ) → ((q : ℕ) → emptied (g.switch q) ≡ emptied (f.switch q)) → ((m : ℕ) → length (g.bank m).cells ≡ length (f.bank m).cells)
+      → ((p : ℕ) → (g.element p).processor.site ≡ (f.element p).processor.site) → ((p : ℕ) → (g.element p).interface.most_open ≡ (f.element p).interface.most_open)
+      → ((p : ℕ) → (f.element p).issued ≤ n → (g.element p).issued ≤ k) → Fits c k h
+  kept g a k switches cells sites most_open issued = record {
+    switches = λ q hq. ap (λ w. emptied w) (a.switches q hq) ∙ switches q ∙ fits.switches q hq;
+    cells = λ m hm. ap (λ (b : Bank). length b.cells) (a.banks m hm) ∙ cells m ∙ fits.cells m hm;
+    sites = λ p hp. ap (λ e. e.processor.site) (a.elements p hp) ∙ sites p ∙ fits.sites p hp;
+    most_open = λ p hp. ap (λ e. e.interface.most_open) (a.elements p hp) ∙ most_open p ∙ fits.most_open p hp;
+    issued = λ p hp. subst (λ e. e.issued ≤ k) (sym (a.elements p hp)) (issued p (fits.issued p hp));
   }
 
-  module _ (fits : Fits c n f) where
-    pub replies_sent : (rooms : Rooms) → Fits c n (sends_replies c.stages rooms f)
-    replies_sent rooms = record {
-      switches = fits.switches;
-      cells = λ k hk. cells_without (f.bank k) (reply_from c.stages rooms f k) ∙ fits.cells k hk;
-      sites = fits.sites;
-      most_open = fits.most_open;
-      issued = fits.issued;
-    }
+  pub replies_sent : (rooms : Rooms) → AreAlike d h (sends_replies d rooms f) → Fits c n h
+  replies_sent rooms a = kept (sends_replies d rooms f) a n (λ q. refl) (λ m. cells_without (f.bank m) (reply_from d rooms f m)) (λ p. refl) (λ p. refl) (λ p l. l)
 
-    pub replies_taken : Fits c n (takes_replies c.stages f)
-    replies_taken = record {
-      switches = fits.switches;
-      cells = fits.cells;
-      sites = fits.sites;
-      most_open = fits.most_open;
-      issued = λ p hp. let same = delivered_issued (f.element p) (reply_to c.stages f p) in let few = fits.issued p hp in omega (arith, same, few);
-    }
+  pub replies_taken : AreAlike d h (takes_replies d f) → Fits c n h
+  replies_taken a = kept (takes_replies d f) a n (λ q. refl) (λ m. refl) (λ p. refl) (λ p. refl) (λ p l. omega (arith, delivered_issued (f.element p) (reply_to d f p), l))
 
-    pub memory_served : Fits c n (serves c.stages f)
-    memory_served = record {
-      switches = fits.switches;
-      cells = λ k hk. length-serve (f.bank k) ∙ fits.cells k hk;
-      sites = fits.sites;
-      most_open = fits.most_open;
-      issued = fits.issued;
-    }
+  pub memory_served : AreAlike d h (serves d f) → Fits c n h
+  memory_served a = kept (serves d f) a n (λ q. refl) (λ m. length-serve (f.bank m)) (λ p. refl) (λ p. refl) (λ p l. l)
 
-    pub requests_sent : (rooms : Rooms) → Fits c n (sends_requests c.stages rooms f)
-    requests_sent rooms = record { switches = fits.switches; cells = fits.cells; sites = fits.sites; most_open = fits.most_open; issued = fits.issued }
+  pub requests_sent : (rooms : Rooms) → AreAlike d h (sends_requests d rooms f) → Fits c n h
+  requests_sent rooms a = kept (sends_requests d rooms f) a n (λ q. refl) (λ m. refl) (λ p. refl) (λ p. refl) (λ p l. l)
 
-    pub requests_taken : Fits c n (takes_requests c.stages n f)
-    requests_taken = record {
-      switches = fits.switches;
-      cells = λ k hk. cells_with (2 ^ c.stages) (f.bank k) (request_to c.stages f k) ∙ fits.cells k hk;
-      sites = fits.sites;
-      most_open = fits.most_open;
-      issued = fits.issued;
-    }
+  pub requests_taken : AreAlike d h (takes_requests d n f) → Fits c n h
+  requests_taken a = kept (takes_requests d n f) a n (λ q. refl) (λ m. cells_with (2 ^ d) (f.bank m) (request_to d f m)) (λ p. refl) (λ p. refl) (λ p l. l)
 
-    pub steps_made : (program : List Instr) → Fits c (n + 1) (executes c.stages program f)
-    steps_made program = record {
-      switches = fits.switches;
-      cells = fits.cells;
-      sites = fits.sites;
-      most_open = fits.most_open;
-      issued = λ p hp. let more = one_more (f.element p).issued (step_at program (f.element p)).sent in let few = fits.issued p hp in omega (arith, more, few);
-    }
+  pub steps_made : (program : List Instr) → AreAlike d h (executes d program f) → Fits c (n + 1) h
+  steps_made program a =
+      kept (executes d program f) a (n + 1) (λ q. refl) (λ m. refl) (λ p. refl) (λ p. refl) (λ p l. omega (arith, one_more (f.element p).issued (step_at program (f.element p)).sent, l))

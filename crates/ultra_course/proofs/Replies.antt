@@ -17,6 +17,7 @@ use Rattle.ultra_model.specs.Places.{places, present, after_leaving}
 use Rattle.ultra_model.specs.Machine.{Settings, Machine, size, last_stage, reply_exit, replies_at, bank_at, element_at}
 use Rattle.ultra_model.specs.Ranges.{AreInRange}
 use Rattle.ultra_model.specs.Phases.{delivery, deliver, without_reply, records_left, replies_made, has_reply_room, reply_before, arriving_reply, leaving_reply, replies_at_exit, next_replies, lane_after_split, delivered, reply_phase}
+use Rattle.ultra_model.proofs.Neighbours.{next_is, itself}
 use Rattle.ultra_units.specs.Numbers.{switch_number, element_number, place_number, reply_source, reply_target}
 use Rattle.ultra_halves.specs.Halves.{ports, where_room, going_by, lane_after_reply, replies_without, with_arrived}
 use Rattle.ultra_halves.specs.Switches.{replies_leaving, without_replies, after_replies}
@@ -95,8 +96,7 @@ module _ (c : Settings) (f : Frame) (n : ℕ) (events : List Event) (stops : Lis
   -- that of a module
   bank_sends : (k : ℕ) → k < size c → reply_from d rooms f k ≡ arriving_reply c m last k
   bank_sends k hk =
-      let t : (last == last) ≡ true = eq-eqb last last refl in
-      let before : reply_before c m last k ≡ (f.bank k).out = pick_true (last == last) (bank_at m k).out (head (last + 1) (shuffled d k)) t ∙ ap (λ b. b.out) (bank_is c f n events stops k hk) in
+      let before : reply_before c m last k ≡ (f.bank k).out = pick_true (last == last) (bank_at m k).out (head (last + 1) (shuffled d k)) (itself last) ∙ ap (λ b. b.out) (bank_is c f n events stops k hk) in
       ap (λ b. where_room b (f.bank k).out) (room_is last k (omega (arith, low)) hk)
       ∙ ap (λ o. where_room (has_reply_room c m last (k / 2)) o) (sym before)
       ∙ arriving_where last k
@@ -114,7 +114,7 @@ module _ (c : Settings) (f : Frame) (n : ℕ) (events : List Event) (stops : Lis
       let y = shuffled d x in
       let e : s + 1 - 1 ≡ s = omega arith in
       on_link (s + 1) y hs b.entry_small
-      ∙ pick_false (s + 1 == 0) (head (s + 1) y) (arriving_reply c m (s + 1 - 1) (unshuffled d y)) (ne_eqb (s + 1) 0 (omega arith))
+      ∙ pick_false (s + 1 == 0) (head (s + 1) y) (arriving_reply c m (s + 1 - 1) (unshuffled d y)) (next_is s)
       ∙ ap (λ s. arriving_reply c m s (unshuffled d y)) e
       ∙ ap (λ x. arriving_reply c m s x) b.back
 

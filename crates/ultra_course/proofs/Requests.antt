@@ -18,6 +18,7 @@ use Rattle.ultra_model.specs.Machine.{Settings, Machine, Element, size, last_sta
 use Rattle.ultra_model.specs.Ranges.{AreInRange}
 use Rattle.ultra_model.specs.Phases as phase
 use Rattle.ultra_model.specs.Phases.{without_pending, with_request, arrive_all, has_request_room, request_before, admitted, arriving_request, entering, leaving_request, requests_by, arrivals_by, lane_after_leaving, next_lane, request_phase}
+use Rattle.ultra_model.proofs.Neighbours.{next_is, itself}
 use Rattle.ultra_units.specs.Numbers.{switch_number, switch_count, module_number, place_number, request_source, request_target}
 use Rattle.ultra_halves.specs.Halves.{ports, where_room, lane_without, lane_with, coming_to, arrivals}
 use Rattle.ultra_halves.specs.Switches.{first_request, request_heads, requests_leaving, without_requests, after_requests, combinations_at, combinations_of}
@@ -132,7 +133,7 @@ module _ (c : Settings) (f : Frame) (n : ℕ) (events : List Event) (stops : Lis
       let e : s + 1 - 1 ≡ s = omega arith in
       let queue : ℕ → ℕ → Option Request = λ s x. request_of (slice_get (lane_at m s x).queue 0) in
       let before : request_before c m (s + 1) y ≡ head s x =
-      pick_false (s + 1 == 0) (slice_get (element_at m (unshuffled d y)).interface.pending 0) (queue (s + 1 - 1) (unshuffled d y)) (ne_eqb (s + 1) 0 (omega arith))
+      pick_false (s + 1 == 0) (slice_get (element_at m (unshuffled d y)).interface.pending 0) (queue (s + 1 - 1) (unshuffled d y)) (next_is s)
       ∙ ap (λ s. queue s (unshuffled d y)) e ∙ ap (λ x. queue s x) b.back
       ∙ ap (λ (l : Lane). request_of (slice_get l.queue 0)) (lane_is c f n events stops s x (omega (arith, hs)) hx) in
       goes_on s x (head s x) h hs hx ∙ ap (λ o. admitted c m (s + 1) y o) (sym before) ∙ arriving_as (s + 1) y
@@ -185,7 +186,7 @@ module _ (c : Settings) (f : Frame) (n : ℕ) (events : List Event) (stops : Lis
 
   pub comes_in : (k : ℕ) → k < size c → request_to d sent k ≡ entering c m k
   comes_in k hk =
-      on_link last k (omega (arith, low)) hk ∙ pick_true (last == last) (entering c m k) (arriving_request c m (last + 1) (shuffled d k)) (eq-eqb last last refl)
+      on_link last k (omega (arith, low)) hk ∙ pick_true (last == last) (entering c m k) (arriving_request c m (last + 1) (shuffled d k)) (itself last)
 
   abbrev arrived : ℕ → ℕ → Ports (Option Request)
   arrived s k = ports (arriving_request c m s (2 * k)) (arriving_request c m s (2 * k + 1))

@@ -26,8 +26,8 @@ module _ (c : Settings) (n : ℕ) (f : Frame) (events : List Event) (stops : Lis
   sound = subst (λ m. IsSound c m) (sym w.machine) w.sound
 
   -- a frame that is alike to one that makes up a sound machine
-  made : (k : ℕ) (h g : Frame) (es : List Event) (ss : List Stop) (v : Machine) → AreAlike d h g → Fits c k g → whole c g k es ss ≡ v → IsSound c v → IsFrameOf c k h es ss v
-  made k h g es ss v a fits e sound = record { range = w.range; fits = fit.fits_alike c k h g a fits; machine = whole_alike c w.range h g a k es ss ∙ e; sound = sound }
+  made : (k : ℕ) (h g : Frame) (es : List Event) (ss : List Stop) (v : Machine) → AreAlike d h g → Fits c k h → whole c g k es ss ≡ v → IsSound c v → IsFrameOf c k h es ss v
+  made k h g es ss v a fits e sound = record { range = w.range; fits = fits; machine = whole_alike c w.range h g a k es ss ∙ e; sound = sound }
 
   -- ---- replies
   module _ (rooms : Rooms) (noted : AreRooms d f rooms) (sent : Frame) (as_sent : AreAlike d sent (half.sends_replies d rooms f)) where
@@ -37,7 +37,7 @@ module _ (c : Settings) (n : ℕ) (f : Frame) (events : List Event) (stops : Lis
     pub replied : (h : Frame) → AreAlike d h (half.takes_replies d sent) → IsFrameOf c n h (half.deliveries d sent) [] (reply_phase c m)
     replied h a =
         made n h (half.takes_replies d sent) (half.deliveries d sent) [] (reply_phase c m) a
-        (fit.replies_taken c n sent (fit.fits_alike c n sent (half.sends_replies d rooms f) as_sent (fit.replies_sent c n f w.fits rooms)))
+        (fit.replies_taken c n sent (fit.replies_sent c n f w.fits sent rooms as_sent) h a)
         (replies_are c f n events stops w.range w.fits rooms noted sent as_sent ∙ ap (λ m. reply_phase c m) w.machine)
         (sound-reply_phase c w.range m w.sound)
 
@@ -45,7 +45,7 @@ module _ (c : Settings) (n : ℕ) (f : Frame) (events : List Event) (stops : Lis
   pub served : (h : Frame) → AreAlike d h (half.serves d f) → IsFrameOf c n h (events ++ half.servings d f) stops (memory_phase c m)
   served h a =
       made n h (half.serves d f) (events ++ half.servings d f) stops (memory_phase c m) a
-      (fit.memory_served c n f w.fits)
+      (fit.memory_served c n f w.fits h a)
       (memory_is c f n events stops ∙ ap (λ m. memory_phase c m) w.machine)
       (sound-memory_phase c w.range m w.sound)
 
@@ -57,7 +57,7 @@ module _ (c : Settings) (n : ℕ) (f : Frame) (events : List Event) (stops : Lis
     pub requested : (h : Frame) → AreAlike d h (half.takes_requests d n sent) → IsFrameOf c n h (events ++ half.combinations d n sent) stops (request_phase c m)
     requested h a =
         made n h (half.takes_requests d n sent) (events ++ half.combinations d n sent) stops (request_phase c m) a
-        (fit.requests_taken c n sent (fit.fits_alike c n sent (half.sends_requests d rooms f) as_sent (fit.requests_sent c n f w.fits rooms)))
+        (fit.requests_taken c n sent (fit.requests_sent c n f w.fits sent rooms as_sent) h a)
         (requests_are c f n events stops w.range w.fits rooms noted sent as_sent ∙ ap (λ m. request_phase c m) w.machine)
         (sound-request_phase c w.range m w.sound)
 
@@ -68,6 +68,6 @@ module _ (c : Settings) (n : ℕ) (f : Frame) (events : List Event) (stops : Lis
   pub stepped : (program : List Instr) (h : Frame) → AreAlike d h (half.executes d program f) → IsFrameOf c (n + 1) h (events ++ half.issues d program f) (half.stops d program f) (processor_phase c program m)
   stepped program h a =
       made (n + 1) h (half.executes d program f) (events ++ half.issues d program f) (half.stops d program f) (processor_phase c program m) a
-      (fit.steps_made c n f w.fits program)
+      (fit.steps_made c n f w.fits h program a)
       (steps_are c f n events stops w.fits program ∙ ap (λ m. processor_phase c program m) w.machine)
       (sound-processor_phase c w.range program m w.sound)
