@@ -9,3 +9,4 @@ pub mod RepliesTaken
 pub mod Execution
 pub mod RequestsSent
 pub mod RequestsTaken
+pub mod Away

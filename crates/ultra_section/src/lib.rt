@@ -5,7 +5,9 @@ mod block;
 mod execute;
 mod links;
 mod replies;
+mod replies_away;
 mod requests;
+mod requests_away;
 mod rooms;
 mod send_replies;
 mod send_requests;
@@ -16,4 +18,6 @@ mod take_requests;
 mod unit;
 
 pub use block::Block;
+pub use replies_away::reply_inlets;
+pub use requests_away::request_inlets;
 pub use rooms::Rooms;
