@@ -1,6 +1,6 @@
 //! Replies that lead from one block to another.
 
-ghost use Rattle.std.specs.Prelude.{◌≡◌, ℕ, ◌≤◌, ◌<◌, Some, IfNone, IfSome};
+ghost use Rattle.std.specs.Prelude.{◌≡◌, ℕ, ◌+◌, ◌*◌, ◌^◌, ◌≤◌, ◌<◌, Some, IfNone, IfSome, length};
 ghost use Rattle.ultra_section.specs.Away.{IsNextForReplies, NoReplyLeavesWithin, replies_handed_over, replies_received, reply_inlets as inlets_of, taken_by_turns};
 
 use crate::block::Block;
@@ -63,7 +63,8 @@ impl Block {
     )
         requires links { inlets_of self.old.stages unit ≡ Some inlets }
         requires small { unit < 320 }
-        ensures { self.new ≡ replies_received inlets replies self.old }
+        ensures received { self.new ≡ replies_received inlets replies self.old }
+        ensures links { length self.old.replies ≡ (self.old.stages + 1) * 2 ^ self.old.stages }
     {
         let _stages = self.net.stages();
         let here = &self.sets.here;
