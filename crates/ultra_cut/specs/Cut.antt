@@ -1,5 +1,5 @@
 -- a machine cut into blocks by a partition, which names the block of each unit
-use Rattle.std.specs.Prelude.{◌≡◌, ℕ, ◌+◌, ◌*◌, ◌^◌, ◌<◌, ◌==◌, List, [], ◌∷◌, Option, Some, None, length, slice_index, slice_index_or}
+use Rattle.std.specs.Prelude.{◌≡◌, ℕ, ◌+◌, ◌*◌, ◌^◌, ◌<◌, ◌==◌, List, [], ◌∷◌, Option, Some, None, length, map, slice_index, slice_index_or}
 use Rattle.ultra_msg.specs.declared.Request.{Request}
 use Rattle.ultra_msg.specs.declared.ReplyMessage.{ReplyMessage}
 use Rattle.ultra_switch.specs.declared.Switch.{Switch}
@@ -62,12 +62,10 @@ first (Some x ∷ xs) = Some x
 
 -- what each block has on a link
 abbrev pub replies_on : List BlockState → ℕ → List (Option ReplyMessage)
-replies_on [] l = []
-replies_on (b ∷ bs) l = on_link b.replies l ∷ replies_on bs l
+replies_on bs l = map (λ b. on_link b.replies l) bs
 
 abbrev pub requests_on : List BlockState → ℕ → List (Option Request)
-requests_on [] l = []
-requests_on (b ∷ bs) l = on_link b.requests l ∷ requests_on bs l
+requests_on bs l = map (λ b. on_link b.requests l) bs
 
 module _ (d : ℕ) (partition : List ℕ) where
   -- each unit of a machine of d stages stands in the block that the partition names, and in no other

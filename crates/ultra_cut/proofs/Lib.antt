@@ -1,0 +1,4 @@
+pub mod Columns
+pub mod Numbers
+pub mod RepliesMoved
+pub mod RequestsMoved
