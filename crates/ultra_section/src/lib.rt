@@ -3,6 +3,7 @@
 
 mod block;
 mod execute;
+mod lent;
 mod links;
 mod replies;
 mod replies_away;
