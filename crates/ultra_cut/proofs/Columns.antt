@@ -1,8 +1,8 @@
 -- What the blocks have on a link, and what becomes of it where one hands over and another receives.
-use Rattle.std.proofs.Common.{◌≡◌, ◌≢◌, ℕ, zero, suc, ◌+◌, ◌<◌, ◌≤◌, List, [], ◌∷◌, map, Option, Some, None, length, get_or, set, refl, sym, ◌∙◌, ap, subst, inl, inr, arith, get_or-set_same, get_or-set_other}
+use Rattle.std.proofs.Common.{◌≡◌, ◌≢◌, ℕ, zero, suc, ◌<◌, List, [], ◌∷◌, map, Option, Some, None, length, get_or, set, refl, sym, ◌∙◌, ap, subst, inl, inr, arith, get_or-set_same, get_or-set_other}
 use Rattle.std.specs.Prelude.{◌⊎◌}
 use Rattle.std.proofs.lemmas.Bool.{cases_eq, cases_lt}
-use Rattle.std.proofs.lemmas.List.{length-set, length-map, map-set, get_or-map, get_or_past, set-get_or}
+use Rattle.std.proofs.lemmas.List.{length-set, map-set, get_or-map, get_or_past, set-get_or}
 use Rattle.ultra_switch.specs.declared.Ports.{Ports}
 use Rattle.ultra_section.specs.Links.{put_on}
 use Rattle.ultra_section.specs.Marks.{on_link, without_both}

@@ -1,10 +1,10 @@
 -- a machine cut into blocks by a partition, which names the block of each unit
-use Rattle.std.specs.Prelude.{◌≡◌, ℕ, ◌+◌, ◌*◌, ◌^◌, ◌<◌, ◌==◌, List, [], ◌∷◌, Option, Some, None, length, map, slice_index, slice_index_or}
+use Rattle.std.specs.Prelude.{◌≡◌, ℕ, ◌<◌, ◌==◌, List, [], ◌∷◌, Option, Some, None, length, map, slice_index, slice_index_or}
 use Rattle.ultra_msg.specs.declared.Request.{Request}
 use Rattle.ultra_msg.specs.declared.ReplyMessage.{ReplyMessage}
 use Rattle.ultra_switch.specs.declared.Switch.{Switch}
 use Rattle.ultra_switch.specs.Queues.{empty_requests, empty_replies}
-use Rattle.ultra_mem.specs.Serve.{Bank, empty_bank}
+use Rattle.ultra_mem.specs.Serve.{empty_bank}
 use Rattle.ultra_isa.specs.Step.{fresh_core}
 use Rattle.ultra_pni.specs.Interface.{empty_interface}
 use Rattle.ultra_units.specs.Numbers.{unit_count, module_number, element_number}

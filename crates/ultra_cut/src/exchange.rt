@@ -49,13 +49,7 @@ fn move_requests(blocks: &mut [Block], net: Net, from: usize, home: usize, unit:
 }
 
 /// The replies that lead from block `from` to a unit elsewhere go to the block in which the unit stands.
-fn move_replies_home(
-    blocks: &mut [Block],
-    partition: &[u8],
-    net: Net,
-    from: usize,
-    unit: usize,
-)
+fn move_replies_home(blocks: &mut [Block], partition: &[u8], net: Net, from: usize, unit: usize)
     requires from { from < length blocks.old }
     requires unit { unit < 320 }
     requires cut { IsCut net partition.now blocks.old }
@@ -103,13 +97,7 @@ pub(crate) fn exchange_replies(blocks: &mut [Block], partition: &[u8], net: Net)
 }
 
 /// The requests that lead from block `from` to a unit elsewhere go to the block in which the unit stands.
-fn move_requests_home(
-    blocks: &mut [Block],
-    partition: &[u8],
-    net: Net,
-    from: usize,
-    unit: usize,
-)
+fn move_requests_home(blocks: &mut [Block], partition: &[u8], net: Net, from: usize, unit: usize)
     requires from { from < length blocks.old }
     requires unit { unit < 320 }
     requires cut { IsCut net partition.now blocks.old }

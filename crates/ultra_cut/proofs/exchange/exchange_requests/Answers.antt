@@ -1,8 +1,5 @@
-use Rattle.std.proofs.Common.{◌≡◌, ℕ, ◌+◌, ◌<◌, ◌≤◌, arith, subst, sym, inl, inr}
+use Rattle.std.proofs.Common.{arith, subst, sym, inl, inr}
 use Rattle.std.proofs.lemmas.Bool.{cases_eq}
-use Rattle.std.specs.Prelude.{length}
-use Rattle.ultra_units.specs.Numbers.{unit_count}
-use Rattle.ultra_cut.specs.Cut.{IsCut}
 use Rattle.ultra_cut.specs.Exchange.{HasNoRequestFor}
 use Rattle.ultra_cut.proofs.RequestsMoved.{both_moved, still_cut, nothing_moved}
 use Rattle.ultra_cut.proofs.exchange.exchange_requests.Goals as goal
