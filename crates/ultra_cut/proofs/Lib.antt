@@ -3,3 +3,4 @@ pub mod Numbers
 pub mod RepliesMoved
 pub mod RequestsMoved
 pub mod Lent
+pub mod Alike

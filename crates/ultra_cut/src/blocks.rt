@@ -3,6 +3,7 @@
 ghost use Rattle.std.specs.Prelude.{◌≡◌, ◌^◌, ◌<◌, length};
 ghost use Rattle.ultra_model.specs.Machine.{bank_at, element_at, lane_at, replies_at, site};
 ghost use Rattle.ultra_units.specs.Numbers.{switch_count};
+ghost use Rattle.ultra_course.specs.Frame.{AreAlike};
 ghost use Rattle.ultra_course.specs.Ports.{at_port};
 
 use crate::exchange::{exchange_replies, exchange_requests};
@@ -36,6 +37,7 @@ impl Blocks {
     /// Each reply comes to the block of the unit to which it leads. Nothing is looked at where no block has one for a unit of another.
     pub fn exchange_replies(&mut self)
         requires { CanExchange self.old }
+        ensures frame { AreAlike self.old.config.stages (frame self.new) (frame self.old) }
         ensures only { OnlyRepliesMove self.old.blocks.items self.new.blocks.items }
         ensures there { AreRepliesThere self.old.config.stages self.old.partition.items self.new.blocks.items }
         ensures rest { self.new ≡ record self.old { blocks = self.new.blocks } }
@@ -47,6 +49,7 @@ impl Blocks {
     /// Each request comes to the block of the unit to which it leads. Nothing is looked at where no block has one for a unit of another.
     pub fn exchange_requests(&mut self)
         requires { CanExchange self.old }
+        ensures frame { AreAlike self.old.config.stages (frame self.new) (frame self.old) }
         ensures only { OnlyRequestsMove self.old.blocks.items self.new.blocks.items }
         ensures there { AreRequestsThere self.old.config.stages self.old.partition.items self.new.blocks.items }
         ensures rest { self.new ≡ record self.old { blocks = self.new.blocks } }
