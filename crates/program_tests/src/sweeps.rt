@@ -52,7 +52,7 @@ fn sweep<R: Host>(rt: &R, words: &[&str], jobs: &str, out: Tray) -> Result<Ended
     Ok(Ended { status, out, err })
 }
 
-/// The words of a sweep by this many workers, of which this many run a job at once.
+/// The words of a sweep by `workers` threads, of `at_once` jobs at once.
 fn words_of<'w>(workers: &'w str, at_once: &'w str) -> [&'w str; 7] {
     [
         "ultra",
