@@ -2,7 +2,8 @@
 use Rattle.std.proofs.Common.{◌≡◌, ◌∙◌, ℕ, zero, suc, ◌+◌, ◌<◌, List, [], ◌∷◌, ◌++◌, take, drop, get_or, length, ap, sym, refl, subst, append_assoc, append-nil}
 use Rattle.std.proofs.lemmas.List.{take_more, drop_more}
 use Rattle.std.specs.Prelude.{Result, Ok, Err, IfErr, OnOk, OnErr}
-use Rattle.ultra_msg.specs.Bytes.{IsBeginning}
+use Rattle.ultra_msg.specs.Bytes.{IsPrefix, TakesPrefix}
+use Rattle.ultra_msg.proofs.Prefixes.{prefix_behind, takes_all, takes_behind, takes_longer}
 use Rattle.ultra_msg.specs.declared.Event.{Event}
 use Rattle.ultra_law.specs.Tree.{Kept, trees_after}
 use Rattle.ultra_law.specs.Explicable.{AreAbsorbable, IsAbsorbable}
@@ -11,21 +12,20 @@ use Rattle.ultra_inputs.specs.declared.failure.Failure.{Failure}
 use Rattle.ultra_inputs.specs.declared.failure.Failure.TheVariants.{HeapFull}
 use Rattle.explain_command.specs.Explanation.{event_line, event_lines, trees_after_all, StopsAtCombination}
 
--- ---- prefixes
-pub begins_more : (xs ys zs : List ℕ) → IsBeginning xs ys → IsBeginning xs (ys ++ zs)
-begins_more xs ys zs (rest, e) = (rest ++ zs, sym (append_assoc xs rest zs) ∙ ap (λ t. t ++ zs) e)
+-- ---- what was put, whether all of it or not
+pub put_part : {T E : Type 0} (r : Result T E) {bytes old new : List ℕ} → OnOk r (new ≡ old ++ bytes) → OnErr r (TakesPrefix bytes old new) → TakesPrefix bytes old new
+put_part (Ok x) {bytes = bytes} same begun = takes_all bytes same
+put_part (Err e) same begun = begun
 
-pub begins_same : (xs ys : List ℕ) → xs ≡ ys → IsBeginning xs ys
-begins_same xs ys e = ([], append-nil xs ∙ e)
+-- what follows from it where all of it was put
+pub at_success : {T E P Q : Type 0} (r : Result T E) → OnOk r P → (P → Q) → OnOk r Q
+at_success (Ok x) p f = f p
+at_success (Err e) p f = tt
 
--- a prefix of a text that ends with a prefix
-pub begins_within : (xs first part last : List ℕ) → IsBeginning xs (first ++ part) → IsBeginning part last → IsBeginning xs (first ++ last)
-begins_within xs first part last b (rest, e) = rw (← e, ← append_assoc first part rest) (begins_more xs (first ++ part) rest b)
-
--- what was put, whether all of it or not
-pub put_part : {T E : Type 0} (r : Result T E) (part whole : List ℕ) → OnOk r (part ≡ whole) → OnErr r (IsBeginning part whole) → IsBeginning part whole
-put_part (Ok x) part whole same begun = begins_same part whole same
-put_part (Err e) part whole same begun = begun
+-- what was put behind the bytes that waited, and then taken or a prefix of it
+pub handed_on : {bytes waited waits before after : List ℕ} → TakesPrefix bytes waited waits → TakesPrefix waits before after → TakesPrefix (waited ++ bytes) before after
+handed_on {bytes = bytes} {waited = waited} put t =
+    takes_longer (subst (λ x. IsPrefix x (waited ++ bytes)) (sym put.taken) (prefix_behind waited put.part bytes put.begins)) t
 
 -- ---- one event more
 lines_more : (c : ℕ) (ks : List Kept) (es : List Event) (e : Event) → event_lines c ks (es ++ e ∷ []) ≡ event_lines c ks es ++ event_line c (trees_after_all ks es) e
@@ -43,7 +43,7 @@ trees_next : (ks : List Kept) (es : List Event) (k : ℕ) (d : Event) → k < le
 trees_next ks es k d here = ap (λ us. trees_after_all ks us) (take_more es k d here) ∙ trees_more ks (take k es) (get_or es k d)
 
 -- the lines of the first events are a prefix of those of all
-first_begin : (c : ℕ) (ks : List Kept) (es : List Event) (k : ℕ) → IsBeginning (event_lines c ks (take k es)) (event_lines c ks es)
+first_begin : (c : ℕ) (ks : List Kept) (es : List Event) (k : ℕ) → IsPrefix (event_lines c ks (take k es)) (event_lines c ks es)
 first_begin c ks es zero = (event_lines c ks es, refl)
 first_begin c ks [] (suc k) = ([], refl)
 first_begin c ks (e ∷ es) (suc k) =
@@ -63,8 +63,11 @@ module _ (c : ℕ) (ks : List Kept) (es : List Event) (k : ℕ) (d : Event) (her
     pub put_next : (new : List ℕ) → new ≡ text ++ event_line c us (get_or es k d) → new ≡ old ++ event_lines c ks (take (k + 1) es)
     put_next new e = e ∙ with_line
 
-    pub begun_there : (new : List ℕ) → IsBeginning new (text ++ event_line c us (get_or es k d)) → IsBeginning new (old ++ event_lines c ks es)
-    begun_there new b = begins_within new old (event_lines c ks (take (k + 1) es)) (event_lines c ks es) (subst (λ t. IsBeginning new t) with_line b) (first_begin c ks es (k + 1))
+    pub begun_there : (new : List ℕ) → TakesPrefix (event_line c us (get_or es k d)) text new → TakesPrefix (event_lines c ks es) old new
+    begun_there new b =
+        takes_longer (first_begin c ks es (k + 1))
+        (subst (λ t. TakesPrefix t old new) (sym lines_next)
+        (subst (λ vs. TakesPrefix (event_lines c ks (take k es) ++ event_line c vs (get_or es k d)) old new) trees (takes_behind (event_lines c ks (take k es)) put b)))
 
 pub absorbed_next : (old e u : Explained) (es : List Event) (k : ℕ) (d : Event) → k < length es → e ≡ record old { trees = trees_after_all old.trees (take k es) } → u ≡ record e { trees = trees_after e.trees (get_or es k d) } → u ≡ record old { trees = trees_after_all old.trees (take (k + 1) es) }
 absorbed_next old e u es k d here same next =

@@ -1,7 +1,8 @@
 -- the lines of a run, cycle by cycle
 use Rattle.std.proofs.Common.{◌≡◌, ◌∙◌, ℕ, zero, suc, ◌+◌, ◌<◌, ◌≤◌, List, [], ◌∷◌, ◌++◌, true, false, refl, sym, ap, subst, arith, add-one, append_assoc, append-nil, ⊎_elim, length}
 use Rattle.std.proofs.lemmas.Bool.{cases_eq}
-use Rattle.ultra_msg.specs.Bytes.{IsBeginning}
+use Rattle.ultra_msg.specs.Bytes.{AreTakenOrWait, IsPrefix, TakesPrefix}
+use Rattle.ultra_msg.proofs.Prefixes.{both_written, prefix_behind, rest_handed_on, takes_later, takes_longer}
 use Rattle.ultra_msg.specs.declared.Event.{Event}
 use Rattle.ultra_isa.specs.declared.Instr.{Instr}
 use Rattle.ultra_model.specs.Machine.{Settings, fresh_element, size, start, is_quiet}
@@ -15,7 +16,6 @@ use Rattle.ultra_law.specs.Explicable.{AreAbsorbable, AreExplicable}
 use Rattle.ultra_law.proofs.Rest.{IsAtRest, rest_if_quiet, rest_cycle, nothing_happens}
 use Rattle.ultra_tree.specs.Absorb.{Explained}
 use Rattle.explain_command.specs.Explanation.{event_lines, trees_after_all, lines_of_first, StopsAtCombination, StopsFull, in_cycle}
-use Rattle.explain_command.proofs.Firsts.{begins_more}
 
 noted_all : (es : List Event) (ks : List Kept) → trees_noted es ks ≡ trees_after_all ks es
 noted_all [] ks = refl
@@ -37,7 +37,7 @@ module _ (c : Settings) (program : List Instr) where
   lines_next n es e = rw (e, add-one) refl
 
   -- ---- the lines of fewer cycles are a prefix of those of more
-  pub lines_grow : (n m : ℕ) → n ≤ m → IsBeginning (lines_of_first c program n) (lines_of_first c program m)
+  pub lines_grow : (n m : ℕ) → n ≤ m → IsPrefix (lines_of_first c program n) (lines_of_first c program m)
   unfolding lines_of_first
   lines_grow n zero h = let none : n ≡ 0 = omega (arith, h) in ([], append-nil (lines_of_first c program n) ∙ ap (λ k. lines_of_first c program k) none)
   lines_grow n (suc m) h =
@@ -81,20 +81,21 @@ module _ (c : Settings) (program : List Instr) where
         ∙ (ap (λ (x : Explained). record x { trees = trees_after_all x.trees es }) now_is
         ∙ ap (λ (ks : List Kept). record (explained n) { trees = ks }) (sym (trees_next n es here)))
 
-    module _ (old now : List ℕ) (so_far : now ≡ old ++ lines_of_first c program n) where
-      all_so_far : now ++ event_lines n e.trees es ≡ old ++ lines_of_first c program (n + 1)
-      all_so_far =
-          rw (now_is, so_far) (append_assoc old (lines_of_first c program n) (event_lines n (history c program n).trees es)
-          ∙ ap (λ t. old ++ t) (sym (lines_next n es here)))
+    lines_with : lines_of_first c program n ++ event_lines n e.trees es ≡ lines_of_first c program (n + 1)
+    lines_with = rw now_is (sym (lines_next n es here))
 
-      pub written_next : (new : List ℕ) → new ≡ now ++ event_lines n e.trees es → new ≡ old ++ lines_of_first c program (n + 1)
-      written_next new w = w ∙ all_so_far
+    module _ (old waited now waits : List ℕ) (so_far : AreTakenOrWait (lines_of_first c program n) old waited now waits) where
+      pub written_next : (new left : List ℕ) → AreTakenOrWait (event_lines n e.trees es) now waits new left → AreTakenOrWait (lines_of_first c program (n + 1)) old waited new left
+      written_next new left w = subst (λ t. AreTakenOrWait t old waited new left) lines_with (both_written so_far w)
 
       -- a prefix of the lines so far with those of one cycle more is one of all lines
-      pub begun_next : (new : List ℕ) (m : ℕ) → n + 1 ≤ m → IsBeginning new (now ++ event_lines n e.trees es) → IsBeginning new (old ++ lines_of_first c program m)
+      pub begun_next : (new : List ℕ) (m : ℕ) → n + 1 ≤ m → TakesPrefix (waits ++ event_lines n e.trees es) now new → TakesPrefix (waited ++ lines_of_first c program m) old new
       begun_next new m h b =
-          let p = lines_grow (n + 1) m h in
-          rw (← p.1, ← append_assoc old (lines_of_first c program (n + 1)) p.0) (begins_more new (old ++ lines_of_first c program (n + 1)) p.0 (rw all_so_far at b))
+          takes_longer (prefix_behind waited (lines_of_first c program (n + 1)) (lines_of_first c program m) (lines_grow (n + 1) m h))
+          (subst (λ t. TakesPrefix (waited ++ t) old new) lines_with (takes_later (event_lines n e.trees es) so_far b))
 
-      pub full_there : (new : List ℕ) → n < c.cycles → StopsAtCombination n e.trees es now new → StopsFull c program old new
-      full_there new h s = in_cycle n h (rw (now_is, here, so_far) at s)
+      pub full_there : (new : List ℕ) → n < c.cycles → StopsAtCombination n e.trees es (now ++ waits) new → StopsFull c program (old ++ waited) new
+      full_there new h s =
+          let all : now ++ waits ≡ (old ++ waited) ++ lines_of_first c program n =
+          rest_handed_on so_far refl ∙ sym (append_assoc old waited (lines_of_first c program n)) in
+          in_cycle n h (rw (now_is, here, all) at s)

@@ -1,7 +1,7 @@
 //! The lines of memory acts, over the trees that an explainer keeps.
 
 ghost use Rattle.std.specs.Prelude.{◌≡◌, ◌⊎◌, ◌++◌, false, true, codes, decimal, IfErr, OnErr, OnOk};
-ghost use Rattle.ultra_msg.specs.Bytes.{IsBeginning, Writes};
+ghost use Rattle.ultra_msg.specs.Bytes.{TakesPrefix, Writes};
 ghost use Rattle.ultra_law.specs.Tree.{trees_after};
 ghost use Rattle.ultra_law.specs.Explicable.{AreAbsorbable, IsAbsorbable};
 ghost use Rattle.ultra_tree.specs.Absorb.{IsCombination};
@@ -33,8 +33,8 @@ pub(crate) fn put_lines<'p, A: Allocator + Clone>(
     }) }
     ensures ok { OnOk result (lines.new.bytes.items
         ≡ lines.old.bytes.items ++ event_lines cycle explainer.old.trees events.now) }
-    ensures err { OnErr result (IsBeginning lines.new.bytes.items
-        (lines.old.bytes.items ++ event_lines cycle explainer.old.trees events.now)) }
+    ensures err { OnErr result (TakesPrefix (event_lines cycle explainer.old.trees events.now)
+        lines.old.bytes.items lines.new.bytes.items) }
     ensures fault { IfErr result (λ f. (f ≡ HeapFull) ⊎ (f ≡ NoMemory)) }
     ensures heap_full { IfErr result (λ f. f ≡ HeapFull → explainer.new.is_spent ≡ true) }
     ensures no_memory { IfErr result (λ f. f ≡ NoMemory → explainer.new.is_spent ≡ false) }
@@ -64,8 +64,8 @@ fn put_event<'p, A: Allocator + Clone>(
     }) }
     ensures ok { OnOk result (lines.new.bytes.items
         ≡ lines.old.bytes.items ++ event_line cycle explainer.old.trees event.now) }
-    ensures err { OnErr result (IsBeginning lines.new.bytes.items
-        (lines.old.bytes.items ++ event_line cycle explainer.old.trees event.now)) }
+    ensures err { OnErr result (TakesPrefix (event_line cycle explainer.old.trees event.now)
+        lines.old.bytes.items lines.new.bytes.items) }
     ensures fault { IfErr result (λ f. (f ≡ HeapFull) ⊎ (f ≡ NoMemory)) }
     ensures heap_full { IfErr result (λ f. f ≡ HeapFull → explainer.new.is_spent ≡ true) }
     ensures no_memory { IfErr result (λ f. f ≡ NoMemory → explainer.new.is_spent ≡ false) }

@@ -5,7 +5,7 @@ mod acts;
 mod lines;
 
 ghost use Rattle.std.specs.Prelude.{◌≡◌, ◌+◌, ◌++◌, false, IfErr, OnErr, OnOk};
-ghost use Rattle.ultra_msg.specs.Bytes.{IsBeginning};
+ghost use Rattle.ultra_msg.specs.Bytes.{AreTakenOrWait, TakesPrefix};
 ghost use Rattle.ultra_model.specs.Machine.{size, start};
 ghost use Rattle.ultra_model.specs.Ranges.{AreInRange};
 ghost use Rattle.ultra_law.specs.Explicable.{AreAbsorbable};
@@ -73,8 +73,8 @@ fn explain_run<'p, O: Sink>(
     requires { AreInRange config.now }
     ensures ok { OnOk result
         (O.taken out.new ≡ O.taken out.old ++ explanation_of config.now program.now) }
-    ensures err { OnErr result (IsBeginning (O.taken out.new)
-        (O.taken out.old ++ explanation_of config.now program.now)) }
+    ensures err { OnErr result (TakesPrefix (explanation_of config.now program.now)
+        (O.taken out.old) (O.taken out.new)) }
     ensures fault { IfErr result IsCutShort }
     ensures full { IfErr result (λ f. f ≡ HeapFull
         → StopsFull config.now program.now (O.taken out.old) (O.taken out.new)) }
@@ -104,12 +104,12 @@ fn explain_cycles<'p, A: Allocator + Clone, O: Sink>(
     requires start { machine.old.state ≡ start machine.old.settings }
     requires none_held { explainer.old
         ≡ nothing_absorbed (size machine.old.settings) machine.old.settings.most_open }
-    ensures ok { OnOk result (O.taken out.new ++ lines.new.bytes.items
-        ≡ (O.taken out.old ++ lines.old.bytes.items) ++ explanation_of machine.old.settings
-        machine.old.program) }
-    ensures err { OnErr result (IsBeginning (O.taken out.new)
-        ((O.taken out.old ++ lines.old.bytes.items) ++ explanation_of machine.old.settings
-        machine.old.program)) }
+    ensures ok { OnOk result (AreTakenOrWait
+        (explanation_of machine.old.settings machine.old.program)
+        (O.taken out.old) lines.old.bytes.items (O.taken out.new) lines.new.bytes.items) }
+    ensures err { OnErr result (TakesPrefix
+        (lines.old.bytes.items ++ explanation_of machine.old.settings machine.old.program)
+        (O.taken out.old) (O.taken out.new)) }
     ensures fault { IfErr result IsCutShort }
     ensures full { IfErr result (λ f. f ≡ HeapFull → StopsFull machine.old.settings
         machine.old.program (O.taken out.old ++ lines.old.bytes.items) (O.taken out.new)) }
@@ -143,12 +143,11 @@ fn explain_cycle<'p, A: Allocator + Clone, O: Sink>(
     ensures trees { OnOk result (explainer.new ≡ record explainer.old {
       trees = trees_after_all explainer.old.trees events.now;
     }) }
-    ensures ok { OnOk result (O.taken out.new ++ lines.new.bytes.items
-        ≡ (O.taken out.old ++ lines.old.bytes.items) ++ event_lines cycle explainer.old.trees
-        events.now) }
-    ensures err { OnErr result (IsBeginning (O.taken out.new)
-        ((O.taken out.old ++ lines.old.bytes.items) ++ event_lines cycle explainer.old.trees
-        events.now)) }
+    ensures ok { OnOk result (AreTakenOrWait (event_lines cycle explainer.old.trees events.now)
+        (O.taken out.old) lines.old.bytes.items (O.taken out.new) lines.new.bytes.items) }
+    ensures err { OnErr result (TakesPrefix
+        (lines.old.bytes.items ++ event_lines cycle explainer.old.trees events.now)
+        (O.taken out.old) (O.taken out.new)) }
     ensures fault { IfErr result IsCutShort }
     ensures full { IfErr result (λ f. f ≡ HeapFull
         → StopsAtCombination cycle explainer.old.trees events.now

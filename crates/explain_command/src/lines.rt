@@ -1,7 +1,7 @@
 //! Lines that wait to be written.
 
 ghost use Rattle.std.specs.Prelude.{◌≡◌, ◌+◌, [], ◌++◌, length, IfErr, OnErr, OnOk};
-ghost use Rattle.ultra_msg.specs.Bytes.{IsBeginning};
+ghost use Rattle.ultra_msg.specs.Bytes.{TakesPrefix};
 ghost use Rattle.ultra_io.specs.Account.{failures_in};
 ghost use Rattle.ultra_inputs.specs.declared.failure.Failure.TheVariants.{NotWritten};
 
@@ -39,8 +39,8 @@ impl Lines {
     /// Writes what waits, so that nothing waits any more.
     pub fn hand_on<'p, O: Sink>(&mut self, out: &mut O) -> Result<(), Failure<'p>>
         ensures ok { OnOk result (O.taken out.new ≡ O.taken out.old ++ self.old.bytes.items) }
-        ensures err { OnErr result (IsBeginning (O.taken out.new)
-            (O.taken out.old ++ self.old.bytes.items)) }
+        ensures err { OnErr result (TakesPrefix self.old.bytes.items (O.taken out.old)
+            (O.taken out.new)) }
         ensures fault { IfErr result (λ f. f ≡ NotWritten) }
         ensures still { OnOk result (O.failures out.new ≡ O.failures out.old) }
         ensures counted { OnErr result (O.failures out.new ≡ O.failures out.old + 1) }

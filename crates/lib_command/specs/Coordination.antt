@@ -1,6 +1,6 @@
 -- the texts of the coordination programs, and how one isn't written; this project's profile
 use Rattle.std.specs.Prelude.{◌≡◌, ℕ, Bool, true, false, List, ◌++◌}
-use Rattle.ultra_msg.specs.Bytes.{IsBeginning}
+use Rattle.ultra_msg.specs.Bytes.{TakesPrefix}
 use Rattle.ultra_isa.specs.declared.Instr.{Instr}
 use Rattle.ultra_asm.specs.Listing.{listing_text}
 use Rattle.ultra_coordination.specs.Gate.{gate}
@@ -39,4 +39,4 @@ pub record WroteProgram (c : Coordination) (old new : List ℕ) : Type 0 where
 pub data LibFails (c : Coordination) (old new : List ℕ) (f : Failure) : Type 0 where
   refused : are_taken c ≡ false → f ≡ BadParameter → new ≡ old → LibFails c old new f
   no_memory : are_taken c ≡ true → f ≡ NoMemory → new ≡ old → LibFails c old new f
-  unwritten : are_taken c ≡ true → f ≡ NotWritten → IsBeginning new (old ++ lib_text c) → LibFails c old new f
+  unwritten : are_taken c ≡ true → f ≡ NotWritten → TakesPrefix (lib_text c) old new → LibFails c old new f

@@ -2,7 +2,7 @@
 #![tactic(auto)]
 
 ghost use Rattle.std.specs.Prelude.{◌≡◌, ◌+◌, ◌++◌, [], codes, decimal, IfErr, OnErr, OnOk};
-ghost use Rattle.ultra_msg.specs.Bytes.{IsBeginning};
+ghost use Rattle.ultra_msg.specs.Bytes.{AreTakenOrWait, TakesPrefix};
 ghost use Rattle.ultra_trace.specs.Text.{reply_text};
 ghost use Rattle.ultra_inputs.specs.Failure.{read_failures, write_failures};
 ghost use Rattle.ultra_inputs.specs.declared.failure.Failure.TheVariants.{NotWritten};
@@ -51,8 +51,8 @@ pub fn order<'p, F: Source, O: Sink>(
 /// Writes the lines of a serial list.
 fn write_order<'p, O: Sink>(alloc: Global, list: &[Entry], out: &mut O) -> Result<(), Failure<'p>>
     ensures ok { OnOk result (O.taken out.new ≡ O.taken out.old ++ order_text list.now) }
-    ensures err { OnErr result (IsBeginning (O.taken out.new)
-        (O.taken out.old ++ order_text list.now)) }
+    ensures err { OnErr result (TakesPrefix (order_text list.now) (O.taken out.old)
+        (O.taken out.new)) }
     ensures stopped { IfErr result IsStopped }
     ensures still { OnOk result (O.failures out.new ≡ O.failures out.old) }
     ensures counted { IfErr result
@@ -73,11 +73,10 @@ fn write_line<'p, O: Sink>(
     entry: &Entry,
     out: &mut O,
 ) -> Result<(), Failure<'p>>
-    ensures ok { OnOk result
-        (O.taken out.new ++ text.new.items ≡ O.taken out.old ++ text.old.items ++ order_line
-        entry.now) }
-    ensures err { OnErr result (IsBeginning (O.taken out.new)
-        (O.taken out.old ++ text.old.items ++ order_line entry.now)) }
+    ensures ok { OnOk result (AreTakenOrWait (order_line entry.now)
+        (O.taken out.old) text.old.items (O.taken out.new) text.new.items) }
+    ensures err { OnErr result (TakesPrefix (text.old.items ++ order_line entry.now)
+        (O.taken out.old) (O.taken out.new)) }
     ensures stopped { IfErr result IsStopped }
     ensures still { OnOk result (O.failures out.new ≡ O.failures out.old) }
     ensures counted { IfErr result
@@ -94,7 +93,7 @@ fn write_line<'p, O: Sink>(
 /// Writes the text that waits, and empties it.
 fn hand_on<'p, O: Sink>(text: &mut Vec<u8>, out: &mut O) -> Result<(), Failure<'p>>
     ensures ok { OnOk result (O.taken out.new ≡ O.taken out.old ++ text.old.items) }
-    ensures err { OnErr result (IsBeginning (O.taken out.new) (O.taken out.old ++ text.old.items)) }
+    ensures err { OnErr result (TakesPrefix text.old.items (O.taken out.old) (O.taken out.new)) }
     ensures stopped { IfErr result (λ f. f ≡ NotWritten) }
     ensures still { OnOk result (O.failures out.new ≡ O.failures out.old) }
     ensures counted { OnErr result (O.failures out.new ≡ O.failures out.old + 1) }

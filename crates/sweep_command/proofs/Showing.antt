@@ -3,7 +3,8 @@ use Rattle.std.proofs.Common.{◌≡◌, ◌∙◌, ◌<◌, ◌≤◌, ◌+◌,
 use Rattle.std.proofs.lemmas.Grind.{flat_map-append}
 use Rattle.std.specs.Prelude.{Result, Ok, Err}
 use Rattle.std.specs.Result.{is_err}
-use Rattle.ultra_msg.specs.Bytes.{IsBeginning, Writes}
+use Rattle.ultra_msg.specs.Bytes.{TakesPrefix, Writes}
+use Rattle.ultra_msg.proofs.Prefixes.{takes_all, takes_behind, takes_more, takes_none}
 use Rattle.ultra_io.specs.Account.{SinkTold}
 use Rattle.sweep_command.specs.declared.meter.Meter.{Meter}
 use Rattle.sweep_command.specs.Shown.{GrowTo, progress_line, progress_text, Shows, IsShown, HasShown}
@@ -14,10 +15,6 @@ grow-more first (j ∷ ks) last k (above, rest) more = (above, grow-more j ks la
 
 text-more : (n : ℕ) (ks : List ℕ) (k : ℕ) → progress_text n (ks ++ k ∷ []) ≡ progress_text n ks ++ progress_line n k
 text-more n ks k = flat_map-append (progress_line n) ks (k ∷ []) ∙ ap (λ t. progress_text n ks ++ t) (append-nil (progress_line n k))
-
--- a prefix of a text is one of a longer text
-begun-longer : (xs text more : List ℕ) → IsBeginning xs text → IsBeginning xs (text ++ more)
-begun-longer xs text more (rest, e) = (rest ++ more, sym (append_assoc xs rest more) ∙ ap (λ t. t ++ more) e)
 
 -- the text so far, with the line of one count more
 longer : (n : ℕ) (ks : List ℕ) (k : ℕ) (start : List ℕ) → (start ++ progress_text n ks) ++ progress_line n k ≡ start ++ progress_text n (ks ++ k ∷ [])
@@ -30,7 +27,7 @@ module _ (n last k : ℕ) (start now : SinkTold) (so_far : Shows n last start no
     counts = so_far.counts ++ k ∷ [];
     growing = grow-more 0 so_far.counts last k so_far.growing above;
     within = within;
-    begun = subst (IsBeginning now.taken) (longer n so_far.counts k start.taken) (begun-longer now.taken (start.taken ++ progress_text n so_far.counts) (progress_line n k) so_far.begun);
+    begun = subst (λ t. TakesPrefix t start.taken now.taken) (sym (text-more n so_far.counts k)) (takes_more (progress_line n k) so_far.begun);
     whole = λ same. absurd (omega arith);
   }
 
@@ -43,22 +40,19 @@ module _ (n last k : ℕ) (start now : SinkTold) (so_far : Shows n last start no
         counts = so_far.counts ++ k ∷ [];
         growing = grow-more 0 so_far.counts last k so_far.growing above;
         within = within;
-        begun = ([], append-nil then.taken ∙ all);
+        begun = takes_all (progress_text n (so_far.counts ++ k ∷ [])) all;
         whole = λ same. all;
       }
 
   -- the stream fails
-  pub shows-cut : now.failures ≡ start.failures → (then : SinkTold) → IsBeginning then.taken (now.taken ++ progress_line n k) → then.failures ≡ now.failures + 1 → Shows n k start then
-  shows-cut sound then begun counted =
-      let all : now.taken ++ progress_line n k ≡ start.taken ++ progress_text n (so_far.counts ++ k ∷ []) =
-      ap (λ t. t ++ progress_line n k) (so_far.whole sound) ∙ longer n so_far.counts k start.taken in
-      record {
-        counts = so_far.counts ++ k ∷ [];
-        growing = grow-more 0 so_far.counts last k so_far.growing above;
-        within = within;
-        begun = subst (IsBeginning then.taken) all begun;
-        whole = λ same. absurd (omega arith);
-      }
+  pub shows-cut : now.failures ≡ start.failures → (then : SinkTold) → TakesPrefix (progress_line n k) now.taken then.taken → then.failures ≡ now.failures + 1 → Shows n k start then
+  shows-cut sound then begun counted = record {
+    counts = so_far.counts ++ k ∷ [];
+    growing = grow-more 0 so_far.counts last k so_far.growing above;
+    within = within;
+    begun = subst (λ t. TakesPrefix t start.taken then.taken) (sym (text-more n so_far.counts k)) (takes_behind (progress_text n so_far.counts) (so_far.whole sound) begun);
+    whole = λ same. absurd (omega arith);
+  }
 
 module _ (m : Meter) (k : ℕ) (start now : SinkTold) (so_far : HasShown m start now) (above : m.last < k) (within : k ≤ m.count) where
   -- a meter that is broken shows nothing more
@@ -94,7 +88,7 @@ shown-first m s none sound = record {
     counts = [];
     growing = none;
     within = omega arith;
-    begun = ([], refl);
+    begun = takes_none [] s.taken;
     whole = λ e. sym (append-nil s.taken);
   };
   failed = λ e. absurd cc;

@@ -1,7 +1,7 @@
 -- what standard error shows of a sweep; this project's profile
 use Rattle.std.specs.Prelude.{◌≡◌, ◌<◌, ◌≤◌, ℕ, Bool, true, false, List, [], ◌∷◌, ◌++◌, codes, decimal}
 use Rattle.std.specs.List.{flat_map}
-use Rattle.ultra_msg.specs.Bytes.{IsBeginning}
+use Rattle.ultra_msg.specs.Bytes.{TakesPrefix}
 use Rattle.ultra_io.specs.Account.{SinkTold}
 use Rattle.ultra_inputs.specs.Failure.{text_of}
 use Rattle.ultra_inputs.specs.declared.failure.Failure.{Failure}
@@ -30,7 +30,7 @@ pub record Shows (n last : ℕ) (before after : SinkTold) : Type 0 where
   pub counts : List ℕ
   pub growing : GrowTo 0 counts last
   pub within : last ≤ n
-  pub begun : IsBeginning after.taken (before.taken ++ progress_text n counts)
+  pub begun : TakesPrefix (progress_text n counts) before.taken after.taken
   pub whole : after.failures ≡ before.failures → after.taken ≡ before.taken ++ progress_text n counts
 
 -- the same where progress is asked for, and else nothing
@@ -46,5 +46,5 @@ pub record HasShown (m : Meter) (before after : SinkTold) : Type 0 where
 
 -- a failure was reported on a stream
 pub record Told (f : Failure) (before after : SinkTold) : Type 0 where
-  pub begun : IsBeginning after.taken (before.taken ++ text_of f)
+  pub begun : TakesPrefix (text_of f) before.taken after.taken
   pub whole : after.failures ≡ before.failures → after.taken ≡ before.taken ++ text_of f

@@ -1,6 +1,6 @@
 -- what a sweep reads, writes and shows; this project's profile
 use Rattle.std.specs.Prelude.{◌≡◌, ℕ, ◌⊎◌, Bool, List, [], ◌∷◌, ◌++◌, length, map}
-use Rattle.ultra_msg.specs.Bytes.{IsBeginning}
+use Rattle.ultra_msg.specs.Bytes.{TakesPrefix}
 use Rattle.ultra_io.specs.Account.{SinkTold}
 use Rattle.ultra_io.specs.Source.{file_of}
 use Rattle.ultra_jobs.specs.JobsText.{Paths, Gives}
@@ -42,7 +42,7 @@ pub record SweptJobs (paths : List Paths) (progress : Bool) (old new : Traffic) 
 pub data JobsFail (paths : List Paths) (progress : Bool) (old new : Traffic) (before after : SinkTold) (f : Failure) : Type 0 where
   refused : GaveNoJobs paths old.files new.files f → new.written ≡ old.written → after ≡ before → JobsFail paths progress old new before after f
   not_run : (jobs : List Job) (last : ℕ) → GaveJobs paths old.files new.files jobs → StopsJobs f → new.written ≡ old.written → IsShown progress (length jobs) last before after → JobsFail paths progress old new before after f
-  unwritten : (jobs : List Job) → GaveJobs paths old.files new.files jobs → f ≡ NotWritten → IsBeginning new.written (old.written ++ report_of jobs) → IsShown progress (length jobs) (length jobs) before after → JobsFail paths progress old new before after f
+  unwritten : (jobs : List Job) → GaveJobs paths old.files new.files jobs → f ≡ NotWritten → TakesPrefix (report_of jobs) old.written new.written → IsShown progress (length jobs) (length jobs) before after → JobsFail paths progress old new before after f
 
 -- a file of jobs was read, and its jobs were swept
 pub record Swept (path : List ℕ) (progress : Bool) (old new : Traffic) (before after : SinkTold) : Type 0 where

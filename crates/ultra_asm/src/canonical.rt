@@ -5,7 +5,7 @@ ghost use Rattle.ultra_asm.specs.Instruction.{operands_of};
 ghost use Rattle.ultra_asm.specs.ProgramText.{IsProgramText};
 ghost use Rattle.ultra_asm.specs.declared.instruction.Operand.TheVariants as operand;
 ghost use Rattle.ultra_asm.specs.Listing.{label_text, label_line, label_if, operand_text, operands_text, line_text, instruction_line, target_of, is_target, listing_text, AreWritable, IsListable};
-ghost use Rattle.ultra_msg.specs.Bytes.{IsBeginning, Writes};
+ghost use Rattle.ultra_msg.specs.Bytes.{TakesPrefix, Writes};
 
 use crate::instruction::{Mnemonic, Operand};
 use itoa::Buffer;
@@ -56,7 +56,7 @@ fn target(instruction: Instr) -> Option<u16>
 pub fn listing<S: Sink>(program: &Program, sink: &mut S) -> Result<(), SinkFault>
     ensures ok { OnOk result (S.taken sink.new ≡ S.taken sink.old ++ listing_text program.now) }
     ensures still { OnOk result (S.failures sink.new ≡ S.failures sink.old) }
-    ensures err { OnErr result (IsBeginning (S.taken sink.new) (S.taken sink.old ++ listing_text program.now)) }
+    ensures err { OnErr result (TakesPrefix (listing_text program.now) (S.taken sink.old) (S.taken sink.new)) }
     ensures counted { OnErr result (S.failures sink.new ≡ S.failures sink.old + 1) }
     ensures reads_back { IsProgramText (listing_text program.now) program.now }
 {

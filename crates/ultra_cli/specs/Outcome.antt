@@ -1,6 +1,6 @@
 -- which commands were obeyed, and with which status the program ends; this project's profile
 use Rattle.std.specs.Prelude.{◌≡◌, ◌≢◌, ◌+◌, ℕ, List, [], ◌∷◌, ◌++◌, ◌⊎◌, ◌==◌, if◌then◌else◌, string_bytes, Result, OnOk, IfErr}
-use Rattle.ultra_msg.specs.Bytes.{IsBeginning}
+use Rattle.ultra_msg.specs.Bytes.{TakesPrefix}
 use Rattle.ultra_isa.specs.declared.Instr.{Instr}
 use Rattle.ultra_asm.specs.Listing.{listing_text}
 use Rattle.ultra_command_line.specs.declared.Command.TheVariants.{Run, Order, Explain, List as ListOf, Sweep, Lib}
@@ -45,7 +45,7 @@ pub record WroteListing (prog : List ℕ) (old new : Traffic) : Type 0 where
 pub data ListFails (prog : List ℕ) (old new : Traffic) (f : Failure) : Type 0 where
   unread_text : IsUnread prog f → new ≡ old → ListFails prog old new f
   refused_text : (text : List ℕ) → ExplainsProgram prog text f → new ≡ with_files old (file_of prog text ∷ []) → ListFails prog old new f
-  unwritten : (text : List ℕ) (p : List Instr) → IsProgramOf text p → f ≡ NotWritten → new.files ≡ old.files ++ file_of prog text ∷ [] → IsBeginning new.written (old.written ++ listing_text p) → ListFails prog old new f
+  unwritten : (text : List ℕ) (p : List Instr) → IsProgramOf text p → f ≡ NotWritten → new.files ≡ old.files ++ file_of prog text ∷ [] → TakesPrefix (listing_text p) old.written new.written → ListFails prog old new f
 
 -- what was asked for was done. Standard error took nothing, but for the progress of a sweep
 abbrev pub Obeyed : Parsed → Traffic → Traffic → SinkTold → SinkTold → Type 0
@@ -67,7 +67,7 @@ NotObeyed (parsed.Command (Explain conf prog heap)) old new before after f = Tex
 NotObeyed (parsed.Command (ListOf prog)) old new before after f = ListFails prog.now old new f × (after ≡ before)
 NotObeyed (parsed.Command (Sweep jobs workers at_once progress)) old new before after f = SweepFails jobs.now progress old new before after f
 NotObeyed (parsed.Command (Lib coordination)) old new before after f = (new.files ≡ old.files) × LibFails coordination old.written new.written f × (after ≡ before)
-NotObeyed (parsed.Help text) old new before after f = (f ≡ NotWritten) × (new.files ≡ old.files) × IsBeginning new.written (old.written ++ string_bytes text) × (after ≡ before)
+NotObeyed (parsed.Help text) old new before after f = (f ≡ NotWritten) × (new.files ≡ old.files) × TakesPrefix (string_bytes text) old.written new.written × (after ≡ before)
 NotObeyed (parsed.Usage text) old new before after f = (f ≡ Usage text) × (new ≡ old) × (after ≡ before)
 NotObeyed parsed.NoMemory old new before after f = (f ≡ NoMemory) × (new ≡ old) × (after ≡ before)
 

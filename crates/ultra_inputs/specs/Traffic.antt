@@ -1,6 +1,6 @@
 -- what a command does with files and standard output; this project's profile
 use Rattle.std.specs.Prelude.{◌≡◌, ℕ, List, ◌++◌, ◌⊎◌}
-use Rattle.ultra_msg.specs.Bytes.{IsBeginning}
+use Rattle.ultra_msg.specs.Bytes.{TakesPrefix}
 use Rattle.ultra_isa.specs.declared.Instr.{Instr}
 use Rattle.ultra_model.specs.Machine.{Settings}
 use Rattle.ultra_io.specs.Source.{File}
@@ -34,4 +34,4 @@ module _ (text : Settings → List Instr → List ℕ) where
   -- how that fails: both files are accepted before a byte is written, and what stops the text is such a failure
   pub data TextFails (Stops : Failure → Type 0) (conf prog : List ℕ) (old new : Traffic) (f : Failure) : Type 0 where
     refused : GaveNothing conf prog old.files new.files f → new.written ≡ old.written → TextFails Stops conf prog old new f
-    stopped : (c : Settings) (p : List Instr) → Gave conf prog old.files new.files c p → Stops f → IsBeginning new.written (old.written ++ text c p) → TextFails Stops conf prog old new f
+    stopped : (c : Settings) (p : List Instr) → Gave conf prog old.files new.files c p → Stops f → TakesPrefix (text c p) old.written new.written → TextFails Stops conf prog old new f

@@ -1,7 +1,7 @@
 //! How a command ends that fails.
 
 ghost use Rattle.std.specs.Prelude.{◌≡◌, ◌+◌, ◌++◌, codes, decimal, OnOk, OnErr};
-ghost use Rattle.ultra_msg.specs.Bytes.{IsBeginning, Writes};
+ghost use Rattle.ultra_msg.specs.Bytes.{TakesPrefix, Writes};
 ghost use Rattle.ultra_inputs.specs.Failure.{kind_text, path_text, status_of, text_of};
 
 use itoa::Buffer;
@@ -83,8 +83,8 @@ impl Failure<'_> {
     pub fn write_to<E: Sink>(&self, err: &mut E) -> Result<(), SinkFault>
         ensures ok { OnOk result (E.taken err.new ≡ E.taken err.old ++ text_of self.now) }
         ensures still { OnOk result (E.failures err.new ≡ E.failures err.old) }
-        ensures err { OnErr result (IsBeginning (E.taken err.new)
-            (E.taken err.old ++ text_of self.now)) }
+        ensures err { OnErr result (TakesPrefix (text_of self.now) (E.taken err.old)
+            (E.taken err.new)) }
         ensures counted { OnErr result (E.failures err.new ≡ E.failures err.old + 1) }
     {
         self.write_text(err)
@@ -118,7 +118,7 @@ impl Failure<'_> {
 /// reports it.
 pub fn give_up<E: Sink>(failure: &Failure, err: &mut E) -> u8
     ensures status { result ≡ status_of failure.now }
-    ensures told { IsBeginning (E.taken err.new) (E.taken err.old ++ text_of failure.now) }
+    ensures prefix { TakesPrefix (text_of failure.now) (E.taken err.old) (E.taken err.new) }
     ensures whole { E.failures err.new ≡ E.failures err.old → E.taken err.new ≡ E.taken err.old ++
         text_of failure.now }
 {

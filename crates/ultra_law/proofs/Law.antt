@@ -7,6 +7,7 @@ use Rattle.std.proofs.lemmas.Bool.Decides.{nat_tests}
 use Rattle.std.proofs.lemmas.Nat.{pow_pos, div_below, div-add-mod'}
 use Rattle.std.proofs.lemmas.List.{get_or_past, append-nil}
 use Rattle.std.proofs.lemmas.List.Elements.{recursion_from_All}
+use Rattle.ultra_msg.specs.Bytes.{IsPrefix}
 use Rattle.ultra_msg.specs.declared.Request.{Request}
 use Rattle.ultra_msg.specs.declared.ReplyMessage.{ReplyMessage}
 use Rattle.ultra_msg.specs.declared.Event.{Event}
@@ -31,7 +32,7 @@ use Rattle.ultra_law.specs.Tree.{Leaf, served_leaves}
 use Rattle.ultra_law.specs.Log.{Issue, Answer}
 use Rattle.ultra_law.specs.Legal.{Entry as Done, Has, Cells, with_cell, given_over, given, answered_by, request_of, cells_after, replayed, IsLegal}
 use Rattle.ultra_law.specs.SerialList.{History, empty_history, noted, after_event, cells_of, history, serial_list}
-use Rattle.ultra_law.specs.Chain.{IsBeginningOf, AreChained, SerializationLaw}
+use Rattle.ultra_law.specs.Chain.{AreChained, SerializationLaw}
 use Rattle.ultra_law.proofs.Tidy.{IsTidy, tidy-start, tidy-reply_phase, tidy-memory_phase, tidy-request_phase, tidy-processor_phase, that_is}
 use Rattle.ultra_law.proofs.Forest.{leaf_of, built_leaf}
 use Rattle.ultra_law.proofs.Explained.{IsIn, IsExplained, IsAnswered, IsForest}
@@ -395,7 +396,7 @@ module _ (c : Settings) (range : AreInRange c) (program : List Instr) where
   unfolding history
   history_next n = refl
 
-  grows_next : (n : ℕ) → IsBeginningOf (serial_list c program n) (serial_list c program (suc n))
+  grows_next : (n : ℕ) → IsPrefix (serial_list c program n) (serial_list c program (suc n))
   grows_next n =
       let h = history c program n in
       let more = grows-noted n (after c program (suc n)).events h in
@@ -406,7 +407,7 @@ module _ (c : Settings) (range : AreInRange c) (program : List Instr) where
 
   pub are_chained : AreChained c program
   are_chained = record {
-    grows = λ n. subst (λ k. IsBeginningOf (serial_list c program n) (serial_list c program k)) (omega arith) (grows_next n);
+    grows = λ n. subst (λ k. IsPrefix (serial_list c program n) (serial_list c program k)) (omega arith) (grows_next n);
     legal = λ n. is_legal c n (after c program n) (history c program n) (serial_after n);
   }
 

@@ -1,3 +1,4 @@
 pub mod Pairs
+pub mod Prefixes
 pub mod Parts
 pub mod Writing

@@ -1,9 +1,9 @@
 -- one more part of the bytes was taken
-use Rattle.std.proofs.Common.{◌≡◌, ℕ, ◌+◌, ◌-◌, ◌≤◌, List, ◌++◌, take, drop, length, arith, ◌∙◌, ap, append_assoc, length-drop}
+use Rattle.std.proofs.Common.{◌≡◌, ℕ, ◌+◌, ◌-◌, ◌≤◌, List, ◌++◌, take, drop, length, arith, ◌∙◌, append_assoc, length-drop}
 use Rattle.std.proofs.Math.Seq.{take-length, take-add}
-use Rattle.std.proofs.lemmas.List.{take-append-drop}
 use Rattle.std.specs.Prelude.{Result, OnErr, Ok, Err}
-use Rattle.ultra_msg.specs.Bytes.{TakesPart, IsBeginning}
+use Rattle.ultra_msg.specs.Bytes.{TakesPart, TakesPrefix}
+use Rattle.ultra_msg.proofs.Prefixes.{prefix_taken}
 
 pub record Taken (start : ℕ) (bytes old new : List ℕ) : Type 0 where
   pub within : start ≤ length bytes
@@ -21,8 +21,8 @@ taken_more n start bytes old now new h e p =
     }
 
 -- what was taken of the bytes is a prefix of them
-pub taken_so_far : (start : ℕ) (bytes old now new : List ℕ) → now ≡ old ++ take start bytes → new ≡ now → IsBeginning new (old ++ bytes)
-taken_so_far start bytes old now new e h = (drop start bytes, rw (h, e) (append_assoc old (take start bytes) (drop start bytes) ∙ ap (λ xs. old ++ xs) (take-append-drop start bytes)))
+pub taken_so_far : (start : ℕ) (bytes old now new : List ℕ) → now ≡ old ++ take start bytes → new ≡ now → TakesPrefix bytes old new
+taken_so_far start bytes old now new e h = record { part = take start bytes; begins = prefix_taken start bytes; taken = h ∙ e }
 
 -- what holds anyway holds at an error
 pub at_error : {T E P : Type 0} (r : Result T E) → P → OnErr r P

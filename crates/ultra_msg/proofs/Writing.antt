@@ -1,12 +1,10 @@
 -- writing one text after another
 use Rattle.std.proofs.Common.{◌≡◌, ℕ, ◌+◌, List, [], ◌++◌, Result, Ok, Err, IsErr, refl, sym, ◌∙◌, ap, append_assoc, append-nil}
-use Rattle.ultra_msg.specs.Bytes.{IsBeginning, Writes}
+use Rattle.ultra_msg.specs.Bytes.{Writes}
+use Rattle.ultra_msg.proofs.Prefixes.{takes_more, takes_behind}
 
 pub writes_nothing : {E : Type 0} (old : List ℕ) (before : ℕ) → Writes {E = E} (Ok (tt {0})) [] old old before before
 writes_nothing old before = record { ok = sym (append-nil old); still = refl; err = tt; counted = tt }
-
-begins_more : (xs ys zs : List ℕ) → IsBeginning xs ys → IsBeginning xs (ys ++ zs)
-begins_more xs ys zs (rest, e) = (rest ++ zs, sym (append_assoc xs rest zs) ∙ ap (λ t. t ++ zs) e)
 
 -- the first text was written, and then the second or a prefix of it
 pub writes_then : {T U E : Type 0} {x : U} {a b s t u : List ℕ} {k l m : ℕ} (r : Result T E) → Writes {E = E} (Ok x) a s t k l → Writes r b t u l m → Writes r (a ++ b) s u k m
@@ -19,17 +17,17 @@ writes_then {a = a} {b = b} {s = s} (Ok y) v w = record {
 writes_then {a = a} {b = b} {s = s} (Err y) v w = record {
   ok = tt;
   still = tt;
-  err = rw (← append_assoc s a b, ← v.ok) w.err;
+  err = takes_behind a v.ok w.err;
   counted = w.counted ∙ ap (λ n. n + 1) v.still;
 }
 
 -- only a prefix of the first text was written
 pub writes_failed : {T U E : Type 0} {a s t : List ℕ} {k l : ℕ} {e : E} (b : List ℕ) (r : Result U E) → IsErr r → Writes {T = T} (Err e) a s t k l → Writes r (a ++ b) s t k l
 writes_failed b (Ok x) bad w = absurd cc
-writes_failed {a = a} {s = s} {t = t} b (Err f) bad w = record {
+writes_failed b (Err f) bad w = record {
   ok = tt;
   still = tt;
-  err = rw (← append_assoc s a b) (begins_more t (s ++ a) b w.err);
+  err = takes_more b w.err;
   counted = w.counted;
 }
 

@@ -4,14 +4,27 @@ use Rattle.std.specs.Borrow.{Bor}
 use Rattle.std.specs.List.{flat_map}
 
 -- the first list is a prefix of the second
-abbrev pub IsBeginning : List ℕ → List ℕ → Type 0
-IsBeginning xs ys = (rest : List ℕ) × (xs ++ rest ≡ ys)
+abbrev pub IsPrefix : {X : Type 0} → List X → List X → Type 0
+IsPrefix {X} xs ys = (rest : List X) × (xs ++ rest ≡ ys)
+
+-- a sink took a prefix of the bytes: it has what it had, and then that prefix
+pub record TakesPrefix (bytes old new : List ℕ) : Type 0 where
+  pub part : List ℕ
+  pub begins : IsPrefix part bytes
+  pub taken : new ≡ old ++ part
 
 -- a sink took the first n of the bytes, and at least one if there is one
 pub record TakesPart (n : ℕ) (bytes old new : List ℕ) : Type 0 where
   pub taken : new ≡ old ++ take n bytes
   pub within : n ≤ length bytes
   pub some : 0 < length bytes → 0 < n
+
+-- bytes were written behind those that waited: the sink took the first of them all, and the others
+-- wait
+pub record AreTakenOrWait (bytes old waited new waits : List ℕ) : Type 0 where
+  pub handed_on : List ℕ
+  pub taken : new ≡ old ++ handed_on
+  pub rest : handed_on ++ waits ≡ waited ++ bytes
 
 -- pieces of bytes, one after the other
 abbrev pub in_a_row : List (Bor (List ℕ)) → List ℕ
@@ -21,5 +34,5 @@ in_a_row pieces = flat_map (λ piece. piece.now) pieces
 pub record Writes {T E : Type 0} (result : Result T E) (bytes old new : List ℕ) (before after : ℕ) : Type 0 where
   pub ok : OnOk result (new ≡ old ++ bytes)
   pub still : OnOk result (after ≡ before)
-  pub err : OnErr result (IsBeginning new (old ++ bytes))
+  pub err : OnErr result (TakesPrefix bytes old new)
   pub counted : OnErr result (after ≡ before + 1)

@@ -1,7 +1,7 @@
 //! Where the program's bytes go.
 
 ghost use Rattle.std.specs.Prelude.{◌≡◌, ℕ, ◌+◌, ◌++◌, List, IfOk, OnOk, OnErr};
-ghost use Rattle.ultra_msg.specs.Bytes.{IsBeginning, TakesPart};
+ghost use Rattle.ultra_msg.specs.Bytes.{TakesPart, TakesPrefix};
 
 /// A sink took nothing of what it was offered.
 #[derive(Clone, Copy, PartialEq, Eq, Debug, Drop)]
@@ -28,7 +28,7 @@ pub trait Sink {
 pub fn write_all<S: Sink>(sink: &mut S, bytes: &[u8]) -> Result<(), SinkFault>
     ensures ok { OnOk result (S.taken sink.new ≡ S.taken sink.old ++ bytes.now) }
     ensures still { OnOk result (S.failures sink.new ≡ S.failures sink.old) }
-    ensures err { OnErr result (IsBeginning (S.taken sink.new) (S.taken sink.old ++ bytes.now)) }
+    ensures err { OnErr result (TakesPrefix bytes.now (S.taken sink.old) (S.taken sink.new)) }
     ensures counted { OnErr result (S.failures sink.new ≡ S.failures sink.old + 1) }
 {
     let mut start = 0;

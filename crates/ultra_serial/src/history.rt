@@ -5,7 +5,7 @@ ghost use Rattle.ultra_model.specs.Machine.{start};
 ghost use Rattle.ultra_model.specs.Phases.{after};
 ghost use Rattle.ultra_law.specs.Legal.{given, cells_after, replayed, IsLegal};
 ghost use Rattle.ultra_law.specs.SerialList.{History, empty_history, after_event, noted, cells_of, history, serial_list};
-ghost use Rattle.ultra_law.specs.Chain.{IsBeginningOf};
+ghost use Rattle.ultra_msg.specs.Bytes.{IsPrefix};
 ghost use Rattle.ultra_serial.specs.Memory.{cell_in};
 ghost use Rattle.ultra_serial.specs.Following.{Follows};
 ghost use Rattle.ultra_serial.specs.declared.history.OrderFault.TheVariants.{NoMemory};
@@ -120,7 +120,7 @@ pub fn order(
 ) -> Result<SerialList, OrderFault>
     requires { cycles ≤ 1000000 }
     ensures list { IfOk result (λ list. list.items ≡ serial_list config.now program.now cycles) }
-    ensures prefixes { IfOk result (λ list. (n : ℕ) → n ≤ cycles → IsBeginningOf (serial_list config.now program.now n) list.items) }
+    ensures prefixes { IfOk result (λ list. (n : ℕ) → n ≤ cycles → IsPrefix (serial_list config.now program.now n) list.items) }
     ensures legal { OnOk result ((n : ℕ) → n ≤ cycles → IsLegal (given config.now.initial) (history config.now program.now n).log (cells_of config.now (after config.now program.now n)) (serial_list config.now program.now n)) }
 {
     let mut serving = Serving::new(alloc, config.initial())?;

@@ -11,7 +11,7 @@ use Rattle.ultra_block.specs.declared.blocks.Blocks.{Blocks}
 use Rattle.ultra_block.specs.BlocksState.{machine_of, IsWhole}
 use Rattle.ultra_model.specs.Phases.{after, cycle, reply_phase, memory_phase, request_phase, processor_phase}
 use Rattle.ultra_trace.specs.declared.page.Page.{Page}
-use Rattle.ultra_trace.specs.Page.{Writes, WritesBeginning}
+use Rattle.ultra_trace.specs.Page.{Writes, WritesPrefix}
 use Rattle.ultra_trace.specs.BlocksAfter.{IsAfter}
 use Rattle.ultra_trace.specs.Trace.{by_number, cycle_text, cycles_text, cycle_count, all_cycles_text, last_state, end_text}
 use Rattle.ultra_trace.proofs.Writing.{either, writes_failed, writes_spent}
@@ -156,7 +156,7 @@ module _ (c : Settings) (program : List Instr) (n : ℕ) where
       rw first.1 (writes_failed first.0 f w)
 
   -- the cycles so far are the first of the trace
-  pub first_written : {S : Type 0} {taken : S → List ℕ} {failures : S → ℕ} {s t : Page S} → IsBusy c program n → n < c.cycles → Writes taken failures (cycles_text c program n) s t → WritesBeginning taken failures (all_cycles_text c program) s t
+  pub first_written : {S : Type 0} {taken : S → List ℕ} {failures : S → ℕ} {s t : Page S} → IsBusy c program n → n < c.cycles → Writes taken failures (cycles_text c program n) s t → WritesPrefix taken failures (all_cycles_text c program) s t
   unfolding all_cycles_text
   first_written h p w =
       let beyond = count_beyond c program n h p in

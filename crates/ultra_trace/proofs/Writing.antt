@@ -1,23 +1,21 @@
 -- writing one text after another
 use Rattle.std.proofs.Common.{ℕ, ◌≡◌, ◌+◌, ◌⊎◌, inl, inr, List, [], ◌++◌, Bool, true, false, refl, sym, ◌∙◌, ap, subst, append_assoc, append-nil}
 use Rattle.std.specs.Prelude.{Result, Ok, Err, OnOk, OnErr, IsOk}
-use Rattle.ultra_msg.specs.Bytes.{IsBeginning}
+use Rattle.ultra_msg.specs.Bytes.{AreTakenOrWait, IsPrefix, TakesPrefix}
+use Rattle.ultra_msg.proofs.Prefixes.{prefix_more, prefix_behind, takes_more, takes_longer, takes_later, none_written, more_waits, both_written}
 use Rattle.ultra_trace.specs.declared.page.Page.{Page}
-use Rattle.ultra_trace.specs.Page.{State, text, Wrote, state_of, Writes}
+use Rattle.ultra_trace.specs.Page.{State, Wrote, state_of, Writes}
 
 pub either : (b : Bool) → (b ≡ true) ⊎ (b ≡ false)
 either true = inl refl
 either false = inr refl
-
-begins_more : (xs ys zs : List ℕ) → IsBeginning xs ys → IsBeginning xs (ys ++ zs)
-begins_more xs ys zs (rest, e) = (rest ++ zs, sym (append_assoc xs rest zs) ∙ ap (λ t. t ++ zs) e)
 
 -- after the fault it doesn't matter what else was to be written
 pub wrote_failed : (a b : List ℕ) (s t : State) → t.failed ≡ true → Wrote a s t → Wrote (a ++ b) s t
 wrote_failed a b s t f w = record {
   spent = w.spent;
   whole = λ h. absurd cc;
-  beginning = λ g h. (rw (← append_assoc (text s) a b) (begins_more t.taken (text s ++ a) b (w.beginning g h).0), (w.beginning g h).1);
+  prefix = λ g h. (rw (append_assoc s.waiting a b) at (takes_more b (w.prefix g h).0), (w.prefix g h).1);
 }
 
 -- nor does it matter what is to be written once there has been one
@@ -25,33 +23,33 @@ wrote_spent : (a b : List ℕ) (s t : State) → s.failed ≡ true → Wrote a s
 wrote_spent a b s t f w = let same = w.spent f in record {
   spent = w.spent;
   whole = λ h. absurd cc;
-  beginning = λ g h. absurd cc;
+  prefix = λ g h. absurd cc;
 }
 
 pub wrote_nothing : (s : State) → Wrote [] s s
 wrote_nothing s = record {
   spent = λ h. refl;
-  whole = λ h. (sym (append-nil (text s)), refl);
-  beginning = λ f h. absurd cc;
+  whole = λ h. (none_written s.taken s.waiting, refl);
+  prefix = λ f h. absurd cc;
 }
 
-whole_then : (a b : List ℕ) (s t u : State) → Wrote a s t → Wrote b t u → u.failed ≡ false → (text u ≡ text s ++ (a ++ b)) × (u.failures ≡ s.failures)
+whole_then : (a b : List ℕ) (s t u : State) → Wrote a s t → Wrote b t u → u.failed ≡ false → AreTakenOrWait (a ++ b) s.taken s.waiting u.taken u.waiting × (u.failures ≡ s.failures)
 whole_then a b s t u v w h = elim (either t.failed) [
   | inl e ↦ let same = w.spent e in absurd cc
-  | inr e ↦ ((w.whole h).0 ∙ ap (λ x. x ++ b) (v.whole e).0 ∙ append_assoc (text s) a b, (w.whole h).1 ∙ (v.whole e).1)
+  | inr e ↦ (both_written (v.whole e).0 (w.whole h).0, (w.whole h).1 ∙ (v.whole e).1)
 ]
 
-beginning_then : (a b : List ℕ) (s t u : State) → Wrote a s t → Wrote b t u → s.failed ≡ false → u.failed ≡ true → IsBeginning u.taken (text s ++ (a ++ b)) × (u.failures ≡ s.failures + 1)
-beginning_then a b s t u v w f h = elim (either t.failed) [
-  | inl e ↦ let p = wrote_failed a b s t e v in let P : State → Type 0 = λ x. IsBeginning x.taken (text s ++ (a ++ b)) × (x.failures ≡ s.failures + 1) in subst P (sym (w.spent e)) (p.beginning f e)
-  | inr e ↦ let p = w.beginning e h in (rw (← append_assoc (text s) a b, ← (v.whole e).0) p.0, p.1 ∙ ap (λ n. n + 1) (v.whole e).1)
+prefix_then : (a b : List ℕ) (s t u : State) → Wrote a s t → Wrote b t u → s.failed ≡ false → u.failed ≡ true → TakesPrefix (s.waiting ++ (a ++ b)) s.taken u.taken × (u.failures ≡ s.failures + 1)
+prefix_then a b s t u v w f h = elim (either t.failed) [
+  | inl e ↦ let p = wrote_failed a b s t e v in let P : State → Type 0 = λ x. TakesPrefix (s.waiting ++ (a ++ b)) s.taken x.taken × (x.failures ≡ s.failures + 1) in subst P (sym (w.spent e)) (p.prefix f e)
+  | inr e ↦ let p = w.prefix e h in (takes_later b (v.whole e).0 p.0, p.1 ∙ ap (λ n. n + 1) (v.whole e).1)
 ]
 
 pub wrote_then : (a b : List ℕ) (s t u : State) → Wrote a s t → Wrote b t u → Wrote (a ++ b) s u
 wrote_then a b s t u v w = record {
   spent = λ h. let same = v.spent h in w.spent (ap (λ x. x.failed) same ∙ h) ∙ same;
   whole = whole_then a b s t u v w;
-  beginning = beginning_then a b s t u v w;
+  prefix = prefix_then a b s t u v w;
 }
 
 -- the same of pages
@@ -73,8 +71,8 @@ module _ {S : Type 0} {taken : S → List ℕ} {failures : S → ℕ} where
 wrote_waiting : (b : List ℕ) (s t : State) → s.failed ≡ false → Wrote [] s t → Wrote b s record t { waiting = t.waiting ++ b }
 wrote_waiting b s t f w = record {
   spent = λ h. absurd cc;
-  whole = λ h. (sym (append_assoc t.taken t.waiting b) ∙ ap (λ x. x ++ b) ((w.whole h).0 ∙ append-nil (text s)), (w.whole h).1);
-  beginning = λ g h. (rw (append-nil (text s)) at (begins_more t.taken (text s ++ []) b (w.beginning g h).0), (w.beginning g h).1);
+  whole = λ h. (both_written (w.whole h).0 (more_waits t.taken t.waiting b), (w.whole h).1);
+  prefix = λ g h. (rw (append-nil s.waiting) at (takes_more b (w.prefix g h).0), (w.prefix g h).1);
 }
 
 module _ {S : Type 0} {taken : S → List ℕ} {failures : S → ℕ} where
@@ -91,28 +89,28 @@ at_ok (Err e) ok p = absurd cc
 
 -- on an empty page all that was written has been taken where nothing is left, and a prefix of it after a fault
 pub all_taken : (bytes : List ℕ) (s t : State) → s.waiting ≡ [] → t.failed ≡ false → t.waiting ≡ [] → Wrote bytes s t → t.taken ≡ s.taken ++ bytes
-all_taken bytes s t b g e w = sym (append-nil t.taken) ∙ rw (b, e, append-nil s.taken) at (w.whole g).0
+all_taken bytes s t b g e w =
+    let v = (w.whole g).0 in
+    v.taken ∙ ap (λ x. s.taken ++ x) (sym (append-nil v.handed_on) ∙ rw (b, e) at v.rest)
 
-pub beginning_taken : (bytes : List ℕ) (s t : State) → s.waiting ≡ [] → s.failed ≡ false → t.failed ≡ true → Wrote bytes s t → IsBeginning t.taken (s.taken ++ bytes)
-beginning_taken bytes s t b f g w = rw (b, append-nil s.taken) at (w.beginning f g).0
+pub prefix_taken_then : (bytes : List ℕ) (s t : State) → s.waiting ≡ [] → s.failed ≡ false → t.failed ≡ true → Wrote bytes s t → TakesPrefix bytes s.taken t.taken
+prefix_taken_then bytes s t b f g w = rw b at (w.prefix f g).0
 
 -- and where the sink hasn't failed, a prefix of all that begins with what was written
-pub part_taken : (part bytes : List ℕ) (s t : State) → s.waiting ≡ [] → t.failed ≡ false → IsBeginning part bytes → Wrote part s t → IsBeginning t.taken (s.taken ++ bytes)
-part_taken part bytes s t b f (rest, e) w = (
-  t.waiting ++ rest,
-  sym (append_assoc t.taken t.waiting rest) ∙ ap (λ x. x ++ rest) (w.whole f).0 ∙ rw (b, append-nil s.taken) (append_assoc s.taken part rest) ∙ ap (λ x. s.taken ++ x) e,
-)
+pub part_taken : (part bytes : List ℕ) (s t : State) → s.waiting ≡ [] → t.failed ≡ false → IsPrefix part bytes → Wrote part s t → TakesPrefix bytes s.taken t.taken
+part_taken part bytes s t b f begins w =
+    let v = (w.whole f).0 in
+    takes_longer begins record { part = v.handed_on; begins = (t.waiting, rw b at v.rest); taken = v.taken }
 
 -- a part of the middle, after the first bytes
-pub begins_within : (first part middle last : List ℕ) → IsBeginning part middle → IsBeginning (first ++ part) (first ++ (middle ++ last))
-begins_within first part middle last (rest, e) =
-    (rest ++ last, append_assoc first part (rest ++ last) ∙ ap (λ x. first ++ x) (sym (append_assoc part rest last) ∙ ap (λ x. x ++ last) e))
+pub begins_within : (first part middle last : List ℕ) → IsPrefix part middle → IsPrefix (first ++ part) (first ++ (middle ++ last))
+begins_within first part middle last is = prefix_behind first part (middle ++ last) (prefix_more part middle last is)
 
 -- what a whole text has become where the page is finished
 pub record Ended {T E : Type 0} (r : Result T E) (bytes : List ℕ) (old_taken new_taken : List ℕ) (old_failures new_failures : ℕ) : Type 0 where
   pub ok : OnOk r (new_taken ≡ old_taken ++ bytes)
   pub still : OnOk r (new_failures ≡ old_failures)
-  pub err : OnErr r (IsBeginning new_taken (old_taken ++ bytes))
+  pub err : OnErr r (TakesPrefix bytes old_taken new_taken)
   pub counted : OnErr r (new_failures ≡ old_failures + 1)
 
 pub ended : {T E : Type 0} (r : Result T E) (bytes : List ℕ) (s t : State) → s.waiting ≡ [] → s.failed ≡ false → Wrote bytes s t → OnOk r (t.failed ≡ false) → OnOk r (t.waiting ≡ []) → OnErr r (t.failed ≡ true) → Ended r bytes s.taken t.taken s.failures t.failures
@@ -125,6 +123,6 @@ ended (Ok x) bytes s t b f w g e h = record {
 ended (Err x) bytes s t b f w g e h = record {
   ok = tt;
   still = tt;
-  err = beginning_taken bytes s t b f h w;
-  counted = (w.beginning f h).1;
+  err = prefix_taken_then bytes s t b f h w;
+  counted = (w.prefix f h).1;
 }

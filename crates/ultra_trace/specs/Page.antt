@@ -1,6 +1,6 @@
 -- text on its way to a sink, some of it waiting in a buffer; this project's profile
 use Rattle.std.specs.Prelude.{ℕ, ◌≡◌, ◌+◌, List, ◌++◌, Bool, true, false}
-use Rattle.ultra_msg.specs.Bytes.{IsBeginning}
+use Rattle.ultra_msg.specs.Bytes.{AreTakenOrWait, IsPrefix, TakesPrefix}
 use Rattle.ultra_trace.specs.declared.page.Page.{Page}
 
 -- what the sink has taken and how often it has failed, what waits in the buffer, and whether the sink has failed the page
@@ -10,15 +10,16 @@ pub record State : Type 0 where
   pub waiting : List ℕ
   pub failed : Bool
 
--- all that was written
-abbrev pub text : State → List ℕ
-text s = s.taken ++ s.waiting
-
--- bytes were written. The first fault of the sink is the last: nothing is written after it, and the sink has then taken a prefix of the text
+-- bytes were written. The first fault of the sink is the last: nothing is written after it, and
+-- the sink has then taken a prefix of what waited and the bytes
 pub record Wrote (bytes : List ℕ) (old new : State) : Type 0 where
   pub spent : old.failed ≡ true → new ≡ old
-  pub whole : new.failed ≡ false → (text new ≡ text old ++ bytes) × (new.failures ≡ old.failures)
-  pub beginning : old.failed ≡ false → new.failed ≡ true → IsBeginning new.taken (text old ++ bytes) × (new.failures ≡ old.failures + 1)
+  pub whole : new.failed ≡ false
+      → AreTakenOrWait bytes old.taken old.waiting new.taken new.waiting
+      × (new.failures ≡ old.failures)
+  pub prefix : old.failed ≡ false → new.failed ≡ true
+      → TakesPrefix (old.waiting ++ bytes) old.taken new.taken
+      × (new.failures ≡ old.failures + 1)
 
 -- the same of a page, whose sink tells what it has taken and how often it has failed
 module _ {S : Type 0} (taken : S → List ℕ) (failures : S → ℕ) where
@@ -30,5 +31,5 @@ module _ {S : Type 0} (taken : S → List ℕ) (failures : S → ℕ) where
     pub wrote : Wrote bytes (state_of old) (state_of new)
 
   -- a prefix of the bytes was written
-  abbrev pub WritesBeginning : List ℕ → Page S → Page S → Type 0
-  WritesBeginning bytes old new = (part : List ℕ) × IsBeginning part bytes × Writes part old new
+  abbrev pub WritesPrefix : List ℕ → Page S → Page S → Type 0
+  WritesPrefix bytes old new = (part : List ℕ) × IsPrefix part bytes × Writes part old new

@@ -2,7 +2,7 @@
 
 ghost use Rattle.std.specs.Prelude.{◌≡◌, ◌+◌, ◌<◌, [], ◌++◌, false, OnOk, OnErr};
 ghost use Rattle.std.specs.List.{flat_map};
-ghost use Rattle.ultra_msg.specs.Bytes.{IsBeginning};
+ghost use Rattle.ultra_msg.specs.Bytes.{TakesPrefix};
 ghost use Rattle.ultra_model.specs.Machine.{size};
 ghost use Rattle.ultra_block.specs.BlocksState.{machine_of, IsWhole};
 ghost use Rattle.ultra_trace.specs.Trace.{got_line, act_line, fault_line, by_number, by_stage, pni_of, req_of, wait_of, inp_of, out_of, rep_of, events_text, state_text, cycle_text};
@@ -20,7 +20,7 @@ pub fn write_cycle<S: Sink>(blocks: &Blocks, sink: &mut S) -> Result<(), SinkFau
     requires some { 0 < blocks.now.done }
     ensures ok { OnOk result (S.taken sink.new ≡ S.taken sink.old ++ cycle_text blocks.now.config (machine_of blocks.now)) }
     ensures still { OnOk result (S.failures sink.new ≡ S.failures sink.old) }
-    ensures err { OnErr result (IsBeginning (S.taken sink.new) (S.taken sink.old ++ cycle_text blocks.now.config (machine_of blocks.now))) }
+    ensures err { OnErr result (TakesPrefix (cycle_text blocks.now.config (machine_of blocks.now)) (S.taken sink.old) (S.taken sink.new)) }
     ensures counted { OnErr result (S.failures sink.new ≡ S.failures sink.old + 1) }
 {
     let mut page = Page::new(sink);
@@ -37,7 +37,7 @@ impl<'s, S: Sink> Page<'s, S> {
         ensures same_reference { self.new.sink.ghost_name ≡ self.old.sink.ghost_name }
         ensures ok { OnOk result (S.taken self.new.sink.now ≡ S.taken self.old.sink.now ++ cycle_text blocks.now.config (machine_of blocks.now)) }
         ensures still { OnOk result (S.failures self.new.sink.now ≡ S.failures self.old.sink.now) }
-        ensures err { OnErr result (IsBeginning (S.taken self.new.sink.now) (S.taken self.old.sink.now ++ cycle_text blocks.now.config (machine_of blocks.now))) }
+        ensures err { OnErr result (TakesPrefix (cycle_text blocks.now.config (machine_of blocks.now)) (S.taken self.old.sink.now) (S.taken self.new.sink.now)) }
         ensures counted { OnErr result (S.failures self.new.sink.now ≡ S.failures self.old.sink.now + 1) }
     {
         self.put_cycle(blocks);

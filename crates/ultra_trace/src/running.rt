@@ -1,7 +1,7 @@
 //! The trace of a run, from the start of a machine to the end.
 
 ghost use Rattle.std.specs.Prelude.{◌≡◌, ◌≢◌, ℕ, ◌+◌, ◌*◌, ◌<◌, ◌≤◌, List, [], ◌++◌, ◌||◌, true, false, codes, OnOk, OnErr, IfOk, IfErr};
-ghost use Rattle.ultra_msg.specs.Bytes.{IsBeginning};
+ghost use Rattle.ultra_msg.specs.Bytes.{TakesPrefix};
 ghost use Rattle.ultra_model.specs.Machine.{start as at_start, is_quiet as quiet};
 ghost use Rattle.ultra_block.specs.Partition.{is_partition};
 ghost use Rattle.ultra_block.specs.BlocksState.{machine_of, IsWhole};
@@ -83,7 +83,7 @@ pub fn run<R: Threads + Wait + Sync, G: Gate + Sync, S: Sink>(
     ensures headline { OnOk result ((written : List ℕ) × (S.taken sink.new ≡ S.taken sink.old ++ written) × Headline config.now program.now written) }
     ensures ok { OnOk result (S.taken sink.new ≡ S.taken sink.old ++ trace config.now program.now) }
     ensures still { OnOk result (S.failures sink.new ≡ S.failures sink.old) }
-    ensures err { OnErr result (IsBeginning (S.taken sink.new) (S.taken sink.old ++ trace config.now program.now)) }
+    ensures err { OnErr result (TakesPrefix (trace config.now program.now) (S.taken sink.old) (S.taken sink.new)) }
     ensures counted { IfErr result (λ e. S.failures sink.new ≡ S.failures sink.old + sink_faults e) }
     ensures alone { workers ≡ 1 → IfErr result (λ e. e ≢ NoThread) }
 {
@@ -106,7 +106,7 @@ pub fn run_alone<S: Sink>(
     ensures headline { OnOk result ((written : List ℕ) × (S.taken sink.new ≡ S.taken sink.old ++ written) × Headline config.now program.now written) }
     ensures ok { OnOk result (S.taken sink.new ≡ S.taken sink.old ++ trace config.now program.now) }
     ensures still { OnOk result (S.failures sink.new ≡ S.failures sink.old) }
-    ensures err { OnErr result (IsBeginning (S.taken sink.new) (S.taken sink.old ++ trace config.now program.now)) }
+    ensures err { OnErr result (TakesPrefix (trace config.now program.now) (S.taken sink.old) (S.taken sink.new)) }
     ensures counted { IfErr result (λ e. S.failures sink.new ≡ S.failures sink.old + sink_faults e) }
     ensures alone { IfErr result (λ e. e ≢ NoThread) }
 {
@@ -130,7 +130,7 @@ fn run_together<R: Threads + Wait + Sync, G: Gate + Sync, S: Sink>(
     ensures headline { OnOk result ((written : List ℕ) × (S.taken sink.new ≡ S.taken sink.old ++ written) × Headline config.now program.now written) }
     ensures ok { OnOk result (S.taken sink.new ≡ S.taken sink.old ++ trace config.now program.now) }
     ensures still { OnOk result (S.failures sink.new ≡ S.failures sink.old) }
-    ensures err { OnErr result (IsBeginning (S.taken sink.new) (S.taken sink.old ++ trace config.now program.now)) }
+    ensures err { OnErr result (TakesPrefix (trace config.now program.now) (S.taken sink.old) (S.taken sink.new)) }
     ensures counted { IfErr result (λ e. S.failures sink.new ≡ S.failures sink.old + sink_faults e) }
 {
     let blocks = new_blocks(alloc, config, program, workers as u8)?;
@@ -176,7 +176,7 @@ fn write_trace<S: Sink>(blocks: &mut Blocks, sink: &mut S) -> Result<(), SinkFau
     requires { IsAfter blocks.old.config blocks.old.program 0 blocks.old }
     ensures ok { OnOk result (S.taken sink.new ≡ S.taken sink.old ++ trace blocks.old.config blocks.old.program) }
     ensures still { OnOk result (S.failures sink.new ≡ S.failures sink.old) }
-    ensures err { OnErr result (IsBeginning (S.taken sink.new) (S.taken sink.old ++ trace blocks.old.config blocks.old.program)) }
+    ensures err { OnErr result (TakesPrefix (trace blocks.old.config blocks.old.program) (S.taken sink.old) (S.taken sink.new)) }
     ensures counted { OnErr result (S.failures sink.new ≡ S.failures sink.old + 1) }
 {
     let mut page = Page::new(sink);
@@ -192,7 +192,7 @@ impl<'s, S: Sink> Page<'s, S> {
         ensures same_reference { self.new.sink.ghost_name ≡ self.old.sink.ghost_name }
         ensures ok { OnOk result (S.taken self.new.sink.now ≡ S.taken self.old.sink.now ++ trace blocks.old.config blocks.old.program) }
         ensures still { OnOk result (S.failures self.new.sink.now ≡ S.failures self.old.sink.now) }
-        ensures err { OnErr result (IsBeginning (S.taken self.new.sink.now) (S.taken self.old.sink.now ++ trace blocks.old.config blocks.old.program)) }
+        ensures err { OnErr result (TakesPrefix (trace blocks.old.config blocks.old.program) (S.taken self.old.sink.now) (S.taken self.new.sink.now)) }
         ensures counted { OnErr result (S.failures self.new.sink.now ≡ S.failures self.old.sink.now + 1) }
     {
         self.put_trace(blocks);

@@ -1,13 +1,13 @@
 //! A run by several workers.
 
 ghost use Rattle.std.specs.Prelude.{◌≡◌, ◌+◌, ◌≤◌, ◌++◌, [], false, OnOk, OnErr, IfOk, IfErr};
-ghost use Rattle.ultra_msg.specs.Bytes.{IsBeginning};
+ghost use Rattle.ultra_msg.specs.Bytes.{TakesPrefix};
 ghost use Rattle.ultra_block.specs.BlocksState.{IsWhole};
 ghost use Rattle.ultra_crew.specs.Course.{IsCourse};
 ghost use Rattle.ultra_trace.specs.Trace.{all_cycles_text, cycle_count, trace};
 ghost use Rattle.ultra_trace.specs.Faults.{sink_faults};
 ghost use Rattle.ultra_trace.specs.BlocksAfter.{IsAfter};
-ghost use Rattle.ultra_trace.specs.Page.{Writes, WritesBeginning};
+ghost use Rattle.ultra_trace.specs.Page.{Writes, WritesPrefix};
 
 use super::page::Page;
 use super::running::{RunFault, most_cycles};
@@ -32,7 +32,7 @@ pub fn write_trace_together<R: Threads + Wait + Sync, G: Gate + Sync, S: Sink>(
     requires start { IsAfter blocks.config blocks.program 0 blocks }
     ensures ok { OnOk result (S.taken sink.new ≡ S.taken sink.old ++ trace blocks.config blocks.program) }
     ensures still { OnOk result (S.failures sink.new ≡ S.failures sink.old) }
-    ensures err { OnErr result (IsBeginning (S.taken sink.new) (S.taken sink.old ++ trace blocks.config blocks.program)) }
+    ensures err { OnErr result (TakesPrefix (trace blocks.config blocks.program) (S.taken sink.old) (S.taken sink.new)) }
     ensures counted { IfErr result (λ e. S.failures sink.new ≡ S.failures sink.old + sink_faults e) }
 {
     write_by_workers::<Brand, R, G, S>(rt, alloc, blocks, workers, gate, sink).1
@@ -53,7 +53,7 @@ fn write_by_workers<'s, J: Course + Send, R: Threads + Wait + Sync, G: Gate + Sy
     ensures same_reference { result.0.ghost_name ≡ sink.entry.ghost_name }
     ensures ok { OnOk result.1 (S.taken result.0.now ≡ S.taken sink.entry.now ++ trace blocks.config blocks.program) }
     ensures still { OnOk result.1 (S.failures result.0.now ≡ S.failures sink.entry.now) }
-    ensures err { OnErr result.1 (IsBeginning (S.taken result.0.now) (S.taken sink.entry.now ++ trace blocks.config blocks.program)) }
+    ensures err { OnErr result.1 (TakesPrefix (trace blocks.config blocks.program) (S.taken sink.entry.now) (S.taken result.0.now)) }
     ensures counted { IfErr result.1 (λ e. S.failures result.0.now ≡ S.failures sink.entry.now + sink_faults e) }
 {
     thread::scope(
@@ -66,7 +66,7 @@ fn write_by_workers<'s, J: Course + Send, R: Threads + Wait + Sync, G: Gate + Sy
             ensures same_reference { result.0.ghost_name ≡ sink.entry.ghost_name }
             ensures ok { OnOk result.1 (S.taken result.0.now ≡ S.taken sink.entry.now ++ trace blocks.config blocks.program) }
             ensures still { OnOk result.1 (S.failures result.0.now ≡ S.failures sink.entry.now) }
-            ensures err { OnErr result.1 (IsBeginning (S.taken result.0.now) (S.taken sink.entry.now ++ trace blocks.config blocks.program)) }
+            ensures err { OnErr result.1 (TakesPrefix (trace blocks.config blocks.program) (S.taken sink.entry.now) (S.taken result.0.now)) }
             ensures counted { IfErr result.1 (λ e. S.failures result.0.now ≡ S.failures sink.entry.now + sink_faults e) }
         {
             match Shift::<J>::begin(scope, rt, alloc, workers, gate) {
@@ -94,7 +94,7 @@ fn write_by_shift<J: Course, R: Wait, S: Sink>(
     requires start { IsAfter blocks.config blocks.program 0 blocks }
     ensures ok { OnOk result (S.taken sink.new ≡ S.taken sink.old ++ trace blocks.config blocks.program) }
     ensures still { OnOk result (S.failures sink.new ≡ S.failures sink.old) }
-    ensures err { OnErr result (IsBeginning (S.taken sink.new) (S.taken sink.old ++ trace blocks.config blocks.program)) }
+    ensures err { OnErr result (TakesPrefix (trace blocks.config blocks.program) (S.taken sink.old) (S.taken sink.new)) }
     ensures counted { IfErr result (λ e. S.failures sink.new ≡ S.failures sink.old + sink_faults e) }
 {
     let mut page = Page::new(sink);
@@ -118,7 +118,7 @@ impl<'s, S: Sink> Page<'s, S> {
         ensures same_reference { self.new.sink.ghost_name ≡ self.old.sink.ghost_name }
         ensures ok { OnOk result (S.taken self.new.sink.now ≡ S.taken self.old.sink.now ++ trace blocks.config blocks.program) }
         ensures still { OnOk result (S.failures self.new.sink.now ≡ S.failures self.old.sink.now) }
-        ensures err { OnErr result (IsBeginning (S.taken self.new.sink.now) (S.taken self.old.sink.now ++ trace blocks.config blocks.program)) }
+        ensures err { OnErr result (TakesPrefix (trace blocks.config blocks.program) (S.taken self.old.sink.now) (S.taken self.new.sink.now)) }
         ensures counted { IfErr result (λ e. S.failures self.new.sink.now ≡ S.failures self.old.sink.now + sink_faults e) }
     {
         self.put_trace_together(rt, alloc, blocks, shift)?;
@@ -139,7 +139,7 @@ impl<'s, S: Sink> Page<'s, S> {
         requires start { IsAfter blocks.config blocks.program 0 blocks }
         requires sound { self.old.failed ≡ false }
         ensures ok { OnOk result (Writes S.taken S.failures (trace blocks.config blocks.program) self.old self.new) }
-        ensures err { OnErr result (WritesBeginning S.taken S.failures (trace blocks.config blocks.program) self.old self.new) }
+        ensures err { OnErr result (WritesPrefix S.taken S.failures (trace blocks.config blocks.program) self.old self.new) }
         ensures sound { OnErr result (self.new.failed ≡ false) }
     {
         self.put_first_line();
@@ -166,7 +166,7 @@ impl<'s, S: Sink> Page<'s, S> {
         ensures writes { OnOk result (Writes S.taken S.failures (all_cycles_text blocks.config blocks.program) self.old self.new) }
         ensures whole { IfOk result (λ b. IsWhole b) }
         ensures end { IfOk result (λ b. self.new.failed ≡ false → IsAfter blocks.config blocks.program (cycle_count blocks.config blocks.program) b) }
-        ensures err { OnErr result (WritesBeginning S.taken S.failures (all_cycles_text blocks.config blocks.program) self.old self.new) }
+        ensures err { OnErr result (WritesPrefix S.taken S.failures (all_cycles_text blocks.config blocks.program) self.old self.new) }
         ensures sound { OnErr result (self.new.failed ≡ false) }
     {
         for _ in 0..most_cycles(&blocks) {

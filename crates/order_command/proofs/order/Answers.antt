@@ -1,6 +1,7 @@
 -- how each exit is one of the ways in which the order of a run isn't written
 use Rattle.std.proofs.Common.{◌≡◌, inl, refl}
 use Rattle.std.proofs.lemmas.Result.{err_from_is_err_and}
+use Rattle.ultra_msg.proofs.Prefixes.{takes_none}
 use Rattle.order_command.specs.Order.{order_of, order_text}
 use Rattle.ultra_inputs.specs.Traffic.{refused, stopped}
 use Rattle.order_command.proofs.order.Goals as goal
@@ -12,7 +13,7 @@ returns-in_err-config-clause-err g c =
 
 pub returns-in_default-clause-err : goal.returns-in_default-clause-err
 returns-in_default-clause-err g c =
-    stopped c.in_ok-config.config c.in_ok-config.program (rw (← c.in_ok-config.config-is, ← c.in_ok-config.program-is) c.in_ok-config.ensures.ok) (inl refl) (order_of c.in_ok-config.config c.in_ok-config.program, refl)
+    stopped c.in_ok-config.config c.in_ok-config.program (rw (← c.in_ok-config.config-is, ← c.in_ok-config.program-is) c.in_ok-config.ensures.ok) (inl refl) (takes_none _ _)
 
 pub returns-in_err-write_order-clause-err : goal.returns-in_err-write_order-clause-err
 returns-in_err-write_order-clause-err g c =

@@ -13,7 +13,7 @@ returns-in-Err-clause-failed g c ne =
       before,
       sym c.give_up.ensures.status,
       unlisted c.in-Err.ensures.err (refl {a = g.O.Sink.taken c.args.out.now}) (refl {a = before}),
-      record { begun = c.give_up.ensures.told; whole = c.give_up.ensures.whole },
+      record { begun = c.give_up.ensures.prefix; whole = c.give_up.ensures.whole },
     )
 
 pub returns-clause-failed : goal.returns-clause-failed
@@ -24,7 +24,7 @@ returns-clause-failed g c ne =
       stream (g.E.Sink.taken c.sweep_jobs.new.err) (g.E.Sink.failures c.sweep_jobs.new.err),
       sym told.status,
       listed gave.text (all_paths c.in-Ok.list.items) gave.given (rw gave.files at (rw c.as_slice.ensures.value at c.in-Err-sweep_jobs.ensures.err)),
-      record { begun = told.told; whole = told.whole },
+      record { begun = told.prefix; whole = told.whole },
     )
 
 pub returns-in-Err-clause-counted : goal.returns-in-Err-clause-counted

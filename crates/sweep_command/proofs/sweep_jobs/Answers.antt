@@ -1,7 +1,7 @@
 -- how each end is one of those of a sweep
 use Rattle.std.proofs.Common.{◌≡◌, ◌∙◌, ◌++◌, ap, inl, inr, length, refl, subst, sym}
 use Rattle.std.proofs.lemmas.Result.{err_from_is_err_and}
-use Rattle.ultra_msg.specs.Bytes.{IsBeginning}
+use Rattle.ultra_msg.specs.Bytes.{TakesPrefix}
 use Rattle.ultra_sweep.specs.Report.{report_text}
 use Rattle.sweep_command.specs.declared.fault.SweepFault.{SweepFault}
 use Rattle.sweep_command.specs.declared.fault.SweepFault.TheVariants.{NoMemory, NoThread}
@@ -26,7 +26,7 @@ returns-in-Ok-clause-err g c =
     let before = stream (g.E.Sink.taken c.args.err.now) (g.E.Sink.failures c.args.err.now) in
     let after = stream (g.E.Sink.taken c.run_jobs.new.err) (g.E.Sink.failures c.run_jobs.new.err) in
     unwritten jobs c.in_ok-jobs.ensures.ok refl
-    (subst (λ t. IsBeginning (g.O.Sink.taken c.report.new.sink) (g.O.Sink.taken c.args.out.now ++ t)) text (rw c.in-Err-report.is at c.report.ensures.err))
+    (subst (λ t. TakesPrefix t (g.O.Sink.taken c.args.out.now) (g.O.Sink.taken c.report.new.sink)) text (rw c.in-Err-report.is at c.report.ensures.err))
     (subst (λ js. IsShown c.args.plan.progress (length js) (length js) before after) same c.in-Ok.ensures.all_shown)
 
 pub returns-clause-err : goal.returns-clause-err

@@ -1,6 +1,6 @@
 use Rattle.std.proofs.Common.{◌++◌, codes, rules, sym}
 use Rattle.ultra_trace.specs.Text.{newline}
-use Rattle.ultra_trace.specs.Page.{WritesBeginning}
+use Rattle.ultra_trace.specs.Page.{WritesPrefix}
 use Rattle.ultra_trace.specs.Trace.{all_cycles_text, end_text, last_state, trace}
 use Rattle.ultra_trace.proofs.Writing.{◌then◌, begins_within, writes_failed}
 use Rattle.ultra_trace.proofs.Count.{end_written}
@@ -20,7 +20,7 @@ returns-in_err-blocks-clause-err g c =
     let (part, begins, writes) = c.in_err-blocks.ensures.err in
     let line = codes "ultra trace 2" ++ newline in
     let within = begins_within line part (all_cycles_text first.config first.program) (end_text first.config (last_state first.config first.program)) begins in
-    let begun : WritesBeginning g.S.Sink.taken g.S.Sink.failures (trace first.config first.program) c.args.self.now c.put_cycles_together.new.self = (line ++ part, within, c.put_first_line.ensures then writes) in
+    let begun : WritesPrefix g.S.Sink.taken g.S.Sink.failures (trace first.config first.program) c.args.self.now c.put_cycles_together.new.self = (line ++ part, within, c.put_first_line.ensures then writes) in
     search rules
 
 pub returns-clause-ok : goal.returns-clause-ok
