@@ -2,7 +2,8 @@
 //! its streams.
 #![tactic(auto)]
 
-ghost use Rattle.std.specs.Prelude.{◌≡◌, ◌≢◌, ◌+◌};
+ghost use Rattle.std.specs.Prelude.{◌≡◌, ◌≢◌, ◌+◌, map};
+ghost use Rattle.ultra_command_line.specs.Asked.{IsAskedBy};
 ghost use Rattle.ultra_command_line.specs.declared.Parsed.{Parsed};
 ghost use Rattle.sweep_command.specs.Shown.{stream};
 ghost use Rattle.ultra_inputs.specs.Traffic.{traffic};
@@ -22,8 +23,8 @@ use ultra_msg::{Sink, write_all};
 /// usage fault, 3 refused input, 4 no memory or no thread, 5 a failed write.
 ///
 /// The first word is the program's name. Results and help go to `out`; what is wrong goes to `err`.
-/// Which words ask for what, and the texts of help and usage faults, are `clap`'s, and shown by
-/// tests. A run by several workers starts threads, and the call may wait for them.
+/// What is done is what the words ask for; the texts of help and usage faults are `clap`'s, and shown
+/// by tests. A run by several workers starts threads, and the call may wait for them.
 pub fn main_with<'w, R: AllocGlobal + Threads + Wait + Sync, F: Source, O: Sink, E: Sink>(
     rt: &R,
     words: &'w [&'w str],
@@ -34,11 +35,11 @@ pub fn main_with<'w, R: AllocGlobal + Threads + Wait + Sync, F: Source, O: Sink,
     ensures status { IsStatus result }
     ensures nothing { IsRefusal result → O.taken out.new ≡ O.taken out.old }
     ensures counted { O.failures out.new ≡ O.failures out.old + status_failures result }
-    ensures done { result ≡ 0 → (p : Parsed) × Obeyed p
+    ensures done { result ≡ 0 → (p : Parsed) × IsAskedBy (map (λ w. w.now) words.entry.now) p × Obeyed p
         (traffic (F.files source.old) (O.taken out.old)) (traffic (F.files source.new) (O.taken out.new))
         (stream (E.taken err.old) (E.failures err.old))
         (stream (E.taken err.new) (E.failures err.new)) }
-    ensures failed { result ≢ 0 → (p : Parsed) × Failed p
+    ensures failed { result ≢ 0 → (p : Parsed) × IsAskedBy (map (λ w. w.now) words.entry.now) p × Failed p
         (traffic (F.files source.old) (O.taken out.old)) (traffic (F.files source.new) (O.taken out.new))
         (stream (E.taken err.old) (E.failures err.old))
         (stream (E.taken err.new) (E.failures err.new)) result }

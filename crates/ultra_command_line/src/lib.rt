@@ -6,10 +6,16 @@ mod heap;
 mod reading;
 mod workers;
 
+ghost use Rattle.std.specs.Prelude.{◌≡◌, ◌≢◌, [], map, option_map, IfOk, MatchResult};
+ghost use Rattle.clap.specs.Words.{fault_of, kind_of, HasKind, Text};
+ghost use Rattle.clap.specs.declared.error.ErrorKind.TheVariants.{OutOfMemory};
+ghost use Rattle.ultra_command_line.specs.Asked.{asked, asked_of, AreRunOf, IsAnswer, IsAskedBy, IsRunOf};
+ghost use Rattle.ultra_command_line.specs.Grammar.{ultra_app, IsApp};
+
 use clap::error::ErrorKind;
 use grammar::ultra_command;
 pub use heap::HeapBytes;
-use reading::{Misreading, named_command};
+use reading::named_command;
 use std::alloc::{AllocError, Global};
 pub use workers::Workers;
 
@@ -90,9 +96,14 @@ pub enum Parsed<'w> {
 
 /// What the words tell; the first is the program's name.
 ///
-/// The contract says only that it is safe and returns. Which words are which command and what the
-/// texts say is `clap`'s, and is shown by tests.
-pub fn parse<'w>(alloc: Global, words: &'w [&'w str]) -> Parsed<'w> {
+/// The contract says which words are which command, which are a fault of the user's, and which ask
+/// for help: `run CONF PROG`, where neither path begins with a hyphen, is the run of these paths by
+/// one worker. The texts are `clap`'s, and are shown by tests.
+pub fn parse<'w>(alloc: Global, words: &'w [&'w str]) -> Parsed<'w>
+    ensures asked { IsAskedBy (map (λ w. w.now) words.entry.now) result }
+    ensures run { (conf prog : Text) → AreRunOf (map (λ w. w.now) words.entry.now) conf prog
+        → IsRunOf conf prog result }
+{
     match command_in(alloc, words) {
         Ok(command) => Parsed::Command(command),
         Err(error) => match shown(alloc, &error) {
@@ -104,7 +115,9 @@ pub fn parse<'w>(alloc: Global, words: &'w [&'w str]) -> Parsed<'w> {
 }
 
 /// The error's text for the user, unless memory was refused.
-fn shown(alloc: Global, error: &clap::Error) -> Result<String, AllocError> {
+fn shown(alloc: Global, error: &clap::Error) -> Result<String, AllocError>
+    ensures { IfOk result (λ t. kind_of error.now ≢ OutOfMemory) }
+{
     if error.kind() == ErrorKind::OutOfMemory {
         return Err(AllocError);
     }
@@ -112,7 +125,9 @@ fn shown(alloc: Global, error: &clap::Error) -> Result<String, AllocError> {
 }
 
 /// The command of the words.
-fn command_in<'w>(alloc: Global, words: &'w [&'w str]) -> Result<Command<'w>, clap::Error> {
+fn command_in<'w>(alloc: Global, words: &'w [&'w str]) -> Result<Command<'w>, clap::Error>
+    ensures { IsAnswer (map (λ w. w.now) words.entry.now) result }
+{
     let mut ultra = ultra_command(alloc)?;
     read_words(&mut ultra, words)
 }
@@ -121,15 +136,15 @@ fn command_in<'w>(alloc: Global, words: &'w [&'w str]) -> Result<Command<'w>, cl
 fn read_words<'w>(
     ultra: &mut clap::Command<'w>,
     words: &'w [&'w str],
-) -> Result<Command<'w>, clap::Error> {
+) -> Result<Command<'w>, clap::Error>
+    ensures { IsApp ultra_app ultra.old → IsAnswer (map (λ w. w.now) words.entry.now) result }
+{
     match matched_command(ultra, words)? {
-        Ok(command) => Ok(command),
-        Err(Misreading::NoCommand) => {
-            Err(ultra.error(ErrorKind::MissingSubcommand, "no command")?)
-        }
-        Err(Misreading::NotDecimal) => Err(ultra.error(
+        Some(command) => Ok(command),
+        None => Err(ultra.error(
             ErrorKind::ValueValidation,
-            "a number of a coordination program is written in decimal digits",
+            "the coordination programs are gate B T, queue Z T, rw G T and barrier T, with each \
+             number in decimal digits",
         )?),
     }
 }
@@ -138,7 +153,12 @@ fn read_words<'w>(
 fn matched_command<'w>(
     ultra: &mut clap::Command<'w>,
     words: &'w [&'w str],
-) -> Result<Result<Command<'w>, Misreading>, clap::Error> {
+) -> Result<Option<Command<'w>>, clap::Error>
+    ensures { IsApp ultra_app ultra.old → MatchResult result
+        (λ o. (fault_of ultra_app (map (λ w. w.now) words.entry.now) ≡ [])
+        × (option_map asked_of o ≡ asked (map (λ w. w.now) words.entry.now)))
+        (HasKind (fault_of ultra_app (map (λ w. w.now) words.entry.now))) }
+{
     match ultra.try_get_matches_from_mut(words) {
         Ok(matches) => Ok(named_command(&matches)),
         Err(error) => Err(error),

@@ -1,30 +1,26 @@
 //! The command that words name which `clap` has accepted.
 
+ghost use Rattle.std.specs.Prelude.{◌≡◌, codes, map, option_map};
+ghost use Rattle.clap.specs.Words.{all_of, first_of, found_of, rows_of, subcommand_rows_of};
+ghost use Rattle.ultra_command_line.specs.Asked as asked;
+ghost use Rattle.ultra_command_line.specs.Asked.{asked_of, decimal, is_set, named, named_in};
+ghost use Rattle.ultra_command_line.specs.Asked.{number_of, number_within, sized, unsized};
+
 use crate::{Command, Coordination, HeapBytes, Workers};
 use clap::ArgMatches;
 
-/// Why accepted words name no command.
-#[derive(Clone, Copy, PartialEq, Eq)]
-pub enum Misreading {
-    /// A command or one of its words is missing.
-    NoCommand,
-    /// A number of a coordination program has more than digits.
-    NotDecimal,
-}
-
-/// The command that accepted words name.
-pub fn named_command<'w>(matches: &ArgMatches<'w>) -> Result<Command<'w>, Misreading> {
-    let Some((name, words)) = matches.subcommand() else {
-        return Err(Misreading::NoCommand);
-    };
-    if name == "lib" {
-        return Ok(Command::Lib(lib_in(words)?));
-    }
-    command_in(name, words).ok_or(Misreading::NoCommand)
+/// The command that accepted words name, or `None` where they name none.
+pub fn named_command<'w>(matches: &ArgMatches<'w>) -> Option<Command<'w>>
+    ensures { option_map asked_of result ≡ named_in (subcommand_rows_of matches.now) }
+{
+    let (name, words) = matches.subcommand()?;
+    command_in(name, words)
 }
 
 /// The command of this name with the words that follow it.
-fn command_in<'w>(name: &str, words: &ArgMatches<'w>) -> Option<Command<'w>> {
+fn command_in<'w>(name: &str, words: &ArgMatches<'w>) -> Option<Command<'w>>
+    ensures { option_map asked_of result ≡ named name.now (rows_of (found_of words.now)) }
+{
     if name == "run" {
         run_in(words)
     } else if name == "order" {
@@ -35,88 +31,172 @@ fn command_in<'w>(name: &str, words: &ArgMatches<'w>) -> Option<Command<'w>> {
         list_in(words)
     } else if name == "sweep" {
         sweep_in(words)
+    } else if name == "lib" {
+        Some(Command::Lib(lib_in(words)?))
     } else {
         None
     }
 }
 
 /// The command `run` with the words that follow it.
-fn run_in<'w>(words: &ArgMatches<'w>) -> Option<Command<'w>> {
+fn run_in<'w>(words: &ArgMatches<'w>) -> Option<Command<'w>>
+    ensures { option_map asked_of result ≡ asked.run_in (rows_of (found_of words.now)) }
+{
     Some(Command::Run {
-        settings: words.get_str("CONF")?,
-        program: words.get_str("PROG")?,
-        workers: Workers::new(words.get_one("workers")?)?,
+        settings: text(words, "CONF")?,
+        program: text(words, "PROG")?,
+        workers: workers(words, "workers")?,
     })
 }
 
 /// The command `order` with the words that follow it.
-fn order_in<'w>(words: &ArgMatches<'w>) -> Option<Command<'w>> {
+fn order_in<'w>(words: &ArgMatches<'w>) -> Option<Command<'w>>
+    ensures { option_map asked_of result ≡ asked.order_in (rows_of (found_of words.now)) }
+{
     Some(Command::Order {
-        settings: words.get_str("CONF")?,
-        program: words.get_str("PROG")?,
+        settings: text(words, "CONF")?,
+        program: text(words, "PROG")?,
     })
 }
 
 /// The command `explain` with the words that follow it.
-fn explain_in<'w>(words: &ArgMatches<'w>) -> Option<Command<'w>> {
+fn explain_in<'w>(words: &ArgMatches<'w>) -> Option<Command<'w>>
+    ensures { option_map asked_of result ≡ asked.explain_in (rows_of (found_of words.now)) }
+{
     Some(Command::Explain {
-        settings: words.get_str("CONF")?,
-        program: words.get_str("PROG")?,
-        heap: HeapBytes::new(words.get_one("heap")?)?,
+        settings: text(words, "CONF")?,
+        program: text(words, "PROG")?,
+        heap: heap(words)?,
     })
 }
 
 /// The command `list` with the words that follow it.
-fn list_in<'w>(words: &ArgMatches<'w>) -> Option<Command<'w>> {
+fn list_in<'w>(words: &ArgMatches<'w>) -> Option<Command<'w>>
+    ensures { option_map asked_of result ≡ asked.list_in (rows_of (found_of words.now)) }
+{
     Some(Command::List {
-        program: words.get_str("PROG")?,
+        program: text(words, "PROG")?,
     })
 }
 
 /// The command `sweep` with the words that follow it.
-fn sweep_in<'w>(words: &ArgMatches<'w>) -> Option<Command<'w>> {
+fn sweep_in<'w>(words: &ArgMatches<'w>) -> Option<Command<'w>>
+    ensures { option_map asked_of result ≡ asked.sweep_in (rows_of (found_of words.now)) }
+{
     Some(Command::Sweep {
-        jobs: words.get_str("JOBS")?,
-        workers: Workers::new(words.get_one("workers")?)?,
-        at_once: Workers::new(words.get_one("at-once")?)?,
-        progress: words.get_flag("progress"),
+        jobs: text(words, "JOBS")?,
+        workers: workers(words, "workers")?,
+        at_once: workers(words, "at-once")?,
+        progress: is_given(words, "progress"),
     })
 }
 
 /// The coordination program that the words after `lib` name.
-fn lib_in(words: &ArgMatches<'_>) -> Result<Coordination, Misreading> {
-    let Some((name, numbers)) = words.subcommand() else {
-        return Err(Misreading::NoCommand);
-    };
-    let rounds = number_in(numbers, "T")?;
+fn lib_in(words: &ArgMatches<'_>) -> Option<Coordination>
+    ensures { result ≡ asked.lib_in (rows_of (found_of words.now)) }
+{
+    let name = text(words, "NAME")?;
+    let numbers = texts(words, "NUMBER")?;
+    coordination(name, numbers)
+}
+
+/// The coordination program of this name and these numbers.
+fn coordination(name: &str, numbers: &[&str]) -> Option<Coordination>
+    ensures { result ≡ asked.coordination name.now (map (λ s. s.now) numbers.now) }
+{
+    match numbers {
+        [rounds] => barrier(name, decimal(rounds)?),
+        [size, rounds] => sized(name, decimal(size)?, decimal(rounds)?),
+        _ => None,
+    }
+}
+
+/// The coordination program of this name that has a number of its own besides that of its rounds.
+fn sized(name: &str, size: u32, rounds: u32) -> Option<Coordination>
+    ensures { result ≡ sized name.now size rounds }
+{
     if name == "gate" {
-        let bound = number_in(numbers, "B")?;
-        Ok(Coordination::Gate { bound, rounds })
+        let bound = size;
+        Some(Coordination::Gate { bound, rounds })
     } else if name == "queue" {
-        let log_size = number_in(numbers, "Z")?;
-        Ok(Coordination::Queue { log_size, rounds })
+        let log_size = size;
+        Some(Coordination::Queue { log_size, rounds })
     } else if name == "rw" {
-        let writers = number_in(numbers, "G")?;
-        Ok(Coordination::ReadersWriters { writers, rounds })
-    } else if name == "barrier" {
-        Ok(Coordination::Barrier { rounds })
+        let writers = size;
+        Some(Coordination::ReadersWriters { writers, rounds })
     } else {
-        Err(Misreading::NoCommand)
+        None
     }
 }
 
-/// The number of this name. It is written in decimal digits alone.
-fn number_in(words: &ArgMatches<'_>, name: &str) -> Result<u32, Misreading> {
-    let Some(text) = words.get_str(name) else {
-        return Err(Misreading::NoCommand);
-    };
+/// The barrier, if that is the name.
+fn barrier(name: &str, rounds: u32) -> Option<Coordination>
+    ensures { result ≡ unsized name.now rounds }
+{
+    if name == "barrier" {
+        Some(Coordination::Barrier { rounds })
+    } else {
+        None
+    }
+}
+
+/// The first text of an argument.
+fn text<'w>(words: &ArgMatches<'w>, id: &str) -> Option<&'w str>
+    ensures { option_map (λ s. s.now) result ≡ first_of id.now (rows_of (found_of words.now)) }
+{
+    words.get_str(id)
+}
+
+/// The texts of an argument.
+fn texts<'m, 'w>(words: &'m ArgMatches<'w>, id: &str) -> Option<&'m [&'w str]>
+    ensures { option_map (λ s. map (λ t. t.now) s.now) result
+        ≡ all_of id.now (rows_of (found_of words.now)) }
+{
+    words.get_raw(id)
+}
+
+/// Whether a flag is given.
+fn is_given(words: &ArgMatches<'_>, id: &str) -> bool
+    ensures { result ≡ is_set (first_of id.now (rows_of (found_of words.now))) }
+{
+    match text(words, id) {
+        Some(text) => text == "true",
+        None => false,
+    }
+}
+
+/// The workers of this name.
+fn workers(words: &ArgMatches<'_>, id: &str) -> Option<Workers>
+    ensures { option_map (λ w. w.count) result
+        ≡ number_within 1 64 id.now (rows_of (found_of words.now)) }
+{
+    Workers::new(number(words, id)?)
+}
+
+/// The heap of the trees.
+fn heap(words: &ArgMatches<'_>) -> Option<HeapBytes>
+    ensures { option_map (λ h. h.count) result
+        ≡ number_within 256 16777216 (codes "heap") (rows_of (found_of words.now)) }
+{
+    HeapBytes::new(number(words, "heap")?)
+}
+
+/// The number of an option.
+fn number(words: &ArgMatches<'_>, id: &str) -> Option<usize>
+    ensures { result ≡ number_of id.now (rows_of (found_of words.now)) }
+{
+    words.get_one(id)
+}
+
+/// The number that decimal digits alone write, if a register holds it.
+fn decimal(text: &str) -> Option<u32>
+    ensures { result ≡ decimal text.now }
+{
+    if text.starts_with('+') {
+        return None;
+    }
     match text.parse() {
-        Ok(number) if is_digits(text) => Ok(number),
-        _ => Err(Misreading::NotDecimal),
+        Ok(number) => Some(number),
+        Err(_) => None,
     }
-}
-
-/// Whether a text has decimal digits alone.
-fn is_digits(text: &str) -> bool {
-    text.bytes().all(|byte| byte.is_ascii_digit())
 }

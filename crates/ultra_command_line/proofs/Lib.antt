@@ -1,0 +1,4 @@
+pub mod Building
+pub mod Rows
+pub mod Numbers
+pub mod RunWords
