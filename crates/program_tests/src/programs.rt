@@ -189,7 +189,23 @@ fn longest_program_is_listed(rt: HostRuntime) -> Result<(), Fail> {
 }
 
 /// Settings that are refused, with the lines that tell why.
-static REFUSED_SETTINGS: [(&str, &str); 13] = [
+static REFUSED_SETTINGS: [(&str, &str); 20] = [
+    ("stages = ", "ultra: c.toml: not toml\n"),
+    ("stages = \"1\"", "ultra: c.toml: bad stages\n"),
+    ("stages = 1\nextra = 1", "ultra: c.toml: unknown key\n"),
+    ("stages = 0\nextra = 1", "ultra: c.toml: bad stages\n"),
+    (
+        "stages = 1\ninitial = [[32, 1]]",
+        "ultra: c.toml: bad initial\n",
+    ),
+    (
+        "stages = 1\ninitial = [[0, 1], [0, 2]]",
+        "ultra: c.toml: bad initial\n",
+    ),
+    (
+        "stages = 1\ninitial = [[0, 4294967296]]",
+        "ultra: c.toml: bad initial\n",
+    ),
     ("stages = 0", "ultra: c.toml: bad stages\n"),
     ("stages = 7", "ultra: c.toml: bad stages\n"),
     ("", "ultra: c.toml: bad stages\n"),
