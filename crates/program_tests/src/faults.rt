@@ -125,9 +125,9 @@ const SWEEP: [&str; 7] = [
 
 /// Calls the program over the files, and gives its status. Where memory or a thread was refused,
 /// that is the error here.
-fn status_of<R: Host, O: Sink, E: Sink>(
+fn status_of<'w, R: Host, O: Sink, E: Sink>(
     rt: &R,
-    words: &[&str],
+    words: &'w [&'w str],
     out: &mut O,
     err: &mut E,
 ) -> Result<u8, Fail> {
@@ -144,7 +144,7 @@ fn status_of<R: Host, O: Sink, E: Sink>(
 }
 
 /// What the words write to standard output.
-fn text_of<R: Host>(rt: &R, words: &[&str]) -> Result<Tray, Fail> {
+fn text_of<'w, R: Host>(rt: &R, words: &'w [&'w str]) -> Result<Tray, Fail> {
     let mut out = Tray::with_room(rt.alloc())?;
     let mut err = Tray::with_room(rt.alloc())?;
     assert_eq!(rt; status_of(rt, words, &mut out, &mut err)?, 0);
@@ -154,7 +154,7 @@ fn text_of<R: Host>(rt: &R, words: &[&str]) -> Result<Tray, Fail> {
 
 /// Asserts that each write of a text may be the one that fails: what stands before it was written,
 /// and nothing is written after it.
-fn check_writes<R: Host>(rt: &R, words: &[&str]) -> Result<(), Fail> {
+fn check_writes<'w, R: Host>(rt: &R, words: &'w [&'w str]) -> Result<(), Fail> {
     let text = text_of(rt, words)?;
     for count in 0..text.bytes.len() {
         let mut out = Dropper::new(rt.alloc(), count)?;
@@ -238,9 +238,9 @@ fn a_status_is_that_of_standard_output(rt: HostRuntime) -> Result<(), Fail> {
 }
 
 /// Asserts what a command does whose read after `sound_reads` reads fails.
-fn check_read<R: Host>(
+fn check_read<'w, R: Host>(
     rt: &R,
-    words: &[&str],
+    words: &'w [&'w str],
     (sound_reads, wants_memory): (usize, bool),
     wanted: (u8, &str),
 ) -> Result<(), Fail> {
