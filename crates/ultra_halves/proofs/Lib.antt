@@ -2,3 +2,4 @@ pub mod Arrivals
 pub mod Going
 pub mod Combinations
 pub mod Rests
+pub mod NothingToDo

@@ -24,3 +24,6 @@ pub mod RepliesTaken
 pub mod Execution
 pub mod RequestsSent
 pub mod RequestsTaken
+pub mod Left
+pub mod RepliesAway
+pub mod RequestsAway

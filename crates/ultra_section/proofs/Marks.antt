@@ -10,11 +10,11 @@ use Rattle.ultra_section.specs.Links.{leads, put_on}
 use Rattle.ultra_section.specs.Marks.{IsMarked, on_link}
 use Rattle.ultra_section.specs.declared.links.Links.{Links}
 
-none_there : {M : Type 0} (o : Option M) → (is_some o ≡ true → o ≡ None) → o ≡ None
+pub none_there : {M : Type 0} (o : Option M) → (is_some o ≡ true → o ≡ None) → o ≡ None
 none_there None h = refl
 none_there (Some x) h = h refl
 
-leads_more : (here came away came_now away_now : Bool) → (came ≡ true → came_now ≡ true) → (away ≡ true → away_now ≡ true)
+pub leads_more : (here came away came_now away_now : Bool) → (came ≡ true → came_now ≡ true) → (away ≡ true → away_now ≡ true)
     → leads here came away ≡ true → leads here came_now away_now ≡ true
 leads_more true came away came_now away_now c a h = c h
 leads_more false came away came_now away_now c a h = a h

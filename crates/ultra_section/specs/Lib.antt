@@ -13,3 +13,4 @@ pub mod Making
 pub mod Shape
 pub mod RequestsSent
 pub mod RequestsTaken
+pub mod Away

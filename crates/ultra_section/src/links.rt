@@ -2,8 +2,11 @@
 
 ghost use Rattle.std.specs.Prelude.{◌≡◌, ◌≢◌, ℕ, ◌<◌, true, None, is_some, length, slice_index_or, slice_set};
 ghost use Rattle.ultra_units.specs.Set.{has_unit};
+ghost use Rattle.ultra_section.specs.Away.{taken_by_turns};
 ghost use Rattle.ultra_section.specs.Links.{leads, put_on};
+ghost use Rattle.ultra_section.specs.Marks.{without_both};
 
+use ultra_switch::Ports;
 use ultra_units::UnitSet;
 
 /// Links by their numbers, each with the message on it, and the units to which messages lead.
@@ -64,5 +67,20 @@ impl<M: Copy> Links<M> {
         let message = self.table[link];
         self.table[link] = None;
         message
+    }
+
+    /// Takes what is on the links that lead to a unit elsewhere.
+    pub(crate) fn hand_over(&mut self, unit: usize, inlets: Ports<usize>) -> Ports<Option<M>>
+        requires zero { inlets.zero < length self.old.table.items }
+        requires one { inlets.one < length self.old.table.items }
+        ensures value { result ≡ taken_by_turns self.old.table.items inlets }
+        ensures table { self.new.table.items ≡ without_both self.old.table.items inlets }
+        ensures came { self.new.came ≡ self.old.came }
+        ensures others { (k : ℕ) → k ≢ unit → has_unit self.new.away k ≡ has_unit self.old.away k }
+    {
+        let zero = self.take(inlets.zero);
+        let one = self.take(inlets.one);
+        self.away.remove(unit);
+        Ports { zero, one }
     }
 }
