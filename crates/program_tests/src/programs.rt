@@ -188,7 +188,7 @@ fn longest_program_is_listed(rt: HostRuntime) -> Result<(), Fail> {
     )
 }
 
-/// Settings that are refused, with the lines that tell why.
+/// Settings that are refused, with the lines that say why.
 static REFUSED_SETTINGS: [(&str, &str); 20] = [
     ("stages = ", "ultra: c.toml: not toml\n"),
     ("stages = \"1\"", "ultra: c.toml: bad stages\n"),

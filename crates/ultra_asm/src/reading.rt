@@ -147,7 +147,7 @@ fn instruction(
     }
 }
 
-/// The instruction of the words behind a label, or `None` where there are no words. `has_room` tells whether the program may have one more.
+/// The instruction of the words behind a label, or `None` where there are no words. `has_room` says whether the program may have one more.
 fn statement_instruction(
     words: &[&[u8]],
     has_room: bool,
@@ -184,7 +184,7 @@ fn check_label(words: &[&[u8]], index: usize, labels: &Labels) -> Result<(), Asm
     }
 }
 
-/// The instruction of the line of this index, from 0, or `None` where it has none. `has_room` tells whether the program may have one more.
+/// The instruction of the line of this index, from 0, or `None` where it has none. `has_room` says whether the program may have one more.
 pub fn line_instruction(
     words: &[&[u8]],
     index: usize,

@@ -5,7 +5,7 @@ use Rattle.ultra_board.specs.declared.TheConstants.{MOST_SEATS}
 use Rattle.ultra_board.specs.declared.rule.View.{View}
 use Rattle.ultra_board.specs.View.{times}
 
--- a step tells this of the views, and no slot is taken or given
+-- a step shows this of the views, and no slot is taken or given
 abbrev pub Tells : (View → ℕ → View → Type 0) → Me ℕ View → ℕ → Me ℕ View → Type 0
 Tells fact m n w = fact m.0 n w.0 × (w.1 ≡ m.1)
 

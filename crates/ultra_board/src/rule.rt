@@ -1,4 +1,4 @@
-//! The rule of a board's table: what a seat knows, and what each kind of atomic step tells the seat that steps.
+//! The rule of a board's table: what a seat knows, and what the seat that steps learns from each kind of atomic step.
 //!
 //! A table's rule is a fact over its words and the views of all seats, which every step has to keep. So it holds between any two steps, however the threads take turns.
 
@@ -128,7 +128,7 @@ impl Play<u64, View> for SubtractFromPasses {
     ghost then = { λ _ m n w. Tells (λ v _ u. SubtractsFromPasses v u) m n w };
 }
 
-/// A load of claim that looks at no value. It tells what the rule says of the seat's own view.
+/// A load of claim that looks at no value. It shows what the rule says of the seat's own view.
 pub struct LoadOfClaim;
 
 impl Play<u64, View> for LoadOfClaim {

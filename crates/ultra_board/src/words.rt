@@ -75,7 +75,7 @@ impl Words {
         self.table.shared.fetch_add::<AddToClaim>(token, CLAIM, 1)
     }
 
-    /// Adds 1 to done, which finishes the number, and gives the value before it. The table is told by N which number is meant.
+    /// Adds 1 to done, which finishes the number, and gives the value before it. The type parameter N names the number.
     pub(crate) fn add_to_done<N: Number>(&self, token: &mut Token, number: u64) -> u64
         requires board { token.old.table_id ≡ self.now.id }
         requires drawn { Contains token.old.me.0.drawn number }

@@ -77,7 +77,7 @@ impl Instr {
 }
 
 impl Processor {
-    /// The processing element of this number, of as many as the network has lines, with `cells` cells in each memory module. Its registers are 0, and it starts at place 0.
+    /// The processing element of this number, in a machine of this network with `cells` cells in each memory module. Its registers are 0, and it starts at place 0.
     pub fn new(pe: Pe, net: Net, cells: u32) -> Processor
         requires pe { pe < 2 ^ net }
         requires some_cells { 1 ≤ cells }

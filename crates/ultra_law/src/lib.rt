@@ -27,7 +27,7 @@ pub fn serialization_law()
 /// The replies of a run are the answers of its log, as this function's contract: for all settings in their ranges, every
 /// program and every number of cycles, the log's answers are the replies that were delivered so far, one by one and in
 /// the same order, each with its processing element, its value and its cycle. The request of each was issued in an
-/// earlier cycle, by that element, for the cell of the reply, and has the number that the answer tells.
+/// earlier cycle, by that element, for the cell of the reply, and has the number that the answer names.
 ///
 /// So what the serialization law says of answers it says of the replies that come to the processing elements. The
 /// function itself does nothing.

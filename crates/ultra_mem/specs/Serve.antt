@@ -45,7 +45,7 @@ after_serving b (Some p) = record {
 abbrev pub serve : Bank → Bank
 serve b = after_serving b (to_serve b)
 
--- what is told of an act: the request, its reply and the cell's new value
+-- what is reported of an act: the request, its reply and the cell's new value
 abbrev pub act_of : Bank → Option Placed → Option Served
 act_of b None = None
 act_of b (Some p) = Some record { request = p.request; reply = (act p.request.op (value_at b p)).1; now = (act p.request.op (value_at b p)).0 }

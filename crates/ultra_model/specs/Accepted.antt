@@ -113,7 +113,7 @@ settings_of r = record {
   initial = initial_of r.initial;
 }
 
--- the fault tells the first bad key. Memory is wanted only where all keys of one number are accepted
+-- the fault names the first bad key. Memory is wanted only where all keys of one number are accepted
 abbrev pub ExplainsRefusal : RawSettings → ConfigFault → Type 0
 ExplainsRefusal r NoMemory = first_bad_of r numbers ≡ None
 ExplainsRefusal r (BadConfig f) = first_bad r ≡ Some f

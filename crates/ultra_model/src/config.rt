@@ -141,7 +141,7 @@ impl Model for Config {
 impl Config {
     /// The settings, if each is in its range and no address is given two values.
     ///
-    /// `BadConfig` tells the first that isn't, in the order of `Field`. `NoMemory` means that memory for the initial cells was refused.
+    /// `BadConfig` names the first that isn't, in the order of `Field`. `NoMemory` means that memory for the initial cells was refused.
     pub fn new(alloc: Global, raw: &RawSettings) -> Result<Config, ConfigFault>
         ensures accepted { OnOk result (first_bad raw.now ≡ None) }
         ensures value { IfOk result (λ c. c ≡ settings_of raw.now) }

@@ -1,4 +1,4 @@
--- what is wrong with a list that isn't legal, and which fault is told: entry by entry, then answer by answer, then cell by cell
+-- what is wrong with a list that isn't legal, and which fault is reported: entry by entry, then answer by answer, then cell by cell
 use Rattle.std.specs.Prelude.{◌≡◌, ◌≢◌, ◌<◌, ◌≤◌, ◌⊎◌, ℕ, List, map, take, Some, slice_get}
 use Rattle.ultra_msg.specs.Act.{act}
 use Rattle.ultra_serial.specs.declared.checking.BreachKind.{BreachKind}
@@ -59,7 +59,7 @@ pub record IsFirstBreach (initial : Cells) (log : Log) (final : Cells) (list : L
   pub wrong : IsBreach initial log final list kind index
   pub first : (k : BreachKind) (m : ℕ) → ComesBefore k m kind index → IsBreach initial log final list k m → ⊥
 
--- a list that is refused isn't legal, and what is told is its first fault
+-- a list that is refused isn't legal, and its first fault is reported
 abbrev pub ExplainsFault : Cells → Log → Cells → List Entry → CheckFault → Type 0
 ExplainsFault initial log final list NoMemory = Unit {0}
 ExplainsFault initial log final list (Breach kind index) = IsFirstBreach initial log final list kind index × (IsLegal initial log final list → ⊥)

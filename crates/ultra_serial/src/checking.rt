@@ -55,7 +55,7 @@ impl From<AllocError> for CheckFault {
     }
 }
 
-/// Whether a list explains what a log tells of a run from the initial cells to the last cells (each cell by its address and value; of an address that stands twice the last value counts, and the others hold 0): `Ok` exactly where it does.
+/// Whether a list explains the log of a run from the initial cells to the last cells (each cell by its address and value; of an address that stands twice the last value counts, and the others hold 0): `Ok` exactly where it does.
 ///
 /// Else the fault is the first one. The entries are examined one by one, each for `NotIssued`, `Repeated`, `WrongReplay`, `WrongAnswer` and `TooLate`; then the log's answers for `Missing`; then the cells by address. `NoMemory` means that memory was refused, which may stand in place of another answer.
 pub fn check(

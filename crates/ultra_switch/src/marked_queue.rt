@@ -12,7 +12,7 @@ use std::alloc::{AllocError, Global};
 use std::marker::Model;
 use ultra_msg::Request;
 
-/// The most places that a queue toward memory can have: as many as a word has bits.
+/// The most places that a queue toward memory can have: the bits of a word.
 pub(crate) const MOST_REQUEST_PLACES: usize = 32;
 
 /// A queue of requests, each with a mark, in a ring of a fixed number of places.

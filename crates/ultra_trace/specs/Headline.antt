@@ -20,7 +20,7 @@ abbrev pub delivery_line : Delivery → List ℕ
 delivery_line d = codes "got " ++ message_text d.message ++ newline
 
 pub record AreRepliesTold (c : Settings) (program : List Instr) : Type 0 where
-  -- the `got` lines tell of the deliveries, one a line, in their order
+  -- the `got` lines show the deliveries, one a line, in their order
   pub lines : (n : ℕ) → got_lines c program n ≡ flat_map delivery_line (deliveries c program n)
   -- the deliveries are the answers of the log, in the same order, each with its request
   pub answers : AreAllAnswers c program
@@ -30,5 +30,5 @@ pub record Headline (c : Settings) (program : List Instr) (written : List ℕ) :
   pub trace : written ≡ trace_of c program
   -- the serial lists of the run are a chain of legal lists
   pub chain : AreChained c program
-  -- the replies that the trace tells are the answers that these lists explain
+  -- the replies that the trace shows are the answers that these lists explain
   pub replies : AreRepliesTold c program

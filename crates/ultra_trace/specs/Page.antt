@@ -21,7 +21,7 @@ pub record Wrote (bytes : List ℕ) (old new : State) : Type 0 where
       → TakesPrefix (old.waiting ++ bytes) old.taken new.taken
       × (new.failures ≡ old.failures + 1)
 
--- the same of a page, whose sink tells what it has taken and how often it has failed
+-- the same of a page, whose sink reports what it has taken and how often it has failed
 module _ {S : Type 0} (taken : S → List ℕ) (failures : S → ℕ) where
   abbrev pub state_of : Page S → State
   state_of p = record { taken = taken p.sink.now; failures = failures p.sink.now; waiting = p.waiting.items; failed = p.failed }

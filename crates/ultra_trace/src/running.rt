@@ -64,7 +64,7 @@ impl From<CrewFault> for RunFault {
 
 /// Runs a program on a machine of these settings by n workers, 1 to 64, and writes the trace to the sink: the same bytes for every number of workers and every gate. After a fault the sink has taken a prefix of it.
 ///
-/// With `Ok` the whole headline holds (`Headline`): what was written is exactly the trace, the serial lists of this run are a chain of legal lists, and the replies that the trace tells are the answers that these lists explain.
+/// With `Ok` the whole headline holds (`Headline`): what was written is exactly the trace, the serial lists of this run are a chain of legal lists, and the replies that the trace shows are the answers that these lists explain.
 ///
 /// Unit `u` of the machine stands in block `u` modulo the number of workers. With one worker the run is `run_alone`, and no gate is called. Several workers have a thread of their own each, which is started once and kept for all cycles; memory is asked for in each cycle. The call may wait, and in every end the threads that were started are joined.
 ///
