@@ -1,6 +1,6 @@
 -- Each unit stands at home: in the block that the partition names, and in no other.
-use Rattle.std.proofs.Common.{◌≡◌, ◌≢◌, ℕ, ◌+◌, ◌-◌, ◌*◌, ◌^◌, ◌<◌, ◌≤◌, List, map, Bool, true, false, Option, Some, None, length, refl, sym, ◌∙◌, ap, subst, arith, inl, inr, lt-ltb, le-ltb}
-use Rattle.std.specs.Prelude.{◌==◌, nat_lt, is_some}
+use Rattle.std.proofs.Common.{◌≡◌, ◌≢◌, ℕ, ◌+◌, ◌-◌, ◌*◌, ◌^◌, ◌<◌, ◌≤◌, List, map, Bool, true, false, Option, Some, None, length, refl, sym, ◌∙◌, ap, subst, arith, inl, inr}
+use Rattle.std.specs.Prelude.{◌==◌, is_some}
 use Rattle.std.proofs.lemmas.Bool.{cases_lt}
 use Rattle.std.proofs.lemmas.Bool.Decides.{nat_tests}
 use Rattle.std.proofs.lemmas.List.{length-map}
@@ -8,6 +8,7 @@ use Rattle.ultra_switch.specs.declared.Switch.{Switch}
 use Rattle.ultra_mem.specs.Serve.{Bank, empty_bank}
 use Rattle.ultra_units.specs.Numbers.{switch_count, unit_count, module_number, element_number}
 use Rattle.ultra_halves.specs.declared.elements.ProcessingElement.{ProcessingElement}
+use Rattle.ultra_section.specs.Units.{unit_of}
 use Rattle.ultra_section.specs.BlockState.{BlockState, switch_at, module_at, element_at}
 use Rattle.ultra_section.specs.Shape.{IsShaped}
 use Rattle.ultra_section.specs.Away.{stands}
@@ -36,22 +37,13 @@ each_unit d P switches modules elements n h = elim (cases_lt n (switch_count d))
 -- whether one stands in a block
 module _ (d : ℕ) (b : BlockState) (stages : b.stages ≡ d) where
   pub stands_switch : (n : ℕ) → n < switch_count d → stands n b ≡ is_some (switch_at b.switches n)
-  stands_switch n h = rw (stages, lt-ltb n (switch_count d) h) refl
+  stands_switch n h = let is = ap (λ e. unit_of e n) stages ∙ unit_of_switch d n h in rw (stands, is) refl
 
   pub stands_module : (m : ℕ) → m < 2 ^ d → stands (module_number d m) b ≡ is_some (module_at b.modules m)
-  stands_module m h =
-      let past : nat_lt (module_number d m) (switch_count d) ≡ false = le-ltb (module_number d m) (switch_count d) (omega arith) in
-      let within : nat_lt (module_number d m) (switch_count d + 2 ^ d) ≡ true = lt-ltb (module_number d m) (switch_count d + 2 ^ d) (omega arith) in
-      let e : module_number d m - switch_count d ≡ m = omega arith in
-      rw (stages, past, within, e) refl
+  stands_module m h = let is = ap (λ e. unit_of e (module_number d m)) stages ∙ unit_of_module d m h in rw (stands, is) refl
 
   pub stands_element : (p : ℕ) → p < 2 ^ d → stands (element_number d p) b ≡ is_some (element_at b.elements p)
-  stands_element p h =
-      let past : nat_lt (element_number d p) (switch_count d) ≡ false = le-ltb (element_number d p) (switch_count d) (omega arith) in
-      let behind : nat_lt (element_number d p) (switch_count d + 2 ^ d) ≡ false = le-ltb (element_number d p) (switch_count d + 2 ^ d) (omega arith) in
-      let within : nat_lt (element_number d p) (unit_count d) ≡ true = lt-ltb (element_number d p) (unit_count d) (omega arith) in
-      let e : element_number d p - switch_count d - 2 ^ d ≡ p = omega arith in
-      rw (stages, past, behind, within, e) refl
+  stands_element p h = let is = ap (λ e. unit_of e (element_number d p)) stages ∙ unit_of_element d p h in rw (stands, is) refl
 
 -- ---- at home
 equal : (a : ℕ) → (a == a) ≡ true

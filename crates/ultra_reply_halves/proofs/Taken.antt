@@ -149,19 +149,13 @@ module _ (d : ℕ) (partition : List ℕ) (bs : List BlockState) (rooms : BlockR
 
   -- ---- switch n
   module _ (n : ℕ) (h : n < switch_count d) where
-    abbrev s : ℕ
-    s = stage_of d n
-
-    abbrev k : ℕ
-    k = index_of d n
-
-    abbrev links : Ports ℕ
-    links = reply_links d s k
+    abbrev inlets : Ports ℕ
+    inlets = reply_links d (stage_of d n) (index_of d n)
 
     -- in a block where this stands at the number of the switch
     taken_at : (i : ℕ) → i < length bs → (o : Option Switch) → switch_at (block_at bs i).switches n ≡ o
-        → ◌≡◌ {A = Option Switch × Ports (Option ReplyMessage)} (switch_at (take (block_at bs i)).switches n, on_both (take (block_at bs i)).replies links)
-        (after_taking_switch d low high s k (o, on_both (block_at bs i).replies links))
+        → ◌≡◌ {A = Option Switch × Ports (Option ReplyMessage)} (switch_at (take (block_at bs i)).switches n, on_both (take (block_at bs i)).replies inlets)
+        (after_taking_switch d low high (stage_of d n) (index_of d n) (o, on_both (block_at bs i).replies inlets))
     taken_at i within o is = switch_taken d low high rooms program (block_at bs i) (blocks.shaped i within) n h o is
 
     switch_now : (frame_of d partition now).switch n ≡ after.switch n
@@ -170,15 +164,15 @@ module _ (d : ℕ) (partition : List ℕ) (bs : List BlockState) (rooms : BlockR
         let within : at < length bs = home_within d partition bs blocks n (omega arith) in
         ap (λ (b : BlockState). given no_switch (switch_at b.switches n)) (changed_at take bs at within)
         ∙ ap (λ p. given no_switch p.0) (taken_at at within (Some (f.switch n)) (switch_home d partition bs blocks n h))
-        ∙ ap (after_replies d s (f.switch n)) (sym (switch_there d partition bs blocks there n h))
+        ∙ ap (after_replies d (stage_of d n) (f.switch n)) (sym (switch_there d partition bs blocks there n h))
 
-    emptied_by_switch : (l : ℕ) → (l ≡ links.zero) ⊎ (l ≡ links.one) → (i : ℕ) → i < length bs → on_link (take (block_at bs i)).replies l ≡ None
+    emptied_by_switch : (l : ℕ) → (l ≡ inlets.zero) ⊎ (l ≡ inlets.one) → (i : ℕ) → i < length bs → on_link (take (block_at bs i)).replies l ≡ None
     emptied_by_switch l inlet i within = elim (cases_eq i (home partition n)) [
       | inl at_home ↦
           let stands : switch_at (block_at bs i).switches n ≡ Some (f.switch n) = ap (λ i. switch_at (block_at bs i).switches n) at_home ∙ switch_home d partition bs blocks n h in
-          port_empty (take (block_at bs i)).replies links l inlet (ap (λ p. p.1) (taken_at i within (Some (f.switch n)) stands))
+          port_empty (take (block_at bs i)).replies inlets l inlet (ap (λ p. p.1) (taken_at i within (Some (f.switch n)) stands))
       | inr away ↦
-          port_empty (take (block_at bs i)).replies links l inlet (ap (λ p. p.1) (taken_at i within None (switch_away d partition bs blocks n h i within away))
+          port_empty (take (block_at bs i)).replies inlets l inlet (ap (λ p. p.1) (taken_at i within None (switch_away d partition bs blocks n h i within away))
           ∙ nothing_for_switch d partition bs blocks there n h i within away)
     ]
 

@@ -1,6 +1,6 @@
 -- Where each reply is in the block to which it leads: what comes to a unit is what its block has for it.
-use Rattle.std.proofs.Common.{◌≡◌, ◌≢◌, ℕ, ◌+◌, ◌-◌, ◌*◌, ◌^◌, ◌<◌, ◌≤◌, List, false, true, Option, Some, None, length, refl, sym, ◌∙◌, ap, subst, arith, inl, inr, lt-ltb, le-ltb}
-use Rattle.std.specs.Prelude.{◌⊎◌, nat_lt}
+use Rattle.std.proofs.Common.{◌≡◌, ◌≢◌, ℕ, ◌+◌, ◌-◌, ◌*◌, ◌^◌, ◌<◌, ◌≤◌, List, false, true, Option, Some, None, length, refl, sym, ◌∙◌, ap, subst, arith, inl, inr}
+use Rattle.std.specs.Prelude.{◌⊎◌}
 use Rattle.ultra_msg.specs.declared.ReplyMessage.{ReplyMessage}
 use Rattle.ultra_switch.specs.declared.Ports.{Ports}
 use Rattle.ultra_units.specs.Numbers.{switch_count, unit_count, element_number}
@@ -9,6 +9,7 @@ use Rattle.ultra_section.specs.Units.{stage_of, index_of}
 use Rattle.ultra_section.specs.Marks.{delivery_link, on_both, on_link, reply_links}
 use Rattle.ultra_section.specs.BlockState.{BlockState}
 use Rattle.ultra_section.specs.Away.{AreEmpty, reply_inlets}
+use Rattle.ultra_section.proofs.Standing.{unit_of_switch, unit_of_element}
 use Rattle.ultra_course.specs.Frame.{Frame}
 use Rattle.ultra_course.specs.Course.{replies_to, reply_to}
 use Rattle.ultra_cut.specs.Cut.{block_at, first, frame_of, home, replies_on}
@@ -19,15 +20,10 @@ use Rattle.ultra_reply_halves.proofs.Home.{home_within}
 
 -- ---- inlets
 inlets_of_switch : (d n : ℕ) → n < switch_count d → reply_inlets d n ≡ Some (reply_links d (stage_of d n) (index_of d n))
-inlets_of_switch d n h = rw (lt-ltb n (switch_count d) h) refl
+inlets_of_switch d n h = rw (reply_inlets, unit_of_switch d n h) refl
 
 inlets_of_element : (d p : ℕ) → p < 2 ^ d → reply_inlets d (element_number d p) ≡ Some (ports (delivery_link d p) (delivery_link d p))
-inlets_of_element d p h =
-    let past : nat_lt (element_number d p) (switch_count d) ≡ false = le-ltb (element_number d p) (switch_count d) (omega arith) in
-    let behind : nat_lt (element_number d p) (switch_count d + 2 ^ d) ≡ false = le-ltb (element_number d p) (switch_count d + 2 ^ d) (omega arith) in
-    let within : nat_lt (element_number d p) (unit_count d) ≡ true = lt-ltb (element_number d p) (unit_count d) (omega arith) in
-    let e : element_number d p - switch_count d - 2 ^ d ≡ p = omega arith in
-    rw (past, behind, within, e) refl
+inlets_of_element d p h = rw (reply_inlets, unit_of_element d p h) refl
 
 module _ (d : ℕ) (partition : List ℕ) (bs : List BlockState) (blocks : AreBlocks d partition bs) (there : AreRepliesThere d partition bs) where
   abbrev f : Frame
