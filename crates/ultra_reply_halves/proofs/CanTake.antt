@@ -66,7 +66,7 @@ module _ (d : ℕ) (partition : List ℕ) (bs : List BlockState) (blocks : AreBl
     | inr past ↦
         let switches : nat_lt n (switch_count d) ≡ false = le-ltb n (switch_count d) (omega arith) in
         let modules : nat_lt n (switch_count d + 2 ^ d) ≡ false = le-ltb n (switch_count d + 2 ^ d) (omega arith) in
-        rw (switches, modules, le-ltb n (unit_count d) past) tt
+        rw (UnitCanTakeReplies, switches, modules, le-ltb n (unit_count d) past) tt
   ]
 
 pub can_take_replies : CanTakeRepliesLaw
