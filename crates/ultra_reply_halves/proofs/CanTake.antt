@@ -1,11 +1,9 @@
 -- Each block may make the half in which replies are taken, where the whole machine may.
-use Rattle.std.proofs.Common.{◌≡◌, ◌≢◌, ℕ, ◌+◌, ◌-◌, ◌^◌, ◌<◌, ◌≤◌, List, false, true, Option, Some, None, length, refl, sym, ◌∙◌, ap, subst, arith, inl, inr, lt-ltb, le-ltb}
+use Rattle.std.proofs.Common.{◌≡◌, ◌≢◌, ℕ, ◌+◌, ◌^◌, ◌<◌, List, false, Option, Some, None, length, sym, ◌∙◌, ap, subst, arith, inl, inr, le-ltb}
 use Rattle.std.specs.Prelude.{nat_lt}
 use Rattle.std.proofs.lemmas.Bool.{cases_eq, cases_lt}
-use Rattle.ultra_switch.specs.declared.Switch.{Switch}
 use Rattle.ultra_units.specs.Numbers.{switch_count, unit_count, module_number, element_number}
 use Rattle.ultra_halves.specs.Switches as switch
-use Rattle.ultra_halves.specs.declared.elements.ProcessingElement.{ProcessingElement}
 use Rattle.ultra_section.specs.Units.{unit_of, stage_of, index_of}
 use Rattle.ultra_section.specs.Marks.{delivery_link, on_both, on_link, reply_links}
 use Rattle.ultra_section.specs.BlockState.{BlockState, switch_at, element_at}
@@ -44,7 +42,7 @@ module _ (d : ℕ) (partition : List ℕ) (bs : List BlockState) (blocks : AreBl
       let here = at_home n (switch_at b.switches n) w (switch_away d partition bs blocks n h i within) is in
       let same : w ≡ f.switch n = same_some w (f.switch n) (sym is ∙ ap (λ j. switch_at (block_at bs j).switches n) here ∙ switch_home d partition bs blocks n h) in
       let came = switch_there d partition bs blocks there n h ∙ ap (λ j. on_both (block_at bs j).replies (reply_links d (stage_of d n) (index_of d n))) (sym here)
-          ∙ ap (λ e. on_both b.replies (reply_links e (stage_of d n) (index_of d n))) (sym (blocks.cut.stages i within)) in
+      ∙ ap (λ e. on_both b.replies (reply_links e (stage_of d n) (index_of d n))) (sym (blocks.cut.stages i within)) in
       subst (λ w. switch.CanTakeReplies w (on_both b.replies (reply_links b.stages (stage_of d n) (index_of d n)))) (sym same)
       (subst (switch.CanTakeReplies (f.switch n)) came (can.switches n h))
 

@@ -71,8 +71,8 @@ module _ {X : Type 0} (g : BlockState → Option X) (bs : List BlockState) where
   pub column_empty : ((k : ℕ) → k < length bs → g (block_at bs k) ≡ None) → first (map g bs) ≡ None
   column_empty none = first_none (map g bs) (nowhere none)
 
-  pub column_still : ((k : ℕ) → k < length bs → g (block_at bs k) ≡ None) → IsSingle (map g bs)
-  column_still none = λ i k ne some. nowhere none k
+  pub column_empty_single : ((k : ℕ) → k < length bs → g (block_at bs k) ≡ None) → IsSingle (map g bs)
+  column_empty_single none = λ i k ne some. nowhere none k
 
 -- the blocks after something was done to each
 module _ (f : BlockState → BlockState) (bs : List BlockState) where

@@ -1,13 +1,11 @@
 -- Each unit stands at home: in the block that the partition names, and in no other.
-use Rattle.std.proofs.Common.{◌≡◌, ◌≢◌, ℕ, ◌+◌, ◌-◌, ◌*◌, ◌^◌, ◌<◌, ◌≤◌, List, map, Bool, true, false, Option, Some, None, length, refl, sym, ◌∙◌, ap, subst, arith, inl, inr}
+use Rattle.std.proofs.Common.{◌≡◌, ◌≢◌, ℕ, ◌+◌, ◌-◌, ◌^◌, ◌<◌, ◌≤◌, List, map, true, false, Option, Some, None, length, refl, sym, ◌∙◌, ap, subst, arith, inl, inr}
 use Rattle.std.specs.Prelude.{◌==◌, is_some}
 use Rattle.std.proofs.lemmas.Bool.{cases_lt}
 use Rattle.std.proofs.lemmas.Bool.Decides.{nat_tests}
 use Rattle.std.proofs.lemmas.List.{length-map}
-use Rattle.ultra_switch.specs.declared.Switch.{Switch}
-use Rattle.ultra_mem.specs.Serve.{Bank, empty_bank}
+use Rattle.ultra_mem.specs.Serve.{empty_bank}
 use Rattle.ultra_units.specs.Numbers.{switch_count, unit_count, module_number, element_number}
-use Rattle.ultra_halves.specs.declared.elements.ProcessingElement.{ProcessingElement}
 use Rattle.ultra_section.specs.Units.{unit_of}
 use Rattle.ultra_section.specs.BlockState.{BlockState, switch_at, module_at, element_at}
 use Rattle.ultra_section.specs.Shape.{IsShaped}
@@ -16,7 +14,7 @@ use Rattle.ultra_section.proofs.Standing.{unit_of_switch, unit_of_module, unit_o
 use Rattle.ultra_course.specs.Frame.{Frame}
 use Rattle.ultra_cut.specs.Cut.{IsCut, block_at, frame_of, given, home, no_element, no_switch}
 use Rattle.ultra_cut.specs.Halves.{AreBlocks, AreBlocksAfter}
-use Rattle.ultra_cut.proofs.Numbers.{differs, few_units, not_equal}
+use Rattle.ultra_cut.proofs.Numbers.{few_units, not_equal}
 use Rattle.ultra_reply_halves.proofs.Column.{changed_at}
 
 -- ---- which units there are
@@ -46,6 +44,10 @@ module _ (d : ℕ) (b : BlockState) (stages : b.stages ≡ d) where
   stands_element p h = let is = ap (λ e. unit_of e (element_number d p)) stages ∙ unit_of_element d p h in rw (stands, is) refl
 
 -- ---- at home
+-- the number of a unit is one that a half visits
+pub unit_small : (d n : ℕ) → 1 ≤ d → d ≤ 6 → n < unit_count d → n < 320
+unit_small d n low high h = let most = few_units d low high in omega arith
+
 equal : (a : ℕ) → (a == a) ≡ true
 equal a = grind (arith, nat_tests)
 
@@ -60,9 +62,6 @@ there_is_none (Some x) h = cc
 module _ (d : ℕ) (partition : List ℕ) (bs : List BlockState) (blocks : AreBlocks d partition bs) where
   abbrev pub f : Frame
   f = frame_of d partition bs
-
-  pub few : (n : ℕ) → n < unit_count d → n < 320
-  few n h = let most = few_units d blocks.some_stages blocks.few_stages in omega arith
 
   pub home_within : (n : ℕ) → n < unit_count d → home partition n < length bs
   home_within n h = blocks.cut.homes n h

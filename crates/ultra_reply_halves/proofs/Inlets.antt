@@ -1,10 +1,10 @@
 -- Each link leads to one unit, and is an inlet of it: computed over every network of at most six stages.
-use Rattle.std.proofs.Common.{◌≡◌, ℕ, ◌+◌, ◌-◌, ◌*◌, ◌^◌, ◌<◌, ◌≤◌, Bool, true, false, refl, sym, ◌∙◌, ap, subst, arith, inl, inr}
+use Rattle.std.proofs.Common.{◌≡◌, ℕ, ◌+◌, ◌-◌, ◌*◌, ◌^◌, ◌<◌, ◌≤◌, Bool, true, false, refl, subst, arith, inl, inr}
 use Rattle.std.specs.Prelude.{◌⊎◌, ◌&&◌, ◌||◌, ◌==◌, nat_lt}
 use Rattle.std.proofs.lemmas.Bool.{eqb-true}
 use Rattle.std.proofs.lemmas.Bool.Decides.{nat_tests}
 use Rattle.ultra_route.proofs.Table.{all_below, all_below_at}
-use Rattle.ultra_units.specs.Numbers.{switch_count, element_number}
+use Rattle.ultra_units.specs.Numbers.{switch_count}
 use Rattle.ultra_section.specs.Units.{stage_of, index_of}
 use Rattle.ultra_section.specs.Marks.{reply_links, delivery_link}
 use Rattle.ultra_section.proofs.Readers.{reply_reader}

@@ -1,5 +1,5 @@
 -- The half in which replies leave: the blocks become the machine after it.
-use Rattle.std.proofs.Common.{◌≡◌, ◌≢◌, ℕ, zero, suc, ◌+◌, ◌-◌, ◌*◌, ◌/◌, ◌%◌, ◌^◌, ◌<◌, ◌≤◌, List, [], map, Option, Some, None, length, refl, sym, ◌∙◌, ap, subst, arith, inl, inr, lt-ltb, le-ltb}
+use Rattle.std.proofs.Common.{◌≡◌, ◌≢◌, ℕ, zero, suc, ◌+◌, ◌-◌, ◌*◌, ◌/◌, ◌%◌, ◌^◌, ◌<◌, ◌≤◌, List, Option, Some, None, length, refl, sym, ◌∙◌, ap, subst, arith, inl, inr, lt-ltb, le-ltb}
 use Rattle.std.specs.Prelude.{is_some, nat_lt}
 use Rattle.std.proofs.lemmas.Bool.{cases_lt}
 use Rattle.std.proofs.lemmas.List.{get_or_past, length-map}
@@ -8,10 +8,8 @@ use Rattle.ultra_switch.specs.declared.Switch.{Switch}
 use Rattle.ultra_switch.specs.declared.Ports.{Ports}
 use Rattle.ultra_mem.specs.Serve.{Bank, empty_bank}
 use Rattle.ultra_isa.specs.declared.Instr.{Instr}
-use Rattle.ultra_model.specs.Phases.{without_reply}
-use Rattle.ultra_units.specs.Numbers.{switch_count, unit_count, module_number, element_number, place_number}
+use Rattle.ultra_units.specs.Numbers.{switch_count, module_number, element_number, place_number}
 use Rattle.ultra_halves.specs.Halves.{ports}
-use Rattle.ultra_halves.specs.Switches.{without_replies}
 use Rattle.ultra_section.specs.declared.half.Half.TheVariants.{SendReplies}
 use Rattle.ultra_section.specs.declared.rooms.Rooms.{Rooms as BlockRooms}
 use Rattle.ultra_section.specs.Units.{stage_of, index_of}
@@ -24,16 +22,15 @@ use Rattle.ultra_section.proofs.Standing.{is_switch}
 use Rattle.ultra_section.proofs.Put.{has_places, place_behind_small, places_of, places_twice, put_or}
 use Rattle.ultra_section.proofs.RepliesSentOnce.{after_sending_module, after_sending_switch, kept_by_sending, module_after_sending, shape_after_sending, switch_after_sending}
 use Rattle.ultra_course.specs.Ports.{at_port}
-use Rattle.ultra_course.specs.Frame.{Frame, AreAlike}
-use Rattle.ultra_course.specs.Course.{replies_from, reply_from, sends_replies, on_links}
+use Rattle.ultra_course.specs.Frame.{Frame}
+use Rattle.ultra_course.specs.Course.{replies_from, reply_from, sends_replies}
 use Rattle.ultra_course.proofs.Numbers.{pick_false, pick_true}
 use Rattle.ultra_cut.specs.Cut.{block_at, first, frame_of, given, home, no_element, no_switch, replies_on}
 use Rattle.ultra_cut.specs.Exchange.{AreSingleReplies, IsSingle}
-use Rattle.ultra_cut.specs.Halves.{AreBlocks, HasNoReplies, OfEach, all_made, noted}
-use Rattle.ultra_cut.proofs.Numbers.{few_units}
+use Rattle.ultra_cut.specs.Halves.{AreBlocks, HasNoReplies, all_made, noted}
 use Rattle.ultra_reply_halves.specs.Law.{AreRepliesSent, IsSilent, RepliesSentLaw}
-use Rattle.ultra_reply_halves.proofs.Column.{changed_at, column_first, column_none, column_single, column_still, same_column}
-use Rattle.ultra_reply_halves.proofs.Home.{HasSameUnits, blocks_after, each_changed, home_within, module_away, module_home, switch_away, switch_home}
+use Rattle.ultra_reply_halves.proofs.Column.{changed_at, column_first, column_none, column_single, column_empty_single, same_column}
+use Rattle.ultra_reply_halves.proofs.Home.{HasSameUnits, blocks_after, each_changed, home_within, module_away, module_home, switch_away, switch_home, unit_small}
 
 -- ---- ports
 on_nothing : {M : Type 0} (o on : Option M) → on ≡ None → put_or o on ≡ o
@@ -89,9 +86,6 @@ module _ (d : ℕ) (low : 1 ≤ d) (high : d ≤ 6) (rooms : BlockRooms) (progra
   sent_shape : IsShaped d sent
   sent_shape = shape_after_sending closed d low high (begun b) begun_shaped
 
-  unit_small : (n : ℕ) → n < unit_count d → n < 320
-  unit_small n h = let most = few_units d low high in omega arith
-
   -- ---- switch n, and what is on its two links
   module _ (n : ℕ) (h : n < switch_count d) where
     abbrev s : ℕ
@@ -106,7 +100,7 @@ module _ (d : ℕ) (low : 1 ≤ d) (high : d ≤ 6) (rooms : BlockRooms) (progra
     switch_sent : (o : Option Switch) → switch_at b.switches n ≡ o
         → ◌≡◌ {A = Option Switch × Ports (Option ReplyMessage)} (switch_at sent.switches n, on_both sent.replies places) (after_sending_switch closed d low high s k (o, on_both b.replies places))
     switch_sent o is =
-        switch_after_sending closed d low high (begun b) begun_shaped n h (unit_small n (omega arith))
+        switch_after_sending closed d low high (begun b) begun_shaped n h (unit_small d n low high (omega arith))
         ∙ ap (λ o. after_sending_switch closed d low high s k (o, on_both b.replies places)) is
 
     same_switch : (o : Option Switch) → switch_at b.switches n ≡ o → is_some (switch_at sent.switches n) ≡ is_some (switch_at b.switches n)
@@ -118,7 +112,7 @@ module _ (d : ℕ) (low : 1 ≤ d) (high : d ≤ 6) (rooms : BlockRooms) (progra
     module_sent : (o : Option Bank) → module_at b.modules m ≡ o
         → ◌≡◌ {A = Option Bank × Option ReplyMessage} (module_at sent.modules m, on_link sent.replies (place_number d d m)) (after_sending_module closed d low high m (o, on_link b.replies (place_number d d m)))
     module_sent o is =
-        module_after_sending closed d low high (begun b) begun_shaped m h (unit_small (module_number d m) (omega arith))
+        module_after_sending closed d low high (begun b) begun_shaped m h (unit_small d (module_number d m) low high (omega arith))
         ∙ ap (λ o. after_sending_module closed d low high m (o, on_link b.replies (place_number d d m))) is
 
     same_module : (o : Option Bank) → module_at b.modules m ≡ o → is_some (module_at sent.modules m) ≡ is_some (module_at b.modules m)
@@ -153,6 +147,9 @@ module _ (d : ℕ) (partition : List ℕ) (bs : List BlockState) (rooms : BlockR
 
   abbrev after : Frame
   after = sends_replies d (noted d rooms) f
+
+  same : (k : ℕ) → k < length bs → HasSameUnits d (block_at bs k) (send (block_at bs k))
+  same k within = same_units d low high rooms program (block_at bs k) (blocks.shaped k within)
 
   no_reply : (k l : ℕ) → k < length bs → l < (d + 1) * 2 ^ d → on_link (block_at bs k).replies l ≡ None
   no_reply k l within small = column_none (λ b. on_link b.replies l) bs (clear l small) k within
@@ -216,7 +213,7 @@ module _ (d : ℕ) (partition : List ℕ) (bs : List BlockState) (rooms : BlockR
 
   alone_away : (l h : ℕ) → AreAlone l h → (k : ℕ) → k < length now → k ≢ h → on_link (block_at now k).replies l ≡ None
   alone_away l h alone k within other =
-      each_changed d partition bs blocks send (λ k within. same_units d low high rooms program (block_at bs k) (blocks.shaped k within))
+      each_changed d partition bs blocks send same
       (λ k b. k ≢ h → on_link b.replies l ≡ None) alone.away k within other
 
   alone_first : (l h : ℕ) → AreAlone l h → first (replies_on now l) ≡ on_link (send (block_at bs h)).replies l
@@ -330,7 +327,7 @@ module _ (d : ℕ) (partition : List ℕ) (bs : List BlockState) (rooms : BlockR
   -- there is no link beyond
   no_link : (l : ℕ) → (d + 1) * 2 ^ d ≤ l → IsSingle (replies_on now l)
   no_link l past =
-      column_still (on_now l) now (each_changed d partition bs blocks send (λ k within. same_units d low high rooms program (block_at bs k) (blocks.shaped k within)) (λ k b. on_link b.replies l ≡ None) (λ k within.
+      column_empty_single (on_now l) now (each_changed d partition bs blocks send same (λ k b. on_link b.replies l ≡ None) (λ k within.
       let shape = sent_shape d low high rooms program (block_at bs k) (blocks.shaped k within) in
       get_or_past (send (block_at bs k)).replies l None (subst (λ n. n ≤ l) (sym shape.replies) past)))
 
@@ -340,7 +337,7 @@ module _ (d : ℕ) (partition : List ℕ) (bs : List BlockState) (rooms : BlockR
   are_sent : AreRepliesSent d partition rooms bs now
   are_sent = record {
     frame = record {
-      blocks = blocks_after d partition bs blocks send (λ k within. same_units d low high rooms program (block_at bs k) (blocks.shaped k within));
+      blocks = blocks_after d partition bs blocks send same;
       frame = record {
         switches = switch_now;
         banks = bank_now;
@@ -350,7 +347,7 @@ module _ (d : ℕ) (partition : List ℕ) (bs : List BlockState) (rooms : BlockR
       };
     };
     single = single_now;
-    nothing = each_changed d partition bs blocks send (λ k within. same_units d low high rooms program (block_at bs k) (blocks.shaped k within))
+    nothing = each_changed d partition bs blocks send same
         (λ k b. IsSilent b) (λ k within. silent d low high rooms program (block_at bs k) (blocks.shaped k within));
   }
 

@@ -1,8 +1,7 @@
 -- The half in which replies are taken: the blocks become the machine after it.
-use Rattle.std.proofs.Common.{◌≡◌, ◌≢◌, ℕ, ◌+◌, ◌-◌, ◌*◌, ◌^◌, ◌<◌, ◌≤◌, List, [], Option, Some, None, map, length, length-append, refl, sym, ◌∙◌, ap, subst, arith, inl, inr}
+use Rattle.std.proofs.Common.{◌≡◌, ℕ, ◌+◌, ◌*◌, ◌^◌, ◌<◌, ◌≤◌, List, Option, Some, None, length, length-append, refl, sym, ◌∙◌, ap, subst, arith, inl, inr}
 use Rattle.std.specs.Prelude.{◌⊎◌, is_some}
 use Rattle.std.proofs.lemmas.Bool.{cases_eq}
-use Rattle.std.proofs.lemmas.List.{length-map}
 use Rattle.ultra_msg.specs.declared.ReplyMessage.{ReplyMessage}
 use Rattle.ultra_switch.specs.declared.Switch.{Switch}
 use Rattle.ultra_switch.specs.declared.Ports.{Ports}
@@ -10,7 +9,7 @@ use Rattle.ultra_mem.specs.Serve.{empty_bank}
 use Rattle.ultra_isa.specs.declared.Instr.{Instr}
 use Rattle.ultra_route.specs.Route.{shuffled}
 use Rattle.ultra_route.proofs.Table.{back}
-use Rattle.ultra_units.specs.Numbers.{switch_count, unit_count, module_number, element_number}
+use Rattle.ultra_units.specs.Numbers.{switch_count, module_number, element_number}
 use Rattle.ultra_halves.specs.Halves.{ports}
 use Rattle.ultra_halves.specs.declared.elements.ProcessingElement.{ProcessingElement}
 use Rattle.ultra_halves.specs.Switches.{after_replies}
@@ -27,15 +26,14 @@ use Rattle.ultra_section.proofs.Few.{few_told}
 use Rattle.ultra_section.proofs.Once.{told_before}
 use Rattle.ultra_section.proofs.RepliesTakenOnce.{after_taking_element, after_taking_switch, element_after_taking, events_after_taking, kept_by_taking, shape_after_taking, switch_after_taking, told_of}
 use Rattle.ultra_course.specs.Frame.{Frame}
-use Rattle.ultra_course.specs.Course.{replies_to, reply_to, takes_replies}
-use Rattle.ultra_cut.specs.Cut.{block_at, first, frame_of, given, home, no_element, no_switch, replies_on}
-use Rattle.ultra_cut.specs.Exchange.{AreRepliesThere, AreSingleReplies}
+use Rattle.ultra_course.specs.Course.{takes_replies}
+use Rattle.ultra_cut.specs.Cut.{block_at, first, frame_of, given, home, no_element, no_switch}
+use Rattle.ultra_cut.specs.Exchange.{AreRepliesThere}
 use Rattle.ultra_cut.specs.Halves.{AreBlocks, FewMoreEvents, all_made}
-use Rattle.ultra_cut.proofs.Numbers.{few_units}
 use Rattle.ultra_reply_halves.specs.Law.{AreRepliesTaken, RepliesTakenLaw}
 use Rattle.ultra_reply_halves.proofs.Column.{changed_at, column_empty, same_column}
-use Rattle.ultra_reply_halves.proofs.Home.{HasSameUnits, blocks_after, each_changed, element_away, element_home, home_within, switch_away, switch_home}
-use Rattle.ultra_reply_halves.proofs.Inlets.{LeadsToElement, LeadsToSwitch, leads_to}
+use Rattle.ultra_reply_halves.proofs.Home.{HasSameUnits, blocks_after, each_changed, element_away, element_home, home_within, switch_away, switch_home, unit_small}
+use Rattle.ultra_reply_halves.proofs.Inlets.{leads_to}
 use Rattle.ultra_reply_halves.proofs.Told.{few_of_unit}
 use Rattle.ultra_reply_halves.proofs.There.{element_there, nothing_for_element, nothing_for_switch, switch_there}
 
@@ -79,9 +77,6 @@ module _ (d : ℕ) (low : 1 ≤ d) (high : d ≤ 6) (rooms : BlockRooms) (progra
       let sum = length-append b.events (told_before (λ n t. told_of d low high t (unit_of d n)) 320 b) in
       omega arith
 
-  unit_small : (n : ℕ) → n < unit_count d → n < 320
-  unit_small n h = let most = few_units d low high in omega arith
-
   -- ---- switch n, and what is on its two links
   module _ (n : ℕ) (h : n < switch_count d) where
     abbrev s : ℕ
@@ -96,7 +91,7 @@ module _ (d : ℕ) (low : 1 ≤ d) (high : d ≤ 6) (rooms : BlockRooms) (progra
     switch_taken : (o : Option Switch) → switch_at b.switches n ≡ o
         → ◌≡◌ {A = Option Switch × Ports (Option ReplyMessage)} (switch_at taken.switches n, on_both taken.replies links) (after_taking_switch d low high s k (o, on_both b.replies links))
     switch_taken o is =
-        switch_after_taking d low high b shape n h (unit_small n (omega arith))
+        switch_after_taking d low high b shape n h (unit_small d n low high (omega arith))
         ∙ ap (λ o. after_taking_switch d low high s k (o, on_both b.replies links)) is
 
     same_switch : (o : Option Switch) → switch_at b.switches n ≡ o → is_some (switch_at taken.switches n) ≡ is_some (switch_at b.switches n)
@@ -108,7 +103,7 @@ module _ (d : ℕ) (low : 1 ≤ d) (high : d ≤ 6) (rooms : BlockRooms) (progra
     element_taken : (o : Option ProcessingElement) → element_at b.elements p ≡ o
         → ◌≡◌ {A = Option ProcessingElement × Option ReplyMessage} (element_at taken.elements p, on_link taken.replies (delivery_link d p)) (after_taking_element d low high (o, on_link b.replies (delivery_link d p)))
     element_taken o is =
-        element_after_taking d low high b shape p h (unit_small (element_number d p) (omega arith)) (delivery_small d low high p h)
+        element_after_taking d low high b shape p h (unit_small d (element_number d p) low high (omega arith)) (delivery_small d low high p h)
         ∙ ap (λ o. after_taking_element d low high (o, on_link b.replies (delivery_link d p))) is
 
     same_element : (o : Option ProcessingElement) → element_at b.elements p ≡ o → is_some (element_at taken.elements p) ≡ is_some (element_at b.elements p)

@@ -1,9 +1,7 @@
 -- Where each reply is in the block to which it leads: what comes to a unit is what its block has for it.
-use Rattle.std.proofs.Common.{◌≡◌, ◌≢◌, ℕ, ◌+◌, ◌-◌, ◌*◌, ◌^◌, ◌<◌, ◌≤◌, List, false, true, Option, Some, None, length, refl, sym, ◌∙◌, ap, subst, arith, inl, inr}
-use Rattle.std.specs.Prelude.{◌⊎◌}
-use Rattle.ultra_msg.specs.declared.ReplyMessage.{ReplyMessage}
+use Rattle.std.proofs.Common.{◌≡◌, ◌≢◌, ℕ, ◌^◌, ◌<◌, List, Some, None, length, refl, sym, subst, arith}
 use Rattle.ultra_switch.specs.declared.Ports.{Ports}
-use Rattle.ultra_units.specs.Numbers.{switch_count, unit_count, element_number}
+use Rattle.ultra_units.specs.Numbers.{switch_count, element_number}
 use Rattle.ultra_halves.specs.Halves.{ports}
 use Rattle.ultra_section.specs.Units.{stage_of, index_of}
 use Rattle.ultra_section.specs.Marks.{delivery_link, on_both, on_link, reply_links}

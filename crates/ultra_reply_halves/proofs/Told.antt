@@ -1,5 +1,5 @@
 -- In the half in which replies are taken at most one event is told of a unit.
-use Rattle.std.proofs.Common.{◌≡◌, ℕ, ◌+◌, ◌-◌, ◌^◌, ◌<◌, ◌≤◌, [], false, Option, Some, None, length, refl, sym, subst, arith, inl, inr, le-ltb}
+use Rattle.std.proofs.Common.{◌≡◌, ℕ, ◌+◌, ◌^◌, ◌≤◌, [], false, Option, Some, None, length, refl, sym, subst, arith, inl, inr, le-ltb}
 use Rattle.std.specs.Prelude.{nat_lt}
 use Rattle.std.proofs.lemmas.Bool.{cases_lt}
 use Rattle.ultra_msg.specs.declared.ReplyMessage.{ReplyMessage}
