@@ -1,0 +1,4 @@
+pub mod Units
+pub mod Each
+pub mod Served
+pub mod Executed
