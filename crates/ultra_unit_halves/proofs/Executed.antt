@@ -90,7 +90,7 @@ module _ (d : ℕ) (partition : List ℕ) (bs : List BlockState) (are : AreBlock
       (λ n within. rw (unit_of_switch d n within) tt)
       (λ m small. rw (unit_of_module d m small) tt)
       (λ p small. rw (unit_of_element d p small) (element_can k h p small))
-      (λ n past. rw (le-ltb n (switch_count d) (omega arith), le-ltb n (switch_count d + 2 ^ d) (omega arith), le-ltb n (unit_count d) past) tt) n)
+      (λ n past. rw (UnitCanExecute, unit_of, le-ltb n (switch_count d) (omega arith), le-ltb n (switch_count d + 2 ^ d) (omega arith), le-ltb n (unit_count d) past) tt) n)
 
   module _ (room : OfEach HasHalfRoom bs) (none : OfEach HasNoStops bs) where
     stop_room : (k : ℕ) → k < length bs → (n : ℕ) → HasStopRoom n (block_at bs k)

@@ -2,3 +2,4 @@ pub mod Units
 pub mod Each
 pub mod Served
 pub mod Executed
+pub mod Noted

@@ -2,6 +2,10 @@
 //! one modules serve, in the other processing elements make a step of the program.
 #![tactic(auto)]
 
+mod rooms;
+
+pub use rooms::note_rooms;
+
 ghost use Rattle.ultra_unit_halves.specs.Law.{CanExecuteLaw, CanServeLaw, ExecuteLaw, ServeLaw};
 
 /// The laws of the half in which modules serve, as this function's contract. The function itself
