@@ -1,2 +1,3 @@
 pub mod Joined
 pub mod Ranked
+pub mod Merged
