@@ -1,3 +1,4 @@
 pub mod Joined
 pub mod Ranked
 pub mod Merged
+pub mod AtHome

@@ -7,22 +7,25 @@ use Rattle.ultra_happenings.proofs.Joined.{joined_split, joined_same}
 use Rattle.ultra_happenings.proofs.Ranked.{of_rank, IsPart, away, merged}
 
 -- ---- of four lists only one has something
-module _ {X : Type 0} (as bs cs ds : List X) where
-  only_first : bs ≡ [] → cs ≡ [] → ds ≡ [] → as ++ (bs ++ (cs ++ ds)) ≡ as
+module _ {X : Type 0} (a b c d : List X) where
+  only_first : b ≡ [] → c ≡ [] → d ≡ [] → a ++ (b ++ (c ++ d)) ≡ a
   only_first hb hc hd =
-      ap (λ xs. as ++ (xs ++ (cs ++ ds))) hb ∙ ap (λ xs. as ++ (xs ++ ds)) hc ∙ ap (λ xs. as ++ xs) hd ∙ append-nil as
+      ap (λ xs. a ++ (xs ++ (c ++ d))) hb ∙ ap (λ xs. a ++ (xs ++ d)) hc ∙ ap (λ xs. a ++ xs) hd ∙ append-nil a
 
-  only_second : as ≡ [] → cs ≡ [] → ds ≡ [] → as ++ (bs ++ (cs ++ ds)) ≡ bs
+  only_second : a ≡ [] → c ≡ [] → d ≡ [] → a ++ (b ++ (c ++ d)) ≡ b
   only_second ha hc hd =
-      ap (λ xs. xs ++ (bs ++ (cs ++ ds))) ha ∙ ap (λ xs. bs ++ (xs ++ ds)) hc ∙ ap (λ xs. bs ++ xs) hd ∙ append-nil bs
+      ap (λ xs. xs ++ (b ++ (c ++ d))) ha ∙ ap (λ xs. b ++ (xs ++ d)) hc ∙ ap (λ xs. b ++ xs) hd ∙ append-nil b
 
-  only_third : as ≡ [] → bs ≡ [] → ds ≡ [] → as ++ (bs ++ (cs ++ ds)) ≡ cs
+  only_third : a ≡ [] → b ≡ [] → d ≡ [] → a ++ (b ++ (c ++ d)) ≡ c
   only_third ha hb hd =
-      ap (λ xs. xs ++ (bs ++ (cs ++ ds))) ha ∙ ap (λ xs. xs ++ (cs ++ ds)) hb ∙ ap (λ xs. cs ++ xs) hd ∙ append-nil cs
+      ap (λ xs. xs ++ (b ++ (c ++ d))) ha ∙ ap (λ xs. xs ++ (c ++ d)) hb ∙ ap (λ xs. c ++ xs) hd ∙ append-nil c
 
-  only_fourth : as ≡ [] → bs ≡ [] → cs ≡ [] → as ++ (bs ++ (cs ++ ds)) ≡ ds
+  only_fourth : a ≡ [] → b ≡ [] → c ≡ [] → a ++ (b ++ (c ++ d)) ≡ d
   only_fourth ha hb hc =
-      ap (λ xs. xs ++ (bs ++ (cs ++ ds))) ha ∙ ap (λ xs. xs ++ (cs ++ ds)) hb ∙ ap (λ xs. xs ++ ds) hc
+      ap (λ xs. xs ++ (b ++ (c ++ d))) ha ∙ ap (λ xs. xs ++ (c ++ d)) hb ∙ ap (λ xs. xs ++ d) hc
+
+all_same : {X : Type 0} {a b c d p q r s : List X} → a ≡ p → b ≡ q → c ≡ r → d ≡ s → a ++ (b ++ (c ++ d)) ≡ p ++ (q ++ (r ++ s))
+all_same ha hb hc hd = cc
 
 -- 1280 lists are four times 320
 in_four : {X : Type 0} (g : ℕ → List X) → joined (places 1280 g)
@@ -130,7 +133,8 @@ module _ {X : Type 0} (rank : X → ℕ) (count : ℕ) where
     pub merged_four : joined (places 1280 merged_at) ≡ all_home a ++ (all_home b ++ (all_home c ++ all_home d))
     merged_four =
         in_four merged_at
-        ∙ ap (λ xs. xs ++ _) (of_part 0 a (λ r k h l u. at_first r k h (omega arith)))
-        ∙ ap (λ xs. all_home a ++ (xs ++ _)) (of_part 320 b (λ r k h l u. at_second r k h l (omega arith)))
-        ∙ ap (λ xs. all_home a ++ (all_home b ++ (xs ++ _))) (of_part 640 c (λ r k h l u. at_third r k h l (omega arith)))
-        ∙ ap (λ xs. all_home a ++ (all_home b ++ (all_home c ++ xs))) (of_part 960 d (λ r k h l u. at_fourth r k h l))
+        ∙ all_same
+        (of_part 0 a (λ r k h l u. at_first r k h (omega arith)))
+        (of_part 320 b (λ r k h l u. at_second r k h l (omega arith)))
+        (of_part 640 c (λ r k h l u. at_third r k h l (omega arith)))
+        (of_part 960 d (λ r k h l u. at_fourth r k h l))
