@@ -2,3 +2,4 @@ pub mod Joined
 pub mod Ranked
 pub mod Merged
 pub mod AtHome
+pub mod Parts
