@@ -3,3 +3,4 @@ pub mod Ranked
 pub mod Merged
 pub mod AtHome
 pub mod Parts
+pub mod Law

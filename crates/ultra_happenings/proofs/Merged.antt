@@ -24,7 +24,7 @@ module _ {X : Type 0} (a b c d : List X) where
   only_fourth ha hb hc =
       ap (λ xs. xs ++ (b ++ (c ++ d))) ha ∙ ap (λ xs. xs ++ (c ++ d)) hb ∙ ap (λ xs. xs ++ d) hc
 
-all_same : {X : Type 0} {a b c d p q r s : List X} → a ≡ p → b ≡ q → c ≡ r → d ≡ s → a ++ (b ++ (c ++ d)) ≡ p ++ (q ++ (r ++ s))
+pub all_same : {X : Type 0} {a b c d p q r s : List X} → a ≡ p → b ≡ q → c ≡ r → d ≡ s → a ++ (b ++ (c ++ d)) ≡ p ++ (q ++ (r ++ s))
 all_same ha hb hc hd = cc
 
 -- 1280 lists are four times 320

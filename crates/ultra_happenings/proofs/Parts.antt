@@ -22,8 +22,8 @@ use Rattle.ultra_model.specs.Machine.{Element}
 use Rattle.ultra_model.specs.Phases.{delivery, serving, combination, combinations, issue_event, stop_of}
 use Rattle.ultra_model.proofs.Each.{each-append}
 use Rattle.ultra_units.specs.Numbers.{switch_number, switch_count, unit_count, module_number, element_number}
-use Rattle.ultra_halves.specs.Halves.{ports}
-use Rattle.ultra_halves.specs.Switches.{combinations_of}
+use Rattle.ultra_halves.specs.Halves.{arrivals}
+use Rattle.ultra_halves.specs.Switches.{combinations_of, combinations_at as combinations_by}
 use Rattle.ultra_halves.specs.Elements.{element_of, step_at}
 use Rattle.ultra_halves.specs.declared.elements.ProcessingElement.{ProcessingElement}
 use Rattle.ultra_section.specs.Units.{stage_of, index_of}
@@ -48,7 +48,7 @@ module _ (d : ℕ) where
       → HaveRank (event_rank d) (switch_count d + 2 ^ d + p) (delivery_told o came)
   delivery_ranked p None came names = tt
   delivery_ranked p (Some e) None names = tt
-  delivery_ranked p (Some e) (Some r) names = (ap (element_number d) names, tt)
+  delivery_ranked p (Some e) (Some r) names = (ap (element_number d) (names r refl), tt)
 
   act_ranked : (m : ℕ) (o : Option Act) → HaveRank (event_rank d) (320 + switch_count d + m) (present (serving m o ∷ []))
   act_ranked m None = tt
@@ -73,9 +73,10 @@ module _ (d : ℕ) where
   combinations_ranked n i s k (Some w) came at =
       let even : 2 * k / 2 ≡ k = omega arith in
       let odd : (2 * k + 1) / 2 ≡ k = omega arith in
-      each-append (λ e. event_rank d e ≡ 640 + i) _ _
-      (each_ranked i w.to_mm.zero.wait_places s (2 * k) w.to_mm.zero.lane _ (ap (switch_number d s) even ∙ at))
-      (each_ranked i w.to_mm.one.wait_places s (2 * k + 1) w.to_mm.one.lane _ (ap (switch_number d s) odd ∙ at))
+      each-append (λ e. event_rank d e ≡ 640 + i)
+      (combinations_by s (2 * k) w.to_mm.zero (arrivals d s 0 n came)) (combinations_by s (2 * k + 1) w.to_mm.one (arrivals d s 1 n came))
+      (each_ranked i w.to_mm.zero.wait_places s (2 * k) w.to_mm.zero.lane (arrivals d s 0 n came) (ap (switch_number d s) even ∙ at))
+      (each_ranked i w.to_mm.one.wait_places s (2 * k + 1) w.to_mm.one.lane (arrivals d s 1 n came) (ap (switch_number d s) odd ∙ at))
 
   sent_ranked : (p : ℕ) (e : Element) (s : Site) (most_open : ℕ) (i j : Interface) (o : Option Request) → s.pe ≡ p → SendsInto s most_open i j o
       → HaveRank (event_rank d) (960 + (switch_count d + 2 ^ d) + p) (present (issue_event e o ∷ []))
@@ -148,7 +149,7 @@ module _ (d : ℕ) (partition : List ℕ) (bs : List BlockState) (blocks : AreBl
           subst (λ o. HaveRank (event_rank d) (switch_count d + 2 ^ d + p) (delivery_told o (on_link (block_at bs k).replies (delivery_link d p)))) (sym (element_elsewhere d partition bs blocks k p h small other)) tt
     ]
 
-    pub part_of_replies : Part (event_rank d) count 0 320
+    abbrev pub part_of_replies : Part (event_rank d) count 0 320
     part_of_replies = record {
       base = switch_count d + 2 ^ d;
       n = 2 ^ d;
@@ -173,7 +174,7 @@ module _ (d : ℕ) (partition : List ℕ) (bs : List BlockState) (blocks : AreBl
         ∙ ap (λ o. present (delivery o ∷ [])) (sym (reply_home d partition bs blocks there p small)))
         ∙ joined_present (2 ^ d) (λ p. delivery (course.reply_to d f p))
 
-  pub part_of_service : Part (event_rank d) count 320 320
+  abbrev pub part_of_service : Part (event_rank d) count 320 320
   part_of_service = record {
     base = 320 + switch_count d;
     n = 2 ^ d;
@@ -196,7 +197,7 @@ module _ (d : ℕ) (partition : List ℕ) (bs : List BlockState) (blocks : AreBl
       ∙ joined_present (2 ^ d) (λ m. serving m (served (f.bank m)))
 
   module _ (n : ℕ) where
-    pub part_of_requests : Part (event_rank d) count 640 320
+    abbrev pub part_of_requests : Part (event_rank d) count 640 320
     part_of_requests = record {
       base = 640;
       n = switch_count d;
@@ -232,7 +233,7 @@ module _ (d : ℕ) (partition : List ℕ) (bs : List BlockState) (blocks : AreBl
             subst (λ o. HaveRank (event_rank d) (960 + (switch_count d + 2 ^ d) + p) (issue_told program o)) (sym (element_elsewhere d partition bs blocks k p h small other)) tt
       ]
 
-      pub part_of_steps : Part (event_rank d) count 960 320
+      abbrev pub part_of_steps : Part (event_rank d) count 960 320
       part_of_steps = record {
         base = 960 + (switch_count d + 2 ^ d);
         n = 2 ^ d;
@@ -255,7 +256,7 @@ module _ (d : ℕ) (partition : List ℕ) (bs : List BlockState) (blocks : AreBl
           ∙ joined_present (2 ^ d) (λ p. issue_of program (f.element p))
 
     module _ (narrow : 2 ^ d ≤ 64) where
-      pub part_of_stops : Part stop_rank count 0 64
+      abbrev pub part_of_stops : Part stop_rank count 0 64
       part_of_stops = record {
         base = 0;
         n = 2 ^ d;

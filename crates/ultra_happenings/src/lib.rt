@@ -1,2 +1,10 @@
-//! x
+//! What the blocks of a machine tell of a cycle, merged: that it is what the definition tells.
 #![tactic(auto)]
+
+ghost use Rattle.ultra_happenings.specs.Law.{HappeningsLaw};
+
+/// The law of what happens in a cycle, as this function's contract: what the blocks tell, merged by
+/// rank, is what the definition tells of the frames that they hold. The function itself does nothing.
+pub fn happenings_law()
+    ensures merged { HappeningsLaw }
+{}
