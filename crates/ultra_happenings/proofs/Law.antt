@@ -1,5 +1,5 @@
 -- What the blocks of a machine tell in a cycle, merged, is what the definition tells.
-use Rattle.std.proofs.Common.{◌≡◌, ℕ, ◌^◌, ◌<◌, ◌≤◌, List, ◌++◌, map, length, refl, sym, ◌∙◌, ap, arith}
+use Rattle.std.proofs.Common.{◌≡◌, ℕ, ◌+◌, ◌^◌, ◌<◌, ◌≤◌, List, ◌++◌, map, length, refl, sym, ◌∙◌, ap, append_assoc, arith}
 use Rattle.std.specs.Prelude.{◌==◌}
 use Rattle.std.specs.List.{filter}
 use Rattle.ultra_msg.specs.declared.Event.{Event}
@@ -27,6 +27,9 @@ by_blocks : {X : Type 0} (rank : X → ℕ) (get : BlockState → List X) (bs : 
 by_blocks rank get bs width =
     joined_same width (λ r. joined (map (λ b. of_rank rank r (get b)) bs)) (λ r. joined (places (length bs) (λ k. of_rank rank r (get (block_at bs k)))))
     (λ r h. ap (λ xss. joined xss) (map_places (λ b. of_rank rank r (get b)) bs no_block))
+
+grouped : {X : Type 0} (a b c d : List X) → a ++ b ++ c ++ d ≡ a ++ (b ++ (c ++ d))
+grouped a b c d = append_assoc (a ++ b) c d ∙ append_assoc a b (c ++ d)
 
 module _ (d n : ℕ) (partition : List ℕ) (program : List Instr) (x : Course) (told : IsTold d n partition program x) where
   abbrev count : ℕ
@@ -63,10 +66,10 @@ module _ (d n : ℕ) (partition : List ℕ) (program : List Instr) (x : Course) 
   block_tells : (k : ℕ) → k < count
       → (at_end k).events ≡ all_by (event_rank d) count of_replies k ++ (all_by (event_rank d) count of_service k ++ (all_by (event_rank d) count of_requests k ++ all_by (event_rank d) count of_steps k))
   unfolding told_by_replies told_by_service told_by_requests told_by_steps
-  block_tells k h = (told.tells k h).events
+  block_tells k h = (told.tells k h).events ∙ grouped _ _ _ _
 
   all_events : events_of d x.steps_made
-      ≡ deliveries d (frame_of d partition x.replies_sent) ++ (servings d (frame_of d partition x.replies_taken) ++ (combinations d n (frame_of d partition x.requests_sent) ++ issues d program (frame_of d partition x.requests_taken)))
+      ≡ deliveries d (frame_of d partition x.replies_sent) ++ servings d (frame_of d partition x.replies_taken) ++ combinations d n (frame_of d partition x.requests_sent) ++ issues d program (frame_of d partition x.requests_taken)
   unfolding events_of
   all_events =
       by_blocks (event_rank d) (λ b. b.events) x.steps_made 1280
@@ -76,6 +79,7 @@ module _ (d n : ℕ) (partition : List ℕ) (program : List Instr) (x : Course) 
       (part.servings_home d partition x.replies_taken told.replies_taken.0 count told.replies_taken.1 few)
       (part.combinations_home d partition x.requests_sent told.requests_sent.0 count told.requests_sent.1 few n told.requests_there)
       (part.issues_home d partition x.requests_taken told.requests_taken.0 count told.requests_taken.1 few program told.sites)
+      ∙ sym (grouped _ _ _ _)
 
   -- ---- stops
   abbrev of_stops : Part part.stop_rank count 0 64

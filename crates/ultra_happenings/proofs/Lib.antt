@@ -3,4 +3,5 @@ pub mod Ranked
 pub mod Merged
 pub mod AtHome
 pub mod Parts
+pub mod Telling
 pub mod Law

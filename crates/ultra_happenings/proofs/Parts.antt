@@ -54,7 +54,7 @@ module _ (d : ℕ) where
   act_ranked m None = tt
   act_ranked m (Some a) = (omega arith, tt)
 
-  serving_ranked : (m : ℕ) (o : Option Bank) → HaveRank (event_rank d) (320 + switch_count d + m) (serving_told m o)
+  pub serving_ranked : (m : ℕ) (o : Option Bank) → HaveRank (event_rank d) (320 + switch_count d + m) (serving_told m o)
   serving_ranked m None = tt
   serving_ranked m (Some bank) = act_ranked m (served bank)
 
@@ -68,7 +68,7 @@ module _ (d : ℕ) where
       each-append (λ e. event_rank d e ≡ 640 + i) (combination s x r (combine_within wait_places l r)) (combinations wait_places s x (arrive wait_places l r) rs)
       (combination_ranked i s x r (combine_within wait_places l r) at) (each_ranked i wait_places s x (arrive wait_places l r) rs at)
 
-  combinations_ranked : (n i s k : ℕ) (o : Option Switch) (came : Ports (Option Request)) → switch_number d s k ≡ i → HaveRank (event_rank d) (640 + i) (combinations_told d n s k o came)
+  pub combinations_ranked : (n i s k : ℕ) (o : Option Switch) (came : Ports (Option Request)) → switch_number d s k ≡ i → HaveRank (event_rank d) (640 + i) (combinations_told d n s k o came)
   combinations_ranked n i s k None came at = tt
   combinations_ranked n i s k (Some w) came at =
       let even : 2 * k / 2 ≡ k = omega arith in
@@ -103,7 +103,7 @@ fault_ranked p step.Stalled = tt
 fault_ranked p step.Halted = tt
 fault_ranked p (step.Fault f) = (omega arith, tt)
 
-stop_ranked : (program : List Instr) (p : ℕ) (o : Option ProcessingElement) → HaveRank stop_rank (0 + p) (stop_told program p o)
+pub stop_ranked : (program : List Instr) (p : ℕ) (o : Option ProcessingElement) → HaveRank stop_rank (0 + p) (stop_told program p o)
 stop_ranked program p None = tt
 stop_ranked program p (Some e) = fault_ranked p (step_at program e).was
 
@@ -140,7 +140,7 @@ module _ (d : ℕ) (partition : List ℕ) (bs : List BlockState) (blocks : AreBl
   element_at_home p = element_at (block_at bs (home partition (element_number d p))).elements p
 
   module _ (there : AreRepliesThere d partition bs) (names : (p : ℕ) → p < 2 ^ d → ForSome (course.reply_to d f p) (λ (r : ReplyMessage). r.pe ≡ p)) where
-    came_ranked : (k p : ℕ) → k < length bs → p < 2 ^ d → HaveRank (event_rank d) (switch_count d + 2 ^ d + p) (delivery_at d (block_at bs k) p)
+    pub came_ranked : (k p : ℕ) → k < length bs → p < 2 ^ d → HaveRank (event_rank d) (switch_count d + 2 ^ d + p) (delivery_at d (block_at bs k) p)
     came_ranked k p h small = elim (cases_eq k (home partition (element_number d p))) [
       | inl at ↦
           subst (λ j. HaveRank (event_rank d) (switch_count d + 2 ^ d + p) (delivery_at d (block_at bs j) p)) (sym at)
@@ -225,7 +225,7 @@ module _ (d : ℕ) (partition : List ℕ) (bs : List BlockState) (blocks : AreBl
 
   module _ (program : List Instr) where
     module _ (sites : (p : ℕ) → p < 2 ^ d → (f.element p).processor.site.pe ≡ p) where
-      sent_from : (k p : ℕ) → k < length bs → p < 2 ^ d → HaveRank (event_rank d) (960 + (switch_count d + 2 ^ d) + p) (issue_at d program (block_at bs k) p)
+      pub sent_from : (k p : ℕ) → k < length bs → p < 2 ^ d → HaveRank (event_rank d) (960 + (switch_count d + 2 ^ d) + p) (issue_at d program (block_at bs k) p)
       sent_from k p h small = elim (cases_eq k (home partition (element_number d p))) [
         | inl at ↦
             subst (λ j. HaveRank (event_rank d) (960 + (switch_count d + 2 ^ d) + p) (issue_at d program (block_at bs j) p)) (sym at) (issue_ranked d program p (element_at_home p) (sites p small))

@@ -1,9 +1,13 @@
 -- what the blocks of a machine tell in a cycle, merged, is what the definition tells
-use Rattle.std.specs.Prelude.{◌≡◌, ℕ, ◌^◌, ◌<◌, List, ◌++◌, length}
+use Rattle.std.specs.Prelude.{◌≡◌, ℕ, ◌^◌, ◌<◌, ◌≤◌, List, [], ◌++◌, length}
 use Rattle.std.specs.Option.{ForSome}
 use Rattle.ultra_msg.specs.declared.ReplyMessage.{ReplyMessage}
 use Rattle.ultra_isa.specs.declared.Instr.{Instr}
+use Rattle.ultra_section.specs.declared.half.Half.TheVariants.{SendReplies, TakeReplies, Serve, SendRequests, TakeRequests, Execute}
+use Rattle.ultra_section.specs.declared.rooms.Rooms.{Rooms}
 use Rattle.ultra_section.specs.BlockState.{BlockState}
+use Rattle.ultra_section.specs.Shape.{IsShaped}
+use Rattle.ultra_section.specs.Making.{made}
 use Rattle.ultra_course.specs.Frame.{Frame}
 use Rattle.ultra_course.specs.Course.{reply_to, deliveries, servings, combinations, issues, stops}
 use Rattle.ultra_cut.specs.Cut.{block_at, frame_of}
@@ -11,6 +15,32 @@ use Rattle.ultra_cut.specs.Exchange.{AreRepliesThere, AreRequestsThere}
 use Rattle.ultra_cut.specs.Halves.{AreBlocks}
 use Rattle.ultra_cut.specs.BlocksState.{events_of, stops_of}
 use Rattle.ultra_happenings.specs.Told.{told_by_replies, told_by_service, told_by_requests, told_by_steps, stops_by_steps}
+
+-- what a block of a machine of d stages tells in each half stands behind what it has told; a cycle
+-- begins with nothing told
+module _ (d : ℕ) (rooms : Rooms) (program : List Instr) (b : BlockState) where
+  pub record AddsEvents : Type 0 where
+    pub sending_replies : (made SendReplies rooms program b).events ≡ []
+    pub taking_replies : (made TakeReplies rooms program b).events ≡ b.events ++ told_by_replies d b
+    pub serving : (made Serve rooms program b).events ≡ b.events ++ told_by_service d b
+    pub sending_requests : (made SendRequests rooms program b).events ≡ b.events
+    pub taking_requests :
+        (made TakeRequests rooms program b).events ≡ b.events ++ told_by_requests d b.done b
+    pub executing : (made Execute rooms program b).events ≡ b.events ++ told_by_steps d program b
+
+  -- the same of stops
+  pub record AddsStops : Type 0 where
+    pub sending_replies : (made SendReplies rooms program b).stops ≡ []
+    pub taking_replies : (made TakeReplies rooms program b).stops ≡ b.stops
+    pub serving : (made Serve rooms program b).stops ≡ b.stops
+    pub sending_requests : (made SendRequests rooms program b).stops ≡ b.stops
+    pub taking_requests : (made TakeRequests rooms program b).stops ≡ b.stops
+    pub executing : (made Execute rooms program b).stops ≡ b.stops ++ stops_by_steps d program b
+
+abbrev pub TellingLaw : Type 0
+TellingLaw =
+    (d : ℕ) (rooms : Rooms) (program : List Instr) (b : BlockState)
+    → 1 ≤ d → d ≤ 6 → IsShaped d b → AddsEvents d rooms program b × AddsStops d rooms program b
 
 -- the blocks of a machine in a cycle: before each half in which they tell something, and after all
 pub record Course : Type 0 where
