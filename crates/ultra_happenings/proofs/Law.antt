@@ -66,7 +66,9 @@ module _ (d n : ℕ) (partition : List ℕ) (program : List Instr) (x : Course) 
   block_tells : (k : ℕ) → k < count
       → (at_end k).events ≡ all_by (event_rank d) count of_replies k ++ (all_by (event_rank d) count of_service k ++ (all_by (event_rank d) count of_requests k ++ all_by (event_rank d) count of_steps k))
   unfolding told_by_replies told_by_service told_by_requests told_by_steps
-  block_tells k h = (told.tells k h).events ∙ grouped _ _ _ _
+  block_tells k h =
+      (told.tells k h).events
+      ∙ grouped (told_by_replies d (block_at x.replies_sent k)) (told_by_service d (block_at x.replies_taken k)) (told_by_requests d n (block_at x.requests_sent k)) (told_by_steps d program (block_at x.requests_taken k))
 
   all_events : events_of d x.steps_made
       ≡ deliveries d (frame_of d partition x.replies_sent) ++ servings d (frame_of d partition x.replies_taken) ++ combinations d n (frame_of d partition x.requests_sent) ++ issues d program (frame_of d partition x.requests_taken)
@@ -79,7 +81,7 @@ module _ (d n : ℕ) (partition : List ℕ) (program : List Instr) (x : Course) 
       (part.servings_home d partition x.replies_taken told.replies_taken.0 count told.replies_taken.1 few)
       (part.combinations_home d partition x.requests_sent told.requests_sent.0 count told.requests_sent.1 few n told.requests_there)
       (part.issues_home d partition x.requests_taken told.requests_taken.0 count told.requests_taken.1 few program told.sites)
-      ∙ sym (grouped _ _ _ _)
+      ∙ sym (grouped (deliveries d (frame_of d partition x.replies_sent)) (servings d (frame_of d partition x.replies_taken)) (combinations d n (frame_of d partition x.requests_sent)) (issues d program (frame_of d partition x.requests_taken)))
 
   -- ---- stops
   abbrev of_stops : Part part.stop_rank count 0 64
