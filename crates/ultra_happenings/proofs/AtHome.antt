@@ -1,10 +1,7 @@
 -- A unit stands at home and nowhere else, and what leads to it is there.
-use Rattle.std.proofs.Common.{◌≡◌, ◌≢◌, ℕ, zero, suc, ◌+◌, ◌-◌, ◌*◌, ◌^◌, ◌<◌, Bool, true, false, List, [], ◌∷◌, map, Option, Some, None, is_some, length, get_or, refl, sym, ◌∙◌, ap, subst, inl, inr, arith, lt-ltb, le-ltb}
+use Rattle.std.proofs.Common.{◌≡◌, ◌≢◌, ℕ, zero, suc, ◌+◌, ◌-◌, ◌^◌, ◌<◌, true, false, List, [], ◌∷◌, map, Option, Some, None, is_some, length, get_or, refl, sym, ◌∙◌, ap, subst, arith, lt-ltb, le-ltb}
 use Rattle.std.specs.Prelude.{◌==◌}
-use Rattle.std.proofs.lemmas.Bool.{cases_eq}
-use Rattle.std.proofs.lemmas.Bool.Decides.{nat_tests}
 use Rattle.std.proofs.lemmas.List.{get_or-map, length-map}
-use Rattle.ultra_mem.specs.Serve.{empty_bank}
 use Rattle.ultra_units.specs.Numbers.{switch_count, unit_count, module_number, element_number}
 use Rattle.ultra_switch.specs.declared.Ports.{Ports}
 use Rattle.ultra_halves.specs.Halves.{ports}
@@ -12,17 +9,12 @@ use Rattle.ultra_section.specs.Units.{stage_of, index_of}
 use Rattle.ultra_section.specs.BlockState.{BlockState, switch_at, module_at, element_at}
 use Rattle.ultra_section.specs.Marks.{on_link, on_both, delivery_link, request_links}
 use Rattle.ultra_section.specs.Away.{stands, reply_inlets, request_inlets, AreEmpty}
-use Rattle.ultra_cut.specs.Cut.{IsCut, block_at, first, home, no_block, replies_on, requests_on}
+use Rattle.ultra_cut.specs.Cut.{block_at, first, home, no_block, replies_on, requests_on}
 use Rattle.ultra_cut.specs.Exchange.{AreRepliesThere, AreRequestsThere}
 use Rattle.ultra_cut.specs.Halves.{AreBlocks}
+use Rattle.ultra_happenings.proofs.Ranked.{same_number, other_number}
 
-same_number : (a b : ℕ) → a ≡ b → (a == b) ≡ true
-same_number a b h = grind (arith, nat_tests)
-
-other_number : (a b : ℕ) → a ≢ b → (a == b) ≡ false
-other_number a b h = grind (arith, nat_tests)
-
-pub gone : {X : Type 0} (o : Option X) → is_some o ≡ false → o ≡ None
+gone : {X : Type 0} (o : Option X) → is_some o ≡ false → o ≡ None
 gone None h = refl
 gone (Some x) h = cc
 

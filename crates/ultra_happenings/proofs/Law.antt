@@ -1,15 +1,11 @@
 -- What the blocks of a machine tell in a cycle, merged, is what the definition tells.
-use Rattle.std.proofs.Common.{◌≡◌, ℕ, ◌+◌, ◌^◌, ◌<◌, ◌≤◌, List, ◌++◌, map, length, refl, sym, ◌∙◌, ap, append_assoc, arith}
-use Rattle.std.specs.Prelude.{◌==◌}
-use Rattle.std.specs.List.{filter}
-use Rattle.ultra_msg.specs.declared.Event.{Event}
+use Rattle.std.proofs.Common.{◌≡◌, ℕ, ◌+◌, ◌^◌, ◌<◌, ◌≤◌, List, ◌++◌, map, length, sym, ◌∙◌, ap, append_assoc, arith}
 use Rattle.ultra_route.proofs.Table.{sizes}
 use Rattle.ultra_isa.specs.declared.Instr.{Instr}
 use Rattle.ultra_model.specs.declared.Stop.{Stop}
 use Rattle.ultra_model.specs.Places.{places, joined}
 use Rattle.ultra_units.specs.Numbers.{unit_count}
 use Rattle.ultra_section.specs.BlockState.{BlockState}
-use Rattle.ultra_course.specs.Frame.{Frame}
 use Rattle.ultra_course.specs.Course.{deliveries, servings, combinations, issues, stops}
 use Rattle.ultra_cut.specs.Cut.{block_at, frame_of, no_block}
 use Rattle.ultra_cut.specs.BlocksState.{event_rank, events_of, stops_of}
@@ -18,7 +14,7 @@ use Rattle.ultra_happenings.specs.Told.{told_by_replies, told_by_service, told_b
 use Rattle.ultra_happenings.specs.Law.{Course, IsTold, TellAll, HappeningsLaw}
 use Rattle.ultra_happenings.proofs.Joined.{joined_same, map_places}
 use Rattle.ultra_happenings.proofs.Ranked.{of_rank}
-use Rattle.ultra_happenings.proofs.Merged.{Part, all_by, all_home, merged_part, merged_four, all_same}
+use Rattle.ultra_happenings.proofs.Merged.{Part, all_by, merged_part, merged_four, all_same}
 use Rattle.ultra_happenings.proofs.Parts as part
 
 -- what has a rank in the lists of all blocks, block by block

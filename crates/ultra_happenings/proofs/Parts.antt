@@ -1,5 +1,5 @@
 -- What blocks tell in each half, as a part of what they tell in a cycle: its ranks, and what the homes tell.
-use Rattle.std.proofs.Common.{◌≡◌, ◌≢◌, ℕ, zero, suc, ◌+◌, ◌*◌, ◌/◌, ◌^◌, ◌<◌, ◌≤◌, true, List, [], ◌∷◌, ◌++◌, Option, Some, None, is_some, length, refl, sym, ◌∙◌, ap, subst, inl, inr, arith}
+use Rattle.std.proofs.Common.{◌≡◌, ℕ, ◌+◌, ◌*◌, ◌/◌, ◌^◌, ◌<◌, ◌≤◌, true, List, [], ◌∷◌, Option, Some, None, is_some, length, refl, sym, ◌∙◌, ap, subst, inl, inr, arith}
 use Rattle.std.specs.Option.{ForSome}
 use Rattle.std.proofs.lemmas.Bool.{cases_eq}
 use Rattle.ultra_msg.specs.declared.Request.{Request}
@@ -17,7 +17,7 @@ use Rattle.ultra_isa.specs.declared.Step.TheVariants as step
 use Rattle.ultra_isa.specs.Instruction.{Site}
 use Rattle.ultra_isa.proofs.Steps.{SendsInto, step_is}
 use Rattle.ultra_model.specs.declared.Stop.{Stop}
-use Rattle.ultra_model.specs.Places.{places, present, joined}
+use Rattle.ultra_model.specs.Places.{present}
 use Rattle.ultra_model.specs.Machine.{Element}
 use Rattle.ultra_model.specs.Phases.{delivery, serving, combination, combinations, issue_event, stop_of}
 use Rattle.ultra_model.proofs.Each.{each-append}
@@ -32,13 +32,13 @@ use Rattle.ultra_section.specs.BlockState.{BlockState, switch_at, module_at, ele
 use Rattle.ultra_section.proofs.Standing.{is_switch}
 use Rattle.ultra_course.specs.Frame.{Frame}
 use Rattle.ultra_course.specs.Course as course
-use Rattle.ultra_cut.specs.Cut.{block_at, first, frame_of, given, home, no_element, no_switch, replies_on}
+use Rattle.ultra_cut.specs.Cut.{block_at, frame_of, given, home, no_element, no_switch}
 use Rattle.ultra_cut.specs.Exchange.{AreRepliesThere, AreRequestsThere}
 use Rattle.ultra_cut.specs.Halves.{AreBlocks}
 use Rattle.ultra_cut.specs.BlocksState.{event_rank}
 use Rattle.ultra_happenings.specs.Told.{delivery_told, serving_told, combinations_told, issue_told, stop_told, delivery_at, serving_at, combinations_at, issue_at, stop_at}
 use Rattle.ultra_happenings.proofs.Joined.{joined_same, joined_present}
-use Rattle.ultra_happenings.proofs.Ranked.{HaveRank, IsPart}
+use Rattle.ultra_happenings.proofs.Ranked.{HaveRank}
 use Rattle.ultra_happenings.proofs.Merged.{Part, all_home}
 use Rattle.ultra_happenings.proofs.AtHome.{element_home, element_elsewhere, reply_home, module_home, module_elsewhere, switch_home, switch_elsewhere, requests_home}
 

@@ -1,5 +1,5 @@
 -- What is told by several, merged by rank.
-use Rattle.std.proofs.Common.{◌≡◌, ◌≢◌, ℕ, zero, suc, ◌+◌, ◌<◌, List, [], ◌∷◌, ◌++◌, Bool, true, false, refl, sym, ◌∙◌, ap, subst, inl, inr, arith, append-nil}
+use Rattle.std.proofs.Common.{◌≡◌, ◌≢◌, ℕ, zero, suc, ◌+◌, ◌<◌, List, [], ◌∷◌, ◌++◌, true, false, refl, sym, ◌∙◌, ap, subst, inl, inr, arith, append-nil}
 use Rattle.std.specs.Prelude.{◌==◌}
 use Rattle.std.specs.List.{filter, AllByRecursion}
 use Rattle.std.proofs.lemmas.Bool.{cases_eq}
@@ -8,10 +8,10 @@ use Rattle.std.proofs.lemmas.List.Elements.{filter-append}
 use Rattle.ultra_model.specs.Places.{places, joined}
 use Rattle.ultra_happenings.proofs.Joined.{joined_none, joined_next, joined_same, joined_nothing, joined_only, joined_window}
 
-same_number : (a b : ℕ) → a ≡ b → (a == b) ≡ true
+pub same_number : (a b : ℕ) → a ≡ b → (a == b) ≡ true
 same_number a b h = grind (arith, nat_tests)
 
-other_number : (a b : ℕ) → a ≢ b → (a == b) ≡ false
+pub other_number : (a b : ℕ) → a ≢ b → (a == b) ≡ false
 other_number a b h = grind (arith, nat_tests)
 
 module _ {X : Type 0} (rank : X → ℕ) where

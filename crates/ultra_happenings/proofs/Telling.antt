@@ -1,5 +1,5 @@
 -- What a block tells in each half: unit by unit, and so kind by kind.
-use Rattle.std.proofs.Common.{◌≡◌, ℕ, zero, suc, ◌+◌, ◌-◌, ◌^◌, ◌<◌, ◌≤◌, List, [], ◌∷◌, ◌++◌, Option, Some, None, refl, sym, ◌∙◌, ap, inl, inr, arith, le-ltb}
+use Rattle.std.proofs.Common.{◌≡◌, ℕ, zero, suc, ◌+◌, ◌-◌, ◌^◌, ◌<◌, ◌≤◌, List, [], ◌++◌, Option, Some, None, refl, sym, ◌∙◌, ap, inl, inr, arith, le-ltb}
 use Rattle.std.proofs.lemmas.Bool.{cases_lt}
 use Rattle.ultra_msg.specs.declared.Request.{Request}
 use Rattle.ultra_msg.specs.declared.ReplyMessage.{ReplyMessage}
@@ -8,18 +8,15 @@ use Rattle.ultra_switch.specs.declared.Ports.{Ports}
 use Rattle.ultra_switch.specs.declared.Switch.{Switch}
 use Rattle.ultra_mem.specs.Serve.{Bank}
 use Rattle.ultra_isa.specs.declared.Instr.{Instr}
-use Rattle.ultra_model.specs.declared.Stop.{Stop}
 use Rattle.ultra_model.specs.Places.{places, joined}
 use Rattle.ultra_units.specs.Numbers.{switch_count, unit_count, module_number, element_number}
 use Rattle.ultra_halves.specs.declared.elements.ProcessingElement.{ProcessingElement}
-use Rattle.ultra_section.specs.declared.half.Half.TheVariants.{SendReplies, TakeReplies, Serve, SendRequests, TakeRequests, Execute}
 use Rattle.ultra_section.specs.declared.rooms.Rooms.{Rooms}
 use Rattle.ultra_section.specs.Units.{unit_of, stage_of, index_of}
 use Rattle.ultra_section.specs.Marks.{on_link, on_both, delivery_link, request_links}
 use Rattle.ultra_section.specs.BlockState.{BlockState, switch_at, module_at, element_at}
 use Rattle.ultra_section.specs.Shape.{IsShaped}
 use Rattle.ultra_section.specs.RepliesSent.{begun}
-use Rattle.ultra_section.specs.Making.{made}
 use Rattle.ultra_section.proofs.Standing.{unit_of_switch, unit_of_module, unit_of_element}
 use Rattle.ultra_section.proofs.Once.{told_before}
 use Rattle.ultra_section.proofs.RepliesSentOnce as replies_sent
