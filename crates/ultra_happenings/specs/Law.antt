@@ -75,8 +75,8 @@ module _ (d n : ℕ) (partition : List ℕ) (program : List Instr) (x : Course) 
     pub stops :
         (block_at x.steps_made k).stops ≡ stops_by_steps d program (block_at x.requests_taken k)
 
-  -- before each half there are the blocks of the machine, and each message is with the unit to which
-  -- it leads; at the end each block has told what it tells
+  -- before each half there are the blocks of the machine; each message is with the unit to which it
+  -- leads, where messages are taken; at the end each block has told what it tells
   pub record IsTold : Type 0 where
     pub replies_sent : AreAllBlocks x.replies_sent
     pub replies_taken : AreAllBlocks x.replies_taken

@@ -4,7 +4,8 @@
 ghost use Rattle.ultra_happenings.specs.Law.{HappeningsLaw, TellingLaw};
 
 /// The law of what happens in a cycle, as this function's contract: what the blocks tell, merged by
-/// rank, is what the definition tells of the frames that they hold. The function itself does nothing.
+/// rank, is what the definition tells of the frames that they hold. The function itself does
+/// nothing.
 pub fn happenings_law()
     ensures merged { HappeningsLaw }
 {}
