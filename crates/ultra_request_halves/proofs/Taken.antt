@@ -52,7 +52,7 @@ module _ (d c : ℕ) (low : 1 ≤ d) (high : d ≤ 6) (rooms : BlockRooms) (prog
   taken = made TakeRequests rooms program b
 
   kept : {X : Type 0} (get : BlockState → X) → ((n s k : ℕ) (t : BlockState) (w : Switch) → get (requests_taken_by n s k t w) ≡ get t)
-      → ((m : ℕ) (t : BlockState) (x : Bank) → get (request_taken_by m t e) ≡ get t) → get taken ≡ get b
+      → ((m : ℕ) (t : BlockState) (x : Bank) → get (request_taken_by m t x) ≡ get t) → get taken ≡ get b
   kept get switches modules = kept_by_taking d low high get switches modules b shape
 
   taken_elements : taken.elements ≡ b.elements

@@ -1,5 +1,5 @@
 -- What goes on by the rooms that blocks have noted goes on by those of the machine.
-use Rattle.std.proofs.Common.{◌≡◌, ℕ, zero, suc, ◌+◌, ◌-◌, ◌*◌, ◌/◌, ◌%◌, ◌^◌, List, Bool, true, false, Option, Some, None, refl, ◌∙◌, ap}
+use Rattle.std.proofs.Common.{◌≡◌, ℕ, zero, suc, ◌+◌, ◌-◌, ◌*◌, ◌/◌, ◌%◌, ◌^◌, List, Bool, true, false, Option, Some, None, refl, ◌∙◌, ap, arith}
 use Rattle.std.specs.Prelude.{◌==◌, not, slice_get}
 use Rattle.ultra_msg.specs.declared.Request.{Request}
 use Rattle.ultra_route.specs.Route.{shuffled, bit_of}
@@ -15,14 +15,16 @@ use Rattle.ultra_section.specs.RequestsSent.{has_request_way, has_room_at, has_w
 use Rattle.ultra_course.specs.Ports.{at_port}
 use Rattle.ultra_course.specs.Frame.{Rooms}
 use Rattle.ultra_course.specs.Course.{finds_room, goes_from_element, pending_head, request_goes, requests_go}
-use Rattle.ultra_course.proofs.Numbers.{pick_true}
+use Rattle.ultra_course.proofs.Numbers.{pick_false, pick_true}
 use Rattle.ultra_cut.specs.Halves.{noted}
+use Rattle.ultra_cut.proofs.Numbers.{not_equal}
 
 -- the queue of switch n at port j
 at_queue : (closed : Ports (List ℕ)) (n j : ℕ)
     → elim (j == 0) [ true ↦ not (has_unit closed.zero n) | false ↦ not (has_unit closed.one n) ] ≡ not (has_unit (at_port closed j) n)
 at_queue closed n zero = refl
-at_queue closed n (suc j) = refl
+at_queue closed n (suc j) =
+    pick_false (suc j == 0) (not (has_unit closed.zero n)) (not (has_unit closed.one n)) (not_equal (suc j) 0 (λ e. absurd (omega (arith, e))))
 
 module _ (d : ℕ) (rooms : BlockRooms) where
   abbrev closed : Ports (List ℕ)
@@ -36,8 +38,8 @@ module _ (d : ℕ) (rooms : BlockRooms) where
 
   -- from position x of stage s: to module x, if the stage is the last
   by_stage : (s x : ℕ) (r : Request) (last : Bool) → (s == d - 1) ≡ last
-      → elim last [ true ↦ not (has_unit closed.zero (request_target d s x)) | false ↦ has_room_at closed d (s + 1) (request_target d s x) r ]
-      ≡ elim last [ true ↦ whole.bank x | false ↦ finds_room d whole (s + 1) (request_target d s x) r ]
+      → ◌≡◌ {A = Bool} (elim last [ true ↦ not (has_unit closed.zero (request_target d s x)) | false ↦ has_room_at closed d (s + 1) (request_target d s x) r ])
+      (elim last [ true ↦ whole.bank x | false ↦ finds_room d whole (s + 1) (request_target d s x) r ])
   by_stage s x r true is =
       ap (λ n. not (has_unit closed.zero n)) (pick_true (s == d - 1) (module_number d x) (switch_number d (s + 1) (shuffled d x / 2)) is)
   by_stage s x r false is = same_room (s + 1) (request_target d s x) r

@@ -1,5 +1,5 @@
-//! The two halves of a cycle in which requests move, made by all blocks of a machine: what they do to
-//! the whole machine.
+//! The halves of a cycle in which requests move, made by all blocks of a machine: what they do to
+//! the whole of it.
 #![tactic(auto)]
 
 ghost use Rattle.ultra_request_halves.specs.Law.{CanTakeRequestsLaw, RequestsSentLaw, RequestsTakenLaw};
@@ -16,8 +16,8 @@ pub fn requests_taken_law()
     ensures made { RequestsTakenLaw }
 {}
 
-/// The law of what that half asks: what the units of the whole machine ask is enough, and memory for
-/// the events.
+/// The law of what that half asks: it is enough that the whole machine may make it, and that each
+/// block has memory for the events.
 pub fn can_take_requests_law()
     ensures enough { CanTakeRequestsLaw }
 {}
