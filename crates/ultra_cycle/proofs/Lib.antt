@@ -1,0 +1,4 @@
+pub mod Links
+pub mod Chain
+pub mod Replied
+pub mod Requested
