@@ -7,7 +7,7 @@ use Rattle.ultra_unit_halves.proofs.rooms.note_rooms.Goals as goal
 
 pub loop-block-init : goal.loop-block-init
 loop-block-init c = λ d partition are.
-    none_noted d partition c.args.blocks.now c.all_open.result c.all_open.ensures.replies c.all_open.ensures.zero c.all_open.ensures.one
+    none_noted d partition c.args.blocks.now c.all_open-rooms.result c.all_open-rooms.ensures.replies c.all_open-rooms.ensures.zero c.all_open-rooms.ensures.one
 
 pub loop-block-preserved : goal.loop-block-preserved
 loop-block-preserved c = λ d partition are.
