@@ -1,4 +1,3 @@
 pub mod Links
 pub mod Chain
 pub mod Replied
-pub mod Requested
