@@ -59,7 +59,7 @@ module _ (c : Settings) (partition : List ℕ) (n : ℕ) (events : List Event) (
     there_blocks = record {
       some_stages = start.blocks.some_stages;
       few_stages = start.blocks.few_stages;
-      cut = still_cut d partition sent there only are_sent.frame.blocks.blocks.cut;
+      cut = still_cut d start.blocks.some_stages start.blocks.few_stages partition sent there only are_sent.frame.blocks.blocks.cut;
       shaped = shaped;
     }
 
