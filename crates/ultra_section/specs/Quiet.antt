@@ -15,4 +15,5 @@ or_elsewhere p (Some x) = p x
 abbrev pub quiet_block : BlockState → Bool
 quiet_block b =
     list_all (or_elsewhere quiet_switch) b.switches
-    && (list_all (or_elsewhere quiet_bank) b.modules && list_all (or_elsewhere quiet_element) b.elements)
+    && (list_all (or_elsewhere quiet_bank) b.modules
+    && list_all (or_elsewhere quiet_element) b.elements)
