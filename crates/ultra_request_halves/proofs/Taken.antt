@@ -53,7 +53,7 @@ module _ (d c : ℕ) (low : 1 ≤ d) (high : d ≤ 6) (rooms : BlockRooms) (prog
 
   kept : {X : Type 0} (get : BlockState → X) → ((n s k : ℕ) (t : BlockState) (w : Switch) → get (requests_taken_by n s k t w) ≡ get t)
       → ((m : ℕ) (t : BlockState) (x : Bank) → get (request_taken_by m t x) ≡ get t) → get taken ≡ get b
-  kept get switches modules = kept_by_taking d low high get switches modules b shape
+  kept get switches modules = kept_by_taking d c low high get switches modules b start
 
   taken_elements : taken.elements ≡ b.elements
   taken_elements = kept (λ t. t.elements) (λ n s k t w. refl) (λ m t x. refl)

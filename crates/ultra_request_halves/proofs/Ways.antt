@@ -1,6 +1,6 @@
 -- What goes on by the rooms that blocks have noted goes on by those of the machine.
 use Rattle.std.proofs.Common.{◌≡◌, ℕ, zero, suc, ◌+◌, ◌-◌, ◌*◌, ◌/◌, ◌%◌, ◌^◌, List, Bool, true, false, Option, Some, None, refl, ◌∙◌, ap, arith}
-use Rattle.std.specs.Prelude.{◌==◌, not, slice_get}
+use Rattle.std.specs.Prelude.{◌==◌, not}
 use Rattle.ultra_msg.specs.declared.Request.{Request}
 use Rattle.ultra_route.specs.Route.{shuffled, bit_of}
 use Rattle.ultra_switch.specs.declared.Switch.{Switch}
