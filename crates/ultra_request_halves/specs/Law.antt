@@ -21,7 +21,8 @@ module _ (d : ℕ) (partition : List ℕ) where
   -- requests have left the switches and processing elements
   pub record AreRequestsSent (rooms : BlockRooms) (old now : List BlockState) : Type 0 where
     pub frame :
-        HaveFrame d partition 0 old now (sends_requests d (noted d rooms) (frame_of d partition old))
+        HaveFrame d partition 0 old now
+        (sends_requests d (noted d rooms) (frame_of d partition old))
     pub single : AreSingleRequests now
     pub events : AreSameEvents old now
     pub stops : AreSameStops old now
@@ -40,7 +41,8 @@ RequestsSentLaw =
 
 abbrev pub RequestsTakenLaw : Type 0
 RequestsTakenLaw =
-    (d : ℕ) (partition : List ℕ) (n : ℕ) (bs : List BlockState) (rooms : BlockRooms) (program : List Instr)
+    (d : ℕ) (partition : List ℕ) (n : ℕ) (bs : List BlockState)
+    (rooms : BlockRooms) (program : List Instr)
     → AreBlocks d partition bs → AreRequestsThere d partition bs → AreSingleRequests bs
     → OfEach (λ b. b.done ≡ n) bs
     → AreRequestsTaken d partition n bs (all_made TakeRequests rooms program bs)
