@@ -1,3 +1,4 @@
 pub mod Links
 pub mod Chain
+pub mod Home
 pub mod Replied

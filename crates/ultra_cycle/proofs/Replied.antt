@@ -10,7 +10,7 @@ use Rattle.ultra_section.specs.declared.rooms.Rooms.{Rooms as BlockRooms}
 use Rattle.ultra_section.specs.BlockState.{BlockState}
 use Rattle.ultra_section.specs.Shape.{IsShaped}
 use Rattle.ultra_course.specs.Frame.{Frame, AreRooms, AreAlike, IsClear}
-use Rattle.ultra_course.specs.Course.{deliveries, sends_replies, serves, servings, takes_replies}
+use Rattle.ultra_course.specs.Course.{deliveries, reply_to, sends_replies, serves, servings, takes_replies}
 use Rattle.ultra_course.specs.Conditions.{CanTakeReplies}
 use Rattle.ultra_course.proofs.Steps as step
 use Rattle.ultra_cut.specs.Cut.{block_at, frame_of}
@@ -24,7 +24,10 @@ use Rattle.ultra_reply_halves.proofs.Taken.{replies_taken}
 use Rattle.ultra_reply_halves.proofs.CanTake as taking
 use Rattle.ultra_unit_halves.specs.Law.{HaveServed}
 use Rattle.ultra_unit_halves.proofs.Served.{serve_law, can_serve_law}
+use Rattle.std.specs.Option.{ForSome}
+use Rattle.ultra_msg.specs.declared.ReplyMessage.{ReplyMessage}
 use Rattle.ultra_cycle.specs.Moments.{AreMachine}
+use Rattle.ultra_cycle.proofs.Home.{replies_home}
 use Rattle.ultra_cycle.proofs.Links.{single_requests}
 use Rattle.ultra_cycle.proofs.Chain.{alike_by, done_after, half_room, more_events, same_value}
 
@@ -78,6 +81,9 @@ module _ (c : Settings) (partition : List ℕ) (n : ℕ) (events : List Event) (
 
     can_take : CanTakeReplies d (f there)
     can_take = step.can_take_replies c n (f bs) events stops m start.machine (noted d rooms) room (f there) there_alike
+
+    pub there_home : (p : ℕ) → p < 2 ^ d → ForSome (reply_to d (f there) p) (λ (r : ReplyMessage). r.pe ≡ p)
+    there_home = replies_home c n (f bs) events stops m start.machine (noted d rooms) room (f there) there_alike
 
     pub all_can_take : AllCanMake TakeReplies there
     all_can_take = taking.can_take_replies d partition there there_blocks home only.single can_take (half_room 0 (omega arith) there there_silent)
