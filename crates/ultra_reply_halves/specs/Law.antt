@@ -15,7 +15,7 @@ pub record IsSilent (b : BlockState) : Type 0 where
   pub events : b.events ≡ []
   pub stops : b.stops ≡ []
 
--- no block has told of a stop since
+-- each block tells of the stops of which it told
 abbrev pub AreSameStops : List BlockState → List BlockState → Type 0
 AreSameStops old now = (k : ℕ) → k < length old → (block_at now k).stops ≡ (block_at old k).stops
 

@@ -1,5 +1,5 @@
-//! The two halves of a cycle in which replies move, made by all blocks of a machine: what they do to
-//! the whole machine.
+//! The halves of a cycle in which replies move, made by all blocks of a machine: what they do to the
+//! whole of it.
 #![tactic(auto)]
 
 ghost use Rattle.ultra_reply_halves.specs.Law.{CanTakeRepliesLaw, RepliesSentLaw, RepliesTakenLaw};
@@ -16,8 +16,8 @@ pub fn replies_taken_law()
     ensures made { RepliesTakenLaw }
 {}
 
-/// The law of what that half asks: what the units of the whole machine ask is enough, and memory for
-/// the events.
+/// The law of what that half asks: it is enough that the whole machine may make it, and that each
+/// block has memory for the events.
 pub fn can_take_replies_law()
     ensures enough { CanTakeRepliesLaw }
 {}
