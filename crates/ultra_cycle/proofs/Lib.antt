@@ -2,3 +2,4 @@ pub mod Links
 pub mod Chain
 pub mod Home
 pub mod Replied
+pub mod Requested
