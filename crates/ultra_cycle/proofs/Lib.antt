@@ -3,3 +3,5 @@ pub mod Chain
 pub mod Home
 pub mod Replied
 pub mod Requested
+pub mod Told
+pub mod Cycle

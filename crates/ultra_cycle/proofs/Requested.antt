@@ -65,7 +65,7 @@ module _ (c : Settings) (partition : List ℕ) (n : ℕ) (events : List Event) (
       shaped = shaped;
     }
 
-    there_done : OfEach (λ b. b.done ≡ n) there
+    pub there_done : OfEach (λ b. b.done ≡ n) there
     there_done = same_value sent there only.count (λ b. b.done) n (λ k h. ap (λ (b : BlockState). b.done) (only.rest k))
         (λ k h. done_after d partition 0 n bs sent are_sent.frame.blocks start.done k h ∙ omega arith)
 
