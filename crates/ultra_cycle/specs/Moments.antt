@@ -1,0 +1,16 @@
+-- a machine cut into blocks in the course of a cycle
+use Rattle.std.specs.Prelude.{◌≡◌, ℕ, List}
+use Rattle.ultra_msg.specs.declared.Event.{Event}
+use Rattle.ultra_model.specs.declared.Stop.{Stop}
+use Rattle.ultra_model.specs.Machine.{Settings, Machine}
+use Rattle.ultra_section.specs.BlockState.{BlockState}
+use Rattle.ultra_course.specs.Whole.{IsFrameOf}
+use Rattle.ultra_cut.specs.Cut.{frame_of}
+use Rattle.ultra_cut.specs.Halves.{AreBlocks, OfEach}
+
+-- each block has made n cycles, and together they are the machine m, in which this has happened in
+-- the cycle so far
+pub record AreMachine (c : Settings) (partition : List ℕ) (n : ℕ) (events : List Event) (stops : List Stop) (m : Machine) (bs : List BlockState) : Type 0 where
+  pub blocks : AreBlocks c.stages partition bs
+  pub done : OfEach (λ b. b.done ≡ n) bs
+  pub machine : IsFrameOf c n (frame_of c.stages partition bs) events stops m

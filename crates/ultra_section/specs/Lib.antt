@@ -1,0 +1,16 @@
+pub mod Sets
+pub mod Links
+pub mod Units
+pub mod Marks
+pub mod BlockState
+pub mod RepliesSent
+pub mod Serving
+pub mod RepliesTaken
+pub mod Execution
+pub mod Building
+pub mod Rooms
+pub mod Making
+pub mod Shape
+pub mod RequestsSent
+pub mod RequestsTaken
+pub mod Away

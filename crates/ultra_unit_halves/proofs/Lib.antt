@@ -1,0 +1,5 @@
+pub mod Units
+pub mod Each
+pub mod Served
+pub mod Executed
+pub mod Noted
