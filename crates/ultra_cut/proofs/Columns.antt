@@ -35,6 +35,13 @@ module _ {X : Type 0} where
     | inr other ↦ get_or-set_other (set xs a None) b a None None other ∙ gone xs a
   ]
 
+  -- a table has as many entries as before
+  pub both_put : (xs : List (Option X)) (p : Ports ℕ) (o : Ports (Option X)) → length (put_on_both xs p o) ≡ length xs
+  both_put xs p o = length-put_on (put_on xs p.zero o.zero) p.one o.one ∙ length-put_on xs p.zero o.zero
+
+  pub both_taken : (xs : List (Option X)) (p : Ports ℕ) → length (without_both xs p) ≡ length xs
+  both_taken xs p = length-set (set xs p.zero None) p.one None ∙ length-set xs p.zero None
+
 -- the one entry that there is goes to another place
 module _ {X : Type 0} (xs : List (Option X)) (k h : ℕ) (x : X) (there : get_or xs k None ≡ Some x) (single : IsSingle xs) (within : h < length xs) where
   others : (i : ℕ) → i ≢ k → get_or xs i None ≡ None

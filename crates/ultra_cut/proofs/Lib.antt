@@ -2,5 +2,4 @@ pub mod Columns
 pub mod Numbers
 pub mod RepliesMoved
 pub mod RequestsMoved
-pub mod Lent
 pub mod Alike

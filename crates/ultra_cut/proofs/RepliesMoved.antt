@@ -14,19 +14,20 @@ use Rattle.ultra_section.proofs.Readers.{reply_reader}
 use Rattle.ultra_section.proofs.RepliesAway.{inlets}
 use Rattle.ultra_cut.specs.Cut.{IsCut, block_at, no_block, home, first, replies_on}
 use Rattle.ultra_cut.specs.Exchange.{AreSingleReplies, HasNoReplyFor, IsSingle, OnlyRepliesMove, replies_carried, replies_moved}
-use Rattle.ultra_cut.proofs.Columns.{Shift, carried, gone, gone_first, at_other, shifted_first, shifted_single}
+use Rattle.ultra_cut.proofs.Columns.{Shift, both_put, both_taken, carried, gone, gone_first, at_other, shifted_first, shifted_single}
 use Rattle.ultra_cut.proofs.Numbers.{differs, not_equal}
 
 only_these : (x y : BlockState) (t : List (Option ReplyMessage)) → y ≡ record x { replies = t } → y ≡ record x { replies = y.replies }
 only_these x y t is = is ∙ ap (λ u. record x { replies = u }) (sym (ap (λ (b : BlockState). b.replies) is))
 
 pub nothing_moved : (bs : List BlockState) → AreSingleReplies bs → OnlyRepliesMove bs bs
-nothing_moved bs single = record { count = refl; rest = λ k. refl; links = λ l. refl; single = single }
+nothing_moved bs single = record { count = refl; rest = λ k. refl; lengths = λ k. refl; links = λ l. refl; single = single }
 
 pub both_moved : (a b c : List BlockState) → OnlyRepliesMove a b → OnlyRepliesMove b c → OnlyRepliesMove a c
 both_moved a b c one two = record {
   count = two.count ∙ one.count;
   rest = λ k. two.rest k ∙ ap (λ (x : BlockState). record x { replies = (block_at c k).replies }) (one.rest k);
+  lengths = λ k. two.lengths k ∙ one.lengths k;
   links = λ l. two.links l ∙ one.links l;
   single = two.single;
 }
@@ -67,6 +68,19 @@ module _ (bs : List BlockState) (k h : ℕ) (p : Ports ℕ) (apart : h ≢ k) (k
     ]
   ]
 
+  now_lengths : (j : ℕ) → length (block_at (replies_carried k h p bs) j).replies ≡ length (block_at bs j).replies
+  now_lengths j = elim (cases_eq j h) [
+    | inl at_h ↦
+        subst (λ i. length (block_at (replies_carried k h p bs) i).replies ≡ length (block_at bs i).replies) (sym at_h)
+        (ap (λ (b : BlockState). length b.replies) now_h ∙ both_put (block_at bs h).replies p (taken_by_turns (block_at bs k).replies p))
+    | inr not_h ↦ elim (cases_eq j k) [
+      | inl at_k ↦
+          subst (λ i. length (block_at (replies_carried k h p bs) i).replies ≡ length (block_at bs i).replies) (sym at_k)
+          (ap (λ (b : BlockState). length b.replies) now_k ∙ both_taken (block_at bs k).replies p)
+      | inr not_k ↦ ap (λ (b : BlockState). length b.replies) (now_other j not_k not_h)
+    ]
+  ]
+
   module _ (zero_small : p.zero < length (block_at bs h).replies) (one_small : p.one < length (block_at bs h).replies) (single : AreSingleReplies bs) where
     on_each : (l : ℕ) → (replies_on (replies_carried k h p bs) l ≡ replies_on bs l) ⊎ (Shift k h l p (replies_on bs l) (replies_on (replies_carried k h p bs) l))
     on_each l =
@@ -86,6 +100,7 @@ module _ (bs : List BlockState) (k h : ℕ) (p : Ports ℕ) (apart : h ≢ k) (k
     only_moved = record {
       count = length-set left h got ∙ length-set bs k (replies_handed_over p (block_at bs k));
       rest = now_rest;
+      lengths = now_lengths;
       links = λ l. link_same l (on_each l);
       single = λ l. still_single l (on_each l);
     }

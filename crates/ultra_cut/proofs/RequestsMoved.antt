@@ -14,19 +14,20 @@ use Rattle.ultra_section.proofs.Readers.{request_reader}
 use Rattle.ultra_section.proofs.RequestsAway.{inlets}
 use Rattle.ultra_cut.specs.Cut.{IsCut, block_at, no_block, home, first, requests_on}
 use Rattle.ultra_cut.specs.Exchange.{AreSingleRequests, HasNoRequestFor, IsSingle, OnlyRequestsMove, requests_carried, requests_moved}
-use Rattle.ultra_cut.proofs.Columns.{Shift, carried, gone, gone_first, at_other, shifted_first, shifted_single}
+use Rattle.ultra_cut.proofs.Columns.{Shift, both_put, both_taken, carried, gone, gone_first, at_other, shifted_first, shifted_single}
 use Rattle.ultra_cut.proofs.Numbers.{differs, not_equal}
 
 only_these : (x y : BlockState) (t : List (Option Request)) → y ≡ record x { requests = t } → y ≡ record x { requests = y.requests }
 only_these x y t is = is ∙ ap (λ u. record x { requests = u }) (sym (ap (λ (b : BlockState). b.requests) is))
 
 pub nothing_moved : (bs : List BlockState) → AreSingleRequests bs → OnlyRequestsMove bs bs
-nothing_moved bs single = record { count = refl; rest = λ k. refl; links = λ l. refl; single = single }
+nothing_moved bs single = record { count = refl; rest = λ k. refl; lengths = λ k. refl; links = λ l. refl; single = single }
 
 pub both_moved : (a b c : List BlockState) → OnlyRequestsMove a b → OnlyRequestsMove b c → OnlyRequestsMove a c
 both_moved a b c one two = record {
   count = two.count ∙ one.count;
   rest = λ k. two.rest k ∙ ap (λ (x : BlockState). record x { requests = (block_at c k).requests }) (one.rest k);
+  lengths = λ k. two.lengths k ∙ one.lengths k;
   links = λ l. two.links l ∙ one.links l;
   single = two.single;
 }
@@ -67,6 +68,19 @@ module _ (bs : List BlockState) (k h : ℕ) (p : Ports ℕ) (apart : h ≢ k) (k
     ]
   ]
 
+  now_lengths : (j : ℕ) → length (block_at (requests_carried k h p bs) j).requests ≡ length (block_at bs j).requests
+  now_lengths j = elim (cases_eq j h) [
+    | inl at_h ↦
+        subst (λ i. length (block_at (requests_carried k h p bs) i).requests ≡ length (block_at bs i).requests) (sym at_h)
+        (ap (λ (b : BlockState). length b.requests) now_h ∙ both_put (block_at bs h).requests p (taken_by_turns (block_at bs k).requests p))
+    | inr not_h ↦ elim (cases_eq j k) [
+      | inl at_k ↦
+          subst (λ i. length (block_at (requests_carried k h p bs) i).requests ≡ length (block_at bs i).requests) (sym at_k)
+          (ap (λ (b : BlockState). length b.requests) now_k ∙ both_taken (block_at bs k).requests p)
+      | inr not_k ↦ ap (λ (b : BlockState). length b.requests) (now_other j not_k not_h)
+    ]
+  ]
+
   module _ (zero_small : p.zero < length (block_at bs h).requests) (one_small : p.one < length (block_at bs h).requests) (single : AreSingleRequests bs) where
     on_each : (l : ℕ) → (requests_on (requests_carried k h p bs) l ≡ requests_on bs l) ⊎ (Shift k h l p (requests_on bs l) (requests_on (requests_carried k h p bs) l))
     on_each l =
@@ -86,6 +100,7 @@ module _ (bs : List BlockState) (k h : ℕ) (p : Ports ℕ) (apart : h ≢ k) (k
     only_moved = record {
       count = length-set left h got ∙ length-set bs k (requests_handed_over p (block_at bs k));
       rest = now_rest;
+      lengths = now_lengths;
       links = λ l. link_same l (on_each l);
       single = λ l. still_single l (on_each l);
     }

@@ -45,12 +45,14 @@ AreSingleRequests bs = (l : ℕ) → IsSingle (requests_on bs l)
 pub record OnlyRepliesMove (old now : List BlockState) : Type 0 where
   pub count : length now ≡ length old
   pub rest : (k : ℕ) → block_at now k ≡ record (block_at old k) { replies = (block_at now k).replies }
+  pub lengths : (k : ℕ) → length (block_at now k).replies ≡ length (block_at old k).replies
   pub links : (l : ℕ) → first (replies_on now l) ≡ first (replies_on old l)
   pub single : AreSingleReplies now
 
 pub record OnlyRequestsMove (old now : List BlockState) : Type 0 where
   pub count : length now ≡ length old
   pub rest : (k : ℕ) → block_at now k ≡ record (block_at old k) { requests = (block_at now k).requests }
+  pub lengths : (k : ℕ) → length (block_at now k).requests ≡ length (block_at old k).requests
   pub links : (l : ℕ) → first (requests_on now l) ≡ first (requests_on old l)
   pub single : AreSingleRequests now
 

@@ -83,8 +83,8 @@ fn empty_of_replies(blocks: &mut [Block], partition: &[u8], net: Net, from: usiz
     }
 }
 
-/// All replies go to the blocks in which the units stand to which they lead. Nothing else changes.
-pub(crate) fn exchange_replies(blocks: &mut [Block], partition: &[u8], net: Net)
+/// Each reply goes to the block in which the unit stands to which it leads; nothing else changes. Nothing is looked at where no block has one for a unit of another.
+pub fn exchange_replies(blocks: &mut [Block], partition: &[u8], net: Net)
     requires cut { IsCut net partition.now blocks.old }
     requires single { AreSingleReplies blocks.old }
     ensures only { OnlyRepliesMove blocks.old blocks.new }
@@ -131,8 +131,8 @@ fn empty_of_requests(blocks: &mut [Block], partition: &[u8], net: Net, from: usi
     }
 }
 
-/// All requests go to the blocks in which the units stand to which they lead. Nothing else changes.
-pub(crate) fn exchange_requests(blocks: &mut [Block], partition: &[u8], net: Net)
+/// Each request goes to the block in which the unit stands to which it leads; nothing else changes. Nothing is looked at where no block has one for a unit of another.
+pub fn exchange_requests(blocks: &mut [Block], partition: &[u8], net: Net)
     requires cut { IsCut net partition.now blocks.old }
     requires single { AreSingleRequests blocks.old }
     ensures only { OnlyRequestsMove blocks.old blocks.new }

@@ -1,7 +1,6 @@
-//! The whole machine, cut into blocks by a partition.
+//! A machine cut into blocks by a partition: where its units stand, and what goes from one block to another.
 #![tactic(auto)]
 
-mod blocks;
 mod exchange;
 
-pub use blocks::Blocks;
+pub use exchange::{exchange_replies, exchange_requests};

@@ -15,7 +15,7 @@ use Rattle.ultra_course.specs.Whole.{IsFrameOf}
 use Rattle.ultra_cut.specs.Cut.{block_at, frame_of}
 use Rattle.ultra_cut.specs.Exchange.{AreRepliesThere, AreRequestsThere, OnlyRepliesMove, OnlyRequestsMove}
 use Rattle.ultra_cut.specs.Halves.{OfEach, all_made, noted}
-use Rattle.ultra_cut.specs.BlocksState.{events_of, stops_of}
+use Rattle.ultra_cut.specs.Events.{events_of, stops_of}
 use Rattle.ultra_happenings.specs.Law.{TellAll}
 use Rattle.ultra_cycle.specs.Moments.{AreMachine}
 use Rattle.ultra_cycle.proofs.Home.{sites}

@@ -8,7 +8,7 @@ use Rattle.ultra_units.specs.Numbers.{unit_count}
 use Rattle.ultra_section.specs.BlockState.{BlockState}
 use Rattle.ultra_course.specs.Course.{deliveries, servings, combinations, issues, stops}
 use Rattle.ultra_cut.specs.Cut.{block_at, frame_of, no_block}
-use Rattle.ultra_cut.specs.BlocksState.{event_rank, events_of, stops_of}
+use Rattle.ultra_cut.specs.Events.{event_rank, events_of, stops_of}
 use Rattle.ultra_cut.proofs.Numbers.{few_units}
 use Rattle.ultra_happenings.specs.Told.{told_by_replies, told_by_service, told_by_requests, told_by_steps, stops_by_steps}
 use Rattle.ultra_happenings.specs.Law.{Course, IsTold, TellAll, HappeningsLaw}

@@ -35,7 +35,7 @@ use Rattle.ultra_course.specs.Course as course
 use Rattle.ultra_cut.specs.Cut.{block_at, frame_of, given, home, no_element, no_switch}
 use Rattle.ultra_cut.specs.Exchange.{AreRepliesThere, AreRequestsThere}
 use Rattle.ultra_cut.specs.Halves.{AreBlocks}
-use Rattle.ultra_cut.specs.BlocksState.{event_rank}
+use Rattle.ultra_cut.specs.Events.{event_rank}
 use Rattle.ultra_happenings.specs.Told.{delivery_told, serving_told, combinations_told, issue_told, stop_told, delivery_at, serving_at, combinations_at, issue_at, stop_at}
 use Rattle.ultra_happenings.proofs.Joined.{joined_same, joined_present}
 use Rattle.ultra_happenings.proofs.Ranked.{HaveRank}

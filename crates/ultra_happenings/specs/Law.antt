@@ -13,7 +13,7 @@ use Rattle.ultra_course.specs.Course.{reply_to, deliveries, servings, combinatio
 use Rattle.ultra_cut.specs.Cut.{block_at, frame_of}
 use Rattle.ultra_cut.specs.Exchange.{AreRepliesThere, AreRequestsThere}
 use Rattle.ultra_cut.specs.Halves.{AreBlocks}
-use Rattle.ultra_cut.specs.BlocksState.{events_of, stops_of}
+use Rattle.ultra_cut.specs.Events.{events_of, stops_of}
 use Rattle.ultra_happenings.specs.Told.{told_by_replies, told_by_service, told_by_requests, told_by_steps, stops_by_steps}
 
 -- what a block of a machine of d stages tells in each half stands behind what it has told; a cycle

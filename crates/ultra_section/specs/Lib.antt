@@ -14,3 +14,4 @@ pub mod Shape
 pub mod RequestsSent
 pub mod RequestsTaken
 pub mod Away
+pub mod Quiet

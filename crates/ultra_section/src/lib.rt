@@ -23,6 +23,7 @@ mod half;
 mod lent;
 mod links;
 mod making;
+mod quiet;
 mod replies;
 mod replies_away;
 mod requests;

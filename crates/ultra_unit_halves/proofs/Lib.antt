@@ -3,3 +3,5 @@ pub mod Each
 pub mod Served
 pub mod Executed
 pub mod Noted
+pub mod QuietUnits
+pub mod QuietBlocks

@@ -134,7 +134,7 @@ module _ (d : ℕ) (partition : List ℕ) (bs : List BlockState) where
           ≡ (has_unit old.no_request_room.zero (module_number d m) || if_here (λ (bank : Bank). is_some bank.inp) (module_at (block_at bs i).modules m))
       module_noted m h =
           subst (λ e. m < 2 ^ e → has_unit now.no_request_room.zero (module_number e m)
-              ≡ (has_unit old.no_request_room.zero (module_number e m) || if_here (λ (bank : Bank). is_some bank.inp) (module_at (block_at bs i).modules m)))
+          ≡ (has_unit old.no_request_room.zero (module_number e m) || if_here (λ (bank : Bank). is_some bank.inp) (module_at (block_at bs i).modules m)))
           (cut.stages i within) (notes.modules m) h
 
       pub next_noted : HaveNoted (i + 1) now

@@ -24,7 +24,6 @@ use Rattle.ultra_unit_halves.specs.Law.{CanServeLaw, HaveServed, ServeLaw}
 use Rattle.ultra_unit_halves.proofs.Units.{by_kind}
 use Rattle.ultra_unit_halves.proofs.Each.{HasWorked, have_frame, made_at, same_worked, worked}
 
-
 module _ (d : ℕ) (low : 1 ≤ d) (high : d ≤ 6) (b : BlockState) (shape : IsShaped d b) where
   abbrev now : BlockState
   now = after_units serves 320 b

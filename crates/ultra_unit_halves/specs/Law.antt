@@ -25,9 +25,10 @@ abbrev pub CanServeLaw : Type 0
 CanServeLaw = (bs : List BlockState) → OfEach HasHalfRoom bs → AllCanMake Serve bs
 
 -- ---- processing elements make a step
--- the blocks are the frame in which all have made one, and one cycle more is done
-pub record HaveExecuted (d : ℕ) (partition : List ℕ) (program : List Instr) (bs now : List BlockState) : Type 0 where
-  pub frame : HaveFrame d partition 1 bs now (executes d program (frame_of d partition bs))
+module _ (d : ℕ) (partition : List ℕ) (program : List Instr) where
+  -- the blocks are the frame in which all have made one, and one cycle more is done
+  pub record HaveExecuted (bs now : List BlockState) : Type 0 where
+    pub frame : HaveFrame d partition 1 bs now (executes d program (frame_of d partition bs))
 
 -- what else there is to know of a block before: its cycles can be counted, and no stop is told yet
 abbrev pub CanCount : BlockState → Type 0

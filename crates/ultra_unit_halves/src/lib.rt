@@ -2,11 +2,13 @@
 //! one modules serve, in the other processing elements make a step of the program.
 #![tactic(auto)]
 
+mod quiet;
 mod rooms;
 
-pub use rooms::note_rooms;
-
 ghost use Rattle.ultra_unit_halves.specs.Law.{CanExecuteLaw, CanServeLaw, ExecuteLaw, ServeLaw};
+
+pub use quiet::are_quiet;
+pub use rooms::note_rooms;
 
 /// The laws of the half in which modules serve, as this function's contract. The function itself
 /// does nothing.
