@@ -8,11 +8,13 @@ use Rattle.ultra_switch.specs.declared.Ports.{Ports}
 use Rattle.ultra_units.specs.Numbers.{unit_count}
 use Rattle.ultra_section.specs.Marks.{on_link, without_both}
 use Rattle.ultra_section.specs.BlockState.{BlockState}
+use Rattle.ultra_section.specs.Shape.{IsShaped}
 use Rattle.ultra_section.specs.Away.{AreEmpty, NoReplyLeavesWithin, stands, reply_inlets, replies_handed_over, replies_received, put_on_both, taken_by_turns}
 use Rattle.ultra_section.proofs.Marks.{fewer_both}
 use Rattle.ultra_section.proofs.Readers.{reply_reader}
 use Rattle.ultra_section.proofs.RepliesAway.{inlets}
 use Rattle.ultra_cut.specs.Cut.{IsCut, block_at, no_block, home, first, replies_on}
+use Rattle.ultra_cut.specs.Halves.{AreBlocks, OfEach}
 use Rattle.ultra_cut.specs.Exchange.{AreSingleReplies, HasNoReplyFor, IsSingle, OnlyRepliesMove, replies_carried, replies_moved}
 use Rattle.ultra_cut.proofs.Columns.{Shift, both_put, both_taken, carried, gone, gone_first, at_other, shifted_first, shifted_single}
 use Rattle.ultra_cut.proofs.Numbers.{differs, not_equal}
@@ -185,6 +187,27 @@ module _ (d : ℕ) (low : 1 ≤ d) (high : d ≤ 6) (partition : List ℕ) where
     homes = λ n h. subst (λ x. home partition n < x) (sym only.count) (cut.homes n h);
     stages = λ k h. ap (λ (b : BlockState). b.stages) (only.rest k) ∙ cut.stages k (subst (λ x. k < x) only.count h);
     stand = λ k n h within. ap (λ (b : BlockState). stands n b) (only.rest k) ∙ cut.stand k n (subst (λ x. k < x) only.count h) within;
+  }
+
+  still_shaped : (bs now : List BlockState) → OnlyRepliesMove bs now → OfEach (IsShaped d) bs → OfEach (IsShaped d) now
+  still_shaped bs now only shaped k h =
+      let was = shaped k (subst (λ x. k < x) only.count h) in
+      record {
+        stages = ap (λ (b : BlockState). b.stages) (only.rest k) ∙ was.stages;
+        switches = ap (λ (b : BlockState). length b.switches) (only.rest k) ∙ was.switches;
+        modules = ap (λ (b : BlockState). length b.modules) (only.rest k) ∙ was.modules;
+        elements = ap (λ (b : BlockState). length b.elements) (only.rest k) ∙ was.elements;
+        replies = only.lengths k ∙ was.replies;
+        requests = ap (λ (b : BlockState). length b.requests) (only.rest k) ∙ was.requests;
+      }
+
+  -- they are blocks of the machine as before
+  pub still_blocks : (bs now : List BlockState) → OnlyRepliesMove bs now → AreBlocks d partition bs → AreBlocks d partition now
+  still_blocks bs now only was = record {
+    some_stages = low;
+    few_stages = high;
+    cut = still_cut bs now only was.cut;
+    shaped = still_shaped bs now only was.shaped;
   }
 
   -- where nothing leaves a block for units elsewhere

@@ -8,7 +8,6 @@ use Rattle.ultra_model.specs.Phases.{cycle, memory_phase, processor_phase, reply
 use Rattle.ultra_section.specs.declared.half.Half.TheVariants.{SendReplies, SendRequests}
 use Rattle.ultra_section.specs.declared.rooms.Rooms.{Rooms as BlockRooms}
 use Rattle.ultra_section.specs.BlockState.{BlockState}
-use Rattle.ultra_section.specs.Shape.{IsShaped}
 use Rattle.ultra_course.specs.Frame.{Frame, AreRooms, IsClear}
 use Rattle.ultra_course.specs.Course.{combinations, deliveries, issues, servings, stops as all_stops}
 use Rattle.ultra_course.specs.Whole.{IsFrameOf}
@@ -27,7 +26,7 @@ module _ (c : Settings) (partition : List ℕ) (n : ℕ) (events : List Event) (
     (bs : List BlockState) (start : AreMachine c partition n events stops m bs) (clear : IsClear c.stages (frame_of c.stages partition bs))
     (first : BlockRooms) (first_room : AreRooms c.stages (frame_of c.stages partition bs) (noted c.stages first))
     (replies : List BlockState) (replies_moved : OnlyRepliesMove (all_made SendReplies first program bs) replies)
-    (replies_there : AreRepliesThere c.stages partition replies) (replies_shaped : OfEach (IsShaped c.stages) replies) where
+    (replies_there : AreRepliesThere c.stages partition replies) where
   abbrev d : ℕ
   d = c.stages
 
@@ -42,7 +41,7 @@ module _ (c : Settings) (partition : List ℕ) (n : ℕ) (events : List Event) (
 
   module _ (second : BlockRooms) (second_room : AreRooms d (f served) (noted d second))
       (requests : List BlockState) (requests_moved : OnlyRequestsMove (all_made SendRequests second program served) requests)
-      (requests_there : AreRequestsThere d partition requests) (requests_shaped : OfEach (IsShaped d) requests) where
+      (requests_there : AreRequestsThere d partition requests) where
     abbrev waiting : List BlockState
     waiting = tell.waiting d n partition program first second bs replies requests
 
@@ -53,52 +52,52 @@ module _ (c : Settings) (partition : List ℕ) (n : ℕ) (events : List Event) (
     told = deliveries d (f replies) ++ servings d (f taken)
 
     served_machine : AreMachine c partition n told [] (memory_phase c (reply_phase c m)) served
-    served_machine = replied.served_machine c partition n events stops m program bs start clear first first_room replies replies_moved replies_there replies_shaped
+    served_machine = replied.served_machine c partition n events stops m program bs start clear first first_room replies replies_moved replies_there
 
     served_clear : IsClear d (f served)
-    served_clear = replied.served_clear c partition n events stops m program bs start clear first first_room replies replies_moved replies_there replies_shaped
+    served_clear = replied.served_clear c partition n events stops m program bs start clear first first_room replies replies_moved replies_there
 
     waiting_machine : AreMachine c partition n (told ++ combinations d n (f requests)) [] (request_phase c (memory_phase c (reply_phase c m))) waiting
     waiting_machine =
         requested.taken_machine c partition n told (memory_phase c (reply_phase c m)) program served served_machine served_clear
-        (replied.served_few c partition n events stops m program bs start clear first first_room replies replies_moved replies_there replies_shaped)
-        (replied.served_stops c partition n events stops m program bs start clear first first_room replies replies_moved replies_there replies_shaped)
-        second second_room requests requests_moved requests_there requests_shaped
+        (replied.served_few c partition n events stops m program bs start clear first first_room replies replies_moved replies_there)
+        (replied.served_stops c partition n events stops m program bs start clear first first_room replies replies_moved replies_there)
+        second second_room requests requests_moved requests_there
 
     stepped_machine : AreMachine c partition (n + 1) ((told ++ combinations d n (f requests)) ++ issues d program (f waiting)) (all_stops d program (f waiting))
         (processor_phase c program (request_phase c (memory_phase c (reply_phase c m)))) stepped
     stepped_machine =
         requested.stepped_machine c partition n told (memory_phase c (reply_phase c m)) program served served_machine served_clear
-        (replied.served_few c partition n events stops m program bs start clear first first_room replies replies_moved replies_there replies_shaped)
-        (replied.served_stops c partition n events stops m program bs start clear first first_room replies replies_moved replies_there replies_shaped)
-        second second_room requests requests_moved requests_there requests_shaped
+        (replied.served_few c partition n events stops m program bs start clear first first_room replies replies_moved replies_there)
+        (replied.served_stops c partition n events stops m program bs start clear first first_room replies replies_moved replies_there)
+        second second_room requests requests_moved requests_there
 
     pub stepped_clear : IsClear d (f stepped)
     stepped_clear =
         requested.stepped_clear c partition n told (memory_phase c (reply_phase c m)) program served served_machine served_clear
-        (replied.served_few c partition n events stops m program bs start clear first first_room replies replies_moved replies_there replies_shaped)
-        (replied.served_stops c partition n events stops m program bs start clear first first_room replies replies_moved replies_there replies_shaped)
-        second second_room requests requests_moved requests_there requests_shaped
+        (replied.served_few c partition n events stops m program bs start clear first first_room replies replies_moved replies_there)
+        (replied.served_stops c partition n events stops m program bs start clear first first_room replies replies_moved replies_there)
+        second second_room requests requests_moved requests_there
 
     tell_all : TellAll d n partition program (tell.course d n partition program first second bs replies requests)
     tell_all = tell.tell_all d n partition program first second bs replies requests record {
       start = start.blocks;
       replies_moved = replies_moved;
       replies_there = replies_there;
-      replies_blocks = replied.there_blocks c partition n events stops m program bs start clear first first_room replies replies_moved replies_there replies_shaped;
-      replies_home = replied.there_home c partition n events stops m program bs start clear first first_room replies replies_moved replies_there replies_shaped;
-      taken_blocks = (replied.taken_machine c partition n events stops m program bs start clear first first_room replies replies_moved replies_there replies_shaped).blocks;
+      replies_blocks = replied.there_blocks c partition n events stops m program bs start clear first first_room replies replies_moved replies_there;
+      replies_home = replied.there_home c partition n events stops m program bs start clear first first_room replies replies_moved replies_there;
+      taken_blocks = (replied.taken_machine c partition n events stops m program bs start clear first first_room replies replies_moved replies_there).blocks;
       served_blocks = served_machine.blocks;
       requests_moved = requests_moved;
       requests_there = requests_there;
       requests_blocks = requested.there_blocks c partition n told (memory_phase c (reply_phase c m)) program served served_machine served_clear
-          (replied.served_few c partition n events stops m program bs start clear first first_room replies replies_moved replies_there replies_shaped)
-          (replied.served_stops c partition n events stops m program bs start clear first first_room replies replies_moved replies_there replies_shaped)
-          second second_room requests requests_moved requests_there requests_shaped;
+          (replied.served_few c partition n events stops m program bs start clear first first_room replies replies_moved replies_there)
+          (replied.served_stops c partition n events stops m program bs start clear first first_room replies replies_moved replies_there)
+          second second_room requests requests_moved requests_there;
       requests_done = requested.there_done c partition n told (memory_phase c (reply_phase c m)) program served served_machine served_clear
-          (replied.served_few c partition n events stops m program bs start clear first first_room replies replies_moved replies_there replies_shaped)
-          (replied.served_stops c partition n events stops m program bs start clear first first_room replies replies_moved replies_there replies_shaped)
-          second second_room requests requests_moved requests_there requests_shaped;
+          (replied.served_few c partition n events stops m program bs start clear first first_room replies replies_moved replies_there)
+          (replied.served_stops c partition n events stops m program bs start clear first first_room replies replies_moved replies_there)
+          second second_room requests requests_moved requests_there;
       waiting_blocks = waiting_machine.blocks;
       sites = sites c n (f waiting) (told ++ combinations d n (f requests)) [] (request_phase c (memory_phase c (reply_phase c m))) waiting_machine.machine;
     }

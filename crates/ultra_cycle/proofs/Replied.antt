@@ -8,7 +8,6 @@ use Rattle.ultra_model.specs.Phases.{reply_phase, memory_phase}
 use Rattle.ultra_section.specs.declared.half.Half.TheVariants.{SendReplies, TakeReplies, Serve}
 use Rattle.ultra_section.specs.declared.rooms.Rooms.{Rooms as BlockRooms}
 use Rattle.ultra_section.specs.BlockState.{BlockState}
-use Rattle.ultra_section.specs.Shape.{IsShaped}
 use Rattle.ultra_course.specs.Frame.{Frame, AreRooms, AreAlike, IsClear}
 use Rattle.ultra_course.specs.Course.{deliveries, reply_to, sends_replies, serves, servings, takes_replies}
 use Rattle.ultra_course.specs.Conditions.{CanTakeReplies}
@@ -17,7 +16,7 @@ use Rattle.ultra_cut.specs.Cut.{block_at, frame_of}
 use Rattle.ultra_cut.specs.Exchange.{AreRepliesThere, AreSingleRequests, OnlyRepliesMove}
 use Rattle.ultra_cut.specs.Halves.{AllCanMake, AreBlocks, HasNoRequests, OfEach, all_made, noted}
 use Rattle.ultra_cut.proofs.Alike.{alike_replies}
-use Rattle.ultra_cut.proofs.RepliesMoved.{still_cut}
+use Rattle.ultra_cut.proofs.RepliesMoved.{still_blocks}
 use Rattle.ultra_reply_halves.specs.Law.{AreRepliesSent, AreRepliesTaken}
 use Rattle.ultra_reply_halves.proofs.Sent.{replies_sent}
 use Rattle.ultra_reply_halves.proofs.Taken.{replies_taken}
@@ -54,17 +53,12 @@ module _ (c : Settings) (partition : List ℕ) (n : ℕ) (events : List Event) (
   sent_single_requests = single_requests d partition sent are_sent.frame.blocks.blocks sent_without_requests
 
   -- ---- they have been exchanged
-  module _ (there : List BlockState) (only : OnlyRepliesMove sent there) (home : AreRepliesThere d partition there) (shaped : OfEach (IsShaped d) there) where
+  module _ (there : List BlockState) (only : OnlyRepliesMove sent there) (home : AreRepliesThere d partition there) where
     there_alike : AreAlike d (f there) (sends_replies d (noted d rooms) (f bs))
     there_alike = alike_by d (f there) (f sent) (sends_replies d (noted d rooms) (f bs)) (alike_replies d partition sent there only) are_sent.frame.frame
 
     pub there_blocks : AreBlocks d partition there
-    there_blocks = record {
-      some_stages = start.blocks.some_stages;
-      few_stages = start.blocks.few_stages;
-      cut = still_cut d start.blocks.some_stages start.blocks.few_stages partition sent there only are_sent.frame.blocks.blocks.cut;
-      shaped = shaped;
-    }
+    there_blocks = still_blocks d start.blocks.some_stages start.blocks.few_stages partition sent there only are_sent.frame.blocks.blocks
 
     there_done : OfEach (λ b. b.done ≡ n) there
     there_done = same_value sent there only.count (λ b. b.done) n (λ k h. ap (λ (b : BlockState). b.done) (only.rest k))

@@ -9,7 +9,6 @@ use Rattle.ultra_model.specs.Phases.{processor_phase, request_phase}
 use Rattle.ultra_section.specs.declared.half.Half.TheVariants.{SendRequests, TakeRequests, Execute}
 use Rattle.ultra_section.specs.declared.rooms.Rooms.{Rooms as BlockRooms}
 use Rattle.ultra_section.specs.BlockState.{BlockState}
-use Rattle.ultra_section.specs.Shape.{IsShaped}
 use Rattle.ultra_course.specs.Frame.{Frame, AreRooms, AreAlike, IsClear}
 use Rattle.ultra_course.specs.Course.{combinations, executes, issues, sends_requests, stops, takes_requests}
 use Rattle.ultra_course.specs.Conditions.{CanExecute, CanTakeRequests}
@@ -18,7 +17,7 @@ use Rattle.ultra_cut.specs.Cut.{block_at, frame_of}
 use Rattle.ultra_cut.specs.Exchange.{AreRequestsThere, AreSingleReplies, OnlyRequestsMove}
 use Rattle.ultra_cut.specs.Halves.{AllCanMake, AreBlocks, HasNoReplies, OfEach, all_made, noted}
 use Rattle.ultra_cut.proofs.Alike.{alike_requests}
-use Rattle.ultra_cut.proofs.RequestsMoved.{still_cut}
+use Rattle.ultra_cut.proofs.RequestsMoved.{still_blocks}
 use Rattle.ultra_request_halves.specs.Law.{AreRequestsSent, AreRequestsTaken}
 use Rattle.ultra_request_halves.proofs.Sent.{requests_sent}
 use Rattle.ultra_request_halves.proofs.Taken.{requests_taken}
@@ -53,17 +52,12 @@ module _ (c : Settings) (partition : List ℕ) (n : ℕ) (events : List Event) (
   sent_single_replies = single_replies d partition sent are_sent.frame.blocks.blocks sent_without_replies
 
   -- ---- they have been exchanged
-  module _ (there : List BlockState) (only : OnlyRequestsMove sent there) (home : AreRequestsThere d partition there) (shaped : OfEach (IsShaped d) there) where
+  module _ (there : List BlockState) (only : OnlyRequestsMove sent there) (home : AreRequestsThere d partition there) where
     there_alike : AreAlike d (f there) (sends_requests d (noted d rooms) (f bs))
     there_alike = alike_by d (f there) (f sent) (sends_requests d (noted d rooms) (f bs)) (alike_requests d partition sent there only) are_sent.frame.frame
 
     pub there_blocks : AreBlocks d partition there
-    there_blocks = record {
-      some_stages = start.blocks.some_stages;
-      few_stages = start.blocks.few_stages;
-      cut = still_cut d start.blocks.some_stages start.blocks.few_stages partition sent there only are_sent.frame.blocks.blocks.cut;
-      shaped = shaped;
-    }
+    there_blocks = still_blocks d start.blocks.some_stages start.blocks.few_stages partition sent there only are_sent.frame.blocks.blocks
 
     pub there_done : OfEach (λ b. b.done ≡ n) there
     there_done = same_value sent there only.count (λ b. b.done) n (λ k h. ap (λ (b : BlockState). b.done) (only.rest k))
