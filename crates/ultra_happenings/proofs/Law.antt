@@ -40,26 +40,26 @@ module _ (d n : ℕ) (partition : List ℕ) (program : List Instr) (x : Course) 
   few_stages : d ≤ 6
   few_stages = told.replies_sent.0.few_stages
 
-  few : unit_count d < 321
+  pub few : unit_count d < 321
   few = few_units d some_stages few_stages
 
-  narrow : 2 ^ d ≤ 64
+  pub narrow : 2 ^ d ≤ 64
   narrow = let small = (sizes d some_stages few_stages).1 in omega arith
 
   -- ---- events
-  abbrev of_replies : Part (event_rank d) count 0 320
+  abbrev pub of_replies : Part (event_rank d) count 0 320
   of_replies = part.part_of_replies d partition x.replies_sent told.replies_sent.0 count told.replies_sent.1 few told.replies_there told.replies_home
 
-  abbrev of_service : Part (event_rank d) count 320 320
+  abbrev pub of_service : Part (event_rank d) count 320 320
   of_service = part.part_of_service d partition x.replies_taken told.replies_taken.0 count told.replies_taken.1 few
 
-  abbrev of_requests : Part (event_rank d) count 640 320
+  abbrev pub of_requests : Part (event_rank d) count 640 320
   of_requests = part.part_of_requests d partition x.requests_sent told.requests_sent.0 count told.requests_sent.1 few n
 
-  abbrev of_steps : Part (event_rank d) count 960 320
+  abbrev pub of_steps : Part (event_rank d) count 960 320
   of_steps = part.part_of_steps d partition x.requests_taken told.requests_taken.0 count told.requests_taken.1 few program told.sites
 
-  block_tells : (k : ℕ) → k < count
+  pub block_tells : (k : ℕ) → k < count
       → (at_end k).events ≡ all_by (event_rank d) count of_replies k ++ (all_by (event_rank d) count of_service k ++ (all_by (event_rank d) count of_requests k ++ all_by (event_rank d) count of_steps k))
   unfolding told_by_replies told_by_service told_by_requests told_by_steps
   block_tells k h =
@@ -80,10 +80,10 @@ module _ (d n : ℕ) (partition : List ℕ) (program : List Instr) (x : Course) 
       ∙ sym (grouped (deliveries d (frame_of d partition x.replies_sent)) (servings d (frame_of d partition x.replies_taken)) (combinations d n (frame_of d partition x.requests_sent)) (issues d program (frame_of d partition x.requests_taken)))
 
   -- ---- stops
-  abbrev of_stops : Part part.stop_rank count 0 64
+  abbrev pub of_stops : Part part.stop_rank count 0 64
   of_stops = part.part_of_stops d partition x.requests_taken told.requests_taken.0 count told.requests_taken.1 few program narrow
 
-  block_stops : (k : ℕ) → k < count → (at_end k).stops ≡ all_by part.stop_rank count of_stops k
+  pub block_stops : (k : ℕ) → k < count → (at_end k).stops ≡ all_by part.stop_rank count of_stops k
   unfolding stops_by_steps
   block_stops k h = (told.tells k h).stops
 

@@ -5,3 +5,5 @@ pub mod AtHome
 pub mod Parts
 pub mod Telling
 pub mod Law
+pub mod Ascending
+pub mod InOrder
