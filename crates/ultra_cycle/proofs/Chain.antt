@@ -1,8 +1,8 @@
 -- from one list of blocks of a cycle to the next
-use Rattle.std.proofs.Common.{◌≡◌, ℕ, ◌+◌, ◌*◌, ◌^◌, ◌<◌, ◌≤◌, List, [], length, refl, sym, ◌∙◌, ap, subst, arith}
-use Rattle.ultra_section.specs.BlockState.{BlockState, most_events}
+use Rattle.std.proofs.Common.{◌≡◌, ℕ, ◌+◌, ◌<◌, ◌≤◌, List, length, sym, ◌∙◌, ap, subst, arith}
+use Rattle.ultra_section.specs.BlockState.{BlockState}
 use Rattle.ultra_course.specs.Frame.{Frame, AreAlike}
-use Rattle.ultra_cut.specs.Cut.{block_at, frame_of}
+use Rattle.ultra_cut.specs.Cut.{block_at}
 use Rattle.ultra_cut.specs.Halves.{AreBlocksAfter, FewMoreEvents, HasHalfRoom, OfEach}
 
 -- ---- frames

@@ -1,5 +1,5 @@
 -- The six halves and two exchanges make the blocks the machine after one cycle of the definition.
-use Rattle.std.proofs.Common.{◌≡◌, ℕ, ◌+◌, ◌^◌, ◌<◌, List, [], ◌++◌, sym, ◌∙◌, ap, subst}
+use Rattle.std.proofs.Common.{ℕ, ◌+◌, List, [], ◌++◌, sym, subst}
 use Rattle.ultra_msg.specs.declared.Event.{Event}
 use Rattle.ultra_isa.specs.declared.Instr.{Instr}
 use Rattle.ultra_model.specs.declared.Stop.{Stop}
@@ -10,10 +10,9 @@ use Rattle.ultra_section.specs.declared.rooms.Rooms.{Rooms as BlockRooms}
 use Rattle.ultra_section.specs.BlockState.{BlockState}
 use Rattle.ultra_course.specs.Frame.{Frame, AreRooms, IsClear}
 use Rattle.ultra_course.specs.Course.{combinations, deliveries, issues, servings, stops as all_stops}
-use Rattle.ultra_course.specs.Whole.{IsFrameOf}
-use Rattle.ultra_cut.specs.Cut.{block_at, frame_of}
+use Rattle.ultra_cut.specs.Cut.{frame_of}
 use Rattle.ultra_cut.specs.Exchange.{AreRepliesThere, AreRequestsThere, OnlyRepliesMove, OnlyRequestsMove}
-use Rattle.ultra_cut.specs.Halves.{OfEach, all_made, noted}
+use Rattle.ultra_cut.specs.Halves.{all_made, noted}
 use Rattle.ultra_cut.specs.Events.{events_of, stops_of}
 use Rattle.ultra_happenings.specs.Law.{TellAll}
 use Rattle.ultra_cycle.specs.Moments.{AreMachine}

@@ -5,3 +5,4 @@ pub mod Replied
 pub mod Requested
 pub mod Told
 pub mod Cycle
+pub mod Whole

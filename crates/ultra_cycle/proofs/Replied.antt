@@ -1,5 +1,5 @@
 -- The first half of a cycle: replies leave, are exchanged and taken, and memory serves.
-use Rattle.std.proofs.Common.{◌≡◌, ℕ, ◌+◌, ◌*◌, ◌^◌, ◌<◌, ◌≤◌, List, [], ◌++◌, length, None, refl, sym, ◌∙◌, ap, subst, arith}
+use Rattle.std.proofs.Common.{◌≡◌, ℕ, ◌+◌, ◌^◌, ◌<◌, ◌≤◌, List, [], ◌++◌, length, sym, ◌∙◌, ap, subst, arith}
 use Rattle.ultra_msg.specs.declared.Event.{Event}
 use Rattle.ultra_isa.specs.declared.Instr.{Instr}
 use Rattle.ultra_model.specs.declared.Stop.{Stop}
@@ -9,7 +9,7 @@ use Rattle.ultra_section.specs.declared.half.Half.TheVariants.{SendReplies, Take
 use Rattle.ultra_section.specs.declared.rooms.Rooms.{Rooms as BlockRooms}
 use Rattle.ultra_section.specs.BlockState.{BlockState}
 use Rattle.ultra_course.specs.Frame.{Frame, AreRooms, AreAlike, IsClear}
-use Rattle.ultra_course.specs.Course.{deliveries, reply_to, sends_replies, serves, servings, takes_replies}
+use Rattle.ultra_course.specs.Course.{deliveries, reply_to, sends_replies, servings}
 use Rattle.ultra_course.specs.Conditions.{CanTakeReplies}
 use Rattle.ultra_course.proofs.Steps as step
 use Rattle.ultra_cut.specs.Cut.{block_at, frame_of}

@@ -1,19 +1,18 @@
 -- The second half of a cycle: requests leave, are exchanged and taken, and processors make a step.
-use Rattle.std.proofs.Common.{◌≡◌, ℕ, ◌+◌, ◌*◌, ◌^◌, ◌<◌, ◌≤◌, List, [], ◌++◌, length, None, refl, sym, ◌∙◌, ap, subst, arith}
+use Rattle.std.proofs.Common.{◌≡◌, ℕ, ◌+◌, ◌^◌, ◌<◌, ◌≤◌, List, [], ◌++◌, length, sym, ◌∙◌, ap, subst, arith}
 use Rattle.std.specs.Prelude.{◌-◌}
 use Rattle.ultra_msg.specs.declared.Event.{Event}
 use Rattle.ultra_isa.specs.declared.Instr.{Instr}
-use Rattle.ultra_model.specs.declared.Stop.{Stop}
 use Rattle.ultra_model.specs.Machine.{Settings, Machine}
 use Rattle.ultra_model.specs.Phases.{processor_phase, request_phase}
 use Rattle.ultra_section.specs.declared.half.Half.TheVariants.{SendRequests, TakeRequests, Execute}
 use Rattle.ultra_section.specs.declared.rooms.Rooms.{Rooms as BlockRooms}
 use Rattle.ultra_section.specs.BlockState.{BlockState}
 use Rattle.ultra_course.specs.Frame.{Frame, AreRooms, AreAlike, IsClear}
-use Rattle.ultra_course.specs.Course.{combinations, executes, issues, sends_requests, stops, takes_requests}
+use Rattle.ultra_course.specs.Course.{combinations, issues, sends_requests, stops}
 use Rattle.ultra_course.specs.Conditions.{CanExecute, CanTakeRequests}
 use Rattle.ultra_course.proofs.Steps as step
-use Rattle.ultra_cut.specs.Cut.{block_at, frame_of}
+use Rattle.ultra_cut.specs.Cut.{frame_of}
 use Rattle.ultra_cut.specs.Exchange.{AreRequestsThere, AreSingleReplies, OnlyRequestsMove}
 use Rattle.ultra_cut.specs.Halves.{AllCanMake, AreBlocks, HasNoReplies, OfEach, all_made, noted}
 use Rattle.ultra_cut.proofs.Alike.{alike_requests}

@@ -1,9 +1,8 @@
 -- What the blocks of a machine tell in a cycle is what happens in it.
-use Rattle.std.proofs.Common.{◌≡◌, ℕ, ◌^◌, ◌<◌, ◌≤◌, List, [], ◌++◌, length, map, sym, ◌∙◌, ap, subst}
+use Rattle.std.proofs.Common.{◌≡◌, ℕ, ◌^◌, ◌<◌, List, [], ◌++◌, length, sym, ◌∙◌, ap, subst}
 use Rattle.std.proofs.lemmas.List.{length-map}
 use Rattle.std.specs.Option.{ForSome}
 use Rattle.ultra_msg.specs.declared.ReplyMessage.{ReplyMessage}
-use Rattle.ultra_msg.specs.declared.Event.{Event}
 use Rattle.ultra_isa.specs.declared.Instr.{Instr}
 use Rattle.ultra_section.specs.declared.half.Half.{Half}
 use Rattle.ultra_section.specs.declared.half.Half.TheVariants.{SendReplies, TakeReplies, Serve, SendRequests, TakeRequests, Execute}
@@ -16,7 +15,7 @@ use Rattle.ultra_cut.specs.Exchange.{AreRepliesThere, AreRequestsThere, OnlyRepl
 use Rattle.ultra_cut.specs.Halves.{AreBlocks, OfEach, all_made}
 use Rattle.ultra_reply_halves.proofs.Column.{changed_at}
 use Rattle.ultra_happenings.specs.Told.{told_by_replies, told_by_service, told_by_requests, told_by_steps, stops_by_steps}
-use Rattle.ultra_happenings.specs.Law.{AddsEvents, AddsStops, Course, IsTold, Tells, TellAll}
+use Rattle.ultra_happenings.specs.Law.{AddsEvents, AddsStops, Course, Tells, TellAll}
 use Rattle.ultra_happenings.proofs.Law.{happenings_law}
 use Rattle.ultra_happenings.proofs.Telling.{telling_law}
 
@@ -99,7 +98,6 @@ module _ (d n : ℕ) (partition : List ℕ) (program : List Instr) (first second
       adds : (rooms : Rooms) (xs : List BlockState) → length xs ≡ length stepped → AreBlocks d partition xs
           → AddsEvents d rooms program (block_at xs k) × AddsStops d rooms program (block_at xs k)
       adds rooms xs count blocks = telling_law d rooms program (block_at xs k) blocks.some_stages blocks.few_stages (blocks.shaped k (inside xs count))
-
 
       silent : (block_at replies k).events ≡ []
       silent =

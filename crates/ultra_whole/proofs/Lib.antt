@@ -1,2 +1,4 @@
-pub mod Lent
+pub mod Held
 pub mod Mapped
+pub mod Seen
+pub mod Turn

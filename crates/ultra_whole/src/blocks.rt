@@ -111,7 +111,12 @@ impl Blocks {
         let net = self.config.net();
         let _even = net.size();
         let number = switch_number(net, stage, position / 2);
-        let switch = switch_in(self.blocks.as_slice(), self.partition.as_slice(), net, number);
+        let switch = switch_in(
+            self.blocks.as_slice(),
+            self.partition.as_slice(),
+            net,
+            number,
+        );
         at(&switch.to_mm, position % 2)
     }
 
@@ -125,7 +130,12 @@ impl Blocks {
         let net = self.config.net();
         let _even = net.size();
         let number = switch_number(net, stage, position / 2);
-        let switch = switch_in(self.blocks.as_slice(), self.partition.as_slice(), net, number);
+        let switch = switch_in(
+            self.blocks.as_slice(),
+            self.partition.as_slice(),
+            net,
+            number,
+        );
         at(&switch.to_pe, position % 2)
     }
 
@@ -136,7 +146,12 @@ impl Blocks {
         ensures cells { length result.now.cells ≡ self.now.config.cells }
     {
         let net = self.config.net();
-        module_in(self.blocks.as_slice(), self.partition.as_slice(), net, number)
+        module_in(
+            self.blocks.as_slice(),
+            self.partition.as_slice(),
+            net,
+            number,
+        )
     }
 
     /// A processing element, by its number.

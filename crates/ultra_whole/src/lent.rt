@@ -3,8 +3,7 @@
 ghost use Rattle.std.specs.Prelude.{◌≡◌, ◌^◌, ◌<◌};
 ghost use Rattle.ultra_units.specs.Numbers.{switch_count};
 ghost use Rattle.ultra_course.specs.Ports.{at_port};
-ghost use Rattle.ultra_cut.specs.Cut.{frame_of};
-ghost use Rattle.ultra_cut.specs.Halves.{AreBlocks};
+ghost use Rattle.ultra_cut.specs.Cut.{IsCut, frame_of};
 
 use ultra_halves::ProcessingElement;
 use ultra_mem::Module;
@@ -21,7 +20,7 @@ pub(crate) fn switch_in<'a>(
     net: Net,
     number: usize,
 ) -> &'a Switch
-    requires blocks { AreBlocks net partition.now blocks.now }
+    requires cut { IsCut net partition.now blocks.now }
     requires number { number < switch_count net }
     ensures { result.now ≡ (frame_of net partition.now blocks.now).switch number }
 {
@@ -36,7 +35,7 @@ pub(crate) fn module_in<'a>(
     net: Net,
     number: u32,
 ) -> &'a Module
-    requires blocks { AreBlocks net partition.now blocks.now }
+    requires cut { IsCut net partition.now blocks.now }
     requires number { number < 2 ^ net }
     ensures { result.now ≡ (frame_of net partition.now blocks.now).bank number }
 {
@@ -51,7 +50,7 @@ pub(crate) fn element_in<'a>(
     net: Net,
     pe: Pe,
 ) -> &'a ProcessingElement
-    requires blocks { AreBlocks net partition.now blocks.now }
+    requires cut { IsCut net partition.now blocks.now }
     requires pe { pe < 2 ^ net }
     ensures { result.now ≡ (frame_of net partition.now blocks.now).element pe }
 {
