@@ -72,9 +72,11 @@ impl<'a, T, R: Ranking<T>> Merge<'a, T, R> {
                 continue;
             };
             let rank = self.ranking.rank(entry);
-            if let Some(least) = front
-                && least.rank <= rank
-            {
+            let is_later = match front {
+                Some(least) => least.rank <= rank,
+                None => false,
+            };
+            if is_later {
                 continue;
             }
             front = Some(Front { place, rank });
