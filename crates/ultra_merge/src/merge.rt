@@ -93,11 +93,18 @@ impl<'a, T: Copy, R: Ranking<T> + Drop> Iterator for Merge<'a, T, R> {
     ghost remaining = { item_count (λ m. merged (R.rank_of m.ranking) (R.rank_count m.ranking) m.lists) };
 
     /// The entry that comes next. Its list goes on behind it.
-    fn next(&mut self) -> Option<T>
-    {
+    fn next(&mut self) -> Option<T> {
         let front = self.front()?;
-        let list = self.lists[front.place];
-        self.lists[front.place] = &list[1..];
-        Some(list[0])
+        Some(take_first(&mut self.lists[front.place]))
     }
+}
+
+/// Takes the first entry of a list.
+fn take_first<'a, T: Copy>(list: &mut &'a [T]) -> T
+    requires { 0 < length list.old.now }
+    ensures { list.old.now ≡ result ∷ list.new.now }
+{
+    let first = list[0];
+    *list = &list[1..];
+    first
 }
