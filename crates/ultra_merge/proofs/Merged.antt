@@ -1,7 +1,8 @@
 -- What a merge gives, entry by entry, and merges of what was merged.
 use Rattle.std.proofs.Common.{◌≡◌, ◌≢◌, ℕ, zero, suc, ◌+◌, ◌<◌, ◌≤◌, List, [], ◌∷◌, ◌++◌, map, length, get_or, set, refl, sym, ◌∙◌, ap, subst, inl, inr, arith}
 use Rattle.std.proofs.lemmas.Bool.{cases_eq, cases_lt}
-use Rattle.std.proofs.lemmas.List.Elements.{All-nil, All-cons, All-append, All-head, All-tail, All-weaker}
+use Rattle.std.proofs.lemmas.Simd.{map-map}
+use Rattle.std.proofs.lemmas.List.Elements.{All-nil, All-append, All-head, All-weaker}
 use Rattle.std.specs.Prelude.{All}
 use Rattle.std.specs.List.{range_with_len}
 use Rattle.std.specs.List.Sorted.{IsNonDecreasingBy}
@@ -93,6 +94,14 @@ module _ {T : Type 0} (rank : T → ℕ) (count : ℕ) where
       (all_of_rank_same rank r k lists x rest next.is next.ranked here)
       (λ i less. all_of_rank_none rank i lists (λ j h. none_less lists k r next i j less h))
       0 count (omega arith) (omega arith)
+
+  -- ---- the lists of several holders
+  pub merged_of : {B : Type 0} (of : B → List T) (bs : List B)
+      → merged rank count (map of bs) ≡ joined (places count (λ i. joined (map (λ b. of_rank rank i (of b)) bs)))
+  unfolding merged places
+  merged_of of bs =
+      same_joined (λ i. all_of_rank rank i (map of bs)) (λ i. joined (map (λ b. of_rank rank i (of b)) bs)) 0 count
+      (λ i after. ap joined (map-map (of_rank rank i) of bs))
 
   -- ---- merges of what was merged
   alone_next : (x : T) (xs : List T) → IsRanked rank count (x ∷ xs) → IsNextPlace rank ((x ∷ xs) ∷ []) 1 0 (rank x)

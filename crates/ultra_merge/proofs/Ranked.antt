@@ -1,12 +1,12 @@
 -- Entries by rank, in one list and in several.
-use Rattle.std.proofs.Common.{◌≡◌, ◌≢◌, ℕ, zero, suc, ◌+◌, ◌<◌, ◌≤◌, false, List, [], ◌∷◌, ◌++◌, map, cond, length, get_or, set, eqb, refl, sym, ◌∙◌, ap, arith, eq-eqb, true}
+use Rattle.std.proofs.Common.{◌≡◌, ◌≢◌, ℕ, zero, suc, ◌<◌, ◌≤◌, false, List, [], ◌∷◌, ◌++◌, map, cond, length, get_or, set, eqb, refl, sym, ◌∙◌, ap, arith, eq-eqb, true}
 use Rattle.std.proofs.lemmas.Bool.{eqb-true}
 use Rattle.std.proofs.lemmas.Bool.Decides.{nat_tests}
 use Rattle.std.proofs.lemmas.List.Elements.{All-nil, All-head, All-tail, All-append, All-weaker, filter_passes}
 use Rattle.std.specs.Prelude.{All}
 use Rattle.std.specs.List.Sorted.{IsNonDecreasingBy}
 use Rattle.ultra_model.specs.Places.{joined}
-use Rattle.ultra_merge.specs.Merging.{of_rank, AreEmpty, IsRanked}
+use Rattle.ultra_merge.specs.Merging.{of_rank, IsRanked}
 
 pub other_number : (a b : ℕ) → a ≢ b → eqb a b ≡ false
 other_number a b h = grind (arith, nat_tests)

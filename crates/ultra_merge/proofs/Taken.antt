@@ -1,5 +1,5 @@
 -- What is left when the first entry of a list has gone.
-use Rattle.std.proofs.Common.{◌≡◌, ℕ, ◌<◌, List, [], ◌∷◌, ◌++◌, length, get_or, set, take, drop, map, Bor, refl, sym, ◌∙◌, ap, subst, arith, append-nil, length-set}
+use Rattle.std.proofs.Common.{◌≡◌, ℕ, ◌<◌, List, [], ◌∷◌, length, get_or, set, map, Bor, sym, ◌∙◌, ap, subst, arith, length-set}
 use Rattle.std.proofs.lemmas.List.{get_or-map, map-set, length-map}
 use Rattle.std.proofs.lemmas.Grind.{common_steps}
 use Rattle.std.proofs.lemmas.List.Elements.{All-head, All-set}

@@ -33,10 +33,14 @@ module _ {T : Type 0} (rank : T → ℕ) where
 abbrev pub AreEmpty : {T : Type 0} → List (List T) → ℕ → Type 0
 AreEmpty lists n = (i : ℕ) → i < n → slice_index_or lists i [] ≡ []
 
--- what a merge has left: how its entries are ranked, and the rest of each list
+-- what a merge has left: what ranks its entries, and the rest of each list
 pub record Remainder (R T : Type 0) : Type 0 where
   pub ranking : R
   pub lists : List (List T)
+
+-- the entries left, in the order in which they come
+abbrev pub entries_left : {R T : Type 0} → (R → T → ℕ) → (R → ℕ) → Remainder R T → List T
+entries_left rank_of rank_count m = merged (rank_of m.ranking) (rank_count m.ranking) m.lists
 
 -- a remainder is stored as the pair of its fields
 abbrev pub remainder_code : {R T : Type 0} → Coded R → Coded T → Coded (Remainder R T)

@@ -3,6 +3,8 @@
 
 mod merge;
 mod ranking;
+#[cfg(test)]
+mod tests;
 
-pub use merge::Merge;
+pub use merge::{MOST_LISTS, Merge};
 pub use ranking::Ranking;

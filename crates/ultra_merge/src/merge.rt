@@ -2,21 +2,23 @@
 
 ghost use Rattle.std.specs.Prelude.{◌≡◌, ℕ, ◌<◌, [], ◌∷◌, ◌++◌, length, IfNone, IfSome};
 ghost use Rattle.std.specs.Iterator.{YieldsFirst, item_count};
-ghost use Rattle.ultra_merge.specs.Merging.{merged, IsRanked, IsNextPlace, AreEmpty};
+ghost use Rattle.ultra_merge.specs.Merging.{IsRanked, IsNextPlace, AreEmpty, entries_left};
 
 use crate::Ranking;
 use arrayvec::ArrayVec;
 use std::marker::Model;
 
-/// How many lists a merge can have.
+/// How many lists a merge has room for.
 pub const MOST_LISTS: usize = 64;
 
-/// The entries of several lists by rank, and those of one rank list by list. Each list stands in the order of the ranks.
+/// The entries of several lists by rank, and those of one rank list by list. Each list stands in the order of its ranks.
+///
+/// The lists are borrowed, and nothing is taken from memory.
 #[derive(Drop)]
 pub struct Merge<'a, T, R: Ranking<T>> {
     ranking: R,
     // what is left of each list
-    lists: ArrayVec<&'a [T], 64>,
+    lists: ArrayVec<&'a [T], MOST_LISTS>,
 }
 
 impl<'a, T, R: Ranking<T>> Model for Merge<'a, T, R> {
@@ -51,9 +53,9 @@ impl<'a, T, R: Ranking<T>> Merge<'a, T, R> {
         }
     }
 
-    /// Adds a list, behind the others. There is room for 64.
+    /// Adds a list, behind the others.
     pub fn add(&mut self, list: &'a [T])
-        requires room { length self.old.lists < 64 }
+        requires room { length self.old.lists < MOST_LISTS }
         requires ranked { IsRanked (R.rank_of self.old.ranking) (R.rank_count self.old.ranking) list.now }
         ensures ranking { self.new.ranking ≡ self.old.ranking }
         ensures lists { self.new.lists ≡ self.old.lists ++ list.now ∷ [] }
@@ -88,9 +90,9 @@ impl<'a, T, R: Ranking<T>> Merge<'a, T, R> {
 impl<'a, T: Copy, R: Ranking<T> + Drop> Iterator for Merge<'a, T, R> {
     type Item = T;
 
-    ghost next_gives = { YieldsFirst (λ m. merged (R.rank_of m.ranking) (R.rank_count m.ranking) m.lists) };
+    ghost next_gives = { YieldsFirst (entries_left R.rank_of R.rank_count) };
 
-    ghost remaining = { item_count (λ m. merged (R.rank_of m.ranking) (R.rank_count m.ranking) m.lists) };
+    ghost remaining = { item_count (entries_left R.rank_of R.rank_count) };
 
     /// The entry that comes next. Its list goes on behind it.
     fn next(&mut self) -> Option<T> {

@@ -21,7 +21,7 @@ pub loop-place-preserved-then-is_later : goal.loop-place-preserved-then-is_later
 loop-place-preserved-then-is_later g c =
     let rank = g.R.Ranking.rank_of c.self.inside.ranking in
     elim c.match-front.branch [
-      | in-Some-front w ↦ 
+      | in-Some-front w ↦
           let least = w.in-Some-front.least in
           let later : leb least.rank c.rank-rank.result ≡ true = (let is = w.is_later-is in let so = c.if-is_later.true in cc) in
           let order : least.rank ≤ rank c.in-Some.entry.now = (let r = c.rank-rank.ensures in let from = leb-true _ _ later in omega arith) in

@@ -1,4 +1,4 @@
-use Rattle.std.proofs.Common.{length, ap, arith, rules}
+use Rattle.std.proofs.Common.{length, ap, arith}
 use Rattle.ultra_merge.proofs.Merged.{merged_none}
 use Rattle.ultra_merge.proofs.Taken.{left_ranked, left_merged}
 use Rattle.ultra_merge.proofs.merge.MergeIterator.next.Goals as goal
