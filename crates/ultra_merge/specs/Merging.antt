@@ -19,7 +19,7 @@ module _ {T : Type 0} (rank : T → ℕ) where
     pub within : All (λ e. rank e < count) entries
 
   -- of the first n lists, list k has the entry that comes next: one of rank r stands first there,
-  -- the lists before it have greater ranks only, and neither it nor those behind it have a smaller one
+  -- the lists before it have greater ranks only, and from it on no list has a smaller one
   pub record IsNextPlace (lists : List (List T)) (n k r : ℕ) : Type 0 where
     pub within : k < n
     pub entry : T

@@ -3,8 +3,6 @@
 
 mod merge;
 mod ranking;
-#[cfg(test)]
-mod tests;
 
 pub use merge::{MOST_LISTS, Merge};
 pub use ranking::Ranking;
