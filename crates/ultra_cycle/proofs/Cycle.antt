@@ -12,9 +12,10 @@ use Rattle.ultra_course.specs.Frame.{Frame, AreRooms, IsClear}
 use Rattle.ultra_course.specs.Course.{combinations, deliveries, issues, servings, stops as all_stops}
 use Rattle.ultra_cut.specs.Cut.{frame_of}
 use Rattle.ultra_cut.specs.Exchange.{AreRepliesThere, AreRequestsThere, OnlyRepliesMove, OnlyRequestsMove}
-use Rattle.ultra_cut.specs.Halves.{all_made, noted}
+use Rattle.ultra_cut.specs.Halves.{OfEach, all_made, noted}
 use Rattle.ultra_cut.specs.Events.{events_of, stops_of}
 use Rattle.ultra_happenings.specs.Law.{TellAll}
+use Rattle.ultra_happenings.specs.InOrder.{IsInOrder}
 use Rattle.ultra_cycle.specs.Moments.{AreMachine}
 use Rattle.ultra_cycle.proofs.Home.{sites}
 use Rattle.ultra_cycle.proofs.Told as tell
@@ -78,8 +79,8 @@ module _ (c : Settings) (partition : List ℕ) (n : ℕ) (events : List Event) (
         (replied.served_stops c partition n events stops m program bs start clear first first_room replies replies_moved replies_there)
         second second_room requests requests_moved requests_there
 
-    tell_all : TellAll d n partition program (tell.course d n partition program first second bs replies requests)
-    tell_all = tell.tell_all d n partition program first second bs replies requests record {
+    in_cycle : tell.AreInCycle d n partition program first second bs replies requests
+    in_cycle = record {
       start = start.blocks;
       replies_moved = replies_moved;
       replies_there = replies_there;
@@ -100,6 +101,12 @@ module _ (c : Settings) (partition : List ℕ) (n : ℕ) (events : List Event) (
       waiting_blocks = waiting_machine.blocks;
       sites = sites c n (f waiting) (told ++ combinations d n (f requests)) [] (request_phase c (memory_phase c (reply_phase c m))) waiting_machine.machine;
     }
+
+    tell_all : TellAll d n partition program (tell.course d n partition program first second bs replies requests)
+    tell_all = tell.tell_all d n partition program first second bs replies requests in_cycle
+
+    pub stepped_in_order : OfEach (IsInOrder d) stepped
+    stepped_in_order = tell.in_order d n partition program first second bs replies requests in_cycle
 
     -- the blocks are the machine after the cycle, and what they tell, merged, is what happened in it
     pub cycled : AreMachine c partition (n + 1) (events_of d stepped) (stops_of d stepped) (cycle c program m) stepped

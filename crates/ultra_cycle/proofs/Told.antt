@@ -15,8 +15,10 @@ use Rattle.ultra_cut.specs.Exchange.{AreRepliesThere, AreRequestsThere, OnlyRepl
 use Rattle.ultra_cut.specs.Halves.{AreBlocks, OfEach, all_made}
 use Rattle.ultra_reply_halves.proofs.Column.{changed_at}
 use Rattle.ultra_happenings.specs.Told.{told_by_replies, told_by_service, told_by_requests, told_by_steps, stops_by_steps}
-use Rattle.ultra_happenings.specs.Law.{AddsEvents, AddsStops, Course, Tells, TellAll}
+use Rattle.ultra_happenings.specs.Law.{AddsEvents, AddsStops, Course, IsTold, Tells, TellAll}
+use Rattle.ultra_happenings.specs.InOrder.{IsInOrder}
 use Rattle.ultra_happenings.proofs.Law.{happenings_law}
+use Rattle.ultra_happenings.proofs.InOrder.{in_order_law}
 use Rattle.ultra_happenings.proofs.Telling.{telling_law}
 
 -- the blocks of a cycle: at the start, after each exchange, and after the halves between
@@ -157,8 +159,8 @@ module _ (d n : ℕ) (partition : List ℕ) (program : List Instr) (first second
             ∙ ap (λ ss. ss ++ stops_by_steps d program (block_at waiting k)) no_stops;
       }
 
-    pub tell_all : TellAll d n partition program course
-    tell_all = happenings_law d n partition program course record {
+    is_told : IsTold d n partition program course
+    is_told = record {
       replies_sent = (all.replies_blocks, replies_count);
       replies_taken = (all.taken_blocks, taken_count);
       requests_sent = (all.requests_blocks, requests_count);
@@ -169,3 +171,9 @@ module _ (d n : ℕ) (partition : List ℕ) (program : List Instr) (first second
       sites = all.sites;
       tells = tells;
     }
+
+    pub tell_all : TellAll d n partition program course
+    tell_all = happenings_law d n partition program course is_told
+
+    pub in_order : OfEach (IsInOrder d) stepped
+    in_order = in_order_law d n partition program course is_told

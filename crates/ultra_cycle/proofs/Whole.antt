@@ -121,4 +121,7 @@ module _ (c : Settings) (partition : List ℕ) (n : ℕ) (program : List Instr) 
           clear =
               whole_cycle.stepped_clear c partition n (events_of d bs) (stops_of d bs) m program bs start.machine start.clear first first_room replies replies_moved replies_there
               second second_room requests requests_moved requests_there;
+          in_order =
+              whole_cycle.stepped_in_order c partition n (events_of d bs) (stops_of d bs) m program bs start.machine start.clear first first_room replies replies_moved replies_there
+              second second_room requests requests_moved requests_there;
         }

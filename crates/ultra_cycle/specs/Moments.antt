@@ -7,6 +7,7 @@ use Rattle.ultra_section.specs.BlockState.{BlockState}
 use Rattle.ultra_course.specs.Frame.{IsClear}
 use Rattle.ultra_course.specs.Whole.{IsFrameOf, whole}
 use Rattle.ultra_cut.specs.Cut.{frame_of}
+use Rattle.ultra_happenings.specs.InOrder.{IsInOrder}
 use Rattle.ultra_cut.specs.Halves.{AreBlocks, OfEach}
 use Rattle.ultra_cut.specs.Events.{events_of, stops_of}
 
@@ -22,9 +23,10 @@ abbrev pub machine_in : Settings → List ℕ → ℕ → List BlockState → Ma
 machine_in c partition n bs =
     whole c (frame_of c.stages partition bs) n (events_of c.stages bs) (stops_of c.stages bs)
 
--- between two cycles: each block has made n, they make up a machine that is sound, and no message is
--- on a link
+-- between two cycles: each block has made n, they make up a machine that is sound, no message is on
+-- a link, and each block tells what happened last in the order of the rules
 pub record AreWhole (c : Settings) (partition : List ℕ) (n : ℕ) (bs : List BlockState) : Type 0 where
   pub machine :
       AreMachine c partition n (events_of c.stages bs) (stops_of c.stages bs) (machine_in c partition n bs) bs
   pub clear : IsClear c.stages (frame_of c.stages partition bs)
+  pub in_order : OfEach (IsInOrder c.stages) bs

@@ -1,3 +1,4 @@
+pub mod Firsts
 pub mod Held
 pub mod Mapped
 pub mod Seen

@@ -5,5 +5,8 @@ mod blocks;
 mod cycle;
 mod every_block;
 mod lent;
+mod ranks;
+mod told;
 
 pub use blocks::Blocks;
+pub use ranks::{ByElement, ByRules};
