@@ -2,9 +2,10 @@
 use Rattle.std.proofs.Common.{◌≡◌, ◌≢◌, ℕ, zero, suc, ◌<◌, ◌≤◌, false, List, [], ◌∷◌, ◌++◌, map, cond, length, get_or, set, eqb, refl, sym, ◌∙◌, ap, arith, eq-eqb, true}
 use Rattle.std.proofs.lemmas.Bool.{eqb-true}
 use Rattle.std.proofs.lemmas.Bool.Decides.{nat_tests}
+use Rattle.std.proofs.lemmas.List.{get_or-map, length-map}
 use Rattle.std.proofs.lemmas.List.Elements.{All-nil, All-head, All-tail, All-append, All-weaker, filter_passes}
 use Rattle.std.specs.Prelude.{All}
-use Rattle.std.specs.List.Sorted.{IsNonDecreasingBy}
+use Rattle.std.specs.List.Sorted.{IsNonDecreasing, IsNonDecreasingBy}
 use Rattle.ultra_model.specs.Places.{joined}
 use Rattle.ultra_merge.specs.Merging.{of_rank, IsRanked}
 
@@ -75,6 +76,19 @@ module _ {T : Type 0} (rank : T → ℕ) where
   ranked_rest count x xs ranked = record {
     ascends = λ i j d order within. ranked.ascends (suc i) (suc j) d (omega arith) (omega arith);
     within = All-tail (λ e. rank e < count) x xs ranked.within;
+  }
+
+  -- entries whose ranks ascend as a list of numbers
+  pub ranked_from_ranks : (count : ℕ) (xs : List T) → IsNonDecreasing (map rank xs) → All (λ e. rank e < count) xs → IsRanked rank count xs
+  ranked_from_ranks count xs ascends within = record {
+    ascends = λ i j d order inside.
+        let small : i < length xs = omega arith in
+        let low = get_or-map rank xs i d 0 small in
+        let high = get_or-map rank xs j d 0 inside in
+        let same = length-map xs rank in
+        let ranks = ascends i j 0 order (omega arith) in
+        omega arith;
+    within = within;
   }
 
   -- ---- entries of one rank
