@@ -36,7 +36,7 @@ module _ (c : Settings) where
 
   -- all switches, modules and processing elements
   abbrev pub first_switches : List (Option Switch)
-  first_switches = replicate (switch_count c.stages) (Some (empty_switch c))
+  first_switches = places (switch_count c.stages) (λ n. Some (empty_switch c))
 
   abbrev pub first_modules : List (Option Bank)
   first_modules = places (size c) (λ m. Some (first_bank m))

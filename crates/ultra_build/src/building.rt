@@ -105,6 +105,7 @@ fn add_elements(config: &Config, block: &mut Block)
 pub fn fresh_block(alloc: Global, config: &Config) -> Result<Block, AllocError>
     ensures { IfOk result (λ b. IsFresh config.now b) }
 {
+    let _initial = config.initial();
     let mut block = Block::empty(alloc, config.net())?;
     add_switches(alloc, config, &mut block)?;
     add_modules(alloc, config, &mut block)?;
