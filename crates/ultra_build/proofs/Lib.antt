@@ -1,3 +1,5 @@
 pub mod Filled
 pub mod Placed
 pub mod First
+pub mod Tables
+pub mod Carried
