@@ -26,9 +26,10 @@ loop-unit-preserved c =
     let known = c.loop-unit.invariant in
     let within : h < length c.args.blocks.now = c.requires.named n 0 (omega arith) in
     let there : h < length now = omega (arith, known.count, within) in
-    let at_home : c.index-blocks-home.result ≡ block_at now h = c.index-blocks-home.is ∙ get_or_default now h c.index-blocks-home.result no_block there in
+    let read = get_or now h c.index-blocks-home.result in
+    let at_home : read ≡ block_at now h = get_or_default now h c.index-blocks-home.result no_block there in
     let gone : c.move_unit.new.self ≡ without_unit n left = c.move_unit.ensures.left in
-    let come : c.move_unit.new.to ≡ with_unit n left c.index-blocks-home.result = c.move_unit.ensures.there in
+    let come : c.move_unit.new.to ≡ with_unit n left read = c.move_unit.ensures.there in
     let carried = unit_carried d partition b blocks n (omega arith) left now within known in
     subst (λ y. AreCarriedBelow d partition b blocks (n + 1) c.move_unit.new.self (set now h y)) (sym (come ∙ ap (with_unit n left) at_home))
     (subst (λ l. AreCarriedBelow d partition b blocks (n + 1) l (set now h (with_unit n left (block_at now h)))) (sym gone) carried)
