@@ -36,19 +36,23 @@ column_none bs links count l h empty =
     let within : k < length bs = let e = length-map bs (λ b. on_link (links b) l) in omega arith in
     get_or-map (λ b. on_link (links b) l) bs k no_block None within ∙ ap (λ t. on_link t l) (empty k within) ∙ get_or-replicate count l None None h)
 
+-- block 0 tells what another told
+abbrev pub teller : BlockState → List BlockState → BlockState
+teller b bs = record (block_at bs 0) { events = b.events; stops = b.stops }
+
 module _ (d : ℕ) (partition : List ℕ) (b : BlockState) (bs : List BlockState) (whole : AreBlocks d (one_block d) (b ∷ [])) (clear : IsClear d (frame_of_one d b))
     (count : length partition ≡ unit_count d) (named : All (λ (k : ℕ). k < length bs) partition) (some : 1 ≤ length bs) (carried : AreCarried d partition b bs) where
-  abbrev teller : BlockState
-  teller = record (block_at bs 0) { events = b.events; stops = b.stops }
+  abbrev it : BlockState
+  it = teller b bs
 
-  abbrev pub now : List BlockState
-  now = set bs 0 teller
+  abbrev now : List BlockState
+  now = set bs 0 it
 
   long : length now ≡ length bs
-  long = length-set bs 0 teller
+  long = length-set bs 0 it
 
-  part : {Y : Type 0} (get : BlockState → Y) → get teller ≡ get (block_at bs 0) → (k : ℕ) → get (block_at now k) ≡ get (block_at bs k)
-  part get same k = same_part bs 0 teller some get same k
+  part : {Y : Type 0} (get : BlockState → Y) → get it ≡ get (block_at bs 0) → (k : ℕ) → get (block_at now k) ≡ get (block_at bs k)
+  part get same k = same_part bs 0 it some get same k
 
   -- ---- where units stand
   homes : (n : ℕ) → n < unit_count d → home partition n < length bs
@@ -140,19 +144,19 @@ module _ (d : ℕ) (partition : List ℕ) (b : BlockState) (bs : List BlockState
   -- ---- what they tell
   told : TellsAs (block_at now 0) b
   told =
-      let is = block_now bs 0 teller some in
+      let is = block_now bs 0 it some in
       record { events = ap (λ (x : BlockState). x.events) is; stops = ap (λ (x : BlockState). x.stops) is }
 
   silent : (k : ℕ) → 0 < k → k < length now → TellsNothing (block_at now k)
   silent k after h =
-      let still = block_still bs 0 teller some k (λ e. absurd (omega arith)) in
+      let still = block_still bs 0 it some k (λ e. absurd (omega arith)) in
       let story = (carried.bare k (omega (arith, long))).story in
       record {
         events = ap (λ (x : BlockState). x.events) still ∙ story.events;
         stops = ap (λ (x : BlockState). x.stops) still ∙ story.stops;
       }
 
-  pub is_dealt : length bs ≤ 64 → IsDealt d partition b now
+  pub is_dealt : length bs ≤ 64 → IsDealt d partition b (set bs 0 (teller b bs))
   is_dealt few = record {
     blocks = are_blocks;
     few = omega (arith, long);
