@@ -1,5 +1,5 @@
 -- One block that holds all units of a machine before its first cycle is the machine at its start.
-use Rattle.std.proofs.Common.{◌≡◌, ℕ, zero, suc, ◌+◌, ◌*◌, ◌-◌, ◌/◌, ◌%◌, ◌^◌, ◌<◌, ◌≤◌, List, [], ◌∷◌, Option, Some, None, Bool, true, false, length, get_or, replicate, refl, sym, ◌∙◌, ap, subst, inl, inr, arith}
+use Rattle.std.proofs.Common.{◌≡◌, ℕ, zero, suc, ◌+◌, ◌*◌, ◌%◌, ◌^◌, ◌<◌, [], ◌∷◌, Option, Some, None, true, length, refl, sym, ◌∙◌, ap, inl, inr, arith}
 use Rattle.std.specs.Prelude.{is_some, ◌==◌}
 use Rattle.std.proofs.lemmas.Bool.{cases_lt}
 use Rattle.std.proofs.lemmas.List.{get_or-replicate, get_or_past, length-replicate}
@@ -7,7 +7,6 @@ use Rattle.ultra_msg.specs.declared.Request.{Request}
 use Rattle.ultra_msg.specs.declared.ReplyMessage.{ReplyMessage}
 use Rattle.ultra_switch.specs.Arrive.{empty_lane}
 use Rattle.ultra_mem.specs.Serve.{empty_bank}
-use Rattle.ultra_model.specs.Places.{places}
 use Rattle.ultra_model.specs.Machine.{Settings, given_value, size, start}
 use Rattle.ultra_model.specs.Ranges.{AreInRange}
 use Rattle.ultra_model.proofs.Each.{length-places, places_at}
@@ -22,8 +21,8 @@ use Rattle.ultra_course.specs.Ports.{at_port}
 use Rattle.ultra_course.specs.Frame.{Frame, AreAlike, IsClear}
 use Rattle.ultra_course.specs.Whole.{Fits, IsFrameOf, empty_switch, emptied, sized_lane, sized_replies, whole}
 use Rattle.ultra_course.proofs.AtFrame.{same_machine, same_table, whole_alike}
-use Rattle.ultra_cut.specs.Cut.{IsCut, block_at, first, frame_of, given, home, no_element, no_switch}
-use Rattle.ultra_cut.specs.Halves.{AreBlocks, OfEach}
+use Rattle.ultra_cut.specs.Cut.{IsCut, block_at, first, given, home, no_element, no_switch}
+use Rattle.ultra_cut.specs.Halves.{AreBlocks}
 use Rattle.ultra_build.specs.Fresh.{IsFresh, first_bank, first_element, first_elements, first_modules, first_switches, frame_of_one, one_block}
 
 -- ---- one block

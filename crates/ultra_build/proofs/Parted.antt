@@ -1,7 +1,7 @@
 -- A machine whose units have gone to the blocks that a partition names, and of which block 0 tells what was told.
-use Rattle.std.proofs.Common.{◌≡◌, ◌≢◌, ℕ, zero, suc, ◌+◌, ◌*◌, ◌^◌, ◌<◌, ◌≤◌, List, [], ◌∷◌, Option, None, Some, Bool, true, false, length, map, get_or, set, replicate, refl, sym, ◌∙◌, ap, subst, inl, inr, arith}
+use Rattle.std.proofs.Common.{◌≡◌, ℕ, suc, ◌+◌, ◌*◌, ◌^◌, ◌<◌, ◌≤◌, List, [], ◌∷◌, Option, None, Some, Bool, true, false, length, map, get_or, set, replicate, refl, sym, ◌∙◌, ap, arith}
 use Rattle.std.specs.Prelude.{◌==◌, All, is_some}
-use Rattle.std.proofs.lemmas.Bool.{cases_eq, eq-eqb}
+use Rattle.std.proofs.lemmas.Bool.{eq-eqb}
 use Rattle.std.proofs.lemmas.List.{get_or-map, get_or-replicate, length-map, length-set}
 use Rattle.ultra_mem.specs.Serve.{empty_bank}
 use Rattle.ultra_units.specs.Numbers.{switch_count, unit_count, module_number, element_number}
@@ -11,12 +11,12 @@ use Rattle.ultra_section.specs.Marks.{on_link}
 use Rattle.ultra_section.specs.Shape.{IsShaped}
 use Rattle.ultra_section.proofs.OfKind.{by_kind, switch_stands, module_stands, element_stands}
 use Rattle.ultra_course.specs.Frame.{AreAlike, IsClear}
-use Rattle.ultra_cut.specs.Cut.{IsCut, block_at, first, frame_of, given, home, no_block, no_element, no_switch, replies_on, requests_on}
+use Rattle.ultra_cut.specs.Cut.{block_at, first, frame_of, given, home, no_block, no_element, no_switch}
 use Rattle.ultra_cut.specs.Halves.{AreBlocks, OfEach}
 use Rattle.ultra_build.specs.Fresh.{frame_of_one, one_block}
-use Rattle.ultra_build.specs.Dealt.{AreCarried, HasOnlyUnits, IsDealt, TellsAs, TellsNothing, only_if}
+use Rattle.ultra_build.specs.Dealt.{AreCarried, IsDealt, TellsAs, TellsNothing, only_if}
 use Rattle.ultra_build.proofs.First.{block_is, home_is_zero}
-use Rattle.ultra_build.proofs.Carried.{block_now, block_still, of_each_now, same_part}
+use Rattle.ultra_build.proofs.Carried.{block_now, block_still, same_part}
 use Rattle.ultra_build.proofs.Telling.{same_events, same_stops}
 
 some_only : {X : Type 0} (e : Bool) (o : Option X) → is_some o ≡ true → is_some (only_if e o) ≡ e

@@ -1,10 +1,10 @@
 -- What blocks tell of which only the first tells anything.
-use Rattle.std.proofs.Common.{◌≡◌, ℕ, zero, suc, ◌+◌, ◌<◌, List, [], ◌∷◌, ◌++◌, map, length, refl, sym, ◌∙◌, ap, arith}
+use Rattle.std.proofs.Common.{◌≡◌, ℕ, suc, ◌<◌, List, [], ◌∷◌, ◌++◌, map, length, refl, ◌∙◌, ap, arith}
 use Rattle.std.specs.List.{filter}
 use Rattle.std.specs.Prelude.{◌==◌}
 use Rattle.ultra_msg.specs.declared.Event.{Event}
 use Rattle.ultra_model.specs.declared.Stop.{Stop}
-use Rattle.ultra_model.specs.Places.{places, joined}
+use Rattle.ultra_model.specs.Places.{joined}
 use Rattle.ultra_section.specs.BlockState.{BlockState}
 use Rattle.ultra_course.proofs.AtFrame.{same_places}
 use Rattle.ultra_cut.specs.Cut.{block_at}

@@ -14,7 +14,7 @@ use Rattle.ultra_build.specs.Fresh.{frame_of_one}
 abbrev pub empty_after : ℕ → ℕ → BlockState
 empty_after d n = record (empty_block d) { done = n }
 
--- what a block tells of the cycle is what another tells, or nothing
+-- a block tells of the cycle what another tells, or nothing
 pub record TellsAs (x b : BlockState) : Type 0 where
   pub events : x.events ≡ b.events
   pub stops : x.stops ≡ b.stops
@@ -23,7 +23,7 @@ pub record TellsNothing (x : BlockState) : Type 0 where
   pub events : x.events ≡ []
   pub stops : x.stops ≡ []
 
--- nothing stands on its links, it tells nothing, and n cycles are done
+-- nothing is on its links, it tells nothing, and n cycles are done
 pub record HasOnlyUnits (d n : ℕ) (x : BlockState) : Type 0 where
   pub done : x.done ≡ n
   pub replies : x.replies ≡ replicate ((d + 1) * 2 ^ d) None
@@ -42,13 +42,16 @@ module _ (d : ℕ) (partition : List ℕ) (b : BlockState) where
     pub bare : OfEach (HasOnlyUnits d b.done) now
     pub switches :
         (k n : ℕ) → k < length now → n < switch_count d
-        → switch_at (block_at now k).switches n ≡ only_if (home partition n == k) (switch_at b.switches n)
+        → switch_at (block_at now k).switches n
+        ≡ only_if (home partition n == k) (switch_at b.switches n)
     pub modules :
         (k m : ℕ) → k < length now → m < 2 ^ d
-        → module_at (block_at now k).modules m ≡ only_if (home partition (module_number d m) == k) (module_at b.modules m)
+        → module_at (block_at now k).modules m
+        ≡ only_if (home partition (module_number d m) == k) (module_at b.modules m)
     pub elements :
         (k p : ℕ) → k < length now → p < 2 ^ d
-        → element_at (block_at now k).elements p ≡ only_if (home partition (element_number d p) == k) (element_at b.elements p)
+        → element_at (block_at now k).elements p
+        ≡ only_if (home partition (element_number d p) == k) (element_at b.elements p)
 
   -- the machine that stood in block b, cut into at most 64 blocks; block 0 tells what b told
   pub record IsDealt (now : List BlockState) : Type 0 where

@@ -1,7 +1,5 @@
 use Rattle.std.proofs.Common.{◌≡◌, ◌^◌}
-use Rattle.ultra_units.specs.Numbers.{switch_count}
-use Rattle.ultra_course.specs.Whole.{empty_switch}
-use Rattle.ultra_build.specs.Fresh.{first_bank, first_element}
+use Rattle.ultra_build.specs.Fresh.{first_element}
 use Rattle.ultra_build.proofs.Placed.{ArePut}
 use Rattle.ultra_build.proofs.building.add_elements.Given as goal
 

@@ -3,7 +3,7 @@ use Rattle.std.proofs.lemmas.List.{get_or_default}
 use Rattle.ultra_section.specs.Building.{with_unit, without_unit}
 use Rattle.ultra_section.specs.Shape.{IsShaped}
 use Rattle.ultra_cut.specs.Cut.{block_at, home, no_block}
-use Rattle.ultra_build.proofs.Carried.{AreCarriedBelow, all_carried, none_carried, unit_carried}
+use Rattle.ultra_build.proofs.Carried.{AreCarriedBelow, none_carried, unit_carried}
 use Rattle.ultra_build.proofs.dealing.carry.Goals as goal
 
 pub loop-unit-init : goal.loop-unit-init
