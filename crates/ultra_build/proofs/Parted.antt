@@ -1,5 +1,5 @@
 -- A machine whose units have gone to the blocks that a partition names, and of which block 0 tells what was told.
-use Rattle.std.proofs.Common.{◌≡◌, ℕ, suc, ◌+◌, ◌*◌, ◌^◌, ◌<◌, ◌≤◌, List, [], ◌∷◌, Option, None, Some, Bool, true, false, length, map, get_or, set, replicate, refl, sym, ◌∙◌, ap, arith}
+use Rattle.std.proofs.Common.{◌≡◌, ℕ, suc, ◌+◌, ◌*◌, ◌^◌, ◌<◌, ◌≤◌, List, [], ◌∷◌, Option, None, Some, Bool, true, false, length, map, get_or, set, replicate, refl, sym, ◌∙◌, ap, subst, arith}
 use Rattle.std.specs.Prelude.{◌==◌, All, is_some}
 use Rattle.std.proofs.lemmas.Bool.{eq-eqb}
 use Rattle.std.proofs.lemmas.List.{get_or-map, get_or-replicate, length-map, length-set}
@@ -14,7 +14,7 @@ use Rattle.ultra_course.specs.Frame.{AreAlike, IsClear}
 use Rattle.ultra_cut.specs.Cut.{block_at, first, frame_of, given, home, no_block, no_element, no_switch}
 use Rattle.ultra_cut.specs.Halves.{AreBlocks, OfEach}
 use Rattle.ultra_build.specs.Fresh.{frame_of_one, one_block}
-use Rattle.ultra_build.specs.Dealt.{AreCarried, IsDealt, TellsAs, TellsNothing, only_if}
+use Rattle.ultra_build.specs.Dealt.{AreCarried, IsDealt, IsLastNamed, TellsAs, TellsNothing, only_if}
 use Rattle.ultra_build.proofs.First.{block_is, home_is_zero}
 use Rattle.ultra_build.proofs.Carried.{block_now, block_still, same_part}
 use Rattle.ultra_build.proofs.Telling.{same_events, same_stops}
@@ -156,10 +156,11 @@ module _ (d : ℕ) (partition : List ℕ) (b : BlockState) (bs : List BlockState
         stops = ap (λ (x : BlockState). x.stops) still ∙ story.stops;
       }
 
-  pub is_dealt : length bs ≤ 64 → IsDealt d partition b (set bs 0 (teller b bs))
-  is_dealt few = record {
+  pub is_dealt : length bs ≤ 64 → IsLastNamed partition (length bs) → IsDealt d partition b (set bs 0 (teller b bs))
+  is_dealt few last = record {
     blocks = are_blocks;
     few = omega (arith, long);
+    last = subst (IsLastNamed partition) (sym long) last;
     frame = alike;
     done = λ k h. part (λ (x : BlockState). x.done) refl k ∙ (carried.bare k (omega (arith, long))).done;
     told = told;

@@ -35,6 +35,11 @@ abbrev pub only_if : {X : Type 0} → Bool → Option X → Option X
 only_if true o = o
 only_if false o = None
 
+-- of as many blocks as `count` the last is the home of a unit, unless it is the only one
+abbrev pub IsLastNamed : List ℕ → ℕ → Type 0
+IsLastNamed partition count =
+    1 < count → (n : ℕ) × (n < length partition) × (home partition n + 1 ≡ count)
+
 module _ (d : ℕ) (partition : List ℕ) (b : BlockState) where
   -- the units of block b stand where the partition says, and nowhere else
   pub record AreCarried (now : List BlockState) : Type 0 where
@@ -57,6 +62,7 @@ module _ (d : ℕ) (partition : List ℕ) (b : BlockState) where
   pub record IsDealt (now : List BlockState) : Type 0 where
     pub blocks : AreBlocks d partition now
     pub few : length now ≤ 64
+    pub last : IsLastNamed partition (length now)
     pub frame : AreAlike d (frame_of d partition now) (frame_of_one d b)
     pub done : OfEach (λ x. x.done ≡ b.done) now
     pub told : TellsAs (block_at now 0) b

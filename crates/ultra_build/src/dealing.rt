@@ -6,7 +6,7 @@ ghost use Rattle.ultra_course.specs.Frame.{IsClear};
 ghost use Rattle.ultra_cut.specs.Cut.{frame_of};
 ghost use Rattle.ultra_cut.specs.Halves.{AreBlocks};
 ghost use Rattle.ultra_build.specs.Fresh.{one_block};
-ghost use Rattle.ultra_build.specs.Dealt.{AreCarried, IsDealt, empty_after};
+ghost use Rattle.ultra_build.specs.Dealt.{AreCarried, IsDealt, IsLastNamed, empty_after};
 
 use std::alloc::{AllocError, Global};
 use ultra_route::Net;
@@ -16,6 +16,7 @@ use ultra_section::Block;
 fn count_blocks(partition: &[u8]) -> usize
     ensures named { All (λ b. b < result) partition.now }
     ensures some { 1 ≤ result }
+    ensures last { IsLastNamed partition.now result }
     ensures few { All (λ b. b < 64) partition.now → result ≤ 64 }
 {
     match partition.iter().copied().max() {

@@ -4,7 +4,7 @@ use Rattle.std.proofs.lemmas.List.{get_or_default, length-replicate, take_at}
 use Rattle.ultra_units.specs.Numbers.{unit_count}
 use Rattle.ultra_section.specs.BlockState.{BlockState}
 use Rattle.ultra_cut.specs.Cut.{block_at, no_block}
-use Rattle.ultra_build.specs.Dealt.{AreCarried, IsDealt, empty_after}
+use Rattle.ultra_build.specs.Dealt.{AreCarried, IsDealt, IsLastNamed, empty_after}
 use Rattle.ultra_build.proofs.Parted.{is_dealt, teller}
 use Rattle.ultra_build.proofs.dealing.deal.Goals as goal
 
@@ -38,6 +38,7 @@ returns-clause-dealt c =
     let named : All (λ (k : ℕ). k < length bs) partition = λ k e h. let small = c.count_blocks-count.ensures.named k e h in omega (arith, small, count) in
     let some : 1 ≤ length bs = let one = c.count_blocks-count.ensures.some in omega (arith, count) in
     let few : length bs ≤ 64 = let most = c.count_blocks-count.ensures.few c.requires.named in omega (arith, count) in
+    let last : IsLastNamed partition (length bs) = subst (IsLastNamed partition) (sym count) c.count_blocks-count.ensures.last in
     let carried : AreCarried d partition b bs = subst (λ e. AreCarried e partition b bs) (c.requires.blocks.cut.stages 0 (omega arith)) c.carry.ensures.carried in
     let left = c.carry.new.block in
     let story : record (block_at bs 0) { events = left.events; stops = left.stops } ≡ teller b bs =
@@ -49,4 +50,4 @@ returns-clause-dealt c =
     let now = told ∙ ap (λ (x : BlockState). record x { events = left.events; stops = left.stops }) first ∙ story in
     subst (λ x. IsDealt d partition b (set (take c.in-Ok.blocks.len (bs ++ drop (length bs) items)) 0 x)) (sym now)
     (subst (λ xs. IsDealt d partition b (set xs 0 (teller b bs))) (sym held)
-    (is_dealt d partition b bs c.requires.blocks c.requires.clear c.requires.partition named some carried few))
+    (is_dealt d partition b bs c.requires.blocks c.requires.clear c.requires.partition named some carried few last))
