@@ -5,6 +5,7 @@ pub mod RequestMarks
 pub mod Known
 pub mod Moved
 pub mod Standing
+pub mod OfKind
 pub mod Empty
 pub mod Nexts
 pub mod Once

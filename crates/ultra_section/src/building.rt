@@ -1,15 +1,18 @@
-//! Blocks without units, and units that are put into a block or taken out of it.
+//! Blocks without units, units that are put into a block or taken out of it, and what goes from one block to another.
 
 ghost use Rattle.std.specs.Prelude.{◌≡◌, ℕ, ◌<◌, ◌^◌, IfOk, None, Some, length, replicate, slice_set, vec_capacity};
 ghost use Rattle.ultra_units.specs.Numbers.{switch_count as count_of_switches};
 ghost use Rattle.ultra_section.specs.BlockState.{element_at, module_at, most_events, most_stops, switch_at};
-ghost use Rattle.ultra_section.specs.Building.{empty_block};
+ghost use Rattle.ultra_section.specs.Building.{empty_block, with_unit, without_unit};
+ghost use Rattle.ultra_section.specs.Links.{put_on};
 ghost use Rattle.ultra_section.specs.Marks.{HasAllLinks};
 
 use crate::block::Block;
 use crate::links::Links;
 use crate::sets::Sets;
+use crate::unit::{Unit, unit_of};
 use std::alloc::{AllocError, Global};
+use std::mem::swap;
 use ultra_halves::ProcessingElement;
 use ultra_mem::Module;
 use ultra_route::Net;
@@ -64,6 +67,15 @@ impl Block {
             events: Vec::with_capacity(alloc, MOST_EVENTS)?,
             stops: Vec::with_capacity(alloc, MOST_STOPS)?,
         })
+    }
+
+    /// A block without units, of a machine with this network, after this many cycles. An error says that memory was refused.
+    pub fn empty_after(alloc: Global, net: Net, done: u32) -> Result<Block, AllocError>
+        ensures { IfOk result (λ b. b ≡ record (empty_block net) { done = done }) }
+    {
+        let mut block = Block::empty(alloc, net)?;
+        block.done = done;
+        Ok(block)
     }
 
     /// Puts a switch into the block, by its number.
@@ -143,5 +155,64 @@ impl Block {
         self.replies.renew(unit);
         self.requests.renew(unit);
         self.elements[pe as usize].take()
+    }
+
+    /// The switch of this number goes to another block, if it stands here.
+    fn move_switch(&mut self, number: usize, to: &mut Block)
+        requires number { number < count_of_switches self.old.stages }
+        requires machine { to.old.stages ≡ self.old.stages }
+        ensures left { self.new ≡ record self.old { switches = slice_set self.old.switches number None } }
+        ensures there { to.new ≡ record to.old { switches = put_on to.old.switches number (switch_at self.old.switches number) } }
+    {
+        if let Some(switch) = self.take_switch(number) {
+            to.put_switch(number, switch);
+        }
+    }
+
+    /// The memory module of this number goes to another block, if it stands here.
+    fn move_module(&mut self, number: u32, to: &mut Block)
+        requires number { number < 2 ^ self.old.stages }
+        requires machine { to.old.stages ≡ self.old.stages }
+        ensures left { self.new ≡ record self.old { modules = slice_set self.old.modules number None } }
+        ensures there { to.new ≡ record to.old { modules = put_on to.old.modules number (module_at self.old.modules number) } }
+    {
+        if let Some(bank) = self.take_module(number) {
+            to.put_module(number, bank);
+        }
+    }
+
+    /// The processing element of this number goes to another block, if it stands here.
+    fn move_element(&mut self, pe: u32, to: &mut Block)
+        requires number { pe < 2 ^ self.old.stages }
+        requires machine { to.old.stages ≡ self.old.stages }
+        ensures left { self.new ≡ record self.old { elements = slice_set self.old.elements pe None } }
+        ensures there { to.new ≡ record to.old { elements = put_on to.old.elements pe (element_at self.old.elements pe) } }
+    {
+        if let Some(element) = self.take_element(pe) {
+            to.put_element(pe, element);
+        }
+    }
+
+    /// The unit of this number goes to another block of the machine, if it stands here.
+    pub fn move_unit(&mut self, number: usize, to: &mut Block)
+        requires { to.old.stages ≡ self.old.stages }
+        ensures left { self.new ≡ without_unit number self.old }
+        ensures there { to.new ≡ with_unit number self.old to.old }
+    {
+        match unit_of(self.net, number) {
+            Unit::Switch { .. } => self.move_switch(number, to),
+            Unit::Module(module) => self.move_module(module, to),
+            Unit::Element(pe) => self.move_element(pe, to),
+            Unit::Nothing => {}
+        }
+    }
+
+    /// Takes the events and stops of another block, which gets those that stood here.
+    pub fn take_story(&mut self, other: &mut Block)
+        ensures here { self.new ≡ record self.old { events = other.old.events; stops = other.old.stops } }
+        ensures there { other.new ≡ record other.old { events = self.old.events; stops = self.old.stops } }
+    {
+        swap(&mut self.events, &mut other.events);
+        swap(&mut self.stops, &mut other.stops);
     }
 }
