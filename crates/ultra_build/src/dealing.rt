@@ -1,6 +1,6 @@
 //! The units of a machine go to the blocks that a partition names.
 
-ghost use Rattle.std.specs.Prelude.{◌≡◌, ℕ, ◌<◌, ◌≤◌, [], ◌∷◌, All, IfErr, IfOk, length, replicate};
+ghost use Rattle.std.specs.Prelude.{◌≡◌, ℕ, ◌<◌, ◌≤◌, [], ◌∷◌, All, IfOk, OnErr, length, replicate};
 ghost use Rattle.ultra_units.specs.Numbers.{unit_count};
 ghost use Rattle.ultra_course.specs.Frame.{IsClear};
 ghost use Rattle.ultra_cut.specs.Cut.{frame_of};
@@ -53,27 +53,23 @@ fn carry(partition: &[u8], block: &mut Block, blocks: &mut [Block])
     }
 }
 
-/// Cuts a machine that stands in one block: each of its units goes to the block that the partition names, 0 to 63, and block 0 gets what has been told of the cycle. An error says that memory was refused, and the block comes back as it was.
+/// Cuts a machine that stands in one block: each of its units goes to the block that the partition names, 0 to 63, and block 0 gets what has been told of the cycle. An error says that memory was refused; the block is then as it was.
 pub fn deal(
     alloc: Global,
     net: Net,
     partition: &[u8],
-    block: Block,
-) -> Result<Vec<Block>, (Block, AllocError)>
-    requires blocks { AreBlocks net (one_block net) (block ∷ []) }
-    requires clear { IsClear net (frame_of net (one_block net) (block ∷ [])) }
+    block: &mut Block,
+) -> Result<Vec<Block>, AllocError>
+    requires blocks { AreBlocks net (one_block net) (block.old ∷ []) }
+    requires clear { IsClear net (frame_of net (one_block net) (block.old ∷ [])) }
     requires partition { length partition.now ≡ unit_count net }
     requires named { All (λ b. b < 64) partition.now }
-    ensures dealt { IfOk result (λ bs. IsDealt net partition.now block bs.items) }
-    ensures back { IfErr result (λ e. e.0 ≡ block) }
+    ensures dealt { IfOk result (λ bs. IsDealt net partition.now block.old bs.items) }
+    ensures kept { OnErr result (block.new ≡ block.old) }
 {
-    let mut block = block;
     let count = count_blocks(partition);
-    let mut blocks = match empty_blocks(alloc, net, block.done(), count) {
-        Ok(blocks) => blocks,
-        Err(error) => return Err((block, error)),
-    };
-    carry(partition, &mut block, blocks.as_mut_slice());
-    blocks[0].take_story(&mut block);
+    let mut blocks = empty_blocks(alloc, net, block.done(), count)?;
+    carry(partition, block, blocks.as_mut_slice());
+    blocks[0].take_story(block);
     Ok(blocks)
 }

@@ -1,3 +1,4 @@
+pub mod Dealt
 pub mod Firsts
 pub mod Held
 pub mod Mapped

@@ -1,18 +1,26 @@
 //! The whole machine, cut into blocks.
 
-ghost use Rattle.std.specs.Prelude.{◌≡◌, ℕ, ◌-◌, ◌^◌, ◌<◌, length};
-ghost use Rattle.ultra_model.specs.Machine.{bank_at, element_at, is_quiet, lane_at, replies_at, site};
+ghost use Rattle.std.specs.Prelude.{◌≡◌, ◌-◌, ◌^◌, ◌<◌, ◌↔◌, false, length, true, IfErr, IfOk, IsErrOf, OnOk};
+ghost use Rattle.ultra_model.specs.Machine.{bank_at, element_at, is_quiet, lane_at, replies_at, site, start};
 ghost use Rattle.ultra_model.specs.Phases.{cycle as next_cycle};
+ghost use Rattle.ultra_cut.specs.Cut.{is_partition};
+ghost use Rattle.ultra_build.specs.Dealt.{IsLastNamed};
 
 use crate::cycle::make_cycle;
 use crate::lent::{at, element_in, module_in, switch_in};
+use crate::partition::{PartitionFault, names_all_units};
+use crate::parts::Parts;
+use crate::ranks::{ByElement, ByRules};
+use crate::told::{events_in, stops_in};
+use std::alloc::Global;
 use std::marker::Model;
+use ultra_build::{deal, fresh_block};
 use ultra_halves::ProcessingElement;
 use ultra_isa::Program;
 use ultra_mem::Module;
-use ultra_model::Config;
-use ultra_msg::Pe;
-use ultra_section::Block;
+use ultra_merge::Merge;
+use ultra_model::{Config, Stop};
+use ultra_msg::{Event, Pe};
 use ultra_switch::{ToMm, ToPe};
 use ultra_unit_halves::are_quiet;
 use ultra_units::switch_number;
@@ -22,31 +30,98 @@ use ultra_units::switch_number;
 /// Contracts see it as the machine of the definition, the same for every partition.
 #[derive(Drop)]
 pub struct Blocks {
-    config: Config,
-    program: Program,
-    partition: Vec<u8>,
-    done: u32,
-    blocks: Vec<Block>,
+    parts: Parts,
 }
 
 impl Model for Blocks {
-    ghost use Rattle.ultra_cycle.specs.Moments.{AreWhole, machine_in};
-    ghost use Rattle.ultra_whole.specs.State.{BlocksState};
+    ghost use Rattle.ultra_whole.specs.State.{AreParts, BlocksState, put_together};
 
     ghost Value = { BlocksState };
 
-    ghost view = { λ b. record {
-      config = b.config;
-      program = b.program;
-      partition = b.partition.items;
-      machine = machine_in b.config b.partition.items b.done b.blocks.items;
-    } };
+    ghost view = { λ b. put_together b.parts };
 
-    ghost invariant = { λ b. AreWhole b.config b.partition.items b.done b.blocks.items };
+    ghost invariant = { λ b. AreParts b.parts };
 }
 
 impl Blocks {
     ghost use Rattle.ultra_halves.specs.Elements.{element_of};
+    ghost use Rattle.ultra_whole.specs.State.{AreParts, events_left, put_together, stops_left};
+
+    /// The machine of these settings and this program before its first cycle: all registers and cells are 0 but for the initial ones, and nothing is on its way. The partition names the block of each unit, 0 to 63: switches come first, then modules, then processing elements. Blocks may be empty; there is one more than the greatest that is named.
+    ///
+    /// It keeps copies of its own. `BadPartition` says that the partition is not of this length, or that a block is above 63; it is found before memory is asked for. `NoMemory` says that memory was refused.
+    pub fn new(
+        alloc: Global,
+        config: &Config,
+        program: &Program,
+        partition: &[u8],
+    ) -> Result<Blocks, PartitionFault>
+        ensures settings { IfOk result (λ b. b.config ≡ config.now) }
+        ensures program { IfOk result (λ b. b.program ≡ program.now) }
+        ensures partition { IfOk result (λ b. b.partition ≡ partition.now) }
+        ensures count { IfOk result (λ b. IsLastNamed partition.now b.count) }
+        ensures state { IfOk result (λ b. b.machine ≡ start config.now) }
+        ensures accepted { OnOk result (is_partition config.now partition.now ≡ true) }
+        ensures refused { IsErrOf result PartitionFault.BadPartition ↔ (is_partition config.now partition.now ≡ false) }
+    {
+        if !names_all_units(config, partition) {
+            return Err(PartitionFault::BadPartition);
+        }
+        let settings = config.try_clone()?;
+        let program = program.try_clone(alloc)?;
+        let homes = Vec::from_slice(alloc, partition)?;
+        let mut block = fresh_block(alloc, config)?;
+        let blocks = deal(alloc, config.net(), partition, &mut block)?;
+        Ok(Blocks {
+            parts: Parts {
+                config: settings,
+                program,
+                partition: homes,
+                done: 0,
+                blocks,
+            },
+        })
+    }
+
+    /// The same machine, which stands in one block, cut by a partition: its units are moved, and everything stays as it is. The partition names the block of each unit as for `new`.
+    ///
+    /// `BadPartition` says that it is not one; it is found before memory is asked for. `NoMemory` says that memory was refused. With either the same machine is given back.
+    pub fn recut(self, alloc: Global, partition: &[u8]) -> Result<Blocks, (Blocks, PartitionFault)>
+        requires { self.count ≡ 1 }
+        ensures settings { IfOk result (λ b. b.config ≡ self.config) }
+        ensures program { IfOk result (λ b. b.program ≡ self.program) }
+        ensures partition { IfOk result (λ b. b.partition ≡ partition.now) }
+        ensures count { IfOk result (λ b. IsLastNamed partition.now b.count) }
+        ensures state { IfOk result (λ b. b.machine ≡ self.machine) }
+        ensures accepted { OnOk result (is_partition self.config partition.now ≡ true) }
+        ensures refused { IfErr result (λ e. (e.1 ≡ PartitionFault.BadPartition) ↔ (is_partition self.config partition.now ≡ false)) }
+        ensures given_back { IfErr result (λ e. e.0 ≡ self) }
+    {
+        if !names_all_units(&self.parts.config, partition) {
+            return Err((self, PartitionFault::BadPartition));
+        }
+        let mut parts = self.parts;
+        match parts.cut(alloc, partition) {
+            Ok(()) => Ok(Blocks { parts }),
+            Err(_) => Err((Blocks { parts }, PartitionFault::NoMemory)),
+        }
+    }
+
+    /// Takes the machine apart, for a cycle that others make.
+    pub fn into_parts(self) -> Parts
+        ensures value { put_together result ≡ self }
+        ensures whole { AreParts result }
+    {
+        self.parts
+    }
+
+    /// Puts the parts of a machine together. A cycle of it has to be over.
+    pub fn of_parts(parts: Parts) -> Blocks
+        requires { AreParts parts }
+        ensures { result ≡ put_together parts }
+    {
+        Blocks { parts }
+    }
 
     /// The machine makes one cycle: replies, memory, requests, processors. It takes no memory and always succeeds.
     ///
@@ -56,48 +131,78 @@ impl Blocks {
         ensures { self.new ≡ record self.old { machine = next_cycle self.old.config self.old.program self.old.machine } }
     {
         make_cycle(
-            self.blocks.as_mut_slice(),
-            &self.config,
-            self.partition.as_slice(),
-            self.done,
-            &self.program,
+            self.parts.blocks.as_mut_slice(),
+            &self.parts.config,
+            self.parts.partition.as_slice(),
+            self.parts.done,
+            &self.parts.program,
         );
-        self.done += 1;
+        self.parts.done += 1;
     }
 
     /// Whether every processing element has halted or faulted, and nothing is on its way or open. It looks no further than the first unit of which this is not so.
     pub fn is_quiet(&self) -> bool
         ensures { result ≡ is_quiet self.now.machine }
     {
-        are_quiet(self.blocks.as_slice())
+        are_quiet(self.parts.blocks.as_slice())
     }
 
     /// How many cycles the machine has made.
     pub fn done(&self) -> u32
         ensures { result ≡ self.now.machine.cycles }
     {
-        self.done
+        self.parts.done
     }
 
     /// The machine's settings.
     pub fn config(&self) -> &Config
         ensures { result.now ≡ self.now.config }
     {
-        &self.config
+        &self.parts.config
     }
 
     /// The machine's program.
     pub fn program(&self) -> &Program
         ensures { result.now ≡ self.now.program }
     {
-        &self.program
+        &self.parts.program
     }
 
     /// The block of each unit: switches first, then modules, then processing elements.
     pub fn partition(&self) -> &[u8]
         ensures { result.now ≡ self.now.partition }
     {
-        self.partition.as_slice()
+        self.parts.partition.as_slice()
+    }
+
+    /// What happened in the last cycle, in the order of the rules: deliveries by processing element, servings by module, combinations by stage, position and arrival, issues by processing element.
+    pub fn events(&self) -> Merge<'_, Event, ByRules>
+        ensures { events_left result ≡ self.now.machine.events }
+    {
+        events_in(self.parts.blocks.as_slice(), self.parts.config.net())
+    }
+
+    /// The faults of the last cycle, by processing element.
+    pub fn stops(&self) -> Merge<'_, Stop, ByElement>
+        ensures { stops_left result ≡ self.now.machine.stops }
+    {
+        stops_in(self.parts.blocks.as_slice(), self.parts.config.net())
+    }
+
+    /// What happened in the last cycle of a machine in one block, in the order of the rules.
+    pub fn events_of_one(&self) -> &[Event]
+        requires { self.now.count ≡ 1 }
+        ensures { result.now ≡ self.now.machine.events }
+    {
+        self.parts.blocks[0].events()
+    }
+
+    /// The faults of the last cycle of a machine in one block, by processing element.
+    pub fn stops_of_one(&self) -> &[Stop]
+        requires { self.now.count ≡ 1 }
+        ensures { result.now ≡ self.now.machine.stops }
+    {
+        self.parts.blocks[0].stops()
     }
 
     /// The queue toward memory at a memory-side position of a stage, with its wait buffer. Stages count from 0, positions too.
@@ -108,12 +213,12 @@ impl Blocks {
         ensures requests { result.now.request_places ≡ self.now.config.request_places }
         ensures waits { result.now.wait_places ≡ self.now.config.wait_places }
     {
-        let net = self.config.net();
+        let net = self.parts.config.net();
         let _even = net.size();
         let number = switch_number(net, stage, position / 2);
         let switch = switch_in(
-            self.blocks.as_slice(),
-            self.partition.as_slice(),
+            self.parts.blocks.as_slice(),
+            self.parts.partition.as_slice(),
             net,
             number,
         );
@@ -127,12 +232,12 @@ impl Blocks {
         ensures state { result.now.replies ≡ replies_at self.now.machine stage position }
         ensures places { result.now.places ≡ self.now.config.reply_places }
     {
-        let net = self.config.net();
+        let net = self.parts.config.net();
         let _even = net.size();
         let number = switch_number(net, stage, position / 2);
         let switch = switch_in(
-            self.blocks.as_slice(),
-            self.partition.as_slice(),
+            self.parts.blocks.as_slice(),
+            self.parts.partition.as_slice(),
             net,
             number,
         );
@@ -145,10 +250,10 @@ impl Blocks {
         ensures state { result.now ≡ bank_at self.now.machine number }
         ensures cells { length result.now.cells ≡ self.now.config.cells }
     {
-        let net = self.config.net();
+        let net = self.parts.config.net();
         module_in(
-            self.blocks.as_slice(),
-            self.partition.as_slice(),
+            self.parts.blocks.as_slice(),
+            self.parts.partition.as_slice(),
             net,
             number,
         )
@@ -161,7 +266,12 @@ impl Blocks {
         ensures site { result.now.processor.site ≡ site self.now.config pe }
         ensures most_open { result.now.interface.most_open ≡ self.now.config.most_open }
     {
-        let net = self.config.net();
-        element_in(self.blocks.as_slice(), self.partition.as_slice(), net, pe)
+        let net = self.parts.config.net();
+        element_in(
+            self.parts.blocks.as_slice(),
+            self.parts.partition.as_slice(),
+            net,
+            pe,
+        )
     }
 }

@@ -5,8 +5,12 @@ mod blocks;
 mod cycle;
 mod every_block;
 mod lent;
+mod partition;
+mod parts;
 mod ranks;
 mod told;
 
 pub use blocks::Blocks;
+pub use partition::{MOST_BLOCKS, PartitionFault};
+pub use parts::Parts;
 pub use ranks::{ByElement, ByRules};

@@ -29,7 +29,9 @@ impl Ranking<Event> for ByRules {
             Event::Delivered(reply) => switches + size + reply.pe as usize,
             Event::Served { module, .. } => 320 + switches + module as usize,
             Event::Combined {
-                stage, position, ..
+                stage,
+                position,
+                ..
             } => 640 + stage as usize * (size / 2) + position as usize / 2,
             Event::Issued { request, .. } => 960 + switches + size + request.pe as usize,
         }

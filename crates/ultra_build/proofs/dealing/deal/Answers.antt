@@ -13,11 +13,11 @@ carry-requires-clause-count c = c.requires.partition ∙ ap unit_count (sym (c.r
 
 pub carry-requires-clause-empty : goal.carry-requires-clause-empty
 carry-requires-clause-empty c =
-    let b = c.args.block in
+    let b = c.args.block.now in
     let count = c.count_blocks-count.result in
     let stages : b.stages ≡ c.args.net = c.requires.blocks.cut.stages 0 (omega arith) in
     let all : c.as_mut_slice.result.now ≡ replicate count (empty_after b.stages b.done) =
-    c.as_mut_slice.ensures.value ∙ c.in-Ok.ensures
+    c.as_mut_slice.ensures.value ∙ c.in_ok-blocks.ensures
     ∙ ap (λ d. replicate count (empty_after d c.done.result)) (sym stages)
     ∙ ap (λ n. replicate count (empty_after b.stages n)) c.done.ensures in
     let long : length c.as_mut_slice.result.now ≡ count = ap (λ (bs : List BlockState). length bs) all ∙ length-replicate count (empty_after b.stages b.done) in
@@ -27,13 +27,13 @@ pub returns-clause-dealt : goal.returns-clause-dealt
 returns-clause-dealt c =
     let d = c.args.net in
     let partition = c.args.partition.now in
-    let b = c.args.block in
+    let b = c.args.block.now in
     let bs = c.carry.new.blocks in
-    let items = c.in-Ok.blocks.items in
-    let long : length bs ≡ c.in-Ok.blocks.len = c.carry.ensures.count ∙ c.as_mut_slice.ensures.len in
-    let held : take c.in-Ok.blocks.len (bs ++ drop (length bs) items) ≡ bs = take_at bs (drop (length bs) items) c.in-Ok.blocks.len long in
+    let items = c.in_ok-blocks.blocks.items in
+    let long : length bs ≡ c.in_ok-blocks.blocks.len = c.carry.ensures.count ∙ c.as_mut_slice.ensures.len in
+    let held : take c.in_ok-blocks.blocks.len (bs ++ drop (length bs) items) ≡ bs = take_at bs (drop (length bs) items) c.in_ok-blocks.blocks.len long in
     let count : length bs ≡ c.count_blocks-count.result =
-    c.carry.ensures.count ∙ ap (λ (xs : List BlockState). length xs) (c.as_mut_slice.ensures.value ∙ c.in-Ok.ensures)
+    c.carry.ensures.count ∙ ap (λ (xs : List BlockState). length xs) (c.as_mut_slice.ensures.value ∙ c.in_ok-blocks.ensures)
     ∙ length-replicate c.count_blocks-count.result (empty_after c.args.net c.done.result) in
     let named : All (λ (k : ℕ). k < length bs) partition = λ k e h. let small = c.count_blocks-count.ensures.named k e h in omega (arith, small, count) in
     let some : 1 ≤ length bs = let one = c.count_blocks-count.ensures.some in omega (arith, count) in
@@ -48,6 +48,6 @@ returns-clause-dealt c =
     c.index_mut.ensures.value ∙ ap (λ xs. get_or xs 0 c.index_mut.result.now) held ∙ get_or_default bs 0 c.index_mut.result.now no_block some in
     let told : c.take_story.new.self ≡ record c.index_mut.result.now { events = left.events; stops = left.stops } = c.take_story.ensures.here in
     let now = told ∙ ap (λ (x : BlockState). record x { events = left.events; stops = left.stops }) first ∙ story in
-    subst (λ x. IsDealt d partition b (set (take c.in-Ok.blocks.len (bs ++ drop (length bs) items)) 0 x)) (sym now)
+    subst (λ x. IsDealt d partition b (set (take c.in_ok-blocks.blocks.len (bs ++ drop (length bs) items)) 0 x)) (sym now)
     (subst (λ xs. IsDealt d partition b (set xs 0 (teller b bs))) (sym held)
     (is_dealt d partition b bs c.requires.blocks c.requires.clear c.requires.partition named some carried few last))

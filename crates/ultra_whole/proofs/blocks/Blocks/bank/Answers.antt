@@ -11,7 +11,7 @@ use Rattle.ultra_whole.proofs.blocks.Blocks.bank.Goals as goal
 
 pub returns-clause-state : goal.returns-clause-state
 returns-clause-state c =
-    let b = c.self.inside in
+    let b = c.self.inside.parts in
     let d = b.config.stages in
     let f = frame_of d b.partition.items b.blocks.items in
     let small : c.args.number < 2 ^ d = subst (λ (s : BlocksState). c.args.number < 2 ^ s.config.stages) (sym c.self.view_is) c.requires.number in
@@ -21,10 +21,10 @@ returns-clause-state c =
 
 pub returns-clause-cells : goal.returns-clause-cells
 returns-clause-cells c =
-    let b = c.self.inside in
+    let b = c.self.inside.parts in
     let d = b.config.stages in
     let f = frame_of d b.partition.items b.blocks.items in
     let small : c.args.number < 2 ^ d = subst (λ (s : BlocksState). c.args.number < 2 ^ s.config.stages) (sym c.self.view_is) c.requires.number in
     ap (λ (m : Bank). length m.cells) (c.module_in.ensures ∙ ap (λ (g : Frame). g.bank c.args.number) (same_frame c.net-net.result d c.as_slice-2.result.now b.partition.items c.as_slice.result.now b.blocks.items c.net-net.ensures c.as_slice-2.ensures.value c.as_slice.ensures.value))
-    ∙ c.self.invariant.machine.machine.fits.cells c.args.number small
+    ∙ c.self.invariant.whole.machine.machine.fits.cells c.args.number small
     ∙ ap (λ (s : BlocksState). s.config.cells) c.self.view_is

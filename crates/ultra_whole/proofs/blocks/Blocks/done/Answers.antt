@@ -5,5 +5,5 @@ use Rattle.ultra_whole.proofs.blocks.Blocks.done.Goals as goal
 
 pub returns : goal.returns
 returns c =
-    let b = c.self.inside in
+    let b = c.self.inside.parts in
     sym (cycles_are b.config b.partition.items b.done b.blocks.items) ∙ ap (λ (s : BlocksState). s.machine.cycles) c.self.view_is

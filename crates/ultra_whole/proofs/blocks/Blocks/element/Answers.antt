@@ -12,7 +12,7 @@ use Rattle.ultra_whole.proofs.blocks.Blocks.element.Goals as goal
 
 pub returns-clause-state : goal.returns-clause-state
 returns-clause-state c =
-    let b = c.self.inside in
+    let b = c.self.inside.parts in
     let d = b.config.stages in
     let f = frame_of d b.partition.items b.blocks.items in
     let small : c.args.pe < 2 ^ d = subst (λ (s : BlocksState). c.args.pe < 2 ^ s.config.stages) (sym c.self.view_is) c.requires.pe in
@@ -22,20 +22,20 @@ returns-clause-state c =
 
 pub returns-clause-site : goal.returns-clause-site
 returns-clause-site c =
-    let b = c.self.inside in
+    let b = c.self.inside.parts in
     let d = b.config.stages in
     let f = frame_of d b.partition.items b.blocks.items in
     let small : c.args.pe < 2 ^ d = subst (λ (s : BlocksState). c.args.pe < 2 ^ s.config.stages) (sym c.self.view_is) c.requires.pe in
     ap (λ (e : ProcessingElement). e.processor.site) (c.element_in.ensures ∙ ap (λ (g : Frame). g.element c.args.pe) (same_frame c.net-net.result d c.as_slice-2.result.now b.partition.items c.as_slice.result.now b.blocks.items c.net-net.ensures c.as_slice-2.ensures.value c.as_slice.ensures.value))
-    ∙ c.self.invariant.machine.machine.fits.sites c.args.pe small
+    ∙ c.self.invariant.whole.machine.machine.fits.sites c.args.pe small
     ∙ ap (λ (s : BlocksState). site s.config c.args.pe) c.self.view_is
 
 pub returns-clause-most_open : goal.returns-clause-most_open
 returns-clause-most_open c =
-    let b = c.self.inside in
+    let b = c.self.inside.parts in
     let d = b.config.stages in
     let f = frame_of d b.partition.items b.blocks.items in
     let small : c.args.pe < 2 ^ d = subst (λ (s : BlocksState). c.args.pe < 2 ^ s.config.stages) (sym c.self.view_is) c.requires.pe in
     ap (λ (e : ProcessingElement). e.interface.most_open) (c.element_in.ensures ∙ ap (λ (g : Frame). g.element c.args.pe) (same_frame c.net-net.result d c.as_slice-2.result.now b.partition.items c.as_slice.result.now b.blocks.items c.net-net.ensures c.as_slice-2.ensures.value c.as_slice.ensures.value))
-    ∙ c.self.invariant.machine.machine.fits.most_open c.args.pe small
+    ∙ c.self.invariant.whole.machine.machine.fits.most_open c.args.pe small
     ∙ ap (λ (s : BlocksState). s.config.most_open) c.self.view_is

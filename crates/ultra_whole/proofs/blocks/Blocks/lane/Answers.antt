@@ -15,7 +15,7 @@ use Rattle.ultra_whole.proofs.blocks.Blocks.lane.Goals as goal
 
 pub returns-clause-state : goal.returns-clause-state
 returns-clause-state c =
-    let b = c.self.inside in
+    let b = c.self.inside.parts in
     let d = b.config.stages in
     let f = frame_of d b.partition.items b.blocks.items in
     let s = c.args.stage in
@@ -30,7 +30,7 @@ returns-clause-state c =
 
 pub returns-clause-requests : goal.returns-clause-requests
 returns-clause-requests c =
-    let b = c.self.inside in
+    let b = c.self.inside.parts in
     let d = b.config.stages in
     let f = frame_of d b.partition.items b.blocks.items in
     let s = c.args.stage in
@@ -42,14 +42,14 @@ returns-clause-requests c =
     ∙ ap f.switch (c.switch_number-number.ensures.value ∙ ap (λ e. switch_number e s (x / 2)) c.net-net.ensures) in
     let queue = c.at.ensures ∙ ap (λ (w : Switch). at_port w.to_mm (x % 2)) switch in
     let number : switch_number d s (x / 2) < switch_count d =
-    number_small d s (x / 2) stage_small (half_small b.config c.self.invariant.machine.machine.range x small) in
+    number_small d s (x / 2) stage_small (half_small b.config c.self.invariant.whole.machine.machine.range x small) in
     ap (λ (q : SizedLane). q.request_places) queue
-    ∙ (sizes_at b.config (f.switch (switch_number d s (x / 2))) (x % 2) (c.self.invariant.machine.machine.fits.switches (switch_number d s (x / 2)) number)).requests
+    ∙ (sizes_at b.config (f.switch (switch_number d s (x / 2))) (x % 2) (c.self.invariant.whole.machine.machine.fits.switches (switch_number d s (x / 2)) number)).requests
     ∙ ap (λ (st : BlocksState). st.config.request_places) c.self.view_is
 
 pub returns-clause-waits : goal.returns-clause-waits
 returns-clause-waits c =
-    let b = c.self.inside in
+    let b = c.self.inside.parts in
     let d = b.config.stages in
     let f = frame_of d b.partition.items b.blocks.items in
     let s = c.args.stage in
@@ -61,7 +61,7 @@ returns-clause-waits c =
     ∙ ap f.switch (c.switch_number-number.ensures.value ∙ ap (λ e. switch_number e s (x / 2)) c.net-net.ensures) in
     let queue = c.at.ensures ∙ ap (λ (w : Switch). at_port w.to_mm (x % 2)) switch in
     let number : switch_number d s (x / 2) < switch_count d =
-    number_small d s (x / 2) stage_small (half_small b.config c.self.invariant.machine.machine.range x small) in
+    number_small d s (x / 2) stage_small (half_small b.config c.self.invariant.whole.machine.machine.range x small) in
     ap (λ (q : SizedLane). q.wait_places) queue
-    ∙ (sizes_at b.config (f.switch (switch_number d s (x / 2))) (x % 2) (c.self.invariant.machine.machine.fits.switches (switch_number d s (x / 2)) number)).waits
+    ∙ (sizes_at b.config (f.switch (switch_number d s (x / 2))) (x % 2) (c.self.invariant.whole.machine.machine.fits.switches (switch_number d s (x / 2)) number)).waits
     ∙ ap (λ (st : BlocksState). st.config.wait_places) c.self.view_is

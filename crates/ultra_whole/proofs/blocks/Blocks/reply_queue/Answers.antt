@@ -15,7 +15,7 @@ use Rattle.ultra_whole.proofs.blocks.Blocks.reply_queue.Goals as goal
 
 pub returns-clause-state : goal.returns-clause-state
 returns-clause-state c =
-    let b = c.self.inside in
+    let b = c.self.inside.parts in
     let d = b.config.stages in
     let f = frame_of d b.partition.items b.blocks.items in
     let s = c.args.stage in
@@ -30,7 +30,7 @@ returns-clause-state c =
 
 pub returns-clause-places : goal.returns-clause-places
 returns-clause-places c =
-    let b = c.self.inside in
+    let b = c.self.inside.parts in
     let d = b.config.stages in
     let f = frame_of d b.partition.items b.blocks.items in
     let s = c.args.stage in
@@ -42,7 +42,7 @@ returns-clause-places c =
     ∙ ap f.switch (c.switch_number-number.ensures.value ∙ ap (λ e. switch_number e s (x / 2)) c.net-net.ensures) in
     let queue = c.at.ensures ∙ ap (λ (w : Switch). at_port w.to_pe (x % 2)) switch in
     let number : switch_number d s (x / 2) < switch_count d =
-    number_small d s (x / 2) stage_small (half_small b.config c.self.invariant.machine.machine.range x small) in
+    number_small d s (x / 2) stage_small (half_small b.config c.self.invariant.whole.machine.machine.range x small) in
     ap (λ (q : SizedReplies). q.places) queue
-    ∙ (sizes_at b.config (f.switch (switch_number d s (x / 2))) (x % 2) (c.self.invariant.machine.machine.fits.switches (switch_number d s (x / 2)) number)).replies
+    ∙ (sizes_at b.config (f.switch (switch_number d s (x / 2))) (x % 2) (c.self.invariant.whole.machine.machine.fits.switches (switch_number d s (x / 2)) number)).replies
     ∙ ap (λ (st : BlocksState). st.config.reply_places) c.self.view_is
