@@ -1,8 +1,11 @@
 -- The units of one block, of which those below a number have gone to the blocks that a partition names.
-use Rattle.std.proofs.Common.{◌≡◌, ◌≢◌, ℕ, ◌+◌, ◌*◌, ◌^◌, ◌<◌, List, None, length, set, replicate, refl, sym, ◌∙◌, ap, subst, inl, inr, arith, get_or-set_same, get_or-set_other}
+use Rattle.std.proofs.Common.{◌≡◌, ◌≢◌, ℕ, ◌+◌, ◌*◌, ◌^◌, ◌<◌, List, Option, None, length, set, replicate, refl, sym, ◌∙◌, ap, subst, inl, inr, arith, get_or-set_same, get_or-set_other}
 use Rattle.std.proofs.lemmas.Bool.{cases_eq}
 use Rattle.std.proofs.lemmas.List.{get_or-replicate, length-replicate, length-set}
+use Rattle.ultra_switch.specs.declared.Switch.{Switch}
+use Rattle.ultra_mem.specs.Serve.{Bank}
 use Rattle.ultra_units.specs.Numbers.{switch_count, unit_count, module_number, element_number}
+use Rattle.ultra_halves.specs.declared.elements.ProcessingElement.{ProcessingElement}
 use Rattle.ultra_section.specs.Links.{put_on}
 use Rattle.ultra_section.specs.BlockState.{BlockState, switch_at, module_at, element_at}
 use Rattle.ultra_section.specs.Building.{with_unit, without_unit}
@@ -83,19 +86,30 @@ module _ (d : ℕ) (partition : List ℕ) (b : BlockState) (blocks : ℕ) where
     there : h < length now
     there = let e = was.count in omega arith
 
-    bare_here : IsBare x
-    bare_here = was.bare h there
+    -- the block stays as it is but for its units
+    still_bare : (ws : List (Option Switch)) (ms : List (Option Bank)) (es : List (Option ProcessingElement)) → IsBare (record x { switches = ws; modules = ms; elements = es })
+    still_bare ws ms es =
+        let bare = was.bare h there in
+        let only = bare.only in
+        record {
+          stages = bare.stages;
+          only = record {
+            done = only.done;
+            replies = only.replies;
+            requests = only.requests;
+            story = record { events = only.story.events; stops = only.story.stops };
+          };
+        }
 
     switch_carried : n < switch_count d
         → AreCarriedBelow (n + 1) (record left { switches = set left.switches n None }) (set now h (record x { switches = put_on x.switches n (switch_at left.switches n) }))
     switch_carried small =
         let y : BlockState = record x { switches = put_on x.switches n (switch_at left.switches n) } in
-        let only = bare_here.only in
         record {
           stages = was.stages;
           story = record { events = was.story.events; stops = was.story.stops };
           count = length-set now h y ∙ was.count;
-          bare = of_each_now now h y there IsBare record { stages = bare_here.stages; only = record { done = only.done; replies = only.replies; requests = only.requests; story = record { events = only.story.events; stops = only.story.stops } } } was.bare;
+          bare = of_each_now now h y there IsBare (still_bare (put_on x.switches n (switch_at left.switches n)) x.modules x.elements) was.bare;
           switches = table.one_carried partition (λ i. i) (switch_count d) blocks n n b.switches left.switches (λ k. (block_at now k).switches) (λ k. (block_at (set now h y) k).switches) refl small (λ i e. e) within was.switches
               (ap (λ (z : BlockState). z.switches) (block_now now h y there)) (λ k other. ap (λ (z : BlockState). z.switches) (block_still now h y there k other));
           modules = table.other_carried partition (module_number d) (2 ^ d) blocks n b.modules left.modules left.modules (λ k. (block_at now k).modules) (λ k. (block_at (set now h y) k).modules) (λ i hi e. absurd (omega arith)) refl
@@ -108,12 +122,11 @@ module _ (d : ℕ) (partition : List ℕ) (b : BlockState) (blocks : ℕ) where
         → AreCarriedBelow (n + 1) (record left { modules = set left.modules m None }) (set now h (record x { modules = put_on x.modules m (module_at left.modules m) }))
     module_carried m small is =
         let y : BlockState = record x { modules = put_on x.modules m (module_at left.modules m) } in
-        let only = bare_here.only in
         record {
           stages = was.stages;
           story = record { events = was.story.events; stops = was.story.stops };
           count = length-set now h y ∙ was.count;
-          bare = of_each_now now h y there IsBare record { stages = bare_here.stages; only = record { done = only.done; replies = only.replies; requests = only.requests; story = record { events = only.story.events; stops = only.story.stops } } } was.bare;
+          bare = of_each_now now h y there IsBare (still_bare x.switches (put_on x.modules m (module_at left.modules m)) x.elements) was.bare;
           switches = table.other_carried partition (λ i. i) (switch_count d) blocks n b.switches left.switches left.switches (λ k. (block_at now k).switches) (λ k. (block_at (set now h y) k).switches) (λ i hi e. absurd (omega arith)) refl
               (same_part now h y there (λ (z : BlockState). z.switches) refl) was.switches;
           modules = table.one_carried partition (module_number d) (2 ^ d) blocks n m b.modules left.modules (λ k. (block_at now k).modules) (λ k. (block_at (set now h y) k).modules) is small (λ i e. omega arith) within was.modules
@@ -126,12 +139,11 @@ module _ (d : ℕ) (partition : List ℕ) (b : BlockState) (blocks : ℕ) where
         → AreCarriedBelow (n + 1) (record left { elements = set left.elements p None }) (set now h (record x { elements = put_on x.elements p (element_at left.elements p) }))
     element_carried p small is =
         let y : BlockState = record x { elements = put_on x.elements p (element_at left.elements p) } in
-        let only = bare_here.only in
         record {
           stages = was.stages;
           story = record { events = was.story.events; stops = was.story.stops };
           count = length-set now h y ∙ was.count;
-          bare = of_each_now now h y there IsBare record { stages = bare_here.stages; only = record { done = only.done; replies = only.replies; requests = only.requests; story = record { events = only.story.events; stops = only.story.stops } } } was.bare;
+          bare = of_each_now now h y there IsBare (still_bare x.switches x.modules (put_on x.elements p (element_at left.elements p))) was.bare;
           switches = table.other_carried partition (λ i. i) (switch_count d) blocks n b.switches left.switches left.switches (λ k. (block_at now k).switches) (λ k. (block_at (set now h y) k).switches) (λ i hi e. absurd (omega arith)) refl
               (same_part now h y there (λ (z : BlockState). z.switches) refl) was.switches;
           modules = table.other_carried partition (module_number d) (2 ^ d) blocks n b.modules left.modules left.modules (λ k. (block_at now k).modules) (λ k. (block_at (set now h y) k).modules) (λ i hi e. absurd (omega arith)) refl
