@@ -1,12 +1,11 @@
 -- A machine in one block is a whole machine before its first cycle, and stays one when it is dealt to blocks.
-use Rattle.std.proofs.Common.{◌≡◌, ℕ, zero, suc, ◌+◌, ◌*◌, ◌^◌, ◌<◌, ◌≤◌, List, [], ◌∷◌, map, All, length, get_or, arith, refl, ap, ◌∙◌, sym, subst}
+use Rattle.std.proofs.Common.{◌≡◌, ℕ, zero, suc, ◌<◌, ◌≤◌, List, [], ◌∷◌, map, All, length, get_or, arith, refl, ap, ◌∙◌, sym, subst}
 use Rattle.std.specs.List.Sorted.{IsNonDecreasing}
 use Rattle.ultra_msg.specs.declared.Event.{Event}
 use Rattle.ultra_model.specs.declared.Stop.{Stop}
 use Rattle.ultra_model.specs.Machine.{Settings, start}
 use Rattle.ultra_model.specs.Sound.{IsSound}
 use Rattle.ultra_section.specs.BlockState.{BlockState}
-use Rattle.ultra_course.specs.Frame.{Frame}
 use Rattle.ultra_course.specs.Whole.{emptied, whole}
 use Rattle.ultra_mem.specs.Serve.{Bank}
 use Rattle.ultra_halves.specs.declared.elements.ProcessingElement.{ProcessingElement}
@@ -14,7 +13,6 @@ use Rattle.ultra_course.proofs.AtFrame.{whole_alike}
 use Rattle.ultra_cut.specs.Cut.{block_at, frame_of}
 use Rattle.ultra_cut.specs.Events.{event_rank, events_of, stops_of}
 use Rattle.ultra_happenings.specs.InOrder.{IsInOrder}
-use Rattle.ultra_merge.specs.Merging.{merged}
 use Rattle.ultra_merge.proofs.Merged.{merged_none, merged_of}
 use Rattle.ultra_build.specs.Fresh.{IsFresh, frame_of_one, one_block}
 use Rattle.ultra_build.specs.Dealt.{IsDealt}

@@ -4,7 +4,6 @@ use Rattle.ultra_msg.specs.declared.Event.{Event}
 use Rattle.ultra_isa.specs.declared.Instr.{Instr}
 use Rattle.ultra_model.specs.declared.Stop.{Stop}
 use Rattle.ultra_model.specs.Machine.{Settings, Machine}
-use Rattle.ultra_section.specs.BlockState.{BlockState}
 use Rattle.ultra_cut.specs.Events.{event_rank}
 use Rattle.ultra_merge.specs.Merging.{Remainder, merged}
 use Rattle.ultra_cycle.specs.Moments.{AreWhole, machine_in}

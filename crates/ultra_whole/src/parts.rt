@@ -32,10 +32,10 @@ impl Parts {
         requires whole { AreParts self.old }
         requires one { length self.old.blocks.items ≡ 1 }
         requires partition { is_partition self.old.config partition.now ≡ true }
-        ensures whole { OnOk result (AreParts self.new) }
+        ensures whole { AreParts self.new }
         ensures value { OnOk result (put_together self.new ≡ record (put_together self.old) { partition = partition.now; count = length self.new.blocks.items }) }
         ensures count { OnOk result (IsLastNamed partition.now (length self.new.blocks.items)) }
-        ensures kept { OnErr result (self.new ≡ self.old) }
+        ensures kept { OnErr result (put_together self.new ≡ put_together self.old) }
     {
         let homes = Vec::from_slice(alloc, partition)?;
         let blocks = deal(alloc, self.config.net(), partition, &mut self.blocks[0])?;

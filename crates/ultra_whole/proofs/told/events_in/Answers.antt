@@ -1,4 +1,4 @@
-use Rattle.std.proofs.Common.{◌≡◌, ◌<◌, arith, ap, sym, subst, ◌∙◌, length, map, take}
+use Rattle.std.proofs.Common.{◌≡◌, ◌<◌, arith, ap, sym, subst, ◌∙◌, length, take}
 use Rattle.std.proofs.lemmas.List.{get_or_default, length-map, length-take-le}
 use Rattle.ultra_cut.specs.Events.{event_rank}
 use Rattle.ultra_section.specs.BlockState.{BlockState}
@@ -6,7 +6,7 @@ use Rattle.ultra_cut.specs.Cut.{block_at, no_block}
 use Rattle.ultra_happenings.specs.InOrder.{IsInOrder}
 use Rattle.ultra_merge.specs.Merging.{IsRanked}
 use Rattle.ultra_whole.specs.declared.ranks.ByRules.{ByRules}
-use Rattle.ultra_whole.proofs.Firsts.{is_ranked, one_more}
+use Rattle.ultra_whole.proofs.Firsts.{is_ranked}
 use Rattle.ultra_whole.proofs.told.events_in.Goals as goal
 
 pub add-requires : goal.add-requires

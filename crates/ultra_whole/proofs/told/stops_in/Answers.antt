@@ -1,12 +1,11 @@
-use Rattle.std.proofs.Common.{◌≡◌, ◌<◌, arith, ap, sym, subst, ◌∙◌, length, map, take}
+use Rattle.std.proofs.Common.{◌≡◌, ◌<◌, arith, ap, sym, subst, ◌∙◌, length, take}
 use Rattle.std.proofs.lemmas.List.{get_or_default, length-map, length-take-le}
 use Rattle.ultra_model.specs.declared.Stop.{Stop}
 use Rattle.ultra_section.specs.BlockState.{BlockState}
 use Rattle.ultra_cut.specs.Cut.{block_at, no_block}
 use Rattle.ultra_happenings.specs.InOrder.{IsInOrder}
 use Rattle.ultra_merge.specs.Merging.{IsRanked}
-use Rattle.ultra_whole.specs.declared.ranks.ByRules.{ByRules}
-use Rattle.ultra_whole.proofs.Firsts.{is_ranked, one_more}
+use Rattle.ultra_whole.proofs.Firsts.{is_ranked}
 use Rattle.ultra_whole.proofs.told.stops_in.Goals as goal
 
 pub add-requires : goal.add-requires
