@@ -35,10 +35,10 @@ abbrev pub only_if : {X : Type 0} → Bool → Option X → Option X
 only_if true o = o
 only_if false o = None
 
--- of as many blocks as `count` the last is the home of a unit, unless it is the only one
+-- there are as many blocks as `count`: at least one, and of several the last is the home of a unit
 abbrev pub IsLastNamed : List ℕ → ℕ → Type 0
 IsLastNamed partition count =
-    1 < count → (n : ℕ) × (n < length partition) × (home partition n + 1 ≡ count)
+    (1 ≤ count) × (1 < count → (n : ℕ) × (n < length partition) × (home partition n + 1 ≡ count))
 
 module _ (d : ℕ) (partition : List ℕ) (b : BlockState) where
   -- the units of block b stand where the partition says, and nowhere else
