@@ -237,6 +237,36 @@ fn a_status_is_that_of_standard_output(rt: HostRuntime) -> Result<(), Fail> {
     Ok(())
 }
 
+/// With each call for memory or for a thread refused in turn, a command gives its full answer, or a
+/// prefix of it and a line that says what was refused.
+#[test]
+fn a_command_is_refused_or_whole(rt: HostRuntime) -> Result<(), Fail> {
+    for (words, _) in COMMANDS {
+        let text = text_of(&rt, words)?;
+        let files = files();
+        let mut shelf = Shelf {
+            files: &files,
+            account: Account::Opened,
+        };
+        let mut out = Tray::with_room(rt.alloc())?;
+        let mut err = Tray::with_room(rt.alloc())?;
+        let status = main_with(&rt, words, &mut shelf, &mut out, &mut err);
+        assert!(rt; text.text()?.starts_with(out.text()?), "{words:?}");
+        match err.text()? {
+            "" => {
+                assert_eq!(rt; status, 0, "{words:?}");
+                assert_eq!(rt; out.bytes.len(), text.bytes.len(), "{words:?}");
+            }
+            line => {
+                assert_eq!(rt; status, 4, "{words:?}");
+                let is_stated = line == "ultra: no memory\n" || line == "ultra: no thread\n";
+                assert!(rt; is_stated, "{words:?}: {line}");
+            }
+        }
+    }
+    Ok(())
+}
+
 /// Asserts what a command does whose read after `sound_reads` reads fails.
 fn check_read<'w, R: Host>(
     rt: &R,
