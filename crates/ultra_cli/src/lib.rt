@@ -22,9 +22,9 @@ use ultra_msg::{Sink, write_all};
 /// Does what the words ask for, and answers the status that the program ends with: 0 done, 2 a
 /// usage fault, 3 refused input, 4 no memory or no thread, 5 a failed write.
 ///
-/// The first word is the program's name. Results and help go to `out`; what is wrong goes to `err`.
-/// What is done is what the words ask for; the texts of help and usage faults are `clap`'s, and shown
-/// by tests. A run by several workers starts threads, and the call may wait for them.
+/// The first word is the program's name. Results, help and the version go to `out`; what is wrong
+/// goes to `err`. What is done is what the words ask for; the texts of help, of the version and of
+/// usage faults are laid out by `clap`, and shown by tests. A run by several workers starts threads, and the call may wait for them.
 pub fn main_with<'w, R: AllocGlobal + Threads + Wait + Sync, F: Source, O: Sink, E: Sink>(
     rt: &R,
     words: &'w [&'w str],
@@ -63,7 +63,7 @@ fn obey<'w, R: AllocGlobal + Threads + Wait + Sync, F: Source, O: Sink, E: Sink>
 {
     match parsed {
         Parsed::Command(command) => carry_out(rt, command, source, out, err),
-        Parsed::Help(text) => match write_all(out, text.as_bytes()) {
+        Parsed::Help(text) | Parsed::Version(text) => match write_all(out, text.as_bytes()) {
             Ok(()) => 0,
             Err(_) => give_up(&Failure::NotWritten, err),
         },

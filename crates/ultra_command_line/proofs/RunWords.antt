@@ -1,5 +1,5 @@
 -- the words of a run of two paths
-use Rattle.std.proofs.Common.{◌∙◌, ◌≡◌, ◌≢◌, ◌⊎◌, ap, inl, inr, subst, sym, false, List, [], ◌∷◌, Some, None, codes, refl}
+use Rattle.std.proofs.Common.{◌∙◌, ◌≡◌, ap, inl, inr, subst, sym, false, List, [], ◌∷◌, Some, None, codes, refl}
 use Rattle.std.proofs.lemmas.Bool.{ne_eqb}
 use Rattle.std.proofs.lemmas.Option.{same_Some}
 use Rattle.std.specs.Prelude.{◌==◌}
@@ -8,7 +8,6 @@ use Rattle.clap.specs.Lexer.{long_of, short_of}
 use Rattle.clap.specs.Words.{Text, fault_of, IsAmong}
 use Rattle.clap.proofs.OnLiterals.{clap_on_literals}
 use Rattle.clap.specs.declared.error.ErrorKind.{ErrorKind}
-use Rattle.clap.specs.declared.error.ErrorKind.TheVariants.{OutOfMemory}
 use Rattle.ultra_command_line.specs.declared.Parsed.{Parsed}
 use Rattle.ultra_command_line.specs.declared.Parsed.TheVariants as parsed
 use Rattle.ultra_command_line.specs.Asked.{Asked, asked, run, AreRunOf, IsAskedBy, IsFault, IsPath, IsRunOf}
