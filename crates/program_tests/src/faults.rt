@@ -183,7 +183,8 @@ fn each_write_fails_in_turn(rt: HostRuntime) -> Result<(), Fail> {
 #[test]
 fn each_write_of_a_help_text_fails_in_turn(rt: HostRuntime) -> Result<(), Fail> {
     check_writes(&rt, &["ultra", "--help"])?;
-    check_writes(&rt, &["ultra", "sweep", "--help"])
+    check_writes(&rt, &["ultra", "sweep", "--help"])?;
+    check_writes(&rt, &["ultra", "--version"])
 }
 
 /// Standard error that fails changes no status, and gets nothing more.
