@@ -6,7 +6,7 @@ use Rattle.clap.specs.declared.error.ErrorKind.{ErrorKind}
 use Rattle.clap.specs.declared.error.ErrorKind.TheVariants as kind
 use Rattle.ultra_command_line.specs.declared.Parsed.{Parsed}
 use Rattle.ultra_command_line.specs.declared.Parsed.TheVariants as parsed
-use Rattle.ultra_command_line.specs.Asked.{AreOne, IsAskedBy, IsFault, IsHelp, IsTextOfKind, IsVersion}
+use Rattle.ultra_command_line.specs.Asked.{AreOnly, IsAskedBy, IsFault, IsHelp, IsTextOfKind, IsVersion}
 use Rattle.ultra_command_line.specs.Grammar.{ultra_app}
 
 help_fault : (name : Text) → fault_of ultra_app (name ∷ codes "--help" ∷ []) ≡ kind.DisplayHelp ∷ []
@@ -32,7 +32,7 @@ module _ (words : List Text) (only : ErrorKind) (is : fault_of ultra_app words �
       first (inl e) = e
       first (inr none) = absurd none
 
-pub help_alone : (words : List Text) (p : Parsed) → IsAskedBy words p → AreOne words (codes "--help") → IsHelp p
+pub help_alone : (words : List Text) (p : Parsed) → IsAskedBy words p → AreOnly words (codes "--help") → IsHelp p
 help_alone words p by are = go p by
   where
     is : fault_of ultra_app words ≡ kind.DisplayHelp ∷ []
@@ -47,7 +47,7 @@ help_alone words p by are = go p by
     go (parsed.Usage text) h = h.2 (same_kind words _ is h.0 h.1)
     go parsed.NoMemory h = tt
 
-pub version_alone : (words : List Text) (p : Parsed) → IsAskedBy words p → AreOne words (codes "--version") → IsVersion p
+pub version_alone : (words : List Text) (p : Parsed) → IsAskedBy words p → AreOnly words (codes "--version") → IsVersion p
 version_alone words p by are = go p by
   where
     is : fault_of ultra_app words ≡ kind.DisplayVersion ∷ []

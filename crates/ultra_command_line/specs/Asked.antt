@@ -181,8 +181,8 @@ IsRunOf conf prog parsed.NoMemory = ⊤
 -- ---- help and the version
 
 -- the words are this one, after the program's name
-abbrev pub AreOne : List Text → Text → Type 0
-AreOne words word = (name : Text) × (words ≡ name ∷ word ∷ [])
+abbrev pub AreOnly : List Text → Text → Type 0
+AreOnly words word = (name : Text) × (words ≡ name ∷ word ∷ [])
 
 -- help, unless memory was refused
 abbrev pub IsHelp : Parsed → Type 0

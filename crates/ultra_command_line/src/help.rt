@@ -73,7 +73,7 @@ gate (B T), queue (Z T), rw (G T) or barrier (T)
 
 gate B T   at most B PEs are inside at once, B 1 to 64
 queue Z T  a queue of 2^Z places, Z 0 to 6
-rw G T     readers and writers, of which G are writers, G 0 to 64
+rw G T     PEs below G write and the others read, G 0 to 64
 barrier T  all PEs wait for one another";
 
 /// The numbers of a coordination program.

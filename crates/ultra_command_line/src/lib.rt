@@ -10,7 +10,7 @@ mod workers;
 ghost use Rattle.std.specs.Prelude.{◌≡◌, ◌≢◌, [], codes, map, option_map, IfOk, MatchResult};
 ghost use Rattle.clap.specs.Words.{fault_of, kind_of, HasKind, Text};
 ghost use Rattle.clap.specs.declared.error.ErrorKind.TheVariants.{OutOfMemory};
-ghost use Rattle.ultra_command_line.specs.Asked.{asked, asked_of, AreOne, AreRunOf, IsAnswer};
+ghost use Rattle.ultra_command_line.specs.Asked.{asked, asked_of, AreOnly, AreRunOf, IsAnswer};
 ghost use Rattle.ultra_command_line.specs.Asked.{IsAskedBy, IsHelp, IsRunOf, IsTextOfKind, IsVersion};
 ghost use Rattle.ultra_command_line.specs.Grammar.{ultra_app, IsApp};
 
@@ -107,8 +107,8 @@ pub fn parse<'w>(alloc: Global, words: &'w [&'w str]) -> Parsed<'w>
     ensures asked { IsAskedBy (map (λ w. w.now) words.entry.now) result }
     ensures run { (conf prog : Text) → AreRunOf (map (λ w. w.now) words.entry.now) conf prog
         → IsRunOf conf prog result }
-    ensures help { AreOne (map (λ w. w.now) words.entry.now) (codes "--help") → IsHelp result }
-    ensures version { AreOne (map (λ w. w.now) words.entry.now) (codes "--version")
+    ensures help { AreOnly (map (λ w. w.now) words.entry.now) (codes "--help") → IsHelp result }
+    ensures version { AreOnly (map (λ w. w.now) words.entry.now) (codes "--version")
         → IsVersion result }
 {
     match command_in(alloc, words) {
