@@ -1,5 +1,5 @@
 -- which commands were obeyed, and with which status the program ends; this project's profile
-use Rattle.std.specs.Prelude.{◌≡◌, ◌≢◌, ◌+◌, ℕ, List, [], ◌∷◌, ◌++◌, ◌⊎◌, ◌==◌, if◌then◌else◌, String, string_bytes, Result, OnOk, IfErr}
+use Rattle.std.specs.Prelude.{◌≡◌, ◌≢◌, ◌+◌, ℕ, List, [], ◌∷◌, ◌++◌, ◌⊎◌, ◌==◌, if◌then◌else◌, string_bytes, Result, OnOk, IfErr}
 use Rattle.ultra_msg.specs.Bytes.{TakesPrefix}
 use Rattle.ultra_isa.specs.declared.Instr.{Instr}
 use Rattle.ultra_asm.specs.Listing.{listing_text}
@@ -48,13 +48,13 @@ pub data ListFails (prog : List ℕ) (old new : Traffic) (f : Failure) : Type 0 
   unwritten : (text : List ℕ) (p : List Instr) → IsProgramOf text p → f ≡ NotWritten → new.files ≡ old.files ++ file_of prog text ∷ [] → TakesPrefix (listing_text p) old.written new.written → ListFails prog old new f
 
 -- help or the version was written
-abbrev pub WroteAnswer : String → Traffic → Traffic → Type 0
-WroteAnswer text old new = new ≡ record old { written = old.written ++ string_bytes text }
+abbrev pub WroteAnswer : List ℕ → Traffic → Traffic → Type 0
+WroteAnswer text old new = new ≡ record old { written = old.written ++ text }
 
 -- a prefix of it was written, and no file was read
-abbrev pub AnswerFails : String → Traffic → Traffic → Failure → Type 0
+abbrev pub AnswerFails : List ℕ → Traffic → Traffic → Failure → Type 0
 AnswerFails text old new f =
-    (f ≡ NotWritten) × (new.files ≡ old.files) × TakesPrefix (string_bytes text) old.written new.written
+    (f ≡ NotWritten) × (new.files ≡ old.files) × TakesPrefix text old.written new.written
 
 -- what was asked for was done. Standard error took nothing, but for the progress of a sweep
 abbrev pub Obeyed : Parsed → Traffic → Traffic → SinkTold → SinkTold → Type 0
@@ -64,8 +64,8 @@ Obeyed (parsed.Command (Explain conf prog heap)) old new before after = WroteTex
 Obeyed (parsed.Command (ListOf prog)) old new before after = WroteListing prog.now old new × (after ≡ before)
 Obeyed (parsed.Command (Sweep jobs workers at_once progress)) old new before after = Swept jobs.now progress old new before after
 Obeyed (parsed.Command (Lib coordination)) old new before after = (new.files ≡ old.files) × WroteProgram coordination old.written new.written × (after ≡ before)
-Obeyed (parsed.Help text) old new before after = WroteAnswer text old new × (after ≡ before)
-Obeyed (parsed.Version text) old new before after = WroteAnswer text old new × (after ≡ before)
+Obeyed (parsed.Help text) old new before after = WroteAnswer (string_bytes text) old new × (after ≡ before)
+Obeyed (parsed.Version text) old new before after = WroteAnswer (string_bytes text) old new × (after ≡ before)
 Obeyed (parsed.Usage text) old new before after = ⊥
 Obeyed parsed.NoMemory old new before after = ⊥
 
@@ -77,8 +77,10 @@ NotObeyed (parsed.Command (Explain conf prog heap)) old new before after f = Tex
 NotObeyed (parsed.Command (ListOf prog)) old new before after f = ListFails prog.now old new f × (after ≡ before)
 NotObeyed (parsed.Command (Sweep jobs workers at_once progress)) old new before after f = SweepFails jobs.now progress old new before after f
 NotObeyed (parsed.Command (Lib coordination)) old new before after f = (new.files ≡ old.files) × LibFails coordination old.written new.written f × (after ≡ before)
-NotObeyed (parsed.Help text) old new before after f = AnswerFails text old new f × (after ≡ before)
-NotObeyed (parsed.Version text) old new before after f = AnswerFails text old new f × (after ≡ before)
+NotObeyed (parsed.Help text) old new before after f =
+    AnswerFails (string_bytes text) old new f × (after ≡ before)
+NotObeyed (parsed.Version text) old new before after f =
+    AnswerFails (string_bytes text) old new f × (after ≡ before)
 NotObeyed (parsed.Usage text) old new before after f = (f ≡ Usage text) × (new ≡ old) × (after ≡ before)
 NotObeyed parsed.NoMemory old new before after f = (f ≡ NoMemory) × (new ≡ old) × (after ≡ before)
 
