@@ -1,5 +1,5 @@
 -- what an account tells; this project's profile
-use Rattle.std.specs.Prelude.{ℕ, ◌+◌, List, [], ◌∷◌, ◌++◌, Option}
+use Rattle.std.specs.Prelude.{ℕ, ◌+◌, List, [], ◌∷◌, ◌++◌}
 use Rattle.ultra_io.specs.declared.account.Account.{Account}
 use Rattle.ultra_io.specs.declared.account.Account.TheVariants.{Opened, Took', Read', Failed'}
 use Rattle.ultra_io.specs.Source.{File, file_of}
@@ -25,19 +25,13 @@ failures_in (Took' m before byte) = failures_in before
 failures_in (Read' m before n path bytes) = failures_in before
 failures_in (Failed' m before) = failures_in before + 1
 
--- what is told of a sink
+-- what an account tells of a sink
 pub record SinkTold : Type 0 where
   pub taken : List ℕ
   pub failures : ℕ
 
--- what an account tells of a stream, and the bytes that its writer holds, where these are known
-pub record StreamTold : Type 0 where
-  pub taken : List ℕ
-  pub failures : ℕ
-  pub held : Option (List ℕ)
-
-abbrev pub stream_told : Account → Option (List ℕ) → StreamTold
-stream_told a held = record { taken = bytes_in a; failures = failures_in a; held = held }
+abbrev pub sink_told : Account → SinkTold
+sink_told a = record { taken = bytes_in a; failures = failures_in a }
 
 -- what an account tells of a source of files
 pub record SourceTold : Type 0 where
