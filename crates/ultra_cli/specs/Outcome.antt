@@ -10,7 +10,7 @@ use Rattle.ultra_inputs.specs.declared.failure.Failure.{Failure}
 use Rattle.ultra_inputs.specs.declared.failure.Failure.TheVariants.{Usage, NoMemory, NotWritten}
 use Rattle.ultra_inputs.specs.Inputs.{IsProgramOf, IsUnread, ExplainsProgram}
 use Rattle.ultra_inputs.specs.Traffic.{Traffic, with_files, IsStopped, WroteText, TextFails}
-use Rattle.ultra_inputs.specs.Failure.{status_of}
+use Rattle.ultra_inputs.specs.Failure.{status_of, read_failures}
 use Rattle.ultra_io.specs.Account.{SinkTold}
 use Rattle.ultra_io.specs.Source.{file_of}
 use Rattle.run_command.specs.Stops.{IsStoppedBy}
@@ -84,13 +84,16 @@ NotObeyed (parsed.Version text) old new before after f =
 NotObeyed (parsed.Usage text) old new before after f = (f ≡ Usage text) × (new ≡ old) × (after ≡ before)
 NotObeyed parsed.NoMemory old new before after f = (f ≡ NoMemory) × (new ≡ old) × (after ≡ before)
 
--- the failure was reported, after what was shown before
-pub record Failed (p : Parsed) (old new : Traffic) (before after : SinkTold) (status : ℕ) : Type 0 where
+-- the failure was reported, after what was shown before. The source of files has failed as often as the
+-- failure says
+pub record Failed (p : Parsed) (old new : Traffic) (before after : SinkTold)
+    (source_failures source_failures_after status : ℕ) : Type 0 where
   pub failure : Failure
   pub shown : SinkTold
   pub same_status : status_of failure ≡ status
   pub why : NotObeyed p old new before shown failure
   pub told : Told failure shown after
+  pub read_counted : source_failures_after ≡ source_failures + read_failures failure
 
 -- a failure was reported, and else nothing
 pub record HasReported {T : Type 0} (done : Result T Failure) (before after : SinkTold) (status : ℕ) : Type 0 where
@@ -98,9 +101,11 @@ pub record HasReported {T : Type 0} (done : Result T Failure) (before after : Si
   pub badly : IfErr done (λ f. (status ≡ status_of f) × Told f before after)
 
 -- the program ended: what was asked for was done, or a failure was reported
-pub record HasEnded (p : Parsed) (old new : Traffic) (before after : SinkTold) (failures failures_after end : ℕ) : Type 0 where
+pub record HasEnded (p : Parsed) (old new : Traffic) (before after : SinkTold)
+    (source_failures source_failures_after failures failures_after end : ℕ) : Type 0 where
   pub status : IsStatus end
   pub nothing : IsRefusal end → new.written ≡ old.written
   pub counted : failures_after ≡ failures + status_failures end
+  pub read_still : end ≢ 3 → source_failures_after ≡ source_failures
   pub done : end ≡ 0 → Obeyed p old new before after
-  pub failed : end ≢ 0 → Failed p old new before after end
+  pub failed : end ≢ 0 → Failed p old new before after source_failures source_failures_after end

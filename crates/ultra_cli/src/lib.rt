@@ -35,6 +35,7 @@ pub fn main_with<'w, R: AllocGlobal + Threads + Wait + Sync, F: Source, O: Sink,
     ensures status { IsStatus result }
     ensures nothing { IsRefusal result → O.taken out.new ≡ O.taken out.old }
     ensures counted { O.failures out.new ≡ O.failures out.old + status_failures result }
+    ensures read_still { result ≢ 3 → F.failures source.new ≡ F.failures source.old }
     ensures done { result ≡ 0 → (p : Parsed) × IsAskedBy (map (λ w. w.now) words.entry.now) p × Obeyed p
         (traffic (F.files source.old) (O.taken out.old)) (traffic (F.files source.new) (O.taken out.new))
         (stream (E.taken err.old) (E.failures err.old))
@@ -42,7 +43,8 @@ pub fn main_with<'w, R: AllocGlobal + Threads + Wait + Sync, F: Source, O: Sink,
     ensures failed { result ≢ 0 → (p : Parsed) × IsAskedBy (map (λ w. w.now) words.entry.now) p × Failed p
         (traffic (F.files source.old) (O.taken out.old)) (traffic (F.files source.new) (O.taken out.new))
         (stream (E.taken err.old) (E.failures err.old))
-        (stream (E.taken err.new) (E.failures err.new)) result }
+        (stream (E.taken err.new) (E.failures err.new))
+        (F.failures source.old) (F.failures source.new) result }
 {
     obey(rt, parse(rt.alloc(), words), source, out, err)
 }
@@ -59,6 +61,7 @@ fn obey<'w, R: AllocGlobal + Threads + Wait + Sync, F: Source, O: Sink, E: Sink>
         (traffic (F.files source.old) (O.taken out.old)) (traffic (F.files source.new) (O.taken out.new))
         (stream (E.taken err.old) (E.failures err.old))
         (stream (E.taken err.new) (E.failures err.new))
+        (F.failures source.old) (F.failures source.new)
         (O.failures out.old) (O.failures out.new) result }
 {
     match parsed {
@@ -84,6 +87,7 @@ fn carry_out<'w, R: AllocGlobal + Threads + Wait + Sync, F: Source, O: Sink, E: 
         (traffic (F.files source.old) (O.taken out.old)) (traffic (F.files source.new) (O.taken out.new))
         (stream (E.taken err.old) (E.failures err.old))
         (stream (E.taken err.new) (E.failures err.new))
+        (F.failures source.old) (F.failures source.new)
         (O.failures out.old) (O.failures out.new) result }
 {
     let alloc = rt.alloc();
