@@ -111,8 +111,7 @@ pub fn run_alone<S: Sink>(
     ensures err { OnErr result (TakesPrefix (trace config.now program.now) (S.taken sink.old) (S.taken sink.new)) }
     ensures counted { IfErr result (λ e. S.failures sink.new ≡ S.failures sink.old + sink_faults e) }
     ensures alone { IfErr result (λ e. e ≢ NoThread) }
-    ensures memory_first {
-        IfErr result (λ e. e ≡ NoMemory → S.taken sink.new ≡ S.taken sink.old) }
+    ensures memory_first { IfErr result (λ e. e ≡ NoMemory → S.taken sink.new ≡ S.taken sink.old) }
 {
     let mut blocks = new_blocks(alloc, config, program, 1)?;
     write_trace(&mut blocks, sink)?;
