@@ -30,11 +30,12 @@ pub const WORKERS: &str = "How many threads make the cycles, 1 to 64";
 pub const WORKERS_IN_FULL: &str = "\
 How many threads make the cycles, 1 to 64
 
-The trace is the same for every H. One worker is the fastest, and starts
-no thread: in each half of a cycle each worker is handed its part of the
-machine and gives it back, which costs more than it gains on machines of
-up to six stages. Measured at six stages, 2 workers took 3 times as long
-as 1, and 8 workers 8 times (bench/README.md).";
+The trace is the same for every H. One worker is the fastest, and
+starts no thread: in each half of a cycle each worker is handed its
+part of the machine and gives it back, which costs more than it gains
+on machines of up to six stages. Measured at six stages, 2 workers
+took some 3 times as long as 1, and 8 workers 8 times
+(bench/README.md).";
 
 /// The workers of a sweep.
 pub const JOB_WORKERS: &str = "How many threads do the jobs, 1 to 64";
@@ -43,10 +44,10 @@ pub const JOB_WORKERS: &str = "How many threads do the jobs, 1 to 64";
 pub const JOB_WORKERS_IN_FULL: &str = "\
 How many threads do the jobs, 1 to 64
 
-Each job is run by one thread, so a sweep gains by threads: on four
-processors jobs of a second were done 2 times as fast by 2 threads as by
-1, and 3.3 times by 4; jobs of some milliseconds 1.6 and 2.2 times
-(bench/README.md).";
+Each job is run by one thread, so a sweep gains by threads. Measured
+on four processors, jobs of a second were done 2 times as fast by 2
+threads as by 1, and 3.3 times by 4; jobs of some milliseconds 1.6 and
+2.2 times (bench/README.md).";
 
 /// The bound on jobs that run at once.
 pub const AT_ONCE: &str = "How many jobs may run at once, 1 to 64";
@@ -61,8 +62,8 @@ pub const HEAP: &str = "Bytes for the trees, 256 to 16777216";
 pub const HEAP_IN_FULL: &str = "\
 Bytes for the trees, 256 to 16777216
 
-Only the trees of requests that are on their way have to fit, so a longer
-run needs no larger heap.";
+Only the trees of requests that are on their way have to fit, so a
+longer run needs no larger heap.";
 
 /// The name of a coordination program.
 pub const NAME: &str = "gate (B T), queue (Z T), rw (G T) or barrier (T)";
@@ -81,8 +82,8 @@ pub const NUMBERS: &str = "The size that the program is for, and the number T of
 
 /// The same, and their ranges.
 pub const NUMBERS_IN_FULL: &str = "\
-The size that the program is for (a barrier has none), and the number T of
-rounds, 1 to 1000. Each number is in decimal digits.";
+The size that the program is for (a barrier has none), and the number
+T of rounds, 1 to 1000. Each number is in decimal digits.";
 
 /// The help of the program.
 pub const ULTRA: Help<'static> = Help {
@@ -284,5 +285,5 @@ Example, a barrier that is passed once:
     ...
     halt
 
-docs/COORDINATION.md says what the programs do and which law each one keeps.",
+docs/COORDINATION.md says what the programs do and which law each keeps.",
 };
