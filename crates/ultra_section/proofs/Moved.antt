@@ -1,5 +1,5 @@
 -- A unit is put into a block, or taken out of it.
-use Rattle.std.proofs.Common.{◌≡◌, ◌≢◌, ℕ, ◌+◌, ◌*◌, ◌^◌, ◌≤◌, List, replicate, get_or, Bool, true, false, Option, Some, None, length, refl, sym, ◌∙◌, ap, subst, inl, inr}
+use Rattle.std.proofs.Common.{◌≡◌, ◌≢◌, ℕ, ◌+◌, ◌*◌, ◌^◌, ◌<◌, ◌≤◌, arith, List, replicate, get_or, Bool, true, false, Option, Some, None, length, refl, sym, ◌∙◌, ap, subst, inl, inr}
 use Rattle.std.specs.Prelude.{not, is_some}
 use Rattle.std.proofs.lemmas.Bool.{cases_eq, cases_lt}
 use Rattle.std.proofs.lemmas.List.{get_or-replicate, get_or_past, length-replicate}
@@ -23,65 +23,89 @@ use Rattle.ultra_section.specs.BlockState.{IsKept, UnitsAreKnown, most_events, m
 use Rattle.ultra_section.proofs.Known.{AgreeBut}
 
 -- ---- links
--- something may lead to unit n, and of the others the same is known
-pub record IsRenewed {M : Type 0} (n : ℕ) (l m : Links M) : Type 0 where
+-- something may lead to unit n, which stands here or doesn't, and of the others the same is known
+pub record IsRenewed {M : Type 0} (n : ℕ) (stands : Bool) (l m : Links M) : Type 0 where
   pub table : m.table ≡ l.table
-  pub came : has_unit m.came n ≡ true
-  pub away : has_unit m.away n ≡ true
+  pub came : has_unit m.came n ≡ stands
+  pub away : has_unit m.away n ≡ not stands
   pub others_came : (k : ℕ) → k ≢ n → has_unit m.came k ≡ has_unit l.came k
   pub others_away : (k : ℕ) → k ≢ n → has_unit m.away k ≡ has_unit l.away k
 
-leads_anyway : (here came away : Bool) → came ≡ true → away ≡ true → leads here came away ≡ true
-leads_anyway true came away c a = c
-leads_anyway false came away c a = a
+leads_anew : (here stands came away : Bool) → here ≡ stands → came ≡ stands → away ≡ not stands → leads here came away ≡ true
+leads_anew here true came away h c a = rw (h, c) refl
+leads_anew here false came away h c a = rw (h, a) refl
 
 same_leads : (a b c x y z : Bool) → x ≡ a → y ≡ b → z ≡ c → leads a b c ≡ true → leads x y z ≡ true
 same_leads a b c x y z p q r h = rw (p, q, r) h
 
-module _ {M : Type 0} (n : ℕ) (here now : List ℕ) (others : (k : ℕ) → k ≢ n → has_unit now k ≡ has_unit here k) (l m : Links M) (renewed : IsRenewed n l m) where
-  marked_anew : (unit link : ℕ) → IsMarked here l unit link → IsMarked now m unit link
-  marked_anew unit link was some =
-      elim (cases_eq unit n) [
-        | inl same ↦
-            leads_anyway (has_unit now unit) (has_unit m.came unit) (has_unit m.away unit)
-            (ap (has_unit m.came) same ∙ renewed.came) (ap (has_unit m.away) same ∙ renewed.away)
-        | inr other ↦
-            same_leads (has_unit here unit) (has_unit l.came unit) (has_unit l.away unit) (has_unit now unit) (has_unit m.came unit) (has_unit m.away unit)
-            (others unit other) (renewed.others_came unit other) (renewed.others_away unit other)
-            (was (ap (λ t. is_some (on_link t link)) (sym (ap (λ t. t.items) renewed.table)) ∙ some))
-      ]
-
+-- ---- units stand here as before, but for unit n
 module _ (d n : ℕ) (here now : List ℕ) (others : (k : ℕ) → k ≢ n → has_unit now k ≡ has_unit here k) where
-  replies_anew : (l m : Links ReplyMessage) → IsRenewed n l m → RepliesAreKnown d here l → RepliesAreKnown d now m
-  replies_anew l m renewed known = record {
-    all = ap (λ t. length t.items) renewed.table ∙ known.all;
-    switches_zero = λ j h. marked_anew n here now others l m renewed j (reply_links d (stage_of d j) (index_of d j)).zero (known.switches_zero j h);
-    switches_one = λ j h. marked_anew n here now others l m renewed j (reply_links d (stage_of d j) (index_of d j)).one (known.switches_one j h);
-    elements = λ p h. marked_anew n here now others l m renewed (element_number d p) (delivery_link d p) (known.elements p h);
+  -- what leads to another unit is known as before
+  marked_beside : {M : Type 0} (l : Links M) (unit link : ℕ) → unit ≢ n → IsMarked here l unit link → IsMarked now l unit link
+  marked_beside l unit link other was some =
+      same_leads (has_unit here unit) (has_unit l.came unit) (has_unit l.away unit) (has_unit now unit) (has_unit l.came unit) (has_unit l.away unit)
+      (others unit other) refl refl (was some)
+
+  pub replies_beside : (l : Links ReplyMessage) → switch_count d ≤ n → n < switch_count d + 2 ^ d → RepliesAreKnown d here l → RepliesAreKnown d now l
+  replies_beside l from to known = record {
+    all = known.all;
+    switches_zero = λ j h. marked_beside l j (reply_links d (stage_of d j) (index_of d j)).zero (λ e. absurd (omega arith)) (known.switches_zero j h);
+    switches_one = λ j h. marked_beside l j (reply_links d (stage_of d j) (index_of d j)).one (λ e. absurd (omega arith)) (known.switches_one j h);
+    elements = λ p h. marked_beside l (element_number d p) (delivery_link d p) (λ e. absurd (omega arith)) (known.elements p h);
   }
 
-  requests_anew : (l m : Links Request) → IsRenewed n l m → RequestsAreKnown d here l → RequestsAreKnown d now m
-  requests_anew l m renewed known = record {
-    all = ap (λ t. length t.items) renewed.table ∙ known.all;
-    switches_zero = λ j h. marked_anew n here now others l m renewed j (request_links d (stage_of d j) (index_of d j)).zero (known.switches_zero j h);
-    switches_one = λ j h. marked_anew n here now others l m renewed j (request_links d (stage_of d j) (index_of d j)).one (known.switches_one j h);
-    modules = λ p h. marked_anew n here now others l m renewed (module_number d p) (memory_link d p) (known.modules p h);
+  pub requests_beside : (l : Links Request) → switch_count d + 2 ^ d ≤ n → RequestsAreKnown d here l → RequestsAreKnown d now l
+  requests_beside l from known = record {
+    all = known.all;
+    switches_zero = λ j h. marked_beside l j (request_links d (stage_of d j) (index_of d j)).zero (λ e. absurd (omega arith)) (known.switches_zero j h);
+    switches_one = λ j h. marked_beside l j (request_links d (stage_of d j) (index_of d j)).one (λ e. absurd (omega arith)) (known.switches_one j h);
+    modules = λ p h. marked_beside l (module_number d p) (memory_link d p) (λ e. absurd (omega arith)) (known.modules p h);
   }
+
+  module _ (stands : Bool) (at : has_unit now n ≡ stands) where
+    marked_anew : {M : Type 0} (l m : Links M) → IsRenewed n stands l m → (unit link : ℕ) → IsMarked here l unit link → IsMarked now m unit link
+    marked_anew l m renewed unit link was some =
+        elim (cases_eq unit n) [
+          | inl same ↦
+              leads_anew (has_unit now unit) stands (has_unit m.came unit) (has_unit m.away unit)
+              (ap (has_unit now) same ∙ at) (ap (has_unit m.came) same ∙ renewed.came) (ap (has_unit m.away) same ∙ renewed.away)
+          | inr other ↦
+              same_leads (has_unit here unit) (has_unit l.came unit) (has_unit l.away unit) (has_unit now unit) (has_unit m.came unit) (has_unit m.away unit)
+              (others unit other) (renewed.others_came unit other) (renewed.others_away unit other)
+              (was (ap (λ t. is_some (on_link t link)) (sym (ap (λ t. t.items) renewed.table)) ∙ some))
+        ]
+
+    pub replies_anew : (l m : Links ReplyMessage) → IsRenewed n stands l m → RepliesAreKnown d here l → RepliesAreKnown d now m
+    replies_anew l m renewed known = record {
+      all = ap (λ t. length t.items) renewed.table ∙ known.all;
+      switches_zero = λ j h. marked_anew l m renewed j (reply_links d (stage_of d j) (index_of d j)).zero (known.switches_zero j h);
+      switches_one = λ j h. marked_anew l m renewed j (reply_links d (stage_of d j) (index_of d j)).one (known.switches_one j h);
+      elements = λ p h. marked_anew l m renewed (element_number d p) (delivery_link d p) (known.elements p h);
+    }
+
+    pub requests_anew : (l m : Links Request) → IsRenewed n stands l m → RequestsAreKnown d here l → RequestsAreKnown d now m
+    requests_anew l m renewed known = record {
+      all = ap (λ t. length t.items) renewed.table ∙ known.all;
+      switches_zero = λ j h. marked_anew l m renewed j (request_links d (stage_of d j) (index_of d j)).zero (known.switches_zero j h);
+      switches_one = λ j h. marked_anew l m renewed j (request_links d (stage_of d j) (index_of d j)).one (known.switches_one j h);
+      modules = λ p h. marked_anew l m renewed (module_number d p) (memory_link d p) (known.modules p h);
+    }
 
 -- ---- the block
-pub unit_moved : (d n : ℕ) (old now : Sets) (ws vs : List (Option Switch)) (bs cs : List (Option Bank)) (es fs : List (Option ProcessingElement))
+pub others_here : (n : ℕ) (old now : Sets) → AgreeBut n old now → (k : ℕ) → k ≢ n → has_unit now.here k ≡ has_unit old.here k
+others_here n old now agree k other = ap (λ (f : UnitFacts). f.here) (agree k other)
+
+pub unit_moved : (d : ℕ) (old now : Sets) (ws vs : List (Option Switch)) (bs cs : List (Option Bank)) (es fs : List (Option ProcessingElement))
     (rl rm : Links ReplyMessage) (ql qm : Links Request) (event_places stop_places : ℕ)
-    → IsKept d old ws bs es rl ql event_places stop_places → AgreeBut n old now → UnitsAreKnown d now vs cs fs → IsRenewed n rl rm → IsRenewed n ql qm
+    → IsKept d old ws bs es rl ql event_places stop_places → UnitsAreKnown d now vs cs fs → RepliesAreKnown d now.here rm → RequestsAreKnown d now.here qm
     → IsKept d now vs cs fs rm qm event_places stop_places
-unit_moved d n old now ws vs bs cs es fs rl rm ql qm e s kept agree units replies requests =
-    let others : (k : ℕ) → k ≢ n → has_unit now.here k ≡ has_unit old.here k = λ k other. ap (λ (f : UnitFacts). f.here) (agree k other) in
-    record {
-      units = units;
-      replies = replies_anew d n old.here now.here others rl rm replies kept.replies;
-      requests = requests_anew d n old.here now.here others ql qm requests kept.requests;
-      events_fit = kept.events_fit;
-      stops_fit = kept.stops_fit;
-    }
+unit_moved d old now ws vs bs cs es fs rl rm ql qm e s kept units replies requests = record {
+  units = units;
+  replies = replies;
+  requests = requests;
+  events_fit = kept.events_fit;
+  stops_fit = kept.stops_fit;
+}
 
 -- ---- what is noted of a unit that has come, and of one that has gone
 pub switch_put : (f g h k : UnitFacts) (w : Switch) → g ≡ record f { here = true } → h ≡ record g { holds_replies = holds_replies w; no_reply_room = not (has_reply_room w) }

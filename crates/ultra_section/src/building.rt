@@ -87,8 +87,8 @@ impl Block {
         self.sets.stand(number);
         self.sets.note_replies(number, &switch);
         self.sets.note_requests(number, &switch);
-        self.replies.renew(number);
-        self.requests.renew(number);
+        self.replies.renew(number, true);
+        self.requests.renew(number, true);
         self.switches[number] = Some(switch);
     }
 
@@ -100,8 +100,7 @@ impl Block {
         let unit = module_number(self.net, number);
         self.sets.stand(unit);
         self.sets.note_module(unit, &bank);
-        self.replies.renew(unit);
-        self.requests.renew(unit);
+        self.requests.renew(unit, true);
         self.modules[number as usize] = Some(bank);
     }
 
@@ -113,8 +112,7 @@ impl Block {
         let unit = element_number(self.net, pe);
         self.sets.stand(unit);
         self.sets.note_element(unit, &element);
-        self.replies.renew(unit);
-        self.requests.renew(unit);
+        self.replies.renew(unit, true);
         self.elements[pe as usize] = Some(element);
     }
 
@@ -126,8 +124,8 @@ impl Block {
     {
         let _count = switch_count(self.net);
         self.sets.leave(number);
-        self.replies.renew(number);
-        self.requests.renew(number);
+        self.replies.renew(number, false);
+        self.requests.renew(number, false);
         self.switches[number].take()
     }
 
@@ -139,8 +137,7 @@ impl Block {
     {
         let unit = module_number(self.net, number);
         self.sets.leave(unit);
-        self.replies.renew(unit);
-        self.requests.renew(unit);
+        self.requests.renew(unit, false);
         self.modules[number as usize].take()
     }
 
@@ -152,8 +149,7 @@ impl Block {
     {
         let unit = element_number(self.net, pe);
         self.sets.leave(unit);
-        self.replies.renew(unit);
-        self.requests.renew(unit);
+        self.replies.renew(unit, false);
         self.elements[pe as usize].take()
     }
 

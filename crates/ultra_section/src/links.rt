@@ -1,6 +1,6 @@
 //! The links of a kind of message that lead away from units, and to which units something has been put on its way.
 
-ghost use Rattle.std.specs.Prelude.{◌≡◌, ◌≢◌, ℕ, ◌<◌, true, None, is_some, length, slice_index_or, slice_set};
+ghost use Rattle.std.specs.Prelude.{◌≡◌, ◌≢◌, ℕ, ◌<◌, true, not, None, is_some, length, slice_index_or, slice_set};
 ghost use Rattle.ultra_units.specs.Set.{has_unit};
 ghost use Rattle.ultra_section.specs.Away.{taken_by_turns};
 ghost use Rattle.ultra_section.specs.Links.{leads, put_on};
@@ -42,17 +42,17 @@ impl<M: Copy> Links<M> {
         }
     }
 
-    /// Something may lead to a unit, which has come here or gone.
-    pub(crate) fn renew(&mut self, unit: usize)
+    /// Something may lead to a unit, which has come here or gone: `stands` says which.
+    pub(crate) fn renew(&mut self, unit: usize, stands: bool)
         requires { unit < 320 }
         ensures table { self.new.table ≡ self.old.table }
-        ensures came { has_unit self.new.came unit ≡ true }
-        ensures away { has_unit self.new.away unit ≡ true }
+        ensures came { has_unit self.new.came unit ≡ stands }
+        ensures away { has_unit self.new.away unit ≡ not stands }
         ensures others_came { (k : ℕ) → k ≢ unit → has_unit self.new.came k ≡ has_unit self.old.came k }
         ensures others_away { (k : ℕ) → k ≢ unit → has_unit self.new.away k ≡ has_unit self.old.away k }
     {
-        self.came.insert(unit);
-        self.away.insert(unit);
+        self.came.note(unit, stands);
+        self.away.note(unit, !stands);
     }
 
     /// Takes what is on a link.
