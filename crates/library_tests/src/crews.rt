@@ -203,7 +203,8 @@ fn any_workers(rt: HostRuntime) -> Result<(), Fail> {
 
 #[test]
 fn one_worker_late(rt: HostRuntime) -> Result<(), Fail> {
-    goes_as_alone(&rt, &[0, 1, 2, 0, 1, 2, 0, 1, 2, 0, 1, 2], 3, &Holdup)
+    let gate = Holdup { block: 0 };
+    goes_as_alone(&rt, &[0, 1, 2, 0, 1, 2, 0, 1, 2, 0, 1, 2], 3, &gate)
 }
 
 /// Ten cycles by workers whose threads are kept, of which that of block 0 is late each time, beside the same machine in one block and without workers: then their places are the same.
@@ -212,11 +213,12 @@ fn kept_workers(rt: HostRuntime) -> Result<(), Fail> {
     let config = config(rt.alloc(), 2)?;
     let program = add_number(rt.alloc())?;
     let partition = [0, 1, 2, 0, 1, 2, 0, 1, 2, 0, 1, 2];
+    let gate = Holdup { block: 0 };
     for workers in [1, 2, 3, 64] {
         let alone = Blocks::new(rt.alloc(), &config, &program, &[0; 12])?;
-        let alone = Crew::cycles(&rt, rt.alloc(), alone, 1, &Holdup, 10)?;
+        let alone = Crew::cycles(&rt, rt.alloc(), alone, 1, &gate, 10)?;
         let blocks = Blocks::new(rt.alloc(), &config, &program, &partition)?;
-        let blocks = Crew::cycles(&rt, rt.alloc(), blocks, workers, &Holdup, 10)?;
+        let blocks = Crew::cycles(&rt, rt.alloc(), blocks, workers, &gate, 10)?;
         same_places(&rt, &alone, &blocks);
         all_are_answered(&rt, &blocks);
     }

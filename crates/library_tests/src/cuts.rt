@@ -88,6 +88,27 @@ fn goes_on_in(rt: &(impl Abort + AllocGlobal), partition: &[u8]) -> Result<(), F
     Ok(())
 }
 
+/// With each allocation refused in turn, the machine goes on in blocks, or is given back and goes on where it stood.
+#[test]
+fn a_machine_is_cut_or_given_back(rt: HostRuntime) -> Result<(), Fail> {
+    let machine = on_its_way(&rt)?;
+    match machine.into_blocks(rt.alloc(), &[0, 0, 1, 1, 2, 2, 2, 2, 3, 3, 3, 3]) {
+        Ok(mut blocks) => {
+            assert!(rt; blocks.done() == 5);
+            make_five(&mut blocks);
+            all_are_answered(&rt, &blocks);
+        }
+        Err((mut machine, fault)) => {
+            assert_eq!(rt; fault, PartitionFault::NoMemory);
+            assert!(rt; machine.done() == 5);
+            combine(&rt, &mut machine, 0, &[(1, 0, 2, 3)]);
+            one_becomes_four(&rt, &mut machine);
+            ends_with(&rt, &machine, 10);
+        }
+    }
+    Ok(())
+}
+
 #[test]
 fn stages_apart(rt: HostRuntime) -> Result<(), Fail> {
     goes_on_in(&rt, &[0, 0, 1, 1, 2, 2, 2, 2, 3, 3, 3, 3])

@@ -26,12 +26,15 @@ impl Gate for Counter {
     }
 }
 
-/// A gate that holds the worker of block 0 up, 1,000 turns each time.
-pub(crate) struct Holdup;
+/// A gate that holds the worker of one block up, 1,000 turns each time.
+#[derive(Drop)]
+pub(crate) struct Holdup {
+    pub(crate) block: usize,
+}
 
 impl Gate for Holdup {
     fn before<R: Wait>(&self, _rt: &R, _cycle: u32, _half: Half, block: usize) {
-        if block == 0 {
+        if block == self.block {
             for _ in 0..1000 {
                 thread::yield_now();
             }

@@ -23,10 +23,12 @@ pub(crate) fn config(alloc: Global, stages: i64) -> Result<Config, Fail> {
     Ok(Config::new(alloc, &defaults(alloc, stages))?)
 }
 
-fn refusal(alloc: Global, raw: &RawSettings) -> Option<Field> {
+/// The field for which these settings are refused, if they are.
+fn refusal(alloc: Global, raw: &RawSettings) -> Result<Option<Field>, Fail> {
     match Config::new(alloc, raw) {
-        Err(ConfigFault::BadConfig(field)) => Some(field),
-        _ => None,
+        Ok(_) => Ok(None),
+        Err(ConfigFault::BadConfig(field)) => Ok(Some(field)),
+        Err(fault) => Err(fault.into()),
     }
 }
 
@@ -68,18 +70,18 @@ fn numbers_outside_their_range_are_refused(rt: HostRuntime) -> Result<(), Fail> 
             stages: bad,
             ..defaults(rt.alloc(), 1)
         };
-        assert_eq!(rt; refusal(rt.alloc(), &raw), Some(Field::Stages));
+        assert_eq!(rt; refusal(rt.alloc(), &raw)?, Some(Field::Stages));
     }
     let raw = RawSettings {
         wait_places: Some(17),
         ..defaults(rt.alloc(), 1)
     };
-    assert_eq!(rt; refusal(rt.alloc(), &raw), Some(Field::WaitPlaces));
+    assert_eq!(rt; refusal(rt.alloc(), &raw)?, Some(Field::WaitPlaces));
     let raw = RawSettings {
         cycles: Some(1_000_001),
         ..defaults(rt.alloc(), 1)
     };
-    assert_eq!(rt; refusal(rt.alloc(), &raw), Some(Field::Cycles));
+    assert_eq!(rt; refusal(rt.alloc(), &raw)?, Some(Field::Cycles));
     Ok(())
 }
 
@@ -91,7 +93,7 @@ fn the_first_bad_key_is_told(rt: HostRuntime) -> Result<(), Fail> {
         initial: None,
         ..defaults(rt.alloc(), 1)
     };
-    assert_eq!(rt; refusal(rt.alloc(), &raw), Some(Field::MostOpen));
+    assert_eq!(rt; refusal(rt.alloc(), &raw)?, Some(Field::MostOpen));
     Ok(())
 }
 
@@ -108,7 +110,7 @@ fn initial_cells_are_checked(rt: HostRuntime) -> Result<(), Fail> {
             initial: Some(Vec::from_array(rt.alloc(), bad)?),
             ..defaults(rt.alloc(), 1)
         };
-        assert_eq!(rt; refusal(rt.alloc(), &raw), Some(Field::Initial));
+        assert_eq!(rt; refusal(rt.alloc(), &raw)?, Some(Field::Initial));
     }
     Ok(())
 }

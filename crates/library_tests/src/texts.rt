@@ -52,6 +52,9 @@ fn check_fault<R: AllocGlobal + Abort>(
     let Err(fault) = assemble(rt.alloc(), text) else {
         return Err("accepted".into());
     };
+    if fault.kind == AsmFaultKind::NoMemory {
+        return Err(fault.into());
+    }
     assert_eq!(rt; fault, AsmFault { line, kind }, "of {text}");
     Ok(())
 }

@@ -2,7 +2,7 @@
 
 ghost use Rattle.std.specs.Prelude.{◌≤◌};
 
-use crate::gates::{Counter, Meeting};
+use crate::gates::{Counter, Holdup, Meeting};
 use crate::programs::{add_number, add_one};
 use crate::settings::config;
 use crate::trays::Tray;
@@ -128,6 +128,17 @@ fn any_workers(rt: HostRuntime) -> Result<(), Fail> {
     }
     // 2, 3 and 12 blocks, as many as units at most, 6 halves and 10 cycles
     assert_eq!(rt; gate.calls.load(Ordering::SeqCst), (2 + 3 + 12) * 6 * 10);
+    Ok(())
+}
+
+/// Each of three workers is the one that is late at every half.
+#[test]
+fn one_worker_late(rt: HostRuntime) -> Result<(), Fail> {
+    let config = config(rt.alloc(), 2)?;
+    let program = add_number(rt.alloc())?;
+    for block in 0..3 {
+        check_run(&rt, &config, &program, 3, &Holdup { block }, TWO_LEVEL_TREE)?;
+    }
     Ok(())
 }
 

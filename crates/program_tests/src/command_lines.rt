@@ -73,7 +73,7 @@ fn wrong_words_are_usage_faults(rt: HostRuntime) -> Result<(), Fail> {
         &["ultra", "run", "c.toml", "p.s", "x"],
         &["ultra", "order", "c.toml"],
         &["ultra", "explain", "c.toml"],
-        &["ultra", "--version"],
+        &["ultra", "run", "--version"],
     ];
     for words in rows {
         let Parsed::Usage(text) = parse(rt.alloc(), words) else {
@@ -86,8 +86,9 @@ fn wrong_words_are_usage_faults(rt: HostRuntime) -> Result<(), Fail> {
 
 #[test]
 fn help_is_shown(rt: HostRuntime) -> Result<(), Fail> {
-    let rows: [&[&str]; 3] = [
+    let rows: [&[&str]; 4] = [
         &["ultra", "--help"],
+        &["ultra", "-h"],
         &["ultra", "run", "-h"],
         &["ultra", "help", "run"],
     ];
@@ -96,6 +97,58 @@ fn help_is_shown(rt: HostRuntime) -> Result<(), Fail> {
             return Err("no help".into());
         };
         assert!(rt; text.as_str().contains("Usage: ultra"), "{text}");
+    }
+    Ok(())
+}
+
+/// The last lines of the example in the help of each command, or of the program.
+const EXAMPLES: [(&[&str], &str); 7] = [
+    (&["ultra", "--help"], "act 0 1@0 faa 2 = 0 now 2\n"),
+    (&["ultra", "run", "--help"], "pe 1 halted 3 r2=1\n"),
+    (
+        &["ultra", "order", "--help"],
+        "1.0 faa 0 1 = 0\n    0.0 faa 0 1 = 1\n",
+    ),
+    (
+        &["ultra", "explain", "--help"],
+        "cycle 5 module 0 cell 0 [s0x0 1.0 < 0.0]\n",
+    ),
+    (&["ultra", "list", "--help"], "faa r3 r1 r2\n    halt\n"),
+    (&["ultra", "sweep", "--help"], "job 1\n    ultra trace 2\n"),
+    (&["ultra", "lib", "--help"], "pid r1\n    addi r2 r1 8\n"),
+];
+
+#[test]
+fn help_has_statuses_and_an_example(rt: HostRuntime) -> Result<(), Fail> {
+    for (words, example) in EXAMPLES {
+        let Parsed::Help(text) = parse(rt.alloc(), words) else {
+            return Err("no help".into());
+        };
+        for status in ["0", "2", "3", "4", "5"] {
+            let line = format!(in rt.alloc(); "\n  {status}  ")?;
+            assert!(rt; text.as_str().contains(line.as_str()), "{text}");
+        }
+        assert!(rt; text.as_str().contains(example), "{text}");
+        assert!(rt; text.as_str().contains("\n\ndocs/"), "{text}");
+        for line in text.as_str().lines() {
+            assert!(rt; line.len() <= 80, "{line}");
+        }
+    }
+    Ok(())
+}
+
+#[test]
+fn the_version_is_shown(rt: HostRuntime) -> Result<(), Fail> {
+    let rows: [&[&str]; 3] = [
+        &["ultra", "--version"],
+        &["ultra", "-V"],
+        &["ultra", "-V", "run"],
+    ];
+    for words in rows {
+        let Parsed::Version(text) = parse(rt.alloc(), words) else {
+            return Err("no version".into());
+        };
+        assert_eq!(rt; text.as_str(), "ultra 1.0 (trace 2)\n");
     }
     Ok(())
 }

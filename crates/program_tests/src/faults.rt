@@ -183,7 +183,8 @@ fn each_write_fails_in_turn(rt: HostRuntime) -> Result<(), Fail> {
 #[test]
 fn each_write_of_a_help_text_fails_in_turn(rt: HostRuntime) -> Result<(), Fail> {
     check_writes(&rt, &["ultra", "--help"])?;
-    check_writes(&rt, &["ultra", "sweep", "--help"])
+    check_writes(&rt, &["ultra", "sweep", "--help"])?;
+    check_writes(&rt, &["ultra", "--version"])
 }
 
 /// Standard error that fails changes no status, and gets nothing more.
@@ -233,6 +234,36 @@ fn a_status_is_that_of_standard_output(rt: HostRuntime) -> Result<(), Fail> {
         let mut err = Dropper::new(rt.alloc(), count)?;
         assert_eq!(rt; status_of(&rt, &words, &mut out, &mut err)?, 0);
         assert_eq!(rt; out.text()?, report.text()?);
+    }
+    Ok(())
+}
+
+/// With each call for memory or for a thread refused in turn, a command gives its full answer, or a
+/// prefix of it and a line that says what was refused.
+#[test]
+fn a_command_is_refused_or_whole(rt: HostRuntime) -> Result<(), Fail> {
+    for (words, _) in COMMANDS {
+        let text = text_of(&rt, words)?;
+        let files = files();
+        let mut shelf = Shelf {
+            files: &files,
+            account: Account::Opened,
+        };
+        let mut out = Tray::with_room(rt.alloc())?;
+        let mut err = Tray::with_room(rt.alloc())?;
+        let status = main_with(&rt, words, &mut shelf, &mut out, &mut err);
+        assert!(rt; text.text()?.starts_with(out.text()?), "{words:?}");
+        match err.text()? {
+            "" => {
+                assert_eq!(rt; status, 0, "{words:?}");
+                assert_eq!(rt; out.bytes.len(), text.bytes.len(), "{words:?}");
+            }
+            line => {
+                assert_eq!(rt; status, 4, "{words:?}");
+                let is_stated = line == "ultra: no memory\n" || line == "ultra: no thread\n";
+                assert!(rt; is_stated, "{words:?}: {line}");
+            }
+        }
     }
     Ok(())
 }

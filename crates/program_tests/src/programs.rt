@@ -437,6 +437,15 @@ fn help_goes_to_standard_output(rt: HostRuntime) -> Result<(), Fail> {
     Ok(())
 }
 
+#[test]
+fn the_version_goes_to_standard_output(rt: HostRuntime) -> Result<(), Fail> {
+    let ended = call(&rt, &["ultra", "--version"], &[]);
+    assert_eq!(rt; ended.out.text()?, "ultra 1.0 (trace 2)\n");
+    assert!(rt; ended.err.bytes.is_empty());
+    assert_eq!(rt; ended.status, 0);
+    Ok(())
+}
+
 /// The text of the words' command where standard output takes at most 4 bytes a write, and fails at
 /// its third write.
 fn short_failing_sink<R: Host>(rt: &R, words: &[&str]) -> Result<String, Fail> {
@@ -470,6 +479,8 @@ fn a_prefix_is_written_to_a_short_failing_sink(rt: HostRuntime) -> Result<(), Fa
     assert_eq!(rt; explanation.as_str(), "cycle 5 ");
     let help = short_failing_sink(&rt, &["ultra", "--help"])?;
     assert_eq!(rt; help.len(), 8);
+    let version = short_failing_sink(&rt, &["ultra", "--version"])?;
+    assert_eq!(rt; version.as_str(), "ultra 1.");
     Ok(())
 }
 

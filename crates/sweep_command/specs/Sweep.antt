@@ -1,11 +1,12 @@
 -- what a sweep reads, writes and shows; this project's profile
-use Rattle.std.specs.Prelude.{◌≡◌, ℕ, ◌⊎◌, Bool, List, [], ◌∷◌, ◌++◌, length, map}
+use Rattle.std.specs.Prelude.{◌≡◌, ◌+◌, ℕ, ◌⊎◌, Bool, List, [], ◌∷◌, ◌++◌, length, map}
 use Rattle.ultra_msg.specs.Bytes.{TakesPrefix}
 use Rattle.ultra_io.specs.Account.{SinkTold}
 use Rattle.ultra_io.specs.Source.{file_of}
 use Rattle.ultra_jobs.specs.JobsText.{Paths, Gives}
 use Rattle.ultra_inputs.specs.declared.failure.Failure.{Failure}
 use Rattle.ultra_inputs.specs.declared.failure.Failure.TheVariants.{NoMemory, NoThread, NotWritten}
+use Rattle.ultra_inputs.specs.Failure.{status_of, read_failures}
 use Rattle.ultra_inputs.specs.Inputs.{FileGaveNothing}
 use Rattle.ultra_inputs.specs.Traffic.{Traffic, with_files}
 use Rattle.ultra_sweep.specs.declared.job.Job.{Job}
@@ -14,7 +15,7 @@ use Rattle.ultra_sweep.specs.Report.{report_text}
 use Rattle.sweep_command.specs.declared.fault.SweepFault.{SweepFault}
 use Rattle.sweep_command.specs.declared.fault.SweepFault.TheVariants as fault
 use Rattle.sweep_command.specs.Jobs.{ExplainsJobs, GaveJobs, GaveNoJobs}
-use Rattle.sweep_command.specs.Shown.{IsShown}
+use Rattle.sweep_command.specs.Shown.{IsShown, Told}
 
 -- for each job in order the line `job I`, and its trace
 abbrev pub report_of : List Job → List ℕ
@@ -55,3 +56,14 @@ pub record Swept (path : List ℕ) (progress : Bool) (old new : Traffic) (before
 pub data SweepFails (path : List ℕ) (progress : Bool) (old new : Traffic) (before after : SinkTold) (f : Failure) : Type 0 where
   unlisted : FileGaveNothing ExplainsJobs path old.files new.files f → new.written ≡ old.written → after ≡ before → SweepFails path progress old new before after f
   listed : (text : List ℕ) (paths : List Paths) → Gives text paths → JobsFail paths progress (with_files old (file_of path text ∷ [])) new before after f → SweepFails path progress old new before after f
+
+-- a sweep ended with this status: it failed so, and the failure was reported after what was shown. The
+-- source of files has failed in it as often as the failure says
+pub record HasFailed (path : List ℕ) (progress : Bool) (old new : Traffic) (before after : SinkTold)
+    (source_failures source_failures_after status : ℕ) : Type 0 where
+  pub failure : Failure
+  pub shown : SinkTold
+  pub same_status : status_of failure ≡ status
+  pub why : SweepFails path progress old new before shown failure
+  pub told : Told failure shown after
+  pub read_counted : source_failures_after ≡ source_failures + read_failures failure

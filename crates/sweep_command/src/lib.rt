@@ -2,13 +2,12 @@
 #![tactic(auto)]
 
 ghost use Rattle.std.specs.Prelude.{◌≡◌, ◌≢◌, ◌+◌, IfErr, OnOk};
-ghost use Rattle.ultra_io.specs.Account.{SinkTold};
 ghost use Rattle.ultra_inputs.specs.declared.failure.Failure.{Failure};
 ghost use Rattle.ultra_inputs.specs.Failure.{status_of, read_failures, write_failures};
 ghost use Rattle.ultra_inputs.specs.Traffic.{traffic};
 ghost use Rattle.ultra_jobs.specs.JobsText.{all_paths};
-ghost use Rattle.sweep_command.specs.Shown.{stream, Told};
-ghost use Rattle.sweep_command.specs.Sweep.{Swept, SweepFails, SweptJobs, JobsFail};
+ghost use Rattle.sweep_command.specs.Shown.{stream};
+ghost use Rattle.sweep_command.specs.Sweep.{Swept, HasFailed, SweptJobs, JobsFail};
 
 mod bell;
 mod crew;
@@ -62,11 +61,12 @@ pub fn sweep<R: Threads + Wait + Sync, F: Source, O: Sink, E: Sink>(
         (traffic (F.files source.old) (O.taken out.old)) (traffic (F.files source.new) (O.taken out.new))
         (stream (E.taken err.old) (E.failures err.old))
         (stream (E.taken err.new) (E.failures err.new)) }
-    ensures failed { result ≢ 0 → (f : Failure) × (shown : SinkTold) × (status_of f ≡ result)
-        × SweepFails jobs_path.now plan.progress
+    ensures failed { result ≢ 0 → HasFailed jobs_path.now plan.progress
         (traffic (F.files source.old) (O.taken out.old)) (traffic (F.files source.new) (O.taken out.new))
-        (stream (E.taken err.old) (E.failures err.old)) shown f
-        × Told f shown (stream (E.taken err.new) (E.failures err.new)) }
+        (stream (E.taken err.old) (E.failures err.old))
+        (stream (E.taken err.new) (E.failures err.new))
+        (F.failures source.old) (F.failures source.new) result }
+    ensures read_still { result ≡ 0 → F.failures source.new ≡ F.failures source.old }
     ensures still { result ≡ 0 → O.failures out.new ≡ O.failures out.old }
     ensures counted { result ≢ 0 → (f : Failure) × (status_of f ≡ result)
         × (O.failures out.new ≡ O.failures out.old + write_failures f) }
@@ -99,6 +99,9 @@ fn sweep_jobs<'l, R: Threads + Wait + Sync, F: Source, O: Sink, E: Sink>(
         (traffic (F.files source.old) (O.taken out.old)) (traffic (F.files source.new) (O.taken out.new))
         (stream (E.taken err.old) (E.failures err.old))
         (stream (E.taken err.new) (E.failures err.new))) }
+    ensures read_still { OnOk result (F.failures source.new ≡ F.failures source.old) }
+    ensures read_counted { IfErr result
+        (λ f. F.failures source.new ≡ F.failures source.old + read_failures f) }
     ensures write_still { OnOk result (O.failures out.new ≡ O.failures out.old) }
     ensures write_counted { IfErr result
         (λ f. O.failures out.new ≡ O.failures out.old + write_failures f) }

@@ -1,8 +1,7 @@
 //! The program `ultra`: it runs programs on a simulated machine.
 #![tactic(auto)]
 
-ghost use Rattle.std.specs.Prelude.{◌≡◌, ◌≢◌, ◌+◌, List, [], IfOk, OnErr};
-ghost use Rattle.ultra_io.specs.Source.{File};
+ghost use Rattle.std.specs.Prelude.{◌≡◌, ◌≢◌, ◌+◌, IfOk, OnErr};
 ghost use Rattle.ultra_command_line.specs.declared.Parsed.{Parsed};
 ghost use Rattle.ultra_inputs.specs.Traffic.{traffic};
 ghost use Rattle.sweep_command.specs.Shown.{stream};
@@ -11,18 +10,18 @@ ghost use Rattle.ultra_cli.specs.Outcome.{status_failures, IsRefusal, IsStatus, 
 use std::env::Env;
 use std::io::ErrorKind;
 use std::process::ExitCode;
-use std::rt::Files;
 use std::sync::Wait;
 use std::thread::Threads;
 use std::{env, io};
 use ultra_cli::{Failure, give_up, main_with};
-use ultra_io::{FileSource, Stream};
+use ultra_io::{FileSource, Source, Stream};
 use ultra_msg::Sink;
 
-/// Calls `main_with` with the program's own words and files, and with these streams. An error says
-/// that the words couldn't be had; nothing is written then.
-fn start<R: AllocGlobal + Env + Files + Threads + Wait + Sync, O: Sink, E: Sink>(
+/// Calls `main_with` with the program's own words, and with these files and streams. An error says
+/// that the words couldn't be had; nothing is read or written then.
+fn start<R: AllocGlobal + Env + Threads + Wait + Sync, F: Source, O: Sink, E: Sink>(
     rt: &R,
+    source: &mut F,
     out: &mut O,
     err: &mut E,
 ) -> io::Result<u8>
@@ -30,27 +29,32 @@ fn start<R: AllocGlobal + Env + Files + Threads + Wait + Sync, O: Sink, E: Sink>
     ensures nothing { IfOk result (λ s. IsRefusal s → O.taken out.new ≡ O.taken out.old) }
     ensures counted { IfOk result
         (λ s. O.failures out.new ≡ O.failures out.old + status_failures s) }
-    ensures done { IfOk result (λ s. s ≡ 0 → (p : Parsed) × (files : List File) × Obeyed p
-        (traffic [] (O.taken out.old)) (traffic files (O.taken out.new))
+    ensures read_still { IfOk result (λ s. s ≢ 3 →
+        F.failures source.new ≡ F.failures source.old) }
+    ensures done { IfOk result (λ s. s ≡ 0 → (p : Parsed) × Obeyed p
+        (traffic (F.files source.old) (O.taken out.old)) (traffic (F.files source.new) (O.taken out.new))
         (stream (E.taken err.old) (E.failures err.old))
         (stream (E.taken err.new) (E.failures err.new))) }
-    ensures failed { IfOk result (λ s. s ≢ 0 → (p : Parsed) × (files : List File) × Failed p
-        (traffic [] (O.taken out.old)) (traffic files (O.taken out.new))
+    ensures failed { IfOk result (λ s. s ≢ 0 → (p : Parsed) × Failed p
+        (traffic (F.files source.old) (O.taken out.old)) (traffic (F.files source.new) (O.taken out.new))
         (stream (E.taken err.old) (E.failures err.old))
-        (stream (E.taken err.new) (E.failures err.new)) s) }
+        (stream (E.taken err.new) (E.failures err.new))
+        (F.failures source.old) (F.failures source.new) s) }
     ensures no_words { OnErr result (O.taken out.new ≡ O.taken out.old) }
     ensures no_word_of_it { OnErr result (E.taken err.new ≡ E.taken err.old) }
+    ensures no_file { OnErr result (F.files source.new ≡ F.files source.old) }
+    ensures no_unread_file { OnErr result (F.failures source.new ≡ F.failures source.old) }
 {
     let args: Vec<String> = env::args(rt)?.collect(rt.alloc())?;
     let words: Vec<&str> = args.iter().map(|word| word.as_str()).collect(rt.alloc())?;
-    let mut source = FileSource::new(rt);
-    Ok(main_with(rt, words.as_slice(), &mut source, out, err))
+    Ok(main_with(rt, words.as_slice(), source, out, err))
 }
 
 fn main(rt: HostRuntime) -> ExitCode {
+    let mut source = FileSource::new(&rt);
     let mut out = Stream::new(rt.stdout());
     let mut err = Stream::new(rt.stderr());
-    let status = match start(&rt, &mut out, &mut err) {
+    let status = match start(&rt, &mut source, &mut out, &mut err) {
         Ok(status) => status,
         Err(error) => give_up(&no_words(&error), &mut err),
     };

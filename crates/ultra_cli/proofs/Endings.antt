@@ -8,7 +8,7 @@ use Rattle.ultra_model.specs.Machine.{Settings}
 use Rattle.ultra_io.specs.Account.{SinkTold}
 use Rattle.ultra_inputs.specs.declared.failure.Failure.{Failure}
 use Rattle.ultra_inputs.specs.declared.failure.Failure.TheVariants.{Usage, NotWords, NotRead, NotToml, BadField, UnknownKey, NotUtf8, BadLine, BadJob, BadParameter, NoMemory, NoThread, HeapFull, NotWritten}
-use Rattle.ultra_inputs.specs.Failure.{status_of, write_failures}
+use Rattle.ultra_inputs.specs.Failure.{status_of, read_failures, write_failures}
 use Rattle.ultra_inputs.specs.Traffic.{Traffic, IsStopped, TextFails, refused, stopped}
 use Rattle.run_command.specs.Stops.{IsStoppedBy}
 use Rattle.explain_command.specs.Explanation.{IsCutShort}
@@ -18,7 +18,7 @@ use Rattle.ultra_command_line.specs.declared.Coordination.{Coordination}
 use Rattle.ultra_command_line.specs.declared.Parsed.{Parsed}
 use Rattle.sweep_command.specs.Shown.{Told}
 use Rattle.sweep_command.specs.Sweep as sweep
-use Rattle.sweep_command.specs.Sweep.{Swept, SweepFails, JobsFail}
+use Rattle.sweep_command.specs.Sweep.{Swept, SweepFails, HasFailed, JobsFail}
 use Rattle.ultra_cli.specs.Outcome.{IsStatus, IsRefusal, status_failures, ListFails, unread_text, refused_text, unwritten, Obeyed, NotObeyed, HasReported, HasEnded}
 
 two : IsStatus 2
@@ -33,27 +33,28 @@ four = inr (inr (inr (inl refl)))
 five : IsStatus 5
 five = inr (inr (inr (inr refl)))
 
--- the status of a failure, and how often standard output failed
+-- the status of a failure, and how often the source of files and standard output failed
 record Ends (f : Failure) : Type 0 where
   status : IsStatus (status_of f)
   bad : status_of f ≢ 0
+  unread : status_of f ≢ 3 → read_failures f ≡ 0
   written : write_failures f ≡ status_failures (status_of f)
 
 ends : (f : Failure) → Ends f
-ends (Usage t) = record { status = two; bad = λ e. cc; written = refl }
-ends NotWords = record { status = two; bad = λ e. cc; written = refl }
-ends (NotRead p) = record { status = three; bad = λ e. cc; written = refl }
-ends (NotToml p) = record { status = three; bad = λ e. cc; written = refl }
-ends (BadField p f) = record { status = three; bad = λ e. cc; written = refl }
-ends (UnknownKey p) = record { status = three; bad = λ e. cc; written = refl }
-ends (NotUtf8 p) = record { status = three; bad = λ e. cc; written = refl }
-ends (BadLine p l k) = record { status = three; bad = λ e. cc; written = refl }
-ends (BadJob p) = record { status = three; bad = λ e. cc; written = refl }
-ends BadParameter = record { status = three; bad = λ e. cc; written = refl }
-ends NoMemory = record { status = four; bad = λ e. cc; written = refl }
-ends NoThread = record { status = four; bad = λ e. cc; written = refl }
-ends HeapFull = record { status = four; bad = λ e. cc; written = refl }
-ends NotWritten = record { status = five; bad = λ e. cc; written = refl }
+ends (Usage t) = record { status = two; bad = λ e. cc; unread = λ ne. refl; written = refl }
+ends NotWords = record { status = two; bad = λ e. cc; unread = λ ne. refl; written = refl }
+ends (NotRead p) = record { status = three; bad = λ e. cc; unread = λ ne. absurd (ne refl); written = refl }
+ends (NotToml p) = record { status = three; bad = λ e. cc; unread = λ ne. refl; written = refl }
+ends (BadField p f) = record { status = three; bad = λ e. cc; unread = λ ne. refl; written = refl }
+ends (UnknownKey p) = record { status = three; bad = λ e. cc; unread = λ ne. refl; written = refl }
+ends (NotUtf8 p) = record { status = three; bad = λ e. cc; unread = λ ne. refl; written = refl }
+ends (BadLine p l k) = record { status = three; bad = λ e. cc; unread = λ ne. refl; written = refl }
+ends (BadJob p) = record { status = three; bad = λ e. cc; unread = λ ne. refl; written = refl }
+ends BadParameter = record { status = three; bad = λ e. cc; unread = λ ne. refl; written = refl }
+ends NoMemory = record { status = four; bad = λ e. cc; unread = λ ne. refl; written = refl }
+ends NoThread = record { status = four; bad = λ e. cc; unread = λ ne. refl; written = refl }
+ends HeapFull = record { status = four; bad = λ e. cc; unread = λ ne. refl; written = refl }
+ends NotWritten = record { status = five; bad = λ e. cc; unread = λ ne. refl; written = refl }
 
 -- want of memory or of a thread, a full heap and a failed write are no refusals
 not_four : ¬ IsRefusal 4
@@ -107,6 +108,12 @@ lib_refused c old new f (lib.refused bad why same) r = same
 lib_refused c old new f (lib.no_memory good why same) r = same
 lib_refused c old new f (lib.unwritten good why begun) r = absurd (is_unwritten f why r)
 
+-- a command that writes a coordination program reads no file
+pub lib_unread : (c : Coordination) (old new : List ℕ) (f : Failure) → LibFails c old new f → read_failures f ≡ 0
+lib_unread c old new f (lib.refused bad why same) = ap read_failures why
+lib_unread c old new f (lib.no_memory good why same) = ap read_failures why
+lib_unread c old new f (lib.unwritten good why begun) = ap read_failures why
+
 jobs_refused : (paths : List Paths) (progress : Bool) (old new : Traffic) (before after : SinkTold) (f : Failure) → JobsFail paths progress old new before after f → IsRefusal (status_of f) → new.written ≡ old.written
 jobs_refused paths progress old new before after f (sweep.refused gave same still) r = same
 jobs_refused paths progress old new before after f (sweep.not_run jobs last gave stops same shown) r = same
@@ -120,43 +127,47 @@ not_zero : ¬ IsRefusal 0
 not_zero (inl e) = cc
 not_zero (inr e) = cc
 
-module _ (p : Parsed) (old new : Traffic) (before after : SinkTold) (failures failures_after end : ℕ) where
+module _ (p : Parsed) (old new : Traffic) (before after : SinkTold) (source_failures source_failures_after failures failures_after end : ℕ) where
   -- what was asked for was done
-  well_ended : end ≡ 0 → Obeyed p old new before after → failures_after ≡ failures → HasEnded p old new before after failures failures_after end
-  well_ended zero good still = record {
+  well_ended : end ≡ 0 → Obeyed p old new before after → source_failures_after ≡ source_failures → failures_after ≡ failures → HasEnded p old new before after source_failures source_failures_after failures failures_after end
+  well_ended zero good read_still still = record {
     status = inl zero;
     nothing = λ r. absurd (not_zero (subst IsRefusal zero r));
     counted = rw zero (omega arith);
+    read_still = λ ne. read_still;
     done = λ e. good;
     failed = λ ne. absurd (ne zero);
   }
 
   -- a command whose failure was reported
-  pub failure_ended : (f : Failure) (shown : SinkTold) → NotObeyed p old new before shown f → (IsRefusal (status_of f) → new.written ≡ old.written) → failures_after ≡ failures + write_failures f → end ≡ status_of f → Told f shown after → HasEnded p old new before after failures failures_after end
-  failure_ended f shown why nothing counted same told =
+  pub failure_ended : (f : Failure) (shown : SinkTold) → NotObeyed p old new before shown f → (IsRefusal (status_of f) → new.written ≡ old.written) → source_failures_after ≡ source_failures + read_failures f → failures_after ≡ failures + write_failures f → end ≡ status_of f → Told f shown after → HasEnded p old new before after source_failures source_failures_after failures failures_after end
+  failure_ended f shown why nothing read_counted counted same told =
       let e = ends f in
+      let read_nothing : end ≢ 3 → read_failures f ≡ 0 = λ ne. e.unread (λ three. ne (same ∙ three)) in
       record {
         status = rw same e.status;
         nothing = λ r. nothing (subst IsRefusal same r);
         counted = rw same (counted ∙ ap (λ n. failures + n) e.written);
+        read_still = λ ne. let none = read_nothing ne in omega (arith, read_counted, none);
         done = λ zero. absurd (e.bad (sym same ∙ zero));
-        failed = λ ne. record { failure = f; shown = shown; same_status = sym same; why = why; told = told };
+        failed = λ ne. record { failure = f; shown = shown; same_status = sym same; why = why; told = told; read_counted = read_counted };
       }
 
   -- a command that is done, or whose failure was reported
   pub command_ended : {T : Type 0} (r : Result T Failure) (Done : Type 0) (Fails : Failure → Type 0) → (Done → after ≡ before → Obeyed p old new before after) → ((f : Failure) → Fails f → NotObeyed p old new before before f)
-      → ((f : Failure) → Fails f → IsRefusal (status_of f) → new.written ≡ old.written) → OnOk r Done → IfErr r Fails → OnOk r (failures_after ≡ failures) → IfErr r (λ f. failures_after ≡ failures + write_failures f)
-      → HasReported r before after end → HasEnded p old new before after failures failures_after end
-  command_ended (Ok x) Done Fails obeyed failed nothing good bad still counted reported = well_ended reported.well.0 (obeyed good reported.well.1) still
-  command_ended (Err f) Done Fails obeyed failed nothing good bad still counted reported = failure_ended f before (failed f bad) (nothing f bad) counted reported.badly.0 reported.badly.1
+      → ((f : Failure) → Fails f → IsRefusal (status_of f) → new.written ≡ old.written) → OnOk r Done → IfErr r Fails → OnOk r (source_failures_after ≡ source_failures) → IfErr r (λ f. source_failures_after ≡ source_failures + read_failures f)
+      → OnOk r (failures_after ≡ failures) → IfErr r (λ f. failures_after ≡ failures + write_failures f) → HasReported r before after end → HasEnded p old new before after source_failures source_failures_after failures failures_after end
+  command_ended (Ok x) Done Fails obeyed failed nothing good bad read_still read_counted still counted reported = well_ended reported.well.0 (obeyed good reported.well.1) read_still still
+  command_ended (Err f) Done Fails obeyed failed nothing good bad read_still read_counted still counted reported = failure_ended f before (failed f bad) (nothing f bad) read_counted counted reported.badly.0 reported.badly.1
 
   -- a sweep that is done, or whose failure was reported
   pub sweep_ended : (path : List ℕ) (progress : Bool) → (Swept path progress old new before after → Obeyed p old new before after) → ((f : Failure) (shown : SinkTold) → SweepFails path progress old new before shown f → NotObeyed p old new before shown f)
-      → (end ≡ 0 → Swept path progress old new before after) → (end ≢ 0 → (f : Failure) × (shown : SinkTold) × (status_of f ≡ end) × SweepFails path progress old new before shown f × Told f shown after)
-      → (end ≡ 0 → failures_after ≡ failures) → (end ≢ 0 → (f : Failure) × (status_of f ≡ end) × (failures_after ≡ failures + write_failures f)) → HasEnded p old new before after failures failures_after end
-  sweep_ended path progress obeyed failed done fails still counted = ⊎_elim (λ zero. well_ended zero (obeyed (done zero)) (still zero)) (λ (bad : end ≢ 0). badly (fails bad) (counted bad)) (cases_eq end 0)
+      → (end ≡ 0 → Swept path progress old new before after) → (end ≢ 0 → HasFailed path progress old new before after source_failures source_failures_after end)
+      → (end ≡ 0 → source_failures_after ≡ source_failures) → (end ≡ 0 → failures_after ≡ failures) → (end ≢ 0 → (f : Failure) × (status_of f ≡ end) × (failures_after ≡ failures + write_failures f)) → HasEnded p old new before after source_failures source_failures_after failures failures_after end
+  sweep_ended path progress obeyed failed done fails read_still still counted = ⊎_elim (λ zero. well_ended zero (obeyed (done zero)) (read_still zero) (still zero)) (λ (bad : end ≢ 0). badly (fails bad) (counted bad)) (cases_eq end 0)
     where
-      badly : (f : Failure) × (shown : SinkTold) × (status_of f ≡ end) × SweepFails path progress old new before shown f × Told f shown after → (f : Failure) × (status_of f ≡ end) × (failures_after ≡ failures + write_failures f) → HasEnded p old new before after failures failures_after end
-      badly (f, shown, same, why, told) (g, other, count) =
-          let both : write_failures g ≡ write_failures f = (ends g).written ∙ (ap status_failures (other ∙ sym same) ∙ sym (ends f).written) in
-          failure_ended f shown (failed f shown why) (sweep_refused path progress old new before shown f why) (count ∙ ap (λ n. failures + n) both) (sym same) told
+      badly : HasFailed path progress old new before after source_failures source_failures_after end → (f : Failure) × (status_of f ≡ end) × (failures_after ≡ failures + write_failures f) → HasEnded p old new before after source_failures source_failures_after failures failures_after end
+      badly b (g, other, count) =
+          let f = b.failure in
+          let both : write_failures g ≡ write_failures f = (ends g).written ∙ (ap status_failures (other ∙ sym b.same_status) ∙ sym (ends f).written) in
+          failure_ended f b.shown (failed f b.shown b.why) (sweep_refused path progress old new before b.shown f b.why) b.read_counted (count ∙ ap (λ n. failures + n) both) (sym b.same_status) b.told

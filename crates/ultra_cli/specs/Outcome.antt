@@ -10,7 +10,7 @@ use Rattle.ultra_inputs.specs.declared.failure.Failure.{Failure}
 use Rattle.ultra_inputs.specs.declared.failure.Failure.TheVariants.{Usage, NoMemory, NotWritten}
 use Rattle.ultra_inputs.specs.Inputs.{IsProgramOf, IsUnread, ExplainsProgram}
 use Rattle.ultra_inputs.specs.Traffic.{Traffic, with_files, IsStopped, WroteText, TextFails}
-use Rattle.ultra_inputs.specs.Failure.{status_of}
+use Rattle.ultra_inputs.specs.Failure.{status_of, read_failures}
 use Rattle.ultra_io.specs.Account.{SinkTold}
 use Rattle.ultra_io.specs.Source.{file_of}
 use Rattle.run_command.specs.Stops.{IsStoppedBy}
@@ -47,6 +47,15 @@ pub data ListFails (prog : List ℕ) (old new : Traffic) (f : Failure) : Type 0 
   refused_text : (text : List ℕ) → ExplainsProgram prog text f → new ≡ with_files old (file_of prog text ∷ []) → ListFails prog old new f
   unwritten : (text : List ℕ) (p : List Instr) → IsProgramOf text p → f ≡ NotWritten → new.files ≡ old.files ++ file_of prog text ∷ [] → TakesPrefix (listing_text p) old.written new.written → ListFails prog old new f
 
+-- help or the version was written
+abbrev pub WroteAnswer : List ℕ → Traffic → Traffic → Type 0
+WroteAnswer text old new = new ≡ record old { written = old.written ++ text }
+
+-- a prefix of it was written, and no file was read
+abbrev pub AnswerFails : List ℕ → Traffic → Traffic → Failure → Type 0
+AnswerFails text old new f =
+    (f ≡ NotWritten) × (new.files ≡ old.files) × TakesPrefix text old.written new.written
+
 -- what was asked for was done. Standard error took nothing, but for the progress of a sweep
 abbrev pub Obeyed : Parsed → Traffic → Traffic → SinkTold → SinkTold → Type 0
 Obeyed (parsed.Command (Run conf prog workers)) old new before after = WroteText trace conf.now prog.now old new × (after ≡ before)
@@ -55,7 +64,8 @@ Obeyed (parsed.Command (Explain conf prog heap)) old new before after = WroteTex
 Obeyed (parsed.Command (ListOf prog)) old new before after = WroteListing prog.now old new × (after ≡ before)
 Obeyed (parsed.Command (Sweep jobs workers at_once progress)) old new before after = Swept jobs.now progress old new before after
 Obeyed (parsed.Command (Lib coordination)) old new before after = (new.files ≡ old.files) × WroteProgram coordination old.written new.written × (after ≡ before)
-Obeyed (parsed.Help text) old new before after = (new ≡ record old { written = old.written ++ string_bytes text }) × (after ≡ before)
+Obeyed (parsed.Help text) old new before after = WroteAnswer (string_bytes text) old new × (after ≡ before)
+Obeyed (parsed.Version text) old new before after = WroteAnswer (string_bytes text) old new × (after ≡ before)
 Obeyed (parsed.Usage text) old new before after = ⊥
 Obeyed parsed.NoMemory old new before after = ⊥
 
@@ -67,17 +77,23 @@ NotObeyed (parsed.Command (Explain conf prog heap)) old new before after f = Tex
 NotObeyed (parsed.Command (ListOf prog)) old new before after f = ListFails prog.now old new f × (after ≡ before)
 NotObeyed (parsed.Command (Sweep jobs workers at_once progress)) old new before after f = SweepFails jobs.now progress old new before after f
 NotObeyed (parsed.Command (Lib coordination)) old new before after f = (new.files ≡ old.files) × LibFails coordination old.written new.written f × (after ≡ before)
-NotObeyed (parsed.Help text) old new before after f = (f ≡ NotWritten) × (new.files ≡ old.files) × TakesPrefix (string_bytes text) old.written new.written × (after ≡ before)
+NotObeyed (parsed.Help text) old new before after f =
+    AnswerFails (string_bytes text) old new f × (after ≡ before)
+NotObeyed (parsed.Version text) old new before after f =
+    AnswerFails (string_bytes text) old new f × (after ≡ before)
 NotObeyed (parsed.Usage text) old new before after f = (f ≡ Usage text) × (new ≡ old) × (after ≡ before)
 NotObeyed parsed.NoMemory old new before after f = (f ≡ NoMemory) × (new ≡ old) × (after ≡ before)
 
--- the failure was reported, after what was shown before
-pub record Failed (p : Parsed) (old new : Traffic) (before after : SinkTold) (status : ℕ) : Type 0 where
+-- the failure was reported, after what was shown before. The source of files has failed as often as the
+-- failure says
+pub record Failed (p : Parsed) (old new : Traffic) (before after : SinkTold)
+    (source_failures source_failures_after status : ℕ) : Type 0 where
   pub failure : Failure
   pub shown : SinkTold
   pub same_status : status_of failure ≡ status
   pub why : NotObeyed p old new before shown failure
   pub told : Told failure shown after
+  pub read_counted : source_failures_after ≡ source_failures + read_failures failure
 
 -- a failure was reported, and else nothing
 pub record HasReported {T : Type 0} (done : Result T Failure) (before after : SinkTold) (status : ℕ) : Type 0 where
@@ -85,9 +101,11 @@ pub record HasReported {T : Type 0} (done : Result T Failure) (before after : Si
   pub badly : IfErr done (λ f. (status ≡ status_of f) × Told f before after)
 
 -- the program ended: what was asked for was done, or a failure was reported
-pub record HasEnded (p : Parsed) (old new : Traffic) (before after : SinkTold) (failures failures_after end : ℕ) : Type 0 where
+pub record HasEnded (p : Parsed) (old new : Traffic) (before after : SinkTold)
+    (source_failures source_failures_after failures failures_after end : ℕ) : Type 0 where
   pub status : IsStatus end
   pub nothing : IsRefusal end → new.written ≡ old.written
   pub counted : failures_after ≡ failures + status_failures end
+  pub read_still : end ≢ 3 → source_failures_after ≡ source_failures
   pub done : end ≡ 0 → Obeyed p old new before after
-  pub failed : end ≢ 0 → Failed p old new before after end
+  pub failed : end ≢ 0 → Failed p old new before after source_failures source_failures_after end

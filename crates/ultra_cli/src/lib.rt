@@ -22,9 +22,9 @@ use ultra_msg::{Sink, write_all};
 /// Does what the words ask for, and answers the status that the program ends with: 0 done, 2 a
 /// usage fault, 3 refused input, 4 no memory or no thread, 5 a failed write.
 ///
-/// The first word is the program's name. Results and help go to `out`; what is wrong goes to `err`.
-/// What is done is what the words ask for; the texts of help and usage faults are `clap`'s, and shown
-/// by tests. A run by several workers starts threads, and the call may wait for them.
+/// The first word is the program's name. Results, help and the version go to `out`; what is wrong
+/// goes to `err`. What is done is what the words ask for; the texts of help, of the version and of
+/// usage faults are laid out by `clap`, and shown by tests. A run by several workers starts threads, and the call may wait for them.
 pub fn main_with<'w, R: AllocGlobal + Threads + Wait + Sync, F: Source, O: Sink, E: Sink>(
     rt: &R,
     words: &'w [&'w str],
@@ -35,6 +35,7 @@ pub fn main_with<'w, R: AllocGlobal + Threads + Wait + Sync, F: Source, O: Sink,
     ensures status { IsStatus result }
     ensures nothing { IsRefusal result → O.taken out.new ≡ O.taken out.old }
     ensures counted { O.failures out.new ≡ O.failures out.old + status_failures result }
+    ensures read_still { result ≢ 3 → F.failures source.new ≡ F.failures source.old }
     ensures done { result ≡ 0 → (p : Parsed) × IsAskedBy (map (λ w. w.now) words.entry.now) p × Obeyed p
         (traffic (F.files source.old) (O.taken out.old)) (traffic (F.files source.new) (O.taken out.new))
         (stream (E.taken err.old) (E.failures err.old))
@@ -42,7 +43,8 @@ pub fn main_with<'w, R: AllocGlobal + Threads + Wait + Sync, F: Source, O: Sink,
     ensures failed { result ≢ 0 → (p : Parsed) × IsAskedBy (map (λ w. w.now) words.entry.now) p × Failed p
         (traffic (F.files source.old) (O.taken out.old)) (traffic (F.files source.new) (O.taken out.new))
         (stream (E.taken err.old) (E.failures err.old))
-        (stream (E.taken err.new) (E.failures err.new)) result }
+        (stream (E.taken err.new) (E.failures err.new))
+        (F.failures source.old) (F.failures source.new) result }
 {
     obey(rt, parse(rt.alloc(), words), source, out, err)
 }
@@ -59,11 +61,12 @@ fn obey<'w, R: AllocGlobal + Threads + Wait + Sync, F: Source, O: Sink, E: Sink>
         (traffic (F.files source.old) (O.taken out.old)) (traffic (F.files source.new) (O.taken out.new))
         (stream (E.taken err.old) (E.failures err.old))
         (stream (E.taken err.new) (E.failures err.new))
+        (F.failures source.old) (F.failures source.new)
         (O.failures out.old) (O.failures out.new) result }
 {
     match parsed {
         Parsed::Command(command) => carry_out(rt, command, source, out, err),
-        Parsed::Help(text) => match write_all(out, text.as_bytes()) {
+        Parsed::Help(text) | Parsed::Version(text) => match write_all(out, text.as_bytes()) {
             Ok(()) => 0,
             Err(_) => give_up(&Failure::NotWritten, err),
         },
@@ -84,6 +87,7 @@ fn carry_out<'w, R: AllocGlobal + Threads + Wait + Sync, F: Source, O: Sink, E: 
         (traffic (F.files source.old) (O.taken out.old)) (traffic (F.files source.new) (O.taken out.new))
         (stream (E.taken err.old) (E.failures err.old))
         (stream (E.taken err.new) (E.failures err.new))
+        (F.failures source.old) (F.failures source.new)
         (O.failures out.old) (O.failures out.new) result }
 {
     let alloc = rt.alloc();

@@ -1,5 +1,5 @@
 -- a command with one more argument or subcommand
-use Rattle.std.proofs.Common.{◌∙◌, ◌≡◌, ℕ, List, Option, ap, ap₂}
+use Rattle.std.proofs.Common.{◌∙◌, ◌≡◌, ℕ, List, Some, ap, ap₂}
 use Rattle.std.specs.Borrow.{Bor}
 use Rattle.std.specs.Prelude.{◌||◌, true}
 use Rattle.clap.specs.Words.{AddsArg, AddsSubcommand, App, Rule, with_rule, with_subcommand}
@@ -18,6 +18,6 @@ with_command app sub old c new is named added = (added.shape named.1 ∙ ap₂ w
 pub requires_command : (app : App) (old new : Command) → IsApp app old → out-Command new ≡ record (out-Command old) { subcommand_required = true } → IsApp (record app { top = record app.top { subcommand_required = true } }) new
 requires_command app old new is e = (rw e (ap (λ (a : App). record a { top = record a.top { subcommand_required = true } }) is.0), rw e is.1)
 
--- a command with a text for its help
-pub described : (app : App) (old new : Command) (t : Option (Bor (List ℕ))) → IsApp app old → out-Command new ≡ record (out-Command old) { about = t } → IsApp app new
-described app old new t is e = (rw e is.0, rw e is.1)
+-- a command that has a version
+pub with_version : (app : App) (old new : Command) (t : Bor (List ℕ)) → IsApp app old → out-Command new ≡ record (out-Command old) { version = Some t } → IsApp (record app { top = record app.top { has_version = true } }) new
+with_version app old new t is e = (rw e (ap (λ (a : App). record a { top = record a.top { has_version = true } }) is.0), rw e is.1)

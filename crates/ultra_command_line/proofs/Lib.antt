@@ -2,3 +2,4 @@ pub mod Building
 pub mod Rows
 pub mod Numbers
 pub mod RunWords
+pub mod Flags

@@ -1,5 +1,5 @@
 -- the words of a run of two paths
-use Rattle.std.proofs.Common.{◌∙◌, ◌≡◌, ◌≢◌, ◌⊎◌, ap, inl, inr, subst, sym, false, List, [], ◌∷◌, Some, None, codes, refl}
+use Rattle.std.proofs.Common.{◌∙◌, ◌≡◌, ap, inl, inr, subst, sym, false, List, [], ◌∷◌, Some, None, codes, refl}
 use Rattle.std.proofs.lemmas.Bool.{ne_eqb}
 use Rattle.std.proofs.lemmas.Option.{same_Some}
 use Rattle.std.specs.Prelude.{◌==◌}
@@ -8,7 +8,6 @@ use Rattle.clap.specs.Lexer.{long_of, short_of}
 use Rattle.clap.specs.Words.{Text, fault_of, IsAmong}
 use Rattle.clap.proofs.OnLiterals.{clap_on_literals}
 use Rattle.clap.specs.declared.error.ErrorKind.{ErrorKind}
-use Rattle.clap.specs.declared.error.ErrorKind.TheVariants.{OutOfMemory}
 use Rattle.ultra_command_line.specs.declared.Parsed.{Parsed}
 use Rattle.ultra_command_line.specs.declared.Parsed.TheVariants as parsed
 use Rattle.ultra_command_line.specs.Asked.{Asked, asked, run, AreRunOf, IsAskedBy, IsFault, IsPath, IsRunOf}
@@ -59,15 +58,7 @@ run_of_paths words p by conf prog are = go p by
 
     go : (p : Parsed) → IsAskedBy words p → IsRunOf conf prog p
     go (parsed.Command c) h = same_Some _ _ (sym h.1 ∙ is)
-    go (parsed.Help text) h = no_fault words _ h.0 none is h.1
+    go (parsed.Help text) h = no_fault words _ _ none is h
+    go (parsed.Version text) h = no_fault words _ _ none is h
     go (parsed.Usage text) h = no_fault words _ h.0 none is h.1
     go parsed.NoMemory h = tt
-
--- such words aren't refused
-pub not_refused : (words : List Text) (k : ErrorKind) → (k ≡ OutOfMemory) ⊎ IsFault words k → k ≢ OutOfMemory → (conf prog : Text) → AreRunOf words conf prog → ⊥
-not_refused words k (inl full) other conf prog are = other full
-not_refused words k (inr fault) other conf prog are =
-    no_fault words (run conf prog 1) k
-    (ap (fault_of ultra_app) are.1 ∙ run_words are.0 conf prog are.2 are.3)
-    (ap asked are.1 ∙ run_asked are.0 conf prog are.2 are.3)
-    fault

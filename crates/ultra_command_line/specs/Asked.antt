@@ -133,9 +133,13 @@ abbrev pub IsFault : List Text → ErrorKind → Type 0
 IsFault words k = IsAmong k (fault_of ultra_app words)
     ⊎ ((k ≡ kind.ValueValidation) × (fault_of ultra_app words ≡ []) × (asked words ≡ None))
 
--- help, which isn't a fault of the user's
-abbrev pub IsShown : ErrorKind → Type 0
-IsShown k = (k ≡ kind.DisplayHelp) ⊎ (k ≡ kind.DisplayVersion)
+-- a text of this kind is the answer: help, the version, or what is wrong with the words
+abbrev pub IsTextOfKind : ErrorKind → Parsed → Type 0
+IsTextOfKind k (parsed.Command c) = ⊥
+IsTextOfKind k (parsed.Help text) = k ≡ kind.DisplayHelp
+IsTextOfKind k (parsed.Version text) = k ≡ kind.DisplayVersion
+IsTextOfKind k (parsed.Usage text) = (k ≢ kind.DisplayHelp) × (k ≢ kind.DisplayVersion)
+IsTextOfKind k parsed.NoMemory = ⊥
 
 -- the words ask for the command
 abbrev pub IsAsked : List Text → Command → Type 0
@@ -149,8 +153,10 @@ IsAnswer words r = MatchResult r (IsAsked words)
 -- the words ask for what was parsed
 abbrev pub IsAskedBy : List Text → Parsed → Type 0
 IsAskedBy words (parsed.Command c) = IsAsked words c
-IsAskedBy words (parsed.Help text) = (k : ErrorKind) × IsFault words k × IsShown k
-IsAskedBy words (parsed.Usage text) = (k : ErrorKind) × IsFault words k × ¬ IsShown k
+IsAskedBy words (parsed.Help text) = IsFault words kind.DisplayHelp
+IsAskedBy words (parsed.Version text) = IsFault words kind.DisplayVersion
+IsAskedBy words (parsed.Usage text) =
+    (k : ErrorKind) × IsFault words k × (k ≢ kind.DisplayHelp) × (k ≢ kind.DisplayVersion)
 IsAskedBy words parsed.NoMemory = ⊤
 
 -- ---- a run of two paths
@@ -168,5 +174,24 @@ AreRunOf words conf prog =
 abbrev pub IsRunOf : Text → Text → Parsed → Type 0
 IsRunOf conf prog (parsed.Command c) = asked_of c ≡ run conf prog 1
 IsRunOf conf prog (parsed.Help text) = ⊥
+IsRunOf conf prog (parsed.Version text) = ⊥
 IsRunOf conf prog (parsed.Usage text) = ⊥
 IsRunOf conf prog parsed.NoMemory = ⊤
+
+-- ---- help and the version
+
+-- the words are this one, after the program's name
+abbrev pub AreOnly : List Text → Text → Type 0
+AreOnly words word = (name : Text) × (words ≡ name ∷ word ∷ [])
+
+-- help, unless memory was refused
+abbrev pub IsHelp : Parsed → Type 0
+IsHelp (parsed.Help text) = ⊤
+IsHelp parsed.NoMemory = ⊤
+IsHelp _ = ⊥
+
+-- the version, unless memory was refused
+abbrev pub IsVersion : Parsed → Type 0
+IsVersion (parsed.Version text) = ⊤
+IsVersion parsed.NoMemory = ⊤
+IsVersion _ = ⊥

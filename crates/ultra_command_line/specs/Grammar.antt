@@ -61,11 +61,11 @@ numbers = record (argument (codes "NUMBER")) {
 abbrev pub lib_app : App
 lib_app = with_rule (with_rule (new_app (codes "lib")) (argument (codes "NAME"))) numbers
 
--- a program that a command has to be named for
+-- a program that has a version, and that a command has to be named for
 abbrev pub program_app : App
 program_app =
     let new = new_app (codes "ultra") in
-    record new { top = record new.top { subcommand_required = true } }
+    record new { top = record new.top { has_version = true; subcommand_required = true } }
 
 -- the command line of the program
 abbrev pub ultra_app : App

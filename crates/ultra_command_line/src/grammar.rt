@@ -1,10 +1,12 @@
 //! The commands and their words, as `clap` knows them.
 
 ghost use Rattle.std.specs.Prelude.{◌≡◌, codes, IfOk};
+ghost use Rattle.clap.specs.Words.{new_app};
 ghost use Rattle.ultra_command_line.specs.Grammar.{argument, option, flag, numbers, on_a_run};
 ghost use Rattle.ultra_command_line.specs.Grammar.{run_app, order_app, explain_app, list_app};
 ghost use Rattle.ultra_command_line.specs.Grammar.{sweep_app, lib_app, ultra_app, IsRead, IsApp};
 
+use crate::help::{self, Help};
 use clap::builder::ValueParser;
 use clap::{Arg, ArgAction, Command};
 use std::alloc::{AllocError, Global};
@@ -13,8 +15,8 @@ use std::alloc::{AllocError, Global};
 pub fn ultra_command<'c>(alloc: Global) -> Result<Command<'c>, AllocError>
     ensures { IfOk result (IsApp ultra_app) }
 {
-    let ultra = Command::new(alloc, "ultra")
-        .about("Simulates the NYU Ultracomputer cycle by cycle")
+    let ultra = new_command(alloc, "ultra", help::ULTRA)
+        .version(help::VERSION)
         .subcommand_required(true);
     let run = run_command(alloc)?;
     let ultra = ultra.subcommand(run)?;
@@ -34,9 +36,10 @@ pub fn ultra_command<'c>(alloc: Global) -> Result<Command<'c>, AllocError>
 fn run_command<'c>(alloc: Global) -> Result<Command<'c>, AllocError>
     ensures { IfOk result (IsApp run_app) }
 {
-    let help = "How many threads of the host make the cycles, 1 to 64";
-    let workers = option(alloc, "workers", "H", help, 1, 64).default_value("1");
-    let run = command_on_a_run(alloc, "run", "Writes the trace of a run")?;
+    let workers = option(alloc, "workers", "H", help::WORKERS, 1, 64)
+        .long_help(help::WORKERS_IN_FULL)
+        .default_value("1");
+    let run = command_on_a_run(alloc, "run", help::RUN)?;
     run.arg(workers)
 }
 
@@ -44,17 +47,17 @@ fn run_command<'c>(alloc: Global) -> Result<Command<'c>, AllocError>
 fn order_command<'c>(alloc: Global) -> Result<Command<'c>, AllocError>
     ensures { IfOk result (IsApp order_app) }
 {
-    command_on_a_run(alloc, "order", "Writes the serial order of a run")
+    command_on_a_run(alloc, "order", help::ORDER)
 }
 
 /// The command `explain`.
 fn explain_command<'c>(alloc: Global) -> Result<Command<'c>, AllocError>
     ensures { IfOk result (IsApp explain_app) }
 {
-    let help = "How many bytes the heap of the trees has, 256 to 16777216";
-    let heap = option(alloc, "heap", "BYTES", help, 256, 16_777_216).default_value("1048576");
-    let about = "Writes the combining tree of each memory act of a run";
-    let explain = command_on_a_run(alloc, "explain", about)?;
+    let heap = option(alloc, "heap", "BYTES", help::HEAP, 256, 16_777_216)
+        .long_help(help::HEAP_IN_FULL)
+        .default_value("1048576");
+    let explain = command_on_a_run(alloc, "explain", help::EXPLAIN)?;
     explain.arg(heap)
 }
 
@@ -62,24 +65,20 @@ fn explain_command<'c>(alloc: Global) -> Result<Command<'c>, AllocError>
 fn list_command<'c>(alloc: Global) -> Result<Command<'c>, AllocError>
     ensures { IfOk result (IsApp list_app) }
 {
-    let list = Command::new(alloc, "list").about("Writes the canonical text of a program");
-    list.arg(program_argument(alloc))
+    new_command(alloc, "list", help::LIST).arg(program_argument(alloc))
 }
 
 /// The command `sweep`.
 fn sweep_command<'c>(alloc: Global) -> Result<Command<'c>, AllocError>
     ensures { IfOk result (IsApp sweep_app) }
 {
-    let sweep = Command::new(alloc, "sweep").about(
-        "Writes the traces of many runs, one after the other",
-    );
-    let help = "The settings and programs of the runs, a TOML file";
-    let sweep = sweep.arg(argument(alloc, "JOBS", help))?;
-    let help = "How many threads of the host do the jobs, 1 to 64";
-    let workers = option(alloc, "workers", "H", help, 1, 64).required(true);
+    let sweep = new_command(alloc, "sweep", help::SWEEP);
+    let sweep = sweep.arg(argument(alloc, "JOBS", help::JOBS))?;
+    let workers = option(alloc, "workers", "H", help::JOB_WORKERS, 1, 64)
+        .long_help(help::JOB_WORKERS_IN_FULL)
+        .required(true);
     let sweep = sweep.arg(workers)?;
-    let help = "How many jobs may run at once, 1 to 64";
-    let at_once = option(alloc, "at-once", "B", help, 1, 64).required(true);
+    let at_once = option(alloc, "at-once", "B", help::AT_ONCE, 1, 64).required(true);
     let sweep = sweep.arg(at_once)?;
     sweep.arg(progress_flag(alloc))
 }
@@ -88,9 +87,8 @@ fn sweep_command<'c>(alloc: Global) -> Result<Command<'c>, AllocError>
 fn lib_command<'c>(alloc: Global) -> Result<Command<'c>, AllocError>
     ensures { IfOk result (IsApp lib_app) }
 {
-    let lib = Command::new(alloc, "lib").about("Writes the text of a coordination program");
-    let help = "gate (B T), queue (Z T), rw (G T) or barrier (T)";
-    let lib = lib.arg(argument(alloc, "NAME", help))?;
+    let name = argument(alloc, "NAME", help::NAME).long_help(help::NAME_IN_FULL);
+    let lib = new_command(alloc, "lib", help::LIB).arg(name)?;
     lib.arg(numbers_argument(alloc))
 }
 
@@ -98,8 +96,8 @@ fn lib_command<'c>(alloc: Global) -> Result<Command<'c>, AllocError>
 fn numbers_argument<'c>(alloc: Global) -> Arg<'c>
     ensures { IsRead numbers result }
 {
-    let help = "The size that the program is for, and the number T of rounds";
-    argument(alloc, "NUMBER", help)
+    argument(alloc, "NUMBER", help::NUMBERS)
+        .long_help(help::NUMBERS_IN_FULL)
         .value_parser(ValueParser::unsigned(0, u64::from(u32::MAX)))
         .action(ArgAction::Append)
 }
@@ -108,21 +106,30 @@ fn numbers_argument<'c>(alloc: Global) -> Arg<'c>
 fn command_on_a_run<'c>(
     alloc: Global,
     name: &'c str,
-    about: &'c str,
+    help: Help<'c>,
 ) -> Result<Command<'c>, AllocError>
     ensures { IfOk result (IsApp (on_a_run name.entry.now)) }
 {
-    let command = Command::new(alloc, name).about(about);
-    let help = "The settings of the machine, a TOML file";
-    let command = command.arg(argument(alloc, "CONF", help))?;
+    let settings = argument(alloc, "CONF", help::SETTINGS);
+    let command = new_command(alloc, name, help).arg(settings)?;
     command.arg(program_argument(alloc))
+}
+
+/// A command of this name without arguments, and its help.
+fn new_command<'c>(alloc: Global, name: &'c str, help: Help<'c>) -> Command<'c>
+    ensures { IsApp (new_app name.entry.now) result }
+{
+    Command::new(alloc, name)
+        .about(help.about)
+        .long_about(help.detail)
+        .after_long_help(help.more)
 }
 
 /// The argument that names the program's text.
 fn program_argument<'c>(alloc: Global) -> Arg<'c>
     ensures { IsRead (argument (codes "PROG")) result }
 {
-    argument(alloc, "PROG", "The program of the processing elements")
+    argument(alloc, "PROG", help::PROGRAM)
 }
 
 /// An argument that has to be there.
@@ -156,6 +163,6 @@ fn progress_flag<'c>(alloc: Global) -> Arg<'c>
 {
     Arg::new(alloc, "progress")
         .long("progress")
-        .help("Shows on standard error how many jobs are finished")
+        .help(help::PROGRESS)
         .action(ArgAction::SetTrue)
 }

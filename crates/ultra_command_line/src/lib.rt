@@ -3,13 +3,15 @@
 
 mod grammar;
 mod heap;
+mod help;
 mod reading;
 mod workers;
 
-ghost use Rattle.std.specs.Prelude.{◌≡◌, ◌≢◌, [], map, option_map, IfOk, MatchResult};
+ghost use Rattle.std.specs.Prelude.{◌≡◌, ◌≢◌, [], codes, map, option_map, IfOk, MatchResult};
 ghost use Rattle.clap.specs.Words.{fault_of, kind_of, HasKind, Text};
 ghost use Rattle.clap.specs.declared.error.ErrorKind.TheVariants.{OutOfMemory};
-ghost use Rattle.ultra_command_line.specs.Asked.{asked, asked_of, AreRunOf, IsAnswer, IsAskedBy, IsRunOf};
+ghost use Rattle.ultra_command_line.specs.Asked.{asked, asked_of, AreOnly, AreRunOf, IsAnswer};
+ghost use Rattle.ultra_command_line.specs.Asked.{IsAskedBy, IsHelp, IsRunOf, IsTextOfKind, IsVersion};
 ghost use Rattle.ultra_command_line.specs.Grammar.{ultra_app, IsApp};
 
 use clap::error::ErrorKind;
@@ -88,6 +90,8 @@ pub enum Parsed<'w> {
     Command(Command<'w>),
     /// That help is asked for: a text for standard output.
     Help(String),
+    /// That the version is asked for: a text for standard output.
+    Version(String),
     /// No command, since the words are wrong: a text for standard error.
     Usage(String),
     /// Nothing, since memory was refused.
@@ -97,20 +101,33 @@ pub enum Parsed<'w> {
 /// What the words tell; the first is the program's name.
 ///
 /// The contract says which words are which command, which are a fault of the user's, and which ask
-/// for help: `run CONF PROG`, where neither path begins with a hyphen, is the run of these paths by
+/// for help or the version: `run CONF PROG`, where neither path begins with a hyphen, is the run of these paths by
 /// one worker. The texts are `clap`'s, and are shown by tests.
 pub fn parse<'w>(alloc: Global, words: &'w [&'w str]) -> Parsed<'w>
     ensures asked { IsAskedBy (map (λ w. w.now) words.entry.now) result }
     ensures run { (conf prog : Text) → AreRunOf (map (λ w. w.now) words.entry.now) conf prog
         → IsRunOf conf prog result }
+    ensures help { AreOnly (map (λ w. w.now) words.entry.now) (codes "--help") → IsHelp result }
+    ensures version { AreOnly (map (λ w. w.now) words.entry.now) (codes "--version")
+        → IsVersion result }
 {
     match command_in(alloc, words) {
         Ok(command) => Parsed::Command(command),
         Err(error) => match shown(alloc, &error) {
-            Ok(text) if error.use_stderr() => Parsed::Usage(text),
-            Ok(text) => Parsed::Help(text),
+            Ok(text) => text_of_kind(error.kind(), text),
             Err(_) => Parsed::NoMemory,
         },
+    }
+}
+
+/// What words tell that get no command but this kind of text.
+fn text_of_kind<'w>(kind: ErrorKind, text: String) -> Parsed<'w>
+    ensures { IsTextOfKind kind result }
+{
+    match kind {
+        ErrorKind::DisplayHelp => Parsed::Help(text),
+        ErrorKind::DisplayVersion => Parsed::Version(text),
+        _ => Parsed::Usage(text),
     }
 }
 

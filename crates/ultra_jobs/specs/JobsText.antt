@@ -5,7 +5,6 @@ use Rattle.std.specs.Str.{IsUtf8}
 use Rattle.std.specs.declared.alloc.Global.{Global}
 use Rattle.toml.specs.Data.{Data, Items, no_items, item, Members, no_members, member, get_member, as_str, as_array, as_table}
 use Rattle.toml.specs.Parse.{parse_document}
-use Rattle.ultra_jobs.specs.declared.TheConstants.{MOST_JOBS}
 use Rattle.ultra_jobs.specs.declared.JobsFault.{JobsFault}
 use Rattle.ultra_jobs.specs.declared.JobsFault.TheVariants.{NoMemory, NotToml, BadJob}
 
@@ -63,7 +62,7 @@ count_of (item d ds) = count_of ds + 1
 
 abbrev pub jobs_in : Items → Option (List Paths)
 jobs_in ds =
-    if nat_le 1 (count_of ds) && nat_le (count_of ds) MOST_JOBS then paths_in ds else None
+    if nat_le 1 (count_of ds) && nat_le (count_of ds) 256 then paths_in ds else None
 
 -- a file of jobs is a table with such an array `job`, and no other key
 abbrev pub array_at : Members → Option Items

@@ -86,6 +86,8 @@ pub fn run<R: Threads + Wait + Sync, G: Gate + Sync, S: Sink>(
     ensures err { OnErr result (TakesPrefix (trace config.now program.now) (S.taken sink.old) (S.taken sink.new)) }
     ensures counted { IfErr result (λ e. S.failures sink.new ≡ S.failures sink.old + sink_faults e) }
     ensures alone { workers ≡ 1 → IfErr result (λ e. e ≢ NoThread) }
+    ensures memory_first { workers ≡ 1 →
+        IfErr result (λ e. e ≡ NoMemory → S.taken sink.new ≡ S.taken sink.old) }
 {
     if workers == 1 {
         run_alone(alloc, config, program, sink)
@@ -109,6 +111,7 @@ pub fn run_alone<S: Sink>(
     ensures err { OnErr result (TakesPrefix (trace config.now program.now) (S.taken sink.old) (S.taken sink.new)) }
     ensures counted { IfErr result (λ e. S.failures sink.new ≡ S.failures sink.old + sink_faults e) }
     ensures alone { IfErr result (λ e. e ≢ NoThread) }
+    ensures memory_first { IfErr result (λ e. e ≡ NoMemory → S.taken sink.new ≡ S.taken sink.old) }
 {
     let mut blocks = new_blocks(alloc, config, program, 1)?;
     write_trace(&mut blocks, sink)?;

@@ -8,24 +8,30 @@ use Rattle.sweep_command.proofs.sweep.Goals as goal
 
 pub returns-in-Err-clause-failed : goal.returns-in-Err-clause-failed
 returns-in-Err-clause-failed g c ne =
-    let before = stream (g.E.Sink.taken c.args.err.now) (g.E.Sink.failures c.args.err.now) in (
-      c.in-Err.failure,
-      before,
-      sym c.give_up.ensures.status,
-      unlisted c.in-Err.ensures.err (refl {a = g.O.Sink.taken c.args.out.now}) (refl {a = before}),
-      record { begun = c.give_up.ensures.prefix; whole = c.give_up.ensures.whole },
-    )
+    let before = stream (g.E.Sink.taken c.args.err.now) (g.E.Sink.failures c.args.err.now) in
+    let told = c.give_up.ensures in
+    record {
+      failure = c.in-Err.failure;
+      shown = before;
+      same_status = sym told.status;
+      why = unlisted c.in-Err.ensures.err (refl {a = g.O.Sink.taken c.args.out.now}) (refl {a = before});
+      told = record { begun = told.prefix; whole = told.whole };
+      read_counted = c.in-Err.ensures.counted;
+    }
 
 pub returns-clause-failed : goal.returns-clause-failed
 returns-clause-failed g c ne =
     let gave = c.in-Ok.ensures.ok in
-    let told = c.give_up-in-Err-sweep_jobs.ensures in (
-      c.in-Err-sweep_jobs.failure,
-      stream (g.E.Sink.taken c.sweep_jobs.new.err) (g.E.Sink.failures c.sweep_jobs.new.err),
-      sym told.status,
-      listed gave.text (all_paths c.in-Ok.list.items) gave.given (rw gave.files at (rw c.as_slice.ensures.value at c.in-Err-sweep_jobs.ensures.err)),
-      record { begun = told.prefix; whole = told.whole },
-    )
+    let why = c.in-Err-sweep_jobs.ensures in
+    let told = c.give_up-in-Err-sweep_jobs.ensures in
+    record {
+      failure = c.in-Err-sweep_jobs.failure;
+      shown = stream (g.E.Sink.taken c.sweep_jobs.new.err) (g.E.Sink.failures c.sweep_jobs.new.err);
+      same_status = sym told.status;
+      why = listed gave.text (all_paths c.in-Ok.list.items) gave.given (rw gave.files at (rw c.as_slice.ensures.value at why.err));
+      told = record { begun = told.prefix; whole = told.whole };
+      read_counted = rw c.in-Ok.ensures.still at why.read_counted;
+    }
 
 pub returns-in-Err-clause-counted : goal.returns-in-Err-clause-counted
 returns-in-Err-clause-counted g c ne =
