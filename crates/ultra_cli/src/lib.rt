@@ -24,7 +24,8 @@ use ultra_msg::{Sink, write_all};
 ///
 /// The first word is the program's name. Results, help and the version go to `out`; what is wrong
 /// goes to `err`. What is done is what the words ask for; the texts of help, of the version and of
-/// usage faults are laid out by `clap`, and shown by tests. A run by several workers starts threads, and the call may wait for them.
+/// usage faults are laid out by `clap`, and shown by tests. A run by several workers starts threads,
+/// and the call may wait for them.
 pub fn main_with<'w, R: AllocGlobal + Threads + Wait + Sync, F: Source, O: Sink, E: Sink>(
     rt: &R,
     words: &'w [&'w str],

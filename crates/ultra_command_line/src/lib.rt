@@ -101,8 +101,8 @@ pub enum Parsed<'w> {
 /// What the words tell; the first is the program's name.
 ///
 /// The contract says which words are which command, which are a fault of the user's, and which ask
-/// for help or the version: `run CONF PROG`, where neither path begins with a hyphen, is the run of these paths by
-/// one worker. The texts are `clap`'s, and are shown by tests.
+/// for help or the version: `run CONF PROG`, where neither path begins with a hyphen, is the run of
+/// these paths by one worker. `clap` lays the texts out, and tests show them.
 pub fn parse<'w>(alloc: Global, words: &'w [&'w str]) -> Parsed<'w>
     ensures asked { IsAskedBy (map (λ w. w.now) words.entry.now) result }
     ensures run { (conf prog : Text) → AreRunOf (map (λ w. w.now) words.entry.now) conf prog
