@@ -1,0 +1,4 @@
+pub mod Cut
+pub mod Exchange
+pub mod Halves
+pub mod Events
