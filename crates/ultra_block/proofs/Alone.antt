@@ -7,10 +7,10 @@ use Rattle.ultra_units.specs.Numbers.{unit_count}
 use Rattle.ultra_section.specs.BlockState.{BlockState}
 use Rattle.ultra_cut.specs.Cut.{block_at, home}
 use Rattle.ultra_cut.specs.Events.{event_rank, events_of, stops_of}
-use Rattle.ultra_happenings.specs.InOrder.{IsInOrder}
+use Rattle.ultra_cut.specs.InOrder.{IsInOrder}
 use Rattle.ultra_merge.proofs.Merged.{merged_alone, merged_of}
-use Rattle.ultra_build.specs.Fresh.{one_block}
-use Rattle.ultra_cycle.specs.Moments.{AreWhole}
+use Rattle.ultra_block.specs.Fresh.{one_block}
+use Rattle.ultra_cut.specs.Moments.{AreWhole}
 use Rattle.ultra_block.proofs.Firsts.{is_ranked}
 
 only_one : (bs : List BlockState) → length bs ≡ 1 → bs ≡ block_at bs 0 ∷ []

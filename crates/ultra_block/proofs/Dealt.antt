@@ -12,11 +12,11 @@ use Rattle.ultra_halves.specs.declared.elements.ProcessingElement.{ProcessingEle
 use Rattle.ultra_course.proofs.AtFrame.{whole_alike}
 use Rattle.ultra_cut.specs.Cut.{block_at, frame_of}
 use Rattle.ultra_cut.specs.Events.{event_rank, events_of, stops_of}
-use Rattle.ultra_happenings.specs.InOrder.{IsInOrder}
+use Rattle.ultra_cut.specs.InOrder.{IsInOrder}
 use Rattle.ultra_merge.proofs.Merged.{merged_none, merged_of}
-use Rattle.ultra_build.specs.Fresh.{IsFresh, frame_of_one, one_block}
-use Rattle.ultra_build.specs.Dealt.{IsDealt}
-use Rattle.ultra_cycle.specs.Moments.{AreWhole, machine_in}
+use Rattle.ultra_block.specs.Fresh.{IsFresh, frame_of_one, one_block}
+use Rattle.ultra_block.specs.Dealt.{IsDealt}
+use Rattle.ultra_cut.specs.Moments.{AreWhole, machine_in}
 
 -- ---- what blocks tell
 tells_same : (d : ℕ) (x y : BlockState) → x.events ≡ y.events → x.stops ≡ y.stops → IsInOrder d y → IsInOrder d x

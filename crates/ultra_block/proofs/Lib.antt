@@ -4,3 +4,10 @@ pub mod Firsts
 pub mod Mapped
 pub mod Seen
 pub mod Turn
+pub mod Filled
+pub mod Placed
+pub mod FreshBlock
+pub mod Tables
+pub mod Carried
+pub mod Telling
+pub mod Parted

@@ -6,7 +6,7 @@ use Rattle.ultra_section.specs.BlockState.{BlockState}
 use Rattle.ultra_course.specs.Whole.{whole}
 use Rattle.ultra_cut.specs.Cut.{frame_of}
 use Rattle.ultra_cut.specs.Events.{events_of, stops_of}
-use Rattle.ultra_cycle.specs.Moments.{machine_in}
+use Rattle.ultra_cut.specs.Moments.{machine_in}
 use Rattle.ultra_block.specs.State.{BlocksState}
 
 pub cycles_are : (c : Settings) (partition : List ℕ) (n : ℕ) (bs : List BlockState) → (machine_in c partition n bs).cycles ≡ n

@@ -11,9 +11,9 @@ use Rattle.ultra_course.specs.Frame.{AreRooms}
 use Rattle.ultra_cut.specs.Cut.{IsCut, frame_of}
 use Rattle.ultra_cut.specs.Exchange.{AreRepliesThere, AreRequestsThere, AreSingleReplies, AreSingleRequests, OnlyRepliesMove, OnlyRequestsMove}
 use Rattle.ultra_cut.specs.Halves.{AllCanMake, AreBlocks, all_made, noted}
-use Rattle.ultra_unit_halves.specs.Whole.{AreRoomsOfAll}
-use Rattle.ultra_cycle.specs.Moments.{AreWhole, machine_in}
-use Rattle.ultra_cycle.proofs.Whole as whole
+use Rattle.ultra_cut.specs.Whole.{AreRoomsOfAll}
+use Rattle.ultra_cut.specs.Moments.{AreWhole, machine_in}
+use Rattle.ultra_cut.proofs.Whole as whole
 
 module _ (c : Settings) (partition : List ℕ) (n : ℕ) (program : List Instr) (bs : List BlockState) (start : AreWhole c partition n bs) (d : ℕ) (net : d ≡ c.stages)
     (first : BlockRooms) (first_noted : AreRoomsOfAll bs first) (sent : List BlockState) (sent_is : sent ≡ all_made SendReplies first program bs) where

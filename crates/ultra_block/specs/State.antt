@@ -6,7 +6,7 @@ use Rattle.ultra_model.specs.declared.Stop.{Stop}
 use Rattle.ultra_model.specs.Machine.{Settings, Machine}
 use Rattle.ultra_cut.specs.Events.{event_rank}
 use Rattle.ultra_merge.specs.Merging.{Remainder, merged}
-use Rattle.ultra_cycle.specs.Moments.{AreWhole, machine_in}
+use Rattle.ultra_cut.specs.Moments.{AreWhole, machine_in}
 use Rattle.ultra_block.specs.declared.parts.Parts.{Parts}
 use Rattle.ultra_block.specs.declared.ranks.ByRules.{ByRules}
 use Rattle.ultra_block.specs.declared.ranks.ByElement.{ByElement}

@@ -4,19 +4,21 @@ ghost use Rattle.std.specs.Prelude.{◌≡◌, ◌-◌, ◌^◌, ◌<◌, ◌↔
 ghost use Rattle.ultra_model.specs.Machine.{bank_at, element_at, is_quiet, lane_at, replies_at, site, start};
 ghost use Rattle.ultra_model.specs.Phases.{cycle as next_cycle};
 ghost use Rattle.ultra_cut.specs.Cut.{is_partition};
-ghost use Rattle.ultra_build.specs.Dealt.{IsLastNamed};
+ghost use Rattle.ultra_block.specs.Dealt.{IsLastNamed};
 ghost use Rattle.ultra_section.specs.Holding.{IsNextWhere};
-ghost use Rattle.ultra_unit_halves.specs.Holding.{holds};
+ghost use Rattle.ultra_cut.specs.Holding.{holds};
 
+use crate::building::fresh_block;
 use crate::cycle::make_cycle;
+use crate::dealing::deal;
+use crate::events::{events_in, stops_in};
 use crate::lent::{at, element_in, module_in, switch_in};
 use crate::partition::{PartitionFault, names_all_units};
 use crate::parts::Parts;
 use crate::ranks::{ByElement, ByRules};
-use crate::told::{events_in, stops_in};
 use std::alloc::Global;
 use std::marker::Model;
-use ultra_build::{deal, fresh_block};
+use ultra_cut::{are_quiet, next_holding};
 use ultra_halves::ProcessingElement;
 use ultra_isa::Program;
 use ultra_mem::Module;
@@ -25,7 +27,6 @@ use ultra_model::{Config, Stop};
 use ultra_msg::{Event, Pe};
 use ultra_section::Held;
 use ultra_switch::{ToMm, ToPe};
-use ultra_unit_halves::{are_quiet, next_holding};
 use ultra_units::switch_number;
 
 /// A whole machine, cut into blocks, between two cycles: its settings, its program, the block in which each unit stands, and the blocks. Switches come first in the partition, then modules, then processing elements.

@@ -2,14 +2,13 @@
 
 ghost use Rattle.std.specs.Prelude.{◌≡◌, ℕ, ◌+◌, ◌-◌, ◌^◌, ◌<◌};
 ghost use Rattle.ultra_model.specs.Phases.{cycle as next_cycle};
-ghost use Rattle.ultra_cycle.specs.Moments.{AreWhole, machine_in};
+ghost use Rattle.ultra_cut.specs.Moments.{AreWhole, machine_in};
 
 use crate::every_block::make;
-use ultra_cut::{exchange_replies, exchange_requests};
+use ultra_cut::{exchange_replies, exchange_requests, note_rooms};
 use ultra_isa::Program;
 use ultra_model::Config;
 use ultra_section::{Block, Half};
-use ultra_unit_halves::note_rooms;
 
 /// The blocks of a machine, which has made `done` cycles, make one more: replies, memory, requests, processors. Each half is made by all blocks before the next, and what has left one block for another goes there between the two halves of a phase.
 pub(crate) fn make_cycle(

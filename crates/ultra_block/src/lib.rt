@@ -2,18 +2,21 @@
 #![tactic(auto)]
 
 mod blocks;
+mod building;
 mod cycle;
+mod dealing;
+mod events;
 mod every_block;
 mod lent;
 mod partition;
 mod parts;
 mod ranks;
-mod told;
 
 pub use blocks::Blocks;
+pub use building::fresh_block;
+pub use dealing::deal;
 pub use partition::{MOST_BLOCKS, PartitionFault};
 pub use parts::Parts;
 pub use ranks::{ByElement, ByRules};
-pub use ultra_cut::{exchange_replies, exchange_requests};
+pub use ultra_cut::{exchange_replies, exchange_requests, note_rooms};
 pub use ultra_section::{Block, Half, Held, Rooms};
-pub use ultra_unit_halves::note_rooms;

@@ -2,11 +2,11 @@
 
 ghost use Rattle.std.specs.Prelude.{◌≡◌, length, true, OnErr, OnOk};
 ghost use Rattle.ultra_cut.specs.Cut.{is_partition};
-ghost use Rattle.ultra_build.specs.Dealt.{IsLastNamed};
+ghost use Rattle.ultra_block.specs.Dealt.{IsLastNamed};
 ghost use Rattle.ultra_block.specs.State.{AreParts, put_together};
 
+use crate::dealing::deal;
 use std::alloc::{AllocError, Global};
-use ultra_build::deal;
 use ultra_isa::Program;
 use ultra_model::Config;
 use ultra_section::Block;

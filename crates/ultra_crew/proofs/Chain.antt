@@ -23,13 +23,13 @@ use Rattle.ultra_cut.proofs.Numbers.{few_units}
 use Rattle.ultra_cut.proofs.RepliesMoved as replies_moved
 use Rattle.ultra_cut.proofs.RequestsMoved as requests_moved
 use Rattle.ultra_cut.specs.Events.{events_of, stops_of}
-use Rattle.ultra_reply_halves.proofs.Column.{changed_at}
-use Rattle.ultra_reply_halves.proofs.Sent.{replies_sent}
-use Rattle.ultra_request_halves.proofs.Sent.{requests_sent}
-use Rattle.ultra_unit_halves.specs.Whole.{AreRoomsOfAll}
-use Rattle.ultra_cycle.specs.Moments.{AreWhole, machine_in}
-use Rattle.ultra_cycle.proofs.Replied as replied
-use Rattle.ultra_cycle.proofs.Whole as whole
+use Rattle.ultra_cut.proofs.ReplyColumns.{changed_at}
+use Rattle.ultra_cut.proofs.RepliesSent.{replies_sent}
+use Rattle.ultra_cut.proofs.RequestsSent.{requests_sent}
+use Rattle.ultra_cut.specs.Whole.{AreRoomsOfAll}
+use Rattle.ultra_cut.specs.Moments.{AreWhole, machine_in}
+use Rattle.ultra_cut.proofs.Replied as replied
+use Rattle.ultra_cut.proofs.Whole as whole
 use Rattle.ultra_crew.specs.Exchanged.{replies_exchanged, requests_exchanged}
 use Rattle.ultra_crew.specs.Start.{first_blocks, state_of}
 use Rattle.ultra_crew.specs.Course.{blocks_after, first_rooms, results_in, second_rooms, teams_of, with_memory_served, with_replies_sent, with_replies_taken, with_requests_sent, with_requests_taken, with_steps_made}

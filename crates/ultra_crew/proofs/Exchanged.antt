@@ -19,9 +19,9 @@ use Rattle.ultra_cut.specs.Cut.{block_at, first, home, no_block, replies_on, req
 use Rattle.ultra_cut.specs.Exchange.{AreRepliesThere, AreRequestsThere, OnlyRepliesMove, OnlyRequestsMove}
 use Rattle.ultra_cut.specs.Halves.{AreBlocks}
 use Rattle.ultra_cut.proofs.Numbers.{differs}
-use Rattle.ultra_reply_halves.proofs.Column.{column_first}
-use Rattle.ultra_reply_halves.proofs.Inlets as replying
-use Rattle.ultra_request_halves.proofs.Inlets as requesting
+use Rattle.ultra_cut.proofs.ReplyColumns.{column_first}
+use Rattle.ultra_cut.proofs.ReplyInlets as replying
+use Rattle.ultra_cut.proofs.RequestInlets as requesting
 use Rattle.ultra_crew.specs.Exchanged.{at_home, replies_exchanged, reply_unit, request_unit, requests_exchanged}
 
 -- ---- messages of one kind, each in the block of the unit to which it leads

@@ -33,8 +33,8 @@ use Rattle.ultra_course.proofs.AtFrame.{bank_is, element_is, even_small, lane_is
 use Rattle.ultra_course.proofs.Numbers.{at_even, at_odd}
 use Rattle.ultra_cut.specs.Cut.{block_at, frame_of, given, home, no_block, no_element, no_switch}
 use Rattle.ultra_cut.specs.Events.{events_of, stops_of}
-use Rattle.ultra_reply_halves.proofs.Column.{column_none}
-use Rattle.ultra_cycle.specs.Moments.{AreWhole, machine_in}
+use Rattle.ultra_cut.proofs.ReplyColumns.{column_none}
+use Rattle.ultra_cut.specs.Moments.{AreWhole, machine_in}
 use Rattle.ultra_block.proofs.Seen.{cycles_are}
 use Rattle.ultra_crew.specs.Start.{element_in, first_block, first_blocks, if_home, lane_in, replies_in, state_of, switch_in}
 

@@ -11,7 +11,7 @@ use Rattle.ultra_halves.specs.declared.elements.ProcessingElement.{ProcessingEle
 use Rattle.ultra_section.specs.Units.{stage_of, index_of}
 use Rattle.ultra_section.specs.BlockState.{BlockState}
 use Rattle.ultra_cut.specs.Cut.{home}
-use Rattle.ultra_cycle.specs.Moments.{machine_in}
+use Rattle.ultra_cut.specs.Moments.{machine_in}
 use Rattle.ultra_block.specs.State.{BlocksState}
 
 -- the units of a machine, by their numbers

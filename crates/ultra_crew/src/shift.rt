@@ -5,7 +5,7 @@ ghost use Rattle.std.specs.Arc.{arc_value};
 ghost use Rattle.ultra_model.specs.Phases.{cycle as next_cycle};
 ghost use Rattle.ultra_section.specs.declared.half.Half.{Half};
 ghost use Rattle.ultra_cut.specs.Halves.{AllCanMake, all_made};
-ghost use Rattle.ultra_cycle.specs.Moments.{AreWhole, machine_in};
+ghost use Rattle.ultra_cut.specs.Moments.{AreWhole, machine_in};
 ghost use Rattle.ultra_desk.specs.Tasks.{AreEmptyTeams, CanBeMade, task_made};
 ghost use Rattle.ultra_crew.specs.Start.{state_of};
 ghost use Rattle.ultra_crew.specs.Course.{IsCourse, cycles_on, results_in, teams_of};
@@ -20,7 +20,7 @@ use ultra_desk::{Course, CrewFault, Desk, Gate, Name, Task, deal, empty_teams, g
 use ultra_isa::Program;
 use ultra_model::Config;
 use ultra_section::{Block, Half, Rooms};
-use ultra_unit_halves::note_rooms;
+use ultra_cut::note_rooms;
 
 /// Host workers at work, each in a thread of its own that is kept until the shift ends. Contracts see how many they are.
 #[derive(Drop)]

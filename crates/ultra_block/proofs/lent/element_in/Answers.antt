@@ -4,7 +4,7 @@ use Rattle.std.proofs.lemmas.List.{get_or_default}
 use Rattle.ultra_units.specs.Numbers.{element_number}
 use Rattle.ultra_section.specs.BlockState.{BlockState, element_at}
 use Rattle.ultra_cut.specs.Cut.{block_at, home, no_block}
-use Rattle.ultra_unit_halves.proofs.Units.{element_at_home}
+use Rattle.ultra_cut.proofs.Units.{element_at_home}
 use Rattle.ultra_block.proofs.lent.element_in.Goals as goal
 
 pub element-requires : goal.element-requires

@@ -3,7 +3,7 @@ use Rattle.std.specs.Prelude.{is_some}
 use Rattle.std.proofs.lemmas.List.{get_or_default}
 use Rattle.ultra_section.specs.BlockState.{BlockState, switch_at}
 use Rattle.ultra_cut.specs.Cut.{block_at, home, no_block}
-use Rattle.ultra_unit_halves.proofs.Units.{switch_at_home}
+use Rattle.ultra_cut.proofs.Units.{switch_at_home}
 use Rattle.ultra_block.proofs.lent.switch_in.Goals as goal
 
 pub switch-requires : goal.switch-requires

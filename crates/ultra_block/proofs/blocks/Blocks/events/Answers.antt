@@ -2,7 +2,7 @@ use Rattle.std.proofs.Common.{◌≡◌, map, ap, ◌∙◌, sym, subst}
 use Rattle.ultra_section.specs.BlockState.{BlockState}
 use Rattle.ultra_cut.specs.Events.{event_rank}
 use Rattle.ultra_cut.specs.Halves.{OfEach}
-use Rattle.ultra_happenings.specs.InOrder.{IsInOrder}
+use Rattle.ultra_cut.specs.InOrder.{IsInOrder}
 use Rattle.ultra_merge.specs.Merging.{merged}
 use Rattle.ultra_block.specs.State.{BlocksState}
 use Rattle.ultra_block.proofs.Firsts.{told_events}

@@ -1,7 +1,7 @@
 use Rattle.std.proofs.Common.{ap, ◌∙◌, sym, subst}
-use Rattle.ultra_build.specs.Fresh.{IsFresh}
-use Rattle.ultra_build.specs.Dealt.{IsDealt}
-use Rattle.ultra_cycle.specs.Moments.{AreWhole, machine_in}
+use Rattle.ultra_block.specs.Fresh.{IsFresh}
+use Rattle.ultra_block.specs.Dealt.{IsDealt}
+use Rattle.ultra_cut.specs.Moments.{AreWhole, machine_in}
 use Rattle.ultra_block.proofs.Dealt.{dealt_machine, dealt_whole, fresh_machine, fresh_whole}
 use Rattle.ultra_block.proofs.blocks.Blocks.new.Goals as goal
 

@@ -3,9 +3,9 @@ use Rattle.std.proofs.lemmas.List.{get_or_default}
 use Rattle.ultra_course.specs.Frame.{IsClear}
 use Rattle.ultra_cut.specs.Cut.{block_at, frame_of, no_block}
 use Rattle.ultra_cut.specs.Halves.{AreBlocks}
-use Rattle.ultra_build.specs.Fresh.{one_block}
-use Rattle.ultra_build.specs.Dealt.{IsDealt}
-use Rattle.ultra_cycle.specs.Moments.{AreWhole, machine_in}
+use Rattle.ultra_block.specs.Fresh.{one_block}
+use Rattle.ultra_block.specs.Dealt.{IsDealt}
+use Rattle.ultra_cut.specs.Moments.{AreWhole, machine_in}
 use Rattle.ultra_block.proofs.Alone.{all_in_one, one_whole, only}
 use Rattle.ultra_block.proofs.Dealt.{dealt_machine, dealt_whole}
 use Rattle.ultra_block.proofs.Seen.{cut_anew}

@@ -1,0 +1,80 @@
+-- a module filled with the initial values, one after the other
+use Rattle.std.proofs.Common.{◌≡◌, ◌≢◌, ℕ, zero, suc, ◌+◌, ◌*◌, ◌/◌, ◌%◌, ◌<◌, List, [], ◌∷◌, ◌++◌, true, false, refl, inl, inr, arith, ap, ◌∙◌, sym, length, get_or, set, replicate}
+use Rattle.std.specs.Prelude.{◌==◌, ◌⊎◌, map}
+use Rattle.std.specs.List.{range_with_len}
+use Rattle.std.proofs.lemmas.List.{same_lists, length-set, get_or-set_same, get_or-set_other}
+use Rattle.std.proofs.lemmas.Bool.{cases_eq, eq-eqb, ne_eqb}
+use Rattle.std.proofs.lemmas.Nat.{div-mul-add, mod-mul-add, div-add-mod'}
+use Rattle.ultra_model.specs.Places.{places}
+use Rattle.ultra_model.specs.Machine.{given_value}
+use Rattle.ultra_model.proofs.Each.{places_at, length-places}
+use Rattle.ultra_mem.specs.Serve.{new_bank}
+use Rattle.ultra_block.specs.Fresh.{filled}
+
+-- one more address: its value is the last
+given_more : (xs : List (ℕ × ℕ)) (x : ℕ × ℕ) (a v : ℕ) → given_value (xs ++ x ∷ []) a v ≡ elim (x.0 == a) [ true ↦ x.1 | false ↦ given_value xs a v ]
+given_more [] x a v = refl
+given_more (y ∷ ys) x a v = given_more ys x a (elim (y.0 == a) [ true ↦ y.1 | false ↦ v ])
+
+given_here : (xs : List (ℕ × ℕ)) (x : ℕ × ℕ) (a v : ℕ) → x.0 ≡ a → given_value (xs ++ x ∷ []) a v ≡ x.1
+given_here xs x a v h = given_more xs x a v ∙ ap (λ b. elim b [ true ↦ x.1 | false ↦ given_value xs a v ]) (eq-eqb x.0 a h)
+
+given_past : (xs : List (ℕ × ℕ)) (x : ℕ × ℕ) (a v : ℕ) → x.0 ≢ a → given_value (xs ++ x ∷ []) a v ≡ given_value xs a v
+given_past xs x a v h = given_more xs x a v ∙ ap (λ b. elim b [ true ↦ x.1 | false ↦ given_value xs a v ]) (ne_eqb x.0 a h)
+
+module _ (size m n : ℕ) (small : m < size) where
+  abbrev values : List (ℕ × ℕ) → List ℕ
+  values xs = places n (λ o. given_value xs (o * size + m) 0)
+
+  -- the address of a cell of this module
+  address : (a : ℕ) → a % size ≡ m → a ≡ a / size * size + m
+  address a h = sym (div-add-mod' a size) ∙ ap (λ r. a / size * size + r) h
+
+  at_cell : (xs : List (ℕ × ℕ)) (x : ℕ × ℕ) (k d : ℕ) → x.0 % size ≡ m → x.0 / size < n → k < n → (k ≡ x.0 / size) ⊎ (k ≢ x.0 / size) → get_or (set (values xs) (x.0 / size) x.1) k d ≡ get_or (values (xs ++ x ∷ [])) k d
+  at_cell xs x k d h b w (inl e) =
+      let l : x.0 / size < length (values xs) = omega (arith, b, length-places n (λ o. given_value xs (o * size + m) 0)) in
+      ap (λ k. get_or (set (values xs) (x.0 / size) x.1) k d) e
+      ∙ get_or-set_same (values xs) (x.0 / size) x.1 d l
+      ∙ sym (given_here xs x (x.0 / size * size + m) 0 (address x.0 h))
+      ∙ ap (λ k. given_value (xs ++ x ∷ []) (k * size + m) 0) (sym e)
+      ∙ sym (places_at n (λ o. given_value (xs ++ x ∷ []) (o * size + m) 0) k d w)
+  at_cell xs x k d h b w (inr e) =
+      let other : x.0 ≢ k * size + m = λ a. e (sym (ap (λ a. a / size) a ∙ div-mul-add k size m small)) in
+      get_or-set_other (values xs) (x.0 / size) k x.1 d e
+      ∙ places_at n (λ o. given_value xs (o * size + m) 0) k d w
+      ∙ sym (places_at n (λ o. given_value (xs ++ x ∷ []) (o * size + m) 0) k d w ∙ given_past xs x (k * size + m) 0 other)
+
+  -- an address of this module sets its cell
+  cells_here : (xs : List (ℕ × ℕ)) (x : ℕ × ℕ) → x.0 % size ≡ m → x.0 / size < n → set (values xs) (x.0 / size) x.1 ≡ values (xs ++ x ∷ [])
+  cells_here xs x h b =
+      same_lists (set (values xs) (x.0 / size) x.1) (values (xs ++ x ∷ []))
+      (length-set (values xs) (x.0 / size) x.1 ∙ length-places n (λ o. given_value xs (o * size + m) 0) ∙ sym (length-places n (λ o. given_value (xs ++ x ∷ []) (o * size + m) 0)))
+      (λ k d l.
+      let long = length-set (values xs) (x.0 / size) x.1 in
+      let count = length-places n (λ o. given_value xs (o * size + m) 0) in
+      at_cell xs x k d h b (omega (arith, l, long, count)) (cases_eq k (x.0 / size)))
+
+  -- another leaves them
+  cells_past : (xs : List (ℕ × ℕ)) (x : ℕ × ℕ) → x.0 % size ≢ m → values xs ≡ values (xs ++ x ∷ [])
+  cells_past xs x h =
+      same_lists (values xs) (values (xs ++ x ∷ []))
+      (length-places n (λ o. given_value xs (o * size + m) 0) ∙ sym (length-places n (λ o. given_value (xs ++ x ∷ []) (o * size + m) 0)))
+      (λ k d l.
+      let count = length-places n (λ o. given_value xs (o * size + m) 0) in
+      let within : k < n = omega (arith, l, count) in
+      let other : x.0 ≢ k * size + m = λ a. h (ap (λ a. a % size) a ∙ mod-mul-add k size m small) in
+      places_at n (λ o. given_value xs (o * size + m) 0) k d within ∙ sym (places_at n (λ o. given_value (xs ++ x ∷ []) (o * size + m) 0) k d within ∙ given_past xs x (k * size + m) 0 other))
+
+  pub fill_here : (xs : List (ℕ × ℕ)) (x : ℕ × ℕ) → x.0 % size ≡ m → x.0 / size < n → record (filled size m n xs) { cells = set (filled size m n xs).cells (x.0 / size) x.1 } ≡ filled size m n (xs ++ x ∷ [])
+  fill_here xs x h b = ap (λ cs. record (filled size m n xs) { cells = cs }) (cells_here xs x h b)
+
+  pub fill_past : (xs : List (ℕ × ℕ)) (x : ℕ × ℕ) → x.0 % size ≢ m → filled size m n xs ≡ filled size m n (xs ++ x ∷ [])
+  fill_past xs x h = ap (λ cs. record (filled size m n xs) { cells = cs }) (cells_past xs x h)
+
+zeros : (a n : ℕ) → replicate {A = ℕ} n 0 ≡ map (λ (o : ℕ). 0) (range_with_len a n)
+zeros a zero = refl
+zeros a (suc n) = ap (λ xs. 0 ∷ xs) (zeros (a + 1) n)
+
+pub fill_none : (size m n : ℕ) → new_bank n ≡ filled size m n []
+unfolding places
+fill_none size m n = ap (λ cs. record (new_bank n) { cells = cs }) (zeros 0 n)

@@ -1,0 +1,114 @@
+//! The units of a machine before its first cycle.
+
+ghost use Rattle.std.specs.Prelude.{◌≡◌, ℕ, ◌*◌, ◌^◌, ◌<◌, All, IfOk, OnOk};
+ghost use Rattle.ultra_mem.specs.Serve.{new_bank};
+ghost use Rattle.ultra_course.specs.Whole.{empty_switch};
+ghost use Rattle.ultra_block.specs.Fresh.{IsFresh, filled, first_bank, first_element, first_elements, first_modules, first_switches};
+
+use std::alloc::{AllocError, Global};
+use ultra_halves::ProcessingElement;
+use ultra_isa::Processor;
+use ultra_mem::Module;
+use ultra_model::Config;
+use ultra_msg::{Cell, Pe, Word};
+use ultra_pni::Pni;
+use ultra_section::Block;
+use ultra_switch::Switch;
+use ultra_units::switch_count;
+
+/// Puts the initial values of this module, one of `size`, into its cells, which are all 0.
+fn fill(bank: &mut Module, size: u32, number: u32, cells: u32, values: &[(Cell, Word)])
+    requires number { number < size }
+    requires fresh { bank.old ≡ new_bank cells }
+    requires within { All (λ (i : ℕ × ℕ). i.0 < size * cells) values.now }
+    ensures { bank.new ≡ filled size number cells values.now }
+{
+    for &(cell, word) in values {
+        if cell % size == number {
+            bank.set(cell / size, word);
+        }
+    }
+}
+
+/// A switch with empty queues. An error says that memory was refused.
+fn new_switch(alloc: Global, config: &Config) -> Result<Switch, AllocError>
+    ensures { IfOk result (λ w. w ≡ empty_switch config.now) }
+{
+    Switch::new(
+        alloc,
+        config.request_places() as usize,
+        config.reply_places() as usize,
+        config.wait_places() as usize,
+    )
+    .map_err(|_| AllocError)
+}
+
+/// A memory module with its initial values. An error says that memory was refused.
+fn new_module(alloc: Global, config: &Config, number: u32) -> Result<Module, AllocError>
+    requires { number < 2 ^ config.now.stages }
+    ensures { IfOk result (λ b. b ≡ first_bank config.now number) }
+{
+    let mut bank = Module::new(alloc, config.cells()).map_err(|_| AllocError)?;
+    let size = config.net().size();
+    fill(&mut bank, size, number, config.cells(), config.initial());
+    Ok(bank)
+}
+
+/// A processing element before its first step.
+fn new_element(config: &Config, pe: Pe) -> ProcessingElement
+    requires { pe < 2 ^ config.now.stages }
+    ensures { result ≡ first_element config.now pe }
+{
+    ProcessingElement {
+        processor: Processor::new(pe, config.net(), config.cells()),
+        interface: Pni::new(config.most_open() as usize),
+        issued: 0,
+    }
+}
+
+/// All switches are made and put into the block. An error says that memory was refused.
+fn add_switches(alloc: Global, config: &Config, block: &mut Block) -> Result<(), AllocError>
+    requires { block.old.stages ≡ config.now.stages }
+    ensures { OnOk result (block.new ≡ record block.old { switches = first_switches config.now }) }
+{
+    let net = block.net();
+    for number in 0..switch_count(net) {
+        block.put_switch(number, new_switch(alloc, config)?);
+    }
+    Ok(())
+}
+
+/// All memory modules are made and put into the block. An error says that memory was refused.
+fn add_modules(alloc: Global, config: &Config, block: &mut Block) -> Result<(), AllocError>
+    requires { block.old.stages ≡ config.now.stages }
+    ensures { OnOk result (block.new ≡ record block.old { modules = first_modules config.now }) }
+{
+    let net = block.net();
+    for number in 0..net.size() {
+        block.put_module(number, new_module(alloc, config, number)?);
+    }
+    Ok(())
+}
+
+/// All processing elements are made and put into the block.
+fn add_elements(config: &Config, block: &mut Block)
+    requires { block.old.stages ≡ config.now.stages }
+    ensures { block.new ≡ record block.old { elements = first_elements config.now } }
+{
+    let net = block.net();
+    for pe in 0..net.size() {
+        block.put_element(pe, new_element(config, pe));
+    }
+}
+
+/// All units of the machine before its first cycle, in one block. An error says that memory was refused.
+pub fn fresh_block(alloc: Global, config: &Config) -> Result<Block, AllocError>
+    ensures { IfOk result (λ b. IsFresh config.now b) }
+{
+    let _initial = config.initial();
+    let mut block = Block::empty(alloc, config.net())?;
+    add_switches(alloc, config, &mut block)?;
+    add_modules(alloc, config, &mut block)?;
+    add_elements(config, &mut block);
+    Ok(block)
+}

@@ -1,9 +1,0 @@
-pub mod Joined
-pub mod Ranked
-pub mod Merged
-pub mod AtHome
-pub mod Parts
-pub mod Telling
-pub mod Law
-pub mod Ascending
-pub mod InOrder
