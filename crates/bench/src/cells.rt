@@ -1,7 +1,5 @@
 //! The cells of a machine.
 
-ghost use Rattle.ultra_block.specs.BlocksState.{IsWhole};
-
 use std::alloc::{AllocError, Global};
 use ultra_block::Blocks;
 use ultra_machine::Machine;
@@ -29,9 +27,7 @@ pub(crate) fn of_machine(
 }
 
 /// The same of a machine that is cut into blocks.
-pub(crate) fn of_blocks(alloc: Global, blocks: &Blocks) -> Result<Vec<(Cell, Word)>, AllocError>
-    requires { IsWhole blocks.now }
-{
+pub(crate) fn of_blocks(alloc: Global, blocks: &Blocks) -> Result<Vec<(Cell, Word)>, AllocError> {
     let mut cells = Vec::new(alloc);
     let modules = blocks.config().net().size();
     for module in 0..modules {

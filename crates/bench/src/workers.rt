@@ -5,8 +5,7 @@
 //! number of workers, and `kept` where their threads are started once or `anew` where they are
 //! started for each cycle. All parts of the machine have the default sizes.
 
-ghost use Rattle.std.specs.Prelude.{◌≡◌, ◌+◌, ◌<◌, ◌≤◌, ◌^◌, IfOk};
-ghost use Rattle.ultra_block.specs.BlocksState.{IsWhole};
+ghost use Rattle.std.specs.Prelude.{◌≤◌};
 
 use crate::cells::{digest, of_blocks};
 use crate::setup::{Setup, Sizes};
@@ -15,8 +14,9 @@ use std::alloc::Global;
 use std::rt::Files;
 use std::sync::Wait;
 use std::thread::Threads;
-use ultra_block::{Blocks, Half};
+use ultra_block::Blocks;
 use ultra_crew::{Crew, CrewFault, Gate, MOST_WORKERS};
+use ultra_section::Half;
 
 /// A gate that holds nobody up.
 struct Open;
@@ -28,8 +28,6 @@ impl Gate for Open {
 /// The machine before its first cycle, with unit `u` in block `u` modulo the number of workers.
 fn dealt_out(alloc: Global, setup: &Setup, workers: u8) -> anyhow::Result<Blocks>
     requires { 1 ≤ workers }
-    ensures whole { IfOk result (λ b. IsWhole b) }
-    ensures done { IfOk result (λ b. b.done ≡ 0) }
 {
     let net = setup.config.net();
     let mut partition = Vec::new(alloc);
@@ -40,7 +38,7 @@ fn dealt_out(alloc: Global, setup: &Setup, workers: u8) -> anyhow::Result<Blocks
     Ok(Blocks::new(alloc, &setup.config, &setup.program, partition)?)
 }
 
-/// Makes `count` cycles, and starts the threads anew for each.
+/// Makes `count` cycles, or as many as the machine can make, and starts the threads anew for each.
 fn make_anew<R: Threads + Wait + Sync>(
     rt: &R,
     alloc: Global,
@@ -48,19 +46,19 @@ fn make_anew<R: Threads + Wait + Sync>(
     workers: usize,
     count: u32,
 ) -> Result<Blocks, CrewFault>
-    requires whole { IsWhole blocks }
-    requires done { blocks.done ≡ 0 }
     requires some_worker { 1 ≤ workers }
     requires most_workers { workers ≤ 64 }
-    ensures { IfOk result (λ b. IsWhole b) }
 {
     for _ in 0..count {
+        if blocks.done() == u32::MAX {
+            break;
+        }
         blocks = Crew::cycle(rt, alloc, blocks, workers, &Open)?;
     }
     Ok(blocks)
 }
 
-/// Makes `count` cycles, with threads that are kept over all of them, or are started anew for each.
+/// Makes `count` cycles, or as many as the machine can make, with threads that are kept over all of them, or are started anew for each.
 fn make_cycles<R: Threads + Wait + Sync>(
     rt: &R,
     alloc: Global,
@@ -69,14 +67,12 @@ fn make_cycles<R: Threads + Wait + Sync>(
     count: u32,
     kept: bool,
 ) -> Result<Blocks, CrewFault>
-    requires whole { IsWhole blocks }
-    requires done { blocks.done ≡ 0 }
     requires some_worker { 1 ≤ workers }
     requires most_workers { workers ≤ 64 }
-    ensures { IfOk result (λ b. IsWhole b) }
 {
     if kept {
-        return Crew::cycles(rt, alloc, blocks, workers, &Open, count);
+        let left = u32::MAX - blocks.done();
+        return Crew::cycles(rt, alloc, blocks, workers, &Open, count.min(left));
     }
     make_anew(rt, alloc, blocks, workers, count)
 }

@@ -16,9 +16,9 @@ use ultra_inputs::Failure;
 use ultra_msg::{Cell, Event, Sink, SinkFault, write_all, write_pieces};
 use ultra_tree::{Explainer, Tree, write_tree};
 
-/// Puts the lines of a cycle's acts at the end of the lines that wait. `HeapFull` means that the
-/// explainer's memory was refused, and `NoMemory` that memory for the lines was; a prefix of them
-/// was put then.
+/// Puts the lines of a cycle's acts at the end of the lines that wait. `HeapFull` says that the
+/// explainer's memory was refused, and `NoMemory` that memory for the lines was. A prefix of the
+/// lines was put then.
 pub(crate) fn put_lines<'p, A: Allocator + Clone>(
     cycle: u32,
     events: &[Event],
@@ -48,8 +48,8 @@ pub(crate) fn put_lines<'p, A: Allocator + Clone>(
     Ok(())
 }
 
-/// Puts the line of an event, if it is an act, at the end of the lines that wait, and tells the
-/// explainer of it.
+/// Gives an event to the explainer. If it is an act, its line is put at the end of the lines that
+/// wait.
 fn put_event<'p, A: Allocator + Clone>(
     cycle: u32,
     event: &Event,

@@ -27,15 +27,16 @@ use ultra_msg::{Event, Sink};
 use ultra_serial::explaining_law;
 use ultra_tree::Explainer;
 
-/// Lines of this many bytes are written; fewer wait for the next cycle.
+/// Lines are written once they have this many bytes; fewer wait for the next cycle.
 const PIECE_BYTES: usize = 4096;
 
 /// Reads settings and a program, and writes to `out` the combining tree of each memory act of the
 /// run, a line for each. Each file is accepted before the next is read, and both before a byte is
 /// written.
 ///
-/// The trees live in a heap of `heap_bytes` bytes, and nothing else does. `HeapFull` means that it
-/// has no room for them; the lines of the acts before that are written.
+/// The trees live in a heap of `heap_bytes` bytes, and nothing else does. `HeapFull` says that it
+/// has no room for them; the lines of the acts before that are written. After any other error `out`
+/// has taken a prefix of the lines, and nothing where a file was refused.
 pub fn explain<'p, F: Source, O: Sink>(
     alloc: Global,
     settings_path: &'p str,
@@ -93,7 +94,7 @@ fn explain_run<'p, O: Sink>(
     Ok(())
 }
 
-/// Follows a machine from its start to the end of its run. Of its lines some may be left to write.
+/// Follows a machine from its start to the end of its run. Its last lines may still wait.
 fn explain_cycles<'p, A: Allocator + Clone, O: Sink>(
     machine: &mut Machine,
     explainer: &mut Explainer<A>,
@@ -128,8 +129,8 @@ fn explain_cycles<'p, A: Allocator + Clone, O: Sink>(
     Ok(())
 }
 
-/// Follows the events of a cycle. Lines of `PIECE_BYTES` bytes or more are written, and so are the
-/// lines before what stops it.
+/// Follows the events of a cycle. The lines that wait are written if they have `PIECE_BYTES` bytes
+/// or more, or if a failure ends the run here.
 fn explain_cycle<'p, A: Allocator + Clone, O: Sink>(
     cycle: u32,
     events: &[Event],

@@ -10,7 +10,7 @@ use ultra_inputs::Failure;
 use ultra_io::Account;
 use ultra_msg::{Sink, SinkFault, write_all};
 
-/// Lines that wait to be written, in memory. They are a sink, which fails where memory for more
+/// Lines that wait in memory to be written. They are a sink, which fails where memory for more
 /// bytes is refused.
 #[derive(Drop)]
 pub(crate) struct Lines {

@@ -14,7 +14,8 @@ use ultra_isa::Program;
 use ultra_msg::Sink;
 
 /// Writes the canonical text of a coordination program to `out`. The parameters are accepted before
-/// a byte is written: `BadParameter` means that one is out of its range.
+/// a byte is written: `BadParameter` says that one is out of its range. After a failed write `out`
+/// has taken a prefix of the text.
 pub fn write_program<'p, O: Sink>(
     alloc: Global,
     coordination: Coordination,

@@ -1,8 +1,8 @@
 //! Machines whose cycles are made by several workers.
 
-ghost use Rattle.std.specs.Prelude.{◌≡◌, ◌+◌, ◌<◌, ◌≤◌, IfOk};
-ghost use Rattle.ultra_block.specs.BlocksState.{IsWhole};
+ghost use Rattle.std.specs.Prelude.{◌≤◌};
 
+use crate::blocks::tree_is_answered;
 use crate::gates::{Counter, Holdup, Meeting};
 use crate::programs::add_number;
 use crate::settings::config;
@@ -12,16 +12,16 @@ use std::sync::Wait;
 use std::sync::atomic::Ordering;
 use std::test::Fail;
 use std::thread::Threads;
-use ultra_block::{Blocks, ProcessingElement};
 use ultra_crew::{Crew, CrewFault, Gate, cycle_alone};
 use ultra_isa::MachineFault;
+use ultra_machine::{Blocks, ProcessingElement};
 use ultra_mem::Module;
 use ultra_model::Stop;
-use ultra_msg::{Pe, Register, Reply};
+use ultra_msg::{Pe, Register};
 use ultra_switch::{ToMm, ToPe};
 
 /// So many cycles, each by these workers.
-fn make_cycles<R: Threads + Wait + Sync, G: Gate + Sync>(
+fn make_cycles<R: Threads + Wait + Sync + Abort, G: Gate + Sync>(
     rt: &R,
     alloc: Global,
     blocks: Blocks,
@@ -29,14 +29,12 @@ fn make_cycles<R: Threads + Wait + Sync, G: Gate + Sync>(
     gate: &G,
     count: u32,
 ) -> Result<Blocks, CrewFault>
-    requires whole { IsWhole blocks }
-    requires done { blocks.done ≡ 0 }
-    requires count { count < 1000 }
     requires some_worker { 1 ≤ workers }
     requires most_workers { workers ≤ 64 }
 {
     let mut blocks = blocks;
     for _ in 0..count {
+        assert!(rt; blocks.done() < 1000);
         blocks = Crew::cycle(rt, alloc, blocks, workers, gate)?;
     }
     Ok(blocks)
@@ -64,6 +62,7 @@ fn gate_meets_when_kept(rt: HostRuntime) -> Result<(), Fail> {
     let program = add_number(rt.alloc())?;
     let blocks = Blocks::new(rt.alloc(), &config, &program, &[0, 1, 0, 1, 0])?;
     let meeting = Meeting::new();
+    assert!(rt; blocks.done() == 0);
     let _ = Crew::cycles(&rt, rt.alloc(), blocks, 2, &meeting, 8)?;
     let [first, second] = &meeting.flags;
     assert_eq!(rt; first.load(Ordering::SeqCst), 48);
@@ -115,13 +114,24 @@ fn same_element(rt: &impl Abort, a: &ProcessingElement, b: &ProcessingElement) {
     }
 }
 
-/// Two machines of the same settings have the same places, and the same happened in their last cycles.
-fn same_places(rt: &impl Abort, a: &Blocks, b: &Blocks)
-    requires a { IsWhole a.now }
-    requires b { IsWhole b.now }
-    requires settings { b.now.config ≡ a.now.config }
-{
+/// The same happened in the last cycles of two machines.
+fn same_events(rt: &impl Abort, a: &Blocks, b: &Blocks) {
+    let mut events = b.events();
+    for event in a.events() {
+        assert_eq!(rt; events.next(), Some(event));
+    }
+    assert!(rt; events.next().is_none());
+    let mut stops = b.stops();
+    for stop in a.stops() {
+        assert_eq!(rt; cause(stops.next()), cause(Some(stop)));
+    }
+    assert!(rt; stops.next().is_none());
+}
+
+/// Two machines with as many stages have the same places, and the same happened in their last cycles.
+fn same_places(rt: &impl Abort, a: &Blocks, b: &Blocks) {
     assert_eq!(rt; a.done(), b.done());
+    assert!(rt; a.config().stages() == b.config().stages());
     let net = a.config().net();
     for stage in 0..net.stages() {
         for position in 0..net.size() {
@@ -136,34 +146,14 @@ fn same_places(rt: &impl Abort, a: &Blocks, b: &Blocks)
     for number in 0..net.size() {
         same_module(rt, a.bank(number), b.bank(number));
         same_element(rt, a.element(number), b.element(number));
-        assert_eq!(rt; a.delivered(number), b.delivered(number));
-        assert_eq!(rt; a.served(number), b.served(number));
-        assert_eq!(rt; a.issued(number), b.issued(number));
-        assert_eq!(rt; cause(a.stop(number)), cause(b.stop(number)));
     }
+    same_events(rt, a, b);
 }
 
 /// Which processing element stopped, and why.
 fn cause(stop: Option<Stop>) -> Option<(Pe, MachineFault)> {
     let stop = stop?;
     Some((stop.pe, stop.fault))
-}
-
-/// In cycle 9 every processing element gets its own value, and cell 0 holds the sum.
-fn all_are_answered(rt: &impl Abort, blocks: &Blocks)
-    requires { IsWhole blocks.now }
-{
-    assert!(rt; blocks.config().stages() == 2);
-    let values = [
-        blocks.delivered(0),
-        blocks.delivered(1),
-        blocks.delivered(2),
-        blocks.delivered(3),
-    ];
-    let replies = values.map(|value| value.map(|message| message.reply));
-    let wanted = [3, 8, 0, 4].map(|word| Some(Reply::Value(word)));
-    assert_eq!(rt; replies, wanted);
-    assert_eq!(rt; blocks.bank(0).peek(0), Some(10));
 }
 
 /// Ten cycles by these workers, beside the same machine in one block and without them: after each cycle their places are the same.
@@ -181,11 +171,13 @@ fn goes_as_alone<R: Threads + Wait + Sync + Abort + AllocGlobal, G: Gate + Sync>
     let mut alone = Blocks::new(rt.alloc(), &config, &program, &[0; 12])?;
     let mut blocks = Blocks::new(rt.alloc(), &config, &program, partition)?;
     for _ in 0..10u32 {
+        assert!(rt; alone.done() < 1000);
+        assert!(rt; blocks.done() < 1000);
         cycle_alone(&mut alone);
         blocks = Crew::cycle(rt, rt.alloc(), blocks, workers, gate)?;
         same_places(rt, &alone, &blocks);
     }
-    all_are_answered(rt, &blocks);
+    tree_is_answered(rt, &blocks);
     Ok(())
 }
 
@@ -216,11 +208,13 @@ fn kept_workers(rt: HostRuntime) -> Result<(), Fail> {
     let gate = Holdup { block: 0 };
     for workers in [1, 2, 3, 64] {
         let alone = Blocks::new(rt.alloc(), &config, &program, &[0; 12])?;
+        assert!(rt; alone.done() == 0);
         let alone = Crew::cycles(&rt, rt.alloc(), alone, 1, &gate, 10)?;
         let blocks = Blocks::new(rt.alloc(), &config, &program, &partition)?;
+        assert!(rt; blocks.done() == 0);
         let blocks = Crew::cycles(&rt, rt.alloc(), blocks, workers, &gate, 10)?;
         same_places(&rt, &alone, &blocks);
-        all_are_answered(&rt, &blocks);
+        tree_is_answered(&rt, &blocks);
     }
     Ok(())
 }
@@ -244,6 +238,7 @@ fn two_cycles_by_two(rt: HostRuntime) -> Result<(), Fail> {
     let program = add_number(rt.alloc())?;
     let blocks = Blocks::new(rt.alloc(), &config, &program, &[0, 1, 0, 1, 0])?;
     let gate = Counter::new();
+    assert!(rt; blocks.done() == 0);
     let _ = Crew::cycles(&rt, rt.alloc(), blocks, 2, &gate, 2)?;
     assert_eq!(rt; gate.calls.load(Ordering::SeqCst), 2 * 2 * 6);
     Ok(())

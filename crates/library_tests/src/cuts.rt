@@ -1,14 +1,12 @@
 //! Machines that are cut on their way: in the worked run of a tree of two levels, after five of its ten cycles.
 
-ghost use Rattle.std.specs.Prelude.{◌≡◌, ◌+◌, ◌<◌};
-ghost use Rattle.ultra_block.specs.BlocksState.{IsWhole};
-
-use crate::machines::{answer, combine, ends_with, four_become_one, machine, one_becomes_four};
+use crate::blocks::{run_blocks, tree_is_answered};
+use crate::machines::{combine, ends_with, four_become_one, machine, one_becomes_four};
 use crate::programs::add_number;
 use crate::settings::defaults;
 use std::process::Abort;
 use std::test::Fail;
-use ultra_machine::{Blocks, Machine, PartitionFault};
+use ultra_machine::{Machine, PartitionFault};
 
 /// The machine before its sixth cycle, with the four requests on their way as one.
 fn on_its_way(rt: &(impl Abort + AllocGlobal)) -> Result<Machine, Fail> {
@@ -47,34 +45,6 @@ fn bad_partitions(rt: HostRuntime) -> Result<(), Fail> {
     Ok(())
 }
 
-/// The other five cycles.
-fn make_five(blocks: &mut Blocks)
-    requires whole { IsWhole blocks.old }
-    requires done { blocks.old.done < 1000 }
-    ensures whole { IsWhole blocks.new }
-    ensures done { blocks.new.done ≡ blocks.old.done + 5 }
-    ensures settings { blocks.new.config ≡ blocks.old.config }
-{
-    blocks.cycle();
-    blocks.cycle();
-    blocks.cycle();
-    blocks.cycle();
-    blocks.cycle();
-}
-
-/// In the last cycle every processing element gets its own value.
-fn all_are_answered(rt: &impl Abort, blocks: &Blocks)
-    requires { IsWhole blocks.now }
-{
-    assert!(rt; blocks.config().stages() == 2);
-    assert_eq!(rt; blocks.delivered(0), Some(answer(0, 3)));
-    assert_eq!(rt; blocks.delivered(1), Some(answer(1, 8)));
-    assert_eq!(rt; blocks.delivered(2), Some(answer(2, 0)));
-    assert_eq!(rt; blocks.delivered(3), Some(answer(3, 4)));
-    assert_eq!(rt; blocks.bank(0).peek(0), Some(10));
-    assert!(rt; blocks.is_quiet());
-}
-
 /// The blocks make the cycles that the machine would have made.
 fn goes_on_in(rt: &(impl Abort + AllocGlobal), partition: &[u8]) -> Result<(), Fail> {
     let machine = on_its_way(rt)?;
@@ -83,8 +53,8 @@ fn goes_on_in(rt: &(impl Abort + AllocGlobal), partition: &[u8]) -> Result<(), F
         Err((_, fault)) => return Err(Fail::from(fault)),
     };
     assert!(rt; blocks.done() == 5);
-    make_five(&mut blocks);
-    all_are_answered(rt, &blocks);
+    run_blocks(rt, &mut blocks, 5);
+    tree_is_answered(rt, &blocks);
     Ok(())
 }
 
@@ -95,8 +65,8 @@ fn a_machine_is_cut_or_given_back(rt: HostRuntime) -> Result<(), Fail> {
     match machine.into_blocks(rt.alloc(), &[0, 0, 1, 1, 2, 2, 2, 2, 3, 3, 3, 3]) {
         Ok(mut blocks) => {
             assert!(rt; blocks.done() == 5);
-            make_five(&mut blocks);
-            all_are_answered(&rt, &blocks);
+            run_blocks(&rt, &mut blocks, 5);
+            tree_is_answered(&rt, &blocks);
         }
         Err((mut machine, fault)) => {
             assert_eq!(rt; fault, PartitionFault::NoMemory);

@@ -1,9 +1,7 @@
 //! Machines of two stages in several partitions, before their first cycle.
 
-ghost use Rattle.std.specs.Prelude.{◌≡◌, ◌+◌, ◌<◌};
-ghost use Rattle.ultra_block.specs.BlocksState.{IsWhole};
-
-use crate::machines::{answer, kept};
+use crate::blocks::{answers_are, first_cell_is, run_blocks};
+use crate::machines::kept;
 use crate::programs::add_one;
 use crate::settings::config;
 use std::process::Abort;
@@ -12,25 +10,8 @@ use ultra_machine::{Blocks, PartitionFault};
 use ultra_msg::{Op, Request};
 use ultra_switch::Entry;
 
-/// Five cycles.
-fn make_five(blocks: &mut Blocks)
-    requires whole { IsWhole blocks.old }
-    requires done { blocks.old.done < 1000 }
-    ensures whole { IsWhole blocks.new }
-    ensures done { blocks.new.done ≡ blocks.old.done + 5 }
-    ensures settings { blocks.new.config ≡ blocks.old.config }
-{
-    blocks.cycle();
-    blocks.cycle();
-    blocks.cycle();
-    blocks.cycle();
-    blocks.cycle();
-}
-
 /// After cycle 4 the four requests have combined into one.
-fn four_are_one(rt: &impl Abort, blocks: &Blocks)
-    requires { IsWhole blocks.now }
-{
+fn four_are_one(rt: &impl Abort, blocks: &Blocks) {
     assert!(rt; blocks.config().stages() == 2);
     let lane = blocks.lane(1, 0);
     assert!(rt; lane.len() == 1);
@@ -56,26 +37,15 @@ fn four_are_one(rt: &impl Abort, blocks: &Blocks)
     assert_eq!(rt; lane.record(0), kept(3, 1, 1));
 }
 
-/// In cycle 9 every processing element gets its own value.
-fn all_are_answered(rt: &impl Abort, blocks: &Blocks)
-    requires { IsWhole blocks.now }
-{
-    assert!(rt; blocks.config().stages() == 2);
-    assert_eq!(rt; blocks.delivered(0), Some(answer(0, 1)));
-    assert_eq!(rt; blocks.delivered(1), Some(answer(1, 3)));
-    assert_eq!(rt; blocks.delivered(2), Some(answer(2, 0)));
-    assert_eq!(rt; blocks.delivered(3), Some(answer(3, 2)));
-    assert_eq!(rt; blocks.bank(0).peek(0), Some(4));
-}
-
 fn runs_in(rt: &(impl Abort + AllocGlobal), partition: &[u8]) -> Result<(), Fail> {
     let config = config(rt.alloc(), 2)?;
     let program = add_one(rt.alloc())?;
     let mut blocks = Blocks::new(rt.alloc(), &config, &program, partition)?;
-    make_five(&mut blocks);
+    run_blocks(rt, &mut blocks, 5);
     four_are_one(rt, &blocks);
-    make_five(&mut blocks);
-    all_are_answered(rt, &blocks);
+    run_blocks(rt, &mut blocks, 5);
+    answers_are(rt, &blocks, &[(0, 1), (1, 3), (2, 0), (3, 2)]);
+    first_cell_is(rt, &blocks, 4);
     Ok(())
 }
 

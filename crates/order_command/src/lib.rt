@@ -1,27 +1,28 @@
 //! The command `order`: it writes the serial order of a run.
 #![tactic(auto)]
 
-ghost use Rattle.std.specs.Prelude.{◌≡◌, ◌+◌, ◌++◌, [], codes, decimal, IfErr, OnErr, OnOk};
-ghost use Rattle.ultra_msg.specs.Bytes.{AreTakenOrWait, TakesPrefix};
-ghost use Rattle.ultra_trace.specs.Text.{reply_text};
+ghost use Rattle.std.specs.Prelude.{◌≡◌, ◌+◌, ◌++◌, false, codes, decimal, IfErr, OnErr, OnOk};
+ghost use Rattle.ultra_msg.specs.Bytes.{TakesPrefix};
+ghost use Rattle.ultra_page.specs.Page.{Writes, WritesPrefix, has_failed};
+ghost use Rattle.ultra_lines.specs.Text.{reply_text};
+ghost use Rattle.ultra_serial.specs.Ordered.{whole};
 ghost use Rattle.ultra_inputs.specs.Failure.{read_failures, write_failures};
-ghost use Rattle.ultra_inputs.specs.declared.failure.Failure.TheVariants.{NotWritten};
 ghost use Rattle.order_command.specs.Order.{operation_text, order_line, order_of, order_text};
 ghost use Rattle.ultra_inputs.specs.Traffic.{traffic, IsStopped, WroteText, TextFails};
 
-use itoa::Buffer;
 use std::alloc::{AllocError, Global};
 use ultra_inputs::{Failure, Inputs, read_inputs};
 use ultra_io::Source;
-use ultra_msg::{Cell, Op, Reply, Sink, write_all};
-use ultra_serial::Entry;
-
-/// A text of this many bytes is written; a shorter one waits for the next line.
-const PIECE_BYTES: usize = 4096;
+use ultra_msg::{Cell, Op, Reply, Sink};
+use ultra_page::Page;
+use ultra_serial::{Entry, OrderedRun};
 
 /// Reads settings and a program, and writes the serial order of the run to `out`, a line for each
 /// request that was served. Each file is accepted before the next is read, and both before a byte
 /// is written.
+///
+/// The lines are written as the run goes: what is held doesn't grow with it. An error says what
+/// failed. `out` has then taken a prefix of the order, and nothing where a file was refused.
 pub fn order<'p, F: Source, O: Sink>(
     alloc: Global,
     settings_path: &'p str,
@@ -41,121 +42,102 @@ pub fn order<'p, F: Source, O: Sink>(
         (λ f. O.failures out.new ≡ O.failures out.old + write_failures f) }
 {
     let Inputs { config, program } = read_inputs(alloc, settings_path, program_path, source)?;
-    let Ok(list) = ultra_serial::order(alloc, &config, &program, config.cycles()) else {
-        return Err(Failure::NoMemory);
-    };
-    write_order(alloc, list.as_slice(), out)?;
+    let mut run = OrderedRun::new(alloc, &config, &program, config.cycles())?;
+    write_order(&mut run, out)?;
     Ok(())
 }
 
-/// Writes the lines of a serial list.
-fn write_order<'p, O: Sink>(alloc: Global, list: &[Entry], out: &mut O) -> Result<(), Failure<'p>>
-    ensures ok { OnOk result (O.taken out.new ≡ O.taken out.old ++ order_text list.now) }
-    ensures err { OnErr result (TakesPrefix (order_text list.now) (O.taken out.old)
+/// Makes a run from its start to its end, and writes the lines of its serial order.
+fn write_order<'p, O: Sink>(run: &mut OrderedRun, out: &mut O) -> Result<(), Failure<'p>>
+    requires { run.old.cycles ≡ 0 }
+    ensures ok { OnOk result (O.taken out.new ≡ O.taken out.old ++ order_text (whole run.old)) }
+    ensures err { OnErr result (TakesPrefix (order_text (whole run.old)) (O.taken out.old)
         (O.taken out.new)) }
     ensures stopped { IfErr result IsStopped }
     ensures still { OnOk result (O.failures out.new ≡ O.failures out.old) }
     ensures counted { IfErr result
         (λ f. O.failures out.new ≡ O.failures out.old + write_failures f) }
 {
-    let mut text = Vec::new(alloc);
-    for entry in list {
-        write_line(&mut text, entry, out)?;
-    }
-    hand_on(&mut text, out)?;
-    Ok(())
-}
-
-/// Puts the line of a request with its reply at the end of the text that waits. A text of
-/// `PIECE_BYTES` bytes or more is handed on.
-fn write_line<'p, O: Sink>(
-    text: &mut Vec<u8>,
-    entry: &Entry,
-    out: &mut O,
-) -> Result<(), Failure<'p>>
-    ensures ok { OnOk result (AreTakenOrWait (order_line entry.now)
-        (O.taken out.old) text.old.items (O.taken out.new) text.new.items) }
-    ensures err { OnErr result (TakesPrefix (text.old.items ++ order_line entry.now)
-        (O.taken out.old) (O.taken out.new)) }
-    ensures stopped { IfErr result IsStopped }
-    ensures still { OnOk result (O.failures out.new ≡ O.failures out.old) }
-    ensures counted { IfErr result
-        (λ f. O.failures out.new ≡ O.failures out.old + write_failures f) }
-{
-    put_line(text, entry)?;
-    if text.len() < PIECE_BYTES {
-        return Ok(());
-    }
-    hand_on(text, out)?;
-    Ok(())
-}
-
-/// Writes the text that waits, and empties it.
-fn hand_on<'p, O: Sink>(text: &mut Vec<u8>, out: &mut O) -> Result<(), Failure<'p>>
-    ensures ok { OnOk result (O.taken out.new ≡ O.taken out.old ++ text.old.items) }
-    ensures err { OnErr result (TakesPrefix text.old.items (O.taken out.old) (O.taken out.new)) }
-    ensures stopped { IfErr result (λ f. f ≡ NotWritten) }
-    ensures still { OnOk result (O.failures out.new ≡ O.failures out.old) }
-    ensures counted { OnErr result (O.failures out.new ≡ O.failures out.old + 1) }
-    ensures empty { text.new.items ≡ [] }
-{
-    let written = write_all(out, text.as_slice());
-    text.clear();
-    match written {
+    let mut page = Page::new(out);
+    put_order(&mut page, run)?;
+    match page.finish() {
         Ok(()) => Ok(()),
         Err(_) => Err(Failure::NotWritten),
     }
 }
 
-/// Puts the line of a request with its reply at the end of a text, as `0.0 faa 0 1 = 1`.
-fn put_line(text: &mut Vec<u8>, entry: &Entry) -> Result<(), AllocError>
-    ensures { OnOk result (text.new.items ≡ text.old.items ++ order_line entry.now) }
+/// Makes a run from its start to its end, and puts the lines of its serial order on a page. It ends
+/// early where the sink of the page fails. An error says that memory was refused.
+fn put_order<O: Sink>(page: &mut Page<'_, O>, run: &mut OrderedRun) -> Result<(), AllocError>
+    requires start { run.old.cycles ≡ 0 }
+    requires sound { has_failed page.old ≡ false }
+    ensures ok { OnOk result
+        (Writes O.taken O.failures (order_text (whole run.old)) page.old page.new) }
+    ensures err { OnErr result
+        (WritesPrefix O.taken O.failures (order_text (whole run.old)) page.old page.new) }
+    ensures sound { OnErr result (has_failed page.new ≡ false) }
 {
-    put_number(text, b"", entry.pe)?;
-    put_number(text, b".", entry.number)?;
-    text.extend_from_slice(b" ")?;
-    put_operation(text, entry.op, entry.cell)?;
-    text.extend_from_slice(b" = ")?;
-    put_reply(text, entry.reply)?;
-    text.extend_from_slice(b"\n")
+    while !page.has_failed() && run.advance()? {
+        put_entries(page, run.entries());
+    }
+    Ok(())
 }
 
-/// Puts an operation on a cell at the end of a text, as `faa 0 1`.
-fn put_operation(text: &mut Vec<u8>, op: Op, cell: Cell) -> Result<(), AllocError>
-    ensures { OnOk result (text.new.items ≡ text.old.items ++ operation_text op cell) }
+/// Puts the lines of some requests with their replies on a page.
+fn put_entries<O: Sink>(page: &mut Page<'_, O>, entries: &[Entry])
+    ensures { Writes O.taken O.failures (order_text entries.now) page.old page.new }
+{
+    for entry in entries {
+        put_line(page, entry);
+    }
+}
+
+/// Puts the line of a request with its reply on a page, as `0.0 faa 0 1 = 1`.
+fn put_line<O: Sink>(page: &mut Page<'_, O>, entry: &Entry)
+    ensures { Writes O.taken O.failures (order_line entry.now) page.old page.new }
+{
+    page.put_number(entry.pe);
+    page.put(b".");
+    page.put_number(entry.number);
+    page.put(b" ");
+    put_operation(page, entry.op, entry.cell);
+    page.put(b" = ");
+    put_reply(page, entry.reply);
+    page.put(b"\n");
+}
+
+/// Puts an operation on a cell on a page, as `faa 0 1`.
+fn put_operation<O: Sink>(page: &mut Page<'_, O>, op: Op, cell: Cell)
+    ensures { Writes O.taken O.failures (operation_text op cell) page.old page.new }
 {
     match op {
-        Op::Load => put_number(text, b"load ", cell),
-        Op::Store(word) => put_numbers(text, b"store ", cell, word),
-        Op::Faa(word) => put_numbers(text, b"faa ", cell, word),
-        Op::Swap(word) => put_numbers(text, b"swap ", cell, word),
+        Op::Load => {
+            page.put(b"load ");
+            page.put_number(cell);
+        }
+        Op::Store(word) => put_numbers(page, b"store ", cell, word),
+        Op::Faa(word) => put_numbers(page, b"faa ", cell, word),
+        Op::Swap(word) => put_numbers(page, b"swap ", cell, word),
     }
 }
 
-/// Puts a reply at the end of a text: its value, or `ack`.
-fn put_reply(text: &mut Vec<u8>, reply: Reply) -> Result<(), AllocError>
-    ensures { OnOk result (text.new.items ≡ text.old.items ++ reply_text reply) }
+/// Puts a reply on a page: its value, or `ack`.
+fn put_reply<O: Sink>(page: &mut Page<'_, O>, reply: Reply)
+    ensures { Writes O.taken O.failures (reply_text reply) page.old page.new }
 {
     match reply {
-        Reply::Value(word) => put_number(text, b"", word),
-        Reply::Ack => text.extend_from_slice(b"ack"),
+        Reply::Value(word) => page.put_number(word),
+        Reply::Ack => page.put(b"ack"),
     }
 }
 
-/// Puts bytes at the end of a text, then a number, a blank and another number.
-fn put_numbers(text: &mut Vec<u8>, bytes: &[u8], first: u32, second: u32) -> Result<(), AllocError>
-    ensures { OnOk result (text.new.items ≡ text.old.items ++
-        (bytes.now ++ decimal first ++ codes " " ++ decimal second)) }
+/// Puts bytes on a page, then a number, a blank and another number.
+fn put_numbers<O: Sink>(page: &mut Page<'_, O>, bytes: &[u8], first: u32, second: u32)
+    ensures { Writes O.taken O.failures
+        (bytes.now ++ decimal first ++ codes " " ++ decimal second) page.old page.new }
 {
-    put_number(text, bytes, first)?;
-    put_number(text, b" ", second)
-}
-
-/// Puts bytes at the end of a text, then a number in decimal digits.
-fn put_number(text: &mut Vec<u8>, bytes: &[u8], number: u32) -> Result<(), AllocError>
-    ensures { OnOk result (text.new.items ≡ text.old.items ++ (bytes.now ++ decimal number)) }
-{
-    let mut digits = Buffer::new();
-    text.extend_from_slice(bytes)?;
-    text.extend_from_slice(digits.format(number).as_bytes())
+    page.put(bytes);
+    page.put_number(first);
+    page.put(b" ");
+    page.put_number(second);
 }

@@ -5,7 +5,7 @@ ghost use Rattle.std.specs.Prelude.{◌≡◌, ◌+◌, IfErr, OnOk};
 ghost use Rattle.ultra_inputs.specs.Failure.{read_failures, write_failures};
 ghost use Rattle.ultra_inputs.specs.Traffic.{traffic, WroteText, TextFails};
 ghost use Rattle.run_command.specs.Stops.{failure_of_run, IsStoppedBy};
-ghost use Rattle.ultra_trace.specs.Trace.{trace};
+ghost use Rattle.ultra_lines.specs.Trace.{trace};
 
 use std::alloc::Global;
 use std::sync::Wait;
@@ -21,6 +21,9 @@ use ultra_trace::RunFault;
 /// Reads settings and a program, runs the program by `workers` threads and writes its trace to
 /// `out`: the same bytes for every number of workers. Each file is accepted before the next is
 /// read, and both before a byte is written. The call may wait.
+///
+/// An error says what failed. `out` has then taken a prefix of the trace, and nothing where a file
+/// was refused.
 pub fn run<'p, R: Threads + Wait + Sync, F: Source, O: Sink>(
     rt: &R,
     alloc: Global,
@@ -50,7 +53,7 @@ pub fn run<'p, R: Threads + Wait + Sync, F: Source, O: Sink>(
     }
 }
 
-/// What a fault of a run is for the command.
+/// The command's failure for a fault of the run.
 fn failure_of_run<'p>(fault: RunFault) -> Failure<'p>
     ensures { result ≡ failure_of_run fault }
 {

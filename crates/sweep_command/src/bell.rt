@@ -4,7 +4,7 @@ use std::sync::Wait;
 use std::sync::atomic::{AtomicU64, Ordering};
 
 /// A bell, which each thread rings when a job is done and when it ends. It says only that something
-/// has happened: how many jobs are finished, the board knows.
+/// has happened: the board knows how many jobs are finished.
 #[derive(Drop)]
 pub(crate) struct Bell {
     rings: AtomicU64,
@@ -20,7 +20,7 @@ impl Bell {
         }
     }
 
-    /// Rings, and wakes who waits.
+    /// Rings, and wakes whoever waits.
     pub(crate) fn ring(&self) {
         self.rings.fetch_add(1, Ordering::SeqCst);
         self.rings.wake_all();
@@ -38,7 +38,7 @@ impl Bell {
         (rings, self.ended.load(Ordering::SeqCst))
     }
 
-    /// Waits until it has rung once more than this, or for no reason.
+    /// Waits until it has rung more often than this. It may return before that.
     pub(crate) fn wait<R: Wait>(&self, rt: &R, rings: u64) {
         self.rings.park(rt, (rings & u64::from(u32::MAX)) as u32);
     }

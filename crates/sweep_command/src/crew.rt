@@ -23,7 +23,7 @@ type Thread<'a> = PromisedHandle<Share, Task<'a>>;
 /// The caller with its seat, and the threads that it has started.
 #[derive(Drop)]
 pub struct Crew<'a> {
-    /// The task of all.
+    /// The task that all have a part in.
     pub task: Task<'a>,
     /// The caller's seat.
     pub seat: Seat,
@@ -32,8 +32,8 @@ pub struct Crew<'a> {
 }
 
 impl<'a> Crew<'a> {
-    /// Starts `count` threads, each with a seat of its own. In every end the threads that were
-    /// started are joined: by `finish`, or here where one couldn't be started.
+    /// Starts `count` threads, at most 63, each with a seat of its own. In every end the threads
+    /// that were started are joined: by `finish`, or here where one couldn't be started.
     pub(crate) fn start<S, R: Threads + Wait + Sync>(
         scope: &Scope<'a, S>,
         rt: &'a R,
@@ -98,7 +98,8 @@ impl<'a> Crew<'a> {
         }
     }
 
-    /// Does jobs too until none is left, and joins the threads. What all have done is one share.
+    /// Does jobs too until none is left, and joins the threads. The result is the share of all
+    /// together.
     pub(crate) fn finish<R: Threads + Wait>(
         self,
         rt: &R,
@@ -126,7 +127,7 @@ impl<'a> Crew<'a> {
         join_all(rt, task, Share { seat, results }, threads)
     }
 
-    /// Draws the jobs that are left, so that the threads end after those that they have begun, and
+    /// Draws the jobs that are left, so that each thread ends after the job that it has begun, and
     /// joins the threads.
     fn disband<R: Threads>(self, rt: &R)
         requires { self.seat.board ≡ self.task.board.now.id }
@@ -147,7 +148,7 @@ impl<'a> Crew<'a> {
     }
 }
 
-/// Splits a seat of several places: the rest, and one place.
+/// Splits one place off a seat of several: the rest, and the one.
 fn split_off(board: &Board, seat: Seat) -> (Seat, Seat)
     requires board { seat.board ≡ board.now.id }
     requires places { 2 ≤ seat.view.places }
@@ -199,7 +200,7 @@ fn show_progress<E: Sink>(board: &Board, seat: &mut Seat, meter: &mut Meter, err
     meter.show(board.progress(seat), err);
 }
 
-/// Joins the threads. Their shares and the caller's are one share.
+/// Joins the threads. Their shares and the caller's become one share.
 fn join_all<'a, R: Threads>(
     rt: &R,
     task: Task<'a>,

@@ -26,7 +26,7 @@ impl From<AllocError> for SweepFault {
 }
 
 impl SweepFault {
-    /// What it is for the command.
+    /// The command's failure for it.
     pub(crate) fn failure<'f>(self) -> Failure<'f>
         ensures { result ≡ failure_of self }
     {

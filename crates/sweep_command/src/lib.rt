@@ -29,24 +29,25 @@ use ultra_io::Source;
 use ultra_msg::Sink;
 use ultra_sweep::report;
 
-/// How a sweep is done. What it writes doesn't depend on it.
+/// How the jobs of a sweep are done. The report doesn't depend on it.
 #[derive(Clone, Copy, Drop)]
 pub struct Plan {
-    /// How many threads of the host do the jobs, the caller's among them.
+    /// How many threads of the host do the jobs, 1 to 64. The caller's is one of them, unless it
+    /// watches the others for `progress`; then at most 63 do.
     pub workers: Workers,
-    /// How many of them may run a job at once.
+    /// How many of them may run a job at once, 1 to 64.
     pub at_once: Workers,
     /// Whether standard error shows how many jobs are finished.
     pub progress: bool,
 }
 
 /// Reads a file of jobs, and for each job its settings and its program, runs all jobs by threads of
-/// the host, and writes their report to `out`. Answers the status that the program ends with; what
-/// is wrong is reported on `err`.
+/// the host, and writes their report to `out`. It answers the status that the program ends with,
+/// and reports a failure on `err`.
 ///
 /// Each file is accepted before the next is read, and all before a byte is written. The report is
-/// the same for every plan. With `progress`, `err` takes a line `ultra: K of N jobs` as jobs are
-/// finished, and the last one says all of them; where a write to `err` fails, no further line is
+/// the same for every plan. With `progress`, `err` takes lines `ultra: K of N jobs` as jobs are
+/// finished, the last one with all of them; after a failed write to `err` no further line is
 /// written. The call may wait. In every end the threads that were started are joined.
 pub fn sweep<R: Threads + Wait + Sync, F: Source, O: Sink, E: Sink>(
     rt: &R,

@@ -36,7 +36,7 @@ impl Plan {
 }
 
 /// Runs the jobs by threads of the host, and gives their traces in order. `NoThread` says that a
-/// thread couldn't be started; it and `NoMemory` come when the others have ended.
+/// thread couldn't be started, and `NoMemory` that memory was refused; all threads have ended then.
 pub(crate) fn run_jobs<R: Threads + Wait + Sync, E: Sink>(
     rt: &R,
     alloc: Global,
@@ -72,7 +72,8 @@ pub(crate) fn run_jobs<R: Threads + Wait + Sync, E: Sink>(
     Ok(gathered)
 }
 
-/// The share of all threads in a task, which are started and joined here, and what was shown.
+/// Starts and joins the threads of a task. The results are the share of all together, and what was
+/// shown.
 fn run_together<R: Threads + Wait + Sync, E: Sink>(
     rt: &R,
     alloc: Global,

@@ -11,7 +11,7 @@ use std::thread::Promise;
 use ultra_board::{Board, Seat};
 use ultra_sweep::{Job, JobGate, JobResult, RunAlone, work};
 
-/// The task of all threads. Each promises a share of it, with a seat of one place.
+/// The task of all threads. Each promises its share of it, with a seat of one place.
 #[derive(Clone, Copy, Drop)]
 pub struct Task<'a> {
     /// The board that the jobs are drawn from.
@@ -29,8 +29,8 @@ impl<'a> Promise<Share> for Task<'a> {
 }
 
 impl Task<'_> {
-    /// Does jobs until none is left. Where the memory for the results is refused, all jobs are left
-    /// to the others.
+    /// Does jobs until none is left. Where memory for the results is refused, it leaves all jobs to
+    /// the others.
     pub(crate) fn take_part<R: Wait>(&self, rt: &R, alloc: Global, seat: Seat) -> Share
         requires task { IsTask self.now }
         requires fresh { IsFresh self.now.board.now 1 seat }

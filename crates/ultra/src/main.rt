@@ -17,8 +17,8 @@ use ultra_cli::{Failure, give_up, main_with};
 use ultra_io::{FileSource, Source, Stream};
 use ultra_msg::Sink;
 
-/// Calls `main_with` with the program's own words, and with these files and streams. An error says
-/// that the words couldn't be had; nothing is read or written then.
+/// Calls `main_with` with the words that the program was called with, and with these files and
+/// streams. An error says that the words couldn't be had; nothing is read or written then.
 fn start<R: AllocGlobal + Env + Threads + Wait + Sync, F: Source, O: Sink, E: Sink>(
     rt: &R,
     source: &mut F,

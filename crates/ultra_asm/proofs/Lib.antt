@@ -2,7 +2,8 @@ pub mod Comments
 pub mod Numerals
 pub mod Operands
 pub mod Definitions
-pub mod Lent
+pub mod FirstWords
+pub mod Turns
 pub mod Lines
 pub mod Assembly
 pub mod Places

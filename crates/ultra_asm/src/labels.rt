@@ -2,9 +2,10 @@
 
 ghost use Rattle.std.specs.Prelude.{◌≡◌, ℕ, List, map, IfOk};
 ghost use Rattle.std.specs.Option.{option_copied};
+ghost use Rattle.ultra_asm.specs.Words.{text_words};
 ghost use Rattle.ultra_asm.specs.Labels.{line_label, statement, definition_of, definition_in, places_in};
 
-use crate::words::{before_colon, is_name};
+use crate::words::{before_colon, first_words, is_name};
 use std::alloc::{AllocError, Global};
 use std::collections::BTreeMap;
 use ultra_isa::MOST_INSTRUCTIONS;
@@ -25,19 +26,20 @@ pub struct Labels<'t> {
 }
 
 impl<'t> Labels<'t> {
-    /// The labels of a text whose lines have these words.
-    pub fn of(alloc: Global, lines: &[Vec<&'t [u8]>]) -> Result<Labels<'t>, AllocError>
-        ensures { IfOk result (λ l. (q : List ℕ) → definition_in l q ≡ definition_of (map (λ v. map (λ w. w.now) v.items) lines.now) q) }
+    /// The labels of a text.
+    pub fn of(alloc: Global, text: &'t [u8]) -> Result<Labels<'t>, AllocError>
+        ensures { IfOk result (λ l. (q : List ℕ) → definition_in l q ≡ definition_of (text_words text.now) q) }
     {
         let mut definitions = BTreeMap::new(alloc);
         let mut place = 0;
-        for (line, words) in lines.iter().enumerate() {
-            if let Some(name) = line_label(words) {
+        for (line, code) in text.split(|byte| *byte == b'\n').enumerate() {
+            let words = first_words(alloc, code)?;
+            if let Some(name) = line_label(words.as_slice()) {
                 if !definitions.contains_key(name) {
                     definitions.insert(name, Definition { line, place })?;
                 }
             }
-            if !statement(words).is_empty() {
+            if !statement(words.as_slice()).is_empty() {
                 place += 1;
             }
         }

@@ -13,6 +13,7 @@ mod words;
 
 use crate::labels::Labels;
 use crate::reading::line_instruction;
+use crate::words::first_words;
 pub use canonical::listing;
 use std::alloc::{AllocError, AllocFailed, Global};
 use thiserror::Error;
@@ -21,7 +22,7 @@ use ultra_isa::{MOST_INSTRUCTIONS, Program};
 /// What is wrong in a program's text.
 #[derive(Clone, Copy, PartialEq, Eq, Debug, Drop, Error)]
 pub enum AsmFaultKind {
-    /// Memory for the words of the text, its labels or its instructions was refused.
+    /// Memory for the labels, the instructions or the words of a line was refused.
     #[error("no memory")]
     NoMemory,
     /// The word names no instruction; or it ends with `:` at the beginning of a line and isn't a label.
@@ -86,16 +87,17 @@ impl<T: Drop> From<AllocFailed<T>> for AsmFault {
 
 /// The program that the text writes: in the grammar of this project's profile, each line may begin with a label and then may have an instruction.
 ///
-/// Else the least line that has a fault is named; or `NoMemory`, with line 0, where memory for the words, the labels or the instructions was refused. Its time grows with the text's length, but for the logarithm of the number of labels.
+/// Else the least line that has a fault is named; or `NoMemory`, with line 0, where memory for the labels, the instructions or the words of a line was refused. It keeps nothing else of the text. Its time grows with the text's length, but for the logarithm of the number of labels.
 pub fn assemble(alloc: Global, text: &str) -> Result<Program, AsmFault>
     ensures ok { IfOk result (IsProgramText text.now) }
     ensures refused { IfErr result (ExplainsFault text.now) }
     ensures given_back { (p : List Instr) → IsProgramText text.now p → IsGivenBack p result }
 {
-    let lines = words::lines_in(alloc, text.as_bytes())?;
-    let labels = Labels::of(alloc, lines.as_slice())?;
+    let text = text.as_bytes();
+    let labels = Labels::of(alloc, text)?;
     let mut list = Vec::new(alloc);
-    for (index, words) in lines.iter().enumerate() {
+    for (index, line) in text.split(|byte| *byte == b'\n').enumerate() {
+        let words = first_words(alloc, line)?;
         let has_room = list.len() < MOST_INSTRUCTIONS;
         let found = match line_instruction(words.as_slice(), index, has_room, &labels) {
             Ok(found) => found,

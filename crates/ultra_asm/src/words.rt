@@ -1,30 +1,27 @@
-//! The lines of a text, and their words.
+//! The words of a line.
 
-ghost use Rattle.std.specs.Prelude.{◌≡◌, ◌-◌, map, position, IfOk, SomeIff};
+ghost use Rattle.std.specs.Prelude.{◌≡◌, ◌-◌, map, take, position, IfOk, SomeIff};
 ghost use Rattle.std.specs.List.{before_first, list_all};
 ghost use Rattle.std.specs.Int.{IsInRange};
 ghost use Rattle.std.specs.Option.{option_copied};
-ghost use Rattle.ultra_asm.specs.Words.{is_separator, begins_comment, words_of, line_words, text_words, lines_of, is_letter, is_name_byte, is_name, before_colon, number_of, register_of, shift_of};
+ghost use Rattle.ultra_asm.specs.Words.{is_separator, begins_comment, line_words, is_letter, is_name_byte, is_name, before_colon, number_of, register_of, shift_of};
 
 use std::alloc::{AllocError, Global};
 use ultra_msg::{Register, Shift, Word};
 
-/// The words of each line of a text.
-pub fn lines_in(alloc: Global, text: &[u8]) -> Result<Vec<Vec<&[u8]>>, AllocError>
-    ensures { IfOk result (λ v. map (λ l. map (λ w. w.now) l.items) v.items ≡ text_words text.now) }
-{
-    let mut lines = Vec::new(alloc);
-    for line in cut_lines(alloc, text)?.iter() {
-        lines.push(words_in(alloc, before_comment(line))?)?;
-    }
-    Ok(lines)
-}
+/// The most words of a line that are looked at: a label, the word of an instruction, three operands,
+/// and one word more, which is one too many.
+const MOST_WORDS: usize = 6;
 
-/// The lines of a text.
-fn cut_lines(alloc: Global, text: &[u8]) -> Result<Vec<&[u8]>, AllocError>
-    ensures { IfOk result (λ v. map (λ l. l.now) v.items ≡ lines_of text.now) }
+/// The first words of a line, six at most.
+pub fn first_words(alloc: Global, line: &[u8]) -> Result<Vec<&[u8]>, AllocError>
+    ensures { IfOk result (λ v. map (λ w. w.now) v.items ≡ take 6 (line_words line.now)) }
 {
-    text.split(|byte| *byte == b'\n').collect(alloc)
+    before_comment(line)
+        .split(|byte| is_separator(*byte))
+        .filter(|word| !word.is_empty())
+        .take(MOST_WORDS)
+        .collect(alloc)
 }
 
 /// The line without its comment.
@@ -42,15 +39,6 @@ fn comment_start(line: &[u8]) -> Option<usize>
     ensures { result ≡ position begins_comment line.now }
 {
     line.iter().position(|byte| begins_comment(*byte))
-}
-
-/// The words of a line without comment.
-fn words_in(alloc: Global, code: &[u8]) -> Result<Vec<&[u8]>, AllocError>
-    ensures { IfOk result (λ v. map (λ w. w.now) v.items ≡ words_of code.now) }
-{
-    code.split(|byte| is_separator(*byte))
-        .filter(|word| !word.is_empty())
-        .collect(alloc)
 }
 
 /// Whether the byte begins a comment: `;` or `#`.

@@ -1,279 +1,170 @@
--- units that are put into blocks in the order of their numbers: each stands where its home says
-use Rattle.std.proofs.Common.{◌≡◌, ◌≢◌, ℕ, zero, suc, ◌+◌, ◌*◌, ◌-◌, ◌^◌, ◌<◌, ◌≤◌, List, [], ◌∷◌, ◌++◌, Bool, true, false, refl, arith, ap, ◌∙◌, sym, subst, length, get_or, set, take, drop, ⊎_elim}
-use Rattle.std.specs.Prelude.{◌==◌, Option, Some, None, Vec, map, All}
-use Rattle.std.specs.Vec.{vec_len, vec_capacity}
-use Rattle.std.specs.declared.alloc.Global.{Global}
-use Rattle.std.specs.Option.{unwrap_or}
-use Rattle.std.proofs.lemmas.Bool.{cases_eq, eq-eqb, ne_eqb}
-use Rattle.std.proofs.lemmas.List.{length-map, get_or-map, take_more, length-take-le, length-drop, get_or-set_same, get_or-set_other, map-append, append-nil}
-use Rattle.ultra_model.specs.Balance.{weight}
-use Rattle.ultra_block.specs.BlockState.{BlockState}
-use Rattle.ultra_block.specs.Cut.{no_block, units_of, AreNew, AreDone}
-use Rattle.ultra_block.specs.Parted.{put_if, parted, share, home_in, all_homes, AreParted, AreListsOf, AreFilled, AreCut, ForThis, switch_blocks, module_blocks, element_blocks}
-use Rattle.ultra_block.specs.declared.switch_unit.SwitchUnit.{SwitchUnit}
-use Rattle.ultra_block.specs.declared.module_unit.ModuleUnit.{ModuleUnit}
-use Rattle.ultra_block.specs.declared.element_unit.ElementUnit.{ElementUnit}
-use Rattle.ultra_model.proofs.Counting.{count-append}
-use Rattle.ultra_block.specs.declared.home.Home.{Home}
+-- A machine whose units have gone to the blocks that a partition names, and of which block 0 tells what was told.
+use Rattle.std.proofs.Common.{◌≡◌, ℕ, suc, ◌+◌, ◌*◌, ◌^◌, ◌<◌, ◌≤◌, List, [], ◌∷◌, Option, None, Some, Bool, true, false, length, map, get_or, set, replicate, refl, sym, ◌∙◌, ap, subst, arith}
+use Rattle.std.specs.Prelude.{◌==◌, All, is_some}
+use Rattle.std.proofs.lemmas.Bool.{eq-eqb}
+use Rattle.std.proofs.lemmas.List.{get_or-map, get_or-replicate, length-map, length-set}
+use Rattle.ultra_mem.specs.Serve.{empty_bank}
+use Rattle.ultra_units.specs.Numbers.{switch_count, unit_count, module_number, element_number}
+use Rattle.ultra_section.specs.Away.{stands}
+use Rattle.ultra_section.specs.BlockState.{BlockState, switch_at, module_at, element_at}
+use Rattle.ultra_section.specs.Marks.{on_link}
+use Rattle.ultra_section.specs.Shape.{IsShaped}
+use Rattle.ultra_section.proofs.OfKind.{by_kind, switch_stands, module_stands, element_stands}
+use Rattle.ultra_course.specs.Frame.{AreAlike, IsClear}
+use Rattle.ultra_cut.specs.Cut.{block_at, first, frame_of, given, home, no_block, no_element, no_switch}
+use Rattle.ultra_cut.specs.Halves.{AreBlocks, OfEach}
+use Rattle.ultra_block.specs.Fresh.{frame_of_one, one_block}
+use Rattle.ultra_block.specs.Dealt.{AreCarried, IsDealt, IsLastNamed, TellsAs, TellsNothing, only_if}
+use Rattle.ultra_block.proofs.FreshBlock.{block_is, home_is_zero}
+use Rattle.ultra_block.proofs.Carried.{block_now, block_still, same_part}
+use Rattle.ultra_block.proofs.Telling.{same_events, same_stops}
 
--- ---- one value more, if it is one of the block
-put-length : {X : Type 0} (t : Bool) (x : X) (xs : List X) → length (put_if t x xs) ≡ weight t + length xs
-put-length true x xs = omega arith
-put-length false x xs = omega arith
+some_only : {X : Type 0} (e : Bool) (o : Option X) → is_some o ≡ true → is_some (only_if e o) ≡ e
+some_only true o some = some
+some_only false o some = refl
 
-put-append : {X : Type 0} (t : Bool) (x : X) (xs ys : List X) → put_if t x (xs ++ ys) ≡ put_if t x xs ++ ys
-put-append true x xs ys = refl
-put-append false x xs ys = refl
+first_none : {X : Type 0} (xs : List (Option X)) → ((k : ℕ) → k < length xs → get_or xs k None ≡ None) → first xs ≡ None
+first_none [] none = refl
+first_none (None ∷ xs) none = first_none xs (λ k h. none (suc k) (omega arith))
+first_none (Some x ∷ xs) none = none 0 (omega arith)
 
-put-past : {X : Type 0} (t : Bool) (x : X) (xs : List X) (i : ℕ) (d : X) → get_or (put_if t x xs) (weight t + i) d ≡ get_or xs i d
-put-past true x xs i d = let e : 1 + i ≡ suc i = omega arith in ap (λ k. get_or (x ∷ xs) k d) e
-put-past false x xs i d = let e : 0 + i ≡ i = omega arith in ap (λ k. get_or xs k d) e
+-- nothing is on a link that is empty in each block
+column_none : {X : Type 0} (bs : List BlockState) (links : BlockState → List (Option X)) (count l : ℕ) → l < count → OfEach (λ b. links b ≡ replicate count None) bs
+    → first (map (λ b. on_link (links b) l) bs) ≡ None
+column_none bs links count l h empty =
+    first_none (map (λ b. on_link (links b) l) bs) (λ k small.
+    let within : k < length bs = let e = length-map bs (λ b. on_link (links b) l) in omega arith in
+    get_or-map (λ b. on_link (links b) l) bs k no_block None within ∙ ap (λ t. on_link t l) (empty k within) ∙ get_or-replicate count l None None h)
 
-same_take : {X Y : Type 0} (xs : List X) (ys : List Y) (n : ℕ) → n < length xs → length xs ≡ length ys → length (take n xs) ≡ length (take n ys)
-same_take xs ys n h e = length-take-le n xs (omega (arith, h)) ∙ sym (length-take-le n ys (omega (arith, h, e)))
+-- block 0 tells what another told
+abbrev pub teller : BlockState → List BlockState → BlockState
+teller b bs = record (block_at bs 0) { events = b.events; stops = b.stops }
 
-module _ (b : ℕ) where
-  pub below : (ps : List ℕ) (n : ℕ) → n < length ps → get_or ps n 0 ≡ b → share b (take n ps) < share b ps
-  below [] n h k = absurd (omega (arith, h))
-  below (p ∷ ps) zero h k =
-      let one : weight (p == b) ≡ 1 = ap weight (eq-eqb p b k) in
-      omega (arith, one)
-  below (p ∷ ps) (suc n) h k = let less = below ps n (omega (arith, h)) k in omega (arith, less)
+module _ (d : ℕ) (partition : List ℕ) (b : BlockState) (bs : List BlockState) (whole : AreBlocks d (one_block d) (b ∷ [])) (clear : IsClear d (frame_of_one d b))
+    (count : length partition ≡ unit_count d) (named : All (λ (k : ℕ). k < length bs) partition) (some : 1 ≤ length bs) (carried : AreCarried d partition b bs) where
+  abbrev it : BlockState
+  it = teller b bs
 
-  -- and each place of a block is the one of a number
-  pub record IsOf (ps : List ℕ) (i : ℕ) : Type 0 where
-    pub number : ℕ
-    pub small : number < length ps
-    pub block : get_or ps number 0 ≡ b
-    pub index : share b (take number ps) ≡ i
+  abbrev now : List BlockState
+  now = set bs 0 it
 
-  next_of : (p : ℕ) (ps : List ℕ) (i : ℕ) → IsOf ps i → IsOf (p ∷ ps) (weight (p == b) + i)
-  next_of p ps i o = record { number = suc o.number; small = let s = o.small in omega (arith, s); block = o.block; index = ap (λ n. weight (p == b) + n) o.index }
+  long : length now ≡ length bs
+  long = length-set bs 0 it
 
-  first_is : (p : ℕ) (ps : List ℕ) (i : ℕ) → p ≡ b → i ≡ 0 → IsOf (p ∷ ps) i
-  first_is p ps i e z = record { number = 0; small = omega arith; block = e; index = sym z }
+  part : {Y : Type 0} (get : BlockState → Y) → get it ≡ get (block_at bs 0) → (k : ℕ) → get (block_at now k) ≡ get (block_at bs k)
+  part get same k = same_part bs 0 it some get same k
 
-module _ {X : Type 0} (b : ℕ) where
-  pub length-parted : (ps : List ℕ) (xs : List X) → length ps ≡ length xs → length (parted b ps xs) ≡ share b ps
-  length-parted [] xs e = refl
-  length-parted (p ∷ ps) [] e = absurd (omega (arith, e))
-  length-parted (p ∷ ps) (x ∷ xs) e = put-length (p == b) x (parted b ps xs) ∙ ap (λ n. weight (p == b) + n) (length-parted ps xs (omega (arith, e)))
+  -- ---- where units stand
+  homes : (n : ℕ) → n < unit_count d → home partition n < length bs
+  homes n h = named n 0 (omega arith)
 
-  parted-append : (ps qs : List ℕ) (xs ys : List X) → length ps ≡ length xs → parted b (ps ++ qs) (xs ++ ys) ≡ parted b ps xs ++ parted b qs ys
-  parted-append [] qs [] ys e = refl
-  parted-append [] qs (x ∷ xs) ys e = absurd (omega (arith, e))
-  parted-append (p ∷ ps) qs [] ys e = absurd (omega (arith, e))
-  parted-append (p ∷ ps) qs (x ∷ xs) ys e = ap (λ zs. put_if (p == b) x zs) (parted-append ps qs xs ys (omega (arith, e))) ∙ put-append (p == b) x (parted b ps xs) (parted b qs ys)
+  stood : (n : ℕ) → n < unit_count d → stands n b ≡ true
+  stood n h = whole.cut.stand 0 n (omega arith) h ∙ ap (λ k. k == 0) (home_is_zero d n)
 
-  -- number n is at its place in its block
-  pub at_home : (ps : List ℕ) (xs : List X) (n : ℕ) (d : X) → n < length ps → length ps ≡ length xs → get_or ps n 0 ≡ b → get_or (parted b ps xs) (share b (take n ps)) d ≡ get_or xs n d
-  at_home [] xs n d h e k = absurd (omega (arith, h))
-  at_home (p ∷ ps) [] n d h e k = absurd (omega (arith, e))
-  at_home (p ∷ ps) (x ∷ xs) zero d h e k = ap (λ t. get_or (put_if t x (parted b ps xs)) 0 d) (eq-eqb p b k)
-  at_home (p ∷ ps) (x ∷ xs) (suc n) d h e k = put-past (p == b) x (parted b ps xs) (share b (take n ps)) d ∙ at_home ps xs n d (omega (arith, h)) (omega (arith, e)) k
+  stages_now : (k : ℕ) → k < length now → (block_at now k).stages ≡ d
+  stages_now k h = part (λ (x : BlockState). x.stages) refl k ∙ (carried.shaped k (omega (arith, long))).stages
 
-  pub number_at : (ps : List ℕ) (xs : List X) (i : ℕ) → length ps ≡ length xs → i < length (parted b ps xs) → IsOf b ps i
-  number_at [] xs i e h = absurd (omega (arith, h))
-  number_at (p ∷ ps) [] i e h = absurd (omega (arith, h))
-  number_at (p ∷ ps) (x ∷ xs) zero e h =
-      ⊎_elim
-      (λ same. first_is b p ps 0 same refl)
-      (λ other.
-      let t = ne_eqb p b other in
-      let shorter : 0 < length (parted b ps xs) = rw t at h in
-      subst (λ j. IsOf b (p ∷ ps) j) (let none : weight (p == b) ≡ 0 = ap weight t in omega (arith, none)) (next_of b p ps 0 (number_at ps xs 0 (omega (arith, e)) shorter)))
-      (cases_eq p b)
-  number_at (p ∷ ps) (x ∷ xs) (suc i) e h =
-      let long = put-length (p == b) x (parted b ps xs) in
-      ⊎_elim
-      (λ same.
-      let one : weight (p == b) ≡ 1 = ap weight (eq-eqb p b same) in
-      subst (λ j. IsOf b (p ∷ ps) j) (omega (arith, one)) (next_of b p ps i (number_at ps xs i (omega (arith, e)) (omega (arith, h, long, one)))))
-      (λ other.
-      let none : weight (p == b) ≡ 0 = ap weight (ne_eqb p b other) in
-      subst (λ j. IsOf b (p ∷ ps) j) (omega (arith, none)) (next_of b p ps (suc i) (number_at ps xs (suc i) (omega (arith, e)) (omega (arith, h, long, none)))))
-      (cases_eq p b)
+  shaped_now : OfEach (IsShaped d) now
+  shaped_now k h =
+      let was = carried.shaped k (omega (arith, long)) in
+      record {
+        stages = stages_now k h;
+        switches = part (λ (x : BlockState). length x.switches) refl k ∙ was.switches;
+        modules = part (λ (x : BlockState). length x.modules) refl k ∙ was.modules;
+        elements = part (λ (x : BlockState). length x.elements) refl k ∙ was.elements;
+        replies = part (λ (x : BlockState). length x.replies) refl k ∙ was.replies;
+        requests = part (λ (x : BlockState). length x.requests) refl k ∙ was.requests;
+      }
 
-  -- one number more
-  pub parted_more : (ps : List ℕ) (xs : List X) (n : ℕ) (x : X) → n < length ps → length ps ≡ length xs → parted b (take (n + 1) ps) (take (n + 1) xs) ≡ parted b (take n ps) (take n xs) ++ put_if (get_or ps n 0 == b) (get_or xs n x) []
-  parted_more ps xs n x h e =
-      ap (λ qs. parted b qs (take (n + 1) xs)) (take_more ps n 0 h)
-      ∙ ap (λ ys. parted b (take n ps ++ get_or ps n 0 ∷ []) ys) (take_more xs n x (omega (arith, h, e)))
-      ∙ parted-append (take n ps) (get_or ps n 0 ∷ []) (take n xs) (get_or xs n x ∷ []) (same_take ps xs n h e)
+  switch_now : (k n : ℕ) → k < length bs → n < switch_count d → switch_at (block_at now k).switches n ≡ only_if (home partition n == k) (switch_at b.switches n)
+  switch_now k n hk hn = part (λ (x : BlockState). switch_at x.switches n) refl k ∙ carried.switches k n hk hn
 
-pub share_more : (b : ℕ) (ps : List ℕ) (n : ℕ) → n < length ps → share b (take (n + 1) ps) ≡ share b (take n ps) + weight (get_or ps n 0 == b)
-share_more b ps n h =
-    let more = count-append (λ p. p == b) (take n ps) (get_or ps n 0 ∷ []) in
-    ap (λ qs. share b qs) (take_more ps n 0 h) ∙ omega (arith, more)
+  module_now : (k m : ℕ) → k < length bs → m < 2 ^ d → module_at (block_at now k).modules m ≡ only_if (home partition (module_number d m) == k) (module_at b.modules m)
+  module_now k m hk hm = part (λ (x : BlockState). module_at x.modules m) refl k ∙ carried.modules k m hk hm
 
--- ---- one unit more is put at the end of its block
-module _ {X : Type 0} (ps : List ℕ) (lists : List (Vec X Global)) (n : ℕ) (h : n < length ps) (blocks : length lists ≡ 64) (small : get_or ps n 0 < 64) (list : Vec X Global) where
-  abbrev p : ℕ
-  p = get_or ps n 0
+  element_now : (k p : ℕ) → k < length bs → p < 2 ^ d → element_at (block_at now k).elements p ≡ only_if (home partition (element_number d p) == k) (element_at b.elements p)
+  element_now k p hk hp = part (λ (x : BlockState). element_at x.elements p) refl k ∙ carried.elements k p hk hp
 
-  abbrev now : List (Vec X Global)
-  now = set lists p list
+  stages_old : b.stages ≡ d
+  stages_old = whole.cut.stages 0 (omega arith)
 
-  within : p < length lists
-  within = omega (arith, small, blocks)
+  stand_now : (k : ℕ) → k < length now → (n : ℕ) → n < unit_count d → stands n (block_at now k) ≡ (home partition n == k)
+  stand_now k hk =
+      let here : k < length bs = omega (arith, long) in
+      by_kind d (λ n. n < unit_count d → stands n (block_at now k) ≡ (home partition n == k))
+      (λ n is small.
+      switch_stands d (block_at now k) (stages_now k hk) n is ∙ ap is_some (switch_now k n here is)
+      ∙ some_only (home partition n == k) (switch_at b.switches n) (sym (switch_stands d b stages_old n is) ∙ stood n small))
+      (λ m is small.
+      module_stands d (block_at now k) (stages_now k hk) m is ∙ ap is_some (module_now k m here is)
+      ∙ some_only (home partition (module_number d m) == k) (module_at b.modules m) (sym (module_stands d b stages_old m is) ∙ stood (module_number d m) small))
+      (λ p is small.
+      element_stands d (block_at now k) (stages_now k hk) p is ∙ ap is_some (element_now k p here is)
+      ∙ some_only (home partition (element_number d p) == k) (element_at b.elements p) (sym (element_stands d b stages_old p is) ∙ stood (element_number d p) small))
+      (λ n past small. absurd (omega arith))
 
-  pub put_units : (os : List (Option X)) (x : X) → length ps ≡ length os → get_or os n None ≡ Some x → ((d : Vec X Global) → list.items ≡ (get_or lists p d).items ++ x ∷ [])
-      → ((b : ℕ) (d : Vec X Global) → b < 64 → map (λ (x : X). Some x) (get_or lists b d).items ≡ parted b (take n ps) (take n os))
-      → (b : ℕ) (d : Vec X Global) → b < 64 → map (λ (x : X). Some x) (get_or now b d).items ≡ parted b (take (n + 1) ps) (take (n + 1) os)
-  put_units os x e o more all b d hb =
-      let tail : parted b (take (n + 1) ps) (take (n + 1) os) ≡ parted b (take n ps) (take n os) ++ put_if (p == b) (Some x) [] = parted_more b ps os n None h e ∙ ap (λ y. parted b (take n ps) (take n os) ++ put_if (p == b) y []) o in
-      ⊎_elim
-      (λ (same : p ≡ b).
-      ap (λ (v : Vec X Global). map (λ (x : X). Some x) v.items) (ap (λ k. get_or now k d) (sym same) ∙ get_or-set_same lists p list d within)
-      ∙ ap (λ xs. map (λ (x : X). Some x) xs) (more d)
-      ∙ map-append (λ (x : X). Some x) (get_or lists p d).items (x ∷ [])
-      ∙ ap (λ ys. ys ++ Some x ∷ []) (ap (λ k. map (λ (x : X). Some x) (get_or lists k d).items) same ∙ all b d hb)
-      ∙ sym (tail ∙ ap (λ t. parted b (take n ps) (take n os) ++ put_if t (Some x) []) (eq-eqb p b same)))
-      (λ (other : p ≢ b).
-      ap (λ (v : Vec X Global). map (λ (x : X). Some x) v.items) (get_or-set_other lists p b list d (λ e. other (sym e)))
-      ∙ all b d hb
-      ∙ sym (tail ∙ ap (λ t. parted b (take n ps) (take n os) ++ put_if t (Some x) []) (ne_eqb p b other) ∙ append-nil (parted b (take n ps) (take n os))))
-      (cases_eq p b)
-
-  pub put_lengths : ((d : Vec X Global) → vec_len list ≡ vec_len (get_or lists p d) + 1) → ((b : ℕ) (d : Vec X Global) → b < 64 → vec_len (get_or lists b d) ≡ share b (take n ps))
-      → (b : ℕ) (d : Vec X Global) → b < 64 → vec_len (get_or now b d) ≡ share b (take (n + 1) ps)
-  put_lengths more all b d hb =
-      let tail = share_more b ps n h in
-      ⊎_elim
-      (λ (same : p ≡ b).
-      let one : weight (p == b) ≡ 1 = ap weight (eq-eqb p b same) in
-      ap (λ (v : Vec X Global). vec_len v) (ap (λ k. get_or now k d) (sym same) ∙ get_or-set_same lists p list d within) ∙ more d
-      ∙ ap (λ m. m + 1) (ap (λ k. vec_len (get_or lists k d)) same ∙ all b d hb) ∙ omega (arith, tail, one))
-      (λ (other : p ≢ b).
-      let none : weight (p == b) ≡ 0 = ap weight (ne_eqb p b other) in
-      ap (λ (v : Vec X Global). vec_len v) (get_or-set_other lists p b list d (λ e. other (sym e))) ∙ all b d hb ∙ omega (arith, tail, none))
-      (cases_eq p b)
-
-  pub put_room : ((d : Vec X Global) → vec_capacity list ≡ vec_capacity (get_or lists p d)) → ((b : ℕ) (d : Vec X Global) → b < 64 → share b ps ≤ vec_capacity (get_or lists b d))
-      → (b : ℕ) (d : Vec X Global) → b < 64 → share b ps ≤ vec_capacity (get_or now b d)
-  put_room same all b d hb =
-      ⊎_elim
-      (λ (here : p ≡ b).
-      let old = all b d hb in
-      let e : vec_capacity (get_or now b d) ≡ vec_capacity (get_or lists b d) =
-      ap (λ (v : Vec X Global). vec_capacity v) (ap (λ k. get_or now k d) (sym here) ∙ get_or-set_same lists p list d within) ∙ same d ∙ ap (λ k. vec_capacity (get_or lists k d)) here in
-      omega (arith, old, e))
-      (λ (other : p ≢ b).
-      let old = all b d hb in
-      let e : vec_capacity (get_or now b d) ≡ vec_capacity (get_or lists b d) = ap (λ (v : Vec X Global). vec_capacity v) (get_or-set_other lists p b list d (λ e. other (sym e))) in
-      omega (arith, old, e))
-      (cases_eq p b)
-
-module _ {U : Type 0} (kind : BlockState → List U) (number_of : U → ℕ) (none : U) (made : ℕ → U) (bs : List BlockState) (ps : List ℕ) (os : List (Option U)) (n : ℕ) (home_of : ℕ → Home)
-    (blocks : length bs ≡ 64) (lists : (b : ℕ) → b < 64 → map (λ (u : U). Some u) (units_of kind bs b) ≡ parted b ps os) (long : length ps ≡ n) (full : length os ≡ n) (small : All (λ (b : ℕ). b < 64) ps)
-    (units : (k : ℕ) → k < n → get_or os k None ≡ Some (made k)) (numbered : (k : ℕ) → k < n → number_of (made k) ≡ k) (homes : (k : ℕ) → k < n → home_of k ≡ home_in ps k) where
-  same_long : length ps ≡ length os
-  same_long = long ∙ sym full
-
-  count_at : (b : ℕ) → b < 64 → length (units_of kind bs b) ≡ length (parted b ps os)
-  count_at b h = sym (length-map (units_of kind bs b) (λ (u : U). Some u)) ∙ ap (λ xs. length xs) (lists b h)
-
-  some_at : (b i : ℕ) (d : U) → b < 64 → i < length (units_of kind bs b) → Some (get_or (units_of kind bs b) i d) ≡ get_or (parted b ps os) i None
-  some_at b i d hb hi = sym (get_or-map (λ (u : U). Some u) (units_of kind bs b) i d None hi) ∙ ap (λ xs. get_or xs i None) (lists b hb)
-
-  -- the unit at a place is the one of its number
-  unit_at : (b i : ℕ) (d : U) (hb : b < 64) (hi : i < length (units_of kind bs b)) (o : IsOf b ps i) → get_or (units_of kind bs b) i d ≡ made o.number
-  unit_at b i d hb hi o =
-      let h = o.small in
-      ap (λ (x : Option U). unwrap_or x none)
-      (some_at b i d hb hi ∙ ap (λ j. get_or (parted b ps os) j None) (sym o.index) ∙ at_home b ps os o.number None o.small same_long o.block ∙ units o.number (omega (arith, h, long)))
-
-  block_small : (k : ℕ) → k < n → get_or ps k 0 < 64
-  block_small k h = small k 0 (omega (arith, h, long))
-
-  index_small : (k : ℕ) → k < n → share (get_or ps k 0) (take k ps) < length (units_of kind bs (get_or ps k 0))
-  index_small k h =
-      let b = get_or ps k 0 in
-      let less = below b ps k (omega (arith, h, long)) refl in
-      let count = count_at b (block_small k h) in
-      let all = length-parted b ps os same_long in
-      omega (arith, less, count, all)
-
-  number_of_place : (b i : ℕ) → b < 64 → i < length (units_of kind bs b) → IsOf b ps i
-  number_of_place b i hb hi = number_at b ps os i same_long (omega (arith, hi, count_at b hb))
-
-  pub settled : AreNew kind bs n home_of number_of none made
-  settled = record {
-    home = record {
-      there = λ k h. rw (homes k h) record { block = omega (arith, blocks, block_small k h); index = index_small k h };
-      numbered = λ b i d hb hi.
-          let wb : b < 64 = omega (arith, hb, blocks) in
-          let o = number_of_place b i wb hi in
-          let s = o.small in
-          let within : o.number < n = omega (arith, s, long) in
-          subst (λ m. m < n) (sym (ap number_of (unit_at b i d wb hi o) ∙ numbered o.number within)) within;
-      home = λ b i d hb hi.
-          let wb : b < 64 = omega (arith, hb, blocks) in
-          let o = number_of_place b i wb hi in
-          let s = o.small in
-          let within : o.number < n = omega (arith, s, long) in
-          let at : ℕ → ℕ → Home = λ b i. record { block = b; index = i } in
-          ap home_of (ap number_of (unit_at b i d wb hi o) ∙ numbered o.number within) ∙ homes o.number within
-          ∙ ap (λ p. at p (share p (take o.number ps))) o.block ∙ ap (λ j. at b j) o.index;
+  are_blocks : AreBlocks d partition now
+  are_blocks = record {
+    some_stages = whole.some_stages;
+    few_stages = whole.few_stages;
+    cut = record {
+      count = count;
+      homes = λ n h. let there = homes n h in omega (arith, long);
+      stages = stages_now;
+      stand = λ k n hk hn. stand_now k hk n hn;
     };
-    as_new = λ k h.
-        let b = get_or ps k 0 in
-        ap (λ (h : Home). get_or (units_of kind bs h.block) h.index none) (homes k h)
-        ∙ unit_at b (share b (take k ps)) none (block_small k h) (index_small k h) record { number = k; small = omega (arith, h, long); block = refl; index = refl };
+    shaped = shaped_now;
   }
 
--- ---- what holds of each unit holds of each in a list
-each_parted : {X : Type 0} (P : X → Type 0) (ps : List ℕ) (os : List (Option X)) (lists : List (Vec X Global)) → AreParted ps os lists → length ps ≡ length os → ((n : ℕ) → n < length os → ForThis (get_or os n None) P)
-    → (b : ℕ) (d : Vec X Global) → b < 64 → All P (get_or lists b d).items
-each_parted P ps os lists a long all b d hb i x hi =
-    let xs = (get_or lists b d).items in
-    let same = a.units b d hb in
-    let count = length-map xs (λ x. Some x) in
-    let within = ap (λ ys. length ys) same in
-    let o = number_at b ps os i long (omega (arith, hi, count, within)) in
-    let s = o.small in
-    let is : Some (get_or xs i x) ≡ get_or os o.number None =
-    sym (get_or-map (λ x. Some x) xs i x None hi) ∙ ap (λ ys. get_or ys i None) same ∙ ap (λ j. get_or (parted b ps os) j None) (sym o.index) ∙ at_home b ps os o.number None o.small long o.block in
-    subst (λ y. ForThis y P) (sym is) (all o.number (omega (arith, s, long)))
+  -- ---- they are the same machine
+  at_home : (n : ℕ) → (home partition n == home partition n) ≡ true
+  at_home n = eq-eqb (home partition n) (home partition n) refl
 
-pub parted_lists : {X : Type 0} (P : X → Type 0) (ps : List ℕ) (os : List (Option X)) (lists : List (Vec X Global)) → AreParted ps os lists → length ps ≡ length os → ((n : ℕ) → n < length os → ForThis (get_or os n None) P) → AreListsOf P lists
-parted_lists P ps os lists a long all = record { blocks = a.blocks; placed = each_parted P ps os lists a long all }
+  alike : AreAlike d (frame_of d partition now) (frame_of_one d b)
+  alike = record {
+    switches = λ n h.
+        ap (given no_switch) (switch_now (home partition n) n (homes n (omega arith)) h ∙ ap (λ e. only_if e (switch_at b.switches n)) (at_home n))
+        ∙ sym (ap (λ (x : BlockState). given no_switch (switch_at x.switches n)) (block_is d b n));
+    banks = λ m h.
+        let n = module_number d m in
+        ap (given empty_bank) (module_now (home partition n) m (homes n (omega arith)) h ∙ ap (λ e. only_if e (module_at b.modules m)) (at_home n))
+        ∙ sym (ap (λ (x : BlockState). given empty_bank (module_at x.modules m)) (block_is d b n));
+    elements = λ p h.
+        let n = element_number d p in
+        ap (given no_element) (element_now (home partition n) p (homes n (omega arith)) h ∙ ap (λ e. only_if e (element_at b.elements p)) (at_home n))
+        ∙ sym (ap (λ (x : BlockState). given no_element (element_at x.elements p)) (block_is d b n));
+    replies = λ l h.
+        column_none now (λ (x : BlockState). x.replies) ((d + 1) * 2 ^ d) l h (λ k hk. part (λ (x : BlockState). x.replies) refl k ∙ (carried.bare k (omega (arith, long))).replies)
+        ∙ sym (clear.replies l h);
+    requests = λ l h.
+        column_none now (λ (x : BlockState). x.requests) ((d + 1) * 2 ^ d) l h (λ k hk. part (λ (x : BlockState). x.requests) refl k ∙ (carried.bare k (omega (arith, long))).requests)
+        ∙ sym (clear.requests l h);
+  }
 
--- ---- how many there are of each kind
-module _ (d : ℕ) (ps : List ℕ) (all : length ps ≡ d * 2 ^ (d - 1) + 2 * 2 ^ d) where
-  pub count_switches : length (switch_blocks d ps) ≡ d * 2 ^ (d - 1)
-  count_switches = length-take-le (d * 2 ^ (d - 1)) ps (omega (arith, all))
+  -- ---- what they tell
+  told : TellsAs (block_at now 0) b
+  told =
+      let is = block_now bs 0 it some in
+      record { events = ap (λ (x : BlockState). x.events) is; stops = ap (λ (x : BlockState). x.stops) is }
 
-  rest_is : length (drop (d * 2 ^ (d - 1)) ps) ≡ 2 * 2 ^ d
-  rest_is = let rest = length-drop (d * 2 ^ (d - 1)) ps in omega (arith, all, rest)
+  silent : (k : ℕ) → 0 < k → k < length now → TellsNothing (block_at now k)
+  silent k after h =
+      let still = block_still bs 0 it some k (λ e. absurd (omega arith)) in
+      let story = (carried.bare k (omega (arith, long))).story in
+      record {
+        events = ap (λ (x : BlockState). x.events) still ∙ story.events;
+        stops = ap (λ (x : BlockState). x.stops) still ∙ story.stops;
+      }
 
-  pub count_modules : length (module_blocks d ps) ≡ 2 ^ d
-  count_modules = length-take-le (2 ^ d) (drop (d * 2 ^ (d - 1)) ps) (omega (arith, rest_is))
-
-  pub count_elements : length (element_blocks d ps) ≡ 2 ^ d
-  count_elements = let rest = length-drop (2 ^ d) (drop (d * 2 ^ (d - 1)) ps) in omega (arith, rest_is, rest)
-
--- ---- the lists become the blocks
-some_of : {X : Type 0} (xs : List X) → 0 < length xs → X
-some_of [] h = absurd (omega (arith, h))
-some_of (x ∷ xs) h = x
-
-module _ (d n : ℕ) (ps : List ℕ) (switches : List (Vec SwitchUnit Global)) (modules : List (Vec ModuleUnit Global)) (elements : List (Vec ElementUnit Global)) (bs : List BlockState) (blocks : length bs ≡ 64)
-    (filled : (b : ℕ) → b < 64 → AreFilled n switches modules elements b (get_or bs b no_block))
-    (sw : List (Option SwitchUnit)) (mo : List (Option ModuleUnit)) (el : List (Option ElementUnit)) (p : AreParted (switch_blocks d ps) sw switches) (q : AreParted (module_blocks d ps) mo modules) (r : AreParted (element_blocks d ps) el elements) where
-  pub cut_is : (hs : List Home) → hs ≡ all_homes d ps → AreCut d ps n sw mo el hs bs
-  unfolding AreDone
-  cut_is hs e = record {
-    homes = e;
-    blocks = blocks;
-    done = λ b h. (filled b (omega (arith, h, blocks))).done;
-    some_switches = λ b h.
-        let x = some_of switches (omega (arith, p.blocks)) in
-        ap (λ ws. map (λ (w : SwitchUnit). Some w) ws) ((filled b h).some_switches x) ∙ p.units b x h;
-    some_modules = λ b h.
-        let x = some_of modules (omega (arith, q.blocks)) in
-        ap (λ ws. map (λ (w : ModuleUnit). Some w) ws) ((filled b h).some_modules x) ∙ q.units b x h;
-    some_elements = λ b h.
-        let x = some_of elements (omega (arith, r.blocks)) in
-        ap (λ ws. map (λ (w : ElementUnit). Some w) ws) ((filled b h).some_elements x) ∙ r.units b x h;
+  pub is_dealt : length bs ≤ 64 → IsLastNamed partition (length bs) → IsDealt d partition b (set bs 0 (teller b bs))
+  is_dealt few last = record {
+    blocks = are_blocks;
+    few = omega (arith, long);
+    last = subst (IsLastNamed partition) (sym long) last;
+    frame = alike;
+    done = λ k h. part (λ (x : BlockState). x.done) refl k ∙ (carried.bare k (omega (arith, long))).done;
+    told = told;
+    silent = silent;
+    events = same_events d now b (omega (arith, long)) told silent;
+    stops = same_stops d now b (omega (arith, long)) told silent;
   }

@@ -1,35 +1,22 @@
-//! The machine cut into blocks: each half of a cycle of a block, the exchange between blocks, and a cycle of them all.
+//! A whole machine cut into blocks, which makes cycles.
 #![tactic(auto)]
 
-mod apart;
-mod block;
 mod blocks;
 mod building;
-mod cutting;
-mod delivery;
-mod element;
-mod element_unit;
+mod cycle;
+mod dealing;
+mod events;
 mod every_block;
-mod exchange;
-mod half;
-mod happened;
-mod home;
-mod idle;
-mod idle_set;
-mod links;
-mod mail;
-mod module_unit;
-mod numbers;
-mod passes;
-mod replies;
-mod requests;
-mod rooms;
-mod switch_unit;
+mod lent;
+mod partition;
+mod parts;
+mod ranks;
 
-pub use block::Block;
-pub use blocks::{Blocks, MOST_BLOCKS, PartitionFault};
-pub use element::ProcessingElement;
-pub use half::Half;
-pub use happened::Happened;
-pub use home::Home;
-pub use rooms::Rooms;
+pub use blocks::Blocks;
+pub use building::fresh_block;
+pub use dealing::deal;
+pub use partition::{MOST_BLOCKS, PartitionFault};
+pub use parts::Parts;
+pub use ranks::{ByElement, ByRules};
+pub use ultra_cut::{exchange_replies, exchange_requests, note_rooms};
+pub use ultra_section::{Block, Half, Held, Rooms};

@@ -20,12 +20,11 @@ use ultra_io::Source;
 use ultra_msg::{Sink, write_all};
 
 /// Does what the words ask for, and answers the status that the program ends with: 0 done, 2 a
-/// usage fault, 3 refused input, 4 no memory or no thread, 5 a failed write.
+/// usage fault, 3 refused input, 4 no memory, no thread or a full heap, 5 a failed write.
 ///
 /// The first word is the program's name. Results, help and the version go to `out`; what is wrong
-/// goes to `err`. What is done is what the words ask for; the texts of help, of the version and of
-/// usage faults are laid out by `clap`, and shown by tests. A run by several workers starts threads,
-/// and the call may wait for them.
+/// goes to `err`. `clap` lays out the texts of help, of the version and of usage faults, and tests
+/// show them. A sweep and a run by several workers start threads, and the call may wait for them.
 pub fn main_with<'w, R: AllocGlobal + Threads + Wait + Sync, F: Source, O: Sink, E: Sink>(
     rt: &R,
     words: &'w [&'w str],
@@ -135,7 +134,7 @@ fn carry_out<'w, R: AllocGlobal + Threads + Wait + Sync, F: Source, O: Sink, E: 
     }
 }
 
-/// The status of a command that is done or has failed; a failure is reported.
+/// The status of a command that is done or has failed. A failure is reported on `err`.
 fn ended<'p, E: Sink>(done: Result<(), Failure<'p>>, err: &mut E) -> u8
     ensures { HasReported done.entry (stream (E.taken err.old) (E.failures err.old))
         (stream (E.taken err.new) (E.failures err.new)) result }

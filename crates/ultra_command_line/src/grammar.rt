@@ -92,7 +92,7 @@ fn lib_command<'c>(alloc: Global) -> Result<Command<'c>, AllocError>
     lib.arg(numbers_argument(alloc))
 }
 
-/// The argument for the numbers of a coordination program: those that a register holds.
+/// The argument for the numbers of a coordination program, each below `2^32`.
 fn numbers_argument<'c>(alloc: Global) -> Arg<'c>
     ensures { IsRead numbers result }
 {
@@ -132,7 +132,7 @@ fn program_argument<'c>(alloc: Global) -> Arg<'c>
     argument(alloc, "PROG", help::PROGRAM)
 }
 
-/// An argument that has to be there.
+/// An argument that has to be given.
 fn argument<'c>(alloc: Global, name: &'c str, help: &'c str) -> Arg<'c>
     ensures { IsRead (argument name.entry.now) result }
 {

@@ -2,14 +2,16 @@
 
 ghost use Rattle.std.specs.Prelude.{◌≡◌, ◌≤◌, ◌↔◌, IfSome, IsSome};
 
-/// The fewest bytes that the heap of the trees may have, and the most.
+/// The fewest bytes that the heap of the trees may have.
 const FEWEST_BYTES: usize = 256;
 
+/// The most bytes that it may have.
 const MOST_BYTES: usize = 16_777_216;
 
-/// The bytes of the heap of the trees, 256 to 16,777,216.
+/// The size of the heap of the combining trees.
 #[derive(Clone, Copy, PartialEq, Eq)]
 pub struct HeapBytes {
+    /// How many bytes, 256 to 16,777,216.
     pub count: usize,
     ghost least: { 256 ≤ count },
     ghost most: { count ≤ 16777216 },

@@ -30,7 +30,7 @@ pub enum Command<'w> {
         settings: &'w str,
         /// The path of the program's text.
         program: &'w str,
-        /// How many threads of the host make the cycles: 1 where the words don't say it.
+        /// How many threads of the host make the cycles, 1 to 64: 1 where the words don't say.
         workers: Workers,
     },
     /// To write the serial order of a run: `ultra order CONF PROG`.
@@ -47,7 +47,7 @@ pub enum Command<'w> {
         settings: &'w str,
         /// The path of the program's text.
         program: &'w str,
-        /// The heap of the trees: of 1,048,576 bytes where the words don't say it.
+        /// The size of the heap of the trees: 1,048,576 bytes where the words don't say.
         heap: HeapBytes,
     },
     /// To write the canonical text of a program: `ultra list PROG`.
@@ -59,9 +59,9 @@ pub enum Command<'w> {
     Sweep {
         /// The path of the file of jobs.
         jobs: &'w str,
-        /// How many threads of the host do the jobs.
+        /// How many threads of the host do the jobs, 1 to 64.
         workers: Workers,
-        /// How many of them may run a job at once.
+        /// How many of them may run a job at once, 1 to 64.
         at_once: Workers,
         /// Whether standard error shows how many jobs are finished.
         progress: bool,
@@ -70,39 +70,40 @@ pub enum Command<'w> {
     Lib(Coordination),
 }
 
-/// A coordination program with its parameters, as they are given: they may be out of their ranges.
+/// A coordination program with its parameters as the words give them: they may be out of range. The
+/// rounds are to be 1 to 1000.
 #[derive(Clone, Copy, PartialEq, Eq)]
 pub enum Coordination {
-    /// A gate: `ultra lib gate B T`.
+    /// A gate: `ultra lib gate B T`. The bound is to be 1 to 64.
     Gate { bound: u32, rounds: u32 },
-    /// A queue of `2^log_size` places: `ultra lib queue Z T`.
+    /// A queue of `2^log_size` places: `ultra lib queue Z T`. The logarithm is to be 0 to 6.
     Queue { log_size: u32, rounds: u32 },
-    /// Readers and writers: `ultra lib rw G T`.
+    /// Readers and writers: `ultra lib rw G T`. The writers are to be 0 to 64.
     ReadersWriters { writers: u32, rounds: u32 },
     /// A barrier: `ultra lib barrier T`.
     Barrier { rounds: u32 },
 }
 
-/// What the words of a command line tell.
+/// What the words of a command line ask for.
 #[derive(Drop)]
 pub enum Parsed<'w> {
     /// A command.
     Command(Command<'w>),
-    /// That help is asked for: a text for standard output.
+    /// Help: a text for standard output.
     Help(String),
-    /// That the version is asked for: a text for standard output.
+    /// The version: a text for standard output.
     Version(String),
     /// No command, since the words are wrong: a text for standard error.
     Usage(String),
-    /// Nothing, since memory was refused.
+    /// It isn't known, since memory was refused.
     NoMemory,
 }
 
-/// What the words tell; the first is the program's name.
+/// What the words ask for. The first word is the program's name.
 ///
-/// The contract says which words are which command, which are a fault of the user's, and which ask
-/// for help or the version: `run CONF PROG`, where neither path begins with a hyphen, is the run of
-/// these paths by one worker. `clap` lays the texts out, and tests show them.
+/// The contract says which words are which command, which ask for help or the version, and which
+/// are wrong. So `run CONF PROG`, where neither path begins with a hyphen, is the run of these
+/// paths by one worker. `clap` lays out the texts, and tests show them.
 pub fn parse<'w>(alloc: Global, words: &'w [&'w str]) -> Parsed<'w>
     ensures asked { IsAskedBy (map (λ w. w.now) words.entry.now) result }
     ensures run { (conf prog : Text) → AreRunOf (map (λ w. w.now) words.entry.now) conf prog
@@ -120,7 +121,7 @@ pub fn parse<'w>(alloc: Global, words: &'w [&'w str]) -> Parsed<'w>
     }
 }
 
-/// What words tell that get no command but this kind of text.
+/// What words ask for that give no command but a text of this kind.
 fn text_of_kind<'w>(kind: ErrorKind, text: String) -> Parsed<'w>
     ensures { IsTextOfKind kind result }
 {

@@ -1,4 +1,4 @@
-//! The command that words name which `clap` has accepted.
+//! The command that the words name, once `clap` has accepted them.
 
 ghost use Rattle.std.specs.Prelude.{◌≡◌, codes, map, option_map};
 ghost use Rattle.clap.specs.Words.{all_of, first_of, found_of, rows_of, subcommand_rows_of};
@@ -111,7 +111,7 @@ fn coordination(name: &str, numbers: &[&str]) -> Option<Coordination>
     }
 }
 
-/// The coordination program of this name that has a number of its own besides that of its rounds.
+/// The coordination program of this name that has a size besides its number of rounds.
 fn sized(name: &str, size: u32, rounds: u32) -> Option<Coordination>
     ensures { result ≡ sized name.now size rounds }
 {
@@ -165,7 +165,7 @@ fn is_given(words: &ArgMatches<'_>, id: &str) -> bool
     }
 }
 
-/// The workers of this name.
+/// The number of workers that the option of this name gives.
 fn workers(words: &ArgMatches<'_>, id: &str) -> Option<Workers>
     ensures { option_map (λ w. w.count) result
         ≡ number_within 1 64 id.now (rows_of (found_of words.now)) }
@@ -173,7 +173,7 @@ fn workers(words: &ArgMatches<'_>, id: &str) -> Option<Workers>
     Workers::new(number(words, id)?)
 }
 
-/// The heap of the trees.
+/// The size of the heap that the words give.
 fn heap(words: &ArgMatches<'_>) -> Option<HeapBytes>
     ensures { option_map (λ h. h.count) result
         ≡ number_within 256 16777216 (codes "heap") (rows_of (found_of words.now)) }
@@ -188,7 +188,7 @@ fn number(words: &ArgMatches<'_>, id: &str) -> Option<usize>
     words.get_one(id)
 }
 
-/// The number that decimal digits alone write, if a register holds it.
+/// The number that a text of decimal digits alone writes, if it is below `2^32`.
 fn decimal(text: &str) -> Option<u32>
     ensures { result ≡ decimal text.now }
 {

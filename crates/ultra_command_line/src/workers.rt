@@ -1,14 +1,15 @@
-//! How many threads of the host make the cycles of a run.
+//! How many threads of the host work on a run or a sweep.
 
 ghost use Rattle.std.specs.Prelude.{◌≡◌, ◌≤◌, ◌↔◌, IfSome, IsSome};
 
-/// The most threads of the host that a run may have.
+/// The most threads of the host that a run or a sweep may have.
 const MOST_WORKERS: usize = 64;
 
-/// A number of workers, 1 to 64. One worker is the caller's thread; of several each has a thread of
-/// its own.
+/// A number of threads of the host, 1 to 64. In a run one worker is the caller's thread, and of
+/// several each has a thread of its own.
 #[derive(Clone, Copy, PartialEq, Eq)]
 pub struct Workers {
+    /// How many, 1 to 64.
     pub count: usize,
     ghost some: { 1 ≤ count },
     ghost most: { count ≤ 64 },

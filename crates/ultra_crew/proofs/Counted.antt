@@ -1,36 +1,66 @@
--- cycles that are made one after the other
-use Rattle.std.proofs.Common.{◌≡◌, ℕ, suc, ◌+◌, refl, arith, ap, ◌∙◌, subst}
-use Rattle.ultra_model.specs.Phases.{cycle}
-use Rattle.ultra_block.specs.BlocksState.{machine_of, IsWhole}
-use Rattle.ultra_block.specs.declared.blocks.Blocks.{Blocks}
-use Rattle.ultra_crew.specs.Cycles.{cycles_on, HasMade}
+-- Cycles that are made one after another, and the course of the workers.
+use Rattle.std.proofs.Common.{◌≡◌, ℕ, zero, suc, ◌+◌, ◌-◌, List, refl, arith, ap, ◌∙◌, sym, subst}
+use Rattle.ultra_isa.specs.declared.Instr.{Instr}
+use Rattle.ultra_model.specs.Machine.{Machine, Settings}
+use Rattle.ultra_model.specs.Phases.{cycle, memory_phase, processor_phase, reply_phase, request_phase}
+use Rattle.ultra_section.specs.declared.half.Half.{Half}
+use Rattle.ultra_block.specs.State.{BlocksState}
+use Rattle.ultra_desk.specs.declared.task.Task.{Task}
+use Rattle.ultra_crew.specs.Course.{IsCourse, course_of, cycles_on, later, results_in}
 
-pub made_none : (b : Blocks) → IsWhole b → HasMade 0 b b
+-- ---- machines
+pub cycles_one : (c : Settings) (program : List Instr) (m : Machine) → (cycle c program m).cycles ≡ m.cycles + 1
+unfolding cycle processor_phase request_phase memory_phase reply_phase
+cycles_one c program m = refl
+
+pub none_later : (b : BlocksState) → b ≡ later 0 b
 unfolding cycles_on
-made_none b whole = record { state = refl; whole = whole; settings = refl; program = refl; done = omega arith }
+none_later b = refl
+
+pub one_later : (b : BlocksState) → later 1 b ≡ record b { machine = cycle b.config b.program b.machine }
+unfolding cycles_on
+one_later b = refl
 
 -- one more
-module _ (n : ℕ) (old b new : Blocks) (made : HasMade n old b) (state : machine_of new ≡ cycle b.config b.program (machine_of b)) (whole : IsWhole new) (settings : new.config ≡ b.config) (program : new.program ≡ b.program) (done : new.done ≡ b.done + 1) where
-  state_next : machine_of new ≡ cycles_on old.config old.program (suc n) (machine_of old)
-  unfolding cycles_on
-  state_next =
-      state
-      ∙ ap (λ c. cycle c b.program (machine_of b)) made.settings
-      ∙ ap (λ p. cycle old.config p (machine_of b)) made.program
-      ∙ ap (λ m. cycle old.config old.program m) made.state
-
-  pub made_more : HasMade (n + 1) old new
-  made_more =
-      let e : suc n ≡ n + 1 = omega arith in
-      record {
-        state = subst (λ k. machine_of new ≡ cycles_on old.config old.program k (machine_of old)) e state_next;
-        whole = whole;
-        settings = settings ∙ made.settings;
-        program = program ∙ made.program;
-        done = let e = made.done in omega (arith, done);
-      }
-
--- a single cycle
-pub made_one : (old new : Blocks) → HasMade 1 old new → machine_of new ≡ cycle old.config old.program (machine_of old)
+pub more_later : (n : ℕ) (b : BlocksState) → later (n + 1) b ≡ record (later n b) { machine = cycle b.config b.program (later n b).machine }
 unfolding cycles_on
-made_one old new made = made.state
+more_later n b = let e : n + 1 ≡ suc n = omega arith in ap (λ k. later k b) e
+
+pub count_later : (n : ℕ) (b : BlocksState) → (later n b).machine.cycles ≡ b.machine.cycles + n
+unfolding cycles_on
+count_later zero b = omega arith
+count_later (suc n) b =
+    let more = cycles_one b.config b.program (cycles_on b.config b.program n b.machine) in
+    let before = count_later n b in
+    omega (arith, more, before)
+
+-- one first
+first_then : (c : Settings) (program : List Instr) (n : ℕ) (m : Machine) → cycles_on c program n (cycle c program m) ≡ cycles_on c program (suc n) m
+unfolding cycles_on
+first_then c program zero m = refl
+first_then c program (suc n) m = ap (cycle c program) (first_then c program n m)
+
+-- ---- courses
+pub own_course : (workers : ℕ) (b : BlocksState) → IsCourse (course_of workers b) b.program workers b
+unfolding course_of
+own_course workers b = record {
+  program_is = refl;
+  results_are = λ n h w. let e : b.machine.cycles + n - b.machine.cycles ≡ n = omega arith in ap (λ k. results_in workers (later k b) h w) e;
+}
+
+module _ (results : ℕ → Half → ℕ → List Task) (program : List Instr) (workers : ℕ) (b : BlocksState) (course : IsCourse results program workers b) where
+  pub results_now : (h : Half) (w : ℕ) → results b.machine.cycles h w ≡ results_in workers b h w
+  results_now h w =
+      let e : b.machine.cycles ≡ b.machine.cycles + 0 = omega arith in
+      ap (λ k. results k h w) e ∙ course.results_are 0 h w ∙ ap (λ x. results_in workers x h w) (sym (none_later b))
+
+  pub course_goes_on : (next : BlocksState) → next ≡ record b { machine = cycle b.config b.program b.machine } → IsCourse results program workers next
+  course_goes_on next is =
+      subst (IsCourse results program workers) (sym is) record {
+        program_is = course.program_is;
+        results_are = λ n h w.
+            let once = cycles_one b.config b.program b.machine in
+            let e : (cycle b.config b.program b.machine).cycles + n ≡ b.machine.cycles + suc n = omega (arith, once) in
+            ap (λ k. results k h w) e ∙ course.results_are (suc n) h w
+            ∙ ap (λ m. results_in workers (record b { machine = m }) h w) (sym (first_then b.config b.program n b.machine));
+      }

@@ -1,45 +1,52 @@
--- what a worker is dealt, block after block
-use Rattle.std.proofs.Common.{◌≡◌, ◌≢◌, ℕ, ◌+◌, ◌%◌, ◌<◌, List, [], ◌∷◌, ◌++◌, Bool, arith, ap, ◌∙◌, sym, length, get_or, set, ⊎_elim, Vec, Global, eq-eqb, cond}
-use Rattle.std.proofs.lemmas.Bool.{cases_eq, ne_eqb}
-use Rattle.std.proofs.lemmas.List.{get_or-set_same, get_or-set_other, append-nil}
-use Rattle.std.proofs.lemmas.List.Elements.{filter-append}
-use Rattle.ultra_block.specs.BlockState.{BlockState}
-use Rattle.ultra_crew.specs.Tasks.{task, tasks_from, is_of_worker, team}
-use Rattle.ultra_block.specs.declared.half.Half.{Half}
-use Rattle.ultra_crew.specs.declared.task.Task.{Task}
+-- What the workers have when blocks are dealt to them.
+use Rattle.std.proofs.Common.{◌≡◌, ℕ, zero, suc, ◌+◌, ◌<◌, List, [], ◌∷◌, true, false, refl, sym, ◌∙◌, ap, subst, arith, length, get_or, map, All, cond, Vec, Global}
+use Rattle.std.proofs.lemmas.List.{get_or_default}
+use Rattle.std.proofs.lemmas.List.Elements.{All-filter}
+use Rattle.ultra_isa.specs.declared.Instr.{Instr}
+use Rattle.ultra_section.specs.BlockState.{BlockState}
+use Rattle.ultra_section.specs.declared.half.Half.{Half}
+use Rattle.ultra_section.specs.declared.rooms.Rooms.{Rooms}
+use Rattle.ultra_section.specs.Making.{CanMake, made}
+use Rattle.ultra_cut.specs.Cut.{no_block}
+use Rattle.ultra_cut.specs.Halves.{AllCanMake, all_made}
+use Rattle.ultra_desk.specs.Tasks.{AreTeams, CanBeMade, is_of_worker, task, task_made, tasks_from, team}
+use Rattle.ultra_desk.specs.declared.task.Task.{Task}
+use Rattle.ultra_crew.specs.Course.{teams_of}
 
-pub tasks_more : (c : ℕ) (h : Half) (k : ℕ) (bs : List BlockState) (b : BlockState) → tasks_from c h k (bs ++ b ∷ []) ≡ tasks_from c h k bs ++ task c h (k + length bs) b ∷ []
-tasks_more c h k [] b = let e : k ≡ k + 0 = omega arith in ap (λ n. task c h n b ∷ []) e
-tasks_more c h k (a ∷ bs) b =
-    let e : k + 1 + length bs ≡ k + length (a ∷ bs) = omega arith in
-    ap (λ ts. task c h k a ∷ ts) (tasks_more c h (k + 1) bs b ∙ ap (λ n. tasks_from c h (k + 1) bs ++ task c h n b ∷ []) e)
+-- blocks that are dealt to as many workers
+pub dealt_to : (m n : ℕ) (teams : List (Vec Task Global)) (bs : List BlockState) → m ≡ n → AreTeams m teams bs → AreTeams n teams bs
+dealt_to m n teams bs same dealt = subst (λ k. AreTeams k teams bs) same dealt
 
--- a task is in the team of its worker, and in no other
-in_team : (workers w : ℕ) (t : Task) → t.name.block % workers ≡ w → team workers w (t ∷ []) ≡ t ∷ []
-in_team workers w t e = ap (λ (q : Bool). cond q (t ∷ []) []) (eq-eqb (t.name.block % workers) w e)
+-- teams that come back as those of these blocks
+pub given_back : (workers n : ℕ) (results : ℕ → List Task) (teams : List (Vec Task Global)) (bs : List BlockState) → n ≡ workers
+    → ((w : ℕ) (d : Vec Task Global) → w < workers → (get_or teams w d).items ≡ results w) → ((w : ℕ) → results w ≡ teams_of workers bs w) → AreTeams n teams bs
+given_back workers n results teams bs same back settled = dealt_to workers n teams bs (sym same) (λ w d below. back w d below ∙ settled w)
 
-not_in_team : (workers w : ℕ) (t : Task) → t.name.block % workers ≢ w → team workers w (t ∷ []) ≡ []
-not_in_team workers w t n = ap (λ (q : Bool). cond q (t ∷ []) []) (ne_eqb (t.name.block % workers) w n)
+module _ (h : Half) (rooms : Rooms) (program : List Instr) where
+  -- the tasks of a team, when they are done, are its tasks of the blocks when they are
+  team_made : (workers w k : ℕ) (bs : List BlockState) → map (task_made h rooms program) (team workers w (tasks_from k bs)) ≡ team workers w (tasks_from k (all_made h rooms program bs))
+  team_made workers w k [] = refl
+  team_made workers w k (b ∷ bs) =
+      let more = team_made workers w (k + 1) bs in
+      elim (is_of_worker workers w (task k b)) as (λ q. map (task_made h rooms program) (cond q (task k b ∷ team workers w (tasks_from (k + 1) bs)) (team workers w (tasks_from (k + 1) bs)))
+      ≡ cond q (task k (made h rooms program b) ∷ team workers w (tasks_from (k + 1) (all_made h rooms program bs))) (team workers w (tasks_from (k + 1) (all_made h rooms program bs)))) [
+        | true ↦ ap (λ ts. task k (made h rooms program b) ∷ ts) more
+        | false ↦ more
+      ]
 
-module _ (workers : ℕ) (ts : List Task) (t : Task) (xs : List (Vec Task Global)) (v : Vec Task Global) where
-  pub dealt_next : ((w : ℕ) (d : Vec Task Global) → w < workers → (get_or xs w d).items ≡ team workers w ts) → length xs ≡ workers
-      → (k : ℕ) → k ≡ t.name.block → (was : Vec Task Global) → was ≡ get_or xs (k % workers) was → v.items ≡ was.items ++ t ∷ []
-      → (w : ℕ) (d : Vec Task Global) → w < workers → (get_or (set xs (k % workers) v) w d).items ≡ team workers w (ts ++ t ∷ [])
-  dealt_next each len k e was found added w d l =
-      ⊎_elim
-      (λ (same : k % workers ≡ w).
-      let here : w < length xs = omega arith in
-      ap (λ j. (get_or (set xs j v) w d).items) same
-      ∙ ap (λ u. u.items) (get_or-set_same xs w v d here)
-      ∙ added
-      ∙ ap (λ u. u.items ++ t ∷ []) found ∙ ap (λ j. (get_or xs j was).items ++ t ∷ []) same
-      ∙ ap (λ us. us ++ t ∷ []) (each w was l)
-      ∙ ap (λ us. team workers w ts ++ us) (sym (in_team workers w t (ap (λ n. n % workers) (sym e) ∙ same)))
-      ∙ sym (filter-append (is_of_worker workers w) ts (t ∷ [])))
-      (λ (other : k % workers ≢ w).
-      ap (λ u. u.items) (get_or-set_other xs (k % workers) w v d (λ x. other (sym x)))
-      ∙ each w d l
-      ∙ sym (append-nil (team workers w ts))
-      ∙ ap (λ us. team workers w ts ++ us) (sym (not_in_team workers w t (λ x. other (ap (λ n. n % workers) e ∙ x))))
-      ∙ sym (filter-append (is_of_worker workers w) ts (t ∷ [])))
-      (cases_eq (k % workers) w)
+  tasks_can : (k : ℕ) (bs : List BlockState) → All (CanMake h) bs → All (CanBeMade h) (tasks_from k bs)
+  tasks_can k [] can i d below = absurd (omega arith)
+  tasks_can k (b ∷ bs) can zero d below = can 0 b (omega arith)
+  tasks_can k (b ∷ bs) can (suc i) d below = tasks_can (k + 1) bs (λ j e inside. can (suc j) e (omega arith)) i d (omega arith)
+
+  each_can : (bs : List BlockState) → AllCanMake h bs → All (CanMake h) bs
+  each_can bs can i d below = subst (CanMake h) (get_or_default bs i no_block d below) (can i below)
+
+  module _ (workers : ℕ) (bs : List BlockState) (teams : List (Vec Task Global)) (many : length teams ≡ workers) (dealt : AreTeams workers teams bs) where
+    pub teams_can : AllCanMake h bs → (w : ℕ) (d : Vec Task Global) → w < length teams → All (CanBeMade h) (get_or teams w d).items
+    teams_can can w d below =
+        subst (λ ts. All (CanBeMade h) ts) (sym (dealt w d (subst (λ n. w < n) many below)))
+        (All-filter (is_of_worker workers w) (CanBeMade h) (tasks_from 0 bs) (tasks_can 0 bs (each_can bs can)))
+
+    pub teams_made : (w : ℕ) (d : Vec Task Global) → w < length teams → map (task_made h rooms program) (get_or teams w d).items ≡ teams_of workers (all_made h rooms program bs) w
+    teams_made w d below = ap (map (task_made h rooms program)) (dealt w d (subst (λ n. w < n) many below)) ∙ team_made workers w 0 bs

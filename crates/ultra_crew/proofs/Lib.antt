@@ -1,5 +1,9 @@
+mod Held
+pub mod Words
+pub mod RepliesSame
+pub mod RequestsSame
+pub mod Exchanged
+pub mod Started
 pub mod Dealt
-pub mod Placed
-pub mod Gathered
-pub mod Courses
 pub mod Counted
+pub mod Chain

@@ -1,68 +1,86 @@
--- what a machine's workers give back, cycle by cycle: it follows from the blocks, rooms and messages at the start
-use Rattle.std.specs.Prelude.{◌≡◌, ℕ, zero, suc, ◌+◌, ◌-◌, List, map}
+-- what a machine's workers give back, cycle by cycle: it follows from the machine at the start
+use Rattle.std.specs.Prelude.{◌≡◌, ℕ, zero, suc, ◌+◌, ◌-◌, List}
 use Rattle.ultra_isa.specs.declared.Instr.{Instr}
-use Rattle.ultra_block.specs.RoomTable.{RoomTable}
-use Rattle.ultra_block.specs.MailTable.{MailTable}
-use Rattle.ultra_block.specs.BlockState.{BlockState}
-use Rattle.ultra_block.specs.Cycle.{first_rooms, second_rooms, with_replies_come, with_replies_taken, with_memory_served, with_requests_come, with_requests_taken, with_steps_made}
-use Rattle.ultra_block.specs.declared.blocks.Blocks.{Blocks}
-use Rattle.ultra_block.specs.declared.half.Half.{Half}
-use Rattle.ultra_block.specs.declared.half.Half.TheVariants.{SendReplies, TakeReplies, Serve, SendRequests, TakeRequests, Execute}
-use Rattle.ultra_crew.specs.Tasks.{tasks_from, team, task_made}
-use Rattle.ultra_crew.specs.declared.task.Task.{Task}
+use Rattle.ultra_model.specs.Machine.{Settings, Machine}
+use Rattle.ultra_model.specs.Phases.{cycle}
+use Rattle.ultra_section.specs.BlockState.{BlockState}
+use Rattle.ultra_section.specs.declared.half.Half.{Half}
+use Rattle.ultra_section.specs.declared.half.Half.TheVariants.{SendReplies, TakeReplies, Serve, SendRequests, TakeRequests, Execute}
+use Rattle.ultra_section.specs.declared.rooms.Rooms.{Rooms}
+use Rattle.ultra_cut.specs.Cut.{frame_of}
+use Rattle.ultra_cut.specs.Halves.{all_made}
+use Rattle.ultra_block.specs.State.{BlocksState}
+use Rattle.ultra_desk.specs.Tasks.{tasks_from, team}
+use Rattle.ultra_desk.specs.declared.task.Task.{Task}
+use Rattle.ultra_crew.specs.Words.{words_of_rooms}
+use Rattle.ultra_crew.specs.Exchanged.{replies_exchanged, requests_exchanged}
+use Rattle.ultra_crew.specs.Start.{first_blocks}
 
--- where a machine stands between two cycles
-pub record Stand : Type 0 where
-  pub blocks : List BlockState
-  pub rooms : RoomTable
-  pub mail : MailTable
+-- ---- several cycles
+-- the machine n cycles later
+unfoldable pub cycles_on : Settings → List Instr → ℕ → Machine → Machine
+cycles_on c program zero m = m
+cycles_on c program (suc n) m = cycle c program (cycles_on c program n m)
 
-abbrev pub stand_of : Blocks → Stand
-stand_of b = record { blocks = b.blocks.items; rooms = b.rooms; mail = b.mail }
+-- and in its blocks, which stay as they are cut
+abbrev pub later : ℕ → BlocksState → BlocksState
+later n b = record b { machine = cycles_on b.config b.program n b.machine }
 
--- the blocks before a half of the cycle that starts there, and the rooms that were noted last
-unfoldable pub blocks_before : Stand → Half → List BlockState
-blocks_before s SendReplies = s.blocks
-blocks_before s TakeReplies = with_replies_come s.blocks s.rooms s.mail
-blocks_before s Serve = with_replies_taken s.blocks s.rooms s.mail
-blocks_before s SendRequests = with_memory_served s.blocks s.rooms s.mail
-blocks_before s TakeRequests = with_requests_come s.blocks s.rooms s.mail
-blocks_before s Execute = with_requests_taken s.blocks s.rooms s.mail
+-- ---- one cycle, which begins with these blocks
+module _ (d : ℕ) (partition : List ℕ) (program : List Instr) (bs : List BlockState) where
+  abbrev pub first_rooms : Rooms
+  first_rooms = words_of_rooms d (frame_of d partition bs)
 
-unfoldable pub rooms_before : Stand → Half → RoomTable
-rooms_before s SendReplies = first_rooms s.blocks s.rooms s.mail
-rooms_before s TakeReplies = first_rooms s.blocks s.rooms s.mail
-rooms_before s Serve = first_rooms s.blocks s.rooms s.mail
-rooms_before s SendRequests = second_rooms s.blocks s.rooms s.mail
-rooms_before s TakeRequests = second_rooms s.blocks s.rooms s.mail
-rooms_before s Execute = second_rooms s.blocks s.rooms s.mail
+  unfoldable pub with_replies_sent : List BlockState
+  with_replies_sent = all_made SendReplies first_rooms program bs
 
-module _ (program : List Instr) where
-  -- and after it, and after n cycles
-  unfoldable pub next_stand : Stand → Stand
-  next_stand s = record { blocks = with_steps_made s.blocks s.rooms s.mail program; rooms = second_rooms s.blocks s.rooms s.mail; mail = s.mail }
+  unfoldable pub with_replies_taken : List BlockState
+  with_replies_taken =
+      all_made TakeReplies first_rooms program (replies_exchanged d partition with_replies_sent)
 
-  unfoldable pub stand_after : ℕ → Stand → Stand
-  stand_after zero s = s
-  stand_after (suc n) s = stand_after n (next_stand s)
+  unfoldable pub with_memory_served : List BlockState
+  with_memory_served = all_made Serve first_rooms program with_replies_taken
 
--- what a worker of several gives back in half h of cycle c, with these blocks and rooms
-abbrev pub results_of : RoomTable → List Instr → ℕ → ℕ → Half → List BlockState → ℕ → List Task
-results_of rooms program workers c h bs w = map (task_made rooms program) (team workers w (tasks_from c h 0 bs))
+  abbrev pub second_rooms : Rooms
+  second_rooms = words_of_rooms d (frame_of d partition with_memory_served)
 
--- in the cycle that starts there
-unfoldable pub results_in : Stand → List Instr → ℕ → ℕ → Half → ℕ → List Task
-results_in s program workers c h w = results_of (rooms_before s h) program workers c h (blocks_before s h) w
+  unfoldable pub with_requests_sent : List BlockState
+  with_requests_sent = all_made SendRequests second_rooms program with_memory_served
+
+  unfoldable pub with_requests_taken : List BlockState
+  with_requests_taken =
+      all_made TakeRequests second_rooms program (requests_exchanged d partition with_requests_sent)
+
+  unfoldable pub with_steps_made : List BlockState
+  with_steps_made = all_made Execute second_rooms program with_requests_taken
+
+  -- the blocks after each half
+  abbrev pub blocks_after : Half → List BlockState
+  blocks_after SendReplies = with_replies_sent
+  blocks_after TakeReplies = with_replies_taken
+  blocks_after Serve = with_memory_served
+  blocks_after SendRequests = with_requests_sent
+  blocks_after TakeRequests = with_requests_taken
+  blocks_after Execute = with_steps_made
+
+-- ---- the workers
+-- what each of them has when the blocks are these
+abbrev pub teams_of : ℕ → List BlockState → ℕ → List Task
+teams_of workers bs w = team workers w (tasks_from 0 bs)
+
+-- what each gives back after a half of the next cycle of a machine
+unfoldable pub results_in : ℕ → BlocksState → Half → ℕ → List Task
+results_in workers b h =
+    teams_of workers (blocks_after b.config.stages b.partition b.program (first_blocks b) h)
 
 -- the course of a machine, by cycle, half and worker
-abbrev pub course_of : ℕ → Blocks → ℕ → Half → ℕ → List Task
-course_of workers b c h w = results_in (stand_after b.program (c - b.done) (stand_of b)) b.program workers c h w
+unfoldable pub course_of : ℕ → BlocksState → ℕ → Half → ℕ → List Task
+course_of workers b c = results_in workers (later (c - b.machine.cycles) b)
 
--- these are the results of its workers from now on
-abbrev pub IsCourse : (ℕ → Half → ℕ → List Task) → ℕ → Blocks → Type 0
-IsCourse results workers b =
-    (n : ℕ) (h : Half) (w : ℕ) → results (b.done + n) h w ≡ results_in (stand_after b.program n (stand_of b)) b.program workers (b.done + n) h w
-
--- and those of half h of this cycle
-abbrev pub AreResults : (ℕ → Half → ℕ → List Task) → ℕ → Half → Blocks → Type 0
-AreResults results workers h b = (w : ℕ) → results b.done h w ≡ results_of b.rooms b.program workers b.done h b.blocks.items w
+-- from now on its workers go by its program, and these are their results
+pub record IsCourse (results : ℕ → Half → ℕ → List Task) (program : List Instr) (workers : ℕ)
+    (b : BlocksState) : Type 0 where
+  pub program_is : program ≡ b.program
+  pub results_are :
+      (n : ℕ) (h : Half) (w : ℕ)
+      → results (b.machine.cycles + n) h w ≡ results_in workers (later n b) h w

@@ -1,4 +1,4 @@
-pub mod Tasks
+pub mod Words
+pub mod Exchanged
+pub mod Start
 pub mod Course
-pub mod Cycles
-pub mod Phases

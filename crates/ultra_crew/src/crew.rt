@@ -1,56 +1,26 @@
 //! A cycle of the whole machine, made by host workers.
 
 ghost use Rattle.std.specs.Prelude.{◌≡◌, ◌+◌, ◌-◌, ◌<◌, ◌≤◌, ◌^◌, IfOk, IsOk};
-ghost use Rattle.ultra_block.specs.BlocksState.{IsWhole, machine_of};
 ghost use Rattle.ultra_model.specs.Phases.{cycle as next_cycle};
-ghost use Rattle.ultra_crew.specs.Course.{IsCourse};
-ghost use Rattle.ultra_crew.specs.Cycles.{cycles_on, HasMade};
+ghost use Rattle.ultra_crew.specs.Course.{IsCourse, cycles_on};
 
-use crate::course::Course;
-use crate::gate::Gate;
 use crate::shift::Shift;
-use std::alloc::{AllocError, Global};
+use std::alloc::Global;
 use std::marker::Brand;
 use std::sync::Wait;
 use std::thread::{self, Threads};
-use thiserror::Error;
 use ultra_block::Blocks;
+use ultra_desk::{Course, CrewFault, Gate};
 
 /// The most workers of a crew.
 pub const MOST_WORKERS: usize = 64;
 
-/// Why a cycle was not made. The machine's blocks are then given up.
-#[derive(Clone, Copy, PartialEq, Eq, Debug, Drop, Error)]
-pub enum CrewFault {
-    /// A thread could not be started.
-    #[error("no thread")]
-    NoThread,
-    /// Memory was refused.
-    #[error("no memory")]
-    NoMemory,
-}
-
-impl From<AllocError> for CrewFault {
-    ghost use Rattle.ultra_crew.specs.declared.crew.CrewFault.TheVariants.{NoMemory};
-
-    ghost from_gives = { λ _ fault. fault ≡ NoMemory };
-
-    fn from(_: AllocError) -> CrewFault {
-        CrewFault::NoMemory
-    }
-}
-
 /// The machine makes one cycle, in the caller's thread. It is `Blocks::cycle`: it takes no memory and always succeeds.
 ///
-/// The machine has to be between two cycles, and its count of cycles below `2^32 - 1`.
+/// The machine's count of cycles has to be below `2^32 - 1`.
 pub fn cycle_alone(blocks: &mut Blocks)
-    requires whole { IsWhole blocks.old }
-    requires counted { blocks.old.done < 2 ^ 32 - 1 }
-    ensures state { machine_of blocks.new ≡ next_cycle blocks.old.config blocks.old.program (machine_of blocks.old) }
-    ensures whole { IsWhole blocks.new }
-    ensures settings { blocks.new.config ≡ blocks.old.config }
-    ensures program { blocks.new.program ≡ blocks.old.program }
-    ensures done { blocks.new.done ≡ blocks.old.done + 1 }
+    requires { blocks.old.machine.cycles < 2 ^ 32 - 1 }
+    ensures { blocks.new ≡ record blocks.old { machine = next_cycle blocks.old.config blocks.old.program blocks.old.machine } }
 {
     blocks.cycle();
 }
@@ -59,9 +29,9 @@ pub fn cycle_alone(blocks: &mut Blocks)
 pub struct Crew;
 
 impl Crew {
-    /// The machine makes one cycle, each half of it by n workers, 1 to 64. What comes of it is the same for every partition, every number of workers and every gate. Of several workers each has a thread of its own, and the one of number `b` modulo the number of workers calls the gate and then makes the half for block `b`. One worker is the caller's thread, and calls no gate.
+    /// The machine makes one cycle, each half of it by n workers, 1 to 64. The partition stays as it is, and the machine after the cycle is the same for every partition, every number of workers and every gate. Of several workers each has a thread of its own, and the one of number `b` modulo the number of workers calls the gate and then makes the half for block `b`. One worker is the caller's thread, and calls no gate.
     ///
-    /// The machine has to be between two cycles, and its count of cycles below `2^32 - 1`. The call may wait. In every end the threads that were started are joined.
+    /// The machine's count of cycles has to be below `2^32 - 1`. The call may wait. In every end the threads that were started are joined.
     ///
     /// `NoThread` says that a thread could not be started, `NoMemory` that memory was refused; the blocks are then given up. With one worker the call succeeds.
     pub fn cycle<R: Threads + Wait + Sync, G: Gate + Sync>(
@@ -71,28 +41,24 @@ impl Crew {
         workers: usize,
         gate: &G,
     ) -> Result<Blocks, CrewFault>
-        requires whole { IsWhole blocks }
-        requires counted { blocks.done < 2 ^ 32 - 1 }
+        requires counted { blocks.machine.cycles < 2 ^ 32 - 1 }
         requires some_worker { 1 ≤ workers }
         requires most_workers { workers ≤ 64 }
-        ensures state { IfOk result (λ b. machine_of b ≡ next_cycle blocks.config blocks.program (machine_of blocks)) }
-        ensures whole { IfOk result (λ b. IsWhole b) }
-        ensures settings { IfOk result (λ b. b.config ≡ blocks.config) }
-        ensures program { IfOk result (λ b. b.program ≡ blocks.program) }
-        ensures done { IfOk result (λ b. b.done ≡ blocks.done + 1) }
+        ensures state { IfOk result (λ b. b ≡ record blocks { machine = next_cycle blocks.config blocks.program blocks.machine }) }
         ensures alone { workers ≡ 1 → IsOk result }
     {
         if workers == 1 {
             cycle_alone(&mut blocks);
             return Ok(blocks);
         }
-        let blocks = cycles_together::<Brand, R, G>(rt, alloc, blocks, workers, gate, 1)?;
+        let (blocks, busy) = count_busy(blocks, workers);
+        let blocks = cycles_together::<Brand, R, G>(rt, alloc, blocks, busy, gate, 1)?;
         Ok(blocks)
     }
 
     /// The machine makes n cycles, each as by `cycle`, but the workers' threads are started once. With one worker the call succeeds.
     ///
-    /// The machine has to be between two cycles, and its count of cycles below `2^32` after these too. The call may wait. In every end the threads that were started are joined.
+    /// The machine's count of cycles has to be below `2^32` after these too. The call may wait. In every end the threads that were started are joined.
     ///
     /// `NoThread` says that a thread could not be started, `NoMemory` that memory was refused; the blocks are then given up.
     pub fn cycles<R: Threads + Wait + Sync, G: Gate + Sync>(
@@ -103,41 +69,43 @@ impl Crew {
         gate: &G,
         count: u32,
     ) -> Result<Blocks, CrewFault>
-        requires whole { IsWhole blocks }
-        requires counted { blocks.done + count < 2 ^ 32 }
+        requires counted { blocks.machine.cycles + count < 2 ^ 32 }
         requires some_worker { 1 ≤ workers }
         requires most_workers { workers ≤ 64 }
-        ensures state { IfOk result (λ b. machine_of b ≡ cycles_on blocks.config blocks.program count (machine_of blocks)) }
-        ensures whole { IfOk result (λ b. IsWhole b) }
-        ensures settings { IfOk result (λ b. b.config ≡ blocks.config) }
-        ensures program { IfOk result (λ b. b.program ≡ blocks.program) }
-        ensures done { IfOk result (λ b. b.done ≡ blocks.done + count) }
+        ensures state { IfOk result (λ b. b ≡ record blocks { machine = cycles_on blocks.config blocks.program count blocks.machine }) }
         ensures alone { workers ≡ 1 → IsOk result }
     {
         if workers == 1 {
             cycles_alone(&mut blocks, count);
             return Ok(blocks);
         }
-        cycles_together::<Brand, R, G>(rt, alloc, blocks, workers, gate, count)
+        let (blocks, busy) = count_busy(blocks, workers);
+        cycles_together::<Brand, R, G>(rt, alloc, blocks, busy, gate, count)
     }
 }
 
 /// The machine makes n cycles, in the caller's thread.
 fn cycles_alone(blocks: &mut Blocks, count: u32)
-    requires whole { IsWhole blocks.old }
-    requires counted { blocks.old.done + count < 2 ^ 32 }
-    ensures state { machine_of blocks.new ≡ cycles_on blocks.old.config blocks.old.program count (machine_of blocks.old) }
-    ensures whole { IsWhole blocks.new }
-    ensures settings { blocks.new.config ≡ blocks.old.config }
-    ensures program { blocks.new.program ≡ blocks.old.program }
-    ensures done { blocks.new.done ≡ blocks.old.done + count }
+    requires { blocks.old.machine.cycles + count < 2 ^ 32 }
+    ensures { blocks.new ≡ record blocks.old { machine = cycles_on blocks.old.config blocks.old.program count blocks.old.machine } }
 {
     for _ in 0..count {
         cycle_alone(blocks);
     }
 }
 
-/// So many cycles whose halves are made by workers in threads of their own, which are started here and joined at the end.
+/// The machine, and how many of n workers have a block of it, the first ones; the others have none, and need no thread.
+fn count_busy(blocks: Blocks, workers: usize) -> (Blocks, usize)
+    requires { 1 ≤ workers }
+    ensures same { result.0 ≡ blocks }
+    ensures some_worker { 1 ≤ result.1 }
+{
+    let parts = blocks.into_parts();
+    let busy = workers.min(parts.blocks.len()).max(1);
+    (Blocks::of_parts(parts), busy)
+}
+
+/// The machine makes n cycles, whose halves are made by workers in threads of their own, which are started here and joined at the end.
 fn cycles_together<J: Course + Send, R: Threads + Wait + Sync, G: Gate + Sync>(
     rt: &R,
     alloc: Global,
@@ -146,23 +114,21 @@ fn cycles_together<J: Course + Send, R: Threads + Wait + Sync, G: Gate + Sync>(
     gate: &G,
     count: u32,
 ) -> Result<Blocks, CrewFault>
-    requires whole { IsWhole blocks }
-    requires counted { blocks.done + count < 2 ^ 32 }
+    requires counted { blocks.machine.cycles + count < 2 ^ 32 }
     requires some_worker { 1 ≤ workers }
-    requires course { IsCourse J.results workers blocks }
-    ensures { IfOk result (HasMade count blocks) }
+    requires course { IsCourse J.results J.program workers blocks }
+    ensures { IfOk result (λ b. b ≡ record blocks { machine = cycles_on blocks.config blocks.program count blocks.machine }) }
 {
     thread::scope(
         thread::scope_env(),
         rt,
         |scope| -> Result<Blocks, CrewFault>
-            requires whole { IsWhole blocks }
-            requires counted { blocks.done + count < 2 ^ 32 }
+            requires counted { blocks.machine.cycles + count < 2 ^ 32 }
             requires some_worker { 1 ≤ workers }
-            requires course { IsCourse J.results workers blocks }
-            ensures { IfOk result (HasMade count blocks) }
+            requires course { IsCourse J.results J.program workers blocks }
+            ensures { IfOk result (λ b. b ≡ record blocks { machine = cycles_on blocks.config blocks.program count blocks.machine }) }
         {
-            let shift = Shift::<J>::begin(scope, rt, alloc, workers, gate)?;
+            let shift = Shift::<J>::begin(scope, rt, alloc, workers, gate, blocks.program())?;
             let result = shift.cycles(rt, alloc, blocks, count);
             shift.end(rt);
             result

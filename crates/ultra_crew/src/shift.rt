@@ -1,29 +1,26 @@
 //! Workers that are kept over several cycles.
 
-ghost use Rattle.std.specs.Prelude.{◌≡◌, ℕ, ◌+◌, ◌-◌, ◌<◌, ◌≤◌, ◌^◌, All, IfOk, length, map, slice_index_or};
+ghost use Rattle.std.specs.Prelude.{◌≡◌, ℕ, ◌+◌, ◌-◌, ◌<◌, ◌≤◌, ◌^◌, All, IfOk, OnOk, [], length, map, slice_index_or};
 ghost use Rattle.std.specs.Arc.{arc_value};
-ghost use Rattle.ultra_block.specs.BlocksState.{IsWhole, machine_of};
-ghost use Rattle.ultra_block.specs.Making.{CanMake, made};
 ghost use Rattle.ultra_model.specs.Phases.{cycle as next_cycle};
-ghost use Rattle.ultra_crew.specs.Tasks.{CanBeMade, task_made};
-ghost use Rattle.ultra_crew.specs.Course.{AreResults, IsCourse, results_of};
-ghost use Rattle.ultra_crew.specs.Cycles.{HasMade};
-ghost use Rattle.ultra_crew.specs.Phases.{HasExecuted, HasServed, HasServedIn};
-ghost use Rattle.ultra_block.specs.declared.blocks.Blocks.{Blocks};
+ghost use Rattle.ultra_section.specs.declared.half.Half.{Half};
+ghost use Rattle.ultra_cut.specs.Halves.{AllCanMake, all_made};
+ghost use Rattle.ultra_cut.specs.Moments.{AreWhole, machine_in};
+ghost use Rattle.ultra_desk.specs.Tasks.{AreEmptyTeams, CanBeMade, task_made};
+ghost use Rattle.ultra_crew.specs.Start.{state_of};
+ghost use Rattle.ultra_crew.specs.Course.{IsCourse, cycles_on, results_in, teams_of};
 
-use crate::course::Course;
-use crate::crew::CrewFault;
-use crate::deal::deal;
-use crate::desk::Desk;
-use crate::gate::Gate;
-use crate::order::Order;
-use crate::places::gather;
-use crate::task::Task;
+use crate::moves::{with_replies_exchanged, with_requests_exchanged};
 use std::alloc::Global;
 use std::marker::Model;
 use std::sync::{Arc, Wait};
-use std::thread::{self, Scope, Threads};
-use ultra_block::{Block, Blocks, Half};
+use std::thread::{Scope, Threads};
+use ultra_block::{Blocks, Parts};
+use ultra_desk::{Course, CrewFault, Desk, Gate, Name, Task, deal, empty_teams, gather};
+use ultra_isa::Program;
+use ultra_model::Config;
+use ultra_section::{Block, Half, Rooms};
+use ultra_cut::note_rooms;
 
 /// Host workers at work, each in a thread of its own that is kept until the shift ends. Contracts see how many they are.
 #[derive(Drop)]
@@ -38,7 +35,7 @@ impl<J: Course> Model for Shift<J> {
 }
 
 impl<J: Course> Shift<J> {
-    /// Starts the threads of n workers, which call this gate before each half of a block. In every end the threads that were started are joined: by `end`, or here where one could not be started.
+    /// Starts the threads of n workers, which go by a copy of this program, that of the course, and call this gate before each half of a block. In every end the threads that were started are joined: by `end`, or here where one could not be started.
     ///
     /// `NoThread` says that a thread could not be started, `NoMemory` that memory was refused.
     pub fn begin<'s, E, R: Threads + Wait + Sync, G: Gate + Sync>(
@@ -47,14 +44,20 @@ impl<J: Course> Shift<J> {
         alloc: Global,
         workers: usize,
         gate: &'s G,
+        program: &Program,
     ) -> Result<Shift<J>, CrewFault>
     where
         J: Send + 's,
+        requires { program.now ≡ J.program }
         ensures { IfOk result (λ s. s ≡ workers) }
     {
+        let program = program.try_clone(alloc)?;
+        let Ok(program) = Arc::new(alloc, program) else {
+            return Err(CrewFault::NoMemory);
+        };
         let mut desks = Vec::with_capacity(alloc, workers)?;
         for _ in 0..workers {
-            match Desk::open(scope, rt, alloc, gate) {
+            match open(scope, rt, alloc, gate, &program) {
                 Ok(desk) => desks.push_reserved(desk),
                 Err(fault) => {
                     close_all(rt, desks);
@@ -71,64 +74,33 @@ impl<J: Course> Shift<J> {
         close_all(rt, desks);
     }
 
-    /// The machine makes one cycle, each half of it by the workers: that of number `b` modulo their number calls the gate and then makes the half for block `b`. What comes of it is the same for every partition, every number of workers and every gate.
+    /// The machine makes one cycle, each half of it by the workers: that of number `b` modulo their number calls the gate and then makes the half for block `b`. The partition stays as it is, and the machine after the cycle is the same for every partition, every number of workers and every gate.
     ///
-    /// The machine has to be between two cycles, and its count of cycles below `2^32 - 1`. The shift has to be one that was begun for this machine's course. The call may wait.
+    /// The machine's count of cycles has to be below `2^32 - 1`. The shift has to be one that was begun for this machine's course. The call may wait.
     ///
     /// `NoMemory` says that memory was refused, and `NoThread` that a worker's thread is gone; the blocks are then given up.
     pub fn cycle<R: Wait>(&self, rt: &R, alloc: Global, blocks: Blocks) -> Result<Blocks, CrewFault>
-        requires whole { IsWhole blocks }
-        requires counted { blocks.done < 2 ^ 32 - 1 }
+        requires counted { blocks.machine.cycles < 2 ^ 32 - 1 }
         requires some_worker { 1 ≤ self.now }
-        requires course { IsCourse J.results self.now blocks }
-        ensures state { IfOk result (λ b. machine_of b ≡ next_cycle blocks.config blocks.program (machine_of blocks)) }
-        ensures whole { IfOk result (λ b. IsWhole b) }
-        ensures settings { IfOk result (λ b. b.config ≡ blocks.config) }
-        ensures program { IfOk result (λ b. b.program ≡ blocks.program) }
-        ensures done { IfOk result (λ b. b.done ≡ blocks.done + 1) }
-        ensures course { IfOk result (λ b. IsCourse J.results self.now b) }
+        requires course { IsCourse J.results J.program self.now blocks }
+        ensures state { IfOk result (λ b. b ≡ record blocks { machine = next_cycle blocks.config blocks.program blocks.machine }) }
+        ensures course { IfOk result (λ b. IsCourse J.results J.program self.now b) }
     {
-        let blocks = self.reply_and_serve(rt, alloc, blocks)?;
-        let mut blocks = self.request_and_execute(rt, alloc, blocks)?;
-        blocks.end_cycle();
-        Ok(blocks)
-    }
-
-    /// The first phases of a cycle, replies and memory, each half of them by the workers.
-    fn reply_and_serve<R: Wait>(
-        &self,
-        rt: &R,
-        alloc: Global,
-        mut blocks: Blocks,
-    ) -> Result<Blocks, CrewFault>
-        requires whole { IsWhole blocks }
-        requires some_worker { 1 ≤ self.now }
-        requires course { IsCourse J.results self.now blocks }
-        ensures { IfOk result (HasServed blocks) }
-    {
-        blocks.note_rooms();
-        let mut blocks = self.make(rt, alloc, blocks, Half::SendReplies)?;
-        blocks.exchange();
-        let blocks = self.make(rt, alloc, blocks, Half::TakeReplies)?;
-        self.make(rt, alloc, blocks, Half::Serve)
-    }
-
-    /// The last phases of a cycle, requests and processors, each half of them by the workers.
-    fn request_and_execute<R: Wait>(
-        &self,
-        rt: &R,
-        alloc: Global,
-        mut blocks: Blocks,
-    ) -> Result<Blocks, CrewFault>
-        requires some_worker { 1 ≤ self.now }
-        requires served { HasServedIn J.results self.now blocks }
-        ensures { IfOk result (λ b. (old : Blocks) → HasServed old blocks → HasExecuted old b) }
-    {
-        blocks.note_rooms();
-        let mut blocks = self.make(rt, alloc, blocks, Half::SendRequests)?;
-        blocks.exchange();
-        let blocks = self.make(rt, alloc, blocks, Half::TakeRequests)?;
-        self.make(rt, alloc, blocks, Half::Execute)
+        let Parts {
+            config,
+            program,
+            partition,
+            done,
+            blocks,
+        } = blocks.into_parts();
+        let blocks = self.make_cycle(rt, alloc, &config, partition.as_slice(), done, blocks)?;
+        Ok(Blocks::of_parts(Parts {
+            config,
+            program,
+            partition,
+            done: done + 1,
+            blocks,
+        }))
     }
 
     /// The machine makes n cycles, each as by `cycle`.
@@ -139,11 +111,10 @@ impl<J: Course> Shift<J> {
         mut blocks: Blocks,
         count: u32,
     ) -> Result<Blocks, CrewFault>
-        requires whole { IsWhole blocks }
-        requires counted { blocks.done + count < 2 ^ 32 }
+        requires counted { blocks.machine.cycles + count < 2 ^ 32 }
         requires some_worker { 1 ≤ self.now }
-        requires course { IsCourse J.results self.now blocks }
-        ensures { IfOk result (HasMade count blocks) }
+        requires course { IsCourse J.results J.program self.now blocks }
+        ensures { IfOk result (λ b. b ≡ record blocks { machine = cycles_on blocks.config blocks.program count blocks.machine }) }
     {
         for _ in 0..count {
             blocks = self.cycle(rt, alloc, blocks)?;
@@ -151,93 +122,178 @@ impl<J: Course> Shift<J> {
         Ok(blocks)
     }
 
-    /// Every block makes this half of the cycle, each in its worker's thread.
-    fn make<R: Wait>(
+    /// The blocks of a machine, which has made `done` cycles, make one more, each half of it in their workers' threads: replies, memory, requests, processors. What has left one block for another goes there between the two halves of a phase.
+    fn make_cycle<R: Wait>(
         &self,
         rt: &R,
         alloc: Global,
-        mut blocks: Blocks,
-        half: Half,
-    ) -> Result<Blocks, CrewFault>
+        config: &Config,
+        partition: &[u8],
+        done: u32,
+        blocks: Vec<Block>,
+    ) -> Result<Vec<Block>, CrewFault>
+        requires whole { AreWhole config.now partition.now done blocks.items }
+        requires counted { done < 2 ^ 32 - 1 }
         requires some_worker { 1 ≤ self.now }
-        requires ready { All (CanMake half) blocks.blocks.items }
-        requires settled { AreResults J.results self.now half blocks }
-        ensures blocks { IfOk result (λ b. b.blocks.items ≡ map (made half blocks.rooms blocks.program) blocks.blocks.items) }
-        ensures rest { IfOk result (λ b. b ≡ record blocks { blocks = b.blocks }) }
+        requires settled { (h : Half) (w : ℕ) → J.results done h w ≡ results_in self.now (state_of config.now J.program partition.now done blocks.items) h w }
+        ensures whole { IfOk result (λ v. AreWhole config.now partition.now (done + 1) v.items) }
+        ensures state { IfOk result (λ v. machine_in config.now partition.now (done + 1) v.items ≡ next_cycle config.now J.program (machine_in config.now partition.now done blocks.items)) }
+        ensures count { IfOk result (λ v. length v.items ≡ length blocks.items) }
     {
-        let cycle = blocks.done();
-        let taken = blocks.take_blocks();
-        let Ok(machine) = Arc::new(alloc, blocks) else {
-            return Err(CrewFault::NoMemory);
-        };
-        let done = self.make_half(rt, alloc, cycle, half, taken, &machine)?;
-        let mut blocks = own(rt, machine);
-        blocks.put_blocks(done);
+        let net = config.net();
+        let workers = self.desks.len();
+        let mut teams = empty_teams(alloc, workers, blocks.len().div_ceil(workers))?;
+        let rooms = note_rooms(blocks.as_slice());
+        let blocks = self.make(rt, done, Half::SendReplies, &rooms, blocks, &mut teams)?;
+        let blocks = with_replies_exchanged(blocks, partition, net);
+        let halves = (Half::TakeReplies, Half::Serve);
+        let blocks = self.make_both(rt, done, halves, &rooms, blocks, &mut teams)?;
+        let rooms = note_rooms(blocks.as_slice());
+        let blocks = self.make(rt, done, Half::SendRequests, &rooms, blocks, &mut teams)?;
+        let blocks = with_requests_exchanged(blocks, partition, net);
+        let halves = (Half::TakeRequests, Half::Execute);
+        let blocks = self.make_both(rt, done, halves, &rooms, blocks, &mut teams)?;
         Ok(blocks)
     }
 
-    /// These blocks after this half of this cycle. A fault leaves none of them.
-    fn make_half<R: Wait>(
+    /// Every block makes this half of the cycle, each in its worker's thread. The teams, to which the blocks are dealt for it, are empty before and after. A fault leaves no block.
+    fn make<R: Wait>(
         &self,
         rt: &R,
-        alloc: Global,
         cycle: u32,
         half: Half,
-        blocks: Vec<Block>,
-        machine: &Arc<Blocks, Global>,
+        rooms: &Rooms,
+        mut blocks: Vec<Block>,
+        teams: &mut Vec<Vec<Task>>,
     ) -> Result<Vec<Block>, CrewFault>
         requires some_worker { 1 ≤ self.now }
-        requires ready { All (CanMake half) blocks.items }
-        requires settled { (w : ℕ) → J.results cycle half w ≡ results_of (arc_value machine.now).rooms (arc_value machine.now).program self.now cycle half blocks.items w }
-        ensures { IfOk result (λ v. v.items ≡ map (made half (arc_value machine.now).rooms (arc_value machine.now).program) blocks.items) }
+        requires teams { AreEmptyTeams self.now teams.old.items }
+        requires ready { AllCanMake half blocks.items }
+        requires settled { (w : ℕ) → J.results cycle half w ≡ teams_of self.now (all_made half rooms.now J.program blocks.items) w }
+        ensures blocks { IfOk result (λ v. v.items ≡ all_made half rooms.now J.program blocks.items) }
+        ensures teams { OnOk result (AreEmptyTeams self.now teams.new.items) }
     {
         let count = blocks.len();
-        let teams = deal(alloc, cycle, half, blocks, self.desks.len())?;
-        self.hand_out(rt, cycle, half, teams, machine)?;
-        let results = self.collect(rt, alloc, cycle, half)?;
-        Ok(gather(alloc, cycle, half, count, results)?)
+        deal(&mut blocks, teams)?;
+        self.pass(rt, cycle, half, rooms, teams)?;
+        gather(teams, &mut blocks, count)?;
+        Ok(blocks)
     }
 
-    /// Gives each worker its tasks of this half.
+    /// Every block makes these two halves of the cycle, one after the other, as by `make`; but the blocks are dealt once.
+    fn make_both<R: Wait>(
+        &self,
+        rt: &R,
+        cycle: u32,
+        halves: (Half, Half),
+        rooms: &Rooms,
+        mut blocks: Vec<Block>,
+        teams: &mut Vec<Vec<Task>>,
+    ) -> Result<Vec<Block>, CrewFault>
+        requires some_worker { 1 ≤ self.now }
+        requires teams { AreEmptyTeams self.now teams.old.items }
+        requires ready { AllCanMake halves.0 blocks.items }
+        requires settled { (w : ℕ) → J.results cycle halves.0 w ≡ teams_of self.now (all_made halves.0 rooms.now J.program blocks.items) w }
+        requires ready_again { AllCanMake halves.1 (all_made halves.0 rooms.now J.program blocks.items) }
+        requires settled_again { (w : ℕ) → J.results cycle halves.1 w ≡ teams_of self.now (all_made halves.1 rooms.now J.program (all_made halves.0 rooms.now J.program blocks.items)) w }
+        ensures blocks { IfOk result (λ v. v.items ≡ all_made halves.1 rooms.now J.program (all_made halves.0 rooms.now J.program blocks.items)) }
+        ensures teams { OnOk result (AreEmptyTeams self.now teams.new.items) }
+    {
+        let count = blocks.len();
+        deal(&mut blocks, teams)?;
+        self.pass(rt, cycle, halves.0, rooms, teams)?;
+        self.pass(rt, cycle, halves.1, rooms, teams)?;
+        gather(teams, &mut blocks, count)?;
+        Ok(blocks)
+    }
+
+    /// Each team passes through the thread of its worker, who makes this half of all its blocks. A fault leaves none of them.
+    fn pass<R: Wait>(
+        &self,
+        rt: &R,
+        cycle: u32,
+        half: Half,
+        rooms: &Rooms,
+        teams: &mut Vec<Vec<Task>>,
+    ) -> Result<(), CrewFault>
+        requires count { length teams.old.items ≡ self.now }
+        requires ready { (w : ℕ) (d : _) → w < length teams.old.items → All (CanBeMade half) (slice_index_or teams.old.items w d).items }
+        requires settled { (w : ℕ) (d : _) → w < length teams.old.items → map (task_made half rooms.now J.program) (slice_index_or teams.old.items w d).items ≡ J.results cycle half w }
+        ensures count { OnOk result (length teams.new.items ≡ self.now) }
+        ensures results { OnOk result ((w : ℕ) (d : _) → w < self.now → (slice_index_or teams.new.items w d).items ≡ J.results cycle half w) }
+    {
+        self.hand_out(rt, cycle, half, rooms, teams)?;
+        self.collect(rt, cycle, half, teams)
+    }
+
+    /// Gives each worker its team for this half.
     fn hand_out<R: Wait>(
         &self,
         rt: &R,
         cycle: u32,
         half: Half,
-        teams: Vec<Vec<Task>>,
-        machine: &Arc<Blocks, Global>,
+        rooms: &Rooms,
+        teams: &mut Vec<Vec<Task>>,
     ) -> Result<(), CrewFault>
-        requires count { length teams.items ≡ self.now }
-        requires ready { (w : ℕ) (d : _) → w < length teams.items → All CanBeMade (slice_index_or teams.items w d).items }
-        requires settled { (w : ℕ) (d : _) → w < length teams.items → map (task_made (arc_value machine.now).rooms (arc_value machine.now).program) (slice_index_or teams.items w d).items ≡ J.results cycle half w }
+        requires count { length teams.old.items ≡ self.now }
+        requires ready { (w : ℕ) (d : _) → w < length teams.old.items → All (CanBeMade half) (slice_index_or teams.old.items w d).items }
+        requires settled { (w : ℕ) (d : _) → w < length teams.old.items → map (task_made half rooms.now J.program) (slice_index_or teams.old.items w d).items ≡ J.results cycle half w }
+        ensures { OnOk result (teams.new.items ≡ []) }
     {
         let mut worker = 0;
-        for tasks in teams {
-            let machine = Arc::try_clone(machine)?;
-            let order = Order::new(cycle, half, worker, tasks, machine);
-            self.desks[worker].hand_out(rt, order)?;
+        for team in teams.drain(..) {
+            let name = Name {
+                cycle,
+                half,
+                worker,
+            };
+            self.desks[worker].hand_out(rt, name, team, rooms)?;
             worker += 1;
         }
         Ok(())
     }
 
-    /// The results of all workers in this half, by their numbers.
+    /// Takes back the teams of all workers after this half, by their numbers.
     fn collect<R: Wait>(
         &self,
         rt: &R,
-        alloc: Global,
         cycle: u32,
         half: Half,
-    ) -> Result<Vec<Vec<Task>>, CrewFault>
-        ensures count { IfOk result (λ v. length v.items ≡ self.now) }
-        ensures results { IfOk result (λ v. (w : ℕ) (d : _) → w < self.now → (slice_index_or v.items w d).items ≡ J.results cycle half w) }
+        teams: &mut Vec<Vec<Task>>,
+    ) -> Result<(), CrewFault>
+        requires { teams.old.items ≡ [] }
+        ensures count { OnOk result (length teams.new.items ≡ self.now) }
+        ensures results { OnOk result ((w : ℕ) (d : _) → w < self.now → (slice_index_or teams.new.items w d).items ≡ J.results cycle half w) }
     {
-        let mut all = Vec::with_capacity(alloc, self.desks.len())?;
         for worker in 0..self.desks.len() {
-            all.push_reserved(self.desks[worker].collect(rt, cycle, half, worker)?);
+            let name = Name {
+                cycle,
+                half,
+                worker,
+            };
+            let team = self.desks[worker].collect(rt, name)?;
+            if teams.push(team).is_err() {
+                return Err(CrewFault::NoMemory);
+            }
         }
-        Ok(all)
+        Ok(())
     }
+}
+
+/// Starts one worker's thread, which goes by this program.
+fn open<'s, J: Course, E, R: Threads + Wait + Sync, G: Gate + Sync>(
+    scope: &Scope<'s, E>,
+    rt: &'s R,
+    alloc: Global,
+    gate: &'s G,
+    program: &Arc<Program, Global>,
+) -> Result<Desk<J>, CrewFault>
+where
+    J: Send + 's,
+    requires { arc_value program.now ≡ J.program }
+{
+    let program = Arc::try_clone(program)?;
+    Desk::open(scope, rt, alloc, gate, program)
 }
 
 /// Lets these workers end, and joins their threads.
@@ -245,19 +301,4 @@ fn close_all<J: Course, R: Threads>(rt: &R, desks: Vec<Desk<J>>) {
     for desk in desks {
         desk.close(rt);
     }
-}
-
-/// The machine again, once no worker looks at it.
-fn own<R: Wait>(rt: &R, machine: Arc<Blocks, Global>) -> Blocks
-    ensures { result ≡ arc_value machine }
-{
-    let mut machine = machine;
-    for _ in rt.forever() {
-        match Arc::try_unwrap(machine) {
-            Ok(blocks) => return blocks,
-            Err(shared) => machine = shared,
-        }
-        thread::yield_now();
-    }
-    unreachable!()
 }

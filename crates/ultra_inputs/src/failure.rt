@@ -1,4 +1,4 @@
-//! How a command ends that fails.
+//! How a command that fails ends.
 
 ghost use Rattle.std.specs.Prelude.{◌≡◌, ◌+◌, ◌++◌, codes, decimal, OnOk, OnErr};
 ghost use Rattle.ultra_msg.specs.Bytes.{TakesPrefix, Writes};
@@ -29,8 +29,11 @@ pub enum Failure<'a> {
     NotUtf8(&'a str),
     /// A line of the program has a fault. Lines count from 1.
     BadLine {
+        /// The path of the program's file.
         path: &'a str,
+        /// The number of the line.
         line: usize,
+        /// What is wrong with it.
         kind: AsmFaultKind,
     },
     /// The file lists no jobs, or not as a file of jobs does.
@@ -58,8 +61,8 @@ impl<'a> From<AllocError> for Failure<'a> {
 }
 
 impl Failure<'_> {
-    /// The status that the program ends with: 2 for a usage fault, 3 for refused input, 4 for want
-    /// of memory or of a thread, 5 for a failed write.
+    /// The status that the program ends with: 2 for a usage fault, 3 for refused input, 4 where
+    /// memory or a thread was refused or the heap is full, 5 where standard output failed.
     pub fn status(&self) -> u8
         ensures { result ≡ status_of self.now }
     {
@@ -114,8 +117,8 @@ impl Failure<'_> {
     }
 }
 
-/// Reports a failure on `err`, and answers its status. Where `err` fails too, the status alone
-/// reports it.
+/// Reports a failure on `err`, and answers its status. If `err` fails too, only the status reports
+/// it.
 pub fn give_up<E: Sink>(failure: &Failure, err: &mut E) -> u8
     ensures status { result ≡ status_of failure.now }
     ensures prefix { TakesPrefix (text_of failure.now) (E.taken err.old) (E.taken err.new) }
@@ -163,7 +166,7 @@ fn write_bad_value<E: Sink>(err: &mut E, path: &str, name: &str) -> Result<(), S
     )
 }
 
-/// Writes the line of a program with a fault in the line of this number.
+/// Writes the line that names the faulty line of a program, by its number, and its fault.
 fn write_bad_line<E: Sink>(
     err: &mut E,
     path: &str,
@@ -178,7 +181,7 @@ fn write_bad_line<E: Sink>(
     write_line_fault(err, path, digits.format(line), kind_text(kind))
 }
 
-/// Writes the line of a program with this fault in the line of this number.
+/// Writes that line, with the number and the fault as texts.
 fn write_line_fault<E: Sink>(
     err: &mut E,
     path: &str,

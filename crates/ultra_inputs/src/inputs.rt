@@ -23,8 +23,8 @@ pub struct Inputs {
     pub program: Program,
 }
 
-/// The settings and the program of the files at two paths. The settings are accepted before the
-/// program is read.
+/// Reads the settings and the program from the files at two paths. The settings are accepted before
+/// the program is read. An error says which file was refused and why, or that memory was refused.
 pub fn read_inputs<'p, F: Source>(
     alloc: Global,
     settings_path: &'p str,
@@ -44,7 +44,7 @@ pub fn read_inputs<'p, F: Source>(
     Ok(Inputs { config, program })
 }
 
-/// The settings of the file at a path.
+/// Reads the settings from the file at a path.
 fn read_settings<'p, F: Source>(
     alloc: Global,
     path: &'p str,
@@ -62,7 +62,8 @@ fn read_settings<'p, F: Source>(
     accept_settings(alloc, path, text.as_slice())
 }
 
-/// The program of the file at a path.
+/// Reads the program from the file at a path. An error says why the file was refused, or that
+/// memory was refused.
 pub fn read_program<'p, F: Source>(
     alloc: Global,
     path: &'p str,
@@ -80,7 +81,8 @@ pub fn read_program<'p, F: Source>(
     accept_program(alloc, path, text.as_slice())
 }
 
-/// The bytes of the file at a path.
+/// Reads all bytes of the file at a path. `NotRead` says that it can't be read, and `NoMemory` that
+/// memory was refused.
 pub fn read_file<'p, F: Source>(
     alloc: Global,
     path: &'p str,

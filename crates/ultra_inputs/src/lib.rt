@@ -1,5 +1,5 @@
-//! The files that the program's commands read, each accepted or refused, and how a command ends that
-//! fails.
+//! The files that the program's commands read, each accepted or refused, and how a command that
+//! fails ends.
 #![tactic(auto)]
 
 mod failure;

@@ -1,4 +1,4 @@
-//! What happened to a stream or to a source of files so far, as clauses see it.
+//! What has happened to a stream or to a source of files so far, as contracts see it.
 
 ghost use Rattle.std.specs.Prelude.{◌≡◌, ◌+◌, ◌++◌, ◌∷◌, []};
 ghost use Rattle.ultra_io.specs.Account.{bytes_in, files_in, failures_in};
@@ -7,17 +7,17 @@ ghost use Rattle.ultra_io.specs.Source.{file_of};
 use std::snapshot::Snapshot;
 
 /// What was taken, what was read and what failed, in the order in which it happened. It is for
-/// clauses alone: a `Snapshot` has no bytes, so an account takes no memory that grows.
+/// contracts alone: a `Snapshot` has no bytes, so an account takes no memory that grows.
 #[derive(Drop)]
 pub enum Account {
     /// Nothing has happened yet.
     Opened,
-    /// After the events before, a byte was taken.
+    /// A byte was taken, after what happened before.
     Took(Snapshot<Account>, Snapshot<u8>),
-    /// After the events before, a file was read: its path, as the bytes of an account, and its
+    /// A file was read, after what happened before: its path, as the bytes of an account, and its
     /// bytes.
     Read(Snapshot<Account>, Snapshot<Account>, Snapshot<Vec<u8>>),
-    /// After the events before, a call failed.
+    /// A call failed, after what happened before.
     Failed(Snapshot<Account>),
 }
 

@@ -20,7 +20,7 @@ pub enum SourceFault {
     NoMemory,
 }
 
-/// A place that files are read from: a file system, or files in memory.
+/// What files are read from: a file system, or files in memory.
 pub trait Source {
     /// The files that it has read, in their order.
     ghost files: { Self → List File };
@@ -28,7 +28,8 @@ pub trait Source {
     /// How often it has failed.
     ghost failures: { Self → ℕ };
 
-    /// All bytes of the file at a path. `NotRead` comes only where the source failed in this call.
+    /// Reads all bytes of the file at a path. `NotRead` says that the source failed in this call,
+    /// and `NoMemory` that memory for the bytes was refused; it hasn't failed then.
     fn read(&mut self, alloc: Global, path: &str) -> Result<Vec<u8>, SourceFault>
         ensures ok { IfOk result
             (λ v. files self.new ≡ files self.old ++ file_of path.now v.items ∷ []) }

@@ -1,3 +1,1 @@
-pub mod Listed
 pub mod OneBlock
-pub mod Counted

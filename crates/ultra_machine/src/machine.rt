@@ -1,18 +1,18 @@
 //! The whole machine.
 
-ghost use Rattle.std.specs.Prelude.{◌≡◌, ◌-◌, ◌^◌, ◌<◌, ◌≤◌, ◌↔◌, true, false, map, IfOk, OnOk, IfErr};
-ghost use Rattle.ultra_model.specs.Machine.{start, is_quiet as quiet, lane_at, replies_at, bank_at, element_at};
+ghost use Rattle.std.specs.Prelude.{◌≡◌, ◌-◌, ◌^◌, ◌<◌, ◌≤◌, ◌↔◌, true, false, IfOk, OnOk, IfErr};
+ghost use Rattle.ultra_model.specs.Machine.{start, is_quiet as quiet, lane_at, replies_at, bank_at, element_at, site};
 ghost use Rattle.ultra_model.specs.Phases.{cycle as next_cycle};
-ghost use Rattle.ultra_block.specs.Elements.{element_of};
-ghost use Rattle.ultra_block.specs.Partition.{block_of, is_partition, unit_count};
-ghost use Rattle.ultra_block.specs.BlocksState.{machine_of, IsWhole};
+ghost use Rattle.ultra_halves.specs.Elements.{element_of};
+ghost use Rattle.ultra_units.specs.Numbers.{unit_count};
+ghost use Rattle.ultra_cut.specs.Cut.{is_partition};
+ghost use Rattle.ultra_block.specs.Dealt.{IsLastNamed};
 
-use crate::fixed_list::FixedList;
-use crate::last_cycle::{list_events, list_stops};
-use crate::{Events, MOST_UNITS, Stops};
+use crate::MOST_UNITS;
 use std::alloc::{AllocError, Global};
 use std::marker::Model;
-use ultra_block::{Blocks, PartitionFault, ProcessingElement};
+use ultra_block::{Blocks, PartitionFault};
+use ultra_halves::ProcessingElement;
 use ultra_isa::Program;
 use ultra_mem::Module;
 use ultra_model::{Config, Stop};
@@ -25,20 +25,17 @@ use ultra_switch::{ToMm, ToPe};
 #[derive(Drop)]
 pub struct Machine {
     blocks: Blocks,
-    events: Events,
-    stops: Stops,
 }
 
 impl Model for Machine {
+    ghost use Rattle.std.specs.Prelude.{◌≡◌};
     ghost use Rattle.ultra_machine.specs.Running.{Running};
 
     ghost Value = { Running };
 
-    ghost use Rattle.ultra_machine.specs.Machines.{running, IsInOrder};
+    ghost view = { λ m. record { settings = m.blocks.config; program = m.blocks.program; state = m.blocks.machine } };
 
-    ghost view = { running };
-
-    ghost invariant = { IsInOrder };
+    ghost invariant = { λ m. m.blocks.count ≡ 1 };
 }
 
 impl Machine {
@@ -50,8 +47,6 @@ impl Machine {
     {
         Ok(Machine {
             blocks: in_one_block(alloc, config, program)?,
-            events: FixedList::new(alloc)?,
-            stops: FixedList::new(alloc)?,
         })
     }
 
@@ -63,9 +58,6 @@ impl Machine {
         ensures { self.new ≡ record self.old { state = next_cycle self.old.settings self.old.program self.old.state } }
     {
         self.blocks.cycle();
-        let happened = self.blocks.happened();
-        list_events(&self.blocks, &happened, &mut self.events);
-        list_stops(&self.blocks, &happened, &mut self.stops);
     }
 
     /// The same machine, cut into blocks: the partition names the block of each unit, 0 to 63. Switches come first, by stage, then modules, then processing elements. Blocks may be empty.
@@ -76,31 +68,18 @@ impl Machine {
         alloc: Global,
         partition: &[u8],
     ) -> Result<Blocks, (Machine, PartitionFault)>
-        ensures whole { IfOk result (λ b. IsWhole b) }
-        ensures state { IfOk result (λ b. machine_of b ≡ self.state) }
+        ensures state { IfOk result (λ b. b.machine ≡ self.state) }
         ensures settings { IfOk result (λ b. b.config ≡ self.settings) }
         ensures program { IfOk result (λ b. b.program ≡ self.program) }
-        ensures done { IfOk result (λ b. b.done ≡ self.state.cycles) }
-        ensures homes { IfOk result (λ b. map block_of b.homes.items ≡ partition.now) }
+        ensures partition { IfOk result (λ b. b.partition ≡ partition.now) }
+        ensures count { IfOk result (λ b. IsLastNamed partition.now b.count) }
         ensures accepted { OnOk result (is_partition self.settings partition.now ≡ true) }
         ensures refused { IfErr result (λ e. (e.1 ≡ PartitionFault.BadPartition) ↔ (is_partition self.settings partition.now ≡ false)) }
         ensures given_back { IfErr result (λ e. e.0 ≡ self) }
     {
-        let Machine {
-            blocks,
-            events,
-            stops,
-        } = self;
-        match blocks.recut(alloc, partition) {
+        match self.blocks.recut(alloc, partition) {
             Ok(blocks) => Ok(blocks),
-            Err((blocks, fault)) => {
-                let machine = Machine {
-                    blocks,
-                    events,
-                    stops,
-                };
-                Err((machine, fault))
-            }
+            Err((blocks, fault)) => Err((Machine { blocks }, fault)),
         }
     }
 
@@ -122,21 +101,23 @@ impl Machine {
     pub fn events(&self) -> &[Event]
         ensures { result.now ≡ self.now.state.events }
     {
-        self.events.as_slice()
+        self.blocks.events_of_one()
     }
 
     /// The processing elements that faulted in the last cycle, by number.
     pub fn stops(&self) -> &[Stop]
         ensures { result.now ≡ self.now.state.stops }
     {
-        self.stops.as_slice()
+        self.blocks.stops_of_one()
     }
 
     /// The queue toward memory at a memory-side position of a stage, with its wait buffer. Stages count from 0, positions too.
     pub fn lane(&self, stage: u32, position: u32) -> &ToMm
         requires stage { stage < self.now.settings.stages }
         requires position { position < 2 ^ self.now.settings.stages }
-        ensures { result.now.lane ≡ lane_at self.now.state stage position }
+        ensures state { result.now.lane ≡ lane_at self.now.state stage position }
+        ensures requests { result.now.request_places ≡ self.now.settings.request_places }
+        ensures waits { result.now.wait_places ≡ self.now.settings.wait_places }
     {
         self.blocks.lane(stage, position)
     }
@@ -145,7 +126,8 @@ impl Machine {
     pub fn reply_queue(&self, stage: u32, position: u32) -> &ToPe
         requires stage { stage < self.now.settings.stages }
         requires position { position < 2 ^ self.now.settings.stages }
-        ensures { result.now.replies ≡ replies_at self.now.state stage position }
+        ensures state { result.now.replies ≡ replies_at self.now.state stage position }
+        ensures places { result.now.places ≡ self.now.settings.reply_places }
     {
         self.blocks.reply_queue(stage, position)
     }
@@ -161,7 +143,9 @@ impl Machine {
     /// A processing element, by its number.
     pub fn element(&self, pe: Pe) -> &ProcessingElement
         requires { pe < 2 ^ self.now.settings.stages }
-        ensures { element_of result.now ≡ element_at self.now.state pe }
+        ensures state { element_of result.now ≡ element_at self.now.state pe }
+        ensures site { result.now.processor.site ≡ site self.now.settings pe }
+        ensures most_open { result.now.interface.most_open ≡ self.now.settings.most_open }
     {
         self.blocks.element(pe)
     }
@@ -176,10 +160,10 @@ impl Machine {
 
 /// The machine before its first cycle, with all units in block 0. An error says that memory was refused.
 fn in_one_block(alloc: Global, config: &Config, program: &Program) -> Result<Blocks, AllocError>
-    ensures whole { IfOk result (λ b. IsWhole b) }
-    ensures state { IfOk result (λ b. machine_of b ≡ start config.now) }
     ensures settings { IfOk result (λ b. b.config ≡ config.now) }
     ensures program { IfOk result (λ b. b.program ≡ program.now) }
+    ensures count { IfOk result (λ b. b.count ≡ 1) }
+    ensures state { IfOk result (λ b. b.machine ≡ start config.now) }
 {
     let all_in_one = [0; MOST_UNITS];
     match Blocks::new(alloc, config, program, &all_in_one[..units(config)]) {
@@ -191,7 +175,7 @@ fn in_one_block(alloc: Global, config: &Config, program: &Program) -> Result<Blo
 
 /// How many units a machine of these settings has.
 fn units(config: &Config) -> usize
-    ensures value { result ≡ unit_count config.now }
+    ensures value { result ≡ unit_count config.now.stages }
     ensures few { result ≤ MOST_UNITS }
 {
     let net = config.net();

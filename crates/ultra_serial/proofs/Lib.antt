@@ -6,3 +6,4 @@ pub mod Cycles
 pub mod Numbers
 pub mod Explaining
 pub mod ByName
+pub mod Advancing

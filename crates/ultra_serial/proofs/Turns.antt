@@ -1,5 +1,5 @@
 -- what is served and noted, one after the other
-use Rattle.std.proofs.Common.{◌≡◌, ℕ, ◌+◌, ◌<◌, List, [], ◌∷◌, ◌++◌, length, take, get_or, Option, Some, None, sym, ap, ◌∙◌}
+use Rattle.std.proofs.Common.{◌≡◌, ℕ, ◌+◌, ◌<◌, List, [], ◌∷◌, ◌++◌, length, take, get_or, Option, Some, None, sym, ap, ◌∙◌, append_assoc, append-nil}
 use Rattle.std.specs.Prelude.{option_map}
 use Rattle.std.specs.Global.{Vec}
 use Rattle.std.proofs.lemmas.List.{take_more}
@@ -9,6 +9,7 @@ use Rattle.ultra_msg.specs.declared.Event.TheVariants.{Delivered}
 use Rattle.ultra_msg.specs.declared.Reply.TheVariants.{Value}
 use Rattle.ultra_msg.specs.Act.{act}
 use Rattle.ultra_law.specs.declared.records.Leaf.{Leaf}
+use Rattle.ultra_law.specs.declared.records.Entry.{Entry}
 use Rattle.ultra_law.specs.Tree.{Tree, leaves, trees_after, leaves_of, served_leaves}
 use Rattle.ultra_law.specs.Legal.{Cells, with_cell, given, answered_by, cells_after, replayed}
 use Rattle.ultra_law.specs.SerialList.{History, noted, after_event}
@@ -44,13 +45,22 @@ abbrev pub some_event : Event
 some_event = Delivered record { pe = 0; cell = 0; reply = Value 0 }
 
 -- requests act after those before them
-pub serving_more : (initial : List (ℕ × ℕ)) (s t : Serving) (n : ℕ) (h : History) (ls : List Leaf) (e : Event) → served_leaves h.trees e ≡ ls → Follows initial s h → Keeps t.waiting (trees_after h.trees e)
-    → cell_in t.memory ≡ cells_after (cell_in s.memory) ls → t.order.items ≡ s.order.items ++ replayed (cell_in s.memory) ls → Follows initial t (after_event n h e)
-serving_more initial s t n h ls e same f w c o = record {
+pub serving_more : (initial : List (ℕ × ℕ)) (listed : List Entry) (s t : Serving) (n : ℕ) (h : History) (ls : List Leaf) (e : Event) → served_leaves h.trees e ≡ ls → Follows initial listed s h → Keeps t.waiting (trees_after h.trees e)
+    → cell_in t.memory ≡ cells_after (cell_in s.memory) ls → t.entries.items ≡ s.entries.items ++ replayed (cell_in s.memory) ls → Follows initial listed t (after_event n h e)
+serving_more initial listed s t n h ls e same f w c o = record {
   waiting = w;
   cells = c ∙ (ap (λ (m : Cells). cells_after m ls) f.cells ∙ (sym (cells-append (given initial) h.order ls) ∙ ap (λ us. cells_after (given initial) (h.order ++ us)) (sym same)));
-  order = o ∙ (ap (λ es. es ++ replayed (cell_in s.memory) ls) f.order ∙ (ap (λ (m : Cells). replayed (given initial) h.order ++ replayed m ls) f.cells
-      ∙ (sym (replayed-append (given initial) h.order ls) ∙ ap (λ us. replayed (given initial) (h.order ++ us)) (sym same))));
+  entries = ap (λ es. listed ++ es) o ∙ (sym (append_assoc listed s.entries.items (replayed (cell_in s.memory) ls))
+      ∙ (ap (λ es. es ++ replayed (cell_in s.memory) ls) f.entries ∙ (ap (λ (m : Cells). replayed (given initial) h.order ++ replayed m ls) f.cells
+      ∙ (sym (replayed-append (given initial) h.order ls) ∙ ap (λ us. replayed (given initial) (h.order ++ us)) (sym same)))));
+}
+
+-- the entries so far are handed out, so that the list is cleared
+pub follows_cleared : (initial : List (ℕ × ℕ)) (listed : List Entry) (s t : Serving) (h : History) → t.waiting ≡ s.waiting → t.memory ≡ s.memory → t.entries.items ≡ [] → Follows initial listed s h → Follows initial (listed ++ s.entries.items) t h
+follows_cleared initial listed s t h w m none f = record {
+  waiting = rw w f.waiting;
+  cells = rw m f.cells;
+  entries = ap (λ es. (listed ++ s.entries.items) ++ es) none ∙ (append-nil (listed ++ s.entries.items) ∙ f.entries);
 }
 
 pub leaves_taken : (o : Option Tree) (r : Option (Vec Leaf)) (v : Vec Leaf) → items_in r ≡ option_map leaves o → r ≡ Some v → leaves_of o ≡ v.items

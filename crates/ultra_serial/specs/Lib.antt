@@ -3,6 +3,8 @@ pub mod ByName
 pub mod Memory
 pub mod Waiting
 pub mod Following
+pub mod Ordered
+pub mod Ordering
 pub mod Recording
 pub mod Breach
 pub mod Examined

@@ -1,11 +1,9 @@
-//! What the requests of a run did one after the other, and when they were issued and answered.
+//! What the requests of a run did one after the other.
 
-ghost use Rattle.std.specs.Prelude.{◌≡◌, ℕ, ◌∷◌, ◌++◌, ◌≤◌, List, IfOk, OnOk};
-ghost use Rattle.ultra_model.specs.Machine.{start};
-ghost use Rattle.ultra_model.specs.Phases.{after};
-ghost use Rattle.ultra_law.specs.Legal.{given, cells_after, replayed, IsLegal};
-ghost use Rattle.ultra_law.specs.SerialList.{History, empty_history, after_event, noted, cells_of, history, serial_list};
-ghost use Rattle.ultra_msg.specs.Bytes.{IsPrefix};
+ghost use Rattle.std.specs.Prelude.{◌≡◌, ℕ, [], ◌++◌, List, IfOk, OnOk};
+ghost use Rattle.ultra_law.specs.declared.records.Entry.{Entry as Listed};
+ghost use Rattle.ultra_law.specs.Legal.{cells_after, replayed};
+ghost use Rattle.ultra_law.specs.SerialList.{History, empty_history, after_event, noted};
 ghost use Rattle.ultra_serial.specs.Memory.{cell_in};
 ghost use Rattle.ultra_serial.specs.Following.{Follows};
 ghost use Rattle.ultra_serial.specs.declared.history.OrderFault.TheVariants.{NoMemory};
@@ -14,8 +12,6 @@ use crate::memory::SerialMemory;
 use crate::waiting::Waiting;
 use crate::{Entry, Leaf, SerialList};
 use std::alloc::{AllocError, AllocFailed, Global};
-use ultra_isa::Program;
-use ultra_machine::{Config, Machine};
 use ultra_msg::{Cell, Event, Word};
 
 /// Why there is no order and no log.
@@ -33,29 +29,50 @@ impl From<AllocError> for OrderFault {
     }
 }
 
-/// What a run has served, one after the other, and what is on its way to memory.
+/// What is on its way to memory in a run, the memory on which its requests act one after the other, and what was served in the last cycle.
 #[derive(Drop)]
 pub(crate) struct Serving {
     waiting: Waiting,
     memory: SerialMemory,
-    order: SerialList,
+    entries: SerialList,
 }
 
 impl Serving {
     /// Before the first cycle.
-    fn new(alloc: Global, initial: &[(Cell, Word)]) -> Result<Serving, AllocError>
-        ensures { IfOk result (λ s. Follows initial.now s empty_history) }
+    pub fn new(alloc: Global, initial: &[(Cell, Word)]) -> Result<Serving, AllocError>
+        ensures state { IfOk result (λ s. Follows initial.now [] s empty_history) }
+        ensures entries { IfOk result (λ s. s.entries.items ≡ []) }
     {
         Ok(Serving {
             waiting: Waiting::new(alloc),
             memory: SerialMemory::new(alloc, initial)?,
-            order: Vec::new(alloc),
+            entries: Vec::new(alloc),
         })
     }
 
-    /// What happened in a cycle.
+    /// What was served in the last cycle, in serial order.
+    pub fn entries(&self) -> &[Entry]
+        ensures { result.now ≡ self.now.entries.items }
+    {
+        self.entries.as_slice()
+    }
+
+    /// Follows the events of a cycle. Its entries take the place of those of the cycle before.
+    pub fn follow(&mut self, events: &[Event]) -> Result<(), AllocError>
+        ensures { OnOk result ((n : ℕ) (initial : List (ℕ × ℕ)) (listed : List Listed) (h : History)
+            → Follows initial listed self.old h
+            → Follows initial (listed ++ self.old.entries.items) self.new (noted n events.now h)) }
+    {
+        self.entries.clear();
+        self.note_all(events)?;
+        Ok(())
+    }
+
+    /// Notes some events of a cycle.
     fn note_all(&mut self, events: &[Event]) -> Result<(), AllocError>
-        ensures { OnOk result ((n : ℕ) (initial : List (ℕ × ℕ)) (h : History) → Follows initial self.old h → Follows initial self.new (noted n events.now h)) }
+        ensures { OnOk result ((n : ℕ) (initial : List (ℕ × ℕ)) (listed : List Listed) (h : History)
+            → Follows initial listed self.old h
+            → Follows initial listed self.new (noted n events.now h)) }
     {
         for event in events {
             self.note(event)?;
@@ -63,15 +80,17 @@ impl Serving {
         Ok(())
     }
 
-    /// An event of a cycle.
+    /// Notes an event of a cycle.
     fn note(&mut self, event: &Event) -> Result<(), AllocError>
-        ensures { OnOk result ((n : ℕ) (initial : List (ℕ × ℕ)) (h : History) → Follows initial self.old h → Follows initial self.new (after_event n h event.now)) }
+        ensures { OnOk result ((n : ℕ) (initial : List (ℕ × ℕ)) (listed : List Listed) (h : History)
+            → Follows initial listed self.old h
+            → Follows initial listed self.new (after_event n h event.now)) }
     {
         match *event {
             Event::Delivered(_) => {}
             Event::Served { request, .. } => {
                 if let Some(leaves) = self.waiting.take(request.pe, request.cell) {
-                    serve(&mut self.memory, &mut self.order, leaves.as_slice())?;
+                    serve(&mut self.memory, &mut self.entries, leaves.as_slice())?;
                 }
             }
             Event::Combined {
@@ -107,70 +126,4 @@ fn serve(
         })?;
     }
     Ok(())
-}
-
-/// The serial order of a run of n cycles, at most 1,000,000: for each cycle and module the requests that were served there, each with its reply where all act one after the other.
-///
-/// It explains the run, and at every number of cycles up to n its prefix does: that is the serial order of these cycles, and legal for their log and for the cells after them (see [`crate::serialization_law`]). So [`crate::check`] accepts it, memory aside. `NoMemory` means that memory was refused.
-pub fn order(
-    alloc: Global,
-    config: &Config,
-    program: &Program,
-    cycles: u32,
-) -> Result<SerialList, OrderFault>
-    requires { cycles ≤ 1000000 }
-    ensures list { IfOk result (λ list. list.items ≡ serial_list config.now program.now cycles) }
-    ensures prefixes { IfOk result (λ list. (n : ℕ) → n ≤ cycles → IsPrefix (serial_list config.now program.now n) list.items) }
-    ensures legal { OnOk result ((n : ℕ) → n ≤ cycles → IsLegal (given config.now.initial) (history config.now program.now n).log (cells_of config.now (after config.now program.now n)) (serial_list config.now program.now n)) }
-{
-    let mut serving = Serving::new(alloc, config.initial())?;
-    serving.follow(alloc, config, program, cycles)?;
-    Ok(serving.into_order())
-}
-
-impl Serving {
-    /// Follows the first `cycles` cycles of a run. An error says that memory was refused.
-    fn follow(
-        &mut self,
-        alloc: Global,
-        config: &Config,
-        program: &Program,
-        cycles: u32,
-    ) -> Result<(), AllocError>
-        requires cycles { cycles ≤ 1000000 }
-        requires before { Follows config.now.initial self.old empty_history }
-        ensures { OnOk result (Follows config.now.initial self.new (history config.now program.now cycles)) }
-    {
-        let mut machine = Machine::new(alloc, config, program)?;
-        self.follow_cycles(&mut machine, cycles)
-    }
-
-    /// Follows a machine from its start for `cycles` cycles, or until it is quiet. An error says that memory was refused.
-    fn follow_cycles(&mut self, machine: &mut Machine, cycles: u32) -> Result<(), AllocError>
-        requires cycles { cycles ≤ 1000000 }
-        requires start { machine.old.state ≡ start machine.old.settings }
-        requires before { Follows machine.old.settings.initial self.old empty_history }
-        ensures { OnOk result (Follows machine.old.settings.initial self.new (history machine.old.settings machine.old.program cycles)) }
-    {
-        for _ in 0..cycles {
-            machine.cycle();
-            self.note_all(machine.events())?;
-            if machine.is_quiet() {
-                break;
-            }
-        }
-        Ok(())
-    }
-
-    /// What was served, in order.
-    fn into_order(self) -> SerialList
-        ensures { result.items ≡ self.order.items }
-    {
-        let Serving {
-            waiting: _,
-            memory: _,
-            order,
-        } = self;
-        order
-    }
 }

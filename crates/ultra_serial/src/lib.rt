@@ -7,12 +7,14 @@ mod checking;
 mod examining;
 mod history;
 mod memory;
+mod ordered_run;
 mod recording;
 mod waiting;
 
 pub use checking::{BreachKind, CheckFault, check};
-pub use history::{OrderFault, order};
+pub use history::OrderFault;
 pub use memory::SerialMemory;
+pub use ordered_run::{OrderedRun, order};
 pub use recording::log;
 pub use ultra_law::{
     Answer, Entry, Issue, Leaf, Log, SerialList, explaining_law, hot_spot_law, reply_law,

@@ -7,16 +7,14 @@ use Rattle.std.proofs.lemmas.Bool.{cases_lt}
 use Rattle.std.proofs.lemmas.List.Concat.{flat_map-append}
 use Rattle.ultra_isa.specs.declared.Instr.{Instr}
 use Rattle.ultra_model.specs.Machine.{Settings, Machine, start, is_quiet}
-use Rattle.ultra_block.specs.declared.blocks.Blocks.{Blocks}
-use Rattle.ultra_block.specs.BlocksState.{machine_of, IsWhole}
+use Rattle.ultra_block.specs.State.{BlocksState}
 use Rattle.ultra_model.specs.Phases.{after, cycle, reply_phase, memory_phase, request_phase, processor_phase}
-use Rattle.ultra_trace.specs.declared.page.Page.{Page}
-use Rattle.ultra_trace.specs.Page.{Writes, WritesPrefix}
+use Rattle.ultra_page.specs.declared.Page.{Page}
+use Rattle.ultra_page.specs.Page.{Writes, WritesPrefix}
 use Rattle.ultra_trace.specs.BlocksAfter.{IsAfter}
-use Rattle.ultra_trace.specs.Trace.{by_number, cycle_text, cycles_text, cycle_count, all_cycles_text, last_state, end_text}
-use Rattle.ultra_trace.proofs.Writing.{either, writes_failed, writes_spent}
-use Rattle.ultra_trace.proofs.Numbered.{writes_number}
-use Rattle.ultra_trace.proofs.Told.{cycles_are}
+use Rattle.ultra_lines.specs.Trace.{by_number, cycle_text, cycles_text, cycle_count, all_cycles_text, last_state, end_text}
+use Rattle.ultra_page.proofs.Writing.{either, writes_failed, writes_spent}
+use Rattle.ultra_lines.proofs.Numbered.{writes_number}
 
 -- ---- the first number of a range that passes a test
 module _ (test : ℕ → Bool) where
@@ -63,28 +61,27 @@ module _ (c : Settings) (program : List Instr) where
 -- ---- the blocks after n cycles
 module _ (c : Settings) (program : List Instr) (n : ℕ) where
   -- a cycle more
-  pub next_after : (old new : Blocks) → IsAfter c program n old → machine_of new ≡ cycle old.config old.program (machine_of old) → IsWhole new → new.config ≡ old.config → new.program ≡ old.program → IsAfter c program (n + 1) new
-  next_after old new a state whole settings instructions = record {
-    whole = whole;
-    settings = settings ∙ a.settings;
-    instructions = instructions ∙ a.instructions;
+  pub next_after : (old new : BlocksState) → IsAfter c program n old → new ≡ record old { machine = cycle old.config old.program old.machine } → IsAfter c program (n + 1) new
+  next_after old new a made = record {
+    settings = ap (λ b. b.config) made ∙ a.settings;
+    instructions = ap (λ b. b.program) made ∙ a.instructions;
     state =
-        state ∙ ap (λ d. cycle d old.program (machine_of old)) a.settings ∙ ap (λ is. cycle c is (machine_of old)) a.instructions
+        ap (λ b. b.machine) made ∙ ap (λ d. cycle d old.program old.machine) a.settings ∙ ap (λ is. cycle c is old.machine) a.instructions
         ∙ ap (λ m. cycle c program m) a.state ∙ sym (after_next c program n);
   }
 
-  pub done_after : (b : Blocks) → IsAfter c program n b → b.done ≡ n
-  done_after b a = sym (cycles_are b) ∙ ap (λ m. m.cycles) a.state ∙ cycles_after c program n
+  pub done_after : (b : BlocksState) → IsAfter c program n b → b.machine.cycles ≡ n
+  done_after b a = ap (λ m. m.cycles) a.state ∙ cycles_after c program n
 
-  pub quiet_after : (b : Blocks) → IsAfter c program n b → is_quiet (after c program n) ≡ is_quiet (machine_of b)
+  pub quiet_after : (b : BlocksState) → IsAfter c program n b → is_quiet (after c program n) ≡ is_quiet b.machine
   quiet_after b a = ap (λ m. is_quiet m) (sym a.state)
 
   -- the lines of the last cycle, and those at the end
-  pub cycle_after : (b : Blocks) → IsAfter c program n b → cycle_text b.config (machine_of b) ≡ cycle_text c (after c program n)
-  cycle_after b a = ap (λ d. cycle_text d (machine_of b)) a.settings ∙ ap (λ m. cycle_text c m) a.state
+  pub cycle_after : (b : BlocksState) → IsAfter c program n b → cycle_text b.config b.machine ≡ cycle_text c (after c program n)
+  cycle_after b a = ap (λ d. cycle_text d b.machine) a.settings ∙ ap (λ m. cycle_text c m) a.state
 
-  pub end_after : (b : Blocks) → IsAfter c program n b → end_text b.config (machine_of b) ≡ end_text c (after c program n)
-  end_after b a = ap (λ d. end_text d (machine_of b)) a.settings ∙ ap (λ m. end_text c m) a.state
+  pub end_after : (b : BlocksState) → IsAfter c program n b → end_text b.config b.machine ≡ end_text c (after c program n)
+  end_after b a = ap (λ d. end_text d b.machine) a.settings ∙ ap (λ m. end_text c m) a.state
 
 -- where the machine is busy after n cycles, from the first on
 abbrev pub IsBusy : Settings → List Instr → ℕ → Type 0
@@ -145,7 +142,7 @@ module _ (c : Settings) (program : List Instr) where
 
 module _ (c : Settings) (program : List Instr) (n : ℕ) where
   -- the lines of a cycle more
-  pub cycle_written : (b : Blocks) → IsAfter c program (n + 1) b → {S : Type 0} {taken : S → List ℕ} {failures : S → ℕ} {s t u : Page S} → Writes taken failures (cycles_text c program n) s t → Writes taken failures (cycle_text b.config (machine_of b)) t u → Writes taken failures (cycles_text c program (n + 1)) s u
+  pub cycle_written : (b : BlocksState) → IsAfter c program (n + 1) b → {S : Type 0} {taken : S → List ℕ} {failures : S → ℕ} {s t u : Page S} → Writes taken failures (cycles_text c program n) s t → Writes taken failures (cycle_text b.config b.machine) t u → Writes taken failures (cycles_text c program (n + 1)) s u
   cycle_written b now v w = writes_number (λ k. cycle_text c (after c program (k + 1))) n v (rw (cycle_after c program (n + 1) b now) at w)
 
   -- after a fault the cycles that are missing don't matter
@@ -164,25 +161,25 @@ module _ (c : Settings) (program : List Instr) (n : ℕ) where
       (cycles_text c program n, (first.0, sym first.1), w)
 
   -- where the machine is quiet or the sink has failed, the cycle was the last
-  module _ (b : Blocks) (a : IsAfter c program (n + 1) b) (h : IsBusy c program n) (p : n < c.cycles) where
-    counted : is_quiet (machine_of b) ≡ true → cycle_count c program ≡ n + 1
+  module _ (b : BlocksState) (a : IsAfter c program (n + 1) b) (h : IsBusy c program n) (p : n < c.cycles) where
+    counted : is_quiet b.machine ≡ true → cycle_count c program ≡ n + 1
     counted q = count_quiet c program n h p (quiet_after c program (n + 1) b a ∙ q)
 
-    pub last_written : {S : Type 0} {taken : S → List ℕ} {failures : S → ℕ} {s t : Page S} → (is_quiet (machine_of b) || t.failed) ≡ true → Writes taken failures (cycles_text c program (n + 1)) s t → Writes taken failures (all_cycles_text c program) s t
-    last_written {t = t} over w = elim (one_of (is_quiet (machine_of b)) t.failed over) [
+    pub last_written : {S : Type 0} {taken : S → List ℕ} {failures : S → ℕ} {s t : Page S} → (is_quiet b.machine || t.failed) ≡ true → Writes taken failures (cycles_text c program (n + 1)) s t → Writes taken failures (all_cycles_text c program) s t
+    last_written {t = t} over w = elim (one_of (is_quiet b.machine) t.failed over) [
       | inl q ↦ all_written c program (n + 1) (counted q) w
       | inr f ↦ missing_cycles h p f w
     ]
 
-    pub last_machine : (failed : Bool) → (is_quiet (machine_of b) || failed) ≡ true → failed ≡ false → IsAfter c program (cycle_count c program) b
-    last_machine failed over f = elim (one_of (is_quiet (machine_of b)) failed over) [
+    pub last_machine : (failed : Bool) → (is_quiet b.machine || failed) ≡ true → failed ≡ false → IsAfter c program (cycle_count c program) b
+    last_machine failed over f = elim (one_of (is_quiet b.machine) failed over) [
       | inl q ↦ rw (counted q) a
       | inr g ↦ absurd cc
     ]
 
     -- and else it goes on
-    pub still_busy : (failed : Bool) → (is_quiet (machine_of b) || failed) ≡ false → IsBusy c program (n + 1)
-    still_busy failed over = busy_more c program n h (quiet_after c program (n + 1) b a ∙ none_of (is_quiet (machine_of b)) failed over)
+    pub still_busy : (failed : Bool) → (is_quiet b.machine || failed) ≡ false → IsBusy c program (n + 1)
+    still_busy failed over = busy_more c program n h (quiet_after c program (n + 1) b a ∙ none_of (is_quiet b.machine) failed over)
 
   -- where the settings allow no more, that was the last
   module _ (all : n ≡ c.cycles) (h : IsBusy c program n) where
@@ -192,12 +189,12 @@ module _ (c : Settings) (program : List Instr) (n : ℕ) where
     pub limit_written : {S : Type 0} {taken : S → List ℕ} {failures : S → ℕ} {s t : Page S} → Writes taken failures (cycles_text c program n) s t → Writes taken failures (all_cycles_text c program) s t
     limit_written w = all_written c program n limit w
 
-    pub limit_machine : (b : Blocks) → IsAfter c program n b → IsAfter c program (cycle_count c program) b
+    pub limit_machine : (b : BlocksState) → IsAfter c program n b → IsAfter c program (cycle_count c program) b
     limit_machine b a = rw limit a
 
 module _ (c : Settings) (program : List Instr) where
   -- the lines at the end; after a fault it doesn't matter which
-  pub end_written : (b : Blocks) {S : Type 0} {taken : S → List ℕ} {failures : S → ℕ} {s t : Page S} → (s.failed ≡ false → IsAfter c program (cycle_count c program) b) → Writes taken failures (end_text b.config (machine_of b)) s t → Writes taken failures (end_text c (last_state c program)) s t
+  pub end_written : (b : BlocksState) {S : Type 0} {taken : S → List ℕ} {failures : S → ℕ} {s t : Page S} → (s.failed ≡ false → IsAfter c program (cycle_count c program) b) → Writes taken failures (end_text b.config b.machine) s t → Writes taken failures (end_text c (last_state c program)) s t
   unfolding last_state
   end_written b {s = s} h w = elim (either s.failed) [
     | inl e ↦ writes_spent (end_text c (after c program (cycle_count c program))) e w

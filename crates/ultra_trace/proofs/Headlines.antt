@@ -12,8 +12,8 @@ use Rattle.ultra_model.specs.Ranges.{AreInRange}
 use Rattle.ultra_law.specs.Replies.{deliveries_in, deliveries}
 use Rattle.ultra_law.proofs.Law.{are_chained}
 use Rattle.ultra_law.proofs.Replies.{answers_after}
-use Rattle.ultra_block.specs.declared.blocks.Blocks.{Blocks}
-use Rattle.ultra_trace.specs.Trace.{got_line, trace}
+use Rattle.ultra_block.specs.State.{BlocksState}
+use Rattle.ultra_lines.specs.Trace.{got_line, trace}
 use Rattle.ultra_trace.specs.BlocksAfter.{IsAfter}
 use Rattle.ultra_trace.specs.Headline.{got_lines, delivery_line, Headline}
 
@@ -43,14 +43,14 @@ module _ (c : Settings) (program : List Instr) where
   }
 
   -- blocks that hold the machine at first are of settings in their ranges; what they say of the trace, the headline says of the settings
-  pub headline_of : (b : Blocks) (old new : List ℕ) → IsAfter c program 0 b → new ≡ old ++ trace b.config b.program → (written : List ℕ) × (new ≡ old ++ written) × Headline c program written
-  headline_of b old new first e = (
+  pub headline_of : (b : BlocksState) (old new : List ℕ) → AreInRange c → IsAfter c program 0 b → new ≡ old ++ trace b.config b.program → (written : List ℕ) × (new ≡ old ++ written) × Headline c program written
+  headline_of b old new range first e = (
     trace c program,
     e ∙ ap (λ t. old ++ t) (ap (λ v. trace v b.program) first.settings ∙ ap (λ p. trace c p) first.instructions),
-    headline (subst (λ v. AreInRange v) first.settings first.whole.range),
+    headline range,
   )
 
-  pub headline_on_ok : {T E : Type 0} (r : Result T E) (b : Blocks) (old new : List ℕ) → IsAfter c program 0 b → OnOk r (new ≡ old ++ trace b.config b.program)
+  pub headline_on_ok : {T E : Type 0} (r : Result T E) (b : BlocksState) (old new : List ℕ) → AreInRange c → IsAfter c program 0 b → OnOk r (new ≡ old ++ trace b.config b.program)
       → OnOk r ((written : List ℕ) × (new ≡ old ++ written) × Headline c program written)
-  headline_on_ok (Ok x) b old new first e = headline_of b old new first e
-  headline_on_ok (Err x) b old new first e = tt
+  headline_on_ok (Ok x) b old new range first e = headline_of b old new range first e
+  headline_on_ok (Err x) b old new range first e = tt

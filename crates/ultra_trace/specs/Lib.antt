@@ -1,6 +1,4 @@
-pub mod Text
-pub mod Trace
-pub mod Page
 pub mod Faults
+pub mod Dealt
 pub mod BlocksAfter
 pub mod Headline

@@ -1,14 +1,10 @@
-//! The trace of a run. What it says and in which order is this project's profile.
+//! The trace of a run: what a machine does from its start to the end, written cycle by cycle.
 #![tactic(auto)]
 
-mod cycle;
-mod ending;
-mod events;
-mod page;
-mod places;
+mod alone;
 mod running;
-mod texts;
+mod start;
 mod together;
 
-pub use cycle::write_cycle;
 pub use running::{RunFault, run, run_alone};
+pub use ultra_lines::write_cycle;

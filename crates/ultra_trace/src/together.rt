@@ -2,22 +2,24 @@
 
 ghost use Rattle.std.specs.Prelude.{◌≡◌, ◌+◌, ◌≤◌, ◌++◌, [], false, OnOk, OnErr, IfOk, IfErr};
 ghost use Rattle.ultra_msg.specs.Bytes.{TakesPrefix};
-ghost use Rattle.ultra_block.specs.BlocksState.{IsWhole};
+ghost use Rattle.ultra_page.specs.Page.{Writes, WritesPrefix, has_failed};
+ghost use Rattle.ultra_lines.specs.Trace.{all_cycles_text, cycle_count, trace};
 ghost use Rattle.ultra_crew.specs.Course.{IsCourse};
-ghost use Rattle.ultra_trace.specs.Trace.{all_cycles_text, cycle_count, trace};
 ghost use Rattle.ultra_trace.specs.Faults.{sink_faults};
 ghost use Rattle.ultra_trace.specs.BlocksAfter.{IsAfter};
-ghost use Rattle.ultra_trace.specs.Page.{Writes, WritesPrefix};
+ghost use Rattle.ultra_trace.specs.Dealt.{IsDealtOut};
 
-use super::page::Page;
-use super::running::{RunFault, most_cycles};
+use crate::alone::{most_cycles, put_and_judge, put_first_line};
+use crate::running::RunFault;
 use std::alloc::Global;
 use std::marker::Brand;
 use std::sync::Wait;
 use std::thread::{self, Threads};
 use ultra_block::Blocks;
 use ultra_crew::{Course, CrewFault, Gate, Shift};
+use ultra_lines::put_end;
 use ultra_msg::Sink;
+use ultra_page::Page;
 
 /// Runs a machine from its start by workers, and writes its trace to a sink. The workers' threads are kept for the whole run, and joined at its end. After a fault the sink has taken a prefix of the trace.
 pub fn write_trace_together<R: Threads + Wait + Sync, G: Gate + Sync, S: Sink>(
@@ -30,6 +32,7 @@ pub fn write_trace_together<R: Threads + Wait + Sync, G: Gate + Sync, S: Sink>(
 ) -> Result<(), RunFault>
     requires some_worker { 1 ≤ workers }
     requires start { IsAfter blocks.config blocks.program 0 blocks }
+    requires dealt { IsDealtOut workers blocks.partition }
     ensures ok { OnOk result (S.taken sink.new ≡ S.taken sink.old ++ trace blocks.config blocks.program) }
     ensures still { OnOk result (S.failures sink.new ≡ S.failures sink.old) }
     ensures err { OnErr result (TakesPrefix (trace blocks.config blocks.program) (S.taken sink.old) (S.taken sink.new)) }
@@ -48,7 +51,7 @@ fn write_by_workers<'s, J: Course + Send, R: Threads + Wait + Sync, G: Gate + Sy
     sink: &'s mut S,
 ) -> (&'s mut S, Result<(), RunFault>)
     requires some_worker { 1 ≤ workers }
-    requires course { IsCourse J.results workers blocks }
+    requires course { IsCourse J.results J.program workers blocks }
     requires start { IsAfter blocks.config blocks.program 0 blocks }
     ensures same_reference { result.0.ghost_name ≡ sink.entry.ghost_name }
     ensures ok { OnOk result.1 (S.taken result.0.now ≡ S.taken sink.entry.now ++ trace blocks.config blocks.program) }
@@ -61,7 +64,7 @@ fn write_by_workers<'s, J: Course + Send, R: Threads + Wait + Sync, G: Gate + Sy
         rt,
         move |scope| -> (&mut S, Result<(), RunFault>)
             requires some_worker { 1 ≤ workers }
-            requires course { IsCourse J.results workers blocks }
+            requires course { IsCourse J.results J.program workers blocks }
             requires start { IsAfter blocks.config blocks.program 0 blocks }
             ensures same_reference { result.0.ghost_name ≡ sink.entry.ghost_name }
             ensures ok { OnOk result.1 (S.taken result.0.now ≡ S.taken sink.entry.now ++ trace blocks.config blocks.program) }
@@ -69,7 +72,7 @@ fn write_by_workers<'s, J: Course + Send, R: Threads + Wait + Sync, G: Gate + Sy
             ensures err { OnErr result.1 (TakesPrefix (trace blocks.config blocks.program) (S.taken sink.entry.now) (S.taken result.0.now)) }
             ensures counted { IfErr result.1 (λ e. S.failures result.0.now ≡ S.failures sink.entry.now + sink_faults e) }
         {
-            match Shift::<J>::begin(scope, rt, alloc, workers, gate) {
+            match Shift::<J>::begin(scope, rt, alloc, workers, gate, blocks.program()) {
                 Ok(shift) => {
                     let result = write_by_shift(rt, alloc, blocks, &shift, sink);
                     shift.end(rt);
@@ -90,7 +93,7 @@ fn write_by_shift<J: Course, R: Wait, S: Sink>(
     sink: &mut S,
 ) -> Result<(), RunFault>
     requires some_worker { 1 ≤ shift.now }
-    requires course { IsCourse J.results shift.now blocks }
+    requires course { IsCourse J.results J.program shift.now blocks }
     requires start { IsAfter blocks.config blocks.program 0 blocks }
     ensures ok { OnOk result (S.taken sink.new ≡ S.taken sink.old ++ trace blocks.config blocks.program) }
     ensures still { OnOk result (S.failures sink.new ≡ S.failures sink.old) }
@@ -98,83 +101,58 @@ fn write_by_shift<J: Course, R: Wait, S: Sink>(
     ensures counted { IfErr result (λ e. S.failures sink.new ≡ S.failures sink.old + sink_faults e) }
 {
     let mut page = Page::new(sink);
-    page.put_whole_together(rt, alloc, blocks, shift)
+    put_trace_together(&mut page, rt, alloc, blocks, shift)?;
+    page.finish()?;
+    Ok(())
 }
 
-impl<'s, S: Sink> Page<'s, S> {
-    /// Runs a machine from its start by workers, and writes its trace on an empty page, to the end. After a fault of theirs what waits on the page is not handed on.
-    fn put_whole_together<J: Course, R: Wait>(
-        &mut self,
-        rt: &R,
-        alloc: Global,
-        blocks: Blocks,
-        shift: &Shift<J>,
-    ) -> Result<(), RunFault>
-        requires some_worker { 1 ≤ shift.now }
-        requires course { IsCourse J.results shift.now blocks }
-        requires start { IsAfter blocks.config blocks.program 0 blocks }
-        requires empty { self.old.waiting.items ≡ [] }
-        requires sound { self.old.failed ≡ false }
-        ensures same_reference { self.new.sink.ghost_name ≡ self.old.sink.ghost_name }
-        ensures ok { OnOk result (S.taken self.new.sink.now ≡ S.taken self.old.sink.now ++ trace blocks.config blocks.program) }
-        ensures still { OnOk result (S.failures self.new.sink.now ≡ S.failures self.old.sink.now) }
-        ensures err { OnErr result (TakesPrefix (trace blocks.config blocks.program) (S.taken self.old.sink.now) (S.taken self.new.sink.now)) }
-        ensures counted { IfErr result (λ e. S.failures self.new.sink.now ≡ S.failures self.old.sink.now + sink_faults e) }
-    {
-        self.put_trace_together(rt, alloc, blocks, shift)?;
-        self.finish()?;
-        Ok(())
+/// Runs a machine from its start by workers, and writes its trace. It ends early where the sink or a worker fails.
+fn put_trace_together<J: Course, R: Wait, S: Sink>(
+    page: &mut Page<'_, S>,
+    rt: &R,
+    alloc: Global,
+    blocks: Blocks,
+    shift: &Shift<J>,
+) -> Result<(), CrewFault>
+    requires some_worker { 1 ≤ shift.now }
+    requires course { IsCourse J.results J.program shift.now blocks }
+    requires start { IsAfter blocks.config blocks.program 0 blocks }
+    requires sound { has_failed page.old ≡ false }
+    ensures ok { OnOk result (Writes S.taken S.failures (trace blocks.config blocks.program) page.old page.new) }
+    ensures err { OnErr result (WritesPrefix S.taken S.failures (trace blocks.config blocks.program) page.old page.new) }
+    ensures sound { OnErr result (has_failed page.new ≡ false) }
+{
+    put_first_line(page);
+    if page.has_failed() {
+        return Ok(());
     }
+    let blocks = put_cycles_together(page, rt, alloc, blocks, shift)?;
+    put_end(page, &blocks);
+    Ok(())
+}
 
-    /// Runs a machine from its start by workers, and writes its trace. It ends early where the sink or a worker fails.
-    fn put_trace_together<J: Course, R: Wait>(
-        &mut self,
-        rt: &R,
-        alloc: Global,
-        blocks: Blocks,
-        shift: &Shift<J>,
-    ) -> Result<(), CrewFault>
-        requires some_worker { 1 ≤ shift.now }
-        requires course { IsCourse J.results shift.now blocks }
-        requires start { IsAfter blocks.config blocks.program 0 blocks }
-        requires sound { self.old.failed ≡ false }
-        ensures ok { OnOk result (Writes S.taken S.failures (trace blocks.config blocks.program) self.old self.new) }
-        ensures err { OnErr result (WritesPrefix S.taken S.failures (trace blocks.config blocks.program) self.old self.new) }
-        ensures sound { OnErr result (self.new.failed ≡ false) }
-    {
-        self.put_first_line();
-        if self.has_failed() {
-            return Ok(());
+/// Runs a machine from its start to the end of its trace by workers, and writes all cycles. It ends early where the sink or a worker fails.
+fn put_cycles_together<J: Course, R: Wait, S: Sink>(
+    page: &mut Page<'_, S>,
+    rt: &R,
+    alloc: Global,
+    mut blocks: Blocks,
+    shift: &Shift<J>,
+) -> Result<Blocks, CrewFault>
+    requires some_worker { 1 ≤ shift.now }
+    requires course { IsCourse J.results J.program shift.now blocks }
+    requires start { IsAfter blocks.config blocks.program 0 blocks }
+    requires sound { has_failed page.old ≡ false }
+    ensures writes { OnOk result (Writes S.taken S.failures (all_cycles_text blocks.config blocks.program) page.old page.new) }
+    ensures end { IfOk result (λ b. has_failed page.new ≡ false → IsAfter blocks.config blocks.program (cycle_count blocks.config blocks.program) b) }
+    ensures err { OnErr result (WritesPrefix S.taken S.failures (all_cycles_text blocks.config blocks.program) page.old page.new) }
+    ensures sound { OnErr result (has_failed page.new ≡ false) }
+{
+    for _ in 0..most_cycles(&blocks) {
+        blocks = shift.cycle(rt, alloc, blocks)?;
+        if put_and_judge(page, &blocks) {
+            return Ok(blocks);
         }
-        let blocks = self.put_cycles_together(rt, alloc, blocks, shift)?;
-        self.put_end(&blocks);
-        Ok(())
     }
-
-    /// Runs a machine from its start to the end of its trace by workers, and writes all cycles. It ends early where the sink or a worker fails.
-    fn put_cycles_together<J: Course, R: Wait>(
-        &mut self,
-        rt: &R,
-        alloc: Global,
-        mut blocks: Blocks,
-        shift: &Shift<J>,
-    ) -> Result<Blocks, CrewFault>
-        requires some_worker { 1 ≤ shift.now }
-        requires course { IsCourse J.results shift.now blocks }
-        requires start { IsAfter blocks.config blocks.program 0 blocks }
-        requires sound { self.old.failed ≡ false }
-        ensures writes { OnOk result (Writes S.taken S.failures (all_cycles_text blocks.config blocks.program) self.old self.new) }
-        ensures whole { IfOk result (λ b. IsWhole b) }
-        ensures end { IfOk result (λ b. self.new.failed ≡ false → IsAfter blocks.config blocks.program (cycle_count blocks.config blocks.program) b) }
-        ensures err { OnErr result (WritesPrefix S.taken S.failures (all_cycles_text blocks.config blocks.program) self.old self.new) }
-        ensures sound { OnErr result (self.new.failed ≡ false) }
-    {
-        for _ in 0..most_cycles(&blocks) {
-            blocks = shift.cycle(rt, alloc, blocks)?;
-            if self.put_and_judge(&blocks) {
-                return Ok(blocks);
-            }
-        }
-        Ok(blocks)
-    }
+    Ok(blocks)
 }

@@ -1,9 +1,10 @@
-use Rattle.std.proofs.Common.{◌≡◌, ◌*◌, ◌-◌, ◌^◌, length}
-use Rattle.ultra_block.specs.Built.{AreBuilt}
+use Rattle.std.proofs.Common.{◌≡◌, ◌^◌}
+use Rattle.ultra_block.specs.Fresh.{first_element}
+use Rattle.ultra_block.proofs.Placed.{ArePut}
 use Rattle.ultra_block.proofs.building.add_elements.Given as goal
 
 abbrev pub invariant-loop-pe : goal.invariant-loop-pe
 invariant-loop-pe l = record {
-  built : AreBuilt l.config (l.config.stages * 2 ^ (l.config.stages - 1)) (2 ^ l.config.stages) l.pe l.homes.items l.blocks.items;
-  count : length l.blocks.items ≡ length l.initial.blocks.items;
+  put : ArePut (first_element l.config) (2 ^ l.config.stages) l.pe l.block.elements;
+  rest : l.block ≡ record l.initial.block { elements = l.block.elements };
 }

@@ -1,9 +1,10 @@
-use Rattle.std.proofs.Common.{◌≡◌, ◌*◌, ◌-◌, ◌^◌, length}
-use Rattle.ultra_block.specs.Built.{AreBuilt}
+use Rattle.std.proofs.Common.{◌≡◌, ◌^◌}
+use Rattle.ultra_block.specs.Fresh.{first_bank}
+use Rattle.ultra_block.proofs.Placed.{ArePut}
 use Rattle.ultra_block.proofs.building.add_modules.Given as goal
 
 abbrev pub invariant-loop-number : goal.invariant-loop-number
 invariant-loop-number l = record {
-  built : AreBuilt l.config (l.config.stages * 2 ^ (l.config.stages - 1)) l.number 0 l.homes.items l.blocks.items;
-  count : length l.blocks.items ≡ length l.initial.blocks.items;
+  put : ArePut (first_bank l.config) (2 ^ l.config.stages) l.number l.block.modules;
+  rest : l.block ≡ record l.initial.block { modules = l.block.modules };
 }

@@ -1,29 +1,15 @@
-use Rattle.std.proofs.Common.{◌≡◌, ◌+◌, ◌-◌, ◌/◌, ◌%◌, ◌^◌, ◌<◌, [], ◌∷◌, ◌++◌, arith, ap, ◌∙◌, sym, subst, length, get_or, set}
-use Rattle.std.proofs.lemmas.List.{length-set}
-use Rattle.ultra_block.specs.BlockSteps.{with_switch}
-use Rattle.ultra_block.specs.Built.{AreBuilt, made_switch}
-use Rattle.ultra_block.specs.Cut.{no_block}
-use Rattle.ultra_block.specs.Fresh.{new_switch}
-use Rattle.ultra_block.proofs.UnitByUnit.{switch_put}
+use Rattle.std.proofs.Common.{◌≡◌, ℕ, arith, ap, ◌∙◌, subst}
+use Rattle.ultra_units.specs.Numbers.{switch_count}
+use Rattle.ultra_course.specs.Whole.{empty_switch}
+use Rattle.ultra_block.proofs.Placed.{ArePut, all_put}
 use Rattle.ultra_block.proofs.building.add_switches.Goals as goal
 
-pub loop-number-preserved : goal.loop-number-preserved
-loop-number-preserved c =
-    let config = c.args.config.now in
-    let n = c.loop-number.number in
-    let bs = c.loop-number.blocks.items in
-    let b = get_or c.args.partition.now n 0 in
-    let even = rw c.net.ensures at c.size-half.ensures.even in
-    let half : c.size-half.result / 2 ≡ 2 ^ (config.stages - 1) = omega (arith, even) in
-    let test = rw (c.stages.ensures.value, half) at c.loop-number-test.true in
-    let within : n < length c.args.partition.now = omega (arith, test, c.requires.units) in
-    let place = c.requires.places n 0 within in
-    let there : b < length bs = omega (arith, place, c.loop-number.invariant.count) in
-    let unit = c.in_ok-unit.ensures ∙ ap (λ h. new_switch config (n / h) (n % h)) half in
-    let blocks = c.in_ok-put_switch.ensures.blocks ∙ ap (λ u. set bs b (with_switch (get_or bs b no_block) u)) unit in
-    record {
-      built = subst (λ hs. AreBuilt config (n + 1) 0 0 hs c.put_switch.new.blocks.items) (sym c.in_ok-put_switch.ensures.homes)
-          (subst (λ xs. AreBuilt config (n + 1) 0 0 (c.loop-number.homes.items ++ record { block = b; index = length (get_or bs b no_block).switches } ∷ []) xs) (sym blocks)
-          (switch_put config c.loop-number.homes.items bs b there n c.loop-number.invariant.built));
-      count = ap (λ xs. length xs) blocks ∙ length-set bs b (with_switch (get_or bs b no_block) (made_switch config n)) ∙ c.loop-number.invariant.count;
-    }
+pub returns : goal.returns
+returns c =
+    let b = c.loop-number.block in
+    let f = λ (n : ℕ). empty_switch c.args.config.now in
+    let count = rw (c.net-net.ensures.value, c.requires) at c.switch_count-number-end.ensures.value in
+    let all : c.loop-number.number ≡ switch_count c.args.config.now.stages = omega (arith, count, c.loop-number.auto.number-end, c.loop-number-test.false) in
+    c.loop-number.invariant.rest
+    ∙ ap (λ xs. record c.args.block.now { switches = xs })
+    (all_put f (switch_count c.args.config.now.stages) b.switches (subst (λ n. ArePut f (switch_count c.args.config.now.stages) n b.switches) all c.loop-number.invariant.put))

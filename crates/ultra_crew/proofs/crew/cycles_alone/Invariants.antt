@@ -1,5 +1,6 @@
-use Rattle.ultra_crew.specs.Cycles.{HasMade}
+use Rattle.std.proofs.Common.{◌≡◌}
+use Rattle.ultra_crew.specs.Course.{later}
 use Rattle.ultra_crew.proofs.crew.cycles_alone.Given as goal
 
 abbrev pub invariant-loop : goal.invariant-loop
-invariant-loop l = HasMade l.counter l.initial.blocks l.blocks
+invariant-loop l = l.blocks ≡ later l.counter l.initial.blocks

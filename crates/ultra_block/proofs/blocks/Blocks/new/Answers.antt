@@ -1,30 +1,36 @@
 use Rattle.std.proofs.Common.{ap, ◌∙◌, sym, subst}
-use Rattle.ultra_block.specs.Cut.{units_at, HasLinks, HasPlaces}
-use Rattle.ultra_block.specs.Ready.{machine_from, IsReady}
-use Rattle.ultra_model.proofs.Ranged.{in_range}
-use Rattle.ultra_block.proofs.UnitByUnit.{built_ready, built_starts}
+use Rattle.ultra_block.specs.Fresh.{IsFresh}
+use Rattle.ultra_block.specs.Dealt.{IsDealt}
+use Rattle.ultra_cut.specs.Moments.{AreWhole, machine_in}
+use Rattle.ultra_block.proofs.Dealt.{dealt_machine, dealt_whole, fresh_machine, fresh_whole}
 use Rattle.ultra_block.proofs.blocks.Blocks.new.Goals as goal
 
-pub returns-clause-whole : goal.returns-clause-whole
-returns-clause-whole c =
-    let config = c.args.config.now in
-    let hs = c.in_ok-homes.homes.items in
-    let bs = c.in_ok-homes.blocks.items in
-    let rooms = c.in_ok-rooms.rooms in
-    let mail = c.in_ok-rooms.mail in
-    let places = subst (λ d. HasPlaces d rooms) c.net-net.ensures c.in_ok-rooms.ensures.rooms in
-    let links = subst (λ d. HasLinks d mail) c.net-net.ensures c.in_ok-rooms.ensures.links in
-    subst (λ s. IsReady s hs 0 bs rooms mail) (sym c.in_ok-settings.ensures)
-    (built_ready config (in_range config c.initial-valid.ensures.valid) hs bs rooms mail c.in_ok-homes.ensures places links)
+pub invariant_of-result : goal.invariant_of-result
+invariant_of-result c =
+    let s = c.args.config.now in
+    let b = c.in_ok-block.block in
+    let partition = c.args.partition.now in
+    let now = c.in_ok-blocks.blocks.items in
+    let fresh : IsFresh s b = c.in_ok-block.ensures in
+    let was = fresh_whole s b fresh in
+    let dealt : IsDealt s.stages partition b now = subst (λ d. IsDealt d partition b now) c.net.ensures c.in_ok-blocks.ensures.dealt in
+    record {
+      whole =
+          subst (λ k. AreWhole k c.in_ok-homes.homes.items 0 now) (sym c.in_ok-settings.ensures)
+          (subst (λ q. AreWhole s q 0 now) (sym c.in_ok-homes.ensures.items) (dealt_whole s 0 b was partition now dealt));
+      few = dealt.few;
+    }
 
 pub returns-clause-state : goal.returns-clause-state
 returns-clause-state c =
-    let config = c.args.config.now in
-    let hs = c.in_ok-homes.homes.items in
-    let bs = c.in_ok-homes.blocks.items in
-    let rooms = c.in_ok-rooms.rooms in
-    let mail = c.in_ok-rooms.mail in
-    let places = subst (λ d. HasPlaces d rooms) c.net-net.ensures c.in_ok-rooms.ensures.rooms in
-    let links = subst (λ d. HasLinks d mail) c.net-net.ensures c.in_ok-rooms.ensures.links in
-    ap (λ s. machine_from s (units_at s.stages hs bs) 0) c.in_ok-settings.ensures
-    ∙ built_starts config (in_range config c.initial-valid.ensures.valid) hs bs rooms mail c.in_ok-homes.ensures places links
+    let s = c.args.config.now in
+    let b = c.in_ok-block.block in
+    let partition = c.args.partition.now in
+    let now = c.in_ok-blocks.blocks.items in
+    let fresh : IsFresh s b = c.in_ok-block.ensures in
+    let was = fresh_whole s b fresh in
+    let dealt : IsDealt s.stages partition b now = subst (λ d. IsDealt d partition b now) c.net.ensures c.in_ok-blocks.ensures.dealt in
+    ap (λ k. machine_in k c.in_ok-homes.homes.items 0 now) c.in_ok-settings.ensures
+    ∙ ap (λ q. machine_in s q 0 now) c.in_ok-homes.ensures.items
+    ∙ dealt_machine s 0 b was partition now dealt
+    ∙ fresh_machine s b fresh

@@ -1,42 +1,41 @@
-use Rattle.ultra_block.proofs.Course.{makes_cycle, whole_again, settings_same, program_same, one_more_done}
-use Rattle.ultra_crew.proofs.Courses.{course_after}
+use Rattle.std.proofs.Common.{rules, ◌≡◌, ◌^◌, ◌<◌, arith, ap, ◌∙◌, sym, subst}
+use Rattle.std.specs.Prelude.{◌-◌}
+use Rattle.ultra_model.specs.Phases.{cycle}
+use Rattle.ultra_block.specs.State.{BlocksState}
+use Rattle.ultra_block.proofs.Seen.{cycles_are}
+use Rattle.ultra_crew.specs.Start.{state_of}
+use Rattle.ultra_crew.specs.Course.{results_in}
+use Rattle.ultra_crew.proofs.Counted.{course_goes_on, results_now}
 use Rattle.ultra_crew.proofs.shift.Shift.cycle.Goals as goal
 
-pub request_and_execute-requires-clause-served : goal.request_and_execute-requires-clause-served
-request_and_execute-requires-clause-served g c = record {
-  old = c.args.blocks;
-  whole = c.requires.whole;
-  counted = c.requires.counted;
-  course = c.requires.course;
-  served = c.in_ok-blocks.ensures;
-}
+pub make_cycle-requires-clause-counted : goal.make_cycle-requires-clause-counted
+make_cycle-requires-clause-counted g c =
+    let p = c.into_parts-config.result in
+    let done : p.done ≡ c.args.blocks.machine.cycles = sym (cycles_are p.config p.partition.items p.done p.blocks.items) ∙ ap (λ (b : BlocksState). b.machine.cycles) c.into_parts-config.ensures.value in
+    subst (λ n. n < 2 ^ 32 - 1) (sym done) c.requires.counted
 
-pub returns-clause-state : goal.returns-clause-state
-returns-clause-state g c =
-    let old = c.args.blocks in
-    makes_cycle old c.in_ok-blocks-2.blocks c.requires.whole c.end_cycle.new.self (c.in_ok-blocks-2.ensures old c.in_ok-blocks.ensures) c.end_cycle.ensures
+pub make_cycle-requires-clause-settled : goal.make_cycle-requires-clause-settled
+make_cycle-requires-clause-settled g c h w =
+    let p = c.into_parts-config.result in
+    let workers = c.args.self.now in
+    let done : p.done ≡ c.args.blocks.machine.cycles = sym (cycles_are p.config p.partition.items p.done p.blocks.items) ∙ ap (λ (b : BlocksState). b.machine.cycles) c.into_parts-config.ensures.value in
+    let same : state_of p.config g.J.Course.program c.as_slice.result.now p.done p.blocks.items ≡ c.args.blocks =
+    ap (λ q. state_of p.config q c.as_slice.result.now p.done p.blocks.items) (c.requires.course.program_is ∙ sym (ap (λ (b : BlocksState). b.program) c.into_parts-config.ensures.value))
+    ∙ ap (λ part. state_of p.config p.program part p.done p.blocks.items) c.as_slice.ensures.value
+    ∙ c.into_parts-config.ensures.value in
+    ap (λ k. g.J.Course.results k h w) done
+    ∙ results_now g.J.Course.results g.J.Course.program workers c.args.blocks c.requires.course h w
+    ∙ ap (λ b. results_in workers b h w) (sym same)
 
-pub returns-clause-whole : goal.returns-clause-whole
-returns-clause-whole g c =
-    let old = c.args.blocks in
-    whole_again old c.in_ok-blocks-2.blocks c.requires.whole c.end_cycle.new.self (c.in_ok-blocks-2.ensures old c.in_ok-blocks.ensures) c.end_cycle.ensures
-
-pub returns-clause-settings : goal.returns-clause-settings
-returns-clause-settings g c =
-    let old = c.args.blocks in
-    settings_same old c.in_ok-blocks-2.blocks c.requires.whole c.end_cycle.new.self (c.in_ok-blocks-2.ensures old c.in_ok-blocks.ensures) c.end_cycle.ensures
-
-pub returns-clause-program : goal.returns-clause-program
-returns-clause-program g c =
-    let old = c.args.blocks in
-    program_same old c.in_ok-blocks-2.blocks c.requires.whole c.end_cycle.new.self (c.in_ok-blocks-2.ensures old c.in_ok-blocks.ensures) c.end_cycle.ensures
-
-pub returns-clause-done : goal.returns-clause-done
-returns-clause-done g c =
-    let old = c.args.blocks in
-    one_more_done old c.in_ok-blocks-2.blocks c.requires.whole c.end_cycle.new.self (c.in_ok-blocks-2.ensures old c.in_ok-blocks.ensures) c.end_cycle.ensures
+pub overflow_add-done : goal.overflow_add-done
+overflow_add-done g c =
+    let p = c.into_parts-config.result in
+    let done : p.done ≡ c.args.blocks.machine.cycles = sym (cycles_are p.config p.partition.items p.done p.blocks.items) ∙ ap (λ (b : BlocksState). b.machine.cycles) c.into_parts-config.ensures.value in
+    let early : p.done < 2 ^ 32 - 1 = subst (λ n. n < 2 ^ 32 - 1) (sym done) c.requires.counted in
+    omega (arith, early)
 
 pub returns-clause-course : goal.returns-clause-course
 returns-clause-course g c =
-    let old = c.args.blocks in
-    course_after g.J.Course.results c.args.self.now old c.requires.course c.in_ok-blocks-2.blocks c.end_cycle.new.self (c.in_ok-blocks-2.ensures old c.in_ok-blocks.ensures) c.end_cycle.ensures
+    let b = c.args.blocks in
+    let is : c.of_parts.result ≡ record b { machine = cycle b.config b.program b.machine } = search rules in
+    course_goes_on g.J.Course.results g.J.Course.program c.args.self.now b c.requires.course c.of_parts.result is

@@ -1,0 +1,125 @@
+-- A machine in one block is a whole machine before its first cycle, and stays one when it is dealt to blocks.
+use Rattle.std.proofs.Common.{◌≡◌, ℕ, zero, suc, ◌<◌, ◌≤◌, List, [], ◌∷◌, map, All, length, get_or, arith, refl, ap, ◌∙◌, sym, subst}
+use Rattle.std.specs.List.Sorted.{IsNonDecreasing}
+use Rattle.ultra_msg.specs.declared.Event.{Event}
+use Rattle.ultra_model.specs.declared.Stop.{Stop}
+use Rattle.ultra_model.specs.Machine.{Settings, start}
+use Rattle.ultra_model.specs.Sound.{IsSound}
+use Rattle.ultra_section.specs.BlockState.{BlockState}
+use Rattle.ultra_course.specs.Whole.{emptied, whole}
+use Rattle.ultra_mem.specs.Serve.{Bank}
+use Rattle.ultra_halves.specs.declared.elements.ProcessingElement.{ProcessingElement}
+use Rattle.ultra_course.proofs.AtFrame.{whole_alike}
+use Rattle.ultra_cut.specs.Cut.{block_at, frame_of}
+use Rattle.ultra_cut.specs.Events.{event_rank, events_of, stops_of}
+use Rattle.ultra_cut.specs.InOrder.{IsInOrder}
+use Rattle.ultra_merge.proofs.Merged.{merged_none, merged_of}
+use Rattle.ultra_block.specs.Fresh.{IsFresh, frame_of_one, one_block}
+use Rattle.ultra_block.specs.Dealt.{IsDealt}
+use Rattle.ultra_cut.specs.Moments.{AreWhole, machine_in}
+
+-- ---- what blocks tell
+tells_same : (d : ℕ) (x y : BlockState) → x.events ≡ y.events → x.stops ≡ y.stops → IsInOrder d y → IsInOrder d x
+tells_same d x y events stops order = record {
+  events = subst (λ es. IsNonDecreasing (map (event_rank d) es)) (sym events) order.events;
+  ranks = subst (λ es. All (λ e. event_rank d e < 1280) es) (sym events) order.ranks;
+  stops = subst (λ ss. IsNonDecreasing (map (λ (s : Stop). s.pe) ss)) (sym stops) order.stops;
+  elements = subst (λ ss. All (λ (s : Stop). s.pe < 64) ss) (sym stops) order.elements;
+}
+
+none_fall : {X : Type 0} (f : X → ℕ) → IsNonDecreasing (map f [])
+none_fall f i j d order within = absurd (omega arith)
+
+none_fail : {X : Type 0} (P : X → Type 0) → All P []
+none_fail P i d within = absurd (omega arith)
+
+tells_nothing : (d : ℕ) (x : BlockState) → x.events ≡ [] → x.stops ≡ [] → IsInOrder d x
+tells_nothing d x events stops = record {
+  events = subst (λ es. IsNonDecreasing (map (event_rank d) es)) (sym events) (none_fall (event_rank d));
+  ranks = subst (λ es. All (λ e. event_rank d e < 1280) es) (sym events) (none_fail (λ (e : Event). event_rank d e < 1280));
+  stops = subst (λ ss. IsNonDecreasing (map (λ (s : Stop). s.pe) ss)) (sym stops) (none_fall (λ (s : Stop). s.pe));
+  elements = subst (λ ss. All (λ (s : Stop). s.pe < 64) ss) (sym stops) (none_fail (λ (s : Stop). s.pe < 64));
+}
+
+-- of one block that tells nothing, nothing is told
+one_empty : {X : Type 0} (xs : List X) → xs ≡ [] → (i : ℕ) → i < 1 → get_or {A = List X} (xs ∷ []) i [] ≡ []
+one_empty xs none zero h = none
+one_empty xs none (suc i) h = absurd (omega arith)
+
+no_events : (d : ℕ) (b : BlockState) → b.events ≡ [] → events_of d (b ∷ []) ≡ []
+unfolding events_of
+no_events d b none = sym (merged_of (event_rank d) 1280 (λ (x : BlockState). x.events) (b ∷ [])) ∙ merged_none (event_rank d) 1280 (b.events ∷ []) (one_empty b.events none)
+
+no_stops : (d : ℕ) (b : BlockState) → b.stops ≡ [] → stops_of d (b ∷ []) ≡ []
+unfolding stops_of
+no_stops d b none = sym (merged_of (λ (s : Stop). s.pe) 64 (λ (x : BlockState). x.stops) (b ∷ [])) ∙ merged_none (λ (s : Stop). s.pe) 64 (b.stops ∷ []) (one_empty b.stops none)
+
+-- ---- before the first cycle
+module _ (c : Settings) (b : BlockState) (fresh : IsFresh c b) where
+  abbrev one : List ℕ
+  one = one_block c.stages
+
+  pub fresh_machine : machine_in c one 0 (b ∷ []) ≡ start c
+  fresh_machine =
+      ap (λ es. whole c (frame_of_one c.stages b) 0 es (stops_of c.stages (b ∷ []))) (no_events c.stages b fresh.events)
+      ∙ ap (λ ss. whole c (frame_of_one c.stages b) 0 [] ss) (no_stops c.stages b fresh.stops)
+      ∙ fresh.machine.machine
+
+  only_block : (P : BlockState → Type 0) → P b → (k : ℕ) → k < 1 → P (block_at (b ∷ []) k)
+  only_block P h zero within = h
+  only_block P h (suc k) within = absurd (omega arith)
+
+  pub fresh_whole : AreWhole c one 0 (b ∷ [])
+  fresh_whole = record {
+    machine = record {
+      blocks = fresh.blocks;
+      done = only_block (λ x. x.done ≡ 0) fresh.done;
+      machine = record { range = fresh.machine.range; fits = fresh.machine.fits; machine = refl; sound = subst (λ m. IsSound c m) (sym fresh_machine) fresh.machine.sound };
+    };
+    clear = fresh.clear;
+    in_order = only_block (λ x. IsInOrder c.stages x) (tells_nothing c.stages b fresh.events fresh.stops);
+  }
+
+-- ---- dealt to blocks
+module _ (c : Settings) (n : ℕ) (b : BlockState) (was : AreWhole c (one_block c.stages) n (b ∷ [])) (partition : List ℕ) (now : List BlockState) (dealt : IsDealt c.stages partition b now) where
+  abbrev d : ℕ
+  d = c.stages
+
+  pub dealt_machine : machine_in c partition n now ≡ machine_in c (one_block d) n (b ∷ [])
+  dealt_machine =
+      whole_alike c was.machine.machine.range (frame_of d partition now) (frame_of_one d b) dealt.frame n (events_of d now) (stops_of d now)
+      ∙ ap (λ es. whole c (frame_of_one d b) n es (stops_of d now)) dealt.events
+      ∙ ap (λ ss. whole c (frame_of_one d b) n (events_of d (b ∷ [])) ss) dealt.stops
+
+  block_in_order : (k : ℕ) → k < length now → IsInOrder d (block_at now k)
+  block_in_order zero within = tells_same d (block_at now 0) b dealt.told.events dealt.told.stops (was.in_order 0 (omega arith))
+  block_in_order (suc k) within =
+      let silent = dealt.silent (suc k) (omega arith) within in
+      tells_nothing d (block_at now (suc k)) silent.events silent.stops
+
+  pub dealt_whole : AreWhole c partition n now
+  dealt_whole =
+      let w = was.machine.machine in
+      record {
+        machine = record {
+          blocks = dealt.blocks;
+          done = λ k h. dealt.done k h ∙ was.machine.done 0 (omega arith);
+          machine = record {
+            range = w.range;
+            fits = record {
+              switches = λ q h. ap (λ x. emptied x) (dealt.frame.switches q h) ∙ w.fits.switches q h;
+              cells = λ m h. ap (λ (x : Bank). length x.cells) (dealt.frame.banks m h) ∙ w.fits.cells m h;
+              sites = λ p h. ap (λ (e : ProcessingElement). e.processor.site) (dealt.frame.elements p h) ∙ w.fits.sites p h;
+              most_open = λ p h. ap (λ (e : ProcessingElement). e.interface.most_open) (dealt.frame.elements p h) ∙ w.fits.most_open p h;
+              issued = λ p h. subst (λ (e : ProcessingElement). e.issued ≤ n) (sym (dealt.frame.elements p h)) (w.fits.issued p h);
+            };
+            machine = refl;
+            sound = subst (λ m. IsSound c m) (sym dealt_machine) w.sound;
+          };
+        };
+        clear = record {
+          replies = λ l h. dealt.frame.replies l h ∙ was.clear.replies l h;
+          requests = λ l h. dealt.frame.requests l h ∙ was.clear.requests l h;
+        };
+        in_order = block_in_order;
+      }

@@ -1,0 +1,43 @@
+-- a whole machine cut into blocks, as contracts see it
+use Rattle.std.specs.Prelude.{ℕ, ◌≤◌, List, length}
+use Rattle.ultra_msg.specs.declared.Event.{Event}
+use Rattle.ultra_isa.specs.declared.Instr.{Instr}
+use Rattle.ultra_model.specs.declared.Stop.{Stop}
+use Rattle.ultra_model.specs.Machine.{Settings, Machine}
+use Rattle.ultra_cut.specs.Events.{event_rank}
+use Rattle.ultra_merge.specs.Merging.{Remainder, merged}
+use Rattle.ultra_cut.specs.Moments.{AreWhole, machine_in}
+use Rattle.ultra_block.specs.declared.parts.Parts.{Parts}
+use Rattle.ultra_block.specs.declared.ranks.ByRules.{ByRules}
+use Rattle.ultra_block.specs.declared.ranks.ByElement.{ByElement}
+
+-- its settings, its program, the block of each unit, how many blocks there are, and the machine of
+-- the definition, which is the same for every partition
+pub record BlocksState : Type 0 where
+  pub config : Settings
+  pub program : List Instr
+  pub partition : List ℕ
+  pub count : ℕ
+  pub machine : Machine
+
+-- what the parts of a machine are, put together between two cycles
+abbrev pub put_together : Parts → BlocksState
+put_together p = record {
+  config = p.config;
+  program = p.program;
+  partition = p.partition.items;
+  count = length p.blocks.items;
+  machine = machine_in p.config p.partition.items p.done p.blocks.items;
+}
+
+-- they may be put together
+pub record AreParts (p : Parts) : Type 0 where
+  pub whole : AreWhole p.config p.partition.items p.done p.blocks.items
+  pub few : length p.blocks.items ≤ 64
+
+-- the events and the faults that are still to come
+abbrev pub events_left : Remainder ByRules Event → List Event
+events_left m = merged (event_rank m.ranking.net) 1280 m.lists
+
+abbrev pub stops_left : Remainder ByElement Stop → List Stop
+stops_left m = merged (λ (s : Stop). s.pe) 64 m.lists

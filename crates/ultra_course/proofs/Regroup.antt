@@ -1,0 +1,75 @@
+-- a table of lists by stage and position, joined, and the same by the numbers of the switches
+use Rattle.std.proofs.Common.{◌≡◌, ℕ, zero, suc, ◌+◌, ◌*◌, ◌-◌, ◌^◌, List, [], ◌∷◌, ◌++◌, refl, arith, ap, ◌∙◌, sym, append_assoc, append-nil}
+use Rattle.ultra_model.specs.Places.{places, table, joined}
+use Rattle.ultra_model.proofs.Each.{places_none, places_more}
+use Rattle.ultra_course.specs.Course.{at_switch}
+use Rattle.ultra_course.proofs.Numbers.{at_number}
+use Rattle.ultra_course.proofs.AtFrame.{same_places}
+
+joined-append : {X : Type 0} (xss yss : List (List X)) → joined (xss ++ yss) ≡ joined xss ++ joined yss
+joined-append [] yss = refl
+joined-append (xs ∷ rest) yss = ap (λ ys. xs ++ ys) (joined-append rest yss) ∙ sym (append_assoc xs (joined rest) (joined yss))
+
+joined_none : {X : Type 0} (g : ℕ → List X) → joined (places 0 g) ≡ []
+joined_none g = ap (λ xss. joined xss) (places_none g)
+
+-- one list more
+joined_next : {X : Type 0} (g : ℕ → List X) (i n : ℕ) → i ≡ n + 1 → joined (places i g) ≡ joined (places n g) ++ g n
+joined_next g i n e =
+    ap (λ i. joined (places i g)) e
+    ∙ ap (λ xss. joined xss) (places_more n g)
+    ∙ joined-append (places n g) (g n ∷ [])
+    ∙ ap (λ xs. joined (places n g) ++ xs) (append-nil (g n))
+
+-- n lists, and then k more
+joined_split : {X : Type 0} (n k : ℕ) (g : ℕ → List X) → joined (places (n + k) g) ≡ joined (places n g) ++ joined (places k (λ i. g (n + i)))
+joined_split n zero g =
+    let none : n + 0 ≡ n = omega arith in
+    let front = joined (places n g) in
+    ap (λ i. joined (places i g)) none ∙ sym (append-nil front) ∙ ap (λ xs. front ++ xs) (sym (joined_none (λ i. g (n + i))))
+joined_split n (suc k) g =
+    let front = joined (places n g) in
+    let rest = joined (places k (λ i. g (n + i))) in
+    joined_next g (n + suc k) (n + k) (omega arith)
+    ∙ ap (λ xs. xs ++ g (n + k)) (joined_split n k g)
+    ∙ append_assoc front rest (g (n + k))
+    ∙ ap (λ xs. front ++ xs) (sym (joined_next (λ i. g (n + i)) (suc k) k (omega arith)))
+
+-- two by two
+pairs : {X : Type 0} (h n : ℕ) (g : ℕ → List X) → n ≡ 2 * h → joined (places n g) ≡ joined (places h (λ k. g (2 * k) ++ g (2 * k + 1)))
+pairs zero n g e = ap (λ i. joined (places i g)) e ∙ joined_none g ∙ sym (joined_none (λ k. g (2 * k) ++ g (2 * k + 1)))
+pairs (suc h) n g e =
+    let both = λ (k : ℕ). g (2 * k) ++ g (2 * k + 1) in
+    joined_next g n (2 * h + 1) (omega (arith, e))
+    ∙ ap (λ xs. xs ++ g (2 * h + 1)) (joined_next g (2 * h + 1) (2 * h) refl ∙ ap (λ xs. xs ++ g (2 * h)) (pairs h (2 * h) g refl))
+    ∙ append_assoc (joined (places h both)) (g (2 * h)) (g (2 * h + 1))
+    ∙ sym (joined_next both (suc h) h (omega arith))
+
+module _ {X : Type 0} (d : ℕ) (two : 2 * 2 ^ (d - 1) ≡ 2 ^ d) (g : ℕ → ℕ → List X) where
+  abbrev width : ℕ
+  width = 2 ^ (d - 1)
+
+  abbrev row : ℕ → List (List X)
+  row s = places (2 ^ d) (λ x. g s x)
+
+  abbrev of_switch : ℕ → ℕ → List X
+  of_switch s k = g s (2 * k) ++ g s (2 * k + 1)
+
+  abbrev numbered : ℕ → List X
+  numbered n = at_switch d of_switch n
+
+  pub regroup : (m : ℕ) → joined (joined (table m (2 ^ d) g)) ≡ joined (places (m * width) numbered)
+  regroup zero =
+      let none : 0 * width ≡ 0 = omega arith in
+      ap (λ xss. joined xss) (joined_none row) ∙ sym (ap (λ i. joined (places i numbered)) none ∙ joined_none numbered)
+  regroup (suc m) =
+      let front = joined (places (m * width) numbered) in
+      let more : suc m * width ≡ m * width + width = omega arith in
+      let last : joined (row m) ≡ joined (places width (λ k. numbered (m * width + k))) =
+      pairs width (2 ^ d) (λ x. g m x) (sym two)
+      ∙ ap (λ xss. joined xss) (same_places width (λ k. of_switch m k) (λ k. numbered (m * width + k)) (λ k hk. sym (at_number d of_switch m k hk))) in
+      ap (λ xss. joined xss) (joined_next row (suc m) m (omega arith))
+      ∙ joined-append (joined (places m row)) (row m)
+      ∙ ap (λ xs. xs ++ joined (row m)) (regroup m)
+      ∙ ap (λ xs. front ++ xs) last
+      ∙ sym (ap (λ i. joined (places i numbered)) more ∙ joined_split (m * width) width numbered)

@@ -1,0 +1,293 @@
+-- requests that are sent and taken make up the definition's request phase
+use Rattle.std.proofs.Common.{◌≡◌, ◌≢◌, ℕ, ◌+◌, ◌*◌, ◌-◌, ◌/◌, ◌%◌, ◌^◌, ◌<◌, ◌≤◌, List, [], ◌∷◌, ◌++◌, Bool, true, false, refl, arith, ap, ◌∙◌, sym, ⊎_elim}
+use Rattle.std.specs.Prelude.{◌==◌, Option, Some, None, slice_get}
+use Rattle.std.proofs.lemmas.Bool.{eq-eqb, ne_eqb, cases_eq}
+use Rattle.ultra_msg.specs.declared.Request.{Request}
+use Rattle.ultra_msg.specs.declared.Event.{Event}
+use Rattle.ultra_route.specs.Route.{shuffled, unshuffled, bit_of}
+use Rattle.ultra_route.proofs.Table.{back, sizes}
+use Rattle.ultra_switch.specs.declared.Ports.{Ports}
+use Rattle.ultra_switch.specs.declared.Switch.{Switch}
+use Rattle.ultra_switch.specs.Arrive.{Lane}
+use Rattle.ultra_switch.specs.Queues.{request_of}
+use Rattle.ultra_mem.specs.declared.Placed.{Placed}
+use Rattle.ultra_mem.specs.Serve.{Bank}
+use Rattle.ultra_model.specs.declared.Stop.{Stop}
+use Rattle.ultra_model.specs.Places.{table, joined, after_leaving}
+use Rattle.ultra_model.specs.Machine.{Settings, Machine, Element, size, last_stage, is_nothing, lane_at, bank_at, element_at, request_exit}
+use Rattle.ultra_model.specs.Ranges.{AreInRange}
+use Rattle.ultra_model.specs.Phases as phase
+use Rattle.ultra_model.specs.Phases.{without_pending, with_request, arrive_all, has_request_room, request_before, admitted, arriving_request, entering, leaving_request, requests_by, arrivals_by, lane_after_leaving, next_lane, request_phase}
+use Rattle.ultra_model.proofs.Neighbours.{next_is, itself}
+use Rattle.ultra_units.specs.Numbers.{switch_number, switch_count, module_number, place_number, request_source, request_target}
+use Rattle.ultra_halves.specs.Halves.{ports, where_room, lane_without, lane_with, coming_to, arrivals}
+use Rattle.ultra_halves.specs.Switches.{first_request, request_heads, requests_leaving, without_requests, after_requests, combinations_at, combinations_of}
+use Rattle.ultra_halves.specs.Modules.{bank_with}
+use Rattle.ultra_halves.specs.Elements.{element_of}
+use Rattle.ultra_course.specs.Ports.{at_port}
+use Rattle.ultra_course.specs.Frame.{Frame, Rooms, AreRooms, AreAlike}
+use Rattle.ultra_course.specs.Course.{pending_head, at_switch, finds_room, request_goes, requests_go, goes_from_element, requests_from, request_from, sends_requests, requests_to, request_to, takes_requests, combinations}
+use Rattle.ultra_course.specs.Whole.{sized_lane, sized_replies, whole, Fits}
+use Rattle.ultra_course.proofs.Numbers.{pick_true, pick_false, at_two, at_both, at_places, at_even, at_odd, at_number, with_came, number_small, each_number, at_link, behind}
+use Rattle.ultra_course.proofs.AtFrame.{same_places, same_table, same_machine, half_small, even_small, odd_small, at_switches, lane_is, bank_is, element_is, cycles_is, sizes_of, request_room_is, alike_at}
+use Rattle.ultra_course.proofs.Replies.{same_test}
+use Rattle.ultra_course.proofs.Regroup.{regroup}
+
+-- what goes first in a cycle and what second
+first_at : {X Y : Type 0} (b : Bool) (g : X → List Y) (p : Ports X) → elim b [ true ↦ g p.zero ++ g p.one | false ↦ g p.one ++ g p.zero ] ≡ g (elim b [ true ↦ p.zero | false ↦ p.one ]) ++ g (elim b [ true ↦ p.one | false ↦ p.zero ])
+first_at true g p = refl
+first_at false g p = refl
+
+none_moves : {X : Type 0} (b : Bool) → where_room {X = X} b None ≡ None
+none_moves true = refl
+none_moves false = refl
+
+-- a request enters a module whose register is empty
+enters : (i : Option Placed) (o : Option Request) → where_room (is_nothing i) o ≡ elim i [ None ↦ o | Some r ↦ None ]
+enters None o = refl
+enters (Some p) o = refl
+
+module _ (c : Settings) (f : Frame) (n : ℕ) (events : List Event) (stops : List Stop) (range : AreInRange c) (fits : Fits c n f)
+    (rooms : Rooms) (noted : AreRooms c.stages f rooms) (sent : Frame) (as_sent : AreAlike c.stages sent (sends_requests c.stages rooms f)) where
+  abbrev m : Machine
+  m = whole c f n events stops
+
+  abbrev d : ℕ
+  d = c.stages
+
+  abbrev last : ℕ
+  last = last_stage c
+
+  abbrev after : Frame
+  after = takes_requests d n sent
+
+  low : 1 ≤ d
+  low = range.some_stages
+
+  high : d ≤ 6
+  high = range.most_stages
+
+  half : (x : ℕ) → x < size c → x / 2 < 2 ^ (d - 1)
+  half x hx = half_small c range x hx
+
+  -- ---- what leaves
+  -- a request that comes to y finds room by the port by which it leaves, as the definition has it
+  pub room_is : (s y : ℕ) (r : Request) → s < d → y < size c → rooms.request (switch_number d s (y / 2)) (bit_of (d - 1 - s) (r.cell % 2 ^ d)) ≡ has_request_room c m s (request_exit c s y r)
+  room_is s y r hs hy =
+      let two = (sizes d low high).0 in
+      let x = request_exit c s y r in
+      let bit = bit_of (d - 1 - s) (r.cell % 2 ^ d) in
+      let row : y / 2 ≡ x / 2 = omega arith in
+      let port : bit ≡ x % 2 = omega arith in
+      ap (λ k. rooms.request (switch_number d s k) bit) row ∙ ap (λ j. rooms.request (switch_number d s (x / 2)) j) port ∙ request_room_is c f n events stops range fits rooms noted s x hs (omega (arith, two, hy))
+
+  finds_is : (s y : ℕ) (r : Request) → s < d → y < size c → where_room (finds_room d rooms s (switch_number d s (y / 2)) r) (Some r) ≡ admitted c m s y (Some r)
+  finds_is s y r hs hy = ap (λ b. where_room b (Some r)) (room_is s y r hs hy)
+
+  arriving_as : (s y : ℕ) → admitted c m s y (request_before c m s y) ≡ arriving_request c m s y
+  unfolding arriving_request
+  arriving_as s y = refl
+
+  -- the first request of a queue
+  abbrev head : ℕ → ℕ → Option Request
+  head s x = first_request (sized_lane c f s x)
+
+  -- a request of a processing element comes to stage 0
+  goes_in : (p : ℕ) (o : Option Request) → p < size c → where_room (goes_from_element d rooms p o) o ≡ admitted c m 0 (shuffled d p) o
+  goes_in p None hp = refl
+  goes_in p (Some r) hp = finds_is 0 (shuffled d p) r (omega (arith, low)) (back d p low high hp).entry_small
+
+  element_sends : (p : ℕ) → p < size c → request_from d rooms f p ≡ arriving_request c m 0 (shuffled d p)
+  element_sends p hp =
+      let y = shuffled d p in
+      let o = pending_head (f.element p) in
+      let before : request_before c m 0 y ≡ o =
+      ap (λ p. slice_get (element_at m p).interface.pending 0) (back d p low high hp).back ∙ ap (λ (e : Element). slice_get e.interface.pending 0) (element_is c f n events stops p hp) in
+      goes_in p o hp ∙ ap (λ o. admitted c m 0 y o) (sym before) ∙ arriving_as 0 y
+
+  -- the first request of the last stage enters its module
+  goes_to_module : (s x : ℕ) (o : Option Request) → s ≡ last → where_room (request_goes d rooms s x o) o ≡ where_room (rooms.bank x) o
+  goes_to_module s x None e = sym (none_moves (rooms.bank x))
+  goes_to_module s x (Some r) e = ap (λ b. where_room b (Some r)) (pick_true (s == last) (rooms.bank x) (finds_room d rooms (s + 1) (request_target d s x) r) (eq-eqb s last e))
+
+  last_sends : (x : ℕ) → x < size c → where_room (rooms.bank x) (head last x) ≡ entering c m x
+  last_sends x hx =
+      ap (λ b. where_room b (head last x)) (noted.bank x hx)
+      ∙ enters (f.bank x).inp (head last x)
+      ∙ ap (λ (l : Lane). elim (f.bank x).inp [ None ↦ request_of (slice_get l.queue 0) | Some r ↦ None ]) (sym (lane_is c f n events stops last x (omega (arith, low)) hx))
+      ∙ ap (λ (b : Bank). elim b.inp [ None ↦ request_of (slice_get (lane_at m last x).queue 0) | Some r ↦ None ]) (sym (bank_is c f n events stops x hx))
+
+  -- that of another stage comes to the next
+  goes_on : (s x : ℕ) (o : Option Request) → s ≢ last → s + 1 < d → x < size c → where_room (request_goes d rooms s x o) o ≡ admitted c m (s + 1) (shuffled d x) o
+  goes_on s x None h hs hx = refl
+  goes_on s x (Some r) h hs hx =
+      let t : (s == last) ≡ false = ne_eqb s last h in
+      ap (λ b. where_room b (Some r)) (pick_false (s == last) (rooms.bank x) (finds_room d rooms (s + 1) (request_target d s x) r) t)
+      ∙ ap (λ q. where_room (finds_room d rooms (s + 1) q r) (Some r)) (pick_false (s == last) (module_number d x) (switch_number d (s + 1) (shuffled d x / 2)) t)
+      ∙ finds_is (s + 1) (shuffled d x) r hs (back d x low high hx).entry_small
+
+  next_sends : (s x : ℕ) → s ≢ last → s + 1 < d → x < size c → where_room (request_goes d rooms s x (head s x)) (head s x) ≡ arriving_request c m (s + 1) (shuffled d x)
+  next_sends s x h hs hx =
+      let b = back d x low high hx in
+      let y = shuffled d x in
+      let e : s + 1 - 1 ≡ s = omega arith in
+      let queue : ℕ → ℕ → Option Request = λ s x. request_of (slice_get (lane_at m s x).queue 0) in
+      let before : request_before c m (s + 1) y ≡ head s x =
+      pick_false (s + 1 == 0) (slice_get (element_at m (unshuffled d y)).interface.pending 0) (queue (s + 1 - 1) (unshuffled d y)) (next_is s)
+      ∙ ap (λ s. queue s (unshuffled d y)) e ∙ ap (λ x. queue s x) b.back
+      ∙ ap (λ (l : Lane). request_of (slice_get l.queue 0)) (lane_is c f n events stops s x (omega (arith, hs)) hx) in
+      goes_on s x (head s x) h hs hx ∙ ap (λ o. admitted c m (s + 1) y o) (sym before) ∙ arriving_as (s + 1) y
+
+  leaves : (s x : ℕ) → s < d → x < size c → where_room (request_goes d rooms s x (head s x)) (head s x) ≡ leaving_request c m s x
+  leaves s x hs hx =
+      let on = arriving_request c m (s + 1) (shuffled d x) in
+      ⊎_elim
+      (λ e. goes_to_module s x (head s x) e ∙ ap (λ s. where_room (rooms.bank x) (head s x)) e ∙ last_sends x hx ∙ sym (pick_true (s == last) (entering c m x) on (eq-eqb s last e)))
+      (λ h. next_sends s x h (omega (arith, hs, h)) hx ∙ sym (pick_false (s == last) (entering c m x) on (ne_eqb s last h)))
+      (cases_eq s last)
+
+  pub leaving_is : (s x : ℕ) → s < d → x < size c → at_port (requests_from d rooms f (switch_number d s (x / 2))) (x % 2) ≡ leaving_request c m s x
+  leaving_is s x hs hx =
+      let w = f.switch (switch_number d s (x / 2)) in
+      ap (λ p. at_port p (x % 2)) (at_number d (λ s k. requests_leaving (requests_go d rooms s k (request_heads w)) w) s (x / 2) (half x hx))
+      ∙ at_places (λ x l. where_room (request_goes d rooms s x (first_request l)) (first_request l)) w.to_mm x
+      ∙ leaves s x hs hx
+
+  -- ---- what comes
+  on_link : (s x : ℕ) → s < d → x < size c → sent.requests (place_number d s x) ≡ leaving_request c m s x
+  on_link s x hs hx = at_link d low high (λ n. requests_from d rooms f n) (λ p. request_from d rooms f p) sent.requests as_sent.requests s x hs hx ∙ leaving_is s x hs hx
+
+  comes_first : (y : ℕ) → y < size c → sent.requests (place_number d d (unshuffled d y)) ≡ arriving_request c m 0 y
+  comes_first y hy =
+      let b = back d y low high hy in
+      behind d low high (λ n. requests_from d rooms f n) (λ p. request_from d rooms f p) sent.requests as_sent.requests (unshuffled d y) b.line_small
+      ∙ element_sends (unshuffled d y) b.line_small
+      ∙ ap (λ y. arriving_request c m 0 y) b.forth
+
+  comes_on : (s y : ℕ) → s < d → s ≢ 0 → y < size c → sent.requests (place_number d (s - 1) (unshuffled d y)) ≡ arriving_request c m s y
+  comes_on s y hs hz hy =
+      let b = back d y low high hy in
+      let x = unshuffled d y in
+      let past : s - 1 ≢ last = omega (arith, hs, hz) in
+      let e : s - 1 + 1 ≡ s = omega (arith, hz) in
+      on_link (s - 1) x (omega (arith, hs, hz)) b.line_small
+      ∙ pick_false (s - 1 == last) (entering c m x) (arriving_request c m (s - 1 + 1) (shuffled d x)) (ne_eqb (s - 1) last past)
+      ∙ ap (λ s. arriving_request c m s (shuffled d x)) e
+      ∙ ap (λ y. arriving_request c m s y) b.forth
+
+  pub comes : (s y : ℕ) → s < d → y < size c → sent.requests (request_source d s y) ≡ arriving_request c m s y
+  comes s y hs hy =
+      let from = place_number d d (unshuffled d y) in
+      let on = place_number d (s - 1) (unshuffled d y) in
+      ⊎_elim
+      (λ e. ap (λ l. sent.requests l) (pick_true (s == 0) from on (eq-eqb s 0 e)) ∙ comes_first y hy ∙ ap (λ s. arriving_request c m s y) (sym e))
+      (λ h. ap (λ l. sent.requests l) (pick_false (s == 0) from on (ne_eqb s 0 h)) ∙ comes_on s y hs h hy)
+      (cases_eq s 0)
+
+  pub comes_in : (k : ℕ) → k < size c → request_to d sent k ≡ entering c m k
+  comes_in k hk =
+      on_link last k (omega (arith, low)) hk ∙ pick_true (last == last) (entering c m k) (arriving_request c m (last + 1) (shuffled d k)) (itself last)
+
+  abbrev arrived : ℕ → ℕ → Ports (Option Request)
+  arrived s k = ports (arriving_request c m s (2 * k)) (arriving_request c m s (2 * k + 1))
+
+  pub arrived_is : (s k : ℕ) → s < d → k < 2 ^ (d - 1) → requests_to d sent (switch_number d s k) ≡ arrived s k
+  arrived_is = at_switches c range (λ s y. sent.requests (request_source d s y)) (λ s y. arriving_request c m s y) comes
+
+  -- ---- what arrives at a queue
+  coming_is : (s x y : ℕ) (o : Option Request) → y / 2 ≡ x / 2 → coming_to d s (x % 2) o ≡ requests_by c s y x o
+  coming_is s x y None e = refl
+  coming_is s x y (Some r) e =
+      let g : Bool → List Request = λ b. elim b [ true ↦ r ∷ [] | false ↦ [] ] in
+      ap g (same_test (2 * (y / 2)) (bit_of (d - 1 - s) (r.cell % 2 ^ d)) x (x % 2) (omega (arith, e)))
+
+  due_is : (s x : ℕ) → arrivals d s (x % 2) n (arrived s (x / 2)) ≡ phase.arrivals c m s x
+  due_is s x =
+      let k = x / 2 in
+      let order : ℕ → List Request → List Request → List Request = λ i xs ys. elim (i % 2 == 0) [ true ↦ xs ++ ys | false ↦ ys ++ xs ] in
+      let to : Option Request → List Request = λ o. coming_to d s (x % 2) o in
+      let zero_to : to (arriving_request c m s (2 * k)) ≡ arrivals_by c m s (2 * k) x = coming_is s x (2 * k) (arriving_request c m s (2 * k)) (omega arith) in
+      let one_to : to (arriving_request c m s (2 * k + 1)) ≡ arrivals_by c m s (2 * k + 1) x = coming_is s x (2 * k + 1) (arriving_request c m s (2 * k + 1)) (omega arith) in
+      sym (first_at (n % 2 == 0) to (arrived s k))
+      ∙ ap (λ xs. order n xs (to (arriving_request c m s (2 * k + 1)))) zero_to
+      ∙ ap (λ ys. order n (arrivals_by c m s (2 * k) x) ys) one_to
+      ∙ ap (λ i. order i (arrivals_by c m s (2 * k) x) (arrivals_by c m s (2 * k + 1) x)) (sym (cycles_is c f n events stops))
+
+  -- a switch after its requests left
+  abbrev left : ℕ → Switch
+  left q = without_requests (f.switch q) (requests_from d rooms f q)
+
+  -- what is made of a queue, its wait places and what arrives there
+  left_with : {X : Type 0} (g : ℕ → Lane → List Request → X) (s x : ℕ) → s < d → x < size c
+      → (let l = at_port (left (switch_number d s (x / 2))).to_mm (x % 2) in g l.wait_places l.lane (arrivals d s (x % 2) n (arrived s (x / 2)))) ≡ g c.wait_places (lane_after_leaving c m s x) (phase.arrivals c m s x)
+  left_with g s x hs hx =
+      let w = f.switch (switch_number d s (x / 2)) in
+      let out = requests_from d rooms f (switch_number d s (x / 2)) in
+      let due = arrivals d s (x % 2) n (arrived s (x / 2)) in
+      let l = sized_lane c f s x in
+      let gone = leaving_request c m s x in
+      ap (λ l. g l.wait_places l.lane due) (at_two (λ l o. lane_without l o) w.to_mm out (x % 2))
+      ∙ ap (λ o. g l.wait_places (lane_without l o).lane due) (leaving_is s x hs hx)
+      ∙ ap (λ rs. g l.wait_places (lane_without l gone).lane rs) (due_is s x)
+      ∙ ap (λ w. g w (lane_without l gone).lane (phase.arrivals c m s x)) (sizes_of c f n events stops range fits s (x / 2) (x % 2) hs (half x hx)).waits
+      ∙ ap (λ (l : Lane). let v : Lane = record { queue = after_leaving gone l.queue; records = l.records } in g c.wait_places v (phase.arrivals c m s x)) (sym (lane_is c f n events stops s x hs hx))
+
+  -- ---- each place after it
+  -- what is made of a switch and what came to it
+  came_with : {X : Type 0} (g : ℕ → ℕ → Switch → Ports (Option Request) → X) (s k : ℕ) → s < d → k < 2 ^ (d - 1)
+      → (let q = switch_number d s k in at_switch d (λ s k. g s k (sent.switch q) (requests_to d sent q)) q) ≡ g s k (left (switch_number d s k)) (arrived s k)
+  came_with g s k hs hk = with_came d g s k hk (as_sent.switches (switch_number d s k) (number_small d s k hs hk)) (arrived_is s k hs hk)
+
+  lane_after : (s x : ℕ) → s < d → x < size c → (sized_lane c after s x).lane ≡ next_lane c m s x
+  lane_after s x hs hx =
+      let came = arrived s (x / 2) in
+      came_with (λ s k w o. (at_port (after_requests d s n w o).to_mm (x % 2)).lane) s (x / 2) hs (half x hx)
+      ∙ ap (λ l. l.lane) (at_both (λ j l. lane_with l (arrivals d s j n came)) (left (switch_number d s (x / 2))).to_mm x)
+      ∙ left_with (λ w l rs. arrive_all w l rs) s x hs hx
+
+  -- the combinations at a position, by the definition
+  abbrev combined : ℕ → ℕ → List Event
+  combined s x = phase.combinations c.wait_places s x (lane_after_leaving c m s x) (phase.arrivals c m s x)
+
+  combined_at : (s k : ℕ) → s < d → k < 2 ^ (d - 1) → combinations_of d s k n (left (switch_number d s k)) (arrived s k) ≡ combined s (2 * k) ++ combined s (2 * k + 1)
+  combined_at s k hs hk =
+      let at : ℕ → ℕ → ℕ → List Event = λ x k j. combinations_at s x (at_port (left (switch_number d s k)).to_mm j) (arrivals d s j n (arrived s k)) in
+      let even = left_with (λ w l rs. phase.combinations w s (2 * k) l rs) s (2 * k) hs (even_small c range k hk) in
+      let odd = left_with (λ w l rs. phase.combinations w s (2 * k + 1) l rs) s (2 * k + 1) hs (odd_small c range k hk) in
+      ap (λ es. es ++ at (2 * k + 1) k 1) (sym (at_even (at (2 * k)) k) ∙ even)
+      ∙ ap (λ es. combined s (2 * k) ++ es) (sym (at_odd (at (2 * k + 1)) k) ∙ odd)
+
+  combinations_are : combinations d n sent ≡ joined (joined (table d (size c) combined))
+  unfolding combinations
+  combinations_are =
+      let here = λ (q : ℕ). at_switch d (λ s k. combinations_of d s k n (sent.switch q) (requests_to d sent q)) q in
+      let both = λ (s : ℕ) (k : ℕ). combined s (2 * k) ++ combined s (2 * k + 1) in
+      ap (λ ess. joined ess) (same_places (switch_count d) here (λ q. at_switch d both q) (each_number d (λ q. here q ≡ at_switch d both q)
+      (λ s k hs hk. came_with (λ s k w o. combinations_of d s k n w o) s k hs hk ∙ combined_at s k hs hk ∙ sym (at_number d both s k hk))))
+      ∙ sym (regroup d (sizes d low high).0 combined d)
+
+  bank_takes : (b : Bank) (o : Option Request) → bank_with (2 ^ d) b o ≡ with_request c b o
+  bank_takes b None = refl
+  bank_takes b (Some r) = refl
+
+  bank_after : (k : ℕ) → k < size c → after.bank k ≡ with_request c (bank_at m k) (entering c m k)
+  bank_after k hk =
+      bank_takes (sent.bank k) (request_to d sent k)
+      ∙ ap (λ o. with_request c (sent.bank k) o) (comes_in k hk)
+      ∙ ap (λ b. with_request c b (entering c m k)) (as_sent.banks k hk)
+      ∙ ap (λ b. with_request c b (entering c m k)) (sym (bank_is c f n events stops k hk))
+
+  element_after : (p : ℕ) → p < size c → element_of (after.element p) ≡ without_pending (element_at m p) (arriving_request c m 0 (shuffled d p))
+  element_after p hp =
+      ap (λ e. element_of e) (as_sent.elements p hp)
+      ∙ ap (λ o. without_pending (element_of (f.element p)) o) (element_sends p hp)
+      ∙ ap (λ e. without_pending e (arriving_request c m 0 (shuffled d p))) (sym (element_is c f n events stops p hp))
+
+  pub requests_are : whole c after n (events ++ combinations d n sent) stops ≡ request_phase c m
+  unfolding request_phase whole
+  requests_are =
+      let lanes = same_table d (size c) (λ s x. (sized_lane c after s x).lane) (λ s x. next_lane c m s x) lane_after in
+      let banks = same_places (size c) (λ k. after.bank k) (λ k. with_request c (bank_at m k) (entering c m k)) bank_after in
+      let elements = same_places (size c) (λ p. element_of (after.element p)) (λ p. without_pending (element_at m p) (arriving_request c m 0 (shuffled d p))) element_after in
+      let queues = same_table d (size c) (λ s y. (sized_replies c after s y).replies) (λ s y. (sized_replies c f s y).replies) (λ s y. alike_at c range sent (sends_requests d rooms f) as_sent (λ w. (at_port w.to_pe (y % 2)).replies) s y) in
+      same_machine n lanes queues banks elements (ap (λ es. events ++ es) combinations_are) refl

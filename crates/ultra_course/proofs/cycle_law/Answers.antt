@@ -1,0 +1,5 @@
+use Rattle.ultra_course.proofs.Law.{cycle_law}
+use Rattle.ultra_course.proofs.cycle_law.Goals as goal
+
+pub returns : goal.returns
+returns c = record { made = cycle_law }

@@ -1,0 +1,69 @@
+-- the whole machine of which the units are given by their numbers
+use Rattle.std.specs.Prelude.{◌≡◌, ℕ, ◌/◌, ◌%◌, ◌<◌, ◌≤◌, List, length}
+use Rattle.ultra_msg.specs.declared.Event.{Event}
+use Rattle.ultra_switch.specs.declared.Switch.{Switch}
+use Rattle.ultra_switch.specs.Queues.{SizedLane, SizedReplies, empty_requests, empty_replies}
+use Rattle.ultra_model.specs.declared.Stop.{Stop}
+use Rattle.ultra_model.specs.Places.{places, table}
+use Rattle.ultra_model.specs.Machine.{Settings, Machine, size, site}
+use Rattle.ultra_model.specs.Ranges.{AreInRange}
+use Rattle.ultra_model.specs.Sound.{IsSound}
+use Rattle.ultra_units.specs.Numbers.{switch_number, switch_count}
+use Rattle.ultra_halves.specs.Halves.{ports}
+use Rattle.ultra_halves.specs.Elements.{element_of}
+use Rattle.ultra_course.specs.Ports.{at_port}
+use Rattle.ultra_course.specs.Frame.{Frame}
+
+module _ (c : Settings) (f : Frame) where
+  -- the queues at position x of stage s
+  abbrev pub sized_lane : ℕ → ℕ → SizedLane
+  sized_lane s x = at_port (f.switch (switch_number c.stages s (x / 2))).to_mm (x % 2)
+
+  abbrev pub sized_replies : ℕ → ℕ → SizedReplies
+  sized_replies s y = at_port (f.switch (switch_number c.stages s (y / 2))).to_pe (y % 2)
+
+  -- the machine that the units make up, with how many cycles it has made and what happened in the
+  -- last one
+  unfoldable pub whole : ℕ → List Event → List Stop → Machine
+  whole n events stops = record {
+    lanes = table c.stages (size c) (λ s x. (sized_lane s x).lane);
+    replies = table c.stages (size c) (λ s y. (sized_replies s y).replies);
+    banks = places (size c) (λ k. f.bank k);
+    elements = places (size c) (λ p. element_of (f.element p));
+    cycles = n;
+    events = events;
+    stops = stops;
+  }
+
+-- a switch with nothing in it, and the one of a machine's sizes
+abbrev pub emptied : Switch → Switch
+emptied w = record {
+  to_mm = ports
+      (empty_requests w.to_mm.zero.request_places w.to_mm.zero.wait_places)
+      (empty_requests w.to_mm.one.request_places w.to_mm.one.wait_places);
+  to_pe = ports (empty_replies w.to_pe.zero.places) (empty_replies w.to_pe.one.places);
+}
+
+module _ (c : Settings) where
+  abbrev pub empty_switch : Switch
+  empty_switch = record {
+    to_mm = ports (empty_requests c.request_places c.wait_places) (empty_requests c.request_places c.wait_places);
+    to_pe = ports (empty_replies c.reply_places) (empty_replies c.reply_places);
+  }
+
+  -- each unit has the settings' sizes; after n cycles a processing element has issued at most a
+  -- request in each
+  pub record Fits (n : ℕ) (f : Frame) : Type 0 where
+    pub switches : (k : ℕ) → k < switch_count c.stages → emptied (f.switch k) ≡ empty_switch
+    pub cells : (k : ℕ) → k < size c → length (f.bank k).cells ≡ c.cells
+    pub sites : (p : ℕ) → p < size c → (f.element p).processor.site ≡ site c p
+    pub most_open : (p : ℕ) → p < size c → (f.element p).interface.most_open ≡ c.most_open
+    pub issued : (p : ℕ) → p < size c → (f.element p).issued ≤ n
+
+  -- after n cycles, and with what happened in the last one, the units make up the machine m, which
+  -- is sound
+  pub record IsFrameOf (n : ℕ) (f : Frame) (events : List Event) (stops : List Stop) (m : Machine) : Type 0 where
+    pub range : AreInRange c
+    pub fits : Fits n f
+    pub machine : whole c f n events stops ≡ m
+    pub sound : IsSound c m

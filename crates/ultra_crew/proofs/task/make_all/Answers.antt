@@ -1,9 +1,0 @@
-use Rattle.std.proofs.Common.{arith}
-use Rattle.ultra_crew.specs.Tasks.{task_made}
-use Rattle.ultra_block.proofs.Mapped.{stepped}
-use Rattle.ultra_crew.proofs.task.make_all.Goals as goal
-
-pub loop-task-preserved : goal.loop-task-preserved
-loop-task-preserved g c =
-    stepped (task_made c.args.rooms.now c.args.program.now) c.args.tasks.now c.loop-task.tasks c.loop-task.task-index c.make.new.self c.task-item.result
-    (omega arith) c.loop-task.invariant c.make.ensures

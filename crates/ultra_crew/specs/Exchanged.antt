@@ -1,0 +1,40 @@
+-- blocks after an exchange: each message is in the block of the unit to which it leads
+use Rattle.std.specs.Prelude.{ℕ, ◌+◌, ◌-◌, ◌*◌, ◌/◌, ◌%◌, ◌^◌, ◌==◌, true, false, nat_lt, List, length, Option, None}
+use Rattle.ultra_route.specs.Route.{shuffled}
+use Rattle.ultra_model.specs.Places.{places}
+use Rattle.ultra_units.specs.Numbers.{switch_number, reply_target, request_target}
+use Rattle.ultra_section.specs.BlockState.{BlockState}
+use Rattle.ultra_cut.specs.Cut.{block_at, home, first, replies_on, requests_on}
+
+-- the unit of a machine of d stages to which a link leads
+abbrev pub reply_unit : ℕ → ℕ → ℕ
+reply_unit d l = elim (nat_lt l (d * 2 ^ d)) [
+  | true ↦ reply_target d (l / 2 ^ d) (l % 2 ^ d)
+  | false ↦ switch_number d (d - 1) ((l - d * 2 ^ d) / 2)
+]
+
+abbrev pub request_unit : ℕ → ℕ → ℕ
+request_unit d l = elim (nat_lt l (d * 2 ^ d)) [
+  | true ↦ request_target d (l / 2 ^ d) (l % 2 ^ d)
+  | false ↦ switch_number d 0 (shuffled d (l - d * 2 ^ d) / 2)
+]
+
+-- what block k has on its links, if it has on each link that leads to a unit of its own what any
+-- block had, and nothing else
+abbrev pub at_home : {M : Type 0} → ℕ → List ℕ → (ℕ → ℕ) → (ℕ → List (Option M)) → ℕ
+    → List (Option M)
+at_home d partition unit on k = places ((d + 1) * 2 ^ d) (λ l. elim (home partition (unit l) == k) [
+  | true ↦ first (on l)
+  | false ↦ None
+])
+
+module _ (d : ℕ) (partition : List ℕ) (bs : List BlockState) where
+  unfoldable pub replies_exchanged : List BlockState
+  replies_exchanged = places (length bs) (λ k. record (block_at bs k) {
+    replies = at_home d partition (reply_unit d) (replies_on bs) k;
+  })
+
+  unfoldable pub requests_exchanged : List BlockState
+  requests_exchanged = places (length bs) (λ k. record (block_at bs k) {
+    requests = at_home d partition (request_unit d) (requests_on bs) k;
+  })

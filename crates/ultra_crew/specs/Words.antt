@@ -1,0 +1,37 @@
+-- the rooms of a machine as the words that blocks note them in
+use Rattle.std.specs.Prelude.{ℕ, zero, suc, ◌+◌, ◌-◌, ◌*◌, ◌^◌, Bool, true, false, not, nat_lt, is_some, List}
+use Rattle.ultra_model.specs.Places.{places}
+use Rattle.ultra_units.specs.Numbers.{switch_count}
+use Rattle.ultra_halves.specs.Halves.{ports}
+use Rattle.ultra_halves.specs.Switches.{has_reply_room, has_request_room}
+use Rattle.ultra_section.specs.declared.rooms.Rooms.{Rooms}
+use Rattle.ultra_course.specs.Frame.{Frame}
+
+abbrev pub bit_of_test : Bool → ℕ
+bit_of_test true = 1
+bit_of_test false = 0
+
+-- the number whose bit i says whether something is so of i, for each i below n
+unfoldable pub word_of : (ℕ → Bool) → ℕ → ℕ
+word_of p zero = 0
+word_of p (suc n) = bit_of_test (p n) * 2 ^ n + word_of p n
+
+-- the set of the units of which something is so
+unfoldable pub units_with : (ℕ → Bool) → List ℕ
+units_with p = places 5 (λ k. word_of (λ i. p (k * 64 + i)) 64)
+
+-- the units of a machine of d stages that have no room; port zero has those of the modules too
+module _ (d : ℕ) (f : Frame) where
+  abbrev pub no_room_at_zero : ℕ → Bool
+  no_room_at_zero n = elim (nat_lt n (switch_count d)) [
+    | true ↦ not (has_request_room (f.switch n)).zero
+    | false ↦ is_some (f.bank (n - switch_count d)).inp
+  ]
+
+  abbrev pub words_of_rooms : Rooms
+  words_of_rooms = record {
+    no_reply_room = units_with (λ n. not (has_reply_room (f.switch n)));
+    no_request_room = ports
+        (units_with no_room_at_zero)
+        (units_with (λ n. not (has_request_room (f.switch n)).one));
+  }

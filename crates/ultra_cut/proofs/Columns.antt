@@ -1,0 +1,164 @@
+-- What the blocks have on a link, and what becomes of it where one hands over and another receives.
+use Rattle.std.proofs.Common.{◌≡◌, ◌≢◌, ℕ, zero, suc, ◌<◌, List, [], ◌∷◌, map, Option, Some, None, length, get_or, set, refl, sym, ◌∙◌, ap, subst, inl, inr, arith, get_or-set_same, get_or-set_other}
+use Rattle.std.specs.Prelude.{◌⊎◌}
+use Rattle.std.proofs.lemmas.Bool.{cases_eq, cases_lt}
+use Rattle.std.proofs.lemmas.List.{length-set, map-set, get_or-map, get_or_past, set-get_or}
+use Rattle.ultra_switch.specs.declared.Ports.{Ports}
+use Rattle.ultra_section.specs.Links.{put_on}
+use Rattle.ultra_section.specs.Marks.{on_link, without_both}
+use Rattle.ultra_section.specs.Away.{taken_by_turns, put_on_both}
+use Rattle.ultra_section.proofs.Marks.{length-put_on}
+use Rattle.ultra_cut.specs.Cut.{first}
+use Rattle.ultra_cut.specs.Exchange.{IsSingle}
+
+not_both : {X : Type 0} (o : Option X) (x : X) → o ≡ Some x → o ≢ None
+not_both o x some none = let e : Some x ≡ None = sym some ∙ none in absurd cc
+
+module _ {X : Type 0} where
+  pub first_is : (xs : List (Option X)) (j : ℕ) (x : X) → get_or xs j None ≡ Some x → ((i : ℕ) → i ≢ j → get_or xs i None ≡ None) → first xs ≡ Some x
+  first_is [] j x is others = is
+  first_is (None ∷ xs) zero x is others = absurd (let e : None ≡ Some x = is in cc)
+  first_is (None ∷ xs) (suc j) x is others = first_is xs j x is (λ i ne. others (suc i) (λ e. ne (omega arith)))
+  first_is (Some y ∷ xs) zero x is others = is
+  first_is (Some y ∷ xs) (suc j) x is others = absurd (let e : Some y ≡ None = others zero (λ e. absurd (omega arith)) in cc)
+
+  -- an entry is gone from where it was taken
+  pub gone : (xs : List (Option X)) (a : ℕ) → get_or (set xs a None) a None ≡ None
+  gone xs a = elim (cases_lt a (length xs)) [
+    | inl within ↦ get_or-set_same xs a None None within
+    | inr past ↦ get_or_past (set xs a None) a None (rw length-set past)
+  ]
+
+  pub gone_first : (xs : List (Option X)) (a b : ℕ) → get_or (set (set xs a None) b None) a None ≡ None
+  gone_first xs a b = elim (cases_eq a b) [
+    | inl same ↦ ap (get_or (set (set xs a None) b None) a) (let e : None ≡ None = refl in e) ∙ ap (λ i. get_or (set (set xs a None) b None) i None) same ∙ gone (set xs a None) b
+    | inr other ↦ get_or-set_other (set xs a None) b a None None other ∙ gone xs a
+  ]
+
+  -- a table has as many entries as before
+  pub both_put : (xs : List (Option X)) (p : Ports ℕ) (o : Ports (Option X)) → length (put_on_both xs p o) ≡ length xs
+  both_put xs p o = length-put_on (put_on xs p.zero o.zero) p.one o.one ∙ length-put_on xs p.zero o.zero
+
+  pub both_taken : (xs : List (Option X)) (p : Ports ℕ) → length (without_both xs p) ≡ length xs
+  both_taken xs p = length-set (set xs p.zero None) p.one None ∙ length-set xs p.zero None
+
+-- the one entry that there is goes to another place
+module _ {X : Type 0} (xs : List (Option X)) (k h : ℕ) (x : X) (there : get_or xs k None ≡ Some x) (single : IsSingle xs) (within : h < length xs) where
+  others : (i : ℕ) → i ≢ k → get_or xs i None ≡ None
+  others i ne = single k i (λ e. ne (sym e)) (not_both (get_or xs k None) x there)
+
+  at_new : get_or (set (set xs k None) h (Some x)) h None ≡ Some x
+  at_new = get_or-set_same (set xs k None) h (Some x) None (rw length-set within)
+
+  elsewhere : (i : ℕ) → i ≢ h → get_or (set (set xs k None) h (Some x)) i None ≡ None
+  elsewhere i ne =
+      get_or-set_other (set xs k None) h i (Some x) None ne
+      ∙ elim (cases_eq i k) [
+        | inl same ↦ ap (λ j. get_or (set xs k None) j None) same ∙ gone xs k
+        | inr other ↦ get_or-set_other xs k i None None other ∙ others i other
+      ]
+
+  pub shifted_first : first (set (set xs k None) h (Some x)) ≡ first xs
+  shifted_first = first_is (set (set xs k None) h (Some x)) h x at_new elsewhere ∙ sym (first_is xs k x there others)
+
+  pub shifted_single : IsSingle (set (set xs k None) h (Some x))
+  shifted_single = λ i j ne some. elim (cases_eq j h) [
+    | inl e ↦ absurd (some (elsewhere i (λ f. ne (f ∙ sym e))))
+    | inr o ↦ elsewhere j o
+  ]
+
+-- ---- two tables: what the one has on two links goes to the other
+abbrev pub over : {M : Type 0} → Option M → Option M → Option M
+over None y = y
+over (Some x) y = Some x
+
+module _ {M : Type 0} where
+  put_other : (u : List (Option M)) (a : ℕ) (o : Option M) (l : ℕ) → l ≢ a → on_link (put_on u a o) l ≡ on_link u l
+  put_other u a None l ne = refl
+  put_other u a (Some x) l ne = get_or-set_other u a l (Some x) None ne
+
+  put_same : (u : List (Option M)) (a : ℕ) (o : Option M) → a < length u → on_link (put_on u a o) a ≡ over o (on_link u a)
+  put_same u a None within = refl
+  put_same u a (Some x) within = get_or-set_same u a (Some x) None within
+
+  module _ (t u : List (Option M)) (p : Ports ℕ) (zero_small : p.zero < length u) (one_small : p.one < length u) where
+    put_first : (o : Option M) (same : p.zero ≡ p.one) → o ≡ None → on_link (put_on (put_on u p.zero (on_link t p.zero)) p.one o) p.zero ≡ over (on_link t p.zero) (on_link u p.zero)
+    put_first o same none = ap (λ x. on_link (put_on (put_on u p.zero (on_link t p.zero)) p.one x) p.zero) none ∙ put_same u p.zero (on_link t p.zero) zero_small
+
+    at_zero : on_link (put_on_both u p (taken_by_turns t p)) p.zero ≡ over (on_link t p.zero) (on_link u p.zero)
+    at_zero = elim (cases_eq p.zero p.one) [
+      | inl same ↦ put_first (on_link (set t p.zero None) p.one) same (ap (on_link (set t p.zero None)) (sym same) ∙ gone t p.zero)
+      | inr other ↦ put_other (put_on u p.zero (on_link t p.zero)) p.one (on_link (set t p.zero None) p.one) p.zero other ∙ put_same u p.zero (on_link t p.zero) zero_small
+    ]
+
+    at_one : on_link (put_on_both u p (taken_by_turns t p)) p.one ≡ over (on_link t p.one) (on_link u p.one)
+    at_one = elim (cases_eq p.one p.zero) [
+      | inl same ↦ subst (λ i. on_link (put_on_both u p (taken_by_turns t p)) i ≡ over (on_link t i) (on_link u i)) (sym same) at_zero
+      | inr other ↦
+          put_same (put_on u p.zero (on_link t p.zero)) p.one (on_link (set t p.zero None) p.one) (rw length-put_on one_small)
+          ∙ ap (λ x. over x (on_link (put_on u p.zero (on_link t p.zero)) p.one)) (get_or-set_other t p.zero p.one None None other)
+          ∙ ap (over (on_link t p.one)) (put_other u p.zero (on_link t p.zero) p.one other)
+    ]
+
+    pub at_inlet : (l : ℕ) → (l ≡ p.zero) ⊎ (l ≡ p.one) → on_link (put_on_both u p (taken_by_turns t p)) l ≡ over (on_link t l) (on_link u l)
+    at_inlet l (inl is) = subst (λ i. on_link (put_on_both u p (taken_by_turns t p)) i ≡ over (on_link t i) (on_link u i)) (sym is) at_zero
+    at_inlet l (inr is) = subst (λ i. on_link (put_on_both u p (taken_by_turns t p)) i ≡ over (on_link t i) (on_link u i)) (sym is) at_one
+
+    pub left_at_inlet : (l : ℕ) → (l ≡ p.zero) ⊎ (l ≡ p.one) → on_link (without_both t p) l ≡ None
+    left_at_inlet l (inl is) = ap (on_link (without_both t p)) is ∙ gone_first t p.zero p.one
+    left_at_inlet l (inr is) = ap (on_link (without_both t p)) is ∙ gone (set t p.zero None) p.one
+
+    pub at_other : (l : ℕ) → l ≢ p.zero → l ≢ p.one → on_link (put_on_both u p (taken_by_turns t p)) l ≡ on_link u l
+    at_other l nz ny = put_other (put_on u p.zero (on_link t p.zero)) p.one (on_link (set t p.zero None) p.one) l ny ∙ put_other u p.zero (on_link t p.zero) l nz
+
+    pub left_at_other : (l : ℕ) → l ≢ p.zero → l ≢ p.one → on_link (without_both t p) l ≡ on_link t l
+    left_at_other l nz ny = get_or-set_other (set t p.zero None) p.one l None None ny ∙ get_or-set_other t p.zero l None None nz
+
+-- ---- what blocks have on a link: one thing has gone from block k to block h, by an inlet
+pub record Shift {M : Type 0} (k h l : ℕ) (p : Ports ℕ) (xs ys : List (Option M)) : Type 0 where
+  pub inlet : (l ≡ p.zero) ⊎ (l ≡ p.one)
+  pub message : M
+  pub there : get_or xs k None ≡ Some message
+  pub now : ys ≡ set (set xs k None) h (Some message)
+
+stays : {X : Type 0} (xs : List (Option X)) (k h : ℕ) (a b : Option X) → get_or xs k None ≡ a → get_or xs h None ≡ b → set (set xs k a) h b ≡ xs
+stays xs k h a b at_k at_h =
+    ap (λ ys. set ys h b) (ap (set xs k) (sym at_k) ∙ set-get_or xs k None) ∙ ap (set xs h) (sym at_h) ∙ set-get_or xs h None
+
+module _ {M B : Type 0} (f : B → List (Option M)) (none : B) (bs : List B) (k h : ℕ) (p : Ports ℕ) (b c : B) (k_within : k < length bs) (h_within : h < length bs)
+    (left : f b ≡ without_both (f (get_or bs k none)) p) (got : f c ≡ put_on_both (f (get_or bs h none)) p (taken_by_turns (f (get_or bs k none)) p))
+    (zero_small : p.zero < length (f (get_or bs h none))) (one_small : p.one < length (f (get_or bs h none))) (l : ℕ) where
+  abbrev g : B → Option M
+  g x = on_link (f x) l
+
+  at_k : get_or (map g bs) k None ≡ g (get_or bs k none)
+  at_k = get_or-map g bs k none None k_within
+
+  at_h : get_or (map g bs) h None ≡ g (get_or bs h none)
+  at_h = get_or-map g bs h none None h_within
+
+  both : map g (set (set bs k b) h c) ≡ set (set (map g bs) k (g b)) h (g c)
+  both = map-set g (set bs k b) h c ∙ ap (λ ys. set ys h (g c)) (map-set g bs k b)
+
+  by_message : (l ≡ p.zero) ⊎ (l ≡ p.one) → (o : Option M) → g (get_or bs k none) ≡ o
+      → (map g (set (set bs k b) h c) ≡ map g bs) ⊎ (Shift k h l p (map g bs) (map g (set (set bs k b) h c)))
+  by_message inlet None is =
+      let gb : g b ≡ None = ap (λ t. on_link t l) left ∙ left_at_inlet (f (get_or bs k none)) (f (get_or bs h none)) p zero_small one_small l inlet in
+      let gc : g c ≡ g (get_or bs h none) = ap (λ t. on_link t l) got ∙ at_inlet (f (get_or bs k none)) (f (get_or bs h none)) p zero_small one_small l inlet ∙ ap (λ x. over x (g (get_or bs h none))) is in
+      inl (both ∙ stays (map g bs) k h (g b) (g c) (at_k ∙ is ∙ sym gb) (at_h ∙ sym gc))
+  by_message inlet (Some m) is =
+      let gb : g b ≡ None = ap (λ t. on_link t l) left ∙ left_at_inlet (f (get_or bs k none)) (f (get_or bs h none)) p zero_small one_small l inlet in
+      let gc : g c ≡ Some m = ap (λ t. on_link t l) got ∙ at_inlet (f (get_or bs k none)) (f (get_or bs h none)) p zero_small one_small l inlet ∙ ap (λ x. over x (g (get_or bs h none))) is in
+      inr (record { inlet = inlet; message = m; there = at_k ∙ is; now = both ∙ ap (λ x. set (set (map g bs) k x) h (g c)) gb ∙ ap (λ x. set (set (map g bs) k None) h x) gc })
+
+  elsewhere_same : l ≢ p.zero → l ≢ p.one → map g (set (set bs k b) h c) ≡ map g bs
+  elsewhere_same nz ny =
+      let gb : g b ≡ g (get_or bs k none) = ap (λ t. on_link t l) left ∙ left_at_other (f (get_or bs k none)) (f (get_or bs h none)) p zero_small one_small l nz ny in
+      let gc : g c ≡ g (get_or bs h none) = ap (λ t. on_link t l) got ∙ at_other (f (get_or bs k none)) (f (get_or bs h none)) p zero_small one_small l nz ny in
+      both ∙ stays (map g bs) k h (g b) (g c) (at_k ∙ sym gb) (at_h ∙ sym gc)
+
+  pub carried : (map g (set (set bs k b) h c) ≡ map g bs) ⊎ (Shift k h l p (map g bs) (map g (set (set bs k b) h c)))
+  carried = elim (cases_eq l p.zero) [
+    | inl is ↦ by_message (inl is) (g (get_or bs k none)) refl
+    | inr nz ↦ elim (cases_eq l p.one) [ inl is ↦ by_message (inr is) (g (get_or bs k none)) refl | inr ny ↦ inl (elsewhere_same nz ny) ]
+  ]

@@ -1,0 +1,117 @@
+-- The six halves and two exchanges make the blocks the machine after one cycle of the definition.
+use Rattle.std.proofs.Common.{ℕ, ◌+◌, List, [], ◌++◌, sym, subst}
+use Rattle.ultra_msg.specs.declared.Event.{Event}
+use Rattle.ultra_isa.specs.declared.Instr.{Instr}
+use Rattle.ultra_model.specs.declared.Stop.{Stop}
+use Rattle.ultra_model.specs.Machine.{Settings, Machine}
+use Rattle.ultra_model.specs.Phases.{cycle, memory_phase, processor_phase, reply_phase, request_phase}
+use Rattle.ultra_section.specs.declared.half.Half.TheVariants.{SendReplies, SendRequests}
+use Rattle.ultra_section.specs.declared.rooms.Rooms.{Rooms as BlockRooms}
+use Rattle.ultra_section.specs.BlockState.{BlockState}
+use Rattle.ultra_course.specs.Frame.{Frame, AreRooms, IsClear}
+use Rattle.ultra_course.specs.Course.{combinations, deliveries, issues, servings, stops as all_stops}
+use Rattle.ultra_cut.specs.Cut.{frame_of}
+use Rattle.ultra_cut.specs.Exchange.{AreRepliesThere, AreRequestsThere, OnlyRepliesMove, OnlyRequestsMove}
+use Rattle.ultra_cut.specs.Halves.{OfEach, all_made, noted}
+use Rattle.ultra_cut.specs.Events.{events_of, stops_of}
+use Rattle.ultra_cut.specs.HappeningLaws.{TellAll}
+use Rattle.ultra_cut.specs.InOrder.{IsInOrder}
+use Rattle.ultra_cut.specs.Moments.{AreMachine}
+use Rattle.ultra_cut.proofs.Homes.{sites}
+use Rattle.ultra_cut.proofs.CycleEvents as tell
+use Rattle.ultra_cut.proofs.Replied as replied
+use Rattle.ultra_cut.proofs.Requested as requested
+
+module _ (c : Settings) (partition : List ℕ) (n : ℕ) (events : List Event) (stops : List Stop) (m : Machine) (program : List Instr)
+    (bs : List BlockState) (start : AreMachine c partition n events stops m bs) (clear : IsClear c.stages (frame_of c.stages partition bs))
+    (first : BlockRooms) (first_room : AreRooms c.stages (frame_of c.stages partition bs) (noted c.stages first))
+    (replies : List BlockState) (replies_moved : OnlyRepliesMove (all_made SendReplies first program bs) replies)
+    (replies_there : AreRepliesThere c.stages partition replies) where
+  abbrev d : ℕ
+  d = c.stages
+
+  abbrev f : List BlockState → Frame
+  f xs = frame_of d partition xs
+
+  abbrev taken : List BlockState
+  taken = tell.taken d n partition program first first bs replies replies
+
+  abbrev served : List BlockState
+  served = tell.served d n partition program first first bs replies replies
+
+  module _ (second : BlockRooms) (second_room : AreRooms d (f served) (noted d second))
+      (requests : List BlockState) (requests_moved : OnlyRequestsMove (all_made SendRequests second program served) requests)
+      (requests_there : AreRequestsThere d partition requests) where
+    abbrev waiting : List BlockState
+    waiting = tell.waiting d n partition program first second bs replies requests
+
+    abbrev stepped : List BlockState
+    stepped = tell.stepped d n partition program first second bs replies requests
+
+    abbrev told : List Event
+    told = deliveries d (f replies) ++ servings d (f taken)
+
+    served_machine : AreMachine c partition n told [] (memory_phase c (reply_phase c m)) served
+    served_machine = replied.served_machine c partition n events stops m program bs start clear first first_room replies replies_moved replies_there
+
+    served_clear : IsClear d (f served)
+    served_clear = replied.served_clear c partition n events stops m program bs start clear first first_room replies replies_moved replies_there
+
+    waiting_machine : AreMachine c partition n (told ++ combinations d n (f requests)) [] (request_phase c (memory_phase c (reply_phase c m))) waiting
+    waiting_machine =
+        requested.taken_machine c partition n told (memory_phase c (reply_phase c m)) program served served_machine served_clear
+        (replied.served_few c partition n events stops m program bs start clear first first_room replies replies_moved replies_there)
+        (replied.served_stops c partition n events stops m program bs start clear first first_room replies replies_moved replies_there)
+        second second_room requests requests_moved requests_there
+
+    stepped_machine : AreMachine c partition (n + 1) ((told ++ combinations d n (f requests)) ++ issues d program (f waiting)) (all_stops d program (f waiting))
+        (processor_phase c program (request_phase c (memory_phase c (reply_phase c m)))) stepped
+    stepped_machine =
+        requested.stepped_machine c partition n told (memory_phase c (reply_phase c m)) program served served_machine served_clear
+        (replied.served_few c partition n events stops m program bs start clear first first_room replies replies_moved replies_there)
+        (replied.served_stops c partition n events stops m program bs start clear first first_room replies replies_moved replies_there)
+        second second_room requests requests_moved requests_there
+
+    pub stepped_clear : IsClear d (f stepped)
+    stepped_clear =
+        requested.stepped_clear c partition n told (memory_phase c (reply_phase c m)) program served served_machine served_clear
+        (replied.served_few c partition n events stops m program bs start clear first first_room replies replies_moved replies_there)
+        (replied.served_stops c partition n events stops m program bs start clear first first_room replies replies_moved replies_there)
+        second second_room requests requests_moved requests_there
+
+    in_cycle : tell.AreInCycle d n partition program first second bs replies requests
+    in_cycle = record {
+      start = start.blocks;
+      replies_moved = replies_moved;
+      replies_there = replies_there;
+      replies_blocks = replied.there_blocks c partition n events stops m program bs start clear first first_room replies replies_moved replies_there;
+      replies_home = replied.there_home c partition n events stops m program bs start clear first first_room replies replies_moved replies_there;
+      taken_blocks = (replied.taken_machine c partition n events stops m program bs start clear first first_room replies replies_moved replies_there).blocks;
+      served_blocks = served_machine.blocks;
+      requests_moved = requests_moved;
+      requests_there = requests_there;
+      requests_blocks = requested.there_blocks c partition n told (memory_phase c (reply_phase c m)) program served served_machine served_clear
+          (replied.served_few c partition n events stops m program bs start clear first first_room replies replies_moved replies_there)
+          (replied.served_stops c partition n events stops m program bs start clear first first_room replies replies_moved replies_there)
+          second second_room requests requests_moved requests_there;
+      requests_done = requested.there_done c partition n told (memory_phase c (reply_phase c m)) program served served_machine served_clear
+          (replied.served_few c partition n events stops m program bs start clear first first_room replies replies_moved replies_there)
+          (replied.served_stops c partition n events stops m program bs start clear first first_room replies replies_moved replies_there)
+          second second_room requests requests_moved requests_there;
+      waiting_blocks = waiting_machine.blocks;
+      sites = sites c n (f waiting) (told ++ combinations d n (f requests)) [] (request_phase c (memory_phase c (reply_phase c m))) waiting_machine.machine;
+    }
+
+    tell_all : TellAll d n partition program (tell.course d n partition program first second bs replies requests)
+    tell_all = tell.tell_all d n partition program first second bs replies requests in_cycle
+
+    pub stepped_in_order : OfEach (IsInOrder d) stepped
+    stepped_in_order = tell.in_order d n partition program first second bs replies requests in_cycle
+
+    -- the blocks are the machine after the cycle, and what they tell, merged, is what happened in it
+    pub cycled : AreMachine c partition (n + 1) (events_of d stepped) (stops_of d stepped) (cycle c program m) stepped
+    unfolding cycle
+    cycled =
+        subst (λ es. AreMachine c partition (n + 1) es (stops_of d stepped) (processor_phase c program (request_phase c (memory_phase c (reply_phase c m)))) stepped) (sym tell_all.events)
+        (subst (λ ss. AreMachine c partition (n + 1) ((told ++ combinations d n (f requests)) ++ issues d program (f waiting)) ss (processor_phase c program (request_phase c (memory_phase c (reply_phase c m)))) stepped)
+        (sym tell_all.stops) stepped_machine)

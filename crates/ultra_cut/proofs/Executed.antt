@@ -1,0 +1,110 @@
+-- After every block has made a step of the program, the blocks are the frame in which each
+-- processing element has.
+use Rattle.std.proofs.Common.{◌≡◌, ℕ, ◌+◌, ◌-◌, ◌^◌, ◌<◌, ◌≤◌, List, [], true, Option, Some, None, length, refl, sym, ◌∙◌, ap, subst, arith, le-ltb}
+use Rattle.std.specs.Prelude.{is_some}
+use Rattle.ultra_isa.specs.declared.Instr.{Instr}
+use Rattle.ultra_units.specs.Numbers.{switch_count, unit_count, module_number, element_number}
+use Rattle.ultra_units.specs.Visits.{after_units}
+use Rattle.ultra_halves.specs.declared.elements.ProcessingElement.{ProcessingElement}
+use Rattle.ultra_halves.specs.Elements.{executed}
+use Rattle.ultra_section.specs.declared.half.Half.TheVariants.{Execute}
+use Rattle.ultra_section.specs.declared.rooms.Rooms.{Rooms}
+use Rattle.ultra_section.specs.BlockState.{BlockState, HasStopRoom, module_at, element_at}
+use Rattle.ultra_section.specs.Shape.{IsShaped}
+use Rattle.ultra_section.specs.Execution.{CanExecuteAt, ElementCanExecute, UnitCanExecute, counted, executes}
+use Rattle.ultra_section.specs.Units.{unit_of}
+use Rattle.ultra_section.specs.Making.{made}
+use Rattle.ultra_section.proofs.Few.{room_for_half}
+use Rattle.ultra_section.proofs.ExecutedOnce.{element_after_executing, kept_by_executing, shape_after_executing}
+use Rattle.ultra_section.proofs.Standing.{unit_of_switch, unit_of_module, unit_of_element}
+use Rattle.ultra_course.specs.Conditions.{CanExecute}
+use Rattle.ultra_cut.specs.Cut.{block_at, frame_of, given, home, no_element}
+use Rattle.ultra_cut.specs.Halves.{AreBlocks, HasHalfRoom, OfEach, all_made}
+use Rattle.ultra_cut.proofs.Numbers.{few_units}
+use Rattle.ultra_cut.specs.UnitLaws.{CanCount, CanExecuteLaw, ExecuteLaw, HasNoStops, HaveExecuted}
+use Rattle.ultra_cut.proofs.Units.{by_kind, element_stands, home_is}
+use Rattle.ultra_cut.proofs.Each.{HasWorked, have_frame, same_worked, worked}
+
+module _ (program : List Instr) (d : ℕ) (low : 1 ≤ d) (high : d ≤ 6) (b : BlockState) (shape : IsShaped d b) where
+  abbrev now : BlockState
+  now = after_units (executes program) 320 b
+
+  same_work : (o : Option ProcessingElement) → elim o [ None ↦ None | Some e ↦ Some (executed program e) ] ≡ worked (executed program) o
+  same_work None = refl
+  same_work (Some e) = refl
+
+  shape_now : IsShaped d now
+  shape_now = shape_after_executing program d b shape
+
+  has_executed : HasWorked d (λ m. m) (executed program) 1 b (counted now)
+  has_executed = record {
+    shaped = record {
+      stages = shape_now.stages;
+      switches = shape_now.switches;
+      modules = shape_now.modules;
+      elements = shape_now.elements;
+      replies = shape_now.replies;
+      requests = shape_now.requests;
+    };
+    done = ap (λ n. n + 1) (kept_by_executing program d (λ t. t.done) (λ p t e. refl) b shape);
+    switches = kept_by_executing program d (λ t. t.switches) (λ p t e. refl) b shape;
+    modules = λ m h. ap (λ ms. module_at ms m) (kept_by_executing program d (λ t. t.modules) (λ p t e. refl) b shape) ∙ same_worked (module_at b.modules m);
+    elements = λ p h.
+        let few = few_units d low high in
+        element_after_executing program d b shape p h (omega arith) ∙ same_work (element_at b.elements p);
+    replies = kept_by_executing program d (λ t. t.replies) (λ p t e. refl) b shape;
+    requests = kept_by_executing program d (λ t. t.requests) (λ p t e. refl) b shape;
+  }
+
+module _ (d : ℕ) (partition : List ℕ) (bs : List BlockState) (rooms : Rooms) (program : List Instr) (are : AreBlocks d partition bs) where
+  have_executed : HaveExecuted d partition program bs (all_made Execute rooms program bs)
+  have_executed = record {
+    frame =
+        have_frame d partition bs are (made Execute rooms program) (λ m. m) (executed program) 1
+        (λ k h. has_executed program d are.some_stages are.few_stages (block_at bs k) (are.shaped k h));
+  }
+
+pub execute_law : ExecuteLaw
+execute_law = have_executed
+
+-- ---- what the half asks
+some_is : {X : Type 0} (o : Option X) (x : X) → o ≡ Some x → is_some o ≡ true
+some_is o x is = ap is_some is
+
+module _ (d : ℕ) (partition : List ℕ) (bs : List BlockState) (are : AreBlocks d partition bs) (can : CanExecute d (frame_of d partition bs)) where
+  -- a processing element that stands in a block is that of the frame
+  element_can : (k : ℕ) → k < length bs → (p : ℕ) → p < 2 ^ d → ElementCanExecute p (block_at bs k)
+  element_can k h p small e is =
+      let unit : element_number d p < unit_count d = omega arith in
+      let there = element_stands d (block_at bs k) (are.cut.stages k h) p small ∙ some_is (element_at (block_at bs k).elements p) e is in
+      let same : home partition (element_number d p) ≡ k = home_is d partition bs are.cut (element_number d p) k unit h there in
+      let of_frame : (frame_of d partition bs).element p ≡ e =
+      ap (λ i. given no_element (element_at (block_at bs i).elements p)) same ∙ ap (given no_element) is in
+      subst (λ (e : ProcessingElement). e.issued < 2 ^ 32 - 1) of_frame (can.counted p small)
+
+  unit_can : (k : ℕ) → k < length bs → (n : ℕ) → UnitCanExecute (block_at bs k) (unit_of (block_at bs k).stages n)
+  unit_can k h n =
+      let b = block_at bs k in
+      subst (λ e. UnitCanExecute b (unit_of e n)) (sym (are.cut.stages k h))
+      (by_kind d (λ n. UnitCanExecute b (unit_of d n))
+      (λ n within. rw (unit_of_switch d n within) tt)
+      (λ m small. rw (unit_of_module d m small) tt)
+      (λ p small. rw (unit_of_element d p small) (element_can k h p small))
+      (λ n past. rw (UnitCanExecute, unit_of, le-ltb n (switch_count d) (omega arith), le-ltb n (switch_count d + 2 ^ d) (omega arith), le-ltb n (unit_count d) past) tt) n)
+
+  module _ (room : OfEach HasHalfRoom bs) (none : OfEach HasNoStops bs) where
+    stop_room : (k : ℕ) → k < length bs → (n : ℕ) → HasStopRoom n (block_at bs k)
+    stop_room k h n = let e : length (block_at bs k).stops ≡ 0 = ap (λ ss. length ss) (none k h) in omega (arith, e)
+
+    can_execute_at : (k : ℕ) → k < length bs → (n : ℕ) → CanExecuteAt n (block_at bs k)
+    can_execute_at k h n = record {
+      unit = unit_can k h n;
+      event_room = room_for_half (block_at bs k) (room k h) n;
+      stop_room = stop_room k h n;
+    }
+
+pub can_execute_law : CanExecuteLaw
+can_execute_law = λ d partition bs are few can room none k h. record {
+  few = few k h;
+  units = λ n within. can_execute_at d partition bs are can room none k h n;
+}

@@ -1,0 +1,192 @@
+-- Which units of a whole machine hold something, as its blocks say it one after another.
+use Rattle.std.proofs.Common.{◌≡◌, ℕ, ◌+◌, ◌*◌, ◌-◌, ◌^◌, ◌<◌, ◌≤◌, List, Bool, true, false, Option, Some, None, length, refl, sym, ◌∙◌, ap, subst, arith, inl, inr, lt-ltb, le-ltb}
+use Rattle.std.specs.Prelude.{◌==◌, ◌&&◌, ◌||◌, is_some, nat_lt}
+use Rattle.std.proofs.lemmas.Bool.{cases_lt, eqb-true}
+use Rattle.ultra_msg.specs.declared.Event.{Event}
+use Rattle.ultra_route.proofs.Table.{sizes}
+use Rattle.ultra_switch.specs.declared.Switch.{Switch}
+use Rattle.ultra_mem.specs.Serve.{empty_bank}
+use Rattle.ultra_model.specs.declared.Stop.{Stop}
+use Rattle.ultra_model.specs.Machine.{Settings, Machine, lane_at, replies_at, bank_at, element_at}
+use Rattle.ultra_units.specs.Numbers.{switch_count, switch_number, unit_count, module_number, element_number}
+use Rattle.ultra_halves.specs.Elements.{element_of}
+use Rattle.ultra_halves.specs.declared.elements.ProcessingElement.{ProcessingElement}
+use Rattle.ultra_section.specs.declared.held.Held.{Held}
+use Rattle.ultra_section.specs.declared.held.Held.TheVariants.{Reply, Request, Record}
+use Rattle.ultra_section.specs.Units.{of_unit, stage_of, index_of}
+use Rattle.ultra_section.specs.Sets.{if_here}
+use Rattle.ultra_section.specs.BlockState.{BlockState, switch_at, module_at}
+use Rattle.ultra_section.specs.BlockState.{element_at as own_element_at}
+use Rattle.ultra_section.specs.Holding.{IsNextWhere, holds_at, switch_holds, module_holds, element_holds}
+use Rattle.ultra_section.proofs.Standing.{is_switch}
+use Rattle.ultra_section.proofs.Holding.{at_switch, at_module, at_element, at_none}
+use Rattle.ultra_course.specs.Ports.{at_port}
+use Rattle.ultra_course.specs.Frame.{Frame}
+use Rattle.ultra_course.specs.Whole.{whole}
+use Rattle.ultra_course.proofs.Numbers.{at_even, at_odd}
+use Rattle.ultra_course.proofs.AtFrame.{lane_is, replies_is, bank_is, element_is}
+use Rattle.ultra_cut.specs.Cut.{block_at, frame_of, given, home, no_switch, no_element}
+use Rattle.ultra_cut.specs.Halves.{AreBlocks}
+use Rattle.ultra_cut.specs.Holding.{holds, stage_holds, interface_holds}
+use Rattle.ultra_cut.proofs.Units.{by_kind, element_stands}
+use Rattle.ultra_cut.proofs.Numbers.{not_equal}
+use Rattle.ultra_cut.proofs.Noted.{equal, next_is, switch_there, module_there}
+
+and_false : (b : Bool) → false ≡ (b && false)
+and_false true = refl
+and_false false = refl
+
+pub same_next : (p q : ℕ → Bool) (from : ℕ) → ((n : ℕ) → p n ≡ q n) → (o : Option ℕ) → IsNextWhere p from o → IsNextWhere q from o
+same_next p q from same None next = record { some = tt; none = λ n after. sym (same n) ∙ next.none n after }
+same_next p q from same (Some k) next = record {
+  some = record {
+    after = next.some.after;
+    there = sym (same k) ∙ next.some.there;
+    between = λ n after before. sym (same n) ∙ next.some.between n after before;
+  };
+  none = tt;
+}
+
+-- ---- what a unit of the machine holds is what that of the frame does
+module _ (c : Settings) (low : 1 ≤ c.stages) (high : c.stages ≤ 6) (f : Frame) (n : ℕ) (events : List Event) (stops : List Stop) where
+  abbrev m : Machine
+  m = whole c f n events stops
+
+  abbrev d : ℕ
+  d = c.stages
+
+  module _ (s k : ℕ) (hs : s < d) (hk : k < 2 ^ (d - 1)) where
+    abbrev w : Switch
+    w = f.switch (switch_number d s k)
+
+    even : 2 * k < 2 ^ d
+    even = let two = (sizes d low high).0 in omega (arith, two, hk)
+
+    odd : 2 * k + 1 < 2 ^ d
+    odd = let two = (sizes d low high).0 in omega (arith, two, hk)
+
+    zero_lane : lane_at m s (2 * k) ≡ w.to_mm.zero.lane
+    zero_lane = lane_is c f n events stops s (2 * k) hs even ∙ at_even (λ k j. (at_port (f.switch (switch_number d s k)).to_mm j).lane) k
+
+    one_lane : lane_at m s (2 * k + 1) ≡ w.to_mm.one.lane
+    one_lane = lane_is c f n events stops s (2 * k + 1) hs odd ∙ at_odd (λ k j. (at_port (f.switch (switch_number d s k)).to_mm j).lane) k
+
+    zero_replies : replies_at m s (2 * k) ≡ w.to_pe.zero.replies
+    zero_replies = replies_is c f n events stops s (2 * k) hs even ∙ at_even (λ k j. (at_port (f.switch (switch_number d s k)).to_pe j).replies) k
+
+    one_replies : replies_at m s (2 * k + 1) ≡ w.to_pe.one.replies
+    one_replies = replies_is c f n events stops s (2 * k + 1) hs odd ∙ at_odd (λ k j. (at_port (f.switch (switch_number d s k)).to_pe j).replies) k
+
+    stage_is : (held : Held) → stage_holds m held s k ≡ switch_holds held w
+    stage_is Reply = rw (zero_replies, one_replies) refl
+    stage_is Request = rw (zero_lane, one_lane) refl
+    stage_is Record = rw (zero_lane, one_lane) refl
+
+  interface_is : (held : Held) (e : ProcessingElement) → interface_holds held (element_of e) ≡ element_holds held e
+  interface_is Reply e = refl
+  interface_is Request e = refl
+  interface_is Record e = refl
+
+  module _ (held : Held) where
+    switch_holding : (u : ℕ) → u < switch_count d → holds d m held u ≡ switch_holds held (f.switch u)
+    switch_holding u h =
+        let is = is_switch d u h in
+        at_switch d (stage_holds m held) _ _ false u h ∙ stage_is (stage_of d u) (index_of d u) is.stage_small is.index_small held ∙ ap (λ k. switch_holds held (f.switch k)) (sym is.number)
+
+    module_holding : (j : ℕ) → j < 2 ^ d → holds d m held (module_number d j) ≡ module_holds held (f.bank j)
+    module_holding j h = at_module d _ (λ j. module_holds held (bank_at m j)) _ false j h ∙ ap (module_holds held) (bank_is c f n events stops j h)
+
+    element_holding : (p : ℕ) → p < 2 ^ d → holds d m held (element_number d p) ≡ element_holds held (f.element p)
+    element_holding p h = at_element d _ _ (λ p. interface_holds held (element_at m p)) false p h ∙ ap (interface_holds held) (element_is c f n events stops p h) ∙ interface_is held (f.element p)
+
+    none_holding : (u : ℕ) → unit_count d ≤ u → holds d m held u ≡ false
+    none_holding u past = at_none d (stage_holds m held) (λ j. module_holds held (bank_at m j)) (λ p. interface_holds held (element_at m p)) false u past
+
+-- ---- one block
+one_there : {X : Type 0} (p : X → Bool) (nothing : X) (o : Option X) (there own : Bool) → is_some o ≡ there → (there ≡ true → p (given nothing o) ≡ own) → if_here p o ≡ (there && own)
+one_there p nothing None true own some is = absurd (let e : false ≡ true = some in cc)
+one_there p nothing None false own some is = refl
+one_there p nothing (Some x) true own some is = is refl
+one_there p nothing (Some x) false own some is = absurd (let e : true ≡ false = some in cc)
+
+module _ (held : Held) (d : ℕ) (b : BlockState) (stages : b.stages ≡ d) where
+  -- what there is at number u, of a machine of e stages
+  abbrev own_at : ℕ → ℕ → Bool
+  own_at u e =
+      of_unit e
+      (λ s k. if_here (switch_holds held) (switch_at b.switches u))
+      (λ j. if_here (module_holds held) (module_at b.modules j))
+      (λ p. if_here (element_holds held) (own_element_at b.elements p))
+      false u
+
+  own_switch : (u : ℕ) → u < switch_count d → holds_at b held u ≡ if_here (switch_holds held) (switch_at b.switches u)
+  own_switch u h = ap (own_at u) stages ∙ at_switch d (λ s k. if_here (switch_holds held) (switch_at b.switches u)) _ _ false u h
+
+  own_module : (j : ℕ) → j < 2 ^ d → holds_at b held (module_number d j) ≡ if_here (module_holds held) (module_at b.modules j)
+  own_module j h = ap (own_at (module_number d j)) stages ∙ at_module d _ (λ j. if_here (module_holds held) (module_at b.modules j)) _ false j h
+
+  own_element : (p : ℕ) → p < 2 ^ d → holds_at b held (element_number d p) ≡ if_here (element_holds held) (own_element_at b.elements p)
+  own_element p h = ap (own_at (element_number d p)) stages ∙ at_element d _ _ (λ p. if_here (element_holds held) (own_element_at b.elements p)) false p h
+
+  own_none : (u : ℕ) → unit_count d ≤ u → holds_at b held u ≡ false
+  own_none u past = ap (own_at u) stages ∙ at_none d _ _ _ false u past
+
+-- ---- all blocks
+module _ (c : Settings) (partition : List ℕ) (bs : List BlockState) (are : AreBlocks c.stages partition bs) (n : ℕ) (events : List Event) (stops : List Stop) (held : Held) where
+  abbrev pub whole_machine : Machine
+  whole_machine = whole c (frame_of c.stages partition bs) n events stops
+
+  abbrev pub whole_holds : ℕ → Bool
+  whole_holds u = holds c.stages whole_machine held u
+
+  element_there : (p : ℕ) → p < 2 ^ c.stages → (i : ℕ) → i < length bs
+      → is_some (own_element_at (block_at bs i).elements p) ≡ (home partition (element_number c.stages p) == i)
+  element_there p h i within =
+      sym (element_stands c.stages (block_at bs i) (are.cut.stages i within) p h) ∙ are.cut.stand i (element_number c.stages p) within (omega arith)
+
+  -- block i holds what its own units do
+  holds_here : (i : ℕ) → i < length bs → (u : ℕ) → holds_at (block_at bs i) held u ≡ ((home partition u == i) && whole_holds u)
+  holds_here i within =
+      let f = frame_of c.stages partition bs in
+      let b = block_at bs i in
+      let stages = are.cut.stages i within in
+      by_kind c.stages (λ u. holds_at b held u ≡ ((home partition u == i) && whole_holds u))
+      (λ u h.
+      own_switch held c.stages b stages u h
+      ∙ one_there (switch_holds held) no_switch (switch_at b.switches u) (home partition u == i) (whole_holds u) (switch_there c.stages partition bs are.cut u h i within)
+      (λ there. ap (λ k. switch_holds held (given no_switch (switch_at (block_at bs k).switches u))) (sym (eqb-true _ _ there))
+      ∙ sym (switch_holding c are.some_stages are.few_stages f n events stops held u h)))
+      (λ j h.
+      own_module held c.stages b stages j h
+      ∙ one_there (module_holds held) empty_bank (module_at b.modules j) (home partition (module_number c.stages j) == i) (whole_holds (module_number c.stages j)) (module_there c.stages partition bs are.cut j h i within)
+      (λ there. ap (λ k. module_holds held (given empty_bank (module_at (block_at bs k).modules j))) (sym (eqb-true _ _ there))
+      ∙ sym (module_holding c are.some_stages are.few_stages f n events stops held j h)))
+      (λ p h.
+      own_element held c.stages b stages p h
+      ∙ one_there (element_holds held) no_element (own_element_at b.elements p) (home partition (element_number c.stages p) == i) (whole_holds (element_number c.stages p)) (element_there p h i within)
+      (λ there. ap (λ k. element_holds held (given no_element (own_element_at (block_at bs k).elements p))) (sym (eqb-true _ _ there))
+      ∙ sym (element_holding c are.some_stages are.few_stages f n events stops held p h)))
+      (λ u past.
+      own_none held c.stages b stages u past ∙ and_false (home partition u == i)
+      ∙ ap (λ x. (home partition u == i) && x) (sym (none_holding c are.some_stages are.few_stages f n events stops held u past)))
+
+  -- of the units of the blocks below i
+  abbrev pub below : ℕ → ℕ → Bool
+  below i u = nat_lt (home partition u) i && whole_holds u
+
+  pub none_below : (from : ℕ) → IsNextWhere (below 0) from None
+  none_below from = record { some = tt; none = λ u after. ap (λ b. b && whole_holds u) (le-ltb (home partition u) 0 (omega arith)) }
+
+  pub next_below : (i : ℕ) → i < length bs → (u : ℕ) → (below i u || holds_at (block_at bs i) held u) ≡ below (i + 1) u
+  next_below i within u =
+      next_is (home partition u) i (below i u) (below i u || holds_at (block_at bs i) held u) (holds_at (block_at bs i) held u) (whole_holds u) refl refl
+      (λ same. holds_here i within u ∙ ap (λ b. b && whole_holds u) (equal (home partition u) i same))
+      (λ apart. holds_here i within u ∙ ap (λ b. b && whole_holds u) (not_equal (home partition u) i apart))
+
+  pub all_below : (i : ℕ) → i ≡ length bs → (u : ℕ) → below i u ≡ whole_holds u
+  all_below i all u = elim (cases_lt u (unit_count c.stages)) [
+    | inl h ↦ ap (λ b. b && whole_holds u) (lt-ltb (home partition u) i (subst (λ k. home partition u < k) (sym all) (are.cut.homes u h)))
+    | inr past ↦
+        let none = none_holding c are.some_stages are.few_stages (frame_of c.stages partition bs) n events stops held u past in
+        ap (λ b. nat_lt (home partition u) i && b) none ∙ sym (and_false (nat_lt (home partition u) i)) ∙ sym none
+  ]

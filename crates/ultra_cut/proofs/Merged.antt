@@ -1,0 +1,140 @@
+-- What blocks tell in four halves, one after another, merged by rank.
+use Rattle.std.proofs.Common.{◌≡◌, ◌≢◌, ℕ, ◌+◌, ◌-◌, ◌<◌, ◌≤◌, List, [], ◌++◌, sym, ◌∙◌, ap, arith, append-nil}
+use Rattle.std.proofs.lemmas.List.Elements.{filter-append}
+use Rattle.std.specs.Prelude.{◌==◌}
+use Rattle.ultra_model.specs.Places.{places, joined}
+use Rattle.ultra_cut.proofs.Joined.{joined_split, joined_same}
+use Rattle.ultra_cut.proofs.Ranked.{of_rank, IsPart, away, merged}
+
+-- ---- of four lists only one has something
+module _ {X : Type 0} (a b c d : List X) where
+  only_first : b ≡ [] → c ≡ [] → d ≡ [] → a ++ (b ++ (c ++ d)) ≡ a
+  only_first hb hc hd =
+      ap (λ xs. a ++ (xs ++ (c ++ d))) hb ∙ ap (λ xs. a ++ (xs ++ d)) hc ∙ ap (λ xs. a ++ xs) hd ∙ append-nil a
+
+  only_second : a ≡ [] → c ≡ [] → d ≡ [] → a ++ (b ++ (c ++ d)) ≡ b
+  only_second ha hc hd =
+      ap (λ xs. xs ++ (b ++ (c ++ d))) ha ∙ ap (λ xs. b ++ (xs ++ d)) hc ∙ ap (λ xs. b ++ xs) hd ∙ append-nil b
+
+  only_third : a ≡ [] → b ≡ [] → d ≡ [] → a ++ (b ++ (c ++ d)) ≡ c
+  only_third ha hb hd =
+      ap (λ xs. xs ++ (b ++ (c ++ d))) ha ∙ ap (λ xs. xs ++ (c ++ d)) hb ∙ ap (λ xs. c ++ xs) hd ∙ append-nil c
+
+  only_fourth : a ≡ [] → b ≡ [] → c ≡ [] → a ++ (b ++ (c ++ d)) ≡ d
+  only_fourth ha hb hc =
+      ap (λ xs. xs ++ (b ++ (c ++ d))) ha ∙ ap (λ xs. xs ++ (c ++ d)) hb ∙ ap (λ xs. xs ++ d) hc
+
+pub all_same : {X : Type 0} {a b c d p q r s : List X} → a ≡ p → b ≡ q → c ≡ r → d ≡ s → a ++ (b ++ (c ++ d)) ≡ p ++ (q ++ (r ++ s))
+all_same ha hb hc hd = cc
+
+-- 1280 lists are four times 320
+in_four : {X : Type 0} (g : ℕ → List X) → joined (places 1280 g)
+    ≡ joined (places 320 (λ i. g (0 + i))) ++ (joined (places 320 (λ i. g (320 + i))) ++ (joined (places 320 (λ i. g (640 + i))) ++ joined (places 320 (λ i. g (960 + i)))))
+in_four g =
+    let first = joined (places 320 (λ i. g (0 + i))) in
+    let second = joined (places 320 (λ i. g (320 + i))) in
+    joined_split 320 960 g
+    ∙ ap (λ xs. xs ++ joined (places 960 (λ i. g (320 + i)))) (joined_same 320 g (λ i. g (0 + i)) (λ i h. ap g (omega arith)))
+    ∙ ap (λ xs. first ++ xs) (joined_split 320 640 (λ i. g (320 + i)))
+    ∙ ap (λ xs. first ++ (second ++ xs)) (joined_same 640 (λ i. g (320 + (320 + i))) (λ i. g (640 + i)) (λ i h. ap g (omega arith)) ∙ joined_split 320 320 (λ i. g (640 + i)))
+    ∙ ap (λ xs. first ++ (second ++ (joined (places 320 (λ i. g (640 + i))) ++ xs))) (joined_same 320 (λ i. g (640 + (320 + i))) (λ i. g (960 + i)) (λ i h. ap g (omega arith)))
+
+-- what `count` blocks tell of n units in a half: f k i by block k of unit i, which has rank base + i
+-- among the `width` ranks from `low` on
+pub record Part {X : Type 0} (rank : X → ℕ) (count low width : ℕ) : Type 0 where
+  pub base : ℕ
+  pub n : ℕ
+  pub told : ℕ → ℕ → List X
+  pub home : ℕ → ℕ
+  pub is : IsPart rank count base n told home
+  pub from : low ≤ base
+  pub to : base + n ≤ low + width
+
+module _ {X : Type 0} (rank : X → ℕ) (count : ℕ) where
+  -- by block k of all units, and of each unit by its home
+  abbrev pub all_by : {low width : ℕ} → Part rank count low width → ℕ → List X
+  all_by p k = joined (places p.n (p.told k))
+
+  abbrev pub all_home : {low width : ℕ} → Part rank count low width → List X
+  all_home p = joined (places p.n (λ i. p.told (p.home i) i))
+
+  -- ---- one part
+  module _ (low width : ℕ) (p : Part rank count low width) where
+    far : (r k : ℕ) → k < count → ((q : ℕ) → low ≤ q → q < low + width → q ≢ r) → of_rank rank r (all_by p k) ≡ []
+    far r k h others =
+        let from = p.from in
+        let to = p.to in
+        away rank count p.base p.n p.told p.home p.is r k h (λ i within. others (p.base + i) (omega arith) (omega arith))
+
+    pub merged_part : joined (places width (λ i. joined (places count (λ k. of_rank rank (low + i) (all_by p k))))) ≡ all_home p
+    merged_part =
+        let from = p.from in
+        let to = p.to in
+        let at : low + (p.base - low) ≡ p.base = omega arith in
+        let all : (p.base - low) + (p.n + (low + width - (p.base + p.n))) ≡ width = omega arith in
+        ap (λ n. joined (places n (λ i. joined (places count (λ k. of_rank rank (low + i) (all_by p k)))))) (sym all)
+        ∙ merged rank count p.base p.n p.told p.home p.is low (p.base - low) (low + width - (p.base + p.n)) at
+
+  -- ---- four
+  module _ (a : Part rank count 0 320) (b : Part rank count 320 320) (c : Part rank count 640 320) (d : Part rank count 960 320) (told : ℕ → List X)
+      (tells : (k : ℕ) → k < count → told k ≡ all_by a k ++ (all_by b k ++ (all_by c k ++ all_by d k))) where
+    picked_of : (r k : ℕ) → k < count → of_rank rank r (told k) ≡ of_rank rank r (all_by a k) ++ (of_rank rank r (all_by b k) ++ (of_rank rank r (all_by c k) ++ of_rank rank r (all_by d k)))
+    picked_of r k h =
+        let test = λ (x : X). rank x == r in
+        ap (of_rank rank r) (tells k h)
+        ∙ filter-append test (all_by a k) (all_by b k ++ (all_by c k ++ all_by d k))
+        ∙ ap (λ xs. of_rank rank r (all_by a k) ++ xs) (filter-append test (all_by b k) (all_by c k ++ all_by d k))
+        ∙ ap (λ xs. of_rank rank r (all_by a k) ++ (of_rank rank r (all_by b k) ++ xs)) (filter-append test (all_by c k) (all_by d k))
+
+    module _ (r k : ℕ) (h : k < count) where
+      at_first : r < 320 → of_rank rank r (told k) ≡ of_rank rank r (all_by a k)
+      at_first small =
+          picked_of r k h
+          ∙ only_first _ _ _ _
+          (far 320 320 b r k h (λ q l u e. absurd (omega arith)))
+          (far 640 320 c r k h (λ q l u e. absurd (omega arith)))
+          (far 960 320 d r k h (λ q l u e. absurd (omega arith)))
+
+      at_second : 320 ≤ r → r < 640 → of_rank rank r (told k) ≡ of_rank rank r (all_by b k)
+      at_second large small =
+          picked_of r k h
+          ∙ only_second _ _ _ _
+          (far 0 320 a r k h (λ q l u e. absurd (omega arith)))
+          (far 640 320 c r k h (λ q l u e. absurd (omega arith)))
+          (far 960 320 d r k h (λ q l u e. absurd (omega arith)))
+
+      at_third : 640 ≤ r → r < 960 → of_rank rank r (told k) ≡ of_rank rank r (all_by c k)
+      at_third large small =
+          picked_of r k h
+          ∙ only_third _ _ _ _
+          (far 0 320 a r k h (λ q l u e. absurd (omega arith)))
+          (far 320 320 b r k h (λ q l u e. absurd (omega arith)))
+          (far 960 320 d r k h (λ q l u e. absurd (omega arith)))
+
+      at_fourth : 960 ≤ r → of_rank rank r (told k) ≡ of_rank rank r (all_by d k)
+      at_fourth large =
+          picked_of r k h
+          ∙ only_fourth _ _ _ _
+          (far 0 320 a r k h (λ q l u e. absurd (omega arith)))
+          (far 320 320 b r k h (λ q l u e. absurd (omega arith)))
+          (far 640 320 c r k h (λ q l u e. absurd (omega arith)))
+
+    abbrev merged_at : ℕ → List X
+    merged_at r = joined (places count (λ k. of_rank rank r (told k)))
+
+    -- those of one part, if at its ranks nothing else is
+    of_part : (low : ℕ) (p : Part rank count low 320) → ((r k : ℕ) → k < count → low ≤ r → r < low + 320 → of_rank rank r (told k) ≡ of_rank rank r (all_by p k))
+        → joined (places 320 (λ i. merged_at (low + i))) ≡ all_home p
+    of_part low p alone =
+        joined_same 320 (λ i. merged_at (low + i)) (λ i. joined (places count (λ k. of_rank rank (low + i) (all_by p k))))
+        (λ i h. joined_same count (λ k. of_rank rank (low + i) (told k)) (λ k. of_rank rank (low + i) (all_by p k)) (λ k within. alone (low + i) k within (omega arith) (omega arith)))
+        ∙ merged_part low 320 p
+
+    pub merged_four : joined (places 1280 merged_at) ≡ all_home a ++ (all_home b ++ (all_home c ++ all_home d))
+    merged_four =
+        in_four merged_at
+        ∙ all_same
+        (of_part 0 a (λ r k h l u. at_first r k h (omega arith)))
+        (of_part 320 b (λ r k h l u. at_second r k h l (omega arith)))
+        (of_part 640 c (λ r k h l u. at_third r k h l (omega arith)))
+        (of_part 960 d (λ r k h l u. at_fourth r k h l))

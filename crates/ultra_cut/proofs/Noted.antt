@@ -1,0 +1,172 @@
+-- What blocks note one after another: of a unit without room, once its home has.
+use Rattle.std.proofs.Common.{◌≡◌, ◌≢◌, ℕ, zero, suc, ◌+◌, ◌^◌, ◌<◌, List, Bool, true, false, Option, Some, None, length, refl, sym, ◌∙◌, ap, subst, inl, inr, arith, lt-ltb, le-ltb}
+use Rattle.std.specs.Prelude.{◌==◌, ◌&&◌, ◌||◌, is_some, nat_lt, not}
+use Rattle.std.proofs.lemmas.Bool.{cases_eq, cases_lt}
+use Rattle.std.proofs.lemmas.Bool.Decides.{nat_tests}
+use Rattle.ultra_mem.specs.Serve.{Bank, empty_bank}
+use Rattle.ultra_switch.specs.declared.Switch.{Switch}
+use Rattle.ultra_model.specs.Machine.{is_nothing}
+use Rattle.ultra_units.specs.Set.{has_unit, HasNoneFrom}
+use Rattle.ultra_units.specs.Numbers.{switch_count, unit_count, module_number}
+use Rattle.ultra_halves.specs.Switches.{has_reply_room, has_request_room}
+use Rattle.ultra_section.specs.BlockState.{BlockState, switch_at, module_at}
+use Rattle.ultra_section.specs.Rooms.{HasNoted}
+use Rattle.ultra_section.specs.Sets.{if_here}
+use Rattle.ultra_section.specs.declared.rooms.Rooms.{Rooms}
+use Rattle.ultra_course.specs.Ports.{at_port}
+use Rattle.ultra_course.specs.Frame.{AreRooms, Frame}
+use Rattle.ultra_cut.specs.Cut.{IsCut, block_at, frame_of, given, home, no_switch}
+use Rattle.ultra_cut.specs.Halves.{noted}
+use Rattle.ultra_cut.proofs.Numbers.{not_equal}
+use Rattle.ultra_cut.proofs.Units.{switch_stands, module_stands}
+
+-- ---- tests
+pub equal : (a b : ℕ) → a ≡ b → (a == b) ≡ true
+equal a b h = grind (arith, nat_tests)
+
+or_nothing : (b : Bool) → (b || false) ≡ b
+or_nothing true = refl
+or_nothing false = refl
+
+not_twice : (b : Bool) → not (not b) ≡ b
+not_twice true = refl
+not_twice false = refl
+
+not_some : {X : Type 0} (o : Option X) → not (is_some o) ≡ is_nothing o
+not_some None = refl
+not_some (Some x) = refl
+
+if_stands : {X : Type 0} (p : X → Bool) (nothing : X) (o : Option X) → is_some o ≡ true → if_here p o ≡ p (given nothing o)
+if_stands p nothing None some = absurd (let e : false ≡ true = some in cc)
+if_stands p nothing (Some x) some = refl
+
+if_elsewhere : {X : Type 0} (p : X → Bool) (o : Option X) → is_some o ≡ false → if_here p o ≡ false
+if_elsewhere p None none = refl
+if_elsewhere p (Some x) none = absurd (let e : true ≡ false = none in cc)
+
+same_below : (h i : ℕ) → h ≢ i → nat_lt h i ≡ nat_lt h (i + 1)
+same_below h i other = elim (cases_lt h i) [
+  | inl below ↦ lt-ltb h i below ∙ sym (lt-ltb h (i + 1) (omega arith))
+  | inr past ↦ elim (cases_lt i h) [
+    | inl above ↦ le-ltb h i past ∙ sym (le-ltb h (i + 1) (omega arith))
+    | inr most ↦ absurd (other (omega arith))
+  ]
+]
+
+-- what is noted of a unit by block i, where the first blocks, fewer than i, have noted it or not
+pub next_is : (h i : ℕ) (was now here p : Bool) → was ≡ (nat_lt h i && p) → now ≡ (was || here) → (h ≡ i → here ≡ p)
+    → (h ≢ i → here ≡ false) → now ≡ (nat_lt h (i + 1) && p)
+next_is h i was now here p before is own other = elim (cases_eq h i) [
+  | inl same ↦
+      is ∙ ap (λ x. x || here) (before ∙ ap (λ b. b && p) (le-ltb h i (omega arith))) ∙ own same
+      ∙ sym (ap (λ b. b && p) (lt-ltb h (i + 1) (omega arith)))
+  | inr apart ↦
+      is ∙ ap (λ x. was || x) (other apart) ∙ or_nothing was ∙ before ∙ ap (λ b. b && p) (same_below h i apart)
+]
+
+module _ (d : ℕ) (partition : List ℕ) (bs : List BlockState) where
+  abbrev frame : Frame
+  frame = frame_of d partition bs
+
+  -- what the blocks below i have noted
+  pub record HaveNoted (i : ℕ) (rooms : Rooms) : Type 0 where
+    pub replies : (n : ℕ) → n < switch_count d
+        → has_unit rooms.no_reply_room n ≡ (nat_lt (home partition n) i && not (has_reply_room (frame.switch n)))
+    pub zero_port : (n : ℕ) → n < switch_count d
+        → has_unit rooms.no_request_room.zero n ≡ (nat_lt (home partition n) i && not (has_request_room (frame.switch n)).zero)
+    pub one_port : (n : ℕ) → n < switch_count d
+        → has_unit rooms.no_request_room.one n ≡ (nat_lt (home partition n) i && not (has_request_room (frame.switch n)).one)
+    pub modules : (m : ℕ) → m < 2 ^ d
+        → has_unit rooms.no_request_room.zero (module_number d m) ≡ (nat_lt (home partition (module_number d m)) i && is_some (frame.bank m).inp)
+
+  none_is : (set : List ℕ) (h n : ℕ) (p : Bool) → HasNoneFrom set 0 → has_unit set n ≡ (nat_lt h 0 && p)
+  none_is set h n p none = none n (omega arith) ∙ sym (ap (λ b. b && p) (le-ltb h 0 (omega arith)))
+
+  pub none_noted : (rooms : Rooms) → HasNoneFrom rooms.no_reply_room 0 → HasNoneFrom rooms.no_request_room.zero 0
+      → HasNoneFrom rooms.no_request_room.one 0 → HaveNoted 0 rooms
+  none_noted rooms replies zeros ones = record {
+    replies = λ n h. none_is rooms.no_reply_room (home partition n) n (not (has_reply_room (frame.switch n))) replies;
+    zero_port = λ n h. none_is rooms.no_request_room.zero (home partition n) n (not (has_request_room (frame.switch n)).zero) zeros;
+    one_port = λ n h. none_is rooms.no_request_room.one (home partition n) n (not (has_request_room (frame.switch n)).one) ones;
+    modules = λ m h.
+        none_is rooms.no_request_room.zero (home partition (module_number d m)) (module_number d m) (is_some (frame.bank m).inp) zeros;
+  }
+
+  module _ (cut : IsCut d partition bs) where
+    -- a unit of one kind, with number n, which stands in its home alone
+    module _ {X : Type 0} (get : BlockState → Option X) (nothing : X) (n : ℕ)
+        (stands : (i : ℕ) → i < length bs → is_some (get (block_at bs i)) ≡ (home partition n == i)) where
+      abbrev unit : X
+      unit = given nothing (get (block_at bs (home partition n)))
+
+      next_unit : (p : X → Bool) (i : ℕ) → i < length bs → (was now : Bool) → was ≡ (nat_lt (home partition n) i && p unit)
+          → now ≡ (was || if_here p (get (block_at bs i))) → now ≡ (nat_lt (home partition n) (i + 1) && p unit)
+      next_unit p i within was now before is =
+          next_is (home partition n) i was now (if_here p (get (block_at bs i))) (p unit) before is
+          (λ same. if_stands p nothing (get (block_at bs i)) (stands i within ∙ equal _ _ same) ∙ ap (λ k. p (given nothing (get (block_at bs k)))) (sym same))
+          (λ apart. if_elsewhere p (get (block_at bs i)) (stands i within ∙ not_equal _ _ apart))
+
+    pub switch_there : (n : ℕ) → n < switch_count d → (i : ℕ) → i < length bs
+        → is_some (switch_at (block_at bs i).switches n) ≡ (home partition n == i)
+    switch_there n h i within = sym (switch_stands d (block_at bs i) (cut.stages i within) n h) ∙ cut.stand i n within (omega arith)
+
+    pub module_there : (m : ℕ) → m < 2 ^ d → (i : ℕ) → i < length bs
+        → is_some (module_at (block_at bs i).modules m) ≡ (home partition (module_number d m) == i)
+    module_there m h i within =
+        sym (module_stands d (block_at bs i) (cut.stages i within) m h) ∙ cut.stand i (module_number d m) within (omega arith)
+
+    next_switch : (n : ℕ) → n < switch_count d → (p : Switch → Bool) (i : ℕ) → i < length bs → (was now : Bool)
+        → was ≡ (nat_lt (home partition n) i && p (frame.switch n)) → now ≡ (was || if_here p (switch_at (block_at bs i).switches n))
+        → now ≡ (nat_lt (home partition n) (i + 1) && p (frame.switch n))
+    next_switch n h = next_unit (λ b. switch_at b.switches n) no_switch n (switch_there n h)
+
+    next_module : (m : ℕ) → m < 2 ^ d → (p : Bank → Bool) (i : ℕ) → i < length bs → (was now : Bool)
+        → was ≡ (nat_lt (home partition (module_number d m)) i && p (frame.bank m)) → now ≡ (was || if_here p (module_at (block_at bs i).modules m))
+        → now ≡ (nat_lt (home partition (module_number d m)) (i + 1) && p (frame.bank m))
+    next_module m h = next_unit (λ b. module_at b.modules m) empty_bank (module_number d m) (module_there m h)
+
+    -- block i notes its own
+    module _ (i : ℕ) (within : i < length bs) (old now : Rooms) (before : HaveNoted i old) (notes : HasNoted (block_at bs i) old now) where
+      switch_small : (n : ℕ) → n < switch_count d → n < switch_count (block_at bs i).stages
+      switch_small n h = subst (λ e. n < switch_count e) (sym (cut.stages i within)) h
+
+      module_noted : (m : ℕ) → m < 2 ^ d → has_unit now.no_request_room.zero (module_number d m)
+          ≡ (has_unit old.no_request_room.zero (module_number d m) || if_here (λ (bank : Bank). is_some bank.inp) (module_at (block_at bs i).modules m))
+      module_noted m h =
+          subst (λ e. m < 2 ^ e → has_unit now.no_request_room.zero (module_number e m)
+          ≡ (has_unit old.no_request_room.zero (module_number e m) || if_here (λ (bank : Bank). is_some bank.inp) (module_at (block_at bs i).modules m)))
+          (cut.stages i within) (notes.modules m) h
+
+      pub next_noted : HaveNoted (i + 1) now
+      next_noted = record {
+        replies = λ n h.
+            next_switch n h (λ w. not (has_reply_room w)) i within (has_unit old.no_reply_room n) (has_unit now.no_reply_room n)
+            (before.replies n h) (notes.replies n (switch_small n h));
+        zero_port = λ n h.
+            next_switch n h (λ w. not (has_request_room w).zero) i within (has_unit old.no_request_room.zero n) (has_unit now.no_request_room.zero n)
+            (before.zero_port n h) (notes.requests_zero n (switch_small n h));
+        one_port = λ n h.
+            next_switch n h (λ w. not (has_request_room w).one) i within (has_unit old.no_request_room.one n) (has_unit now.no_request_room.one n)
+            (before.one_port n h) (notes.requests_one n (switch_small n h));
+        modules = λ m h.
+            next_module m h (λ b. is_some b.inp) i within (has_unit old.no_request_room.zero (module_number d m)) (has_unit now.no_request_room.zero (module_number d m))
+            (before.modules m h) (module_noted m h);
+      }
+
+    -- all have noted theirs
+    module _ (rooms : Rooms) (i : ℕ) (all : i ≡ length bs) (have : HaveNoted i rooms) where
+      whole_is : (n : ℕ) (seen p : Bool) → n < unit_count d → seen ≡ (nat_lt (home partition n) i && p) → seen ≡ p
+      whole_is n seen p h is =
+          is ∙ ap (λ b. b && p) (lt-ltb (home partition n) i (subst (λ k. home partition n < k) (sym all) (cut.homes n h)))
+
+      request_is : (n j : ℕ) → n < switch_count d → j < 2 → (noted d rooms).request n j ≡ not (not (at_port (has_request_room (frame.switch n)) j))
+      request_is n zero h small = ap not (whole_is n _ _ (omega arith) (have.zero_port n h))
+      request_is n (suc j) h small = ap not (whole_is n _ _ (omega arith) (have.one_port n h))
+
+      pub rooms_are : AreRooms d frame (noted d rooms)
+      rooms_are = record {
+        reply = λ n h. ap not (whole_is n _ _ (omega arith) (have.replies n h)) ∙ not_twice (has_reply_room (frame.switch n));
+        request = λ n j h small. request_is n j h small ∙ not_twice (at_port (has_request_room (frame.switch n)) j);
+        bank = λ m h.
+            ap not (whole_is (module_number d m) _ _ (omega arith) (have.modules m h)) ∙ not_some (frame.bank m).inp;
+      }

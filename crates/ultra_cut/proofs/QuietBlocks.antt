@@ -1,0 +1,122 @@
+-- A machine is quiet where each of its blocks is.
+use Rattle.std.proofs.Common.{◌≡◌, ℕ, ◌^◌, ◌<◌, List, Bool, true, false, Option, Some, None, refl, arith, ◌∙◌, sym, ap, subst, length, get_or}
+use Rattle.std.specs.Prelude.{◌&&◌, is_some}
+use Rattle.std.specs.List.{list_all}
+use Rattle.ultra_msg.specs.declared.Event.{Event}
+use Rattle.ultra_switch.specs.declared.Switch.{Switch}
+use Rattle.ultra_mem.specs.Serve.{Bank, empty_bank}
+use Rattle.ultra_model.specs.declared.Stop.{Stop}
+use Rattle.ultra_model.specs.Machine.{Settings, is_quiet}
+use Rattle.ultra_units.specs.Numbers.{switch_count, unit_count, module_number, element_number}
+use Rattle.ultra_halves.specs.Switches.{quiet_switch}
+use Rattle.ultra_halves.specs.Modules.{quiet_bank}
+use Rattle.ultra_halves.specs.Elements.{quiet_element}
+use Rattle.ultra_halves.specs.declared.elements.ProcessingElement.{ProcessingElement}
+use Rattle.ultra_section.specs.BlockState.{BlockState, switch_at, module_at, element_at}
+use Rattle.ultra_section.specs.Quiet.{or_elsewhere, quiet_block}
+use Rattle.ultra_course.specs.Whole.{whole}
+use Rattle.ultra_cut.specs.Cut.{block_at, frame_of, given, home, no_block, no_element, no_switch}
+use Rattle.ultra_cut.specs.Halves.{AreBlocks}
+use Rattle.ultra_cut.proofs.Units.{element_at_home, element_stands, home_is, is_given, module_at_home, module_stands, switch_at_home, switch_stands}
+use Rattle.ultra_cut.proofs.QuietUnits.{AreQuiet, all_at, all_if, both_true, left_true, quiet_if, quiet_units, right_true, same_truth}
+
+-- ---- one entry
+here_if : {X : Type 0} (p : X → Bool) (nothing : X) (o : Option X) → (is_some o ≡ true → p (given nothing o) ≡ true) → or_elsewhere p o ≡ true
+here_if p nothing None h = refl
+here_if p nothing (Some x) h = h refl
+
+given_is : {X : Type 0} (p : X → Bool) (nothing : X) (o : Option X) → is_some o ≡ true → or_elsewhere p o ≡ true → p (given nothing o) ≡ true
+given_is p nothing None some all = absurd (let e : false ≡ true = some in cc)
+given_is p nothing (Some x) some all = all
+
+-- ---- one block
+-- the three kinds of units of a block
+pub record IsQuiet (b : BlockState) : Type 0 where
+  pub switches : list_all (or_elsewhere quiet_switch) b.switches ≡ true
+  pub modules : list_all (or_elsewhere quiet_bank) b.modules ≡ true
+  pub elements : list_all (or_elsewhere quiet_element) b.elements ≡ true
+
+block_if : (b : BlockState) → IsQuiet b → quiet_block b ≡ true
+block_if b q =
+    both_true (list_all (or_elsewhere quiet_switch) b.switches) (list_all (or_elsewhere quiet_bank) b.modules && list_all (or_elsewhere quiet_element) b.elements) q.switches
+    (both_true (list_all (or_elsewhere quiet_bank) b.modules) (list_all (or_elsewhere quiet_element) b.elements) q.modules q.elements)
+
+parts : (b : BlockState) → quiet_block b ≡ true → IsQuiet b
+parts b q =
+    let rest = right_true (list_all (or_elsewhere quiet_switch) b.switches) (list_all (or_elsewhere quiet_bank) b.modules && list_all (or_elsewhere quiet_element) b.elements) q in
+    record {
+      switches = left_true (list_all (or_elsewhere quiet_switch) b.switches) (list_all (or_elsewhere quiet_bank) b.modules && list_all (or_elsewhere quiet_element) b.elements) q;
+      modules = left_true (list_all (or_elsewhere quiet_bank) b.modules) (list_all (or_elsewhere quiet_element) b.elements) rest;
+      elements = right_true (list_all (or_elsewhere quiet_bank) b.modules) (list_all (or_elsewhere quiet_element) b.elements) rest;
+    }
+
+module _ (d : ℕ) (partition : List ℕ) (bs : List BlockState) (are : AreBlocks d partition bs) where
+  -- a unit that stands in a block is that of the frame
+  switch_is : (k n : ℕ) → k < length bs → n < switch_count d → is_some (switch_at (block_at bs k).switches n) ≡ true
+      → (frame_of d partition bs).switch n ≡ given no_switch (switch_at (block_at bs k).switches n)
+  switch_is k n within h some =
+      ap (λ i. given no_switch (switch_at (block_at bs i).switches n))
+      (home_is d partition bs are.cut n k (omega arith) within (switch_stands d (block_at bs k) (are.cut.stages k within) n h ∙ some))
+
+  module_is : (k m : ℕ) → k < length bs → m < 2 ^ d → is_some (module_at (block_at bs k).modules m) ≡ true
+      → (frame_of d partition bs).bank m ≡ given empty_bank (module_at (block_at bs k).modules m)
+  module_is k m within h some =
+      ap (λ i. given empty_bank (module_at (block_at bs i).modules m))
+      (home_is d partition bs are.cut (module_number d m) k (omega arith) within (module_stands d (block_at bs k) (are.cut.stages k within) m h ∙ some))
+
+  element_is : (k p : ℕ) → k < length bs → p < 2 ^ d → is_some (element_at (block_at bs k).elements p) ≡ true
+      → (frame_of d partition bs).element p ≡ given no_element (element_at (block_at bs k).elements p)
+  element_is k p within h some =
+      ap (λ i. given no_element (element_at (block_at bs i).elements p))
+      (home_is d partition bs are.cut (element_number d p) k (omega arith) within (element_stands d (block_at bs k) (are.cut.stages k within) p h ∙ some))
+
+  block_quiet : AreQuiet d (frame_of d partition bs) → (k : ℕ) → k < length bs → IsQuiet (block_at bs k)
+  block_quiet q k within =
+      let b = block_at bs k in
+      let shape = are.shaped k within in
+      record {
+        switches = all_if (or_elsewhere quiet_switch) None b.switches (λ n small.
+            let h : n < switch_count d = omega (arith, shape.switches, small) in
+            here_if quiet_switch no_switch (switch_at b.switches n) (λ some. ap quiet_switch (sym (switch_is k n within h some)) ∙ q.switches n h));
+        modules = all_if (or_elsewhere quiet_bank) None b.modules (λ m small.
+            let h : m < 2 ^ d = omega (arith, shape.modules, small) in
+            here_if quiet_bank empty_bank (module_at b.modules m) (λ some. ap quiet_bank (sym (module_is k m within h some)) ∙ q.banks m h));
+        elements = all_if (or_elsewhere quiet_element) None b.elements (λ p small.
+            let h : p < 2 ^ d = omega (arith, shape.elements, small) in
+            here_if quiet_element no_element (element_at b.elements p) (λ some. ap quiet_element (sym (element_is k p within h some)) ∙ q.elements p h));
+      }
+
+  pub blocks_quiet : AreQuiet d (frame_of d partition bs) → list_all quiet_block bs ≡ true
+  blocks_quiet q = all_if quiet_block no_block bs (λ k within. block_if (block_at bs k) (block_quiet q k within))
+
+  pub units_quiet : list_all quiet_block bs ≡ true → AreQuiet d (frame_of d partition bs)
+  units_quiet q =
+      let at_home : (n : ℕ) → n < unit_count d → IsQuiet (block_at bs (home partition n)) = λ n h.
+      parts (block_at bs (home partition n)) (all_at quiet_block no_block bs (home partition n) (are.cut.homes n h) q) in
+      record {
+        switches = λ n h.
+            let b = block_at bs (home partition n) in
+            let small = (are.shaped (home partition n) (are.cut.homes n (omega arith))).switches in
+            given_is quiet_switch no_switch (switch_at b.switches n) (switch_at_home d partition bs are.cut n h)
+            (all_at (or_elsewhere quiet_switch) None b.switches n (omega (arith, small, h)) (at_home n (omega arith)).switches);
+        banks = λ m h.
+            let n = module_number d m in
+            let b = block_at bs (home partition n) in
+            let small = (are.shaped (home partition n) (are.cut.homes n (omega arith))).modules in
+            given_is quiet_bank empty_bank (module_at b.modules m) (module_at_home d partition bs are.cut m h)
+            (all_at (or_elsewhere quiet_bank) None b.modules m (omega (arith, small, h)) (at_home n (omega arith)).modules);
+        elements = λ p h.
+            let n = element_number d p in
+            let b = block_at bs (home partition n) in
+            let small = (are.shaped (home partition n) (are.cut.homes n (omega arith))).elements in
+            given_is quiet_element no_element (element_at b.elements p) (element_at_home d partition bs are.cut p h)
+            (all_at (or_elsewhere quiet_element) None b.elements p (omega (arith, small, h)) (at_home n (omega arith)).elements);
+      }
+
+pub quiet_is : (c : Settings) (partition : List ℕ) (bs : List BlockState) → AreBlocks c.stages partition bs → (n : ℕ) (events : List Event) (stops : List Stop)
+    → list_all quiet_block bs ≡ is_quiet (whole c (frame_of c.stages partition bs) n events stops)
+quiet_is c partition bs are n events stops =
+    let f = frame_of c.stages partition bs in
+    same_truth (list_all quiet_block bs) (is_quiet (whole c f n events stops))
+    (λ q. quiet_if c are.some_stages are.few_stages f n events stops (units_quiet c.stages partition bs are q))
+    (λ q. blocks_quiet c.stages partition bs are (quiet_units c are.some_stages are.few_stages f n events stops q))

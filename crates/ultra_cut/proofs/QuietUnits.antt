@@ -1,0 +1,179 @@
+-- A whole machine is quiet where each of its units is.
+use Rattle.std.proofs.Common.{◌≡◌, ℕ, zero, suc, ◌+◌, ◌*◌, ◌/◌, ◌%◌, ◌^◌, ◌<◌, ◌≤◌, List, [], ◌∷◌, Bool, true, false, refl, arith, ◌∙◌, sym, subst, length, get_or}
+use Rattle.std.specs.Prelude.{◌&&◌}
+use Rattle.std.specs.List.{list_all}
+use Rattle.std.proofs.lemmas.Bool.Decides.{nat_tests}
+use Rattle.ultra_msg.specs.declared.Event.{Event}
+use Rattle.ultra_msg.specs.declared.ReplyMessage.{ReplyMessage}
+use Rattle.ultra_route.proofs.Table.{sizes}
+use Rattle.ultra_switch.specs.Arrive.{Lane}
+use Rattle.ultra_switch.specs.declared.Switch.{Switch}
+use Rattle.ultra_mem.specs.Serve.{Bank}
+use Rattle.ultra_isa.specs.Step.{has_stopped}
+use Rattle.ultra_model.specs.declared.Stop.{Stop}
+use Rattle.ultra_model.specs.Places.{places}
+use Rattle.ultra_model.specs.Machine.{Settings, Machine, Element, size, is_empty, is_nothing, is_quiet}
+use Rattle.ultra_model.proofs.Each.{places_at, length-places}
+use Rattle.ultra_units.specs.Numbers.{switch_number, switch_count}
+use Rattle.ultra_halves.specs.Halves.{has_none}
+use Rattle.ultra_halves.specs.Switches.{quiet_lane, quiet_switch}
+use Rattle.ultra_halves.specs.Modules.{quiet_bank}
+use Rattle.ultra_halves.specs.Elements.{element_of, quiet_element}
+use Rattle.ultra_halves.specs.declared.elements.ProcessingElement.{ProcessingElement}
+use Rattle.ultra_course.specs.Ports.{at_port}
+use Rattle.ultra_course.specs.Frame.{Frame}
+use Rattle.ultra_course.specs.Whole.{sized_lane, sized_replies, whole}
+use Rattle.ultra_course.proofs.Numbers.{at_even, at_odd, each_number, number_small}
+
+-- ---- tests
+pub both_true : (a b : Bool) → a ≡ true → b ≡ true → (a && b) ≡ true
+both_true true b h k = k
+both_true false b h k = cc
+
+pub left_true : (a b : Bool) → (a && b) ≡ true → a ≡ true
+left_true true b h = refl
+left_true false b h = h
+
+pub right_true : (a b : Bool) → (a && b) ≡ true → b ≡ true
+right_true true b h = h
+right_true false b h = cc
+
+pub same_truth : (a b : Bool) → (a ≡ true → b ≡ true) → (b ≡ true → a ≡ true) → a ≡ b
+same_truth true b f g = sym (f refl)
+same_truth false true f g = g refl
+same_truth false false f g = refl
+
+none_test : {X : Type 0} (xs : List X) → has_none xs ≡ is_empty xs
+none_test [] = refl
+none_test (x ∷ xs) = grind (arith, nat_tests)
+
+pub all_if : {X : Type 0} (t : X → Bool) (d : X) (xs : List X) → ((i : ℕ) → i < length xs → t (get_or xs i d) ≡ true) → list_all t xs ≡ true
+all_if t d [] h = refl
+all_if t d (x ∷ xs) h = both_true (t x) (list_all t xs) (h 0 (omega arith)) (all_if t d xs (λ i l. h (suc i) (omega (arith, l))))
+
+pub all_at : {X : Type 0} (t : X → Bool) (d : X) (xs : List X) (i : ℕ) → i < length xs → list_all t xs ≡ true → t (get_or xs i d) ≡ true
+all_at t d [] i l h = absurd (omega (arith, l))
+all_at t d (x ∷ xs) zero l h = left_true (t x) (list_all t xs) h
+all_at t d (x ∷ xs) (suc i) l h = all_at t d xs i (omega (arith, l)) (right_true (t x) (list_all t xs) h)
+
+-- of a list that is given place by place
+module _ {X : Type 0} (t : X → Bool) (n : ℕ) (f : ℕ → X) where
+  all_places : ((k : ℕ) → k < n → t (f k) ≡ true) → list_all t (places n f) ≡ true
+  all_places h =
+      all_if t (f 0) (places n f)
+      (λ i l. let long = length-places n f in let small : i < n = omega (arith, l, long) in subst (λ x. t x ≡ true) (sym (places_at n f i (f 0) small)) (h i small))
+
+  at_place : list_all t (places n f) ≡ true → (k : ℕ) → k < n → t (f k) ≡ true
+  at_place h k l =
+      let long = length-places n f in
+      subst (λ x. t x ≡ true) (places_at n f k (f 0) l) (all_at t (f 0) (places n f) k (omega (arith, l, long)) h)
+
+by_port : (P : ℕ → Type 0) (j : ℕ) → j < 2 → P 0 → P 1 → P j
+by_port P zero h a b = a
+by_port P (suc zero) h a b = b
+by_port P (suc (suc j)) h a b = absurd (omega (arith, h))
+
+-- ---- units by their numbers
+pub record AreQuiet (d : ℕ) (f : Frame) : Type 0 where
+  pub switches : (n : ℕ) → n < switch_count d → quiet_switch (f.switch n) ≡ true
+  pub banks : (m : ℕ) → m < 2 ^ d → quiet_bank (f.bank m) ≡ true
+  pub elements : (p : ℕ) → p < 2 ^ d → quiet_element (f.element p) ≡ true
+
+abbrev idle : Lane → Bool
+idle l = is_empty l.queue && is_empty l.records
+
+abbrev stopped : Element → Bool
+stopped e = has_stopped e.core.activity && is_empty e.interface.opened && is_empty e.interface.pending
+
+quiet_lane_is : (w : Switch) (j : ℕ) → j < 2 → quiet_switch w ≡ true → idle (at_port w.to_mm j).lane ≡ true
+quiet_lane_is w j h q =
+    let lanes = left_true (quiet_lane w.to_mm.zero && quiet_lane w.to_mm.one) _ q in
+    let zero_quiet = left_true (quiet_lane w.to_mm.zero) (quiet_lane w.to_mm.one) lanes in
+    let one_quiet = right_true (quiet_lane w.to_mm.zero) (quiet_lane w.to_mm.one) lanes in
+    by_port (λ j. idle (at_port w.to_mm j).lane ≡ true) j h
+    (rw (← none_test w.to_mm.zero.lane.queue, ← none_test w.to_mm.zero.lane.records) zero_quiet)
+    (rw (← none_test w.to_mm.one.lane.queue, ← none_test w.to_mm.one.lane.records) one_quiet)
+
+quiet_replies_are : (w : Switch) (j : ℕ) → j < 2 → quiet_switch w ≡ true → is_empty (at_port w.to_pe j).replies ≡ true
+quiet_replies_are w j h q =
+    let queues = right_true (quiet_lane w.to_mm.zero && quiet_lane w.to_mm.one) (has_none w.to_pe.zero.replies && has_none w.to_pe.one.replies) q in
+    by_port (λ j. is_empty (at_port w.to_pe j).replies ≡ true) j h
+    (sym (none_test w.to_pe.zero.replies) ∙ left_true (has_none w.to_pe.zero.replies) (has_none w.to_pe.one.replies) queues)
+    (sym (none_test w.to_pe.one.replies) ∙ right_true (has_none w.to_pe.zero.replies) (has_none w.to_pe.one.replies) queues)
+
+switch_if : (w : Switch) → idle w.to_mm.zero.lane ≡ true → idle w.to_mm.one.lane ≡ true → is_empty w.to_pe.zero.replies ≡ true
+    → is_empty w.to_pe.one.replies ≡ true → quiet_switch w ≡ true
+switch_if w a b x y =
+    both_true (quiet_lane w.to_mm.zero && quiet_lane w.to_mm.one) (has_none w.to_pe.zero.replies && has_none w.to_pe.one.replies)
+    (both_true (quiet_lane w.to_mm.zero) (quiet_lane w.to_mm.one)
+    (rw (none_test w.to_mm.zero.lane.queue, none_test w.to_mm.zero.lane.records) a)
+    (rw (none_test w.to_mm.one.lane.queue, none_test w.to_mm.one.lane.records) b))
+    (both_true (has_none w.to_pe.zero.replies) (has_none w.to_pe.one.replies) (none_test w.to_pe.zero.replies ∙ x) (none_test w.to_pe.one.replies ∙ y))
+
+and_assoc : (a b c : Bool) → (a && (b && c)) ≡ (a && b && c)
+and_assoc true b c = refl
+and_assoc false b c = refl
+
+element_is : (e : ProcessingElement) → quiet_element e ≡ stopped (element_of e)
+element_is e =
+    rw (none_test e.interface.interface.opened, none_test e.interface.interface.pending)
+    (and_assoc (has_stopped e.processor.core.activity) (is_empty e.interface.interface.opened) (is_empty e.interface.interface.pending))
+
+module _ (c : Settings) (low : 1 ≤ c.stages) (high : c.stages ≤ 6) (f : Frame) (n : ℕ) (events : List Event) (stops : List Stop) where
+  abbrev m : Machine
+  m = whole c f n events stops
+
+  abbrev lanes_idle : Bool
+  lanes_idle = list_all (λ (ls : List Lane). list_all (λ (l : Lane). is_empty l.queue && is_empty l.records) ls) m.lanes
+
+  abbrev replies_gone : Bool
+  replies_gone = list_all (λ (qs : List (List ReplyMessage)). list_all (λ (q : List ReplyMessage). is_empty q) qs) m.replies
+
+  abbrev banks_idle : Bool
+  banks_idle = list_all (λ (b : Bank). is_nothing b.inp && is_nothing b.out) m.banks
+
+  abbrev elements_stopped : Bool
+  elements_stopped = list_all (λ (e : Element). has_stopped e.core.activity && is_empty e.interface.opened && is_empty e.interface.pending) m.elements
+
+  switch_small : (s x : ℕ) → s < c.stages → x < size c → switch_number c.stages s (x / 2) < switch_count c.stages
+  switch_small s x hs hx =
+      let two = (sizes c.stages low high).0 in
+      number_small c.stages s (x / 2) hs (omega (arith, two, hx))
+
+  pub quiet_if : AreQuiet c.stages f → is_quiet m ≡ true
+  unfolding whole
+  quiet_if q =
+      both_true (lanes_idle && replies_gone && banks_idle) elements_stopped
+      (both_true (lanes_idle && replies_gone) banks_idle
+      (both_true lanes_idle replies_gone
+      (all_places (λ (ls : List Lane). list_all idle ls) c.stages (λ s. places (size c) (λ x. (sized_lane c f s x).lane))
+      (λ s hs. all_places idle (size c) (λ x. (sized_lane c f s x).lane) (λ x hx. quiet_lane_is (f.switch (switch_number c.stages s (x / 2))) (x % 2) (omega arith) (q.switches (switch_number c.stages s (x / 2)) (switch_small s x hs hx)))))
+      (all_places (λ (qs : List (List ReplyMessage)). list_all (λ (q : List ReplyMessage). is_empty q) qs) c.stages (λ s. places (size c) (λ y. (sized_replies c f s y).replies))
+      (λ s hs. all_places (λ (q : List ReplyMessage). is_empty q) (size c) (λ y. (sized_replies c f s y).replies) (λ y hy. quiet_replies_are (f.switch (switch_number c.stages s (y / 2))) (y % 2) (omega arith) (q.switches (switch_number c.stages s (y / 2)) (switch_small s y hs hy))))))
+      (all_places quiet_bank (size c) (λ k. f.bank k) (λ k hk. q.banks k hk)))
+      (all_places stopped (size c) (λ p. element_of (f.element p)) (λ p hp. sym (element_is (f.element p)) ∙ q.elements p hp))
+
+  pub quiet_units : is_quiet m ≡ true → AreQuiet c.stages f
+  unfolding whole
+  quiet_units q =
+      let two = (sizes c.stages low high).0 in
+      let first = left_true (lanes_idle && replies_gone && banks_idle) elements_stopped q in
+      let queues = left_true (lanes_idle && replies_gone) banks_idle first in
+      let lane : (s x : ℕ) → s < c.stages → x < size c → idle (sized_lane c f s x).lane ≡ true = λ s x hs hx.
+      at_place idle (size c) (λ x. (sized_lane c f s x).lane)
+      (at_place (λ (ls : List Lane). list_all idle ls) c.stages (λ s. places (size c) (λ x. (sized_lane c f s x).lane)) (left_true lanes_idle replies_gone queues) s hs) x hx in
+      let queue : (s y : ℕ) → s < c.stages → y < size c → is_empty (sized_replies c f s y).replies ≡ true = λ s y hs hy.
+      at_place (λ (q : List ReplyMessage). is_empty q) (size c) (λ y. (sized_replies c f s y).replies)
+      (at_place (λ (qs : List (List ReplyMessage)). list_all (λ (q : List ReplyMessage). is_empty q) qs) c.stages (λ s. places (size c) (λ y. (sized_replies c f s y).replies)) (right_true lanes_idle replies_gone queues) s hs) y hy in
+      record {
+        switches = each_number c.stages (λ n. quiet_switch (f.switch n) ≡ true) (λ s k hs hk.
+            let even : 2 * k < size c = omega (arith, two, hk) in
+            let odd : 2 * k + 1 < size c = omega (arith, two, hk) in
+            switch_if (f.switch (switch_number c.stages s k))
+            (sym (at_even (λ k j. idle (at_port (f.switch (switch_number c.stages s k)).to_mm j).lane) k) ∙ lane s (2 * k) hs even)
+            (sym (at_odd (λ k j. idle (at_port (f.switch (switch_number c.stages s k)).to_mm j).lane) k) ∙ lane s (2 * k + 1) hs odd)
+            (sym (at_even (λ k j. is_empty (at_port (f.switch (switch_number c.stages s k)).to_pe j).replies) k) ∙ queue s (2 * k) hs even)
+            (sym (at_odd (λ k j. is_empty (at_port (f.switch (switch_number c.stages s k)).to_pe j).replies) k) ∙ queue s (2 * k + 1) hs odd));
+        banks = λ k hk. at_place quiet_bank (size c) (λ k. f.bank k) (right_true (lanes_idle && replies_gone) banks_idle first) k hk;
+        elements = λ p hp. element_is (f.element p) ∙ at_place stopped (size c) (λ p. element_of (f.element p)) (right_true (lanes_idle && replies_gone && banks_idle) elements_stopped q) p hp;
+      }

@@ -1,0 +1,90 @@
+-- After every block has served, the blocks are the frame in which each module has.
+use Rattle.std.proofs.Common.{◌≡◌, ℕ, ◌+◌, ◌*◌, ◌^◌, ◌<◌, ◌≤◌, List, Option, Some, None, length, length-append, refl, sym, ◌∙◌, ap, subst, arith, le-ltb}
+use Rattle.ultra_isa.specs.declared.Instr.{Instr}
+use Rattle.ultra_mem.specs.Serve.{Bank, serve, served}
+use Rattle.ultra_model.specs.Phases.{serving}
+use Rattle.ultra_units.specs.Numbers.{switch_count, unit_count, module_number, element_number}
+use Rattle.ultra_units.specs.Visits.{after_units}
+use Rattle.ultra_halves.specs.declared.elements.ProcessingElement.{ProcessingElement}
+use Rattle.ultra_section.specs.declared.half.Half.TheVariants.{Serve}
+use Rattle.ultra_section.specs.declared.rooms.Rooms.{Rooms}
+use Rattle.ultra_section.specs.BlockState.{BlockState, module_at, element_at}
+use Rattle.ultra_section.specs.Shape.{IsShaped}
+use Rattle.ultra_section.specs.Serving.{serves}
+use Rattle.ultra_section.specs.Units.{unit_of}
+use Rattle.ultra_section.specs.Making.{made}
+use Rattle.ultra_section.proofs.Few.{few_told, one_present, room_for_half}
+use Rattle.ultra_section.proofs.Once.{told_before}
+use Rattle.ultra_section.proofs.ServedOnce.{act_told, told, told_of, events_after_serving, kept_by_serving, module_after_serving, shape_after_serving}
+use Rattle.ultra_section.proofs.Standing.{unit_of_switch, unit_of_module, unit_of_element}
+use Rattle.ultra_cut.specs.Cut.{block_at}
+use Rattle.ultra_cut.specs.Halves.{AreBlocks, FewMoreEvents, all_made}
+use Rattle.ultra_cut.proofs.Numbers.{few_units}
+use Rattle.ultra_cut.specs.UnitLaws.{CanServeLaw, HaveServed, ServeLaw}
+use Rattle.ultra_cut.proofs.Units.{by_kind}
+use Rattle.ultra_cut.proofs.Each.{HasWorked, have_frame, made_at, same_worked, worked}
+
+module _ (d : ℕ) (low : 1 ≤ d) (high : d ≤ 6) (b : BlockState) (shape : IsShaped d b) where
+  abbrev now : BlockState
+  now = after_units serves 320 b
+
+  same_work : (o : Option Bank) → elim o [ None ↦ None | Some bank ↦ Some (serve bank) ] ≡ worked serve o
+  same_work None = refl
+  same_work (Some bank) = refl
+
+  has_served : HasWorked d serve (λ e. e) 0 b now
+  has_served = record {
+    shaped = shape_after_serving d b shape;
+    done = kept_by_serving d (λ t. t.done) (λ m t bank. refl) b shape ∙ (let same : b.done ≡ b.done + 0 = omega arith in same);
+    switches = kept_by_serving d (λ t. t.switches) (λ m t bank. refl) b shape;
+    modules = λ m h.
+        let few = few_units d low high in
+        module_after_serving d b shape m h (omega arith) ∙ same_work (module_at b.modules m);
+    elements = λ p h. ap (λ es. element_at es p) (kept_by_serving d (λ t. t.elements) (λ m t bank. refl) b shape) ∙ same_worked (element_at b.elements p);
+    replies = kept_by_serving d (λ t. t.replies) (λ m t bank. refl) b shape;
+    requests = kept_by_serving d (λ t. t.requests) (λ m t bank. refl) b shape;
+  }
+
+  few_acts : (o : Option Bank) (m : ℕ) → length (act_told d o m) ≤ 2
+  few_acts None m = omega arith
+  few_acts (Some bank) m = one_present (serving m (served bank))
+
+  few_of_unit : (n : ℕ) → length (told d n b) ≤ 2
+  few_of_unit =
+      by_kind d (λ n. length (told d n b) ≤ 2)
+      (λ n h. rw (unit_of_switch d n h) (omega arith))
+      (λ m h. rw (unit_of_module d m h) (few_acts (module_at b.modules m) m))
+      (λ p h. rw (unit_of_element d p h) (omega arith))
+      (λ n past. rw (told, told_of, unit_of, le-ltb n (switch_count d) (omega arith), le-ltb n (switch_count d + 2 ^ d) (omega arith), le-ltb n (unit_count d) past) (omega arith))
+
+  few_more : length now.events ≤ length b.events + 640
+  few_more =
+      let more = few_told (told d) b 2 few_of_unit 320 in
+      let all = length-append b.events (told_before (told d) 320 b) in
+      let is : length now.events ≡ length b.events + length (told_before (told d) 320 b) = ap (λ es. length es) (events_after_serving d b shape) ∙ all in
+      omega (arith, more, is)
+
+  same_stops : now.stops ≡ b.stops
+  same_stops = kept_by_serving d (λ t. t.stops) (λ m t bank. refl) b shape
+
+module _ (d : ℕ) (partition : List ℕ) (bs : List BlockState) (rooms : Rooms) (program : List Instr) (are : AreBlocks d partition bs) where
+  abbrev make : BlockState → BlockState
+  make = made Serve rooms program
+
+  at_block : (k : ℕ) → k < length bs → block_at (all_made Serve rooms program bs) k ≡ make (block_at bs k)
+  at_block = made_at d partition bs are make
+
+  have_served : HaveServed d partition bs (all_made Serve rooms program bs)
+  have_served = record {
+    frame = have_frame d partition bs are make serve (λ e. e) 0 (λ k h. has_served d are.some_stages are.few_stages (block_at bs k) (are.shaped k h));
+    events = λ k h.
+        subst (λ (b : BlockState). length b.events ≤ length (block_at bs k).events + 640) (sym (at_block k h))
+        (few_more d are.some_stages are.few_stages (block_at bs k) (are.shaped k h));
+    stops = λ k h. ap (λ (b : BlockState). b.stops) (at_block k h) ∙ same_stops d are.some_stages are.few_stages (block_at bs k) (are.shaped k h);
+  }
+
+pub serve_law : ServeLaw
+serve_law = have_served
+
+pub can_serve_law : CanServeLaw
+can_serve_law = λ bs room k h n within. room_for_half (block_at bs k) (room k h) n

@@ -1,0 +1,93 @@
+-- a machine cut into blocks by a partition, which names the block of each unit
+use Rattle.std.specs.Prelude.{◌≡◌, ℕ, ◌<◌, ◌==◌, ◌&&◌, Bool, nat_lt, List, [], ◌∷◌, Option, Some, None, length, map, slice_index, slice_index_or}
+use Rattle.std.specs.List.{list_all}
+use Rattle.ultra_msg.specs.declared.Request.{Request}
+use Rattle.ultra_msg.specs.declared.ReplyMessage.{ReplyMessage}
+use Rattle.ultra_switch.specs.declared.Switch.{Switch}
+use Rattle.ultra_switch.specs.Queues.{empty_requests, empty_replies}
+use Rattle.ultra_mem.specs.Serve.{empty_bank}
+use Rattle.ultra_isa.specs.Step.{fresh_core}
+use Rattle.ultra_pni.specs.Interface.{empty_interface}
+use Rattle.ultra_model.specs.Machine.{Settings}
+use Rattle.ultra_units.specs.Numbers.{unit_count, module_number, element_number}
+use Rattle.ultra_halves.specs.Halves.{ports}
+use Rattle.ultra_halves.specs.declared.elements.ProcessingElement.{ProcessingElement}
+use Rattle.ultra_section.specs.BlockState.{BlockState, switch_at, module_at, element_at}
+use Rattle.ultra_section.specs.Marks.{on_link}
+use Rattle.ultra_section.specs.Away.{stands}
+use Rattle.ultra_course.specs.Frame.{Frame}
+
+-- a partition names a block, 0 to 63, for each unit: switches first, then modules, then processing
+-- elements. That many blocks are this project's profile
+abbrev pub is_partition : Settings → List ℕ → Bool
+is_partition c bs = (length bs == unit_count c.stages) && list_all (λ b. nat_lt b 64) bs
+
+-- what stands where there is nothing
+abbrev pub no_block : BlockState
+no_block = record {
+  stages = 0;
+  done = 0;
+  switches = [];
+  modules = [];
+  elements = [];
+  replies = [];
+  requests = [];
+  events = [];
+  stops = [];
+}
+
+abbrev pub no_switch : Switch
+no_switch = record {
+  to_mm = ports (empty_requests 0 0) (empty_requests 0 0);
+  to_pe = ports (empty_replies 0) (empty_replies 0);
+}
+
+abbrev pub no_element : ProcessingElement
+no_element = record {
+  processor = record { site = record { pe = 0; size = 0; all_cells = 0 }; core = fresh_core };
+  interface = record { interface = empty_interface; most_open = 0 };
+  issued = 0;
+}
+
+-- what there is, or what stands for nothing
+abbrev pub given : {X : Type 0} → X → Option X → X
+given x None = x
+given x (Some y) = y
+
+-- the block of a number, and the number of the block in which a unit stands
+abbrev pub block_at : List BlockState → ℕ → BlockState
+block_at bs k = slice_index_or bs k no_block
+
+abbrev pub home : List ℕ → ℕ → ℕ
+home partition n = slice_index partition n
+
+-- the first thing that there is in a list
+abbrev pub first : {X : Type 0} → List (Option X) → Option X
+first [] = None
+first (None ∷ xs) = first xs
+first (Some x ∷ xs) = Some x
+
+-- what each block has on a link
+abbrev pub replies_on : List BlockState → ℕ → List (Option ReplyMessage)
+replies_on bs l = map (λ b. on_link b.replies l) bs
+
+abbrev pub requests_on : List BlockState → ℕ → List (Option Request)
+requests_on bs l = map (λ b. on_link b.requests l) bs
+
+module _ (d : ℕ) (partition : List ℕ) where
+  -- each unit of a machine of d stages stands in the block that the partition names, and in no other
+  pub record IsCut (bs : List BlockState) : Type 0 where
+    pub count : length partition ≡ unit_count d
+    pub homes : (n : ℕ) → n < unit_count d → home partition n < length bs
+    pub stages : (k : ℕ) → k < length bs → (block_at bs k).stages ≡ d
+    pub stand : (k n : ℕ) → k < length bs → n < unit_count d → stands n (block_at bs k) ≡ (home partition n == k)
+
+  -- the machine in the course of a cycle: its units by their numbers, and what is on its links
+  abbrev pub frame_of : List BlockState → Frame
+  frame_of bs = record {
+    switch = λ n. given no_switch (switch_at (block_at bs (home partition n)).switches n);
+    bank = λ m. given empty_bank (module_at (block_at bs (home partition (module_number d m))).modules m);
+    element = λ p. given no_element (element_at (block_at bs (home partition (element_number d p))).elements p);
+    replies = λ l. first (replies_on bs l);
+    requests = λ l. first (requests_on bs l);
+  }

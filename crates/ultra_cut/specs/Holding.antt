@@ -1,0 +1,42 @@
+-- which units of a whole machine of d stages hold something
+use Rattle.std.specs.Prelude.{ℕ, ◌+◌, ◌*◌, List, Bool, false, not, ◌&&◌, Option}
+use Rattle.ultra_msg.specs.declared.Event.{Event}
+use Rattle.ultra_model.specs.declared.Stop.{Stop}
+use Rattle.ultra_model.specs.Machine.{Settings, Machine, Element, lane_at, replies_at, bank_at, element_at}
+use Rattle.ultra_halves.specs.Halves.{has_none}
+use Rattle.ultra_section.specs.declared.held.Held.{Held}
+use Rattle.ultra_section.specs.declared.held.Held.TheVariants.{Reply, Request, Record}
+use Rattle.ultra_section.specs.Units.{of_unit}
+use Rattle.ultra_section.specs.Holding.{IsNextWhere, module_holds}
+use Rattle.ultra_section.specs.BlockState.{BlockState}
+use Rattle.ultra_course.specs.Whole.{whole}
+use Rattle.ultra_cut.specs.Cut.{frame_of}
+use Rattle.ultra_cut.specs.Halves.{AreBlocks}
+
+-- switch k of stage s: in the queues or wait buffers of its two positions
+abbrev pub stage_holds : Machine → Held → ℕ → ℕ → Bool
+stage_holds m Reply s k = not (has_none (replies_at m s (2 * k)) && has_none (replies_at m s (2 * k + 1)))
+stage_holds m Request s k = not (has_none (lane_at m s (2 * k)).queue && has_none (lane_at m s (2 * k + 1)).queue)
+stage_holds m Record s k = not (has_none (lane_at m s (2 * k)).records && has_none (lane_at m s (2 * k + 1)).records)
+
+-- a processing element: in its interface
+abbrev pub interface_holds : Held → Element → Bool
+interface_holds Reply e = false
+interface_holds Request e = not (has_none e.interface.pending)
+interface_holds Record e = false
+
+-- the unit with number n
+abbrev pub holds : ℕ → Machine → Held → ℕ → Bool
+holds d m held n =
+    of_unit d (stage_holds m held)
+    (λ j. module_holds held (bank_at m j))
+    (λ p. interface_holds held (element_at m p))
+    false n
+
+-- the first unit from number `from` on that holds such a thing, or that there is none, however the
+-- machine is cut
+abbrev pub IsNextOfAll : List BlockState → Held → ℕ → Option ℕ → Type 0
+IsNextOfAll bs held from next =
+    (c : Settings) (partition : List ℕ) (n : ℕ) (events : List Event) (stops : List Stop)
+    → AreBlocks c.stages partition bs
+    → IsNextWhere (holds c.stages (whole c (frame_of c.stages partition bs) n events stops) held) from next

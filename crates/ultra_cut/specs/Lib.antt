@@ -1,0 +1,13 @@
+pub mod Cut
+pub mod Exchange
+pub mod Halves
+pub mod Events
+pub mod ReplyLaws
+pub mod RequestLaws
+pub mod UnitLaws
+pub mod Whole
+pub mod Holding
+pub mod Happenings
+pub mod HappeningLaws
+pub mod InOrder
+pub mod Moments

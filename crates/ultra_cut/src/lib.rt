@@ -1,0 +1,21 @@
+//! A machine cut into blocks by a partition: where its units stand, what goes from one block to another, and what all
+//! blocks together do to the whole machine in a cycle.
+#![tactic(auto)]
+
+mod exchange;
+mod happening_laws;
+mod holding;
+mod quiet;
+mod reply_laws;
+mod request_laws;
+mod rooms;
+mod unit_laws;
+
+pub use exchange::{exchange_replies, exchange_requests};
+pub use happening_laws::{happenings_law, in_order_law, telling_law};
+pub use holding::next_holding;
+pub use quiet::are_quiet;
+pub use reply_laws::{can_take_replies_law, replies_sent_law, replies_taken_law};
+pub use request_laws::{can_take_requests_law, requests_sent_law, requests_taken_law};
+pub use rooms::note_rooms;
+pub use unit_laws::{execute_laws, serve_laws};

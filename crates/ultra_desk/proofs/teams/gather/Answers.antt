@@ -1,0 +1,57 @@
+use Rattle.std.proofs.Common.{rules, ◌≡◌, ◌<◌, ◌-◌, ◌+◌, ◌%◌, ℕ, List, length, take, drop, reverse, arith, ap, ◌∙◌, sym, Vec, Global, slice_index_or}
+use Rattle.std.proofs.lemmas.List.{length-set}
+use Rattle.ultra_section.specs.BlockState.{BlockState}
+use Rattle.ultra_desk.specs.declared.task.Task.{Task}
+use Rattle.ultra_desk.specs.Tasks.{AreTeams, tasks_from, team}
+use Rattle.ultra_desk.proofs.Gathered.{gathered_next, left_next, none_left, not_done}
+use Rattle.ultra_desk.proofs.teams.gather.Goals as goal
+
+pub loop-number-preserved-in-Continue-1 : goal.loop-number-preserved-in-Continue-1
+loop-number-preserved-in-Continue-1 c =
+    let so_far = c.loop-number.invariant in
+    let k = c.loop-number.number - 1 in
+    let now : k + 1 ≡ c.loop-number.number = let some = c.loop-number-test.true in omega (arith, some) in
+    let was = c.index_mut.result.now in
+    let all : c.len-workers.result ≡ length c.args.teams.now.items = search rules in
+    let left : (bs : List BlockState) → length bs ≡ c.args.count → AreTeams (length c.args.teams.now.items) c.args.teams.now.items bs
+    → (w : ℕ) (d : Vec Task Global) → w < c.len-workers.result → (slice_index_or c.loop-number.teams.items w d).items ≡ team c.len-workers.result w (tasks_from 0 (take (k + 1) bs)) =
+    λ bs e dealt w d l. so_far.left bs e dealt w d l ∙ ap (λ j. team c.len-workers.result w (tasks_from 0 (take j bs))) (sym now) in
+    let below : (bs : List BlockState) → length bs ≡ c.args.count → k < length bs = λ bs e. let some = c.loop-number-test.true in let most = c.loop-number.auto.number in omega (arith, some, most, e) in
+    record {
+      many = length-set c.loop-number.teams.items (k % c.len-workers.result) c.pop.new.self ∙ so_far.many;
+      gathered = λ bs e dealt.
+          c.in_ok-push.ensures.items
+          ∙ gathered_next c.len-workers.result (search rules) bs k (below bs e) c.loop-number.teams.items so_far.many (left bs e dealt) was c.index_mut.ensures.value
+          c.in-Some.task c.pop.new.self c.in-Some.ensures.items c.loop-number.blocks.items (so_far.gathered bs e dealt ∙ ap (λ j. reverse (drop j bs)) (sym now));
+      left = λ bs e dealt.
+          left_next c.len-workers.result (search rules) bs k (below bs e) c.loop-number.teams.items so_far.many (left bs e dealt) was c.index_mut.ensures.value
+          c.in-Some.task c.pop.new.self c.in-Some.ensures.items;
+    }
+
+pub loop-number-preserved : goal.loop-number-preserved
+loop-number-preserved c =
+    let so_far = c.loop-number.invariant in
+    let k = c.loop-number.number - 1 in
+    let now : k + 1 ≡ c.loop-number.number = let some = c.loop-number-test.true in omega (arith, some) in
+    let was = c.index_mut.result.now in
+    let left : (bs : List BlockState) → length bs ≡ c.args.count → AreTeams (length c.args.teams.now.items) c.args.teams.now.items bs
+    → (w : ℕ) (d : Vec Task Global) → w < c.len-workers.result → (slice_index_or c.loop-number.teams.items w d).items ≡ team c.len-workers.result w (tasks_from 0 (take (k + 1) bs)) =
+    λ bs e dealt w d l. so_far.left bs e dealt w d l ∙ ap (λ j. team c.len-workers.result w (tasks_from 0 (take j bs))) (sym now) in
+    let below : (bs : List BlockState) → length bs ≡ c.args.count → k < length bs = λ bs e. let some = c.loop-number-test.true in let most = c.loop-number.auto.number in omega (arith, some, most, e) in
+    let none : length was.items ≡ 0 = let empty = c.in_default.ensures.cases.0 in omega (arith, was.ok, empty) in
+    let never : (bs : List BlockState) → length bs ≡ c.args.count → AreTeams (length c.args.teams.now.items) c.args.teams.now.items bs → ⊥ = λ bs e dealt.
+    not_done c.len-workers.result (search rules) bs k (below bs e) c.loop-number.teams.items so_far.many (left bs e dealt) was c.index_mut.ensures.value none in
+    record {
+      many = length-set c.loop-number.teams.items (k % c.len-workers.result) c.pop.new.self ∙ so_far.many;
+      gathered = λ bs e dealt. absurd (never bs e dealt);
+      left = λ bs e dealt. absurd (never bs e dealt);
+    }
+
+pub returns-clause-teams : goal.returns-clause-teams
+returns-clause-teams c = λ bs e dealt. record {
+  count = search rules;
+  tasks = λ w d l.
+      let none : c.loop-number.number ≡ 0 = let over = c.loop-number-test.false in omega (arith, over) in
+      c.loop-number.invariant.left bs e dealt w d (search rules)
+      ∙ ap (λ xs. team c.len-workers.result w (tasks_from 0 xs)) (none_left bs c.loop-number.number none);
+}

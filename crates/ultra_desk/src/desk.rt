@@ -1,0 +1,150 @@
+//! A worker's thread, with the way to it and the way back.
+
+ghost use Rattle.std.specs.Prelude.{◌≡◌, All, IfOk, map};
+ghost use Rattle.std.specs.Arc.{arc_value};
+ghost use Rattle.ultra_desk.specs.Tasks.{CanBeMade, task_made};
+
+use crate::course::Course;
+use crate::fault::CrewFault;
+use crate::gate::Gate;
+use crate::order::{Order, Results};
+use crate::task::{Name, Task};
+use crossbeam_channel::{Receiver, SendError, Sender, TryRecvError, bounded};
+use std::alloc::Global;
+use std::hint;
+use std::marker::PhantomData;
+use std::sync::{Arc, Wait};
+use std::thread::{JoinHandle, Scope, Threads};
+use ultra_isa::Program;
+use ultra_section::Rooms;
+
+/// A worker's thread, which waits for orders and gives results back until the desk is closed.
+#[derive(Drop)]
+pub struct Desk<J: Course> {
+    orders: Sender<Order<J>>,
+    results: Receiver<Results<J>>,
+    thread: JoinHandle<()>,
+}
+
+/// The program by which a worker goes as long as its desk is open.
+#[derive(Drop)]
+struct Hand<J: Course> {
+    program: Arc<Program, Global>,
+    course: PhantomData<J>,
+    ghost settled: { arc_value program ≡ J.program },
+}
+
+/// How often a thread looks for a message before it sleeps until one comes: for about the time that a half of a cycle takes.
+const LOOKS: u32 = 400;
+
+/// The next message, or `None` where none can come any more.
+fn next<T: Drop, R: Wait>(rt: &R, from: &Receiver<T>) -> Option<T> {
+    for _ in 0..LOOKS {
+        match from.try_recv(rt) {
+            Ok(message) => return Some(message),
+            Err(TryRecvError::Empty) => hint::spin_loop(),
+            Err(TryRecvError::Disconnected) => return None,
+        }
+    }
+    from.recv(rt).ok()
+}
+
+/// What a worker does until no more orders come.
+fn work<J: Course, R: Wait, G: Gate>(
+    rt: &R,
+    gate: &G,
+    hand: Hand<J>,
+    orders: Receiver<Order<J>>,
+    results: Sender<Results<J>>,
+) {
+    for _ in rt.forever() {
+        let Some(order) = next(rt, &orders) else {
+            return;
+        };
+        let made = order.make(rt, gate, &hand.program);
+        if results.send(rt, made).is_err() {
+            return;
+        }
+    }
+}
+
+impl<J: Course> Desk<J> {
+    /// Starts a worker's thread, which goes by this program and calls this gate before each half of a block. `NoThread` says that it could not be started, `NoMemory` that memory was refused.
+    pub fn open<'s, E, R: Threads + Wait + Sync, G: Gate + Sync>(
+        scope: &Scope<'s, E>,
+        rt: &'s R,
+        alloc: Global,
+        gate: &'s G,
+        program: Arc<Program, Global>,
+    ) -> Result<Desk<J>, CrewFault>
+    where
+        J: Send + 's,
+        requires { arc_value program ≡ J.program }
+    {
+        let (orders, to_make) = bounded(alloc, 1)?;
+        let (made, results) = bounded(alloc, 1)?;
+        let hand = Hand {
+            program,
+            course: PhantomData,
+        };
+        match scope.spawn(move || work(rt, gate, hand, to_make, made)) {
+            Ok(thread) => Ok(Desk {
+                orders,
+                results,
+                thread,
+            }),
+            Err(_) => Err(CrewFault::NoThread),
+        }
+    }
+
+    /// Gives the worker its team for the half of this name, and the rooms that were noted before it. They have to be those of the machine's course. `NoMemory` says that memory was refused, `NoThread` that the thread is gone; the team is then given up.
+    pub fn hand_out<R: Wait>(
+        &self,
+        rt: &R,
+        name: Name,
+        team: Vec<Task>,
+        rooms: &Rooms,
+    ) -> Result<(), CrewFault>
+        requires ready { All (CanBeMade name.half) team.items }
+        requires settled { map (task_made name.half rooms.now J.program) team.items ≡ J.results name.cycle name.half name.worker }
+    {
+        let order = Order {
+            name,
+            team,
+            rooms: *rooms,
+            course: PhantomData,
+        };
+        match self.orders.send(rt, order) {
+            Ok(()) => Ok(()),
+            Err(SendError::OutOfMemory(_)) => Err(CrewFault::NoMemory),
+            Err(SendError::Disconnected(_)) => Err(CrewFault::NoThread),
+        }
+    }
+
+    /// The team of this name after its half. Results of another name are put away. `NoThread` says that the thread is gone.
+    pub fn collect<R: Wait>(&self, rt: &R, name: Name) -> Result<Vec<Task>, CrewFault>
+        ensures { IfOk result (λ v. v.items ≡ J.results name.cycle name.half name.worker) }
+    {
+        for _ in rt.forever() {
+            let Some(results) = next(rt, &self.results) else {
+                return Err(CrewFault::NoThread);
+            };
+            if results.name == name {
+                return Ok(results.into_team());
+            }
+        }
+        unreachable!()
+    }
+
+    /// Lets the worker end, and joins its thread.
+    pub fn close<R: Threads>(self, rt: &R) {
+        let Desk {
+            orders,
+            results,
+            thread,
+        } = self;
+        drop(orders);
+        drop(results);
+        thread.join(rt);
+    }
+}

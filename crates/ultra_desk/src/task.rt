@@ -1,0 +1,57 @@
+//! A worker's task: a block that makes a half.
+
+ghost use Rattle.std.specs.Prelude.{◌≡◌, All, map};
+ghost use Rattle.ultra_desk.specs.Tasks.{CanBeMade, task_made};
+
+use crate::gate::Gate;
+use std::sync::Wait;
+use ultra_isa::Program;
+use ultra_section::{Block, Half, Rooms};
+
+/// Which worker in which half of which cycle: the name of what goes to the worker, and of what comes back.
+#[derive(Clone, Copy, PartialEq, Eq, Drop)]
+pub struct Name {
+    /// The cycle, counted from 0.
+    pub cycle: u32,
+    /// The half of the cycle.
+    pub half: Half,
+    /// The worker's number.
+    pub worker: usize,
+}
+
+/// A block that is to make a half, or that has made it, with its number.
+#[derive(Drop)]
+pub struct Task {
+    /// The block's number in its machine.
+    pub number: usize,
+    /// The block.
+    pub block: Block,
+}
+
+/// A worker calls the gate for each of its tasks, and then does it.
+pub(crate) fn make_all<R: Wait, G: Gate>(
+    rt: &R,
+    gate: &G,
+    name: Name,
+    team: &mut [Task],
+    rooms: &Rooms,
+    program: &Program,
+)
+    requires { All (CanBeMade name.half) team.old }
+    ensures { team.new ≡ map (task_made name.half rooms.now program.now) team.old }
+{
+    for task in team.iter_mut() {
+        gate.before(rt, name.cycle, name.half, task.number);
+        task.make(name.half, rooms, program);
+    }
+}
+
+impl Task {
+    /// The block makes this half.
+    fn make(&mut self, half: Half, rooms: &Rooms, program: &Program)
+        requires { CanBeMade half self.old }
+        ensures { self.new ≡ task_made half rooms.now program.now self.old }
+    {
+        self.block.make(half, rooms, program);
+    }
+}

@@ -1,0 +1,5 @@
+pub mod Arrivals
+pub mod Going
+pub mod Combinations
+pub mod Rests
+pub mod NothingToDo

@@ -1,0 +1,105 @@
+-- what the halves of a cycle do at one port of a switch of a machine of d stages
+use Rattle.std.specs.Prelude.{ℕ, ◌+◌, ◌-◌, ◌*◌, ◌%◌, ◌^◌, List, [], ◌∷◌, ◌++◌, Bool, true, false, ◌==◌, ◌&&◌, nat_le, length, Option, Some, None}
+use Rattle.std.specs.List.{filter}
+use Rattle.ultra_msg.specs.declared.Request.{Request}
+use Rattle.ultra_msg.specs.declared.ReplyMessage.{ReplyMessage}
+use Rattle.ultra_msg.specs.declared.Event.{Event}
+use Rattle.ultra_msg.specs.declared.Event.TheVariants.{Combined}
+use Rattle.ultra_msg.specs.Pair.{pair_of}
+use Rattle.ultra_route.specs.Route.{bit_of}
+use Rattle.ultra_switch.specs.declared.Ports.{Ports}
+use Rattle.ultra_switch.specs.Arrive.{Combination, combine_within}
+use Rattle.ultra_switch.specs.Queues.{SizedLane, SizedReplies}
+use Rattle.ultra_model.specs.Places.{after_leaving}
+use Rattle.ultra_model.specs.Phases.{records_left, replies_made, arrive_all}
+
+abbrev pub ports : {X : Type 0} → X → X → Ports X
+ports x y = record { zero = x; one = y }
+
+-- what moves where there is room
+abbrev pub where_room : {X : Type 0} → Bool → Option X → Option X
+where_room room o = elim room [ true ↦ o | false ↦ None ]
+
+abbrev pub has_none : {X : Type 0} → List X → Bool
+has_none xs = length xs == 0
+
+-- ---- replies
+-- a queue toward the processing elements with some replies more, and without its first where one leaves
+abbrev pub with_replies : SizedReplies → List ReplyMessage → SizedReplies
+with_replies q rs = record q { replies = q.replies ++ rs }
+
+abbrev pub replies_without : {X : Type 0} → SizedReplies → Option X → SizedReplies
+replies_without q o = record q { replies = after_leaving o q.replies }
+
+-- whether it has free places for n more
+abbrev pub has_room_for : ℕ → SizedReplies → Bool
+has_room_for n q = nat_le (length q.replies + n) q.places
+
+-- the replies of a list that leave stage s by port j
+abbrev pub going_by : ℕ → ℕ → ℕ → List ReplyMessage → List ReplyMessage
+going_by d s j rs = filter (λ (r : ReplyMessage). bit_of (d - 1 - s) r.pe == j) rs
+
+-- a queue toward memory after a reply came back to it
+abbrev pub lane_after_reply : SizedLane → Option ReplyMessage → SizedLane
+lane_after_reply l o = record l { lane = record l.lane { records = records_left l.lane.records o } }
+
+-- a queue toward the processing elements after what became of the replies that came to both ports
+abbrev pub with_arrived : ℕ → ℕ → ℕ → Ports SizedLane → Ports (Option ReplyMessage) → SizedReplies → SizedReplies
+with_arrived d s j lanes came q =
+    with_replies (with_replies q (going_by d s j (replies_made lanes.zero.lane.records came.zero))) (going_by d s j (replies_made lanes.one.lane.records came.one))
+
+-- ---- requests
+-- a queue toward memory without its first where one leaves, and after some requests arrived
+abbrev pub lane_without : {X : Type 0} → SizedLane → Option X → SizedLane
+lane_without l o = record l { lane = record l.lane { queue = after_leaving o l.lane.queue } }
+
+abbrev pub lane_with : SizedLane → List Request → SizedLane
+lane_with l rs = record l { lane = arrive_all l.wait_places l.lane rs }
+
+-- whether it has free places for n more
+abbrev pub has_place_for : ℕ → SizedLane → Bool
+has_place_for n l = nat_le (length l.lane.queue + n) l.request_places
+
+-- whether a request leaves stage s by port j
+abbrev pub leaves_by : ℕ → ℕ → ℕ → Request → Bool
+leaves_by d s j r = bit_of (d - 1 - s) (r.cell % 2 ^ d) == j
+
+-- the request as a list, if it leaves stage s by port j
+abbrev pub coming_to : ℕ → ℕ → ℕ → Option Request → List Request
+coming_to d s j None = []
+coming_to d s j (Some r) = elim (leaves_by d s j r) [ true ↦ r ∷ [] | false ↦ [] ]
+
+-- of what came to the two ports, what goes first in cycle n, and what goes second
+abbrev pub first_of : {X : Type 0} → ℕ → Ports X → X
+first_of n o = elim (n % 2 == 0) [ true ↦ o.zero | false ↦ o.one ]
+
+abbrev pub second_of : {X : Type 0} → ℕ → Ports X → X
+second_of n o = elim (n % 2 == 0) [ true ↦ o.one | false ↦ o.zero ]
+
+-- of what came to the two ports, what leaves stage s by port j, in the order of cycle n
+abbrev pub arrivals : ℕ → ℕ → ℕ → ℕ → Ports (Option Request) → List Request
+arrivals d s j n came = coming_to d s j (first_of n came) ++ coming_to d s j (second_of n came)
+
+-- a combination, where there was one
+abbrev pub combination_event : ℕ → ℕ → Request → Option Combination → Option Event
+combination_event s x r None = None
+combination_event s x r (Some c) = Some (Combined s x r.cell c.old.request.pe r.pe (pair_of c.old.request.op r.op).old_first)
+
+-- the combination of what came to a port of switch k of stage s, in the queue by which it leaves
+abbrev pub combination_by : ℕ → ℕ → ℕ → Ports SizedLane → Option Request → Option Event
+combination_by d s k lanes None = None
+combination_by d s k lanes (Some r) = elim (leaves_by d s 0 r) [
+  | true ↦ combination_event s (2 * k) r (combine_within lanes.zero.wait_places lanes.zero.lane r)
+  | false ↦ combination_event s (2 * k + 1) r (combine_within lanes.one.wait_places lanes.one.lane r)
+]
+
+-- whether of two requests the second leaves stage s by port 0, and the first by port 1
+abbrev pub is_turned : ℕ → ℕ → Option Request → Option Request → Bool
+is_turned d s None second = false
+is_turned d s (Some f) None = false
+is_turned d s (Some f) (Some g) = leaves_by d s 1 f && leaves_by d s 0 g
+
+-- two in their order, or turned
+abbrev pub in_order : {X : Type 0} → Bool → X → X → List X
+in_order true x y = y ∷ x ∷ []
+in_order false x y = x ∷ y ∷ []

@@ -1,0 +1,5 @@
+pub mod Halves
+pub mod Switches
+pub mod Modules
+pub mod Rest
+pub mod Elements

@@ -1,0 +1,118 @@
+//! Processing elements, and what the halves of a cycle do to one.
+
+ghost use Rattle.std.specs.Prelude.{◌≡◌, ℕ, ◌+◌, ◌-◌, ◌^◌, ◌<◌, ◌↔◌, Some, IsSome, IsTrue, length, not, slice_get};
+ghost use Rattle.ultra_isa.specs.Step.{has_stopped};
+ghost use Rattle.ultra_model.specs.Phases.{issue_event, stop_of};
+
+use ultra_isa::{Processor, Program, Step};
+use ultra_model::Stop;
+use ultra_msg::{Event, Pe, Reply, ReplyMessage, Request};
+use ultra_pni::Pni;
+
+/// A processing element: its processor, its network interface, and how many requests it has issued.
+#[derive(Drop)]
+pub struct ProcessingElement {
+    pub processor: Processor,
+    pub interface: Pni,
+    pub issued: u32,
+}
+
+/// What came of one step of a processing element.
+#[derive(Clone, Copy, Drop)]
+pub enum Outcome {
+    /// It did an instruction that needs no memory.
+    Done,
+    /// It issued a request, which the event tells.
+    Issued(Event),
+    /// It faulted.
+    Faulted(Stop),
+    /// Nothing has changed, and nothing will until a reply is delivered: it has to wait for one, or it had stopped before.
+    AtRest,
+}
+
+impl ProcessingElement {
+    ghost use Rattle.ultra_halves.specs.Elements.{delivered_to, element_of, element_without, executed, holds_request, is_at_rest, issue_in, quiet_element, step_at, stop_in};
+
+    /// A reply is delivered: its register is set, if it has one, and its cell is no longer open. Some request has left whose reply hadn't come.
+    pub fn deliver(&mut self, reply: ReplyMessage)
+        requires { length self.old.interface.interface.pending < length self.old.interface.interface.opened }
+        ensures { self.new ≡ delivered_to self.old (Some reply) }
+    {
+        if let Some(register) = self.interface.deliver(reply) {
+            if let Reply::Value(word) = reply.reply {
+                self.processor.receive(register, word);
+            }
+        }
+    }
+
+    /// The request that leaves next, or `None` where none waits.
+    #[inline(always)]
+    pub fn request_head(&self) -> Option<Request>
+        ensures { result ≡ slice_get self.now.interface.interface.pending 0 }
+    {
+        self.interface.head()
+    }
+
+    /// The first request that waits leaves; its cell stays open. `None` says that none waited.
+    pub fn send_request(&mut self) -> Option<Request>
+        ensures sent { result ≡ slice_get self.old.interface.interface.pending 0 }
+        ensures left { self.new ≡ element_without self.old result }
+    {
+        self.interface.leave()
+    }
+
+    /// One step of the program. `pe` is the number of the processing element.
+    pub fn execute(&mut self, program: &Program, pe: Pe) -> Outcome
+        requires { self.old.issued < 2 ^ 32 - 1 }
+        ensures element { self.new ≡ executed program.now self.old }
+        ensures issue { issue_in result ≡ issue_event (element_of self.old) (step_at program.now self.old).sent }
+        ensures stop { stop_in result ≡ stop_of pe (step_at program.now self.old).was }
+        ensures rest { (result ≡ Outcome.AtRest) ↔ IsTrue (is_at_rest program.now self.old) }
+        ensures same { result ≡ Outcome.AtRest → self.new ≡ self.old }
+    {
+        match self.processor.step(program, &mut self.interface) {
+            Step::Issued => Outcome::Issued(self.count_issue()),
+            Step::Fault(fault) => Outcome::Faulted(Stop { pe, fault }),
+            Step::Done => Outcome::Done,
+            Step::Stalled | Step::Halted => Outcome::AtRest,
+        }
+    }
+
+    /// Counts the request that was issued last, and tells it.
+    fn count_issue(&mut self) -> Event
+        requires few { self.old.issued < 2 ^ 32 - 1 }
+        requires some { IsSome (slice_get self.old.interface.interface.pending (length self.old.interface.interface.pending - 1)) }
+        ensures counted { self.new ≡ record self.old { issued = self.old.issued + 1 } }
+        ensures told { Some result ≡ issue_event (element_of self.old) (slice_get self.old.interface.interface.pending (length self.old.interface.interface.pending - 1)) }
+    {
+        let number = self.issued;
+        self.issued += 1;
+        Event::Issued {
+            request: self.interface.newest().unwrap(),
+            number,
+        }
+    }
+
+    /// Whether a request waits to leave.
+    #[inline(always)]
+    pub fn holds_request(&self) -> bool
+        ensures { result ≡ holds_request self.now }
+    {
+        self.interface.pending_count() != 0
+    }
+
+    /// Whether it has halted or faulted.
+    #[inline(always)]
+    pub fn has_stopped(&self) -> bool
+        ensures { result ≡ has_stopped self.now.processor.core.activity }
+    {
+        self.processor.has_stopped()
+    }
+
+    /// Whether it has halted or faulted, no cell is open, and no request waits.
+    pub fn is_quiet(&self) -> bool
+        ensures { result ≡ quiet_element self.now }
+    {
+        self.processor.has_stopped() && self.interface.is_idle()
+    }
+}

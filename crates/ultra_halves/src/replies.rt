@@ -1,0 +1,60 @@
+//! Replies on their way through a switch.
+
+ghost use Rattle.std.specs.Prelude.{◌≡◌, ℕ, ◌+◌, ◌≤◌, ◌<◌, ◌∷◌, [], length, slice_get};
+ghost use Rattle.std.specs.Option.{ForSome};
+ghost use Rattle.ultra_model.specs.Phases.{replies_made};
+ghost use Rattle.ultra_halves.specs.Halves.{going_by, lane_after_reply, replies_without, where_room, with_replies};
+
+use ultra_msg::ReplyMessage;
+use ultra_route::Net;
+use ultra_switch::{Ports, Split, ToMm, ToPe};
+
+/// The first reply of a queue leaves, if there is room for it where it goes.
+pub(crate) fn leave_where(has_room: bool, queue: &mut ToPe) -> Option<ReplyMessage>
+    ensures sent { result ≡ where_room has_room (slice_get queue.old.replies 0) }
+    ensures left { queue.new ≡ replies_without queue.old result }
+{
+    if has_room { queue.leave() } else { None }
+}
+
+/// Puts a reply into the queue by which it leaves the stage.
+fn put_reply(to_pe: &mut Ports<ToPe>, net: Net, stage: u32, reply: ReplyMessage)
+    requires stage { stage < net }
+    requires zero { length to_pe.old.zero.replies < to_pe.old.zero.places }
+    requires one { length to_pe.old.one.replies < to_pe.old.one.places }
+    ensures zero { to_pe.new.zero ≡ with_replies to_pe.old.zero (going_by net stage 0 (reply ∷ [])) }
+    ensures one { to_pe.new.one ≡ with_replies to_pe.old.one (going_by net stage 1 (reply ∷ [])) }
+{
+    if net.reply_port(stage, reply.pe) == 0 {
+        to_pe.zero.put(reply);
+    } else {
+        to_pe.one.put(reply);
+    }
+}
+
+/// A reply comes to a memory-side position of a stage: it is split by the wait buffer there, and what comes of it goes on.
+pub(crate) fn take_reply(
+    to_mm: &mut ToMm,
+    to_pe: &mut Ports<ToPe>,
+    net: Net,
+    stage: u32,
+    reply: Option<ReplyMessage>,
+)
+    requires stage { stage < net }
+    requires zero { ForSome reply (λ _. length to_pe.old.zero.replies + 2 ≤ to_pe.old.zero.places) }
+    requires one { ForSome reply (λ _. length to_pe.old.one.replies + 2 ≤ to_pe.old.one.places) }
+    ensures records { to_mm.new ≡ lane_after_reply to_mm.old reply }
+    ensures zero { to_pe.new.zero ≡ with_replies to_pe.old.zero (going_by net stage 0 (replies_made to_mm.old.lane.records reply)) }
+    ensures one { to_pe.new.one ≡ with_replies to_pe.old.one (going_by net stage 1 (replies_made to_mm.old.lane.records reply)) }
+{
+    let Some(reply) = reply else {
+        return;
+    };
+    match to_mm.split(reply) {
+        Split::One(reply) => put_reply(to_pe, net, stage, reply),
+        Split::Two(old, new) => {
+            put_reply(to_pe, net, stage, old);
+            put_reply(to_pe, net, stage, new);
+        }
+    }
+}

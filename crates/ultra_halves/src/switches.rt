@@ -1,0 +1,140 @@
+//! What the halves of a cycle do to a switch.
+
+ghost use Rattle.std.specs.Prelude.{◌≡◌, ℕ, ◌-◌, ◌^◌, ◌<◌, ◌∷◌, [], None};
+ghost use Rattle.ultra_model.specs.Places.{present};
+ghost use Rattle.ultra_halves.specs.Switches.{CanTakeReplies, CanTakeRequests, after_replies, after_requests, combinations_of, has_reply_room, has_request_room, holds_replies, holds_requests, keeps_records, quiet_switch, replies_leaving, request_heads, requests_leaving, without_replies, without_requests};
+
+use crate::replies::{self, take_reply};
+use crate::requests::{self, in_order, in_turn, is_turned, take_request};
+use ultra_msg::{Event, ReplyMessage, Request};
+use ultra_route::Net;
+use ultra_switch::{Ports, Switch};
+
+/// The first reply of each queue toward the processing elements leaves where `goes` says so, by the PE-side port. `None` stands where nothing leaves.
+pub fn send_replies(switch: &mut Switch, goes: Ports<bool>) -> Ports<Option<ReplyMessage>>
+    ensures sent { result ≡ replies_leaving goes switch.old }
+    ensures left { switch.new ≡ without_replies switch.old result }
+{
+    let to_pe = &mut switch.to_pe;
+    Ports {
+        zero: replies::leave_where(goes.zero, &mut to_pe.zero),
+        one: replies::leave_where(goes.one, &mut to_pe.one),
+    }
+}
+
+/// The replies that came, by the memory-side port, are split by the wait buffers there, and what comes of them goes to the queues by which it leaves this stage. Where a reply came, both queues have at least 4 free places.
+pub fn take_replies(switch: &mut Switch, net: Net, stage: u32, came: Ports<Option<ReplyMessage>>)
+    requires stage { stage < net }
+    requires room { CanTakeReplies switch.old came }
+    ensures { switch.new ≡ after_replies net stage switch.old came }
+{
+    let Switch { to_mm, to_pe } = switch;
+    take_reply(&mut to_mm.zero, to_pe, net, stage, came.zero);
+    take_reply(&mut to_mm.one, to_pe, net, stage, came.one);
+}
+
+/// The first request of each queue toward memory, by the memory-side port, or `None` where the queue is empty.
+#[inline(always)]
+pub fn request_heads(switch: &Switch) -> Ports<Option<Request>>
+    ensures { result ≡ request_heads switch.now }
+{
+    let Ports { zero, one } = &switch.to_mm;
+    Ports {
+        zero: zero.head(),
+        one: one.head(),
+    }
+}
+
+/// The first request of each queue toward memory leaves where `goes` says so, by the memory-side port. `None` stands where nothing leaves.
+pub fn send_requests(switch: &mut Switch, goes: Ports<bool>) -> Ports<Option<Request>>
+    ensures sent { result ≡ requests_leaving goes switch.old }
+    ensures left { switch.new ≡ without_requests switch.old result }
+{
+    let to_mm = &mut switch.to_mm;
+    Ports {
+        zero: requests::leave_where(goes.zero, &mut to_mm.zero),
+        one: requests::leave_where(goes.one, &mut to_mm.one),
+    }
+}
+
+/// The requests that came, by the PE-side port, go to the queues by which they leave this stage, in the order of this cycle: port 0 first in even cycles, port 1 in odd ones. `index` is the number of the switch in its stage. Where a request came, the queue that it goes to has at least 2 free places.
+///
+/// Gives the combinations: by position, and at one position in the order of the arrivals. Where there is only one, it is in `zero`.
+pub fn take_requests(
+    switch: &mut Switch,
+    net: Net,
+    stage: u32,
+    index: u32,
+    cycle: u32,
+    came: Ports<Option<Request>>,
+) -> Ports<Option<Event>>
+    requires stage { stage < net }
+    requires index { index < 2 ^ (net - 1) }
+    requires room { CanTakeRequests net stage switch.old came }
+    ensures queues { switch.new ≡ after_requests net stage cycle switch.old came }
+    ensures combined { present (result.zero ∷ result.one ∷ []) ≡ combinations_of net stage index cycle switch.old came }
+    ensures front { result.zero ≡ None → result.one ≡ None }
+{
+    let (first, second) = in_turn(cycle, came);
+    let to_mm = &mut switch.to_mm;
+    let of_first = take_request(to_mm, net, stage, index, first);
+    let of_second = take_request(to_mm, net, stage, index, second);
+    let turned = is_turned(net, stage, first, second);
+    in_order(turned, of_first, of_second)
+}
+
+/// Whether a reply stands in one of the queues toward the processing elements.
+#[inline(always)]
+pub fn holds_replies(switch: &Switch) -> bool
+    ensures { result ≡ holds_replies switch.now }
+{
+    let Ports { zero, one } = &switch.to_pe;
+    !(zero.is_empty() && one.is_empty())
+}
+
+/// Whether both queues toward the processing elements have at least 4 free places, for all that may come to the switch in one cycle.
+#[inline(always)]
+pub fn has_reply_room(switch: &Switch) -> bool
+    ensures { result ≡ has_reply_room switch.now }
+{
+    let Ports { zero, one } = &switch.to_pe;
+    zero.has_room() && one.has_room()
+}
+
+/// Whether a request stands in one of the queues toward memory.
+#[inline(always)]
+pub fn holds_requests(switch: &Switch) -> bool
+    ensures { result ≡ holds_requests switch.now }
+{
+    let Ports { zero, one } = &switch.to_mm;
+    !(zero.len() == 0 && one.len() == 0)
+}
+
+/// Whether a record is in one of its wait buffers.
+#[inline(always)]
+pub fn keeps_records(switch: &Switch) -> bool
+    ensures { result ≡ keeps_records switch.now }
+{
+    let Ports { zero, one } = &switch.to_mm;
+    !(zero.record_count() == 0 && one.record_count() == 0)
+}
+
+/// By the memory-side port, whether the queue toward memory has at least 2 free places, for all that may come to it in one cycle.
+#[inline(always)]
+pub fn has_request_room(switch: &Switch) -> Ports<bool>
+    ensures { result ≡ has_request_room switch.now }
+{
+    let Ports { zero, one } = &switch.to_mm;
+    Ports {
+        zero: zero.has_room(),
+        one: one.has_room(),
+    }
+}
+
+/// Whether nothing is in its queues and wait buffers.
+pub fn is_quiet(switch: &Switch) -> bool
+    ensures { result ≡ quiet_switch switch.now }
+{
+    let Switch { to_mm, to_pe } = switch;
+    to_mm.zero.is_idle() && to_mm.one.is_idle() && to_pe.zero.is_empty() && to_pe.one.is_empty()
+}

@@ -1,0 +1,55 @@
+-- units that hold nothing have no line
+use Rattle.std.proofs.Common.{ℕ, ◌≡◌, ◌+◌, ◌-◌, ◌*◌, ◌^◌, ◌<◌, List, [], ◌++◌, false, ◌∙◌, ap, subst, arith}
+use Rattle.ultra_msg.specs.declared.Request.{Request as Message}
+use Rattle.ultra_msg.specs.declared.ReplyMessage.{ReplyMessage}
+use Rattle.ultra_switch.specs.declared.Entry.{Entry}
+use Rattle.ultra_switch.specs.declared.WaitRecord.{WaitRecord}
+use Rattle.ultra_model.specs.Machine.{Machine}
+use Rattle.ultra_units.specs.Numbers.{switch_number, module_number, element_number}
+use Rattle.ultra_section.specs.declared.held.Held.TheVariants.{Reply, Request, Record}
+use Rattle.ultra_cut.specs.Holding.{holds}
+use Rattle.ultra_cut.proofs.NothingHeld.{no_replies, no_requests, no_records, no_reply, no_request, none_pending}
+use Rattle.ultra_lines.specs.Trace.{pni_line, req_line, wait_line, inp_line, out_line, rep_line, pni_of, req_of, wait_of, inp_of, out_of, rep_of}
+use Rattle.ultra_lines.proofs.Skipped.{two_lines}
+
+two_none : (line : ℕ → List ℕ) (k : ℕ) → line (2 * k) ≡ [] → line (2 * k + 1) ≡ [] → two_lines line k ≡ []
+two_none line k first second = ap (λ t. t ++ line (2 * k + 1)) first ∙ second
+
+module _ (d : ℕ) (m : Machine) where
+  -- ---- switch k of stage s
+  module _ (s : ℕ) (hs : s < d) (k : ℕ) (hk : k < 2 ^ (d - 1)) where
+    number_is : switch_number d s 0 + k ≡ switch_number d s k
+    number_is = omega arith
+
+    pub no_request_lines : holds d m Request (switch_number d s 0 + k) ≡ false → two_lines (req_of m s) k ≡ []
+    no_request_lines none =
+        let empty = no_requests d m s k hs hk (subst (λ n. holds d m Request n ≡ false) number_is none) in
+        two_none (req_of m s) k (ap (λ (es : List Entry). req_line s (2 * k) es) empty.0) (ap (λ (es : List Entry). req_line s (2 * k + 1) es) empty.1)
+
+    pub no_record_lines : holds d m Record (switch_number d s 0 + k) ≡ false → two_lines (wait_of m s) k ≡ []
+    no_record_lines none =
+        let empty = no_records d m s k hs hk (subst (λ n. holds d m Record n ≡ false) number_is none) in
+        two_none (wait_of m s) k (ap (λ (ws : List WaitRecord). wait_line s (2 * k) ws) empty.0) (ap (λ (ws : List WaitRecord). wait_line s (2 * k + 1) ws) empty.1)
+
+    pub no_reply_lines : holds d m Reply (switch_number d s 0 + k) ≡ false → two_lines (rep_of m s) k ≡ []
+    no_reply_lines none =
+        let empty = no_replies d m s k hs hk (subst (λ n. holds d m Reply n ≡ false) number_is none) in
+        two_none (rep_of m s) k (ap (λ (rs : List ReplyMessage). rep_line s (2 * k) rs) empty.0) (ap (λ (rs : List ReplyMessage). rep_line s (2 * k + 1) rs) empty.1)
+
+  -- ---- module k
+  module _ (k : ℕ) (hk : k < 2 ^ d) where
+    pub no_inp_line_of : holds d m Request (module_number d 0 + k) ≡ false → inp_of m k ≡ []
+    no_inp_line_of none =
+        let same : module_number d 0 + k ≡ module_number d k = omega arith in
+        ap (λ o. inp_line k o) (no_request d m k hk (subst (λ n. holds d m Request n ≡ false) same none))
+
+    pub no_out_line_of : holds d m Reply (module_number d 0 + k) ≡ false → out_of m k ≡ []
+    no_out_line_of none =
+        let same : module_number d 0 + k ≡ module_number d k = omega arith in
+        ap (λ o. out_line k o) (no_reply d m k hk (subst (λ n. holds d m Reply n ≡ false) same none))
+
+    -- ---- processing element k
+    pub no_pni_line_of : holds d m Request (element_number d 0 + k) ≡ false → pni_of m k ≡ []
+    no_pni_line_of none =
+        let same : element_number d 0 + k ≡ element_number d k = omega arith in
+        ap (λ (rs : List Message). pni_line k rs) (none_pending d m k hk (subst (λ n. holds d m Request n ≡ false) same none))

@@ -1,0 +1,6 @@
+pub mod Listed
+pub mod Numbered
+pub mod Yielded
+pub mod Skipped
+pub mod Empty
+pub mod WorkedTraces

@@ -1,0 +1,61 @@
+-- texts of several in one place
+use Rattle.std.proofs.Common.{ℕ, zero, suc, ◌≡◌, ◌+◌, ◌<◌, List, [], ◌∷◌, ◌++◌, length, take, Option, Some, None, refl, sym, ◌∙◌, ap, arith, append_assoc, append-nil, add-one, codes, slice_get}
+use Rattle.std.specs.List.{flat_map}
+use Rattle.std.specs.Option.{option_map}
+use Rattle.ultra_msg.specs.declared.Request.{Request}
+use Rattle.ultra_msg.specs.declared.ReplyMessage.{ReplyMessage}
+use Rattle.ultra_mem.specs.declared.Placed.{Placed}
+use Rattle.ultra_lines.specs.Text.{newline, listed, separator, request_text, message_text}
+use Rattle.ultra_lines.specs.Trace.{place_line, unit_name, inp_line, out_line, unless_zero}
+
+module _ {X : Type 0} (text : X → List ℕ) where
+  others : List X → List ℕ
+  others xs = flat_map (λ y. codes ", " ++ text y) xs
+
+  others_more : (xs : List X) (i : ℕ) (x : X) → slice_get xs i ≡ Some x → others (take (suc i) xs) ≡ others (take i xs) ++ (codes ", " ++ text x)
+  unfolding others
+  others_more [] i x e = absurd cc
+  others_more (y ∷ ys) zero x e = let same : y ≡ x = cc in rw same (append-nil (codes ", " ++ text x))
+  others_more (y ∷ ys) (suc i) x e =
+      ap (λ t. (codes ", " ++ text y) ++ t) (others_more ys i x e) ∙ sym (append_assoc (codes ", " ++ text y) (others (take i ys)) (codes ", " ++ text x))
+
+  more : (xs : List X) (i : ℕ) (x : X) → slice_get xs i ≡ Some x → listed text (take (suc i) xs) ≡ listed text (take i xs) ++ separator i ++ text x
+  unfolding others
+  more [] i x e = absurd cc
+  more (y ∷ ys) zero x e = let same : y ≡ x = cc in rw same (append-nil (text x))
+  more (y ∷ ys) (suc i) x e =
+      ap (λ t. text y ++ t) (others_more ys i x e) ∙ sym (append_assoc (text y) (others (take i ys)) (codes ", " ++ text x)) ∙ sym (append_assoc (text y ++ others (take i ys)) (codes ", ") (text x))
+
+  -- the list up to an index, and the one there
+  pub listed_more : (xs : List X) (i : ℕ) (x : X) → slice_get xs i ≡ Some x → listed text (take (i + 1) xs) ≡ listed text (take i xs) ++ separator i ++ text x
+  listed_more xs i x e = rw add-one (more xs i x e)
+
+  pub line_is : (name : List ℕ) (xs : List X) → 0 < length xs → place_line name text xs ≡ name ++ codes ": " ++ listed text xs ++ newline
+  line_is name [] h = absurd (omega arith)
+  line_is name (x ∷ xs) h = refl
+
+  pub no_line : (name : List ℕ) (xs : List X) → length xs ≡ 0 → place_line name text xs ≡ []
+  no_line name [] h = refl
+  no_line name (x ∷ xs) h = absurd (omega arith)
+
+-- of a register that holds one
+pub inp_line_is : (k : ℕ) (o : Option Placed) (r : Request) → Some r ≡ option_map (λ (p : Placed). p.request) o → inp_line k o ≡ unit_name (codes "inp") k ++ codes ": " ++ request_text r ++ newline
+inp_line_is k None r e = absurd cc
+inp_line_is k (Some p) r e = let same : r ≡ p.request = cc in rw (same, append-nil (request_text p.request)) refl
+
+pub no_inp_line : (k : ℕ) (o : Option Placed) → None ≡ option_map (λ (p : Placed). p.request) o → inp_line k o ≡ []
+no_inp_line k None e = refl
+no_inp_line k (Some p) e = absurd cc
+
+pub out_line_is : (k : ℕ) (o : Option ReplyMessage) (m : ReplyMessage) → Some m ≡ o → out_line k o ≡ unit_name (codes "out") k ++ codes ": " ++ message_text m ++ newline
+out_line_is k None m e = absurd cc
+out_line_is k (Some n) m e = let same : m ≡ n = cc in rw (same, append-nil (message_text n)) refl
+
+pub no_out_line : (k : ℕ) (o : Option ReplyMessage) → None ≡ o → out_line k o ≡ []
+no_out_line k None e = refl
+no_out_line k (Some n) e = absurd cc
+
+-- what is written of a value that isn't 0
+pub not_zero : (v : ℕ) (text : List ℕ) → 0 < v → unless_zero v text ≡ text
+not_zero zero text h = absurd (omega arith)
+not_zero (suc n) text h = refl

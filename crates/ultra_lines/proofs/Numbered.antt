@@ -1,0 +1,47 @@
+-- lines one after another
+use Rattle.std.proofs.Common.{ℕ, zero, suc, ◌≡◌, ◌+◌, ◌<◌, ◌≤◌, List, [], ◌∷◌, ◌++◌, length, take, get_or, refl, ◌∙◌, ap, arith, append-nil, add-one, slice_get}
+use Rattle.std.specs.Option.{unwrap_or}
+use Rattle.std.specs.List.{flat_map, range_with_len}
+use Rattle.std.proofs.lemmas.List.{take_more, take_all}
+use Rattle.std.proofs.lemmas.List.Concat.{flat_map-append}
+use Rattle.ultra_page.specs.declared.Page.{Page}
+use Rattle.ultra_page.specs.Page.{Writes}
+use Rattle.ultra_lines.specs.Trace.{by_number}
+use Rattle.ultra_page.proofs.Writing.{◌then◌}
+
+one_more : (a n b : ℕ) → a + n ≡ b → range_with_len a (suc n) ≡ range_with_len a n ++ b ∷ []
+one_more a zero b e = let same : a ≡ b = omega arith in ap (λ k. k ∷ []) same
+one_more a (suc n) b e = ap (λ ks. a ∷ ks) (one_more (a + 1) n b (omega arith))
+
+module _ {X : Type 0} (line : X → List ℕ) where
+  pub last_line : (xs : List X) (x : X) → flat_map line (xs ++ x ∷ []) ≡ flat_map line xs ++ line x
+  last_line xs x = flat_map-append line xs (x ∷ []) ∙ ap (λ t. flat_map line xs ++ t) (append-nil (line x))
+
+  -- the lines up to an index, and the one there
+  pub lines_more : (xs : List X) (i : ℕ) (d : X) → i < length xs → flat_map line (take (i + 1) xs) ≡ flat_map line (take i xs) ++ line (get_or xs i d)
+  lines_more xs i d h = ap (flat_map line) (take_more xs i d h) ∙ last_line (take i xs) (get_or xs i d)
+
+-- a loop over values writes the line of the one at its index, and in the end all
+module _ {S : Type 0} {taken : S → List ℕ} {failures : S → ℕ} {X : Type 0} (line : X → List ℕ) (xs : List X) (i : ℕ) where
+  pub writes_next : (d : X) {s t u : Page S} → i < length xs → Writes taken failures (flat_map line (take i xs)) s t → Writes taken failures (line (get_or xs i d)) t u → Writes taken failures (flat_map line (take (i + 1) xs)) s u
+  writes_next d h v w = rw (lines_more line xs i d h) (v then w)
+
+  pub writes_all : {s t : Page S} → length xs ≤ i → Writes taken failures (flat_map line (take i xs)) s t → Writes taken failures (flat_map line xs) s t
+  writes_all h w = rw (take_all i xs h) at w
+
+-- the lines by number, and the next
+pub by_number_more : (n : ℕ) (line : ℕ → List ℕ) → by_number (n + 1) line ≡ by_number n line ++ line n
+by_number_more n line = rw add-one (ap (flat_map line) (one_more 0 n n (omega arith)) ∙ last_line line (range_with_len 0 n) n)
+
+module _ {S : Type 0} {taken : S → List ℕ} {failures : S → ℕ} (line : ℕ → List ℕ) (i : ℕ) where
+  pub writes_number : {s t u : Page S} → Writes taken failures (by_number i line) s t → Writes taken failures (line i) t u → Writes taken failures (by_number (i + 1) line) s u
+  writes_number v w = rw (by_number_more i line) (v then w)
+
+  pub writes_numbers : (n : ℕ) {s t : Page S} → i ≡ n → Writes taken failures (by_number i line) s t → Writes taken failures (by_number n line) s t
+  writes_numbers n e w = rw e at w
+
+-- a value of a list, or 0 where there is none
+pub value_or_zero : (xs : List ℕ) (i : ℕ) → unwrap_or (slice_get xs i) 0 ≡ get_or xs i 0
+value_or_zero [] i = refl
+value_or_zero (x ∷ xs) zero = refl
+value_or_zero (x ∷ xs) (suc i) = value_or_zero xs i

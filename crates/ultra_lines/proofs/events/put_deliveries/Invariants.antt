@@ -1,0 +1,12 @@
+use Rattle.std.proofs.Common.{◌≡◌, ◌++◌}
+use Rattle.std.specs.List.{flat_map}
+use Rattle.ultra_block.specs.State.{events_left}
+use Rattle.ultra_page.specs.Page.{Writes}
+use Rattle.ultra_lines.specs.Trace.{got_line}
+use Rattle.ultra_lines.proofs.events.put_deliveries.Given as goal
+
+abbrev pub invariant-loop-event : goal.invariant-loop-event
+invariant-loop-event g l = record {
+  written : Writes g.S.Sink.taken g.S.Sink.failures (flat_map got_line l.yielded) l.initial.page l.page;
+  parts : l.yielded ++ events_left l.event-iterator ≡ l.blocks.machine.events;
+}

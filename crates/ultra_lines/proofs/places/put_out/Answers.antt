@@ -1,0 +1,6 @@
+use Rattle.ultra_page.proofs.Writing.{◌then◌}
+use Rattle.ultra_lines.proofs.Listed.{out_line_is}
+use Rattle.ultra_lines.proofs.places.put_out.Goals as goal
+
+pub returns-in-Some : goal.returns-in-Some
+returns-in-Some g c = rw (out_line_is c.args.module c.args.bank.now.out _ c.in-Some.ensures) (c.put_unit.ensures then c.put_message.ensures then c.put.ensures)

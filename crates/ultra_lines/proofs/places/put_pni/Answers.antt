@@ -1,0 +1,16 @@
+use Rattle.std.proofs.Common.{arith}
+use Rattle.std.proofs.lemmas.List.{take_all}
+use Rattle.ultra_lines.specs.Text.{request_text}
+use Rattle.ultra_page.proofs.Writing.{◌then◌}
+use Rattle.ultra_lines.proofs.Listed.{listed_more, line_is}
+use Rattle.ultra_lines.proofs.places.put_pni.Goals as goal
+
+pub loop-index-preserved : goal.loop-index-preserved
+loop-index-preserved g c =
+    rw (listed_more request_text c.args.interface.now.interface.pending c.loop-index.index _ c.pending.ensures)
+    (c.loop-index.invariant then c.put_separator.ensures then c.put_request.ensures)
+
+pub returns-after-loop-index : goal.returns-after-loop-index
+returns-after-loop-index g c =
+    let listed = rw (take_all c.loop-index.index c.args.interface.now.interface.pending (omega arith)) at c.loop-index.invariant in
+    rw (line_is request_text _ c.args.interface.now.interface.pending (omega arith)) (c.put_unit.ensures then listed then c.put.ensures)

@@ -1,0 +1,16 @@
+use Rattle.std.proofs.Common.{arith}
+use Rattle.std.proofs.lemmas.List.{take_all}
+use Rattle.ultra_lines.specs.Text.{message_text}
+use Rattle.ultra_page.proofs.Writing.{◌then◌}
+use Rattle.ultra_lines.proofs.Listed.{listed_more, line_is}
+use Rattle.ultra_lines.proofs.places.put_rep.Goals as goal
+
+pub loop-index-preserved : goal.loop-index-preserved
+loop-index-preserved g c =
+    rw (listed_more message_text c.args.queue.now.replies c.loop-index.index _ c.reply.ensures)
+    (c.loop-index.invariant then c.put_separator.ensures then c.put_message.ensures)
+
+pub returns-after-loop-index : goal.returns-after-loop-index
+returns-after-loop-index g c =
+    let listed = rw (take_all c.loop-index.index c.args.queue.now.replies (omega arith)) at c.loop-index.invariant in
+    rw (line_is message_text _ c.args.queue.now.replies (omega arith)) (c.put_place.ensures then listed then c.put.ensures)

@@ -1,0 +1,5 @@
+use Rattle.ultra_page.proofs.Writing.{◌then◌}
+use Rattle.ultra_lines.proofs.places.put_unit.Goals as goal
+
+pub returns : goal.returns
+returns g c = c.put.ensures then c.put-2.ensures then c.put_number.ensures then c.put-3.ensures

@@ -1,0 +1,16 @@
+use Rattle.std.proofs.Common.{arith}
+use Rattle.std.proofs.lemmas.List.{take_all}
+use Rattle.ultra_lines.specs.Text.{record_text}
+use Rattle.ultra_page.proofs.Writing.{◌then◌}
+use Rattle.ultra_lines.proofs.Listed.{listed_more, line_is}
+use Rattle.ultra_lines.proofs.places.put_wait.Goals as goal
+
+pub loop-index-preserved : goal.loop-index-preserved
+loop-index-preserved g c =
+    rw (listed_more record_text c.args.queue.now.lane.records c.loop-index.index _ c.record.ensures)
+    (c.loop-index.invariant then c.put_separator.ensures then c.put_record.ensures)
+
+pub returns-after-loop-index : goal.returns-after-loop-index
+returns-after-loop-index g c =
+    let listed = rw (take_all c.loop-index.index c.args.queue.now.lane.records (omega arith)) at c.loop-index.invariant in
+    rw (line_is record_text _ c.args.queue.now.lane.records (omega arith)) (c.put_place.ensures then listed then c.put.ensures)

@@ -1,0 +1,37 @@
+use Rattle.std.proofs.Common.{ℕ, ◌+◌, ◌^◌, Bool, arith, ap}
+use Rattle.ultra_model.specs.Machine.{Element}
+use Rattle.ultra_units.specs.Numbers.{element_number}
+use Rattle.ultra_section.specs.declared.held.Held.TheVariants.{Request}
+use Rattle.ultra_cut.specs.Holding.{holds}
+use Rattle.ultra_block.specs.State.{BlocksState}
+use Rattle.ultra_lines.specs.Trace.{pni_of}
+use Rattle.ultra_lines.proofs.Yielded.{one_came, all_came, writes_one}
+use Rattle.ultra_lines.proofs.Skipped.{next_small, skipped}
+use Rattle.ultra_lines.proofs.Empty.{no_pni_line_of}
+use Rattle.ultra_lines.proofs.state.put_interfaces.Goals as goal
+
+-- whether unit k of the kind holds one
+abbrev there : BlocksState → ℕ → Bool
+there b k = holds b.config.stages b.machine Request (element_number b.config.stages 0 + k)
+
+pub element-requires : goal.element-requires
+element-requires g c =
+    let b = c.args.blocks.now in
+    record { pe = next_small (there b) (2 ^ b.config.stages) c.loop-pe.yielded _ _ c.in-Some.pe c.loop-pe.invariant.parts (rw c.in-Some.is at c.next.ensures.steps) }
+
+pub loop-pe-preserved : goal.loop-pe-preserved
+loop-pe-preserved g c =
+    let one = rw (ap (λ (e : Element). e.interface) c.element.ensures.state) at c.put_pni.ensures in
+    record {
+      written = writes_one (pni_of c.args.blocks.now.machine) c.loop-pe.yielded c.in-Some.pe c.loop-pe.invariant.written one;
+      parts = one_came c.loop-pe.yielded _ _ _ c.in-Some.pe c.loop-pe.invariant.parts (rw c.in-Some.is at c.next.ensures.steps);
+    }
+
+pub returns : goal.returns
+returns g c =
+    let b = c.args.blocks.now in
+    let m = b.machine in
+    let none = rw c.in-None.is at c.next.ensures.steps in
+    let written = rw (all_came c.loop-pe.yielded _ _ c.loop-pe.invariant.parts none.0) at c.loop-pe.invariant.written in
+    let lines = skipped (there b) (pni_of m) 0 (2 ^ b.config.stages) (λ k within holds_none. no_pni_line_of b.config.stages m k (omega arith) holds_none) in
+    rw lines at written

@@ -1,0 +1,36 @@
+use Rattle.std.proofs.Common.{ℕ, ◌+◌, ◌^◌, Bool, arith}
+use Rattle.ultra_units.specs.Numbers.{module_number}
+use Rattle.ultra_section.specs.declared.held.Held.TheVariants.{Reply}
+use Rattle.ultra_cut.specs.Holding.{holds}
+use Rattle.ultra_block.specs.State.{BlocksState}
+use Rattle.ultra_lines.specs.Trace.{out_of}
+use Rattle.ultra_lines.proofs.Yielded.{one_came, all_came, writes_one}
+use Rattle.ultra_lines.proofs.Skipped.{next_small, skipped}
+use Rattle.ultra_lines.proofs.Empty.{no_out_line_of}
+use Rattle.ultra_lines.proofs.state.put_replies_to_leave.Goals as goal
+
+-- whether unit k of the kind holds one
+abbrev there : BlocksState → ℕ → Bool
+there b k = holds b.config.stages b.machine Reply (module_number b.config.stages 0 + k)
+
+pub bank-requires : goal.bank-requires
+bank-requires g c =
+    let b = c.args.blocks.now in
+    record { number = next_small (there b) (2 ^ b.config.stages) c.loop-number.yielded _ _ c.in-Some.number c.loop-number.invariant.parts (rw c.in-Some.is at c.next.ensures.steps) }
+
+pub loop-number-preserved : goal.loop-number-preserved
+loop-number-preserved g c =
+    let one = rw c.bank.ensures.state at c.put_out.ensures in
+    record {
+      written = writes_one (out_of c.args.blocks.now.machine) c.loop-number.yielded c.in-Some.number c.loop-number.invariant.written one;
+      parts = one_came c.loop-number.yielded _ _ _ c.in-Some.number c.loop-number.invariant.parts (rw c.in-Some.is at c.next.ensures.steps);
+    }
+
+pub returns : goal.returns
+returns g c =
+    let b = c.args.blocks.now in
+    let m = b.machine in
+    let none = rw c.in-None.is at c.next.ensures.steps in
+    let written = rw (all_came c.loop-number.yielded _ _ c.loop-number.invariant.parts none.0) at c.loop-number.invariant.written in
+    let lines = skipped (there b) (out_of m) 0 (2 ^ b.config.stages) (λ k within holds_none. no_out_line_of b.config.stages m k (omega arith) holds_none) in
+    rw lines at written

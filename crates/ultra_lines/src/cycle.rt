@@ -1,0 +1,39 @@
+//! The lines of a cycle.
+
+ghost use Rattle.std.specs.Prelude.{◌≡◌, ◌+◌, ◌<◌, ◌++◌, OnOk, OnErr};
+ghost use Rattle.ultra_msg.specs.Bytes.{TakesPrefix};
+ghost use Rattle.ultra_page.specs.Page.{Writes};
+ghost use Rattle.ultra_lines.specs.Trace.{cycle_text};
+
+use crate::events::put_events;
+use crate::state::put_state;
+use crate::texts::put_with_word;
+use ultra_block::Blocks;
+use ultra_msg::{Sink, SinkFault};
+use ultra_page::Page;
+
+/// Writes the lines of the last cycle to the sink. After a fault the sink has taken a prefix of them.
+///
+/// The machine has to have made at least one cycle. The lines take no memory, and go to the sink in large pieces.
+pub fn write_cycle<S: Sink>(blocks: &Blocks, sink: &mut S) -> Result<(), SinkFault>
+    requires { 0 < blocks.now.machine.cycles }
+    ensures ok { OnOk result (S.taken sink.new ≡ S.taken sink.old ++ cycle_text blocks.now.config blocks.now.machine) }
+    ensures still { OnOk result (S.failures sink.new ≡ S.failures sink.old) }
+    ensures err { OnErr result (TakesPrefix (cycle_text blocks.now.config blocks.now.machine) (S.taken sink.old) (S.taken sink.new)) }
+    ensures counted { OnErr result (S.failures sink.new ≡ S.failures sink.old + 1) }
+{
+    let mut page = Page::new(sink);
+    put_cycle(&mut page, blocks);
+    page.finish()
+}
+
+/// Writes the lines of the last cycle on a page: its number, what happened, and what stands where afterwards.
+pub fn put_cycle<S: Sink>(page: &mut Page<'_, S>, blocks: &Blocks)
+    requires { 0 < blocks.now.machine.cycles }
+    ensures { Writes S.taken S.failures (cycle_text blocks.now.config blocks.now.machine) page.old page.new }
+{
+    put_with_word(page, b"cycle ", blocks.done() - 1);
+    page.put(b"\n");
+    put_events(page, blocks);
+    put_state(page, blocks);
+}

@@ -1,0 +1,90 @@
+//! The lines of what happened in a cycle.
+
+ghost use Rattle.std.specs.List.{flat_map};
+ghost use Rattle.ultra_page.specs.Page.{Writes};
+ghost use Rattle.ultra_lines.specs.Trace.{got_line, act_line, fault_line, events_text};
+
+use crate::texts::{put_fault, put_message, put_reply, put_request, put_with_word};
+use ultra_block::Blocks;
+use ultra_model::Stop;
+use ultra_msg::{Event, Sink};
+use ultra_page::Page;
+
+/// Writes the lines of what happened in the last cycle: first what was delivered, then what was served, then who faulted.
+pub(crate) fn put_events<S: Sink>(page: &mut Page<'_, S>, blocks: &Blocks)
+    ensures { Writes S.taken S.failures (events_text blocks.now.machine.events blocks.now.machine.stops) page.old page.new }
+{
+    put_deliveries(page, blocks);
+    put_servings(page, blocks);
+    put_stops(page, blocks);
+}
+
+/// Writes the lines of what was delivered, by processing element.
+fn put_deliveries<S: Sink>(page: &mut Page<'_, S>, blocks: &Blocks)
+    ensures { Writes S.taken S.failures (flat_map got_line blocks.now.machine.events) page.old page.new }
+{
+    for event in blocks.events() {
+        put_got(page, event);
+    }
+}
+
+/// Writes the lines of what was served, by module.
+fn put_servings<S: Sink>(page: &mut Page<'_, S>, blocks: &Blocks)
+    ensures { Writes S.taken S.failures (flat_map act_line blocks.now.machine.events) page.old page.new }
+{
+    for event in blocks.events() {
+        put_act(page, event);
+    }
+}
+
+/// Writes the lines of who faulted, by processing element.
+fn put_stops<S: Sink>(page: &mut Page<'_, S>, blocks: &Blocks)
+    ensures { Writes S.taken S.failures (flat_map fault_line blocks.now.machine.stops) page.old page.new }
+{
+    for stop in blocks.stops() {
+        put_stop(page, stop);
+    }
+}
+
+/// Writes the line of a delivery, as `got 0@5 = 1`; other events have none.
+fn put_got<S: Sink>(page: &mut Page<'_, S>, event: Event)
+    ensures { Writes S.taken S.failures (got_line event) page.old page.new }
+{
+    if let Event::Delivered(message) = event {
+        page.put(b"got ");
+        put_message(page, message);
+        page.put(b"\n");
+    }
+}
+
+/// Writes the line of a serving, as `act 0 1@0 faa 2 = 0 now 2`; other events have none.
+fn put_act<S: Sink>(page: &mut Page<'_, S>, event: Event)
+    ensures { Writes S.taken S.failures (act_line event) page.old page.new }
+{
+    if let Event::Served {
+        module,
+        request,
+        reply,
+        now,
+    } = event
+    {
+        put_with_word(page, b"act ", module);
+        page.put(b" ");
+        put_request(page, request);
+        page.put(b" = ");
+        put_reply(page, reply);
+        page.put(b" now ");
+        page.put_number(now);
+        page.put(b"\n");
+    }
+}
+
+/// Writes the line of a processing element that has faulted, as `fault 1 f2`.
+fn put_stop<S: Sink>(page: &mut Page<'_, S>, stop: Stop)
+    ensures { Writes S.taken S.failures (fault_line stop) page.old page.new }
+{
+    put_with_word(page, b"fault ", stop.pe);
+    page.put(b" ");
+    put_fault(page, stop.fault);
+    page.put(b"\n");
+}

@@ -1,0 +1,88 @@
+//! The units of a machine that hold something.
+
+ghost use Rattle.std.specs.Prelude.{◌≡◌, ◌-◌, ◌^◌, ◌<◌};
+ghost use Rattle.std.specs.Iterator.{YieldsFirst, item_count};
+ghost use Rattle.ultra_units.specs.Numbers.{switch_number as number_of_switch, module_number as number_of_module, element_number as number_of_element};
+ghost use Rattle.ultra_lines.specs.Holders.{holders_left, holding};
+
+use ultra_block::{Blocks, Held};
+use ultra_units::{element_number, module_number, switch_number};
+
+/// The units of one kind that hold such a thing, by their numbers within the kind.
+#[derive(Drop)]
+pub(crate) struct Holders<'a> {
+    blocks: &'a Blocks,
+    held: Held,
+    // the number of the kind's first unit among all units
+    base: u32,
+    // from which number within the kind on it goes on, and the bound of these numbers
+    from: u32,
+    end: u32,
+}
+
+impl Iterator for Holders<'_> {
+    type Item = u32;
+
+    ghost next_gives = { YieldsFirst holders_left };
+
+    ghost remaining = { item_count holders_left };
+
+    fn next(&mut self) -> Option<u32> {
+        let base = self.base as usize;
+        let unit = self
+            .blocks
+            .next_holding(self.held, base + self.from as usize)?;
+        let number = unit - base;
+        if number >= self.end as usize {
+            return None;
+        }
+        self.from = number as u32 + 1;
+        Some(number as u32)
+    }
+}
+
+/// The switches of a stage that hold such a thing, by their numbers within the stage.
+pub(crate) fn switches_with(blocks: &Blocks, held: Held, stage: u32) -> Holders<'_>
+    requires { stage < blocks.now.config.stages }
+    ensures { holders_left result ≡ holding blocks.now held (number_of_switch blocks.now.config.stages stage 0) 0 (2 ^ (blocks.now.config.stages - 1)) }
+{
+    let net = blocks.config().net();
+    let end = net.size() / 2;
+    Holders {
+        blocks,
+        held,
+        base: switch_number(net, stage, 0) as u32,
+        from: 0,
+        end,
+    }
+}
+
+/// The modules that hold such a thing, by their numbers.
+pub(crate) fn modules_with(blocks: &Blocks, held: Held) -> Holders<'_>
+    ensures { holders_left result ≡ holding blocks.now held (number_of_module blocks.now.config.stages 0) 0 (2 ^ blocks.now.config.stages) }
+{
+    let net = blocks.config().net();
+    let end = net.size();
+    Holders {
+        blocks,
+        held,
+        base: module_number(net, 0) as u32,
+        from: 0,
+        end,
+    }
+}
+
+/// The processing elements that hold such a thing, by their numbers.
+pub(crate) fn elements_with(blocks: &Blocks, held: Held) -> Holders<'_>
+    ensures { holders_left result ≡ holding blocks.now held (number_of_element blocks.now.config.stages 0) 0 (2 ^ blocks.now.config.stages) }
+{
+    let net = blocks.config().net();
+    let end = net.size();
+    Holders {
+        blocks,
+        held,
+        base: element_number(net, 0) as u32,
+        from: 0,
+        end,
+    }
+}

@@ -1,0 +1,13 @@
+//! The lines of a trace, of a machine's last cycle and of its end. What they say and in which order is this project's profile.
+#![tactic(auto)]
+
+mod cycle;
+mod ending;
+mod events;
+mod holders;
+mod places;
+mod state;
+mod texts;
+
+pub use cycle::{put_cycle, write_cycle};
+pub use ending::put_end;

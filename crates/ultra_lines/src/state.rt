@@ -1,0 +1,136 @@
+//! The lines of what stands where after a cycle.
+
+ghost use Rattle.std.specs.Prelude.{◌≡◌, ◌*◌, ◌-◌, ◌^◌, ◌<◌, ◌≤◌};
+ghost use Rattle.ultra_model.specs.Machine.{size};
+ghost use Rattle.ultra_page.specs.Page.{Writes};
+ghost use Rattle.ultra_lines.specs.Trace.{by_number, by_stage, pni_of, req_of, wait_of, inp_of, out_of, rep_of, state_text};
+
+use crate::holders::{elements_with, modules_with, switches_with};
+use crate::places::{put_inp, put_out, put_pni, put_rep, put_req, put_wait};
+use ultra_block::{Blocks, Held};
+use ultra_msg::Sink;
+use ultra_page::Page;
+
+/// Writes what stands where after the last cycle.
+pub(crate) fn put_state<S: Sink>(page: &mut Page<'_, S>, blocks: &Blocks)
+    ensures { Writes S.taken S.failures (state_text blocks.now.config blocks.now.machine) page.old page.new }
+{
+    put_interfaces(page, blocks);
+    put_request_queues(page, blocks);
+    put_wait_buffers(page, blocks);
+    put_requests_to_serve(page, blocks);
+    put_replies_to_leave(page, blocks);
+    put_reply_queues(page, blocks);
+}
+
+/// Writes the lines of the requests that are not yet in the network, by processing element.
+fn put_interfaces<S: Sink>(page: &mut Page<'_, S>, blocks: &Blocks)
+    ensures { Writes S.taken S.failures (by_number (size blocks.now.config) (pni_of blocks.now.machine)) page.old page.new }
+{
+    for pe in elements_with(blocks, Held::Request) {
+        put_pni(page, pe, &blocks.element(pe).interface);
+    }
+}
+
+/// Writes the lines of the queues toward memory, by stage, then position.
+fn put_request_queues<S: Sink>(page: &mut Page<'_, S>, blocks: &Blocks)
+    ensures { Writes S.taken S.failures (by_stage blocks.now.config (req_of blocks.now.machine)) page.old page.new }
+{
+    for stage in 0..stages(blocks) {
+        put_requests_of_stage(page, blocks, stage);
+    }
+}
+
+/// Writes the lines of a stage's queues toward memory, by position.
+fn put_requests_of_stage<S: Sink>(page: &mut Page<'_, S>, blocks: &Blocks, stage: u32)
+    requires { stage < blocks.now.config.stages }
+    ensures { Writes S.taken S.failures (by_number (size blocks.now.config) (req_of blocks.now.machine stage)) page.old page.new }
+{
+    let _even = positions(blocks);
+    for switch in switches_with(blocks, Held::Request, stage) {
+        let first = 2 * switch;
+        let second = first + 1;
+        put_req(page, stage, first, blocks.lane(stage, first));
+        put_req(page, stage, second, blocks.lane(stage, second));
+    }
+}
+
+/// Writes the lines of the wait buffers, by stage, then position.
+fn put_wait_buffers<S: Sink>(page: &mut Page<'_, S>, blocks: &Blocks)
+    ensures { Writes S.taken S.failures (by_stage blocks.now.config (wait_of blocks.now.machine)) page.old page.new }
+{
+    for stage in 0..stages(blocks) {
+        put_records_of_stage(page, blocks, stage);
+    }
+}
+
+/// Writes the lines of a stage's wait buffers, by position.
+fn put_records_of_stage<S: Sink>(page: &mut Page<'_, S>, blocks: &Blocks, stage: u32)
+    requires { stage < blocks.now.config.stages }
+    ensures { Writes S.taken S.failures (by_number (size blocks.now.config) (wait_of blocks.now.machine stage)) page.old page.new }
+{
+    let _even = positions(blocks);
+    for switch in switches_with(blocks, Held::Record, stage) {
+        let first = 2 * switch;
+        let second = first + 1;
+        put_wait(page, stage, first, blocks.lane(stage, first));
+        put_wait(page, stage, second, blocks.lane(stage, second));
+    }
+}
+
+/// Writes the lines of the requests that wait for their modules, by module.
+fn put_requests_to_serve<S: Sink>(page: &mut Page<'_, S>, blocks: &Blocks)
+    ensures { Writes S.taken S.failures (by_number (size blocks.now.config) (inp_of blocks.now.machine)) page.old page.new }
+{
+    for number in modules_with(blocks, Held::Request) {
+        put_inp(page, number, blocks.bank(number));
+    }
+}
+
+/// Writes the lines of the replies that wait to leave their modules, by module.
+fn put_replies_to_leave<S: Sink>(page: &mut Page<'_, S>, blocks: &Blocks)
+    ensures { Writes S.taken S.failures (by_number (size blocks.now.config) (out_of blocks.now.machine)) page.old page.new }
+{
+    for number in modules_with(blocks, Held::Reply) {
+        put_out(page, number, blocks.bank(number));
+    }
+}
+
+/// Writes the lines of the queues toward the processing elements, by stage, then position.
+fn put_reply_queues<S: Sink>(page: &mut Page<'_, S>, blocks: &Blocks)
+    ensures { Writes S.taken S.failures (by_stage blocks.now.config (rep_of blocks.now.machine)) page.old page.new }
+{
+    for stage in 0..stages(blocks) {
+        put_replies_of_stage(page, blocks, stage);
+    }
+}
+
+/// Writes the lines of a stage's queues toward the processing elements, by position.
+fn put_replies_of_stage<S: Sink>(page: &mut Page<'_, S>, blocks: &Blocks, stage: u32)
+    requires { stage < blocks.now.config.stages }
+    ensures { Writes S.taken S.failures (by_number (size blocks.now.config) (rep_of blocks.now.machine stage)) page.old page.new }
+{
+    let _even = positions(blocks);
+    for switch in switches_with(blocks, Held::Reply, stage) {
+        let first = 2 * switch;
+        let second = first + 1;
+        put_rep(page, stage, first, blocks.reply_queue(stage, first));
+        put_rep(page, stage, second, blocks.reply_queue(stage, second));
+    }
+}
+
+/// How many stages the machine has.
+fn stages(blocks: &Blocks) -> u32
+    ensures { result ≡ blocks.now.config.stages }
+{
+    blocks.config().stages()
+}
+
+/// How many positions each side of a stage has, which is the number of processing elements and of modules.
+pub(crate) fn positions(blocks: &Blocks) -> u32
+    ensures value { result ≡ size blocks.now.config }
+    ensures even { 2 * 2 ^ (blocks.now.config.stages - 1) ≡ result }
+    ensures small { result ≤ 64 }
+{
+    blocks.config().net().size()
+}

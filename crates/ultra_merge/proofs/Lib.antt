@@ -1,0 +1,4 @@
+pub mod Ranked
+pub mod Merged
+pub mod Front
+pub mod Taken

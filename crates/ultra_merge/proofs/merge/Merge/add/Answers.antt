@@ -1,0 +1,10 @@
+use Rattle.std.proofs.lemmas.List.Elements.{All-push}
+use Rattle.ultra_merge.specs.Merging.{IsRanked}
+use Rattle.ultra_merge.proofs.merge.Merge.add.Goals as goal
+
+pub invariant_of-self : goal.invariant_of-self
+invariant_of-self g c =
+    let ranked = rw (← c.self.view_is) at c.requires.ranked in
+    rw c.push.ensures.items
+    (All-push (λ list. IsRanked (g.R.Ranking.rank_of c.self.inside.ranking) (g.R.Ranking.rank_count c.self.inside.ranking) list.now)
+    c.self.inside.lists.items c.args.list c.self.invariant ranked)

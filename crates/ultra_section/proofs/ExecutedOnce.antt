@@ -1,0 +1,158 @@
+-- After the half in which processing elements make a step: each has made one, and what it issued and its stop are told in the order of the elements.
+use Rattle.std.proofs.Common.{◌≡◌, ◌≢◌, ℕ, ◌^◌, ◌<◌, List, [], ◌∷◌, ◌++◌, Option, Some, None, length, get_or-set_same, get_or-set_other, refl, sym, ◌∙◌, ap, subst, arith}
+use Rattle.std.proofs.lemmas.List.{length-set, append-nil}
+use Rattle.ultra_msg.specs.declared.Event.{Event}
+use Rattle.ultra_isa.specs.declared.Instr.{Instr}
+use Rattle.ultra_switch.specs.declared.Switch.{Switch}
+use Rattle.ultra_mem.specs.Serve.{Bank}
+use Rattle.ultra_model.specs.declared.Stop.{Stop}
+use Rattle.ultra_model.specs.Places.{present}
+use Rattle.ultra_model.specs.Phases.{issue_event, stop_of}
+use Rattle.ultra_units.specs.Numbers.{element_number}
+use Rattle.ultra_units.specs.Visits.{after_units}
+use Rattle.ultra_halves.specs.declared.elements.ProcessingElement.{ProcessingElement}
+use Rattle.ultra_halves.specs.Elements.{element_of, executed, step_at}
+use Rattle.ultra_section.specs.declared.unit.Unit.{Unit}
+use Rattle.ultra_section.specs.declared.unit.Unit.TheVariants as unit
+use Rattle.ultra_section.specs.Units.{unit_of, IsUnit}
+use Rattle.ultra_section.specs.BlockState.{BlockState, switch_at, module_at, element_at}
+use Rattle.ultra_section.specs.Shape.{IsShaped}
+use Rattle.ultra_section.specs.Execution.{stepped_by, element_executes, executes}
+use Rattle.ultra_section.proofs.Standing.{unit_is}
+use Rattle.ultra_section.proofs.ByKind.{visit, visit_as, not_changed, same_visits, keeps, leaves, own_element, or_same}
+use Rattle.ultra_section.proofs.Once.{all_keep, never_changed, not_yet_changed, changed_once, told_before, all_told}
+
+abbrev no_switch : ℕ → ℕ → ℕ → BlockState → Switch → BlockState
+no_switch n s k t w = t
+
+abbrev no_module : ℕ → BlockState → Bank → BlockState
+no_module m t b = t
+
+module _ (program : List Instr) where
+  abbrev executing_visit : ℕ → BlockState → BlockState
+  executing_visit = visit no_switch no_module (stepped_by program)
+
+  is_visit_as : (n : ℕ) (t : BlockState) (u : Unit)
+      → ◌≡◌ {A = BlockState} (elim u [ unit.Switch s k ↦ t | unit.Module m ↦ t | unit.Element p ↦ element_executes program p t | unit.Nothing ↦ t ]) (visit_as no_switch no_module (stepped_by program) n t u)
+  is_visit_as n t (unit.Switch s k) = sym (not_changed t (switch_at t.switches n))
+  is_visit_as n t (unit.Module m) = sym (not_changed t (module_at t.modules m))
+  is_visit_as n t (unit.Element p) = refl
+  is_visit_as n t unit.Nothing = refl
+
+  is_visit : (n : ℕ) (t : BlockState) → executes program n t ≡ executing_visit n t
+  is_visit n t = is_visit_as n t (unit_of t.stages n)
+
+  all_visits : (b : BlockState) → after_units (executes program) 320 b ≡ after_units executing_visit 320 b
+  all_visits b = same_visits (executes program) executing_visit is_visit 320 b
+
+  module _ (d : ℕ) where
+    shape_kept : (n : ℕ) (t : BlockState) → IsShaped d t → IsShaped d (executing_visit n t)
+    shape_kept n t shape = keeps no_switch no_module (stepped_by program) (IsShaped d) n t shape (λ s k w. shape) (λ m b. shape)
+        (λ p e. record {
+          stages = shape.stages;
+          switches = shape.switches;
+          modules = shape.modules;
+          elements = length-set t.elements p _ ∙ shape.elements;
+          replies = shape.replies;
+          requests = shape.requests;
+        })
+
+    pub shape_after_executing : (b : BlockState) → IsShaped d b → IsShaped d (after_units (executes program) 320 b)
+    shape_after_executing b shape = subst (IsShaped d) (sym (all_visits b)) (all_keep executing_visit (IsShaped d) shape_kept 320 b shape)
+
+    -- ---- processing elements
+    abbrev pub after_executing : Option ProcessingElement → Option ProcessingElement
+    after_executing None = None
+    after_executing (Some e) = Some (executed program e)
+
+    own_as : (p : ℕ) (t : BlockState) (o : Option ProcessingElement) → p < length t.elements → element_at t.elements p ≡ o
+        → or_same no_switch no_module (stepped_by program) d (λ t. element_at t.elements p) (element_at t.elements p) (λ e. element_at (stepped_by program p t e).elements p) o ≡ after_executing o
+    own_as p t None within is = is
+    own_as p t (Some e) within is = get_or-set_same t.elements p _ None within
+
+    others : (p j : ℕ) (t : BlockState) → IsShaped d t → j ≢ element_number d p → element_at (executing_visit j t).elements p ≡ element_at t.elements p
+    others p j t shape other =
+        leaves no_switch no_module (stepped_by program) d (λ t. element_at t.elements p) j t shape.stages (λ s k is w. refl) (λ m is b. refl)
+        (λ q is e. get_or-set_other t.elements q p _ None (λ same. other (omega (arith, is.number))))
+
+    pub element_after_executing : (b : BlockState) → IsShaped d b → (p : ℕ) → p < 2 ^ d → element_number d p < 320
+        → element_at (after_units (executes program) 320 b).elements p ≡ after_executing (element_at b.elements p)
+    element_after_executing b shape p h small =
+        ap (λ (t : BlockState). element_at t.elements p) (all_visits b)
+        ∙ changed_once executing_visit (IsShaped d) shape_kept (λ t. element_at t.elements p) (element_number d p) (others p) after_executing
+        (λ t q. own_element no_switch no_module (stepped_by program) d (λ t. element_at t.elements p) p h t q.stages
+        ∙ own_as p t (element_at t.elements p) (omega (arith, q.elements)) refl) 320 b shape small
+
+    -- ---- what nobody changes
+    module _ {X : Type 0} (get : BlockState → X) (same : (p : ℕ) (t : BlockState) (e : ProcessingElement) → get (stepped_by program p t e) ≡ get t) where
+      pub kept_by_executing : (b : BlockState) → IsShaped d b → get (after_units (executes program) 320 b) ≡ get b
+      kept_by_executing b shape =
+          ap get (all_visits b)
+          ∙ never_changed executing_visit (IsShaped d) shape_kept get
+          (λ j t q. leaves no_switch no_module (stepped_by program) d get j t q.stages (λ s k is w. refl) (λ m is b. refl) (λ p is e. same p t e)) 320 b shape
+
+    -- ---- events and stops
+    abbrev pub issue_told : Option ProcessingElement → List Event
+    issue_told None = []
+    issue_told (Some e) = present (issue_event (element_of e) (step_at program e).sent ∷ [])
+
+    abbrev pub stop_told : ℕ → Option ProcessingElement → List Stop
+    stop_told p None = []
+    stop_told p (Some e) = present (stop_of p (step_at program e).was ∷ [])
+
+    -- what is told of one unit, as `tell` tells of a processing element
+    abbrev pub told_of : {E : Type 0} → (ℕ → Option ProcessingElement → List E) → BlockState → Unit → List E
+    told_of tell t (unit.Switch s k) = []
+    told_of tell t (unit.Module m) = []
+    told_of tell t (unit.Element p) = tell p (element_at t.elements p)
+    told_of tell t unit.Nothing = []
+
+    tells_element : (p : ℕ) (t : BlockState) (o : Option ProcessingElement)
+        → BlockState.events (elim o [ None ↦ t | Some e ↦ stepped_by program p t e ]) ≡ t.events ++ issue_told o
+    tells_element p t None = sym (append-nil t.events)
+    tells_element p t (Some e) = refl
+
+    tells_stop : (p : ℕ) (t : BlockState) (o : Option ProcessingElement)
+        → BlockState.stops (elim o [ None ↦ t | Some e ↦ stepped_by program p t e ]) ≡ t.stops ++ stop_told p o
+    tells_stop p t None = sym (append-nil t.stops)
+    tells_stop p t (Some e) = refl
+
+    tells_as : (t : BlockState) (u : Unit)
+        → BlockState.events (elim u [ unit.Switch s k ↦ t | unit.Module m ↦ t | unit.Element p ↦ element_executes program p t | unit.Nothing ↦ t ]) ≡ t.events ++ told_of (λ p o. issue_told o) t u
+    tells_as t (unit.Switch s k) = sym (append-nil t.events)
+    tells_as t (unit.Module m) = sym (append-nil t.events)
+    tells_as t (unit.Element p) = tells_element p t (element_at t.elements p)
+    tells_as t unit.Nothing = sym (append-nil t.events)
+
+    stops_as : (t : BlockState) (u : Unit)
+        → BlockState.stops (elim u [ unit.Switch s k ↦ t | unit.Module m ↦ t | unit.Element p ↦ element_executes program p t | unit.Nothing ↦ t ]) ≡ t.stops ++ told_of stop_told t u
+    stops_as t (unit.Switch s k) = sym (append-nil t.stops)
+    stops_as t (unit.Module m) = sym (append-nil t.stops)
+    stops_as t (unit.Element p) = tells_stop p t (element_at t.elements p)
+    stops_as t unit.Nothing = sym (append-nil t.stops)
+
+    same_told : {E : Type 0} (tell : ℕ → Option ProcessingElement → List E) (n : ℕ) (t : BlockState) (u : Unit) → IsShaped d t → IsUnit d n u
+        → told_of tell (after_units executing_visit n t) u ≡ told_of tell t u
+    same_told tell n t (unit.Switch s k) shape is = refl
+    same_told tell n t (unit.Module m) shape is = refl
+    same_told tell n t (unit.Element p) shape is =
+        ap (tell p)
+        (not_yet_changed executing_visit (IsShaped d) shape_kept (λ t. element_at t.elements p) n
+        (λ j t q other. others p j t q (λ same. other (same ∙ sym is.number))) n t shape (omega arith))
+    same_told tell n t unit.Nothing shape is = refl
+
+    pub events_after_executing : (b : BlockState) → IsShaped d b
+        → (after_units (executes program) 320 b).events ≡ b.events ++ told_before (λ n t. told_of (λ p o. issue_told o) t (unit_of d n)) 320 b
+    events_after_executing b shape =
+        ap (λ (t : BlockState). t.events) (all_visits b)
+        ∙ all_told executing_visit (IsShaped d) shape_kept (λ n t. told_of (λ p o. issue_told o) t (unit_of d n)) (λ t. t.events)
+        (λ j t q. ap (λ (t : BlockState). t.events) (sym (is_visit j t)) ∙ tells_as t (unit_of t.stages j) ∙ ap (λ e. t.events ++ told_of (λ p o. issue_told o) t (unit_of e j)) q.stages)
+        (λ n t q. same_told (λ p o. issue_told o) n t (unit_of d n) q (unit_is d n)) 320 b shape
+
+    pub stops_after_executing : (b : BlockState) → IsShaped d b
+        → (after_units (executes program) 320 b).stops ≡ b.stops ++ told_before (λ n t. told_of stop_told t (unit_of d n)) 320 b
+    stops_after_executing b shape =
+        ap (λ (t : BlockState). t.stops) (all_visits b)
+        ∙ all_told executing_visit (IsShaped d) shape_kept (λ n t. told_of stop_told t (unit_of d n)) (λ t. t.stops)
+        (λ j t q. ap (λ (t : BlockState). t.stops) (sym (is_visit j t)) ∙ stops_as t (unit_of t.stages j) ∙ ap (λ e. t.stops ++ told_of stop_told t (unit_of e j)) q.stages)
+        (λ n t q. same_told stop_told n t (unit_of d n) q (unit_is d n)) 320 b shape

@@ -1,0 +1,104 @@
+-- A processing element that has stopped stays as it is, and what one does, the later ones don't miss.
+use Rattle.std.proofs.Common.{◌≡◌, ℕ, zero, suc, ◌<◌, ◌≤◌, List, [], ◌∷◌, ◌++◌, true, false, Option, Some, None, length, length-append, get_or-set_other, refl, sym, ◌∙◌, ap, arith}
+use Rattle.std.specs.Prelude.{not, slice_set, ◌||◌, slice_get}
+use Rattle.std.proofs.lemmas.List.{append-nil}
+use Rattle.ultra_msg.specs.declared.Request.{Request}
+use Rattle.ultra_isa.specs.declared.Instr.{Instr}
+use Rattle.ultra_isa.specs.declared.Step.{Step}
+use Rattle.ultra_isa.specs.declared.Step.TheVariants as step
+use Rattle.ultra_isa.specs.Step.{has_stopped}
+use Rattle.ultra_units.specs.Set.{has_unit}
+use Rattle.ultra_units.specs.Visits.{after_units}
+use Rattle.ultra_model.specs.Machine.{Element}
+use Rattle.ultra_model.specs.Places.{present}
+use Rattle.ultra_model.specs.Phases.{issue_event, stop_of}
+use Rattle.ultra_halves.specs.declared.elements.ProcessingElement.{ProcessingElement}
+use Rattle.ultra_halves.specs.Elements.{element_of, executed, step_at, is_at_rest}
+use Rattle.ultra_halves.specs.Rest.{stalls}
+use Rattle.ultra_halves.proofs.Rests.{left_at_rest}
+use Rattle.ultra_section.specs.declared.sets.Sets.{Sets}
+use Rattle.ultra_section.specs.declared.unit.Unit.{Unit as UnitName}
+use Rattle.ultra_section.specs.declared.unit.Unit.TheVariants as unit
+use Rattle.ultra_section.specs.Units.{unit_of, IsUnit, IsElement}
+use Rattle.ultra_section.specs.Sets.{if_here}
+use Rattle.ultra_section.specs.BlockState.{BlockState, HasEventRoom, HasStopRoom, UnitsAreKnown, element_at}
+use Rattle.ultra_section.specs.Execution.{stepped_by, element_executes, executes, UnitCanExecute, CanExecuteAt}
+use Rattle.ultra_section.proofs.Standing.{unit_is}
+use Rattle.ultra_section.proofs.Empty.{same_entry, is_none}
+
+one_issue : (e : Element) (o : Option Request) → length (present (issue_event e o ∷ [])) ≤ 1
+one_issue e None = omega arith
+one_issue e (Some r) = omega arith
+
+one_stop : (p : ℕ) (was : Step) → length (present (stop_of p was ∷ [])) ≤ 1
+one_stop p step.Done = omega arith
+one_stop p step.Issued = omega arith
+one_stop p step.Stalled = omega arith
+one_stop p step.Halted = omega arith
+one_stop p (step.Fault f) = omega arith
+
+module _ (program : List Instr) (b : BlockState) where
+  rests : (e : ProcessingElement) → has_stopped e.processor.core.activity ≡ true → is_at_rest program e ≡ true
+  rests e h = ap (λ x. x || stalls e.processor.site e.interface.most_open e.interface.interface.opened e.processor.core (slice_get program e.processor.core.place)) h
+
+  element_idle : (p : ℕ) (o : Option ProcessingElement) → element_at b.elements p ≡ o → if_here (λ e. not (has_stopped e.processor.core.activity)) o ≡ false
+      → elim o [ None ↦ b | Some e ↦ stepped_by program p b e ] ≡ b
+  element_idle p None is h = refl
+  element_idle p (Some e) is h =
+      let left = left_at_rest program e (rests e (is_none _ h)) in
+      let put : slice_set b.elements p (Some (executed program e)) ≡ b.elements = ap (λ x. slice_set b.elements p (Some x)) left.element ∙ same_entry b.elements p (Some e) is in
+      let events : b.events ++ present (issue_event (element_of e) (step_at program e).sent ∷ []) ≡ b.events = ap (λ o. b.events ++ present (o ∷ [])) left.issue ∙ append-nil b.events in
+      let stops : b.stops ++ present (stop_of p (step_at program e).was ∷ []) ≡ b.stops = ap (λ o. b.stops ++ present (o ∷ [])) (left.stop p) ∙ append-nil b.stops in
+      ap (λ es. record b { elements = es; events = b.events ++ present (issue_event (element_of e) (step_at program e).sent ∷ []); stops = b.stops ++ present (stop_of p (step_at program e).was ∷ []) }) put
+      ∙ ap (λ vs. record b { events = vs; stops = b.stops ++ present (stop_of p (step_at program e).was ∷ []) }) events
+      ∙ ap (λ ss. record b { stops = ss }) stops
+
+  idle_at : (s : Sets) → UnitsAreKnown b.stages s b.switches b.modules b.elements → (n : ℕ) (u : UnitName) → IsUnit b.stages n u → has_unit s.to_step n ≡ false
+      → elim u [ unit.Switch s k ↦ b | unit.Module m ↦ b | unit.Element p ↦ element_executes program p b | unit.Nothing ↦ b ] ≡ b
+  idle_at s known n (unit.Switch t k) is h = refl
+  idle_at s known n (unit.Module m) is h = refl
+  idle_at s known n (unit.Element p) is h =
+      element_idle p (element_at b.elements p) refl (sym (known.elements p is.small).to_step ∙ ap (has_unit s.to_step) (sym is.number) ∙ h)
+  idle_at s known n unit.Nothing is h = refl
+
+  pub executes_none : (s : Sets) → UnitsAreKnown b.stages s b.switches b.modules b.elements → (n : ℕ) → has_unit s.to_step n ≡ false → executes program n b ≡ b
+  executes_none s known n h = idle_at s known n (unit_of b.stages n) (unit_is b.stages n) h
+
+  later_unit : (k : ℕ) (b' : BlockState) (u : UnitName) → ((p : ℕ) → IsElement b.stages k p → element_at b'.elements p ≡ element_at b.elements p) → IsUnit b.stages k u
+      → UnitCanExecute b u → UnitCanExecute b' u
+  later_unit k b' (unit.Switch s i) elements is can = tt
+  later_unit k b' (unit.Module m) elements is can = tt
+  later_unit k b' (unit.Element p) elements is can = λ e stands. can e (sym (elements p is) ∙ stands)
+  later_unit k b' unit.Nothing elements is can = tt
+
+  later_at_element : (n k p : ℕ) (o : Option ProcessingElement) → n < k → IsElement b.stages n p → HasEventRoom n b → HasStopRoom n b → CanExecuteAt k b
+      → CanExecuteAt k (elim o [ None ↦ b | Some e ↦ stepped_by program p b e ])
+  later_at_element n k p None order is events stops can = can
+  later_at_element n k p (Some e) order is events stops can = record {
+    unit = later_unit k (stepped_by program p b e) (unit_of b.stages k)
+        (λ q other. get_or-set_other b.elements p q _ None (λ same. absurd (let x = is.number in let y = other.number in omega arith))) (unit_is b.stages k) can.unit;
+    event_room = let told = one_issue (element_of e) (step_at program e).sent in
+        let all = length-append b.events (present (issue_event (element_of e) (step_at program e).sent ∷ [])) in omega arith;
+    stop_room = let told = one_stop p (step_at program e).was in
+        let all = length-append b.stops (present (stop_of p (step_at program e).was ∷ [])) in omega arith;
+  }
+
+  pub later_element : (n k p : ℕ) → n < k → IsElement b.stages n p → HasEventRoom n b → HasStopRoom n b → CanExecuteAt k b → CanExecuteAt k (element_executes program p b)
+  later_element n k p order is events stops can = later_at_element n k p (element_at b.elements p) order is events stops can
+
+-- ---- what is done stays as it is until the half is over
+element_keeps : (program : List Instr) (b : BlockState) (p : ℕ) (o : Option ProcessingElement) → BlockState.done (elim o [ None ↦ b | Some e ↦ stepped_by program p b e ]) ≡ b.done
+element_keeps program b p None = refl
+element_keeps program b p (Some e) = refl
+
+unit_keeps : (program : List Instr) (b : BlockState) (u : UnitName)
+    → BlockState.done (elim u [ unit.Switch s k ↦ b | unit.Module m ↦ b | unit.Element p ↦ element_executes program p b | unit.Nothing ↦ b ]) ≡ b.done
+unit_keeps program b (unit.Switch s k) = refl
+unit_keeps program b (unit.Module m) = refl
+unit_keeps program b (unit.Element p) = element_keeps program b p (element_at b.elements p)
+unit_keeps program b unit.Nothing = refl
+
+pub done_kept : (program : List Instr) (n : ℕ) (b : BlockState) → BlockState.done (after_units (executes program) n b) ≡ b.done
+unfolding after_units
+done_kept program zero b = refl
+done_kept program (suc n) b = unit_keeps program (after_units (executes program) n b) (unit_of (after_units (executes program) n b).stages n) ∙ done_kept program n b

@@ -1,0 +1,209 @@
+-- What the sets of a block say of its units is kept when one of them is put anew and noted.
+use Rattle.std.proofs.Common.{◌≡◌, ◌≢◌, ℕ, ◌^◌, ◌<◌, ◌≤◌, List, Bool, Option, Some, None, set, get_or, refl, sym, ◌∙◌, ap, subst, inl, inr, arith, get_or-set_same, get_or-set_other}
+use Rattle.std.specs.Prelude.{not, is_some, length, slice_index_or}
+use Rattle.std.proofs.lemmas.Bool.{cases_eq}
+use Rattle.std.proofs.lemmas.List.{length-set, get_or_default}
+use Rattle.ultra_switch.specs.declared.Switch.{Switch}
+use Rattle.ultra_switch.specs.declared.Ports.{Ports}
+use Rattle.ultra_mem.specs.Serve.{Bank}
+use Rattle.ultra_isa.specs.Step.{has_stopped}
+use Rattle.ultra_units.specs.Numbers.{switch_count, module_number, element_number}
+use Rattle.ultra_halves.specs.Switches.{has_reply_room, has_request_room, holds_replies, holds_requests, keeps_records}
+use Rattle.ultra_halves.specs.Elements.{holds_request}
+use Rattle.ultra_halves.specs.declared.elements.ProcessingElement.{ProcessingElement}
+use Rattle.ultra_section.specs.Units.{IsModule, IsElement}
+use Rattle.ultra_section.specs.declared.sets.Sets.{Sets}
+use Rattle.ultra_section.specs.Sets.{UnitFacts, facts_at, would_serve, KnowsSwitch, KnowsModule, KnowsElement}
+use Rattle.ultra_msg.specs.declared.Request.{Request}
+use Rattle.ultra_msg.specs.declared.ReplyMessage.{ReplyMessage}
+use Rattle.ultra_section.specs.declared.links.Links.{Links}
+use Rattle.ultra_section.specs.Marks.{RepliesAreKnown, RequestsAreKnown}
+use Rattle.ultra_section.specs.BlockState.{IsKept, UnitsAreKnown}
+
+-- the sets agree on all units but one
+abbrev pub AgreeBut : ℕ → Sets → Sets → Type 0
+AgreeBut n old now = (k : ℕ) → k ≢ n → facts_at now k ≡ facts_at old k
+
+-- ---- in a list of units of a kind, whose numbers `number` gives
+module _ {X : Type 0} (Knows : UnitFacts → Option X → Type 0) (number : ℕ → ℕ) (old now : Sets) (xs : List (Option X)) where
+  one_changed : (i : ℕ) (o : Option X) → AgreeBut (number i) old now → Knows (facts_at now (number i)) o → (k : ℕ) → (k ≢ i → number k ≢ number i) → i < length xs
+      → Knows (facts_at old (number k)) (slice_index_or xs k None) → Knows (facts_at now (number k)) (slice_index_or (set xs i o) k None)
+  one_changed i o agree there k apart within was =
+      elim (cases_eq k i) [
+        | inl same ↦
+            subst (λ j. Knows (facts_at now (number j)) (slice_index_or (set xs i o) j None)) (sym same)
+            (subst (λ x. Knows (facts_at now (number i)) x) (sym (get_or-set_same xs i o None within)) there)
+        | inr other ↦
+            subst (λ x. Knows (facts_at now (number k)) x) (sym (get_or-set_other xs i k o None other))
+            (subst (λ f. Knows f (slice_index_or xs k None)) (sym (agree (number k) (apart other))) was)
+      ]
+
+  one_kept : (n : ℕ) → AgreeBut n old now → (k : ℕ) → number k ≢ n
+      → Knows (facts_at old (number k)) (slice_index_or xs k None) → Knows (facts_at now (number k)) (slice_index_or xs k None)
+  one_kept n agree k other was = subst (λ f. Knows f (slice_index_or xs k None)) (sym (agree (number k) other)) was
+
+-- ---- in a block
+module _ (d : ℕ) (old now : Sets) (ws : List (Option Switch)) (bs : List (Option Bank)) (es : List (Option ProcessingElement)) (known : UnitsAreKnown d old ws bs es) where
+  pub switch_known : (n : ℕ) (o : Option Switch) → n < switch_count d → AgreeBut n old now → KnowsSwitch (facts_at now n) o
+      → UnitsAreKnown d now (set ws n o) bs es
+  switch_known n o within agree there = record {
+    switch_entries = length-set ws n o ∙ known.switch_entries;
+    module_entries = known.module_entries;
+    element_entries = known.element_entries;
+    switches = λ k h. one_changed KnowsSwitch (λ k. k) old now ws n o agree there k (λ other. other) (omega (arith, known.switch_entries)) (known.switches k h);
+    modules = λ m h. one_kept KnowsModule (λ m. module_number d m) old now bs n agree m (omega arith) (known.modules m h);
+    elements = λ p h. one_kept KnowsElement (λ p. element_number d p) old now es n agree p (omega arith) (known.elements p h);
+    others = λ k past. agree k (omega arith) ∙ known.others k past;
+  }
+
+  pub module_known : (m : ℕ) (o : Option Bank) → m < 2 ^ d → AgreeBut (module_number d m) old now → KnowsModule (facts_at now (module_number d m)) o
+      → UnitsAreKnown d now ws (set bs m o) es
+  module_known m o within agree there = record {
+    switch_entries = known.switch_entries;
+    module_entries = length-set bs m o ∙ known.module_entries;
+    element_entries = known.element_entries;
+    switches = λ k h. one_kept KnowsSwitch (λ k. k) old now ws (module_number d m) agree k (omega arith) (known.switches k h);
+    modules = λ k h. one_changed KnowsModule (λ m. module_number d m) old now bs m o agree there k (λ other same. other (omega arith)) (omega (arith, known.module_entries)) (known.modules k h);
+    elements = λ p h. one_kept KnowsElement (λ p. element_number d p) old now es (module_number d m) agree p (omega arith) (known.elements p h);
+    others = λ k past. agree k (omega arith) ∙ known.others k past;
+  }
+
+  pub element_known : (p : ℕ) (o : Option ProcessingElement) → p < 2 ^ d → AgreeBut (element_number d p) old now → KnowsElement (facts_at now (element_number d p)) o
+      → UnitsAreKnown d now ws bs (set es p o)
+  element_known p o within agree there = record {
+    switch_entries = known.switch_entries;
+    module_entries = known.module_entries;
+    element_entries = length-set es p o ∙ known.element_entries;
+    switches = λ k h. one_kept KnowsSwitch (λ k. k) old now ws (element_number d p) agree k (omega arith) (known.switches k h);
+    modules = λ m h. one_kept KnowsModule (λ m. module_number d m) old now bs (element_number d p) agree m (omega arith) (known.modules m h);
+    elements = λ k h. one_changed KnowsElement (λ p. element_number d p) old now es p o agree there k (λ other same. other (omega arith)) (omega (arith, known.element_entries)) (known.elements k h);
+    others = λ k past. agree k (omega arith) ∙ known.others k past;
+  }
+
+-- ---- what is noted of one
+-- a switch of which `kept` says whether it keeps records
+abbrev with_replies : UnitFacts → Switch → Bool → UnitFacts
+with_replies f v kept = record f { holds_replies = holds_replies v; no_reply_room = not (has_reply_room v); keeps_records = kept }
+
+abbrev with_requests : UnitFacts → Switch → Bool → UnitFacts
+with_requests f v kept = record f { holds_requests = holds_requests v; no_room_zero = not (has_request_room v).zero; no_room_one = not (has_request_room v).one; keeps_records = kept }
+
+pub replies_noted : (f g : UnitFacts) (w v : Switch) (kept : Bool) → KnowsSwitch f (Some w) → g ≡ with_replies f v kept
+    → holds_requests v ≡ holds_requests w → has_request_room v ≡ has_request_room w → kept ≡ keeps_records v → KnowsSwitch g (Some v)
+replies_noted f g w v kept known is held room records = rw is record {
+  here = known.here;
+  holds_replies = refl;
+  no_reply_room = refl;
+  holds_requests = known.holds_requests ∙ sym held;
+  no_room_zero = known.no_room_zero ∙ ap (λ (p : Ports Bool). not p.zero) (sym room);
+  no_room_one = known.no_room_one ∙ ap (λ (p : Ports Bool). not p.one) (sym room);
+  keeps_records = records;
+}
+
+pub requests_noted : (f g : UnitFacts) (w v : Switch) (kept : Bool) → KnowsSwitch f (Some w) → g ≡ with_requests f v kept
+    → holds_replies v ≡ holds_replies w → has_reply_room v ≡ has_reply_room w → kept ≡ keeps_records v → KnowsSwitch g (Some v)
+requests_noted f g w v kept known is held room records = rw is record {
+  here = known.here;
+  holds_replies = known.holds_replies ∙ sym held;
+  no_reply_room = known.no_reply_room ∙ ap (λ b. not b) (sym room);
+  holds_requests = refl;
+  no_room_zero = refl;
+  no_room_one = refl;
+  keeps_records = records;
+}
+
+pub module_noted : (f g : UnitFacts) (b c : Bank) → KnowsModule f (Some b)
+    → g ≡ record f { holds_replies = is_some c.out; holds_requests = is_some c.inp; no_room_zero = is_some c.inp; to_serve = would_serve c } → KnowsModule g (Some c)
+module_noted f g b c known is =
+    rw is record { here = known.here; holds_replies = refl; holds_requests = refl; no_room_zero = refl; to_serve = refl; keeps_records = known.keeps_records }
+
+pub element_noted : (f g : UnitFacts) (e v : ProcessingElement) → KnowsElement f (Some e)
+    → g ≡ record f { holds_requests = holds_request v; to_step = not (has_stopped v.processor.core.activity) } → KnowsElement g (Some v)
+element_noted f g e v known is =
+    rw is record { here = known.here; holds_replies = known.holds_replies; holds_requests = refl; to_step = refl; keeps_records = known.keeps_records }
+
+-- what a read of an entry gives
+pub stands : {X : Type 0} (xs : List (Option X)) (n : ℕ) (o : Option X) (x : X) → n < length xs → o ≡ get_or xs n o → o ≡ Some x → slice_index_or xs n None ≡ Some x
+stands xs n o x within read is = get_or_default xs n None o within ∙ sym read ∙ is
+
+-- ---- a unit is changed, and noted: `o` is what was read of its entry
+module _ (d : ℕ) (old now : Sets) (ws : List (Option Switch)) (bs : List (Option Bank)) (es : List (Option ProcessingElement)) (known : UnitsAreKnown d old ws bs es) where
+  switch_was : (n : ℕ) (o : Option Switch) (w : Switch) → n < switch_count d → o ≡ get_or ws n o → o ≡ Some w → KnowsSwitch (facts_at old n) (Some w)
+  switch_was n o w within read is =
+      subst (λ x. KnowsSwitch (facts_at old n) x) (stands ws n o w (omega (arith, known.switch_entries)) read is) (known.switches n within)
+
+  pub switch_replies_changed : (n : ℕ) (o : Option Switch) (w v : Switch) → n < switch_count d → o ≡ get_or ws n o → o ≡ Some w → AgreeBut n old now
+      → facts_at now n ≡ record (facts_at old n) { holds_replies = holds_replies v; no_reply_room = not (has_reply_room v) }
+      → holds_requests v ≡ holds_requests w → has_request_room v ≡ has_request_room w → keeps_records v ≡ keeps_records w → UnitsAreKnown d now (set ws n (Some v)) bs es
+  switch_replies_changed n o w v within read is agree noted held room records =
+      let was = switch_was n o w within read is in
+      switch_known d old now ws bs es known n (Some v) within agree
+      (replies_noted (facts_at old n) (facts_at now n) w v (facts_at old n).keeps_records was noted held room (was.keeps_records ∙ sym records))
+
+  -- and it is noted whether it keeps records: `between` is after the one note and before the other
+  pub switch_replies_taken : (between : Sets) (n : ℕ) (o : Option Switch) (w v : Switch) → n < switch_count d → o ≡ get_or ws n o → o ≡ Some w
+      → AgreeBut n old between → AgreeBut n between now
+      → facts_at between n ≡ record (facts_at old n) { holds_replies = holds_replies v; no_reply_room = not (has_reply_room v) }
+      → facts_at now n ≡ record (facts_at between n) { keeps_records = keeps_records v }
+      → holds_requests v ≡ holds_requests w → has_request_room v ≡ has_request_room w → UnitsAreKnown d now (set ws n (Some v)) bs es
+  switch_replies_taken between n o w v within read is first second noted then held room =
+      switch_known d old now ws bs es known n (Some v) within (λ k other. second k other ∙ first k other)
+      (replies_noted (facts_at old n) (facts_at now n) w v (keeps_records v) (switch_was n o w within read is)
+      (then ∙ ap (λ (f : UnitFacts). record f { keeps_records = keeps_records v }) noted) held room refl)
+
+  pub switch_requests_changed : (n : ℕ) (o : Option Switch) (w v : Switch) → n < switch_count d → o ≡ get_or ws n o → o ≡ Some w → AgreeBut n old now
+      → facts_at now n ≡ record (facts_at old n) { holds_requests = holds_requests v; no_room_zero = not (has_request_room v).zero; no_room_one = not (has_request_room v).one }
+      → holds_replies v ≡ holds_replies w → has_reply_room v ≡ has_reply_room w → keeps_records v ≡ keeps_records w → UnitsAreKnown d now (set ws n (Some v)) bs es
+  switch_requests_changed n o w v within read is agree noted held room records =
+      let was = switch_was n o w within read is in
+      switch_known d old now ws bs es known n (Some v) within agree
+      (requests_noted (facts_at old n) (facts_at now n) w v (facts_at old n).keeps_records was noted held room (was.keeps_records ∙ sym records))
+
+  pub switch_requests_taken : (between : Sets) (n : ℕ) (o : Option Switch) (w v : Switch) → n < switch_count d → o ≡ get_or ws n o → o ≡ Some w
+      → AgreeBut n old between → AgreeBut n between now
+      → facts_at between n ≡ record (facts_at old n) { holds_requests = holds_requests v; no_room_zero = not (has_request_room v).zero; no_room_one = not (has_request_room v).one }
+      → facts_at now n ≡ record (facts_at between n) { keeps_records = keeps_records v }
+      → holds_replies v ≡ holds_replies w → has_reply_room v ≡ has_reply_room w → UnitsAreKnown d now (set ws n (Some v)) bs es
+  switch_requests_taken between n o w v within read is first second noted then held room =
+      switch_known d old now ws bs es known n (Some v) within (λ k other. second k other ∙ first k other)
+      (requests_noted (facts_at old n) (facts_at now n) w v (keeps_records v) (switch_was n o w within read is)
+      (then ∙ ap (λ (f : UnitFacts). record f { keeps_records = keeps_records v }) noted) held room refl)
+
+  pub module_changed : (n m : ℕ) (o : Option Bank) (b c : Bank) → IsModule d n m → o ≡ get_or bs m o → o ≡ Some b → AgreeBut n old now
+      → facts_at now n ≡ record (facts_at old n) { holds_replies = is_some c.out; holds_requests = is_some c.inp; no_room_zero = is_some c.inp; to_serve = would_serve c }
+      → UnitsAreKnown d now ws (set bs m (Some c)) es
+  module_changed n m o b c own read is agree noted =
+      let was = subst (λ k. KnowsModule (facts_at old k) (Some b)) (sym own.number)
+      (subst (λ x. KnowsModule (facts_at old (module_number d m)) x) (stands bs m o b (omega (arith, known.module_entries, own.small)) read is) (known.modules m own.small)) in
+      module_known d old now ws bs es known m (Some c) own.small (subst (λ k. AgreeBut k old now) own.number agree)
+      (subst (λ k. KnowsModule (facts_at now k) (Some c)) own.number (module_noted (facts_at old n) (facts_at now n) b c was noted))
+
+  pub element_changed : (n p : ℕ) (o : Option ProcessingElement) (e v : ProcessingElement) → IsElement d n p → o ≡ get_or es p o → o ≡ Some e → AgreeBut n old now
+      → facts_at now n ≡ record (facts_at old n) { holds_requests = holds_request v; to_step = not (has_stopped v.processor.core.activity) }
+      → UnitsAreKnown d now ws bs (set es p (Some v))
+  element_changed n p o e v own read is agree noted =
+      let was = subst (λ k. KnowsElement (facts_at old k) (Some e)) (sym own.number)
+      (subst (λ x. KnowsElement (facts_at old (element_number d p)) x) (stands es p o e (omega (arith, known.element_entries, own.small)) read is) (known.elements p own.small)) in
+      element_known d old now ws bs es known p (Some v) own.small (subst (λ k. AgreeBut k old now) own.number agree)
+      (subst (λ k. KnowsElement (facts_at now k) (Some v)) own.number (element_noted (facts_at old n) (facts_at now n) e v was noted))
+
+  -- a processing element is changed so that what is known of it is still true
+  pub element_same : (n p : ℕ) (o : Option ProcessingElement) (e v : ProcessingElement) → IsElement d n p → o ≡ get_or es p o → o ≡ Some e
+      → holds_request v ≡ holds_request e → has_stopped v.processor.core.activity ≡ has_stopped e.processor.core.activity → UnitsAreKnown d old ws bs (set es p (Some v))
+  element_same n p o e v own read is pending stopped =
+      let was = subst (λ x. KnowsElement (facts_at old (element_number d p)) x) (stands es p o e (omega (arith, known.element_entries, own.small)) read is) (known.elements p own.small) in
+      element_known d old old ws bs es known p (Some v) own.small (λ k _. refl)
+      record { here = was.here; holds_replies = was.holds_replies; holds_requests = was.holds_requests ∙ sym pending; to_step = was.to_step ∙ ap (λ b. not b) (sym stopped); keeps_records = was.keeps_records }
+
+-- ---- a block whose units have changed, and not what is on its links
+pub units_changed : (d : ℕ) (old now : Sets) (ws vs : List (Option Switch)) (bs cs : List (Option Bank)) (es fs : List (Option ProcessingElement))
+    (for_replies : Links ReplyMessage) (for_requests : Links Request) (event_places stop_places more_event_places more_stop_places : ℕ)
+    → IsKept d old ws bs es for_replies for_requests event_places stop_places → now.here ≡ old.here → UnitsAreKnown d now vs cs fs
+    → event_places ≤ more_event_places → stop_places ≤ more_stop_places → IsKept d now vs cs fs for_replies for_requests more_event_places more_stop_places
+units_changed d old now ws vs bs cs es fs rs qs e s e' s' kept same units more_events more_stops = record {
+  units = units;
+  replies = subst (λ h. RepliesAreKnown d h rs) (sym same) kept.replies;
+  requests = subst (λ h. RequestsAreKnown d h qs) (sym same) kept.requests;
+  events_fit = omega (arith, kept.events_fit);
+  stops_fit = omega (arith, kept.stops_fit);
+}

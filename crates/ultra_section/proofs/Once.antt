@@ -1,0 +1,58 @@
+-- What belongs to one unit, after visits of all: only its own visit changes it, by what it was at the start.
+use Rattle.std.proofs.Common.{◌≡◌, ◌≢◌, ℕ, zero, suc, ◌<◌, ◌≤◌, List, [], ◌++◌, append_assoc, refl, sym, ◌∙◌, ap, inl, inr, arith}
+use Rattle.std.proofs.lemmas.Bool.{cases_eq}
+use Rattle.std.proofs.lemmas.List.{append-nil}
+use Rattle.ultra_units.specs.Visits.{after_units}
+
+-- what is told of the units below a number, one after another
+unfoldable pub told_before : {T E : Type 0} → (ℕ → T → List E) → ℕ → T → List E
+told_before told zero t = []
+told_before told (suc n) t = told_before told n t ++ told n t
+
+-- visits keep what they rest on
+module _ {T : Type 0} (f : ℕ → T → T) (P : T → Type 0) (keeps : (j : ℕ) (t : T) → P t → P (f j t)) where
+  pub all_keep : (m : ℕ) (t : T) → P t → P (after_units f m t)
+  unfolding after_units
+  all_keep zero t p = p
+  all_keep (suc n) t p = keeps n (after_units f n t) (all_keep n t p)
+
+  module _ {X : Type 0} (get : T → X) where
+    -- no visit changes it
+    pub never_changed : ((j : ℕ) (t : T) → P t → get (f j t) ≡ get t) → (m : ℕ) (t : T) → P t → get (after_units f m t) ≡ get t
+    unfolding after_units
+    never_changed same zero t p = refl
+    never_changed same (suc n) t p = same n (after_units f n t) (all_keep n t p) ∙ never_changed same n t p
+
+    -- only that of unit n does
+    module _ (n : ℕ) (others : (j : ℕ) (t : T) → P t → j ≢ n → get (f j t) ≡ get t) where
+      pub not_yet_changed : (m : ℕ) (t : T) → P t → m ≤ n → get (after_units f m t) ≡ get t
+      unfolding after_units
+      not_yet_changed zero t p before = refl
+      not_yet_changed (suc k) t p before =
+          others k (after_units f k t) (all_keep k t p) (λ same. absurd (omega arith)) ∙ not_yet_changed k t p (omega arith)
+
+      own_visit : (g : X → X) → ((t : T) → P t → get (f n t) ≡ g (get t)) → (k : ℕ) (t : T) → P t → k ≡ n → get (f k (after_units f k t)) ≡ g (get t)
+      own_visit g own k t p same =
+          ap (λ j. get (f j (after_units f k t))) same ∙ own (after_units f k t) (all_keep k t p) ∙ ap g (not_yet_changed k t p (omega arith))
+
+      pub changed_once : (g : X → X) → ((t : T) → P t → get (f n t) ≡ g (get t)) → (m : ℕ) (t : T) → P t → n < m → get (after_units f m t) ≡ g (get t)
+      unfolding after_units
+      changed_once g own zero t p within = absurd (omega arith)
+      changed_once g own (suc k) t p within =
+          elim (cases_eq k n) [
+            | inl same ↦
+                own_visit g own k t p same
+            | inr other ↦ others k (after_units f k t) (all_keep k t p) other ∙ changed_once g own k t p (omega arith)
+          ]
+
+  -- what is told of the units, one after another
+  module _ {E : Type 0} (told : ℕ → T → List E) where
+    pub all_told : (events : T → List E) → ((j : ℕ) (t : T) → P t → events (f j t) ≡ events t ++ told j t)
+        → ((n : ℕ) (t : T) → P t → told n (after_units f n t) ≡ told n t) → (m : ℕ) (t : T) → P t → events (after_units f m t) ≡ events t ++ told_before told m t
+    unfolding after_units told_before
+    all_told events tells same zero t p = sym (append-nil (events t))
+    all_told events tells same (suc n) t p =
+        tells n (after_units f n t) (all_keep n t p)
+        ∙ ap (λ es. es ++ told n (after_units f n t)) (all_told events tells same n t p)
+        ∙ ap (λ es. (events t ++ told_before told n t) ++ es) (same n t p)
+        ∙ append_assoc (events t) (told_before told n t) (told n t)

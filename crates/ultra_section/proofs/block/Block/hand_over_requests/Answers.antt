@@ -1,0 +1,32 @@
+use Rattle.std.proofs.Common.{◌≡◌, ◌<◌, Some, sym, subst, arith}
+use Rattle.ultra_section.specs.BlockState.{BlockState}
+use Rattle.ultra_section.specs.Away.{request_inlets}
+use Rattle.ultra_section.proofs.RequestsAway.{inlets, known_left}
+use Rattle.ultra_section.proofs.block.Block.hand_over_requests.Goals as goal
+
+pub hand_over-requires-clause-zero : goal.hand_over-requires-clause-zero
+hand_over-requires-clause-zero c =
+    let inside = c.self.inside in
+    let links = subst (λ (b : BlockState). request_inlets b.stages c.args.unit ≡ Some c.args.inlets) (sym c.self.view_is) c.requires in
+    subst (λ x. c.args.inlets.zero < x) (sym c.self.invariant.requests.all) (inlets inside.net (omega arith) (omega arith) c.args.unit c.args.inlets links).zero_small
+
+pub hand_over-requires-clause-one : goal.hand_over-requires-clause-one
+hand_over-requires-clause-one c =
+    let inside = c.self.inside in
+    let links = subst (λ (b : BlockState). request_inlets b.stages c.args.unit ≡ Some c.args.inlets) (sym c.self.view_is) c.requires in
+    subst (λ x. c.args.inlets.one < x) (sym c.self.invariant.requests.all) (inlets inside.net (omega arith) (omega arith) c.args.unit c.args.inlets links).one_small
+
+pub invariant_of-self : goal.invariant_of-self
+invariant_of-self c =
+    let inside = c.self.inside in
+    let known = c.self.invariant in
+    let links = subst (λ (b : BlockState). request_inlets b.stages c.args.unit ≡ Some c.args.inlets) (sym c.self.view_is) c.requires in
+    record {
+      units = known.units;
+      requests =
+          known_left inside.net (omega arith) (omega arith) inside.sets.here inside.requests c.hand_over.new.self c.args.unit c.args.inlets links
+          record { table = c.hand_over.ensures.table; came = c.hand_over.ensures.came; others = c.hand_over.ensures.others } known.requests;
+      replies = known.replies;
+      events_fit = known.events_fit;
+      stops_fit = known.stops_fit;
+    }

@@ -1,0 +1,36 @@
+use Rattle.std.proofs.Common.{◌≡◌, ℕ, List, false, Option, Some, None, refl, subst}
+use Rattle.std.specs.Prelude.{IfSome, IfNone}
+use Rattle.ultra_units.specs.Set.{has_unit, HasNoneFrom, IsFirstFrom}
+use Rattle.ultra_section.specs.BlockState.{BlockState}
+use Rattle.ultra_section.specs.Away.{AreEmpty, IsNextForReplies, NoReplyLeavesWithin, stands, reply_inlets}
+use Rattle.ultra_section.proofs.RepliesAway.{none_away}
+use Rattle.ultra_section.proofs.block.Block.next_for_replies.Goals as goal
+
+-- the next unit of a set, outside of which nothing leaves
+next_unit : (set : List ℕ) (b : BlockState) (from : ℕ) (o : Option ℕ) → ((n : ℕ) → has_unit set n ≡ false → stands n b ≡ false → AreEmpty b.replies (reply_inlets b.stages n))
+    → IfSome o (λ k. IsFirstFrom set from k) → IfSome o (λ k. IsNextForReplies b from k)
+next_unit set b from None empty found = tt
+next_unit set b from (Some k) empty found = record { after = found.after; within = found.within; between = λ n after before elsewhere. empty n (found.between n after before) elsewhere }
+
+no_unit : (set : List ℕ) (b : BlockState) (from : ℕ) (o : Option ℕ) → ((n : ℕ) → has_unit set n ≡ false → stands n b ≡ false → AreEmpty b.replies (reply_inlets b.stages n))
+    → IfNone o (HasNoneFrom set from) → IfNone o (NoReplyLeavesWithin b from 320)
+no_unit set b from None empty none = λ n after before elsewhere. empty n (none n after) elsewhere
+no_unit set b from (Some k) empty none = tt
+
+pub returns-clause-some : goal.returns-clause-some
+returns-clause-some c =
+    let inside = c.self.inside in
+    let known = c.self.invariant in
+    next_unit inside.replies.away c.args.self.now c.args.from c.next.result
+    (subst (λ (b : BlockState). (n : ℕ) → has_unit inside.replies.away n ≡ false → stands n b ≡ false → AreEmpty b.replies (reply_inlets b.stages n)) c.self.view_is
+    (none_away record { stages = inside.net; done = inside.done; switches = inside.switches.items; modules = inside.modules.items; elements = inside.elements.items; replies = inside.replies.table.items; requests = inside.requests.table.items; events = inside.events.items; stops = inside.stops.items } inside.sets inside.replies refl known.units known.replies))
+    c.next.ensures.some
+
+pub returns-clause-none : goal.returns-clause-none
+returns-clause-none c =
+    let inside = c.self.inside in
+    let known = c.self.invariant in
+    no_unit inside.replies.away c.args.self.now c.args.from c.next.result
+    (subst (λ (b : BlockState). (n : ℕ) → has_unit inside.replies.away n ≡ false → stands n b ≡ false → AreEmpty b.replies (reply_inlets b.stages n)) c.self.view_is
+    (none_away record { stages = inside.net; done = inside.done; switches = inside.switches.items; modules = inside.modules.items; elements = inside.elements.items; replies = inside.replies.table.items; requests = inside.requests.table.items; events = inside.events.items; stops = inside.stops.items } inside.sets inside.replies refl known.units known.replies))
+    c.next.ensures.none

@@ -1,0 +1,24 @@
+use Rattle.std.proofs.Common.{sym, ap, subst}
+use Rattle.ultra_halves.specs.Switches.{has_request_room, holds_requests, keeps_records}
+use Rattle.ultra_section.specs.BlockState.{BlockState}
+use Rattle.ultra_section.specs.Marks.{RequestsAreKnown}
+use Rattle.ultra_section.specs.Units.{IsSwitch}
+use Rattle.ultra_section.proofs.Known.{switch_replies_changed}
+use Rattle.ultra_section.proofs.block.Block.send_replies_of_switch.Goals as goal
+
+pub invariant_of-self-2 : goal.invariant_of-self-2
+invariant_of-self-2 c =
+    let inside = c.self.inside in
+    let known = c.self.invariant in
+    let is : IsSwitch inside.net c.args.number c.args.stage c.args.index = subst (λ (b : BlockState). IsSwitch b.stages c.args.number c.args.stage c.args.index) (sym c.self.view_is) c.requires in
+    record {
+      units =
+          switch_replies_changed inside.net inside.sets c.note_replies.new.self inside.switches.items inside.modules.items inside.elements.items known.units
+          c.args.number c.index_mut.result.now c.in-Some.switch c.send_replies-out.new.switch is.within c.index_mut.ensures.value c.in-Some.is
+          c.note_replies.ensures.others c.note_replies.ensures.there (ap holds_requests c.send_replies-out.ensures.left) (ap has_request_room c.send_replies-out.ensures.left)
+          (ap keeps_records c.send_replies-out.ensures.left);
+      replies = c.leave_stage-2.ensures.known;
+      requests = subst (λ h. RequestsAreKnown inside.net h inside.requests) (sym c.note_replies.ensures.here) known.requests;
+      events_fit = known.events_fit;
+      stops_fit = known.stops_fit;
+    }

@@ -1,0 +1,32 @@
+use Rattle.std.proofs.Common.{◌∙◌, sym, ap, subst, arith}
+use Rattle.ultra_halves.specs.Switches.{has_request_room, holds_requests, CanTakeReplies}
+use Rattle.ultra_section.specs.BlockState.{BlockState}
+use Rattle.ultra_section.specs.Marks.{RepliesAreKnown, RequestsAreKnown}
+use Rattle.ultra_section.specs.RepliesTaken.{SwitchCanTakeReplies}
+use Rattle.ultra_section.specs.Units.{IsSwitch}
+use Rattle.ultra_section.proofs.Known.{switch_replies_taken, stands}
+use Rattle.ultra_section.proofs.block.Block.take_replies_of_switch.Goals as goal
+
+pub take_replies-requires-clause-room : goal.take_replies-requires-clause-room
+take_replies-requires-clause-room c =
+    let inside = c.self.inside in
+    let is : IsSwitch inside.net c.args.number c.args.stage c.args.index = subst (λ (b : BlockState). IsSwitch b.stages c.args.number c.args.stage c.args.index) (sym c.self.view_is) c.requires.is in
+    let can = subst (λ (b : BlockState). SwitchCanTakeReplies c.args.number c.args.stage c.args.index b) (sym c.self.view_is) c.requires.room in
+    subst (λ came. CanTakeReplies c.in-Some.switch came) (sym c.take_at_switch-came.ensures.came)
+    (can c.in-Some.switch (stands inside.switches.items c.args.number c.index_mut.result.now c.in-Some.switch (omega (arith, c.self.invariant.units.switch_entries, is.within)) c.index_mut.ensures.value c.in-Some.is))
+
+pub invariant_of-self-2 : goal.invariant_of-self-2
+invariant_of-self-2 c =
+    let inside = c.self.inside in
+    let known = c.self.invariant in
+    let is : IsSwitch inside.net c.args.number c.args.stage c.args.index = subst (λ (b : BlockState). IsSwitch b.stages c.args.number c.args.stage c.args.index) (sym c.self.view_is) c.requires.is in
+    record {
+      units =
+          switch_replies_taken inside.net inside.sets c.note_records.new.self inside.switches.items inside.modules.items inside.elements.items known.units
+          c.note_replies.new.self c.args.number c.index_mut.result.now c.in-Some.switch c.take_replies.new.switch is.within c.index_mut.ensures.value c.in-Some.is
+          c.note_replies.ensures.others c.note_records.ensures.others c.note_replies.ensures.there c.note_records.ensures.there (ap holds_requests c.take_replies.ensures) (ap has_request_room c.take_replies.ensures);
+      replies = subst (λ h. RepliesAreKnown inside.net h c.take_at_switch-came.new.links) (sym (c.note_records.ensures.here ∙ c.note_replies.ensures.here)) (c.take_at_switch-came.ensures.known inside.sets.here known.replies);
+      requests = subst (λ h. RequestsAreKnown inside.net h inside.requests) (sym (c.note_records.ensures.here ∙ c.note_replies.ensures.here)) known.requests;
+      events_fit = known.events_fit;
+      stops_fit = known.stops_fit;
+    }

@@ -1,0 +1,20 @@
+use Rattle.std.proofs.Common.{sym, subst, arith}
+use Rattle.ultra_section.specs.BlockState.{BlockState}
+use Rattle.ultra_section.specs.RepliesTaken.{CanTakeRepliesAt}
+use Rattle.ultra_section.specs.Units.{IsElement}
+use Rattle.ultra_section.proofs.RepliesTaken.{later_switch, later_element}
+use Rattle.ultra_section.proofs.take_replies.TakeRepliesVisitBlock.visit.Goals as goal
+
+pub take_reply_of_element-requires-clause-room : goal.take_reply_of_element-requires-clause-room
+take_reply_of_element-requires-clause-room c = omega (arith, c.requires.can.room)
+
+pub returns-in-Switch-clause-later : goal.returns-in-Switch-clause-later
+returns-in-Switch-clause-later c =
+    λ k order can.
+    subst (λ b. CanTakeRepliesAt k b) (sym c.take_replies_of_switch.ensures) (later_switch c.args.block.now k c.args.unit c.in-Switch.stage c.in-Switch.index order can)
+
+pub returns-in-Element-clause-later : goal.returns-in-Element-clause-later
+returns-in-Element-clause-later c =
+    let is : IsElement c.args.block.now.stages c.args.unit c.in-Element.pe = subst (λ (b : BlockState). IsElement b.stages c.args.unit c.in-Element.pe) c.block.view_is c.in-Element.ensures.is in
+    λ k order can.
+    subst (λ b. CanTakeRepliesAt k b) (sym c.take_reply_of_element.ensures) (later_element c.args.block.now k c.args.unit c.in-Element.pe order is c.requires.can.room can)

@@ -1,0 +1,67 @@
+-- a block: some of the units of a machine, and the links
+use Rattle.std.specs.Prelude.{◌≡◌, ℕ, ◌+◌, ◌*◌, ◌^◌, ◌<◌, ◌≤◌, List, length, Option, None, slice_index_or}
+use Rattle.ultra_msg.specs.declared.Request.{Request}
+use Rattle.ultra_msg.specs.declared.ReplyMessage.{ReplyMessage}
+use Rattle.ultra_msg.specs.declared.Event.{Event}
+use Rattle.ultra_switch.specs.declared.Switch.{Switch}
+use Rattle.ultra_mem.specs.Serve.{Bank}
+use Rattle.ultra_model.specs.declared.Stop.{Stop}
+use Rattle.ultra_units.specs.Numbers.{switch_count, module_number, element_number, unit_count}
+use Rattle.ultra_halves.specs.declared.elements.ProcessingElement.{ProcessingElement}
+use Rattle.ultra_section.specs.declared.sets.Sets.{Sets}
+use Rattle.ultra_section.specs.declared.links.Links.{Links}
+use Rattle.ultra_section.specs.Sets.{facts_at, no_facts, KnowsSwitch, KnowsModule, KnowsElement}
+use Rattle.ultra_section.specs.Marks.{RepliesAreKnown, RequestsAreKnown}
+
+-- the units that stand there, by their numbers, what is on each link, and what has happened in the cycle
+pub record BlockState : Type 0 where
+  pub stages : ℕ
+  pub done : ℕ
+  pub switches : List (Option Switch)
+  pub modules : List (Option Bank)
+  pub elements : List (Option ProcessingElement)
+  pub replies : List (Option ReplyMessage)
+  pub requests : List (Option Request)
+  pub events : List Event
+  pub stops : List Stop
+
+abbrev pub switch_at : List (Option Switch) → ℕ → Option Switch
+switch_at ws n = slice_index_or ws n None
+
+abbrev pub module_at : List (Option Bank) → ℕ → Option Bank
+module_at bs m = slice_index_or bs m None
+
+abbrev pub element_at : List (Option ProcessingElement) → ℕ → Option ProcessingElement
+element_at es p = slice_index_or es p None
+
+-- there is an entry for each unit, and what the sets say of it is true
+pub record UnitsAreKnown (d : ℕ) (s : Sets) (ws : List (Option Switch)) (bs : List (Option Bank)) (es : List (Option ProcessingElement)) : Type 0 where
+  pub switch_entries : length ws ≡ switch_count d
+  pub module_entries : length bs ≡ 2 ^ d
+  pub element_entries : length es ≡ 2 ^ d
+  pub switches : (n : ℕ) → n < switch_count d → KnowsSwitch (facts_at s n) (switch_at ws n)
+  pub modules : (m : ℕ) → m < 2 ^ d → KnowsModule (facts_at s (module_number d m)) (module_at bs m)
+  pub elements : (p : ℕ) → p < 2 ^ d → KnowsElement (facts_at s (element_number d p)) (element_at es p)
+  pub others : (n : ℕ) → unit_count d ≤ n → facts_at s n ≡ no_facts
+
+-- how many events there is memory for, and how many stops
+abbrev pub most_events : ℕ
+most_events = 2560
+
+abbrev pub most_stops : ℕ
+most_stops = 320
+
+pub record IsKept (d : ℕ) (s : Sets) (ws : List (Option Switch)) (bs : List (Option Bank)) (es : List (Option ProcessingElement)) (for_replies : Links ReplyMessage) (for_requests : Links Request) (event_places stop_places : ℕ) : Type 0 where
+  pub units : UnitsAreKnown d s ws bs es
+  pub replies : RepliesAreKnown d s.here for_replies
+  pub requests : RequestsAreKnown d s.here for_requests
+  pub events_fit : most_events ≤ event_places
+  pub stops_fit : most_stops ≤ stop_places
+
+-- there is memory for the events of the units from number n on, of 320: each has at most two in a half
+abbrev pub HasEventRoom : ℕ → BlockState → Type 0
+HasEventRoom n b = length b.events + 640 ≤ most_events + 2 * n
+
+-- and for their stops, of which each has at most one
+abbrev pub HasStopRoom : ℕ → BlockState → Type 0
+HasStopRoom n b = length b.stops + 320 ≤ most_stops + n

@@ -1,0 +1,39 @@
+-- a block without units, and units that go from one block to another
+use Rattle.std.specs.Prelude.{ℕ, ◌+◌, ◌*◌, ◌^◌, [], None, replicate, slice_set}
+use Rattle.ultra_units.specs.Numbers.{switch_count}
+use Rattle.ultra_section.specs.declared.unit.Unit.TheVariants as unit
+use Rattle.ultra_section.specs.Units.{unit_of}
+use Rattle.ultra_section.specs.Links.{put_on}
+use Rattle.ultra_section.specs.BlockState.{BlockState, switch_at, module_at, element_at}
+
+-- of a machine of d stages, before its first cycle
+abbrev pub empty_block : ℕ → BlockState
+empty_block d = record {
+  stages = d;
+  done = 0;
+  switches = replicate (switch_count d) None;
+  modules = replicate (2 ^ d) None;
+  elements = replicate (2 ^ d) None;
+  replies = replicate ((d + 1) * 2 ^ d) None;
+  requests = replicate ((d + 1) * 2 ^ d) None;
+  events = [];
+  stops = [];
+}
+
+-- a block without the unit with number n
+abbrev pub without_unit : ℕ → BlockState → BlockState
+without_unit n b = elim (unit_of b.stages n) [
+  | unit.Switch s k ↦ record b { switches = slice_set b.switches n None }
+  | unit.Module m ↦ record b { modules = slice_set b.modules m None }
+  | unit.Element p ↦ record b { elements = slice_set b.elements p None }
+  | unit.Nothing ↦ b
+]
+
+-- a block with the unit with number n of another, if it stands there
+abbrev pub with_unit : ℕ → BlockState → BlockState → BlockState
+with_unit n from b = elim (unit_of from.stages n) [
+  | unit.Switch s k ↦ record b { switches = put_on b.switches n (switch_at from.switches n) }
+  | unit.Module m ↦ record b { modules = put_on b.modules m (module_at from.modules m) }
+  | unit.Element p ↦ record b { elements = put_on b.elements p (element_at from.elements p) }
+  | unit.Nothing ↦ b
+]

@@ -1,0 +1,53 @@
+-- the half of a cycle in which processing elements make a step of the program
+use Rattle.std.specs.Prelude.{ℕ, ◌+◌, ◌-◌, ◌^◌, ◌<◌, List, [], ◌∷◌, ◌++◌, Some, None, slice_set}
+use Rattle.std.specs.Option.{ForSome}
+use Rattle.ultra_isa.specs.declared.Instr.{Instr}
+use Rattle.ultra_model.specs.Places.{present}
+use Rattle.ultra_model.specs.Phases.{issue_event, stop_of}
+use Rattle.ultra_halves.specs.declared.elements.ProcessingElement.{ProcessingElement}
+use Rattle.ultra_halves.specs.Elements.{element_of, executed, step_at}
+use Rattle.ultra_section.specs.declared.unit.Unit.{Unit as UnitName}
+use Rattle.ultra_section.specs.declared.unit.Unit.TheVariants as unit
+use Rattle.ultra_section.specs.Units.{unit_of}
+use Rattle.ultra_section.specs.BlockState.{BlockState, HasEventRoom, HasStopRoom, element_at}
+
+module _ (program : List Instr) where
+  -- ---- processing element p
+  abbrev pub stepped_by : ℕ → BlockState → ProcessingElement → BlockState
+  stepped_by p b e = record b {
+    elements = slice_set b.elements p (Some (executed program e));
+    events = b.events ++ present (issue_event (element_of e) (step_at program e).sent ∷ []);
+    stops = b.stops ++ present (stop_of p (step_at program e).was ∷ []);
+  }
+
+  abbrev pub element_executes : ℕ → BlockState → BlockState
+  element_executes p b = elim (element_at b.elements p) [ None ↦ b | Some e ↦ stepped_by p b e ]
+
+  -- ---- the unit with number n
+  abbrev pub executes : ℕ → BlockState → BlockState
+  executes n b = elim (unit_of b.stages n) [
+    | unit.Switch s k ↦ b
+    | unit.Module m ↦ b
+    | unit.Element p ↦ element_executes p b
+    | unit.Nothing ↦ b
+  ]
+
+-- a processing element has issued few requests so far
+abbrev pub ElementCanExecute : ℕ → BlockState → Type 0
+ElementCanExecute p b = ForSome (element_at b.elements p) (λ e. e.issued < 2 ^ 32 - 1)
+
+abbrev pub UnitCanExecute : BlockState → UnitName → Type 0
+UnitCanExecute b (unit.Switch s k) = Unit {0}
+UnitCanExecute b (unit.Module m) = Unit {0}
+UnitCanExecute b (unit.Element p) = ElementCanExecute p b
+UnitCanExecute b unit.Nothing = Unit {0}
+
+-- what the unit with number n asks
+pub record CanExecuteAt (n : ℕ) (b : BlockState) : Type 0 where
+  pub unit : UnitCanExecute b (unit_of b.stages n)
+  pub event_room : HasEventRoom n b
+  pub stop_room : HasStopRoom n b
+
+-- one cycle more is done
+abbrev pub counted : BlockState → BlockState
+counted b = record b { done = b.done + 1 }

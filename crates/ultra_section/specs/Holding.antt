@@ -1,0 +1,49 @@
+-- which units of a block hold something
+use Rattle.std.specs.Prelude.{◌≡◌, ℕ, ◌≤◌, ◌<◌, Bool, true, false, Option, is_some, IfNone, IfSome}
+use Rattle.ultra_switch.specs.declared.Switch.{Switch}
+use Rattle.ultra_mem.specs.Serve.{Bank}
+use Rattle.ultra_halves.specs.declared.elements.ProcessingElement.{ProcessingElement}
+use Rattle.ultra_halves.specs.Switches.{holds_replies, holds_requests, keeps_records}
+use Rattle.ultra_halves.specs.Elements.{holds_request}
+use Rattle.ultra_section.specs.declared.held.Held.{Held}
+use Rattle.ultra_section.specs.declared.held.Held.TheVariants.{Reply, Request, Record}
+use Rattle.ultra_section.specs.Units.{of_unit}
+use Rattle.ultra_section.specs.Sets.{if_here}
+use Rattle.ultra_section.specs.BlockState.{BlockState, switch_at, module_at, element_at}
+
+-- of a unit of each kind
+abbrev pub switch_holds : Held → Switch → Bool
+switch_holds Reply w = holds_replies w
+switch_holds Request w = holds_requests w
+switch_holds Record w = keeps_records w
+
+abbrev pub module_holds : Held → Bank → Bool
+module_holds Reply b = is_some b.out
+module_holds Request b = is_some b.inp
+module_holds Record b = false
+
+abbrev pub element_holds : Held → ProcessingElement → Bool
+element_holds Reply e = false
+element_holds Request e = holds_request e
+element_holds Record e = false
+
+-- whether the unit with number n stands here and holds such a thing
+abbrev pub holds_at : BlockState → Held → ℕ → Bool
+holds_at b held n =
+    of_unit b.stages
+    (λ s k. if_here (switch_holds held) (switch_at b.switches n))
+    (λ m. if_here (module_holds held) (module_at b.modules m))
+    (λ p. if_here (element_holds held) (element_at b.elements p))
+    false n
+
+-- ---- numbers from `from` on
+-- k is the first of which p is true
+pub record IsFirstWhere (p : ℕ → Bool) (from k : ℕ) : Type 0 where
+  pub after : from ≤ k
+  pub there : p k ≡ true
+  pub between : (n : ℕ) → from ≤ n → n < k → p n ≡ false
+
+-- the first of which p is true, or that there is none
+pub record IsNextWhere (p : ℕ → Bool) (from : ℕ) (next : Option ℕ) : Type 0 where
+  pub some : IfSome next (λ k. IsFirstWhere p from k)
+  pub none : IfNone next ((n : ℕ) → from ≤ n → p n ≡ false)

@@ -1,0 +1,41 @@
+-- a half of a cycle, whichever it is, made by a block
+use Rattle.std.specs.Prelude.{ℕ, ◌-◌, ◌^◌, ◌<◌, List}
+use Rattle.ultra_isa.specs.declared.Instr.{Instr}
+use Rattle.ultra_units.specs.Visits.{after_units}
+use Rattle.ultra_section.specs.declared.half.Half.{Half}
+use Rattle.ultra_section.specs.declared.half.Half.TheVariants.{SendReplies, TakeReplies, Serve, SendRequests, TakeRequests, Execute}
+use Rattle.ultra_section.specs.declared.rooms.Rooms.{Rooms}
+use Rattle.ultra_section.specs.BlockState.{BlockState, HasEventRoom}
+use Rattle.ultra_section.specs.RepliesSent.{begun, sends_replies}
+use Rattle.ultra_section.specs.RepliesTaken.{CanTakeRepliesAt, takes_replies}
+use Rattle.ultra_section.specs.Serving.{serves}
+use Rattle.ultra_section.specs.RequestsSent.{sends_requests}
+use Rattle.ultra_section.specs.RequestsTaken.{CanTakeRequestsAt, takes_requests}
+use Rattle.ultra_section.specs.Execution.{CanExecuteAt, counted, executes}
+
+-- something is so at each unit
+abbrev pub AtUnits : (ℕ → BlockState → Type 0) → BlockState → Type 0
+AtUnits P b = (k : ℕ) → k < 320 → P k b
+
+-- fewer than 2^32 - 1 cycles are done, and each processing element has issued few requests
+pub record CanExecute (b : BlockState) : Type 0 where
+  pub few : b.done < 2 ^ 32 - 1
+  pub units : AtUnits CanExecuteAt b
+
+-- what the half asks
+abbrev pub CanMake : Half → BlockState → Type 0
+CanMake SendReplies b = Unit {0}
+CanMake TakeReplies b = AtUnits CanTakeRepliesAt b
+CanMake Serve b = AtUnits HasEventRoom b
+CanMake SendRequests b = Unit {0}
+CanMake TakeRequests b = AtUnits CanTakeRequestsAt b
+CanMake Execute b = CanExecute b
+
+-- what comes of it
+abbrev pub made : Half → Rooms → List Instr → BlockState → BlockState
+made SendReplies rooms program b = after_units (sends_replies rooms.no_reply_room) 320 (begun b)
+made TakeReplies rooms program b = after_units takes_replies 320 b
+made Serve rooms program b = after_units serves 320 b
+made SendRequests rooms program b = after_units (sends_requests rooms.no_request_room) 320 b
+made TakeRequests rooms program b = after_units takes_requests 320 b
+made Execute rooms program b = counted (after_units (executes program) 320 b)

@@ -1,0 +1,19 @@
+-- a block in which nothing is left to do
+use Rattle.std.specs.Prelude.{Bool, true, ◌&&◌, Option, Some, None}
+use Rattle.std.specs.List.{list_all}
+use Rattle.ultra_halves.specs.Switches.{quiet_switch}
+use Rattle.ultra_halves.specs.Modules.{quiet_bank}
+use Rattle.ultra_halves.specs.Elements.{quiet_element}
+use Rattle.ultra_section.specs.BlockState.{BlockState}
+
+-- something is so of a unit, or it stands elsewhere
+abbrev pub or_elsewhere : {X : Type 0} → (X → Bool) → Option X → Bool
+or_elsewhere p None = true
+or_elsewhere p (Some x) = p x
+
+-- each unit that stands here is quiet
+abbrev pub quiet_block : BlockState → Bool
+quiet_block b =
+    list_all (or_elsewhere quiet_switch) b.switches
+    && (list_all (or_elsewhere quiet_bank) b.modules
+    && list_all (or_elsewhere quiet_element) b.elements)

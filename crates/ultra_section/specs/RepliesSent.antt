@@ -1,0 +1,64 @@
+-- the half of a cycle in which replies leave switches and modules
+use Rattle.std.specs.Prelude.{ℕ, ◌+◌, ◌-◌, ◌*◌, ◌/◌, List, [], Bool, true, false, not, ◌==◌, Some, None, slice_set}
+use Rattle.ultra_switch.specs.declared.Ports.{Ports}
+use Rattle.ultra_switch.specs.declared.Switch.{Switch}
+use Rattle.ultra_mem.specs.Serve.{Bank}
+use Rattle.ultra_model.specs.Phases.{without_reply}
+use Rattle.ultra_units.specs.Set.{has_unit}
+use Rattle.ultra_units.specs.Numbers.{place_number, reply_target, switch_number}
+use Rattle.ultra_halves.specs.Halves.{ports, where_room}
+use Rattle.ultra_halves.specs.Switches.{replies_leaving, without_replies}
+use Rattle.ultra_section.specs.declared.unit.Unit.TheVariants as unit
+use Rattle.ultra_section.specs.Units.{unit_of}
+use Rattle.ultra_section.specs.Links.{put_on}
+use Rattle.ultra_section.specs.BlockState.{BlockState, switch_at, module_at}
+
+-- `closed` are the switches without room for replies
+module _ (closed : List ℕ) where
+  -- whether a reply may go on from a PE-side position of a stage: to a processing element always
+  abbrev pub has_reply_way : ℕ → ℕ → ℕ → Bool
+  has_reply_way d s y = elim (s == 0) [ true ↦ true | false ↦ not (has_unit closed (reply_target d s y)) ]
+
+  abbrev pub reply_ways : ℕ → ℕ → ℕ → Ports Bool
+  reply_ways d s k = ports (has_reply_way d s (2 * k)) (has_reply_way d s (2 * k + 1))
+
+  -- from a module: to its switch of the last stage
+  abbrev pub has_way_from_module : ℕ → ℕ → Bool
+  has_way_from_module d m = not (has_unit closed (switch_number d (d - 1) (m / 2)))
+
+  -- ---- from switch k of stage s, which has number n
+  abbrev pub replies_sent_by : ℕ → ℕ → ℕ → BlockState → Switch → BlockState
+  replies_sent_by n s k b w =
+      let out = replies_leaving (reply_ways b.stages s k) w in
+      record b {
+        switches = slice_set b.switches n (Some (without_replies w out));
+        replies = put_on (put_on b.replies (place_number b.stages s (2 * k)) out.zero) (place_number b.stages s (2 * k + 1)) out.one;
+      }
+
+  abbrev pub switch_sends_replies : ℕ → ℕ → ℕ → BlockState → BlockState
+  switch_sends_replies n s k b = elim (switch_at b.switches n) [ None ↦ b | Some w ↦ replies_sent_by n s k b w ]
+
+  -- ---- from module m
+  abbrev pub reply_sent_by : ℕ → BlockState → Bank → BlockState
+  reply_sent_by m b bank =
+      let out = where_room (has_way_from_module b.stages m) bank.out in
+      record b {
+        modules = slice_set b.modules m (Some (without_reply bank out));
+        replies = put_on b.replies (place_number b.stages b.stages m) out;
+      }
+
+  abbrev pub module_sends_reply : ℕ → BlockState → BlockState
+  module_sends_reply m b = elim (module_at b.modules m) [ None ↦ b | Some bank ↦ reply_sent_by m b bank ]
+
+  -- ---- from the unit with number n
+  abbrev pub sends_replies : ℕ → BlockState → BlockState
+  sends_replies n b = elim (unit_of b.stages n) [
+    | unit.Switch s k ↦ switch_sends_replies n s k b
+    | unit.Module m ↦ module_sends_reply m b
+    | unit.Element p ↦ b
+    | unit.Nothing ↦ b
+  ]
+
+-- what a cycle begins with: nothing has happened in it
+abbrev pub begun : BlockState → BlockState
+begun b = record b { events = []; stops = [] }

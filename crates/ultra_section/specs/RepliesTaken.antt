@@ -1,0 +1,72 @@
+-- the half of a cycle in which replies come to switches and processing elements
+use Rattle.std.specs.Prelude.{ℕ, ◌<◌, [], ◌∷◌, ◌++◌, length, Option, Some, None, slice_set}
+use Rattle.std.specs.Option.{ForSome}
+use Rattle.ultra_msg.specs.declared.ReplyMessage.{ReplyMessage}
+use Rattle.ultra_switch.specs.declared.Ports.{Ports}
+use Rattle.ultra_switch.specs.declared.Switch.{Switch}
+use Rattle.ultra_model.specs.Places.{present}
+use Rattle.ultra_model.specs.Phases.{delivery}
+use Rattle.ultra_halves.specs.declared.elements.ProcessingElement.{ProcessingElement}
+use Rattle.ultra_halves.specs.Switches.{CanTakeReplies, after_replies}
+use Rattle.ultra_halves.specs.Elements.{delivered_to}
+use Rattle.ultra_section.specs.declared.unit.Unit.{Unit as UnitName}
+use Rattle.ultra_section.specs.declared.unit.Unit.TheVariants as unit
+use Rattle.ultra_section.specs.Units.{unit_of}
+use Rattle.ultra_section.specs.Marks.{reply_links, delivery_link, on_link, on_both, without_both}
+use Rattle.ultra_section.specs.BlockState.{BlockState, HasEventRoom, switch_at, element_at}
+
+-- ---- at switch k of stage s, which has number n
+abbrev pub replies_at_switch : ℕ → ℕ → BlockState → Ports (Option ReplyMessage)
+replies_at_switch s k b = on_both b.replies (reply_links b.stages s k)
+
+abbrev pub replies_taken_by : ℕ → ℕ → ℕ → BlockState → Switch → BlockState
+replies_taken_by n s k b w = record b {
+  switches = slice_set b.switches n (Some (after_replies b.stages s w (replies_at_switch s k b)));
+  replies = without_both b.replies (reply_links b.stages s k);
+}
+
+abbrev pub switch_takes_replies : ℕ → ℕ → ℕ → BlockState → BlockState
+switch_takes_replies n s k b = elim (switch_at b.switches n) [ None ↦ b | Some w ↦ replies_taken_by n s k b w ]
+
+-- ---- at processing element p
+abbrev pub reply_at_element : ℕ → BlockState → Option ReplyMessage
+reply_at_element p b = on_link b.replies (delivery_link b.stages p)
+
+abbrev pub reply_taken_by : ℕ → BlockState → ProcessingElement → BlockState
+reply_taken_by p b e = record b {
+  elements = slice_set b.elements p (Some (delivered_to e (reply_at_element p b)));
+  replies = slice_set b.replies (delivery_link b.stages p) None;
+  events = b.events ++ present (delivery (reply_at_element p b) ∷ []);
+}
+
+abbrev pub element_takes_reply : ℕ → BlockState → BlockState
+element_takes_reply p b = elim (element_at b.elements p) [ None ↦ b | Some e ↦ reply_taken_by p b e ]
+
+-- ---- at the unit with number n
+abbrev pub takes_replies : ℕ → BlockState → BlockState
+takes_replies n b = elim (unit_of b.stages n) [
+  | unit.Switch s k ↦ switch_takes_replies n s k b
+  | unit.Module m ↦ b
+  | unit.Element p ↦ element_takes_reply p b
+  | unit.Nothing ↦ b
+]
+
+-- where a reply has come to a switch there is room
+abbrev pub SwitchCanTakeReplies : ℕ → ℕ → ℕ → BlockState → Type 0
+SwitchCanTakeReplies n s k b = ForSome (switch_at b.switches n) (λ w. CanTakeReplies w (replies_at_switch s k b))
+
+-- of a processing element to which a reply has come, some request has left whose reply hadn't come
+abbrev pub ElementCanTakeReply : ℕ → BlockState → Type 0
+ElementCanTakeReply p b =
+    ForSome (element_at b.elements p) (λ e. ForSome (reply_at_element p b) (λ _. length e.interface.interface.pending < length e.interface.interface.opened))
+
+abbrev pub UnitCanTakeReplies : ℕ → BlockState → UnitName → Type 0
+UnitCanTakeReplies n b (unit.Switch s k) = SwitchCanTakeReplies n s k b
+UnitCanTakeReplies n b (unit.Module m) = Unit {0}
+UnitCanTakeReplies n b (unit.Element p) = ElementCanTakeReply p b
+UnitCanTakeReplies n b unit.Nothing = Unit {0}
+
+-- what the unit with number n asks
+pub record CanTakeRepliesAt (n : ℕ) (b : BlockState) : Type 0 where
+  pub unit : UnitCanTakeReplies n b (unit_of b.stages n)
+  pub room : HasEventRoom n b

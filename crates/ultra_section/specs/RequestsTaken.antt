@@ -1,0 +1,70 @@
+-- the half of a cycle in which requests come to switches and modules
+use Rattle.std.specs.Prelude.{◌≡◌, ℕ, ◌/◌, ◌^◌, ◌<◌, ◌++◌, length, Option, Some, None, slice_set}
+use Rattle.std.specs.Option.{ForSome}
+use Rattle.ultra_msg.specs.declared.Request.{Request}
+use Rattle.ultra_switch.specs.declared.Ports.{Ports}
+use Rattle.ultra_switch.specs.declared.Switch.{Switch}
+use Rattle.ultra_mem.specs.Serve.{Bank}
+use Rattle.ultra_halves.specs.Switches.{CanTakeRequests, after_requests, combinations_of}
+use Rattle.ultra_halves.specs.Modules.{bank_with}
+use Rattle.ultra_section.specs.declared.unit.Unit.{Unit as UnitName}
+use Rattle.ultra_section.specs.declared.unit.Unit.TheVariants as unit
+use Rattle.ultra_section.specs.Units.{unit_of}
+use Rattle.ultra_section.specs.Marks.{request_links, memory_link, on_link, on_both, without_both}
+use Rattle.ultra_section.specs.BlockState.{BlockState, HasEventRoom, switch_at, module_at}
+
+-- ---- at switch k of stage s, which has number n
+abbrev pub requests_at_switch : ℕ → ℕ → BlockState → Ports (Option Request)
+requests_at_switch s k b = on_both b.requests (request_links b.stages s k)
+
+abbrev pub requests_taken_by : ℕ → ℕ → ℕ → BlockState → Switch → BlockState
+requests_taken_by n s k b w = record b {
+  switches = slice_set b.switches n (Some (after_requests b.stages s b.done w (requests_at_switch s k b)));
+  requests = without_both b.requests (request_links b.stages s k);
+  events = b.events ++ combinations_of b.stages s k b.done w (requests_at_switch s k b);
+}
+
+abbrev pub switch_takes_requests : ℕ → ℕ → ℕ → BlockState → BlockState
+switch_takes_requests n s k b = elim (switch_at b.switches n) [ None ↦ b | Some w ↦ requests_taken_by n s k b w ]
+
+-- ---- at module m
+abbrev pub request_at_module : ℕ → BlockState → Option Request
+request_at_module m b = on_link b.requests (memory_link b.stages m)
+
+abbrev pub request_taken_by : ℕ → BlockState → Bank → BlockState
+request_taken_by m b bank = record b {
+  modules = slice_set b.modules m (Some (bank_with (2 ^ b.stages) bank (request_at_module m b)));
+  requests = slice_set b.requests (memory_link b.stages m) None;
+}
+
+abbrev pub module_takes_request : ℕ → BlockState → BlockState
+module_takes_request m b = elim (module_at b.modules m) [ None ↦ b | Some bank ↦ request_taken_by m b bank ]
+
+-- ---- at the unit with number n
+abbrev pub takes_requests : ℕ → BlockState → BlockState
+takes_requests n b = elim (unit_of b.stages n) [
+  | unit.Switch s k ↦ switch_takes_requests n s k b
+  | unit.Module m ↦ module_takes_request m b
+  | unit.Element p ↦ b
+  | unit.Nothing ↦ b
+]
+
+-- where a request has come to a switch, the queue that it goes to has room for two
+abbrev pub SwitchCanTakeRequests : ℕ → ℕ → ℕ → BlockState → Type 0
+SwitchCanTakeRequests n s k b = ForSome (switch_at b.switches n) (λ w. CanTakeRequests b.stages s w (requests_at_switch s k b))
+
+-- where one has come to a module, its cell is one of the module's, and the register is empty
+abbrev pub ModuleCanTakeRequest : ℕ → BlockState → Type 0
+ModuleCanTakeRequest m b =
+    ForSome (module_at b.modules m) (λ bank. ForSome (request_at_module m b) (λ r. (r.cell / 2 ^ b.stages < length bank.cells) × (bank.inp ≡ None)))
+
+abbrev pub UnitCanTakeRequests : ℕ → BlockState → UnitName → Type 0
+UnitCanTakeRequests n b (unit.Switch s k) = SwitchCanTakeRequests n s k b
+UnitCanTakeRequests n b (unit.Module m) = ModuleCanTakeRequest m b
+UnitCanTakeRequests n b (unit.Element p) = Unit {0}
+UnitCanTakeRequests n b unit.Nothing = Unit {0}
+
+-- what the unit with number n asks
+pub record CanTakeRequestsAt (n : ℕ) (b : BlockState) : Type 0 where
+  pub unit : UnitCanTakeRequests n b (unit_of b.stages n)
+  pub room : HasEventRoom n b

@@ -1,0 +1,20 @@
+-- what blocks note of their rooms
+use Rattle.std.specs.Prelude.{◌≡◌, ℕ, ◌^◌, ◌<◌, not, ◌||◌, is_some}
+use Rattle.ultra_units.specs.Set.{has_unit}
+use Rattle.ultra_units.specs.Numbers.{switch_count, module_number}
+use Rattle.ultra_halves.specs.Switches.{has_reply_room, has_request_room}
+use Rattle.ultra_section.specs.Sets.{if_here}
+use Rattle.ultra_section.specs.BlockState.{BlockState, switch_at, module_at}
+use Rattle.ultra_section.specs.declared.rooms.Rooms.{Rooms}
+
+-- a block has noted which of its units have no room; of the others it leaves what was noted
+pub record HasNoted (b : BlockState) (old now : Rooms) : Type 0 where
+  pub replies : (n : ℕ) → n < switch_count b.stages
+      → has_unit now.no_reply_room n ≡ (has_unit old.no_reply_room n || if_here (λ w. not (has_reply_room w)) (switch_at b.switches n))
+  pub requests_zero : (n : ℕ) → n < switch_count b.stages
+      → has_unit now.no_request_room.zero n ≡ (has_unit old.no_request_room.zero n || if_here (λ w. not (has_request_room w).zero) (switch_at b.switches n))
+  pub requests_one : (n : ℕ) → n < switch_count b.stages
+      → has_unit now.no_request_room.one n ≡ (has_unit old.no_request_room.one n || if_here (λ w. not (has_request_room w).one) (switch_at b.switches n))
+  pub modules : (m : ℕ) → m < 2 ^ b.stages
+      → has_unit now.no_request_room.zero (module_number b.stages m)
+      ≡ (has_unit old.no_request_room.zero (module_number b.stages m) || if_here (λ bank. is_some bank.inp) (module_at b.modules m))

@@ -1,0 +1,94 @@
+-- what is known of one unit of a block
+use Rattle.std.specs.Prelude.{◌≡◌, ℕ, Bool, false, not, ◌&&◌, Option, Some, None, is_some}
+use Rattle.ultra_switch.specs.declared.Switch.{Switch}
+use Rattle.ultra_mem.specs.Serve.{Bank}
+use Rattle.ultra_isa.specs.Step.{has_stopped}
+use Rattle.ultra_units.specs.Set.{has_unit}
+use Rattle.ultra_halves.specs.Switches.{has_reply_room, has_request_room, holds_replies, holds_requests, keeps_records}
+use Rattle.ultra_halves.specs.Elements.{holds_request}
+use Rattle.ultra_halves.specs.declared.elements.ProcessingElement.{ProcessingElement}
+use Rattle.ultra_section.specs.declared.sets.Sets.{Sets}
+use Rattle.ultra_section.specs.declared.held.Held.{Held}
+use Rattle.ultra_section.specs.declared.held.Held.TheVariants.{Reply, Request, Record}
+
+-- what the sets of a block say of one unit
+pub record UnitFacts : Type 0 where
+  pub here : Bool
+  pub holds_replies : Bool
+  pub no_reply_room : Bool
+  pub holds_requests : Bool
+  pub no_room_zero : Bool
+  pub no_room_one : Bool
+  pub to_serve : Bool
+  pub to_step : Bool
+  pub keeps_records : Bool
+
+-- what they say of the unit with a number
+abbrev pub facts_at : Sets → ℕ → UnitFacts
+facts_at s k = record {
+  here = has_unit s.here k;
+  holds_replies = has_unit s.holds_replies k;
+  no_reply_room = has_unit s.no_reply_room k;
+  holds_requests = has_unit s.holds_requests k;
+  no_room_zero = has_unit s.no_request_room.zero k;
+  no_room_one = has_unit s.no_request_room.one k;
+  to_serve = has_unit s.to_serve k;
+  to_step = has_unit s.to_step k;
+  keeps_records = has_unit s.keeps_records k;
+}
+
+-- nothing is true of a unit that doesn't stand here
+abbrev pub no_facts : UnitFacts
+no_facts = record {
+  here = false;
+  holds_replies = false;
+  no_reply_room = false;
+  holds_requests = false;
+  no_room_zero = false;
+  no_room_one = false;
+  to_serve = false;
+  to_step = false;
+  keeps_records = false;
+}
+
+-- what is said of what a unit may hold
+abbrev pub fact_of : Held → UnitFacts → Bool
+fact_of Reply f = f.holds_replies
+fact_of Request f = f.holds_requests
+fact_of Record f = f.keeps_records
+
+-- whether a module holds a request and no reply
+abbrev pub would_serve : Bank → Bool
+would_serve b = is_some b.inp && not (is_some b.out)
+
+-- whether something is true of a unit, if it stands here
+abbrev pub if_here : {X : Type 0} → (X → Bool) → Option X → Bool
+if_here p None = false
+if_here p (Some x) = p x
+
+-- what is said of a switch is true of it, or of none that would stand here
+pub record KnowsSwitch (f : UnitFacts) (o : Option Switch) : Type 0 where
+  pub here : f.here ≡ is_some o
+  pub holds_replies : f.holds_replies ≡ if_here holds_replies o
+  pub no_reply_room : f.no_reply_room ≡ if_here (λ w. not (has_reply_room w)) o
+  pub holds_requests : f.holds_requests ≡ if_here holds_requests o
+  pub no_room_zero : f.no_room_zero ≡ if_here (λ w. not (has_request_room w).zero) o
+  pub no_room_one : f.no_room_one ≡ if_here (λ w. not (has_request_room w).one) o
+  pub keeps_records : f.keeps_records ≡ if_here keeps_records o
+
+-- of a module
+pub record KnowsModule (f : UnitFacts) (o : Option Bank) : Type 0 where
+  pub here : f.here ≡ is_some o
+  pub holds_replies : f.holds_replies ≡ if_here (λ b. is_some b.out) o
+  pub holds_requests : f.holds_requests ≡ if_here (λ b. is_some b.inp) o
+  pub no_room_zero : f.no_room_zero ≡ if_here (λ b. is_some b.inp) o
+  pub to_serve : f.to_serve ≡ if_here would_serve o
+  pub keeps_records : f.keeps_records ≡ false
+
+-- of a processing element
+pub record KnowsElement (f : UnitFacts) (o : Option ProcessingElement) : Type 0 where
+  pub here : f.here ≡ is_some o
+  pub holds_replies : f.holds_replies ≡ false
+  pub holds_requests : f.holds_requests ≡ if_here holds_request o
+  pub to_step : f.to_step ≡ if_here (λ e. not (has_stopped e.processor.core.activity)) o
+  pub keeps_records : f.keeps_records ≡ false

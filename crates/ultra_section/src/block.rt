@@ -1,0 +1,66 @@
+//! Blocks: some of the units of a machine.
+
+ghost use Rattle.std.specs.Prelude.{◌≡◌, ℕ, ◌<◌, ◌≤◌, ◌++◌, ◌∷◌, [], length, vec_capacity};
+
+use crate::links::Links;
+use crate::sets::Sets;
+use std::marker::Model;
+use ultra_halves::ProcessingElement;
+use ultra_mem::Module;
+use ultra_model::Stop;
+use ultra_msg::{Event, ReplyMessage, Request};
+use ultra_route::Net;
+use ultra_switch::Switch;
+
+/// Some of the units of a machine, by their numbers: any switches, modules and processing elements, or none. Links have the number of the place from which they lead; what a unit of this block sends is put on its link, and what leads to a unit of this block is taken there.
+///
+/// A cycle is made of six halves, each done to every block: `send_replies`, `take_replies`, `serve`, `send_requests`, `take_requests`, `execute`. No half takes memory.
+#[derive(Drop)]
+pub struct Block {
+    pub(crate) net: Net,
+    pub(crate) done: u32,
+    /// By the number of the switch, each that stands here.
+    pub(crate) switches: Vec<Option<Switch>>,
+    /// By the number of the module, each that stands here.
+    pub(crate) modules: Vec<Option<Module>>,
+    /// By the number of the processing element, each that stands here.
+    pub(crate) elements: Vec<Option<ProcessingElement>>,
+    pub(crate) sets: Sets,
+    pub(crate) replies: Links<ReplyMessage>,
+    pub(crate) requests: Links<Request>,
+    /// What has happened in the cycle, in the order of the rules.
+    pub(crate) events: Vec<Event>,
+    /// The faults of the cycle, by the number of the processing element.
+    pub(crate) stops: Vec<Stop>,
+}
+
+impl Model for Block {
+    ghost use Rattle.std.specs.Prelude.{vec_capacity};
+    ghost use Rattle.ultra_section.specs.BlockState.{BlockState, IsKept};
+
+    ghost Value = { BlockState };
+
+    ghost view = { λ b. record {
+      stages = b.net;
+      done = b.done;
+      switches = b.switches.items;
+      modules = b.modules.items;
+      elements = b.elements.items;
+      replies = b.replies.table.items;
+      requests = b.requests.table.items;
+      events = b.events.items;
+      stops = b.stops.items;
+    } };
+
+    ghost invariant = { λ b. IsKept b.net b.sets b.switches.items b.modules.items b.elements.items b.replies b.requests (vec_capacity b.events) (vec_capacity b.stops) };
+}
+
+/// Puts an entry at the end of a list that has memory for it.
+#[inline(always)]
+pub(crate) fn tell<T: Drop>(list: &mut Vec<T>, entry: T)
+    requires { length list.old.items < vec_capacity list.old }
+    ensures entries { list.new.items ≡ list.old.items ++ entry ∷ [] }
+    ensures places { vec_capacity list.old ≤ vec_capacity list.new }
+{
+    let _told = list.push(entry);
+}

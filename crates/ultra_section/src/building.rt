@@ -1,0 +1,215 @@
+//! Blocks without units, units that are put into a block or taken out of it, and what goes from one block to another.
+
+ghost use Rattle.std.specs.Prelude.{◌≡◌, ℕ, ◌<◌, ◌^◌, IfOk, None, Some, length, replicate, slice_set, vec_capacity};
+ghost use Rattle.ultra_units.specs.Numbers.{switch_count as count_of_switches};
+ghost use Rattle.ultra_section.specs.BlockState.{element_at, module_at, most_events, most_stops, switch_at};
+ghost use Rattle.ultra_section.specs.Building.{empty_block, with_unit, without_unit};
+ghost use Rattle.ultra_section.specs.Links.{put_on};
+ghost use Rattle.ultra_section.specs.Marks.{HasAllLinks};
+
+use crate::block::Block;
+use crate::links::Links;
+use crate::sets::Sets;
+use crate::unit::{Unit, unit_of};
+use std::alloc::{AllocError, Global};
+use std::mem::swap;
+use ultra_halves::ProcessingElement;
+use ultra_mem::Module;
+use ultra_route::Net;
+use ultra_switch::Switch;
+use ultra_units::{UnitSet, element_number, module_number, switch_count};
+
+/// For how many events a block has memory: at most two of each of 320 units in each of four halves.
+const MOST_EVENTS: usize = 2560;
+
+/// For how many stops a block has memory.
+const MOST_STOPS: usize = 320;
+
+/// As many empty entries. An error says that memory was refused.
+fn no_entries<T: Drop>(alloc: Global, count: usize) -> Result<Vec<Option<T>>, AllocError>
+    ensures { IfOk result (λ v. v.items ≡ replicate count None) }
+{
+    let mut entries = Vec::with_capacity(alloc, count)?;
+    for entry in 0..count {
+        let _ = entry;
+        entries.push(None)?;
+    }
+    Ok(entries)
+}
+
+/// Links with nothing on them. An error says that memory was refused.
+fn no_links<M: Drop>(alloc: Global, count: usize) -> Result<Links<M>, AllocError>
+    ensures { IfOk result (λ l. l.table.items ≡ replicate count None) }
+{
+    Ok(Links {
+        table: no_entries(alloc, count)?,
+        came: UnitSet::empty(),
+        away: UnitSet::empty(),
+    })
+}
+
+impl Block {
+    /// A block without units, of a machine with this network, before its first cycle. An error says that memory was refused.
+    pub fn empty(alloc: Global, net: Net) -> Result<Block, AllocError>
+        ensures { IfOk result (λ b. b ≡ empty_block net) }
+    {
+        let size = net.size() as usize;
+        let links = (net.stages() as usize + 1) * size;
+        Ok(Block {
+            net,
+            done: 0,
+            switches: no_entries(alloc, switch_count(net))?,
+            modules: no_entries(alloc, size)?,
+            elements: no_entries(alloc, size)?,
+            sets: Sets::empty(),
+            replies: no_links(alloc, links)?,
+            requests: no_links(alloc, links)?,
+            events: Vec::with_capacity(alloc, MOST_EVENTS)?,
+            stops: Vec::with_capacity(alloc, MOST_STOPS)?,
+        })
+    }
+
+    /// A block without units, of a machine with this network, after this many cycles. An error says that memory was refused.
+    pub fn empty_after(alloc: Global, net: Net, done: u32) -> Result<Block, AllocError>
+        ensures { IfOk result (λ b. b ≡ record (empty_block net) { done = done }) }
+    {
+        let mut block = Block::empty(alloc, net)?;
+        block.done = done;
+        Ok(block)
+    }
+
+    /// Puts a switch into the block, by its number.
+    pub fn put_switch(&mut self, number: usize, switch: Switch)
+        requires { number < count_of_switches self.old.stages }
+        ensures { self.new ≡ record self.old { switches = slice_set self.old.switches number (Some switch) } }
+    {
+        let _count = switch_count(self.net);
+        self.sets.stand(number);
+        self.sets.note_replies(number, &switch);
+        self.sets.note_requests(number, &switch);
+        self.sets.note_records(number, &switch);
+        self.replies.renew(number, true);
+        self.requests.renew(number, true);
+        self.switches[number] = Some(switch);
+    }
+
+    /// Puts a memory module into the block, by its number among modules.
+    pub fn put_module(&mut self, number: u32, bank: Module)
+        requires { number < 2 ^ self.old.stages }
+        ensures { self.new ≡ record self.old { modules = slice_set self.old.modules number (Some bank) } }
+    {
+        let unit = module_number(self.net, number);
+        self.sets.stand(unit);
+        self.sets.note_module(unit, &bank);
+        self.requests.renew(unit, true);
+        self.modules[number as usize] = Some(bank);
+    }
+
+    /// Puts a processing element into the block, by its number.
+    pub fn put_element(&mut self, pe: u32, element: ProcessingElement)
+        requires { pe < 2 ^ self.old.stages }
+        ensures { self.new ≡ record self.old { elements = slice_set self.old.elements pe (Some element) } }
+    {
+        let unit = element_number(self.net, pe);
+        self.sets.stand(unit);
+        self.sets.note_element(unit, &element);
+        self.replies.renew(unit, true);
+        self.elements[pe as usize] = Some(element);
+    }
+
+    /// Takes a switch out of the block, if it stands there.
+    pub fn take_switch(&mut self, number: usize) -> Option<Switch>
+        requires { number < count_of_switches self.old.stages }
+        ensures switch { result ≡ switch_at self.old.switches number }
+        ensures rest { self.new ≡ record self.old { switches = slice_set self.old.switches number None } }
+    {
+        let _count = switch_count(self.net);
+        self.sets.leave(number);
+        self.replies.renew(number, false);
+        self.requests.renew(number, false);
+        self.switches[number].take()
+    }
+
+    /// Takes a memory module out of the block, if it stands there.
+    pub fn take_module(&mut self, number: u32) -> Option<Module>
+        requires { number < 2 ^ self.old.stages }
+        ensures bank { result ≡ module_at self.old.modules number }
+        ensures rest { self.new ≡ record self.old { modules = slice_set self.old.modules number None } }
+    {
+        let unit = module_number(self.net, number);
+        self.sets.leave(unit);
+        self.requests.renew(unit, false);
+        self.modules[number as usize].take()
+    }
+
+    /// Takes a processing element out of the block, if it stands there.
+    pub fn take_element(&mut self, pe: u32) -> Option<ProcessingElement>
+        requires { pe < 2 ^ self.old.stages }
+        ensures element { result ≡ element_at self.old.elements pe }
+        ensures rest { self.new ≡ record self.old { elements = slice_set self.old.elements pe None } }
+    {
+        let unit = element_number(self.net, pe);
+        self.sets.leave(unit);
+        self.replies.renew(unit, false);
+        self.elements[pe as usize].take()
+    }
+
+    /// The switch of this number goes to another block, if it stands here.
+    fn move_switch(&mut self, number: usize, to: &mut Block)
+        requires number { number < count_of_switches self.old.stages }
+        requires machine { to.old.stages ≡ self.old.stages }
+        ensures left { self.new ≡ record self.old { switches = slice_set self.old.switches number None } }
+        ensures there { to.new ≡ record to.old { switches = put_on to.old.switches number (switch_at self.old.switches number) } }
+    {
+        if let Some(switch) = self.take_switch(number) {
+            to.put_switch(number, switch);
+        }
+    }
+
+    /// The memory module of this number goes to another block, if it stands here.
+    fn move_module(&mut self, number: u32, to: &mut Block)
+        requires number { number < 2 ^ self.old.stages }
+        requires machine { to.old.stages ≡ self.old.stages }
+        ensures left { self.new ≡ record self.old { modules = slice_set self.old.modules number None } }
+        ensures there { to.new ≡ record to.old { modules = put_on to.old.modules number (module_at self.old.modules number) } }
+    {
+        if let Some(bank) = self.take_module(number) {
+            to.put_module(number, bank);
+        }
+    }
+
+    /// The processing element of this number goes to another block, if it stands here.
+    fn move_element(&mut self, pe: u32, to: &mut Block)
+        requires number { pe < 2 ^ self.old.stages }
+        requires machine { to.old.stages ≡ self.old.stages }
+        ensures left { self.new ≡ record self.old { elements = slice_set self.old.elements pe None } }
+        ensures there { to.new ≡ record to.old { elements = put_on to.old.elements pe (element_at self.old.elements pe) } }
+    {
+        if let Some(element) = self.take_element(pe) {
+            to.put_element(pe, element);
+        }
+    }
+
+    /// The unit of this number goes to another block of the machine, if it stands here.
+    pub fn move_unit(&mut self, number: usize, to: &mut Block)
+        requires { to.old.stages ≡ self.old.stages }
+        ensures left { self.new ≡ without_unit number self.old }
+        ensures there { to.new ≡ with_unit number self.old to.old }
+    {
+        match unit_of(self.net, number) {
+            Unit::Switch { .. } => self.move_switch(number, to),
+            Unit::Module(module) => self.move_module(module, to),
+            Unit::Element(pe) => self.move_element(pe, to),
+            Unit::Nothing => {}
+        }
+    }
+
+    /// Takes the events and stops of another block, which gets those that stood here.
+    pub fn take_story(&mut self, other: &mut Block)
+        ensures here { self.new ≡ record self.old { events = other.old.events; stops = other.old.stops } }
+        ensures there { other.new ≡ record other.old { events = self.old.events; stops = self.old.stops } }
+    {
+        swap(&mut self.events, &mut other.events);
+        swap(&mut self.stops, &mut other.stops);
+    }
+}

@@ -1,0 +1,79 @@
+//! The half of a cycle in which processing elements make a step of the program.
+
+ghost use Rattle.std.specs.Prelude.{◌≡◌, ℕ, ◌+◌, ◌-◌, ◌^◌, ◌<◌, ◌≤◌, length};
+ghost use Rattle.ultra_units.specs.Visits.{after_units};
+ghost use Rattle.ultra_section.specs.BlockState.{most_events, most_stops};
+ghost use Rattle.ultra_section.specs.Execution.{CanExecuteAt, ElementCanExecute, counted, element_executes, executes};
+ghost use Rattle.ultra_section.specs.Units.{IsElement};
+
+use crate::block::{Block, tell};
+use crate::unit::{Unit, unit_of};
+use ultra_halves::Outcome;
+use ultra_isa::Program;
+use ultra_units::{Visit, visit_all};
+
+impl Block {
+    /// A processing element makes a step.
+    fn execute_element(&mut self, program: &Program, number: usize, pe: u32)
+        requires is { IsElement self.old.stages number pe }
+        requires issued { ElementCanExecute pe self.old }
+        requires event_room { length self.old.events < most_events }
+        requires stop_room { length self.old.stops < most_stops }
+        requires small { number < 320 }
+        ensures { self.new ≡ element_executes program.now pe self.old }
+    {
+        let net = self.net;
+        let _even = net.size();
+        let Some(element) = &mut self.elements[pe as usize] else {
+            return;
+        };
+        let outcome = element.execute(program, pe);
+        if let Outcome::AtRest = outcome {
+            return;
+        }
+        self.sets.note_element(number, element);
+        match outcome {
+            Outcome::Issued(event) => tell(&mut self.events, event),
+            Outcome::Faulted(stop) => tell(&mut self.stops, stop),
+            Outcome::Done | Outcome::AtRest => {}
+        }
+    }
+}
+
+/// A visit in which a processing element makes a step of the program.
+#[derive(Clone, Copy, Drop)]
+struct Execute<'a> {
+    program: &'a Program,
+}
+
+impl Visit<Block> for Execute<'_> {
+    ghost can_visit = { λ v n b. CanExecuteAt n b };
+
+    ghost visited = { λ v n b. executes v.program.now n b };
+
+    #[inline(always)]
+    fn next(&self, block: &Block, from: usize) -> Option<usize> {
+        block.sets.to_step.next(from)
+    }
+
+    #[inline(always)]
+    fn visit(&self, block: &mut Block, unit: usize) {
+        match unit_of(block.net, unit) {
+            Unit::Element(pe) => block.execute_element(self.program, unit, pe),
+            Unit::Switch { .. } | Unit::Module(_) | Unit::Nothing => {}
+        }
+    }
+}
+
+impl Block {
+    /// The last half of a cycle: each processing element makes one step of the program. The cycles that are done are fewer than `2^32 - 1`.
+    #[inline(always)]
+    pub fn execute(&mut self, program: &Program)
+        requires can { (k : ℕ) → k < 320 → CanExecuteAt k self.old }
+        requires few { self.old.done < 2 ^ 32 - 1 }
+        ensures { self.new ≡ counted (after_units (executes program.now) 320 self.old) }
+    {
+        visit_all(&Execute { program }, self);
+        self.done += 1;
+    }
+}

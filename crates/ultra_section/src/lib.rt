@@ -1,0 +1,47 @@
+//! Blocks: some units of a machine, by their numbers, and the links between them.
+//!
+//! A block keeps sets of unit numbers, each a fact about the units that stand here or about what is on links. A half of a
+//! cycle visits only the units of one of them, since it leaves all others as they are.
+//!
+//! | Set | Its units | Who notes it | Who reads it |
+//! |---|---|---|---|
+//! | `here` | exactly those that stand here | `put_switch`, `take_switch` and the like | each half that sends: a message for a unit here has come |
+//! | `holds_replies` | exactly the switches and modules that hold a reply | each half that moves replies, and `serve` | `send_replies` |
+//! | `no_reply_room` | exactly the switches without room for replies | each half that moves replies | `rooms` |
+//! | `holds_requests` | exactly the units that hold a request | each half that moves requests, `serve` and `execute` | `send_requests`, which passes modules by |
+//! | `no_request_room` | exactly the switches whose queue at that port has no room for requests, and modules that hold one | each half that moves requests, and `serve` | `rooms` |
+//! | `to_serve` | exactly the modules that hold a request and no reply | `send_replies`, `serve`, `take_requests` | `serve` |
+//! | `to_step` | exactly the processing elements that haven't stopped | `execute` | `execute` |
+//! | `keeps_records` | exactly the switches that keep a record of a combination | `take_requests` and `take_replies` | `next_holding` |
+//! | `came`, of each kind of message | at least the units here to which a message leads | a half that sends adds, the one that takes removes | the half that takes |
+//! | `away`, of each kind of message | at least the units elsewhere to which one leads | a half that sends adds | who moves messages to other blocks |
+#![tactic(auto)]
+
+mod block;
+mod building;
+mod execute;
+mod half;
+mod held;
+mod lent;
+mod links;
+mod making;
+mod quiet;
+mod replies;
+mod replies_away;
+mod requests;
+mod requests_away;
+mod rooms;
+mod send_replies;
+mod send_requests;
+mod serve;
+mod sets;
+mod take_replies;
+mod take_requests;
+mod unit;
+
+pub use block::Block;
+pub use half::Half;
+pub use held::Held;
+pub use replies_away::reply_inlets;
+pub use requests_away::request_inlets;
+pub use rooms::Rooms;

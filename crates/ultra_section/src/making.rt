@@ -1,0 +1,60 @@
+//! A half of a cycle, whichever it is, and what has happened in the cycle.
+
+ghost use Rattle.std.specs.Prelude.{◌≡◌};
+ghost use Rattle.ultra_section.specs.Making.{CanMake, made};
+ghost use Rattle.ultra_section.specs.Shape.{IsShaped};
+
+use crate::block::Block;
+use crate::half::Half;
+use crate::rooms::Rooms;
+use ultra_isa::Program;
+use ultra_model::Stop;
+use ultra_msg::Event;
+use ultra_route::Net;
+
+impl Block {
+    /// Makes this half of a cycle, with the rooms that were noted before it and the machine's program. What it asks is what the half asks.
+    #[inline(always)]
+    pub fn make(&mut self, half: Half, rooms: &Rooms, program: &Program)
+        requires { CanMake half self.old }
+        ensures { self.new ≡ made half rooms.now program.now self.old }
+    {
+        match half {
+            Half::SendReplies => self.send_replies(rooms),
+            Half::TakeReplies => self.take_replies(),
+            Half::Serve => self.serve(),
+            Half::SendRequests => self.send_requests(rooms),
+            Half::TakeRequests => self.take_requests(),
+            Half::Execute => self.execute(program),
+        }
+    }
+
+    /// What has happened to its units in the cycle, in the order of the halves, and in each half by the number of the unit.
+    pub fn events(&self) -> &[Event]
+        ensures { result.now ≡ self.now.events }
+    {
+        self.events.as_slice()
+    }
+
+    /// The faults of its processing elements in the cycle, by their numbers.
+    pub fn stops(&self) -> &[Stop]
+        ensures { result.now ≡ self.now.stops }
+    {
+        self.stops.as_slice()
+    }
+
+    /// The network of the machine. The block has an entry for each unit and for each link.
+    pub fn net(&self) -> Net
+        ensures value { result ≡ self.now.stages }
+        ensures shape { IsShaped result self.now }
+    {
+        self.net
+    }
+
+    /// How many cycles are done.
+    pub fn done(&self) -> u32
+        ensures { result ≡ self.now.done }
+    {
+        self.done
+    }
+}

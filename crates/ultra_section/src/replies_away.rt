@@ -1,0 +1,75 @@
+//! Replies that lead from one block to another.
+
+ghost use Rattle.std.specs.Prelude.{◌≡◌, ℕ, ◌+◌, ◌*◌, ◌^◌, ◌≤◌, ◌<◌, Some, IfNone, IfSome, length};
+ghost use Rattle.ultra_section.specs.Away.{IsNextForReplies, NoReplyLeavesWithin, replies_handed_over, replies_received, reply_inlets as inlets_of, taken_by_turns};
+
+use crate::block::Block;
+use crate::unit::{Unit, unit_of};
+use ultra_msg::ReplyMessage;
+use ultra_route::Net;
+use ultra_switch::Ports;
+use ultra_units::{place_number, reply_source};
+
+/// The links by which replies come to a unit, by its number: a processing element has one, which stands at both ports. None come to a memory module.
+pub fn reply_inlets(net: Net, unit: usize) -> Option<Ports<usize>>
+    ensures { result ≡ inlets_of net unit }
+{
+    let _even = net.size();
+    match unit_of(net, unit) {
+        Unit::Switch { stage, index } => Some(Ports {
+            zero: reply_source(net, stage, 2 * index),
+            one: reply_source(net, stage, 2 * index + 1),
+        }),
+        Unit::Element(pe) => {
+            let link = place_number(net, 0, net.shuffle(pe));
+            Some(Ports {
+                zero: link,
+                one: link,
+            })
+        }
+        Unit::Module(_) | Unit::Nothing => None,
+    }
+}
+
+impl Block {
+    /// The first unit from `from` on to which replies may lead from this block, if it stands elsewhere.
+    #[inline(always)]
+    pub fn next_for_replies(&self, from: usize) -> Option<usize>
+        ensures some { IfSome result (λ k. IsNextForReplies self.now from k) }
+        ensures none { IfNone result (NoReplyLeavesWithin self.now from 320) }
+    {
+        self.replies.away.next(from)
+    }
+
+    /// Takes the replies that lead to a unit elsewhere. `inlets` are the links by which they do.
+    pub fn hand_over_replies(
+        &mut self,
+        unit: usize,
+        inlets: Ports<usize>,
+    ) -> Ports<Option<ReplyMessage>>
+        requires { inlets_of self.old.stages unit ≡ Some inlets }
+        ensures value { result ≡ taken_by_turns self.old.replies inlets }
+        ensures left { self.new ≡ replies_handed_over inlets self.old }
+    {
+        let _stages = self.net.stages();
+        self.replies.hand_over(unit, inlets)
+    }
+
+    /// Puts replies on the links by which they come to a unit.
+    pub fn receive_replies(
+        &mut self,
+        unit: usize,
+        inlets: Ports<usize>,
+        replies: Ports<Option<ReplyMessage>>,
+    )
+        requires links { inlets_of self.old.stages unit ≡ Some inlets }
+        requires small { unit < 320 }
+        ensures received { self.new ≡ replies_received inlets replies self.old }
+        ensures links { length self.old.replies ≡ (self.old.stages + 1) * 2 ^ self.old.stages }
+    {
+        let _stages = self.net.stages();
+        let here = &self.sets.here;
+        self.replies.put(here, inlets.zero, unit, replies.zero);
+        self.replies.put(here, inlets.one, unit, replies.one);
+    }
+}

@@ -1,0 +1,75 @@
+//! Requests that lead from one block to another.
+
+ghost use Rattle.std.specs.Prelude.{◌≡◌, ℕ, ◌+◌, ◌*◌, ◌^◌, ◌≤◌, ◌<◌, Some, IfNone, IfSome, length};
+ghost use Rattle.ultra_section.specs.Away.{IsNextForRequests, NoRequestLeavesWithin, requests_handed_over, requests_received, request_inlets as inlets_of, taken_by_turns};
+
+use crate::block::Block;
+use crate::unit::{Unit, unit_of};
+use ultra_msg::Request;
+use ultra_route::Net;
+use ultra_switch::Ports;
+use ultra_units::{place_number, request_source};
+
+/// The links by which requests come to a unit, by its number: a memory module has one, which stands at both ports. None come to a processing element.
+pub fn request_inlets(net: Net, unit: usize) -> Option<Ports<usize>>
+    ensures { result ≡ inlets_of net unit }
+{
+    let _even = net.size();
+    match unit_of(net, unit) {
+        Unit::Switch { stage, index } => Some(Ports {
+            zero: request_source(net, stage, 2 * index),
+            one: request_source(net, stage, 2 * index + 1),
+        }),
+        Unit::Module(number) => {
+            let link = place_number(net, net.stages() - 1, number);
+            Some(Ports {
+                zero: link,
+                one: link,
+            })
+        }
+        Unit::Element(_) | Unit::Nothing => None,
+    }
+}
+
+impl Block {
+    /// The first unit from `from` on to which requests may lead from this block, if it stands elsewhere.
+    #[inline(always)]
+    pub fn next_for_requests(&self, from: usize) -> Option<usize>
+        ensures some { IfSome result (λ k. IsNextForRequests self.now from k) }
+        ensures none { IfNone result (NoRequestLeavesWithin self.now from 320) }
+    {
+        self.requests.away.next(from)
+    }
+
+    /// Takes the requests that lead to a unit elsewhere. `inlets` are the links by which they do.
+    pub fn hand_over_requests(
+        &mut self,
+        unit: usize,
+        inlets: Ports<usize>,
+    ) -> Ports<Option<Request>>
+        requires { inlets_of self.old.stages unit ≡ Some inlets }
+        ensures value { result ≡ taken_by_turns self.old.requests inlets }
+        ensures left { self.new ≡ requests_handed_over inlets self.old }
+    {
+        let _stages = self.net.stages();
+        self.requests.hand_over(unit, inlets)
+    }
+
+    /// Puts requests on the links by which they come to a unit.
+    pub fn receive_requests(
+        &mut self,
+        unit: usize,
+        inlets: Ports<usize>,
+        requests: Ports<Option<Request>>,
+    )
+        requires links { inlets_of self.old.stages unit ≡ Some inlets }
+        requires small { unit < 320 }
+        ensures received { self.new ≡ requests_received inlets requests self.old }
+        ensures links { length self.old.requests ≡ (self.old.stages + 1) * 2 ^ self.old.stages }
+    {
+        let _stages = self.net.stages();
+        let here = &self.sets.here;
+        self.requests.put(here, inlets.zero, unit, requests.zero);
+        self.requests.put(here, inlets.one, unit, requests.one);
+    }
+}

@@ -1,0 +1,117 @@
+//! The half of a cycle in which replies leave switches and modules.
+
+ghost use Rattle.std.specs.Prelude.{◌≡◌, ℕ, ◌-◌, ◌^◌, ◌<◌};
+ghost use Rattle.ultra_section.specs.RepliesSent.{begun, has_reply_way as way_of_reply, module_sends_reply, reply_ways, sends_replies, switch_sends_replies};
+ghost use Rattle.ultra_units.specs.Visits.{after_units};
+ghost use Rattle.ultra_section.specs.Units.{IsModule, IsSwitch};
+
+use crate::block::Block;
+use crate::replies::{leave_module, leave_stage};
+use crate::rooms::Rooms;
+use crate::unit::{Unit, unit_of};
+use ultra_halves::{modules, switches};
+use ultra_route::Net;
+use ultra_switch::Ports;
+use ultra_units::{UnitSet, Visit, reply_target, switch_number, visit_all};
+
+/// Whether a reply may go on from a PE-side position of a stage. `closed` are the switches without room for replies.
+#[inline(always)]
+fn has_reply_way(net: Net, closed: &UnitSet, stage: u32, position: u32) -> bool
+    requires stage { stage < net }
+    requires position { position < 2 ^ net }
+    ensures { result ≡ way_of_reply closed.now net stage position }
+{
+    stage == 0 || !closed.has(reply_target(net, stage, position))
+}
+
+/// Whether replies may go on from a switch, by the PE-side port.
+#[inline(always)]
+fn find_reply_ways(net: Net, closed: &UnitSet, stage: u32, index: u32) -> Ports<bool>
+    requires stage { stage < net }
+    requires index { index < 2 ^ (net - 1) }
+    ensures { result ≡ reply_ways closed.now net stage index }
+{
+    let _even = net.size();
+    Ports {
+        zero: has_reply_way(net, closed, stage, 2 * index),
+        one: has_reply_way(net, closed, stage, 2 * index + 1),
+    }
+}
+
+impl Block {
+    /// The first reply of each queue of a switch goes onto its link, where there is a way.
+    fn send_replies_of_switch(&mut self, closed: &UnitSet, number: usize, stage: u32, index: u32)
+        requires { IsSwitch self.old.stages number stage index }
+        ensures { self.new ≡ switch_sends_replies closed.now number stage index self.old }
+    {
+        let net = self.net;
+        let _even = net.size();
+        let Some(switch) = &mut self.switches[number] else {
+            return;
+        };
+        let out = switches::send_replies(switch, find_reply_ways(net, closed, stage, index));
+        self.sets.note_replies(number, switch);
+        let here = &self.sets.here;
+        leave_stage(&mut self.replies, here, net, stage, 2 * index, out.zero);
+        leave_stage(&mut self.replies, here, net, stage, 2 * index + 1, out.one);
+    }
+
+    /// The reply of a module goes onto its link, if there is a way.
+    fn send_reply_of_module(&mut self, closed: &UnitSet, number: usize, module_number: u32)
+        requires { IsModule self.old.stages number module_number }
+        ensures { self.new ≡ module_sends_reply closed.now module_number self.old }
+    {
+        let net = self.net;
+        let _even = net.size();
+        let Some(bank) = &mut self.modules[module_number as usize] else {
+            return;
+        };
+        let target = switch_number(net, net.stages() - 1, module_number / 2);
+        let out = modules::send_reply(bank, !closed.has(target));
+        self.sets.note_module(number, bank);
+        leave_module(&mut self.replies, &self.sets.here, net, module_number, out);
+    }
+}
+
+/// A visit in which replies leave a unit. `closed` are the switches without room for replies.
+#[derive(Clone, Copy, Drop)]
+struct SendReplies<'a> {
+    closed: &'a UnitSet,
+}
+
+impl Visit<Block> for SendReplies<'_> {
+    ghost can_visit = { λ v n b. Unit {0} };
+
+    ghost visited = { λ v n b. sends_replies v.closed.now n b };
+
+    #[inline(always)]
+    fn next(&self, block: &Block, from: usize) -> Option<usize> {
+        block.sets.holds_replies.next(from)
+    }
+
+    #[inline(always)]
+    fn visit(&self, block: &mut Block, unit: usize) {
+        match unit_of(block.net, unit) {
+            Unit::Switch { stage, index } => {
+                block.send_replies_of_switch(self.closed, unit, stage, index);
+            }
+            Unit::Module(number) => block.send_reply_of_module(self.closed, unit, number),
+            Unit::Element(_) | Unit::Nothing => {}
+        }
+    }
+}
+
+impl Block {
+    /// The first half of a cycle: replies leave the switches and modules for where there is room, onto their links. What had happened in the cycle before is forgotten.
+    #[inline(always)]
+    pub fn send_replies(&mut self, rooms: &Rooms)
+        ensures { self.new ≡ after_units (sends_replies rooms.now.no_reply_room) 320 (begun self.old) }
+    {
+        self.events.clear();
+        self.stops.clear();
+        let visit = SendReplies {
+            closed: &rooms.no_reply_room,
+        };
+        visit_all(&visit, self);
+    }
+}

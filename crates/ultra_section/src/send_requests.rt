@@ -1,0 +1,182 @@
+//! The half of a cycle in which requests leave switches and processing elements.
+
+ghost use Rattle.std.specs.Prelude.{◌≡◌, ℕ, ◌-◌, ◌^◌, ◌<◌};
+ghost use Rattle.ultra_units.specs.Visits.{after_units};
+ghost use Rattle.ultra_section.specs.RequestsSent.{element_sends_request, has_request_way as way_of_request, has_room_at as room_at, has_way_from_element as way_from_element, request_ways, sends_requests, switch_sends_requests};
+ghost use Rattle.ultra_section.specs.Units.{IsElement, IsSwitch};
+
+use crate::block::Block;
+use crate::requests::{leave_element, leave_stage};
+use crate::rooms::Rooms;
+use crate::unit::{Unit, unit_of};
+use ultra_halves::switches;
+use ultra_msg::Request;
+use ultra_route::Net;
+use ultra_switch::Ports;
+use ultra_units::{UnitSet, Visit, request_target, switch_number, visit_all};
+
+/// Whether the queue that a request goes to has room, at the switch of a stage with this number. `closed` are, by the memory-side port, the switches whose queue there has no room for requests.
+#[inline(always)]
+fn has_room_at(
+    net: Net,
+    closed: &Ports<UnitSet>,
+    stage: u32,
+    switch: usize,
+    request: Request,
+) -> bool
+    requires { stage < net }
+    ensures { result ≡ room_at closed.now net stage switch request }
+{
+    if net.request_port(stage, request.cell % net.size()) == 0 {
+        !closed.zero.has(switch)
+    } else {
+        !closed.one.has(switch)
+    }
+}
+
+/// Whether the first request of a queue may go on from a memory-side position of a stage. In `zero`, `closed` has also the modules whose register holds a request.
+#[inline(always)]
+fn has_request_way(
+    net: Net,
+    closed: &Ports<UnitSet>,
+    stage: u32,
+    position: u32,
+    head: Option<Request>,
+) -> bool
+    requires stage { stage < net }
+    requires position { position < 2 ^ net }
+    ensures { result ≡ way_of_request closed.now net stage position head }
+{
+    let Some(request) = head else {
+        return false;
+    };
+    let target = request_target(net, stage, position);
+    if stage == net.stages() - 1 {
+        !closed.zero.has(target)
+    } else {
+        has_room_at(net, closed, stage + 1, target, request)
+    }
+}
+
+/// Whether the first requests of a switch may go on, by the memory-side port.
+#[inline(always)]
+fn find_request_ways(
+    net: Net,
+    closed: &Ports<UnitSet>,
+    stage: u32,
+    index: u32,
+    heads: Ports<Option<Request>>,
+) -> Ports<bool>
+    requires stage { stage < net }
+    requires index { index < 2 ^ (net - 1) }
+    ensures { result ≡ request_ways closed.now net stage index heads }
+{
+    let _even = net.size();
+    Ports {
+        zero: has_request_way(net, closed, stage, 2 * index, heads.zero),
+        one: has_request_way(net, closed, stage, 2 * index + 1, heads.one),
+    }
+}
+
+/// Whether the first request of a processing element may go on.
+#[inline(always)]
+fn has_way_from_element(net: Net, closed: &Ports<UnitSet>, pe: u32, head: Option<Request>) -> bool
+    requires { pe < 2 ^ net }
+    ensures { result ≡ way_from_element closed.now net pe head }
+{
+    let Some(request) = head else {
+        return false;
+    };
+    let _stages = net.stages();
+    let _even = net.size();
+    let switch = switch_number(net, 0, net.shuffle(pe) / 2);
+    has_room_at(net, closed, 0, switch, request)
+}
+
+impl Block {
+    /// The first request of each queue of a switch goes onto its link, where there is a way.
+    fn send_requests_of_switch(
+        &mut self,
+        closed: &Ports<UnitSet>,
+        number: usize,
+        stage: u32,
+        index: u32,
+    )
+        requires { IsSwitch self.old.stages number stage index }
+        ensures { self.new ≡ switch_sends_requests closed.now number stage index self.old }
+    {
+        let net = self.net;
+        let _even = net.size();
+        let Some(switch) = &mut self.switches[number] else {
+            return;
+        };
+        let heads = switches::request_heads(switch);
+        let out = switches::send_requests(
+            switch,
+            find_request_ways(net, closed, stage, index, heads),
+        );
+        self.sets.note_requests(number, switch);
+        let here = &self.sets.here;
+        leave_stage(&mut self.requests, here, net, stage, 2 * index, out.zero);
+        leave_stage(&mut self.requests, here, net, stage, 2 * index + 1, out.one);
+    }
+
+    /// The first request of a processing element goes onto its link, if there is a way.
+    fn send_request_of_element(&mut self, closed: &Ports<UnitSet>, number: usize, pe: u32)
+        requires { IsElement self.old.stages number pe }
+        ensures { self.new ≡ element_sends_request closed.now pe self.old }
+    {
+        let net = self.net;
+        let _even = net.size();
+        let Some(element) = &mut self.elements[pe as usize] else {
+            return;
+        };
+        if !has_way_from_element(net, closed, pe, element.request_head()) {
+            return;
+        }
+        let out = element.send_request();
+        self.sets.note_element(number, element);
+        leave_element(&mut self.requests, &self.sets.here, net, pe, out);
+    }
+}
+
+/// A visit in which requests leave a unit. `closed` are, by the memory-side port, the units without room for requests.
+#[derive(Clone, Copy, Drop)]
+struct SendRequests<'a> {
+    closed: &'a Ports<UnitSet>,
+}
+
+impl Visit<Block> for SendRequests<'_> {
+    ghost can_visit = { λ v n b. Unit {0} };
+
+    ghost visited = { λ v n b. sends_requests v.closed.now n b };
+
+    #[inline(always)]
+    fn next(&self, block: &Block, from: usize) -> Option<usize> {
+        block.sets.holds_requests.next(from)
+    }
+
+    #[inline(always)]
+    fn visit(&self, block: &mut Block, unit: usize) {
+        match unit_of(block.net, unit) {
+            Unit::Switch { stage, index } => {
+                block.send_requests_of_switch(self.closed, unit, stage, index);
+            }
+            Unit::Element(pe) => block.send_request_of_element(self.closed, unit, pe),
+            Unit::Module(_) | Unit::Nothing => {}
+        }
+    }
+}
+
+impl Block {
+    /// The fourth half of a cycle: requests leave the switches and processing elements for where there is room, onto their links.
+    #[inline(always)]
+    pub fn send_requests(&mut self, rooms: &Rooms)
+        ensures { self.new ≡ after_units (sends_requests rooms.now.no_request_room) 320 self.old }
+    {
+        let visit = SendRequests {
+            closed: &rooms.no_request_room,
+        };
+        visit_all(&visit, self);
+    }
+}

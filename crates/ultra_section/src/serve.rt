@@ -1,0 +1,73 @@
+//! The half of a cycle in which modules serve.
+
+ghost use Rattle.std.specs.Prelude.{◌≡◌, ℕ, ◌*◌, ◌+◌, ◌<◌, ◌≤◌, length};
+ghost use Rattle.ultra_units.specs.Visits.{after_units};
+ghost use Rattle.ultra_section.specs.BlockState.{HasEventRoom, most_events};
+ghost use Rattle.ultra_section.specs.Serving.{module_serves, serves};
+ghost use Rattle.ultra_section.specs.Units.{IsModule};
+
+use crate::block::{Block, tell};
+use crate::unit::{Unit, unit_of};
+use ultra_msg::Event;
+use ultra_units::{Visit, visit_all};
+
+impl Block {
+    /// A module serves the request that waits, if no reply is in its way.
+    fn serve_module(&mut self, number: usize, module_number: u32)
+        requires is { IsModule self.old.stages number module_number }
+        requires room { length self.old.events < most_events }
+        requires small { number < 320 }
+        ensures { self.new ≡ module_serves module_number self.old }
+    {
+        let net = self.net;
+        let _even = net.size();
+        let Some(bank) = &mut self.modules[module_number as usize] else {
+            return;
+        };
+        let served = bank.serve();
+        self.sets.note_module(number, bank);
+        if let Some(served) = served {
+            let event = Event::Served {
+                module: module_number,
+                request: served.request,
+                reply: served.reply,
+                now: served.now,
+            };
+            tell(&mut self.events, event);
+        }
+    }
+}
+
+/// A visit in which a module serves.
+#[derive(Clone, Copy, Drop)]
+struct Serve;
+
+impl Visit<Block> for Serve {
+    ghost can_visit = { λ v n b. HasEventRoom n b };
+
+    ghost visited = { λ v n b. serves n b };
+
+    #[inline(always)]
+    fn next(&self, block: &Block, from: usize) -> Option<usize> {
+        block.sets.to_serve.next(from)
+    }
+
+    #[inline(always)]
+    fn visit(&self, block: &mut Block, unit: usize) {
+        match unit_of(block.net, unit) {
+            Unit::Module(number) => block.serve_module(unit, number),
+            Unit::Switch { .. } | Unit::Element(_) | Unit::Nothing => {}
+        }
+    }
+}
+
+impl Block {
+    /// The third half of a cycle: each module serves the request that waits, if no reply is in its way.
+    #[inline(always)]
+    pub fn serve(&mut self)
+        requires { (k : ℕ) → k < 320 → HasEventRoom k self.old }
+        ensures { self.new ≡ after_units serves 320 self.old }
+    {
+        visit_all(&Serve, self);
+    }
+}

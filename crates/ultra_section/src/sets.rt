@@ -1,0 +1,163 @@
+//! What is known of the units that stand in a block, as sets of their numbers.
+
+ghost use Rattle.std.specs.Prelude.{◌≡◌, ◌≢◌, ℕ, ◌<◌, true, not, is_some};
+ghost use Rattle.ultra_isa.specs.Step.{has_stopped};
+ghost use Rattle.ultra_halves.specs.Elements.{holds_request};
+ghost use Rattle.ultra_halves.specs.Switches.{has_reply_room, has_request_room, holds_replies, holds_requests, keeps_records};
+ghost use Rattle.ultra_section.specs.Sets.{fact_of, facts_at, no_facts, would_serve};
+ghost use Rattle.ultra_units.specs.Set.{has_unit};
+
+use crate::held::Held;
+use ultra_halves::{ProcessingElement, modules, switches};
+use ultra_mem::Module;
+use ultra_switch::{Ports, Switch};
+use ultra_units::UnitSet;
+
+/// What is known of the units that stand in a block, as sets of their numbers. Each is exactly the units of which it is true.
+#[derive(Drop)]
+pub(crate) struct Sets {
+    /// Those that stand here.
+    pub(crate) here: UnitSet,
+    /// Switches and modules that hold a reply to send.
+    pub(crate) holds_replies: UnitSet,
+    /// Switches without room for the replies that may come in a cycle.
+    pub(crate) no_reply_room: UnitSet,
+    /// Units that hold a request: switches and processing elements one to send, modules one to serve.
+    pub(crate) holds_requests: UnitSet,
+    /// By the memory-side port, switches whose queue there has no room for the requests that may come in a cycle. In `zero` also the modules whose register holds one.
+    pub(crate) no_request_room: Ports<UnitSet>,
+    /// Modules that hold a request and no reply.
+    pub(crate) to_serve: UnitSet,
+    /// Processing elements that haven't stopped.
+    pub(crate) to_step: UnitSet,
+    /// Switches that keep a record of a combination.
+    pub(crate) keeps_records: UnitSet,
+}
+
+impl Sets {
+    /// No unit stands there.
+    pub(crate) fn empty() -> Sets
+        ensures { (k : ℕ) → facts_at result k ≡ no_facts }
+    {
+        let none = UnitSet::empty();
+        Sets {
+            here: none,
+            holds_replies: none,
+            no_reply_room: none,
+            holds_requests: none,
+            no_request_room: Ports {
+                zero: none,
+                one: none,
+            },
+            to_serve: none,
+            to_step: none,
+            keeps_records: none,
+        }
+    }
+
+    /// A unit stands here from now on. What is true of it is noted then.
+    pub(crate) fn stand(&mut self, number: usize)
+        requires { number < 320 }
+        ensures there { facts_at self.new number ≡ record (facts_at self.old number) { here = true } }
+        ensures others { (k : ℕ) → k ≢ number → facts_at self.new k ≡ facts_at self.old k }
+    {
+        self.here.insert(number);
+    }
+
+    /// A unit doesn't stand here any more.
+    pub(crate) fn leave(&mut self, number: usize)
+        ensures there { facts_at self.new number ≡ no_facts }
+        ensures others { (k : ℕ) → k ≢ number → facts_at self.new k ≡ facts_at self.old k }
+    {
+        self.here.remove(number);
+        self.holds_replies.remove(number);
+        self.no_reply_room.remove(number);
+        self.holds_requests.remove(number);
+        self.no_request_room.zero.remove(number);
+        self.no_request_room.one.remove(number);
+        self.to_serve.remove(number);
+        self.to_step.remove(number);
+        self.keeps_records.remove(number);
+    }
+
+    /// The units that hold such a thing.
+    #[inline(always)]
+    pub(crate) fn holding(&self, held: Held) -> &UnitSet
+        ensures { (k : ℕ) → has_unit result.now k ≡ fact_of held (facts_at self.now k) }
+    {
+        match held {
+            Held::Reply => &self.holds_replies,
+            Held::Request => &self.holds_requests,
+            Held::Record => &self.keeps_records,
+        }
+    }
+
+    /// Notes what is true of the replies of a switch that stands here.
+    #[inline(always)]
+    pub(crate) fn note_replies(&mut self, number: usize, switch: &Switch)
+        requires { number < 320 }
+        ensures there { facts_at self.new number ≡ record (facts_at self.old number) { holds_replies = holds_replies switch.now; no_reply_room = not (has_reply_room switch.now) } }
+        ensures others { (k : ℕ) → k ≢ number → facts_at self.new k ≡ facts_at self.old k }
+        ensures here { self.new.here ≡ self.old.here }
+    {
+        self.holds_replies
+            .note(number, switches::holds_replies(switch));
+        self.no_reply_room
+            .note(number, !switches::has_reply_room(switch));
+    }
+
+    /// Notes what is true of the requests of a switch that stands here.
+    #[inline(always)]
+    pub(crate) fn note_requests(&mut self, number: usize, switch: &Switch)
+        requires { number < 320 }
+        ensures there { facts_at self.new number ≡ record (facts_at self.old number) { holds_requests = holds_requests switch.now; no_room_zero = not (has_request_room switch.now).zero; no_room_one = not (has_request_room switch.now).one } }
+        ensures others { (k : ℕ) → k ≢ number → facts_at self.new k ≡ facts_at self.old k }
+        ensures here { self.new.here ≡ self.old.here }
+    {
+        let room = switches::has_request_room(switch);
+        self.holds_requests
+            .note(number, switches::holds_requests(switch));
+        self.no_request_room.zero.note(number, !room.zero);
+        self.no_request_room.one.note(number, !room.one);
+    }
+
+    /// Notes whether a switch that stands here keeps records.
+    #[inline(always)]
+    pub(crate) fn note_records(&mut self, number: usize, switch: &Switch)
+        requires { number < 320 }
+        ensures there { facts_at self.new number ≡ record (facts_at self.old number) { keeps_records = keeps_records switch.now } }
+        ensures others { (k : ℕ) → k ≢ number → facts_at self.new k ≡ facts_at self.old k }
+        ensures here { self.new.here ≡ self.old.here }
+    {
+        self.keeps_records
+            .note(number, switches::keeps_records(switch));
+    }
+
+    /// Notes what is true of a module that stands here.
+    #[inline(always)]
+    pub(crate) fn note_module(&mut self, number: usize, bank: &Module)
+        requires { number < 320 }
+        ensures there { facts_at self.new number ≡ record (facts_at self.old number) { holds_replies = is_some bank.now.out; holds_requests = is_some bank.now.inp; no_room_zero = is_some bank.now.inp; to_serve = would_serve bank.now } }
+        ensures others { (k : ℕ) → k ≢ number → facts_at self.new k ≡ facts_at self.old k }
+        ensures here { self.new.here ≡ self.old.here }
+    {
+        let holds_reply = modules::holds_reply(bank);
+        let holds_request = modules::holds_request(bank);
+        self.holds_replies.note(number, holds_reply);
+        self.holds_requests.note(number, holds_request);
+        self.no_request_room.zero.note(number, holds_request);
+        self.to_serve.note(number, holds_request && !holds_reply);
+    }
+
+    /// Notes what is true of a processing element that stands here.
+    #[inline(always)]
+    pub(crate) fn note_element(&mut self, number: usize, element: &ProcessingElement)
+        requires { number < 320 }
+        ensures there { facts_at self.new number ≡ record (facts_at self.old number) { holds_requests = holds_request element.now; to_step = not (has_stopped element.now.processor.core.activity) } }
+        ensures others { (k : ℕ) → k ≢ number → facts_at self.new k ≡ facts_at self.old k }
+        ensures here { self.new.here ≡ self.old.here }
+    {
+        self.holds_requests.note(number, element.holds_request());
+        self.to_step.note(number, !element.has_stopped());
+    }
+}

@@ -1,0 +1,87 @@
+//! The half of a cycle in which replies come to switches and processing elements.
+
+ghost use Rattle.std.specs.Prelude.{◌≡◌, ℕ, ◌*◌, ◌+◌, ◌<◌, ◌≤◌, length};
+ghost use Rattle.ultra_units.specs.Visits.{after_units};
+ghost use Rattle.ultra_section.specs.BlockState.{most_events};
+ghost use Rattle.ultra_section.specs.RepliesTaken.{CanTakeRepliesAt, ElementCanTakeReply, SwitchCanTakeReplies, element_takes_reply, switch_takes_replies, takes_replies};
+ghost use Rattle.ultra_section.specs.Units.{IsElement, IsSwitch};
+
+use crate::block::{Block, tell};
+use crate::replies::{take_at_element, take_at_switch};
+use crate::unit::{Unit, unit_of};
+use ultra_halves::switches;
+use ultra_msg::Event;
+use ultra_units::{Visit, visit_all};
+
+impl Block {
+    /// What comes to a switch goes through its wait buffers into its queues.
+    fn take_replies_of_switch(&mut self, number: usize, stage: u32, index: u32)
+        requires is { IsSwitch self.old.stages number stage index }
+        requires room { SwitchCanTakeReplies number stage index self.old }
+        ensures { self.new ≡ switch_takes_replies number stage index self.old }
+    {
+        let net = self.net;
+        let _even = net.size();
+        let Some(switch) = &mut self.switches[number] else {
+            return;
+        };
+        let came = take_at_switch(&mut self.replies, net, number, stage, index);
+        switches::take_replies(switch, net, stage, came);
+        self.sets.note_replies(number, switch);
+        self.sets.note_records(number, switch);
+    }
+
+    /// What comes to a processing element is delivered.
+    fn take_reply_of_element(&mut self, number: usize, pe: u32)
+        requires is { IsElement self.old.stages number pe }
+        requires open { ElementCanTakeReply pe self.old }
+        requires room { length self.old.events < most_events }
+        ensures { self.new ≡ element_takes_reply pe self.old }
+    {
+        let net = self.net;
+        let _even = net.size();
+        let Some(element) = &mut self.elements[pe as usize] else {
+            return;
+        };
+        let came = take_at_element(&mut self.replies, net, number, pe);
+        if let Some(reply) = came {
+            element.deliver(reply);
+            tell(&mut self.events, Event::Delivered(reply));
+        }
+    }
+}
+
+/// A visit in which replies come to a unit.
+#[derive(Clone, Copy, Drop)]
+struct TakeReplies;
+
+impl Visit<Block> for TakeReplies {
+    ghost can_visit = { λ v n b. CanTakeRepliesAt n b };
+
+    ghost visited = { λ v n b. takes_replies n b };
+
+    #[inline(always)]
+    fn next(&self, block: &Block, from: usize) -> Option<usize> {
+        block.replies.came.next(from)
+    }
+
+    #[inline(always)]
+    fn visit(&self, block: &mut Block, unit: usize) {
+        match unit_of(block.net, unit) {
+            Unit::Switch { stage, index } => block.take_replies_of_switch(unit, stage, index),
+            Unit::Element(pe) => block.take_reply_of_element(unit, pe),
+            Unit::Module(_) | Unit::Nothing => {}
+        }
+    }
+}
+
+impl Block {
+    /// The second half of a cycle: the replies on links that lead to units here are split and go on in switches, and are delivered to processing elements.
+    #[inline(always)]
+    pub fn take_replies(&mut self)
+        requires { (k : ℕ) → k < 320 → CanTakeRepliesAt k self.old }
+        ensures { self.new ≡ after_units takes_replies 320 self.old }
+    {
+        visit_all(&TakeReplies, self);
+    }
+}

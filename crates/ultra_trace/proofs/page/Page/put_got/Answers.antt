@@ -1,5 +1,0 @@
-use Rattle.ultra_trace.proofs.Writing.{◌then◌}
-use Rattle.ultra_trace.proofs.page.Page.put_got.Goals as goal
-
-pub returns-in-Some : goal.returns-in-Some
-returns-in-Some g c = rw c.in-Some.is (c.put.ensures then c.put_message.ensures then c.put-in-Some.ensures)

@@ -1,6 +1,0 @@
-use Rattle.ultra_trace.proofs.Writing.{◌then◌}
-use Rattle.ultra_trace.proofs.Listed.{out_line_is}
-use Rattle.ultra_trace.proofs.page.Page.put_out.Goals as goal
-
-pub returns-in-Some : goal.returns-in-Some
-returns-in-Some g c = rw (out_line_is c.args.module c.args.bank.now.out _ c.in-Some.ensures) (c.put_unit.ensures then c.put_message.ensures then c.put.ensures)

@@ -1,7 +1,0 @@
-use Rattle.ultra_block.specs.BlocksState.{machine_of}
-use Rattle.ultra_trace.specs.Page.{Writes}
-use Rattle.ultra_trace.specs.Trace.{by_number, pe_of}
-use Rattle.ultra_trace.proofs.page.Page.put_processors.Given as goal
-
-abbrev pub invariant-loop-pe : goal.invariant-loop-pe
-invariant-loop-pe g l = Writes g.S.Sink.taken g.S.Sink.failures (by_number l.pe (pe_of (machine_of l.blocks))) l.initial.self l.self

@@ -1,7 +1,0 @@
-use Rattle.std.proofs.Common.{take}
-use Rattle.ultra_trace.specs.Page.{Writes}
-use Rattle.ultra_trace.specs.Text.{listed, message_text}
-use Rattle.ultra_trace.proofs.page.Page.put_rep.Given as goal
-
-abbrev pub invariant-loop-index : goal.invariant-loop-index
-invariant-loop-index g l = Writes g.S.Sink.taken g.S.Sink.failures (listed message_text (take l.index l.queue.replies)) l.initial.self l.self

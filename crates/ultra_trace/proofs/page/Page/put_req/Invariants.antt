@@ -1,7 +1,0 @@
-use Rattle.std.proofs.Common.{take}
-use Rattle.ultra_trace.specs.Page.{Writes}
-use Rattle.ultra_trace.specs.Text.{listed, entry_text}
-use Rattle.ultra_trace.proofs.page.Page.put_req.Given as goal
-
-abbrev pub invariant-loop-index : goal.invariant-loop-index
-invariant-loop-index g l = Writes g.S.Sink.taken g.S.Sink.failures (listed entry_text (take l.index l.queue.lane.queue)) l.initial.self l.self

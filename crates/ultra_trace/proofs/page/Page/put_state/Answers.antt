@@ -1,6 +1,0 @@
-use Rattle.ultra_trace.proofs.Writing.{◌then◌}
-use Rattle.ultra_trace.proofs.page.Page.put_state.Goals as goal
-
-pub returns : goal.returns
-returns g c =
-    c.put_interfaces.ensures then c.put_request_queues.ensures then c.put_wait_buffers.ensures then c.put_requests_to_serve.ensures then c.put_replies_to_leave.ensures then c.put_reply_queues.ensures

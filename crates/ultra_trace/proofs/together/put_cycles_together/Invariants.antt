@@ -1,0 +1,16 @@
+use Rattle.std.proofs.Common.{◌≡◌, false}
+use Rattle.ultra_crew.specs.Course.{IsCourse}
+use Rattle.ultra_page.specs.Page.{Writes}
+use Rattle.ultra_trace.specs.BlocksAfter.{IsAfter}
+use Rattle.ultra_lines.specs.Trace.{cycles_text}
+use Rattle.ultra_trace.proofs.Count.{IsBusy}
+use Rattle.ultra_trace.proofs.together.put_cycles_together.Given as goal
+
+abbrev pub invariant-loop : goal.invariant-loop
+invariant-loop g l = record {
+  state : IsAfter l.initial.blocks.config l.initial.blocks.program l.counter l.blocks;
+  writes : Writes g.S.Sink.taken g.S.Sink.failures (cycles_text l.initial.blocks.config l.initial.blocks.program l.counter) l.initial.page l.page;
+  busy : IsBusy l.initial.blocks.config l.initial.blocks.program l.counter;
+  sound : l.page.failed ≡ false;
+  course : IsCourse g.J.Course.results g.J.Course.program l.shift l.blocks;
+}

@@ -1,0 +1,194 @@
+-- Units and the bits of their words.
+use Rattle.std.proofs.Common.{◌≡◌, ℕ, zero, suc, max, ◌||◌, ◌+◌, ◌-◌, ◌*◌, ◌/◌, ◌%◌, ◌^◌, ◌<◌, ◌≤◌, true, false, List, length, get_or, set, eqb, refl, sym, ◌∙◌, ap, inl, inr, arith, eq-eqb, get_or-set_same, get_or-set_other, replicate, w64}
+use Rattle.std.proofs.lemmas.Bool.{cases_eq, cases_lt}
+use Rattle.std.proofs.lemmas.List.{get_or-replicate, get_or_past, length-replicate}
+use Rattle.std.proofs.lemmas.Nat.{shr-shr, shr_le}
+use Rattle.std.proofs.lemmas.Nat.Bits.{bit_at-zero, bit_at-lt, shr_and_one, bit_at_above, bit_at_or, bit_at_set_same, bit_at_set_other, bit_at_clear_same, bit_at_clear_other, bit_at-trailing_zeros}
+use Rattle.std.specs.Prelude.{bit_and, bit_or, ◌≢◌, Option, Some, None, IfSome, IfNone}
+use Rattle.std.specs.Int.{bit_at, bit_not, trailing_zeros}
+use Rattle.ultra_units.specs.Set.{has_unit, HasNoneWithin, HasNoneFrom, IsFirstFrom, HasNoBitFrom, IsFirstBit}
+
+-- ---- bits of one word
+
+-- bit i of a number shifted right by `from` is its bit from + i
+shifted : (n from i : ℕ) → bit_at (n / 2 ^ from) i ≡ bit_at n (from + i)
+shifted n from i = ap (λ x. x % 2) (shr-shr n from i)
+
+module _ (word from : ℕ) (fits : word < 2 ^ 64) where
+  pub no_bit : word / 2 ^ from ≡ 0 → HasNoBitFrom word from
+  no_bit none i after within =
+      let place : from + (i - from) ≡ i = omega arith in
+      ap (bit_at word) (sym place) ∙ sym (shifted word from (i - from)) ∙ ap (λ x. bit_at x (i - from)) none ∙ bit_at-zero (i - from)
+
+  pub first_of_bits : 0 < word / 2 ^ from → IsFirstBit word from (from + trailing_zeros w64 (word / 2 ^ from))
+  first_of_bits some =
+      let rest : ℕ = word / 2 ^ from in
+      let t : ℕ = trailing_zeros w64 rest in
+      let lowest = bit_at-trailing_zeros w64 rest some (omega (arith, shr_le word from)) in
+      let here : bit_at word (from + t) ≡ 1 = sym (shifted word from t) ∙ lowest.1 in
+      let within : from + t < 64 =
+      elim (cases_lt (from + t) 64)
+      [ inl below ↦ below | inr past ↦ absurd (let none = bit_at_above word 64 (from + t) fits past in omega arith) ] in
+      record {
+        after = omega arith;
+        within = within;
+        set = here;
+        between = λ i after before.
+            let place : from + (i - from) ≡ i = omega arith in
+            ap (bit_at word) (sym place) ∙ sym (shifted word from (i - from)) ∙ lowest.2 (i - from) (omega arith);
+      }
+
+-- ---- one unit
+
+pub none_there : (n k : ℕ) → has_unit (replicate n 0) k ≡ false
+unfolding has_unit
+none_there n k =
+    let word : get_or (replicate n 0) (k / 64) 0 ≡ 0 =
+    elim (cases_lt (k / 64) n)
+    [ inl within ↦ get_or-replicate n (k / 64) 0 0 within | inr past ↦ get_or_past (replicate n 0) (k / 64) 0 (rw length-replicate past) ] in
+    ap (λ x. eqb (bit_at x (k % 64)) 1) word ∙ ap (λ x. eqb x 1) (bit_at-zero (k % 64))
+
+-- a unit past the words isn't in the set
+pub past_words : (words : List ℕ) (k : ℕ) → 64 * length words ≤ k → has_unit words k ≡ false
+unfolding has_unit
+past_words words k past =
+    ap (λ x. eqb (bit_at x (k % 64)) 1) (get_or_past words (k / 64) 0 (omega arith)) ∙ ap (λ x. eqb x 1) (bit_at-zero (k % 64))
+
+module _ (words : List ℕ) (number : ℕ) (within : number < 64 * length words) where
+  -- a word in which only the unit's bit may differ
+  others_kept : (v : ℕ) → ((i : ℕ) → i < 64 → i ≢ number % 64 → bit_at v i ≡ bit_at (get_or words (number / 64) 0) i)
+      → (k : ℕ) → k ≢ number → has_unit (set words (number / 64) v) k ≡ has_unit words k
+  unfolding has_unit
+  others_kept v kept k other =
+      elim (cases_eq (k / 64) (number / 64)) [
+        | inl row ↦
+            ap (λ x. eqb (bit_at (get_or (set words (number / 64) v) x 0) (k % 64)) 1) row
+            ∙ ap (λ x. eqb (bit_at x (k % 64)) 1) (get_or-set_same words (number / 64) v 0 (omega arith))
+            ∙ ap (λ x. eqb x 1) (kept (k % 64) (omega arith) (λ same. other (omega arith)))
+            ∙ ap (λ x. eqb (bit_at (get_or words x 0) (k % 64)) 1) (sym row)
+        | inr apart ↦ ap (λ x. eqb (bit_at x (k % 64)) 1) (get_or-set_other words (number / 64) (k / 64) v 0 apart)
+      ]
+
+  read_back : (v : ℕ) → has_unit (set words (number / 64) v) number ≡ eqb (bit_at v (number % 64)) 1
+  unfolding has_unit
+  read_back v = ap (λ x. eqb (bit_at x (number % 64)) 1) (get_or-set_same words (number / 64) v 0 (omega arith))
+
+  -- the word with the unit's bit set, and the word with that bit cleared
+  abbrev pub marked : ℕ
+  marked = bit_or (get_or words (number / 64) 0) (1 * 2 ^ (number % 64) % 2 ^ 64)
+
+  abbrev pub unmarked : ℕ
+  unmarked = bit_and (get_or words (number / 64) 0) (bit_not w64 (1 * 2 ^ (number % 64) % 2 ^ 64))
+
+  pub inserted_there : has_unit (set words (number / 64) marked) number ≡ true
+  inserted_there = read_back marked ∙ eq-eqb _ 1 (bit_at_set_same w64 _ (number % 64) (omega arith))
+
+  pub inserted_others : (k : ℕ) → k ≢ number → has_unit (set words (number / 64) marked) k ≡ has_unit words k
+  inserted_others = others_kept marked (λ i _ other. bit_at_set_other w64 _ (number % 64) (omega arith) i other)
+
+  pub removed_there : has_unit (set words (number / 64) unmarked) number ≡ false
+  removed_there =
+      let cleared : bit_at unmarked (number % 64) ≡ 0 = bit_at_clear_same w64 _ (number % 64) (omega arith) in
+      read_back unmarked ∙ ap (λ x. eqb x 1) cleared
+
+  pub removed_others : (k : ℕ) → k ≢ number → has_unit (set words (number / 64) unmarked) k ≡ has_unit words k
+  removed_others = others_kept unmarked (λ i inside other. bit_at_clear_other w64 _ (number % 64) (omega arith) i inside other)
+
+-- ---- the units of a word
+
+-- unit w * 64 + b is bit b of word w
+at_bit : (words : List ℕ) (w b : ℕ) → b < 64 → has_unit words (w * 64 + b) ≡ eqb (bit_at (get_or words w 0) b) 1
+unfolding has_unit
+at_bit words w b within =
+    let row : (w * 64 + b) / 64 ≡ w = omega arith in
+    let column : (w * 64 + b) % 64 ≡ b = omega arith in
+    rw (row, column) refl
+
+-- units b to c of word w, whose bits are clear
+clear_bits : (words : List ℕ) (w b c : ℕ) → c ≤ 64 → ((i : ℕ) → b ≤ i → i < c → bit_at (get_or words w 0) i ≡ 0)
+    → HasNoneWithin words (w * 64 + b) (w * 64 + c)
+clear_bits words w b c within zeros k after before =
+    let place : w * 64 + (k - w * 64) ≡ k = omega arith in
+    ap (has_unit words) (sym place) ∙ at_bit words w (k - w * 64) (omega arith)
+    ∙ ap (λ x. eqb x 1) (zeros (k - w * 64) (omega arith) (omega arith))
+
+module _ (words : List ℕ) (from w b : ℕ) (place : from ≡ w * 64 + b) where
+  pub none_in_word : HasNoBitFrom (get_or words w 0) b → HasNoneWithin words from ((w + 1) * 64)
+  none_in_word zeros k after before = clear_bits words w b 64 (omega arith) zeros k (omega arith) (omega arith)
+
+  pub first_in_word : (bit : ℕ) → w < 5 → IsFirstBit (get_or words w 0) b bit → IsFirstFrom words from (w * 64 + bit)
+  first_in_word bit small first = record {
+    after = omega (arith, first.after);
+    within = omega (arith, first.within);
+    there = at_bit words w bit first.within ∙ ap (λ x. eqb x 1) first.set;
+    between = rw place (clear_bits words w b bit (omega (arith, first.within)) first.between);
+  }
+
+-- ---- units one after another
+
+pub joined : (words : List ℕ) (a b c : ℕ) → HasNoneWithin words a b → HasNoneWithin words b c → HasNoneWithin words a c
+joined words a b c low high k after before =
+    elim (cases_lt k b) [ inl below ↦ low k after below | inr from ↦ high k from before ]
+
+pub first_after : (words : List ℕ) (a b k : ℕ) → a ≤ b → HasNoneWithin words a b → IsFirstFrom words b k → IsFirstFrom words a k
+first_after words a b k order low first = record {
+  after = omega (arith, first.after);
+  within = first.within;
+  there = first.there;
+  between = joined words a b k low first.between;
+}
+
+pub none_after : (words : List ℕ) (a b : ℕ) → HasNoneWithin words a b → HasNoneFrom words b → HasNoneFrom words a
+none_after words a b low high k after = elim (cases_lt k b) [ inl below ↦ low k after below | inr from ↦ high k from ]
+
+-- no unit from 320 on is in a set
+pub none_past : (words : List ℕ) → length words ≡ 5 → HasNoneFrom words 320
+none_past words five k past = past_words words k (omega arith)
+
+-- what a search from b on has found, where no unit is within a and b
+pub found_after : (words : List ℕ) (a b : ℕ) (o : Option ℕ) → a ≤ b → HasNoneWithin words a b → IfSome o (λ k. IsFirstFrom words b k)
+    → IfSome o (λ k. IsFirstFrom words a k)
+found_after words a b None order low found = found
+found_after words a b (Some k) order low found = first_after words a b k order low found
+
+pub not_found_after : (words : List ℕ) (a b : ℕ) (o : Option ℕ) → HasNoneWithin words a b → IfNone o (HasNoneFrom words b) → IfNone o (HasNoneFrom words a)
+not_found_after words a b None low none = none_after words a b low none
+not_found_after words a b (Some k) low none = none
+
+-- ---- reading and uniting
+
+-- the bit of a unit, as the code reads it
+pub read_bit : (words : List ℕ) (number : ℕ) → eqb (bit_and (get_or words (number / 64) 0 / 2 ^ (number % 64)) 1) 1 ≡ has_unit words number
+unfolding has_unit
+read_bit words number = ap (λ x. eqb x 1) (shr_and_one (get_or words (number / 64) 0) (number % 64))
+
+-- the greater of two bits is 1 where one of them is
+one_of : (a b : ℕ) → a < 2 → b < 2 → eqb (max a b) 1 ≡ eqb a 1 || eqb b 1
+one_of zero zero _ _ = refl
+one_of zero (suc zero) _ _ = refl
+one_of (suc zero) zero _ _ = refl
+one_of (suc zero) (suc zero) _ _ = refl
+one_of (suc (suc a)) b small _ = absurd (omega arith)
+one_of zero (suc (suc b)) _ small = absurd (omega arith)
+one_of (suc zero) (suc (suc b)) _ small = absurd (omega arith)
+
+-- a word of a set into which all of another was put
+pub added : (a b c : List ℕ) (k : ℕ) → get_or c (k / 64) 0 ≡ bit_or (get_or a (k / 64) 0) (get_or b (k / 64) 0)
+    → has_unit c k ≡ has_unit a k || has_unit b k
+unfolding has_unit
+added a b c k word =
+    ap (λ x. eqb (bit_at x (k % 64)) 1) word
+    ∙ ap (λ x. eqb x 1) (bit_at_or (get_or a (k / 64) 0) (get_or b (k / 64) 0) (k % 64))
+    ∙ one_of (bit_at (get_or a (k / 64) 0) (k % 64)) (bit_at (get_or b (k / 64) 0) (k % 64)) (bit_at-lt _ _) (bit_at-lt _ _)
+
+-- five words, of which each was united with the other's word
+pub united : (a b c : List ℕ) (n : ℕ) → length a ≡ 5 → length b ≡ 5 → length c ≡ 5 → 5 ≤ n
+    → ((i : ℕ) → i < n → get_or c i 0 ≡ bit_or (get_or a i 0) (get_or b i 0)) → ((i : ℕ) → n ≤ i → get_or c i 0 ≡ get_or a i 0)
+    → (k : ℕ) → has_unit c k ≡ has_unit a k || has_unit b k
+united a b c n five_a five_b five_c all words same k =
+    elim (cases_lt (k / 64) n) [
+      | inl below ↦ added a b c k (words (k / 64) below)
+      | inr past ↦
+          past_words c k (omega arith)
+          ∙ rw (past_words a k (omega arith), past_words b k (omega arith)) refl
+    ]

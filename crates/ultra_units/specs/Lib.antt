@@ -1,0 +1,3 @@
+pub mod Set
+pub mod Numbers
+pub mod Visits

@@ -1,0 +1,33 @@
+-- a set of units as words of 64 bits
+use Rattle.std.specs.Prelude.{◌≡◌, ℕ, ◌/◌, ◌%◌, ◌<◌, ◌≤◌, Bool, true, false, List, ◌==◌, slice_index}
+use Rattle.std.specs.Int.{bit_at}
+
+-- unit k is in the set: bit k % 64 of word k / 64 is set
+unfoldable pub has_unit : List ℕ → ℕ → Bool
+has_unit words k = bit_at (slice_index words (k / 64)) (k % 64) == 1
+
+-- no unit from `from` on, below `to`, is in the set
+abbrev pub HasNoneWithin : List ℕ → ℕ → ℕ → Type 0
+HasNoneWithin words from to = (k : ℕ) → from ≤ k → k < to → has_unit words k ≡ false
+
+-- no unit from `from` on is
+abbrev pub HasNoneFrom : List ℕ → ℕ → Type 0
+HasNoneFrom words from = (k : ℕ) → from ≤ k → has_unit words k ≡ false
+
+-- unit k is the first of the set from `from` on
+pub record IsFirstFrom (words : List ℕ) (from k : ℕ) : Type 0 where
+  pub after : from ≤ k
+  pub within : k < 320
+  pub there : has_unit words k ≡ true
+  pub between : HasNoneWithin words from k
+
+-- no bit of the word from `from` on is set
+abbrev pub HasNoBitFrom : ℕ → ℕ → Type 0
+HasNoBitFrom word from = (i : ℕ) → from ≤ i → i < 64 → bit_at word i ≡ 0
+
+-- the bit is the first of the word from `from` on that is set
+pub record IsFirstBit (word from bit : ℕ) : Type 0 where
+  pub after : from ≤ bit
+  pub within : bit < 64
+  pub set : bit_at word bit ≡ 1
+  pub between : (i : ℕ) → from ≤ i → i < bit → bit_at word i ≡ 0

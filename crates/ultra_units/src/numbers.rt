@@ -1,0 +1,124 @@
+//! The numbers of units and of the links between them.
+
+ghost use Rattle.std.specs.Prelude.{◌≡◌, ℕ, ◌+◌, ◌-◌, ◌*◌, ◌^◌, ◌<◌, ◌≤◌};
+ghost use Rattle.ultra_units.specs.Numbers.{element_number as number_of_element, module_number as number_of_module, place_number as number_of_place, reply_source as source_of_reply, reply_target as target_of_reply, request_source as source_of_request, request_target as target_of_request, switch_count as count_of_switches, switch_number as number_of_switch};
+
+use ultra_route::Net;
+
+/// How many switches a network has: at most 192.
+#[inline(always)]
+pub fn switch_count(net: Net) -> usize
+    ensures value { result ≡ count_of_switches net }
+    ensures small { result ≤ 192 }
+{
+    let stages = net.stages();
+    (stages * (net.size() / 2)) as usize
+}
+
+/// The number of a switch of a stage, by its index there.
+#[inline(always)]
+pub fn switch_number(net: Net, stage: u32, index: u32) -> usize
+    requires stage { stage < net }
+    requires index { index < 2 ^ (net - 1) }
+    ensures value { result ≡ number_of_switch net stage index }
+    ensures small { result < 192 }
+{
+    let _stages = net.stages();
+    (stage * (net.size() / 2) + index) as usize
+}
+
+/// The number of a module among all units.
+#[inline(always)]
+pub fn module_number(net: Net, number: u32) -> usize
+    requires { number < 2 ^ net }
+    ensures value { result ≡ number_of_module net number }
+    ensures small { result < 256 }
+{
+    switch_count(net) + number as usize
+}
+
+/// The number of a processing element among all units.
+#[inline(always)]
+pub fn element_number(net: Net, pe: u32) -> usize
+    requires { pe < 2 ^ net }
+    ensures value { result ≡ number_of_element net pe }
+    ensures small { result < 320 }
+{
+    switch_count(net) + (net.size() + pe) as usize
+}
+
+/// The number of a position of a stage, counted over all stages, or behind them that of a module or a processing element.
+#[inline(always)]
+pub fn place_number(net: Net, stage: u32, position: u32) -> usize
+    requires stage { stage ≤ net }
+    requires position { position < 2 ^ net }
+    ensures value { result ≡ number_of_place net stage position }
+    ensures small { result < 448 }
+{
+    let _stages = net.stages();
+    (stage * net.size() + position) as usize
+}
+
+/// The link by which a reply comes to a memory-side position of a stage.
+#[inline(always)]
+pub fn reply_source(net: Net, stage: u32, position: u32) -> usize
+    requires stage { stage < net }
+    requires position { position < 2 ^ net }
+    ensures value { result ≡ source_of_reply net stage position }
+    ensures small { result < 448 }
+{
+    if stage == net.stages() - 1 {
+        place_number(net, net.stages(), position)
+    } else {
+        place_number(net, stage + 1, net.shuffle(position))
+    }
+}
+
+/// The unit to which a reply goes from a PE-side position of a stage.
+#[inline(always)]
+pub fn reply_target(net: Net, stage: u32, position: u32) -> usize
+    requires stage { stage < net }
+    requires position { position < 2 ^ net }
+    ensures value { result ≡ target_of_reply net stage position }
+    ensures small { result < 320 }
+{
+    let _even = net.size();
+    let line = net.unshuffle(position);
+    if stage == 0 {
+        element_number(net, line)
+    } else {
+        switch_number(net, stage - 1, line / 2)
+    }
+}
+
+/// The link by which a request comes to a PE-side position of a stage.
+#[inline(always)]
+pub fn request_source(net: Net, stage: u32, position: u32) -> usize
+    requires stage { stage < net }
+    requires position { position < 2 ^ net }
+    ensures value { result ≡ source_of_request net stage position }
+    ensures small { result < 448 }
+{
+    let line = net.unshuffle(position);
+    if stage == 0 {
+        place_number(net, net.stages(), line)
+    } else {
+        place_number(net, stage - 1, line)
+    }
+}
+
+/// The unit to which a request goes from a memory-side position of a stage.
+#[inline(always)]
+pub fn request_target(net: Net, stage: u32, position: u32) -> usize
+    requires stage { stage < net }
+    requires position { position < 2 ^ net }
+    ensures value { result ≡ target_of_request net stage position }
+    ensures small { result < 320 }
+{
+    let _even = net.size();
+    if stage == net.stages() - 1 {
+        module_number(net, position)
+    } else {
+        switch_number(net, stage + 1, net.shuffle(position) / 2)
+    }
+}

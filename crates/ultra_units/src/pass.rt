@@ -1,0 +1,51 @@
+//! One loop over units.
+
+ghost use Rattle.std.specs.Prelude.{◌≡◌, ℕ, ◌+◌, ◌-◌, ◌<◌, ◌≤◌, IfNone, IfSome};
+ghost use Rattle.ultra_units.specs.Visits.{AreStillFrom, IsNextUnit, after_units};
+
+/// What is done to the units of something, one after another by their numbers.
+pub trait Visit<T> {
+    /// What a visit of a unit asks.
+    ghost can_visit: { Self → ℕ → T → Type 0 };
+
+    /// What comes of a visit of a unit.
+    ghost visited: { Self → ℕ → T → T };
+
+    /// The first unit from `from` on that a visit may change.
+    fn next(&self, target: &T, from: usize) -> Option<usize>
+        ensures some { IfSome result (λ k. IsNextUnit (visited self.now) target.now from k) }
+        ensures none { IfNone result (AreStillFrom (visited self.now) target.now from) };
+
+    /// Visits a unit. What the visits of later units ask is kept.
+    fn visit(&self, target: &mut T, unit: usize)
+        requires within { unit < 320 }
+        requires can { can_visit self.now unit target.old }
+        ensures visited { target.new ≡ visited self.now unit target.old }
+        ensures later { (k : ℕ) → unit < k → can_visit self.now k target.old → can_visit self.now k target.new };
+}
+
+/// Visits all units, by their numbers. It skips those that a visit would leave as they are.
+///
+/// Where there is none to visit, it takes no more than a look for the first.
+#[inline(always)]
+pub fn visit_all<T, V: Visit<T>>(visit: &V, target: &mut T)
+    requires { (k : ℕ) → k < 320 → V.can_visit visit.now k target.old }
+    ensures { target.new ≡ after_units (V.visited visit.now) 320 target.old }
+{
+    if let Some(_) = visit.next(target, 0) {
+        visit_some(visit, target);
+    }
+}
+
+/// Visits all units, by their numbers.
+#[inline(never)]
+fn visit_some<T, V: Visit<T>>(visit: &V, target: &mut T)
+    requires { (k : ℕ) → k < 320 → V.can_visit visit.now k target.old }
+    ensures { target.new ≡ after_units (V.visited visit.now) 320 target.old }
+{
+    let mut from = 0;
+    while let Some(unit) = visit.next(target, from) {
+        visit.visit(target, unit);
+        from = unit + 1;
+    }
+}

@@ -1,0 +1,139 @@
+//! Sets of units.
+
+ghost use Rattle.std.specs.Prelude.{◌≡◌, ◌≢◌, ℕ, ◌+◌, ◌*◌, ◌<◌, ◌≤◌, ◌↔◌, Bool, ◌||◌, true, false, IfNone, IfSome};
+ghost use Rattle.ultra_units.specs.Set.{HasNoBitFrom, HasNoneFrom, IsFirstBit, IsFirstFrom, has_unit};
+
+use std::marker::Model;
+
+/// How many units the largest machine has: 192 switches, 64 modules and 64 processing elements.
+pub(crate) const UNITS: usize = 320;
+
+/// How many words of 64 bits that takes.
+const WORDS: usize = 5;
+
+/// A set of units, by their numbers: switches first, then modules, then processing elements. A number from 320 on is never in it.
+#[derive(Clone, Copy, Drop)]
+pub struct UnitSet {
+    // bit k % 64 of word k / 64 says that unit k is in the set
+    words: [u64; WORDS],
+}
+
+impl Model for UnitSet {
+    ghost use Rattle.std.specs.Prelude.{List, ℕ};
+
+    ghost Value = { List ℕ };
+
+    ghost view = { λ s. s.words };
+
+    ghost inverse = { λ words. record { words = words } };
+}
+
+impl UnitSet {
+    /// The set without any unit.
+    pub fn empty() -> UnitSet
+        ensures { HasNoneFrom result 0 }
+    {
+        UnitSet { words: [0; WORDS] }
+    }
+
+    /// Whether the unit of this number is in the set.
+    #[inline(always)]
+    pub fn has(&self, number: usize) -> bool
+        ensures { result ≡ has_unit self.now number }
+    {
+        number < UNITS && self.words[number / 64] >> (number % 64) & 1 == 1
+    }
+
+    /// Puts the unit of this number into the set, if the number is below 320.
+    #[inline(always)]
+    pub fn insert(&mut self, number: usize)
+        ensures others { (k : ℕ) → k ≢ number → has_unit self.new k ≡ has_unit self.old k }
+        ensures there { number < 320 → has_unit self.new number ≡ true }
+        ensures outside { 320 ≤ number → self.new ≡ self.old }
+    {
+        if number < UNITS {
+            self.words[number / 64] |= 1u64 << (number % 64);
+        }
+    }
+
+    /// Takes the unit of this number out of the set, if it is there.
+    #[inline(always)]
+    pub fn remove(&mut self, number: usize)
+        ensures others { (k : ℕ) → k ≢ number → has_unit self.new k ≡ has_unit self.old k }
+        ensures gone { has_unit self.new number ≡ false }
+    {
+        if number < UNITS {
+            self.words[number / 64] &= !(1u64 << (number % 64));
+        }
+    }
+
+    /// Puts the unit of this number into the set, or takes it out. A number from 320 on is never in it.
+    #[inline(always)]
+    pub fn note(&mut self, number: usize, is_in: bool)
+        ensures others { (k : ℕ) → k ≢ number → has_unit self.new k ≡ has_unit self.old k }
+        ensures there { number < 320 → has_unit self.new number ≡ is_in }
+        ensures only { has_unit self.new number ≡ true → is_in ≡ true }
+    {
+        if is_in {
+            self.insert(number);
+        } else {
+            self.remove(number);
+        }
+    }
+
+    /// Puts all units of another set into this one.
+    #[inline(always)]
+    pub fn add_all(&mut self, other: &UnitSet)
+        ensures { (k : ℕ) → has_unit self.new k ≡ has_unit self.old k || has_unit other.now k }
+    {
+        for word in 0..WORDS {
+            self.words[word] |= other.words[word];
+        }
+    }
+
+    /// The first unit of the set whose number is at least `from`.
+    #[inline(always)]
+    pub fn next(&self, from: usize) -> Option<usize>
+        ensures some { IfSome result (λ k. IsFirstFrom self.now from k) }
+        ensures none { IfNone result (HasNoneFrom self.now from) }
+    {
+        let words = &self.words;
+        if UNITS <= from {
+            return None;
+        }
+        let word = from / 64;
+        match first_bit(words[word], from % 64) {
+            Some(bit) => Some(word * 64 + bit),
+            None => self.next_of_words(word + 1),
+        }
+    }
+
+    /// The first unit of the set in the words from `first` on.
+    #[inline(always)]
+    fn next_of_words(&self, first: usize) -> Option<usize>
+        requires { first ≤ 5 }
+        ensures some { IfSome result (λ k. IsFirstFrom self.now (first * 64) k) }
+        ensures none { IfNone result (HasNoneFrom self.now (first * 64)) }
+    {
+        for word in first..WORDS {
+            if let Some(bit) = first_bit(self.words[word], 0) {
+                return Some(word * 64 + bit);
+            }
+        }
+        None
+    }
+}
+
+/// The first bit of the word from `from` on that is set.
+#[inline(always)]
+fn first_bit(word: u64, from: usize) -> Option<usize>
+    requires { from < 64 }
+    ensures some { IfSome result (λ bit. IsFirstBit word from bit) }
+    ensures none { IfNone result (HasNoBitFrom word from) }
+{
+    let rest = word >> from;
+    if rest == 0 {
+        return None;
+    }
+    Some(from + rest.trailing_zeros() as usize)
+}
