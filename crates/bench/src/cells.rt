@@ -1,7 +1,7 @@
 //! The cells of a machine.
 
 use std::alloc::{AllocError, Global};
-use ultra_block::Blocks;
+use ultra_crew::Blocks;
 use ultra_machine::Machine;
 use ultra_msg::{Cell, Word};
 

@@ -14,9 +14,7 @@ use std::alloc::Global;
 use std::rt::Files;
 use std::sync::Wait;
 use std::thread::Threads;
-use ultra_block::Blocks;
-use ultra_crew::{Crew, CrewFault, Gate, MOST_WORKERS};
-use ultra_section::Half;
+use ultra_crew::{Blocks, Crew, CrewFault, Gate, Half, MOST_WORKERS};
 
 /// A gate that holds nobody up.
 struct Open;

@@ -3,8 +3,7 @@
 use std::sync::Wait;
 use std::sync::atomic::{AtomicU64, Ordering};
 use std::thread;
-use ultra_crew::Gate;
-use ultra_section::Half;
+use ultra_crew::{Gate, Half};
 
 /// A gate that counts its calls.
 #[derive(Drop)]

@@ -7,10 +7,8 @@ use crate::two_stage_traces;
 use std::sync::Wait;
 use std::test::Fail;
 use ultra_asm::assemble;
-use ultra_block::Blocks;
 use ultra_command_line::Workers;
-use ultra_crew::{Crew, Gate};
-use ultra_section::Half;
+use ultra_crew::{Blocks, Crew, Gate, Half};
 use ultra_settings::settings_from;
 use ultra_trace::write_cycle;
 

@@ -1,1 +1,2 @@
 pub mod Stops
+pub use Rattle.ultra_trace.specs.Trace

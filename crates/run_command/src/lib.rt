@@ -5,18 +5,16 @@ ghost use Rattle.std.specs.Prelude.{◌≡◌, ◌+◌, IfErr, OnOk};
 ghost use Rattle.ultra_inputs.specs.Failure.{read_failures, write_failures};
 ghost use Rattle.ultra_inputs.specs.Traffic.{traffic, WroteText, TextFails};
 ghost use Rattle.run_command.specs.Stops.{failure_of_run, IsStoppedBy};
-ghost use Rattle.ultra_lines.specs.Trace.{trace};
+ghost use Rattle.ultra_trace.specs.Trace.{trace};
 
 use std::alloc::Global;
 use std::sync::Wait;
 use std::thread::Threads;
-use ultra_block::Half;
 use ultra_command_line::Workers;
-use ultra_crew::Gate;
 use ultra_inputs::{Failure, Inputs, read_inputs};
 use ultra_io::Source;
 use ultra_msg::Sink;
-use ultra_trace::RunFault;
+use ultra_trace::{Gate, Half, RunFault};
 
 /// Reads settings and a program, runs the program by `workers` threads and writes its trace to
 /// `out`: the same bytes for every number of workers. Each file is accepted before the next is

@@ -11,3 +11,4 @@ pub mod Tables
 pub mod Carried
 pub mod Telling
 pub mod Parted
+pub use Rattle.ultra_cut.proofs.NothingHeld

@@ -1,1 +1,2 @@
 pub mod Outcome
+pub use Rattle.sweep_command.specs.Shown

@@ -19,7 +19,7 @@ use Rattle.explain_command.specs.Explanation.{explanation_of, IsCutShort}
 use Rattle.lib_command.specs.Coordination.{WroteProgram, LibFails}
 use Rattle.sweep_command.specs.Shown.{Told}
 use Rattle.sweep_command.specs.Sweep.{Swept, SweepFails}
-use Rattle.ultra_lines.specs.Trace.{trace}
+use Rattle.run_command.specs.Trace.{trace}
 
 -- one of the program's statuses: done, a usage fault, refused input, no memory or thread, a failed write
 abbrev pub IsStatus : ℕ → Type 0

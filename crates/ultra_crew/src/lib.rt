@@ -7,4 +7,5 @@ mod shift;
 
 pub use crew::{Crew, MOST_WORKERS, cycle_alone};
 pub use shift::Shift;
+pub use ultra_block::{Blocks, Half, PartitionFault};
 pub use ultra_desk::{Course, CrewFault, Gate};

@@ -6,9 +6,9 @@ use Rattle.ultra_switch.specs.declared.Entry.{Entry}
 use Rattle.ultra_switch.specs.declared.WaitRecord.{WaitRecord}
 use Rattle.ultra_model.specs.Machine.{Machine}
 use Rattle.ultra_units.specs.Numbers.{switch_number, module_number, element_number}
-use Rattle.ultra_section.specs.declared.held.Held.TheVariants.{Reply, Request, Record}
-use Rattle.ultra_cut.specs.Holding.{holds}
-use Rattle.ultra_cut.proofs.NothingHeld.{no_replies, no_requests, no_records, no_reply, no_request, none_pending}
+use Rattle.ultra_block.specs.Held.TheVariants.{Reply, Request, Record}
+use Rattle.ultra_block.specs.Holding.{holds}
+use Rattle.ultra_block.proofs.NothingHeld.{no_replies, no_requests, no_records, no_reply, no_request, none_pending}
 use Rattle.ultra_lines.specs.Trace.{pni_line, req_line, wait_line, inp_line, out_line, rep_line, pni_of, req_of, wait_of, inp_of, out_of, rep_of}
 use Rattle.ultra_lines.proofs.Skipped.{two_lines}
 

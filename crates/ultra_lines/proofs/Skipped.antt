@@ -5,7 +5,7 @@ use Rattle.std.specs.List.{filter, range_with_len, flat_map}
 use Rattle.std.proofs.Math.Nat.{eq-or-lt_of_le}
 use Rattle.std.proofs.lemmas.List.Elements.{All-filter}
 use Rattle.ultra_page.proofs.Writing.{either}
-use Rattle.ultra_section.specs.Holding.{IsFirstWhere}
+use Rattle.ultra_block.specs.{IsFirstWhere}
 
 module _ (p : ℕ → Bool) where
   -- ---- of the n numbers from a on, those that pass

@@ -1,8 +1,8 @@
 -- the units of one kind that hold something
 use Rattle.std.specs.Prelude.{ℕ, ◌+◌, ◌-◌, List, filter}
 use Rattle.std.specs.List.{range_with_len}
-use Rattle.ultra_section.specs.declared.held.Held.{Held}
-use Rattle.ultra_cut.specs.Holding.{holds}
+use Rattle.ultra_block.specs.Held.{Held}
+use Rattle.ultra_block.specs.Holding.{holds}
 use Rattle.ultra_block.specs.State.{BlocksState}
 use Rattle.ultra_lines.specs.declared.holders.Holders.{Holders}
 

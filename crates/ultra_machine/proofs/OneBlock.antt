@@ -6,7 +6,7 @@ use Rattle.std.proofs.lemmas.List.{length-take-le, length-replicate}
 use Rattle.std.proofs.lemmas.Bool.{eq-eqb}
 use Rattle.ultra_model.specs.Machine.{Settings}
 use Rattle.ultra_units.specs.Numbers.{unit_count}
-use Rattle.ultra_cut.specs.Cut.{is_partition, home}
+use Rattle.ultra_block.specs.Cut.{is_partition, home}
 use Rattle.ultra_block.specs.Dealt.{IsLastNamed}
 
 zeros_below : (n m : ℕ) → list_all (λ (b : ℕ). nat_lt b 64) (take n (replicate m 0)) ≡ true

@@ -5,7 +5,7 @@ ghost use Rattle.ultra_model.specs.Machine.{start, is_quiet as quiet, lane_at, r
 ghost use Rattle.ultra_model.specs.Phases.{cycle as next_cycle};
 ghost use Rattle.ultra_halves.specs.Elements.{element_of};
 ghost use Rattle.ultra_units.specs.Numbers.{unit_count};
-ghost use Rattle.ultra_cut.specs.Cut.{is_partition};
+ghost use Rattle.ultra_block.specs.Cut.{is_partition};
 ghost use Rattle.ultra_block.specs.Dealt.{IsLastNamed};
 
 use crate::MOST_UNITS;

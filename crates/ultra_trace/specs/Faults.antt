@@ -2,8 +2,8 @@
 use Rattle.std.specs.Prelude.{ℕ}
 use Rattle.ultra_trace.specs.declared.running.RunFault.{RunFault}
 use Rattle.ultra_trace.specs.declared.running.RunFault.TheVariants.{Write, NoMemory, NoThread}
-use Rattle.ultra_desk.specs.declared.fault.CrewFault.{CrewFault}
-use Rattle.ultra_desk.specs.declared.fault.CrewFault.TheVariants as crew
+use Rattle.ultra_crew.specs.CrewFault.{CrewFault}
+use Rattle.ultra_crew.specs.CrewFault.TheVariants as crew
 
 -- how often the sink has failed in a run that ended with the fault
 abbrev pub sink_faults : RunFault → ℕ

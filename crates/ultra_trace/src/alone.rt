@@ -8,7 +8,7 @@ ghost use Rattle.ultra_lines.specs.Text.{newline};
 ghost use Rattle.ultra_lines.specs.Trace.{all_cycles_text, cycle_count, cycle_text, trace};
 ghost use Rattle.ultra_trace.specs.BlocksAfter.{IsAfter};
 
-use ultra_block::Blocks;
+use ultra_crew::Blocks;
 use ultra_lines::{put_cycle, put_end};
 use ultra_msg::{Sink, SinkFault};
 use ultra_page::Page;

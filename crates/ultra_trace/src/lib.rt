@@ -7,4 +7,5 @@ mod start;
 mod together;
 
 pub use running::{RunFault, run, run_alone};
+pub use ultra_crew::{Gate, Half};
 pub use ultra_lines::write_cycle;

@@ -2,12 +2,12 @@
 
 ghost use Rattle.std.specs.Prelude.{◌≡◌, ◌≤◌, true, IfOk, OnOk};
 ghost use Rattle.ultra_model.specs.Ranges.{AreInRange};
-ghost use Rattle.ultra_cut.specs.Cut.{is_partition};
+ghost use Rattle.ultra_crew.specs.Cut.{is_partition};
 ghost use Rattle.ultra_trace.specs.BlocksAfter.{IsAfter};
 ghost use Rattle.ultra_trace.specs.Dealt.{IsDealtOut};
 
 use std::alloc::{AllocError, Global};
-use ultra_block::{Blocks, PartitionFault};
+use ultra_crew::{Blocks, PartitionFault};
 use ultra_isa::Program;
 use ultra_model::Config;
 

@@ -6,7 +6,7 @@ use Rattle.ultra_command_line.specs.declared.Command.TheVariants.{Run, Order, Ex
 use Rattle.ultra_command_line.specs.declared.Parsed.TheVariants as parsed
 use Rattle.ultra_inputs.specs.Failure.{read_failures}
 use Rattle.ultra_inputs.specs.Traffic.{traffic, IsStopped, WroteText, TextFails}
-use Rattle.ultra_lines.specs.Trace.{trace}
+use Rattle.run_command.specs.Trace.{trace}
 use Rattle.run_command.specs.Stops.{IsStoppedBy}
 use Rattle.order_command.specs.Order.{order_of}
 use Rattle.explain_command.specs.Explanation.{explanation_of, IsCutShort}

@@ -1,8 +1,8 @@
 use Rattle.std.proofs.Common.{ℕ, ◌+◌, ◌^◌, Bool, arith, ap}
 use Rattle.ultra_model.specs.Machine.{Element}
 use Rattle.ultra_units.specs.Numbers.{element_number}
-use Rattle.ultra_section.specs.declared.held.Held.TheVariants.{Request}
-use Rattle.ultra_cut.specs.Holding.{holds}
+use Rattle.ultra_block.specs.Held.TheVariants.{Request}
+use Rattle.ultra_block.specs.Holding.{holds}
 use Rattle.ultra_block.specs.State.{BlocksState}
 use Rattle.ultra_lines.specs.Trace.{pni_of}
 use Rattle.ultra_lines.proofs.Yielded.{one_came, all_came, writes_one}

@@ -1,7 +1,7 @@
 use Rattle.std.proofs.Common.{◌≡◌, ◌++◌, ◌^◌}
 use Rattle.std.specs.List.{flat_map}
 use Rattle.ultra_units.specs.Numbers.{module_number}
-use Rattle.ultra_section.specs.declared.held.Held.TheVariants.{Reply}
+use Rattle.ultra_block.specs.Held.TheVariants.{Reply}
 use Rattle.ultra_page.specs.Page.{Writes}
 use Rattle.ultra_lines.specs.Holders.{holders_left, holding}
 use Rattle.ultra_lines.specs.Trace.{out_of}

@@ -1,7 +1,7 @@
 use Rattle.std.proofs.Common.{ℕ, ◌+◌, ◌-◌, ◌^◌, ◌<◌, Bool, arith, ◌∙◌}
 use Rattle.ultra_units.specs.Numbers.{switch_number}
-use Rattle.ultra_section.specs.declared.held.Held.TheVariants.{Request}
-use Rattle.ultra_cut.specs.Holding.{holds}
+use Rattle.ultra_block.specs.Held.TheVariants.{Request}
+use Rattle.ultra_block.specs.Holding.{holds}
 use Rattle.ultra_block.specs.State.{BlocksState}
 use Rattle.ultra_page.proofs.Writing.{◌then◌}
 use Rattle.ultra_lines.specs.Trace.{req_of}

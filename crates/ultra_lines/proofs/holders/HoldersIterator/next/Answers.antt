@@ -1,5 +1,5 @@
 use Rattle.std.proofs.Common.{ℕ, Bool, length, ap, arith}
-use Rattle.ultra_cut.specs.Holding.{holds}
+use Rattle.ultra_block.specs.Holding.{holds}
 use Rattle.ultra_lines.specs.declared.holders.Holders.{Holders}
 use Rattle.ultra_lines.proofs.Skipped.{left_none, left_beyond, left_first}
 use Rattle.ultra_lines.proofs.holders.HoldersIterator.next.Goals as goal
