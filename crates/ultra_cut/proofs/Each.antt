@@ -10,7 +10,7 @@ use Rattle.ultra_section.specs.BlockState.{BlockState, switch_at, module_at, ele
 use Rattle.ultra_section.specs.Shape.{IsShaped}
 use Rattle.ultra_section.specs.Marks.{on_link}
 use Rattle.ultra_section.specs.Away.{stands}
-use Rattle.ultra_course.specs.Frame.{Frame, AreAlike}
+use Rattle.ultra_course.specs.Frame.{Frame}
 use Rattle.ultra_cut.specs.Cut.{IsCut, block_at, first, frame_of, given, home, no_block, no_element, no_switch}
 use Rattle.ultra_cut.specs.Halves.{AreBlocks, AreBlocksAfter, HaveFrame}
 use Rattle.ultra_cut.proofs.Units.{by_kind, switch_stands, module_stands, element_stands, none_stands, is_given, module_at_home, element_at_home}

@@ -1,9 +1,9 @@
 -- After every block has made a step of the program, the blocks are the frame in which each
 -- processing element has.
-use Rattle.std.proofs.Common.{◌≡◌, ℕ, ◌+◌, ◌-◌, ◌^◌, ◌<◌, ◌≤◌, List, [], true, Option, Some, None, length, refl, sym, ◌∙◌, ap, subst, arith, le-ltb}
+use Rattle.std.proofs.Common.{◌≡◌, ℕ, ◌+◌, ◌-◌, ◌^◌, ◌<◌, ◌≤◌, List, true, Option, Some, None, length, refl, sym, ◌∙◌, ap, subst, arith, le-ltb}
 use Rattle.std.specs.Prelude.{is_some}
 use Rattle.ultra_isa.specs.declared.Instr.{Instr}
-use Rattle.ultra_units.specs.Numbers.{switch_count, unit_count, module_number, element_number}
+use Rattle.ultra_units.specs.Numbers.{switch_count, unit_count, element_number}
 use Rattle.ultra_units.specs.Visits.{after_units}
 use Rattle.ultra_halves.specs.declared.elements.ProcessingElement.{ProcessingElement}
 use Rattle.ultra_halves.specs.Elements.{executed}
@@ -21,7 +21,7 @@ use Rattle.ultra_course.specs.Conditions.{CanExecute}
 use Rattle.ultra_cut.specs.Cut.{block_at, frame_of, given, home, no_element}
 use Rattle.ultra_cut.specs.Halves.{AreBlocks, HasHalfRoom, OfEach, all_made}
 use Rattle.ultra_cut.proofs.Numbers.{few_units}
-use Rattle.ultra_cut.specs.UnitLaws.{CanCount, CanExecuteLaw, ExecuteLaw, HasNoStops, HaveExecuted}
+use Rattle.ultra_cut.specs.UnitLaws.{CanExecuteLaw, ExecuteLaw, HasNoStops, HaveExecuted}
 use Rattle.ultra_cut.proofs.Units.{by_kind, element_stands, home_is}
 use Rattle.ultra_cut.proofs.Each.{HasWorked, have_frame, same_worked, worked}
 

@@ -1,5 +1,7 @@
 pub mod Columns
 pub mod Numbers
+pub mod BothKinds
+pub mod Moved
 pub mod RepliesMoved
 pub mod RequestsMoved
 pub mod Alike

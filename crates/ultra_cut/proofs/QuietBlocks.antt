@@ -1,23 +1,21 @@
 -- A machine is quiet where each of its blocks is.
-use Rattle.std.proofs.Common.{◌≡◌, ℕ, ◌^◌, ◌<◌, List, Bool, true, false, Option, Some, None, refl, arith, ◌∙◌, sym, ap, subst, length, get_or}
+use Rattle.std.proofs.Common.{◌≡◌, ℕ, ◌^◌, ◌<◌, List, Bool, true, false, Option, Some, None, refl, arith, ◌∙◌, sym, ap, length}
 use Rattle.std.specs.Prelude.{◌&&◌, is_some}
 use Rattle.std.specs.List.{list_all}
 use Rattle.ultra_msg.specs.declared.Event.{Event}
-use Rattle.ultra_switch.specs.declared.Switch.{Switch}
-use Rattle.ultra_mem.specs.Serve.{Bank, empty_bank}
+use Rattle.ultra_mem.specs.Serve.{empty_bank}
 use Rattle.ultra_model.specs.declared.Stop.{Stop}
 use Rattle.ultra_model.specs.Machine.{Settings, is_quiet}
 use Rattle.ultra_units.specs.Numbers.{switch_count, unit_count, module_number, element_number}
 use Rattle.ultra_halves.specs.Switches.{quiet_switch}
 use Rattle.ultra_halves.specs.Modules.{quiet_bank}
 use Rattle.ultra_halves.specs.Elements.{quiet_element}
-use Rattle.ultra_halves.specs.declared.elements.ProcessingElement.{ProcessingElement}
 use Rattle.ultra_section.specs.BlockState.{BlockState, switch_at, module_at, element_at}
 use Rattle.ultra_section.specs.Quiet.{or_elsewhere, quiet_block}
 use Rattle.ultra_course.specs.Whole.{whole}
 use Rattle.ultra_cut.specs.Cut.{block_at, frame_of, given, home, no_block, no_element, no_switch}
 use Rattle.ultra_cut.specs.Halves.{AreBlocks}
-use Rattle.ultra_cut.proofs.Units.{element_at_home, element_stands, home_is, is_given, module_at_home, module_stands, switch_at_home, switch_stands}
+use Rattle.ultra_cut.proofs.Units.{element_at_home, element_stands, home_is, module_at_home, module_stands, switch_at_home, switch_stands}
 use Rattle.ultra_cut.proofs.QuietUnits.{AreQuiet, all_at, all_if, both_true, left_true, quiet_if, quiet_units, right_true, same_truth}
 
 -- ---- one entry

@@ -1,11 +1,10 @@
 -- After every block has served, the blocks are the frame in which each module has.
-use Rattle.std.proofs.Common.{◌≡◌, ℕ, ◌+◌, ◌*◌, ◌^◌, ◌<◌, ◌≤◌, List, Option, Some, None, length, length-append, refl, sym, ◌∙◌, ap, subst, arith, le-ltb}
+use Rattle.std.proofs.Common.{◌≡◌, ℕ, ◌+◌, ◌^◌, ◌<◌, ◌≤◌, List, Option, Some, None, length, length-append, refl, sym, ◌∙◌, ap, subst, arith, le-ltb}
 use Rattle.ultra_isa.specs.declared.Instr.{Instr}
 use Rattle.ultra_mem.specs.Serve.{Bank, serve, served}
 use Rattle.ultra_model.specs.Phases.{serving}
-use Rattle.ultra_units.specs.Numbers.{switch_count, unit_count, module_number, element_number}
+use Rattle.ultra_units.specs.Numbers.{switch_count, unit_count}
 use Rattle.ultra_units.specs.Visits.{after_units}
-use Rattle.ultra_halves.specs.declared.elements.ProcessingElement.{ProcessingElement}
 use Rattle.ultra_section.specs.declared.half.Half.TheVariants.{Serve}
 use Rattle.ultra_section.specs.declared.rooms.Rooms.{Rooms}
 use Rattle.ultra_section.specs.BlockState.{BlockState, module_at, element_at}
@@ -18,7 +17,7 @@ use Rattle.ultra_section.proofs.Once.{told_before}
 use Rattle.ultra_section.proofs.ServedOnce.{act_told, told, told_of, events_after_serving, kept_by_serving, module_after_serving, shape_after_serving}
 use Rattle.ultra_section.proofs.Standing.{unit_of_switch, unit_of_module, unit_of_element}
 use Rattle.ultra_cut.specs.Cut.{block_at}
-use Rattle.ultra_cut.specs.Halves.{AreBlocks, FewMoreEvents, all_made}
+use Rattle.ultra_cut.specs.Halves.{AreBlocks, all_made}
 use Rattle.ultra_cut.proofs.Numbers.{few_units}
 use Rattle.ultra_cut.specs.UnitLaws.{CanServeLaw, HaveServed, ServeLaw}
 use Rattle.ultra_cut.proofs.Units.{by_kind}
