@@ -1,8 +1,8 @@
 -- Each block may make the half in which requests are taken, where the whole machine may.
-use Rattle.std.proofs.Common.{◌≡◌, ◌≢◌, ℕ, ◌+◌, ◌/◌, ◌^◌, ◌<◌, List, false, Option, Some, None, length, sym, ◌∙◌, ap, subst, arith, inl, inr, le-ltb}
-use Rattle.std.specs.Prelude.{nat_lt}
-use Rattle.std.proofs.lemmas.Bool.{cases_eq, cases_lt}
-use Rattle.ultra_units.specs.Numbers.{switch_count, unit_count, module_number, element_number}
+use Rattle.std.proofs.Common.{◌≡◌, ℕ, ◌/◌, ◌^◌, ◌<◌, List, Some, None, length, sym, ◌∙◌, ap, subst}
+use Rattle.std.specs.Prelude.{is_some}
+use Rattle.ultra_section.proofs.OfKind.{by_kind, unit_of_none}
+use Rattle.ultra_units.specs.Numbers.{switch_count, module_number, element_number}
 use Rattle.ultra_mem.specs.Serve.{Bank}
 use Rattle.ultra_halves.specs.Switches as switch
 use Rattle.ultra_section.specs.Units.{unit_of, stage_of, index_of}
@@ -13,12 +13,13 @@ use Rattle.ultra_section.proofs.Few.{room_for_half}
 use Rattle.ultra_section.proofs.Standing.{unit_of_switch, unit_of_module, unit_of_element}
 use Rattle.ultra_course.specs.Frame.{Frame}
 use Rattle.ultra_course.specs.Conditions.{CanTakeRequests}
-use Rattle.ultra_cut.specs.Cut.{block_at, frame_of, home}
+use Rattle.ultra_cut.specs.Cut.{block_at, frame_of}
 use Rattle.ultra_cut.specs.Exchange.{AreRequestsThere}
 use Rattle.ultra_cut.specs.Halves.{AreBlocks}
 use Rattle.ultra_cut.specs.RequestLaws.{CanTakeRequestsLaw}
-use Rattle.ultra_cut.proofs.ReplyHomes.{each_unit, module_away, module_home, switch_away, switch_home}
-use Rattle.ultra_cut.proofs.RequestsThere.{module_there, switch_there}
+use Rattle.ultra_cut.specs.declared.kind.Kind.TheVariants.{Requests}
+use Rattle.ultra_cut.proofs.Units.{at_home, home_is, modules, switches}
+use Rattle.ultra_cut.proofs.There.{end_there, switch_there}
 
 same_some : {X : Type 0} (x y : X) → Some x ≡ Some y → x ≡ y
 same_some x y h = cc
@@ -31,13 +32,6 @@ module _ (d : ℕ) (partition : List ℕ) (bs : List BlockState) (blocks : AreBl
   abbrev b : BlockState
   b = block_at bs i
 
-  -- a unit of which something stands here has its home here
-  at_home : {X : Type 0} (n : ℕ) (o : Option X) (x : X) → (i ≢ home partition n → o ≡ None) → o ≡ Some x → i ≡ home partition n
-  at_home n o x away is = elim (cases_eq i (home partition n)) [
-    | inl same ↦ same
-    | inr other ↦ absurd (let e : Some x ≡ None = sym is ∙ away other in cc)
-  ]
-
   stages : b.stages ≡ d
   stages = blocks.cut.stages i within
 
@@ -45,9 +39,9 @@ module _ (d : ℕ) (partition : List ℕ) (bs : List BlockState) (blocks : AreBl
   switch_can n h w is =
       let s : ℕ = stage_of d n in
       let k : ℕ = index_of d n in
-      let here = at_home n (switch_at b.switches n) w (switch_away d partition bs blocks n h i within) is in
-      let same : w ≡ f.switch n = same_some w (f.switch n) (sym is ∙ ap (λ j. switch_at (block_at bs j).switches n) here ∙ switch_home d partition bs blocks n h) in
-      let came = switch_there d partition bs blocks there n h ∙ ap (λ j. on_both (block_at bs j).requests (request_links d s k)) (sym here) in
+      let here = sym (home_is switches d partition bs blocks.cut n h i within (ap is_some is)) in
+      let same : w ≡ f.switch n = same_some w (f.switch n) (sym is ∙ ap (λ j. switch_at (block_at bs j).switches n) here ∙ at_home switches d partition bs blocks.cut n h) in
+      let came = switch_there Requests d partition bs blocks.cut there n h ∙ ap (λ j. on_both (block_at bs j).requests (request_links d s k)) (sym here) in
       subst (λ w. switch.CanTakeRequests b.stages s w (on_both b.requests (request_links b.stages s k))) (sym same)
       (subst (λ e. switch.CanTakeRequests e s (f.switch n) (on_both b.requests (request_links e s k))) (sym stages)
       (subst (switch.CanTakeRequests d s (f.switch n)) came (can.switches n h)))
@@ -55,25 +49,20 @@ module _ (d : ℕ) (partition : List ℕ) (bs : List BlockState) (blocks : AreBl
   module_can : (m : ℕ) → m < 2 ^ d → ModuleCanTakeRequest m b
   module_can m h x is r came =
       let n : ℕ = module_number d m in
-      let here = at_home n (module_at b.modules m) x (module_away d partition bs blocks m h i within) is in
-      let same : x ≡ f.bank m = same_some x (f.bank m) (sym is ∙ ap (λ j. module_at (block_at bs j).modules m) here ∙ module_home d partition bs blocks m h) in
-      let comes = module_there d partition bs blocks there m h ∙ ap (λ j. on_link (block_at bs j).requests (memory_link d m)) (sym here)
+      let here = sym (home_is modules d partition bs blocks.cut m h i within (ap is_some is)) in
+      let same : x ≡ f.bank m = same_some x (f.bank m) (sym is ∙ ap (λ j. module_at (block_at bs j).modules m) here ∙ at_home modules d partition bs blocks.cut m h) in
+      let comes = end_there Requests d partition bs blocks.cut there m h ∙ ap (λ j. on_link (block_at bs j).requests (memory_link d m)) (sym here)
       ∙ ap (λ e. on_link b.requests (memory_link e m)) (sym stages) ∙ came in
       let cell : r.cell / 2 ^ d < length x.cells = subst (λ (y : Bank). r.cell / 2 ^ d < length y.cells) (sym same) (can.within m h r comes) in
       (subst (λ e. r.cell / 2 ^ e < length x.cells) (sym stages) cell, subst (λ (y : Bank). y.inp ≡ None) (sym same) (can.empty m h r comes))
 
   -- whatever has a number
   unit_can : (n : ℕ) → UnitCanTakeRequests n b (unit_of d n)
-  unit_can n = elim (cases_lt n (unit_count d)) [
-    | inl small ↦ each_unit d (λ n. UnitCanTakeRequests n b (unit_of d n))
-        (λ n h. subst (UnitCanTakeRequests n b) (sym (unit_of_switch d n h)) (switch_can n h))
-        (λ m h. subst (UnitCanTakeRequests (module_number d m) b) (sym (unit_of_module d m h)) (module_can m h))
-        (λ p h. subst (UnitCanTakeRequests (element_number d p) b) (sym (unit_of_element d p h)) tt) n small
-    | inr past ↦
-        let switches : nat_lt n (switch_count d) ≡ false = le-ltb n (switch_count d) (omega arith) in
-        let modules : nat_lt n (switch_count d + 2 ^ d) ≡ false = le-ltb n (switch_count d + 2 ^ d) (omega arith) in
-        rw (UnitCanTakeRequests, switches, modules, le-ltb n (unit_count d) past) tt
-  ]
+  unit_can = by_kind d (λ n. UnitCanTakeRequests n b (unit_of d n))
+      (λ n h. subst (UnitCanTakeRequests n b) (sym (unit_of_switch d n h)) (switch_can n h))
+      (λ m h. subst (UnitCanTakeRequests (module_number d m) b) (sym (unit_of_module d m h)) (module_can m h))
+      (λ p h. subst (UnitCanTakeRequests (element_number d p) b) (sym (unit_of_element d p h)) tt)
+      (λ n past. subst (UnitCanTakeRequests n b) (sym (unit_of_none d n past)) tt)
 
 pub can_take_requests : CanTakeRequestsLaw
 can_take_requests d partition bs blocks there single can room = λ i within n small. record {

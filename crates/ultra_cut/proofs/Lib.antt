@@ -6,16 +6,14 @@ pub mod RepliesMoved
 pub mod RequestsMoved
 pub mod Alike
 pub mod ReplyColumns
-pub mod ReplyHomes
+pub mod Changed
+pub mod There
 pub mod ReplyInlets
-pub mod RepliesThere
-pub mod ReplyEvents
+pub mod FewEvents
 pub mod RepliesSent
 pub mod RepliesTaken
 pub mod CanTakeReplies
 pub mod RequestInlets
-pub mod RequestsThere
-pub mod RequestEvents
 pub mod RequestWays
 pub mod RequestsSent
 pub mod RequestsTaken
@@ -32,7 +30,6 @@ pub mod NothingHeld
 pub mod Joined
 pub mod Ranked
 pub mod Merged
-pub mod AtHome
 pub mod Parts
 pub mod Telling
 pub mod Happenings

@@ -11,6 +11,9 @@ differs a b h = grind (arith, nat_tests)
 pub not_equal : (a b : ℕ) → a ≢ b → (a == b) ≡ false
 not_equal a b h = grind (arith, nat_tests)
 
+pub equal : (a b : ℕ) → a ≡ b → (a == b) ≡ true
+equal a b h = grind (arith, nat_tests)
+
 below : (a b : ℕ) → nat_lt a b ≡ true → a < b
 below a b h = grind (arith, nat_tests)
 

@@ -40,7 +40,9 @@ use Rattle.ultra_cut.specs.Happenings.{delivery_told, serving_told, combinations
 use Rattle.ultra_cut.proofs.Joined.{joined_same, joined_present}
 use Rattle.ultra_cut.proofs.Ranked.{HaveRank}
 use Rattle.ultra_cut.proofs.Merged.{Part, all_home}
-use Rattle.ultra_cut.proofs.AtHome.{element_home, element_elsewhere, reply_home, module_home, module_elsewhere, switch_home, switch_elsewhere, requests_home}
+use Rattle.ultra_cut.specs.declared.kind.Kind.TheVariants.{Replies, Requests}
+use Rattle.ultra_cut.proofs.Units.{away, elements, modules, switches, there}
+use Rattle.ultra_cut.proofs.There.{end_there, switch_there}
 
 -- ---- what is told of one unit has its rank
 module _ (d : ℕ) where
@@ -139,14 +141,14 @@ module _ (d : ℕ) (partition : List ℕ) (bs : List BlockState) (blocks : AreBl
   abbrev element_at_home : ℕ → Option ProcessingElement
   element_at_home p = element_at (block_at bs (home partition (element_number d p))).elements p
 
-  module _ (there : AreRepliesThere d partition bs) (names : (p : ℕ) → p < 2 ^ d → ForSome (course.reply_to d f p) (λ (r : ReplyMessage). r.pe ≡ p)) where
+  module _ (come : AreRepliesThere d partition bs) (names : (p : ℕ) → p < 2 ^ d → ForSome (course.reply_to d f p) (λ (r : ReplyMessage). r.pe ≡ p)) where
     pub came_ranked : (k p : ℕ) → k < length bs → p < 2 ^ d → HaveRank (event_rank d) (switch_count d + 2 ^ d + p) (delivery_at d (block_at bs k) p)
     came_ranked k p h small = elim (cases_eq k (home partition (element_number d p))) [
       | inl at ↦
           subst (λ j. HaveRank (event_rank d) (switch_count d + 2 ^ d + p) (delivery_at d (block_at bs j) p)) (sym at)
-          (delivery_ranked d p (element_at_home p) _ (subst (λ o. ForSome o (λ (r : ReplyMessage). r.pe ≡ p)) (reply_home d partition bs blocks there p small) (names p small)))
+          (delivery_ranked d p (element_at_home p) _ (subst (λ o. ForSome o (λ (r : ReplyMessage). r.pe ≡ p)) (end_there Replies d partition bs blocks.cut come p small) (names p small)))
       | inr other ↦
-          subst (λ o. HaveRank (event_rank d) (switch_count d + 2 ^ d + p) (delivery_told o (on_link (block_at bs k).replies (delivery_link d p)))) (sym (element_elsewhere d partition bs blocks k p h small other)) tt
+          subst (λ o. HaveRank (event_rank d) (switch_count d + 2 ^ d + p) (delivery_told o (on_link (block_at bs k).replies (delivery_link d p)))) (sym (away elements d partition bs blocks.cut p small k h other)) tt
     ]
 
     abbrev pub part_of_replies : Part (event_rank d) count 0 320
@@ -159,7 +161,7 @@ module _ (d : ℕ) (partition : List ℕ) (bs : List BlockState) (blocks : AreBl
         ranked = λ k h p small. came_ranked k p (omega (arith, same)) small;
         homes = λ p small. rw (sym same) (blocks.cut.homes (element_number d p) (omega arith));
         elsewhere = λ k p h small other.
-            ap (λ o. delivery_told o (on_link (block_at bs k).replies (delivery_link d p))) (element_elsewhere d partition bs blocks k p (omega (arith, same)) small other);
+            ap (λ o. delivery_told o (on_link (block_at bs k).replies (delivery_link d p))) (away elements d partition bs blocks.cut p small k (omega (arith, same)) other);
       };
       from = omega arith;
       to = omega (arith, few);
@@ -170,8 +172,8 @@ module _ (d : ℕ) (partition : List ℕ) (bs : List BlockState) (blocks : AreBl
     deliveries_home =
         joined_same (2 ^ d) (λ p. delivery_at d (block_at bs (home partition (element_number d p))) p) (λ p. present (delivery (course.reply_to d f p) ∷ []))
         (λ p small.
-        delivery_given (element_at_home p) _ (element_home d partition bs blocks p small)
-        ∙ ap (λ o. present (delivery o ∷ [])) (sym (reply_home d partition bs blocks there p small)))
+        delivery_given (element_at_home p) _ (there elements d partition bs blocks.cut p small)
+        ∙ ap (λ o. present (delivery o ∷ [])) (sym (end_there Replies d partition bs blocks.cut come p small)))
         ∙ joined_present (2 ^ d) (λ p. delivery (course.reply_to d f p))
 
   abbrev pub part_of_service : Part (event_rank d) count 320 320
@@ -183,7 +185,7 @@ module _ (d : ℕ) (partition : List ℕ) (bs : List BlockState) (blocks : AreBl
     is = record {
       ranked = λ k h m small. serving_ranked d m (module_at (block_at bs k).modules m);
       homes = λ m small. rw (sym same) (blocks.cut.homes (module_number d m) (omega arith));
-      elsewhere = λ k m h small other. ap (serving_told m) (module_elsewhere d partition bs blocks k m (omega (arith, same)) small other);
+      elsewhere = λ k m h small other. ap (serving_told m) (away modules d partition bs blocks.cut m small k (omega (arith, same)) other);
     };
     from = omega arith;
     to = omega (arith, few);
@@ -193,7 +195,7 @@ module _ (d : ℕ) (partition : List ℕ) (bs : List BlockState) (blocks : AreBl
   unfolding course.servings
   servings_home =
       joined_same (2 ^ d) (λ m. serving_at d (block_at bs (home partition (module_number d m))) m) (λ m. present (serving m (served (f.bank m)) ∷ []))
-      (λ m small. serving_given m (module_at (block_at bs (home partition (module_number d m))).modules m) (module_home d partition bs blocks m small))
+      (λ m small. serving_given m (module_at (block_at bs (home partition (module_number d m))).modules m) (there modules d partition bs blocks.cut m small))
       ∙ joined_present (2 ^ d) (λ m. serving m (served (f.bank m)))
 
   module _ (n : ℕ) where
@@ -208,7 +210,7 @@ module _ (d : ℕ) (partition : List ℕ) (bs : List BlockState) (blocks : AreBl
         homes = λ i small. rw (sym same) (blocks.cut.homes i (omega arith));
         elsewhere = λ k i h small other.
             ap (λ o. combinations_told d n (stage_of d i) (index_of d i) o (on_both (block_at bs k).requests (request_links d (stage_of d i) (index_of d i))))
-            (switch_elsewhere d partition bs blocks k i (omega (arith, same)) small other);
+            (away switches d partition bs blocks.cut i small k (omega (arith, same)) other);
       };
       from = omega arith;
       to = omega (arith, few);
@@ -216,12 +218,12 @@ module _ (d : ℕ) (partition : List ℕ) (bs : List BlockState) (blocks : AreBl
 
     pub combinations_home : AreRequestsThere d partition bs → all_home (event_rank d) count part_of_requests ≡ course.combinations d n f
     unfolding course.combinations
-    combinations_home there =
+    combinations_home come =
         joined_same (switch_count d) (λ i. combinations_at d n (block_at bs (home partition i)) i)
         (λ i. course.at_switch d (λ s k. combinations_of d s k n (f.switch i) (course.requests_to d f i)) i)
         (λ i small.
-        combinations_given d n (stage_of d i) (index_of d i) (switch_at (block_at bs (home partition i)).switches i) _ (switch_home d partition bs blocks i small)
-        ∙ ap (combinations_of d (stage_of d i) (index_of d i) n (f.switch i)) (sym (requests_home d partition bs blocks there i small)))
+        combinations_given d n (stage_of d i) (index_of d i) (switch_at (block_at bs (home partition i)).switches i) _ (there switches d partition bs blocks.cut i small)
+        ∙ ap (combinations_of d (stage_of d i) (index_of d i) n (f.switch i)) (sym (switch_there Requests d partition bs blocks.cut come i small)))
 
   module _ (program : List Instr) where
     module _ (sites : (p : ℕ) → p < 2 ^ d → (f.element p).processor.site.pe ≡ p) where
@@ -230,7 +232,7 @@ module _ (d : ℕ) (partition : List ℕ) (bs : List BlockState) (blocks : AreBl
         | inl at ↦
             subst (λ j. HaveRank (event_rank d) (960 + (switch_count d + 2 ^ d) + p) (issue_at d program (block_at bs j) p)) (sym at) (issue_ranked d program p (element_at_home p) (sites p small))
         | inr other ↦
-            subst (λ o. HaveRank (event_rank d) (960 + (switch_count d + 2 ^ d) + p) (issue_told program o)) (sym (element_elsewhere d partition bs blocks k p h small other)) tt
+            subst (λ o. HaveRank (event_rank d) (960 + (switch_count d + 2 ^ d) + p) (issue_told program o)) (sym (away elements d partition bs blocks.cut p small k h other)) tt
       ]
 
       abbrev pub part_of_steps : Part (event_rank d) count 960 320
@@ -242,7 +244,7 @@ module _ (d : ℕ) (partition : List ℕ) (bs : List BlockState) (blocks : AreBl
         is = record {
           ranked = λ k h p small. sent_from k p (omega (arith, same)) small;
           homes = λ p small. rw (sym same) (blocks.cut.homes (element_number d p) (omega arith));
-          elsewhere = λ k p h small other. ap (issue_told program) (element_elsewhere d partition bs blocks k p (omega (arith, same)) small other);
+          elsewhere = λ k p h small other. ap (issue_told program) (away elements d partition bs blocks.cut p small k (omega (arith, same)) other);
         };
         from = omega arith;
         to = omega (arith, few);
@@ -252,7 +254,7 @@ module _ (d : ℕ) (partition : List ℕ) (bs : List BlockState) (blocks : AreBl
       unfolding course.issues
       issues_home =
           joined_same (2 ^ d) (λ p. issue_at d program (block_at bs (home partition (element_number d p))) p) (λ p. present (issue_of program (f.element p) ∷ []))
-          (λ p small. issue_given program (element_at_home p) (element_home d partition bs blocks p small))
+          (λ p small. issue_given program (element_at_home p) (there elements d partition bs blocks.cut p small))
           ∙ joined_present (2 ^ d) (λ p. issue_of program (f.element p))
 
     module _ (narrow : 2 ^ d ≤ 64) where
@@ -265,7 +267,7 @@ module _ (d : ℕ) (partition : List ℕ) (bs : List BlockState) (blocks : AreBl
         is = record {
           ranked = λ k h p small. stop_ranked program p (element_at (block_at bs k).elements p);
           homes = λ p small. rw (sym same) (blocks.cut.homes (element_number d p) (omega arith));
-          elsewhere = λ k p h small other. ap (stop_told program p) (element_elsewhere d partition bs blocks k p (omega (arith, same)) small other);
+          elsewhere = λ k p h small other. ap (stop_told program p) (away elements d partition bs blocks.cut p small k (omega (arith, same)) other);
         };
         from = omega arith;
         to = omega (arith, narrow);
@@ -275,5 +277,5 @@ module _ (d : ℕ) (partition : List ℕ) (bs : List BlockState) (blocks : AreBl
       unfolding course.stops
       stops_home =
           joined_same (2 ^ d) (λ p. stop_at d program (block_at bs (home partition (element_number d p))) p) (λ p. present (stop_of p (step_at program (f.element p)).was ∷ []))
-          (λ p small. stop_given program p (element_at_home p) (element_home d partition bs blocks p small))
+          (λ p small. stop_given program p (element_at_home p) (there elements d partition bs blocks.cut p small))
           ∙ joined_present (2 ^ d) (λ p. stop_of p (step_at program (f.element p)).was)

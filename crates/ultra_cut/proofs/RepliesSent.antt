@@ -30,7 +30,8 @@ use Rattle.ultra_cut.specs.Exchange.{AreSingleReplies, IsSingle}
 use Rattle.ultra_cut.specs.Halves.{AreBlocks, HasNoReplies, all_made, noted}
 use Rattle.ultra_cut.specs.ReplyLaws.{AreRepliesSent, IsSilent, RepliesSentLaw}
 use Rattle.ultra_cut.proofs.ReplyColumns.{changed_at, column_first, column_none, column_single, column_empty_single, same_column}
-use Rattle.ultra_cut.proofs.ReplyHomes.{HasSameUnits, blocks_after, each_changed, home_within, module_away, module_home, switch_away, switch_home, unit_small}
+use Rattle.ultra_cut.proofs.Changed.{HasSameUnits, blocks_after, each_changed, unit_small}
+use Rattle.ultra_cut.proofs.Units.{at_home, away, modules, switches}
 
 -- ---- ports
 on_nothing : {M : Type 0} (o on : Option M) → on ≡ None → put_or o on ≡ o
@@ -119,10 +120,10 @@ module _ (d : ℕ) (low : 1 ≤ d) (high : d ≤ 6) (rooms : BlockRooms) (progra
     same_module None is = ap (λ p. is_some p.0) (module_sent None is) ∙ sym (ap (λ o. is_some o) is)
     same_module (Some x) is = ap (λ p. is_some p.0) (module_sent (Some x) is) ∙ sym (ap (λ o. is_some o) is)
 
-  same_units : HasSameUnits d b sent
+  same_units : HasSameUnits d 0 b sent
   same_units = record {
     shape = sent_shape;
-    done = sent_done;
+    done = sent_done ∙ (let same : b.done ≡ b.done + 0 = omega arith in same);
     switches = λ n h. same_switch n h (switch_at b.switches n) refl;
     modules = λ m h. same_module m h (module_at b.modules m) refl;
     elements = λ p h. ap (λ es. is_some (element_at es p)) sent_elements;
@@ -148,7 +149,7 @@ module _ (d : ℕ) (partition : List ℕ) (bs : List BlockState) (rooms : BlockR
   abbrev after : Frame
   after = sends_replies d (noted d rooms) f
 
-  same : (k : ℕ) → k < length bs → HasSameUnits d (block_at bs k) (send (block_at bs k))
+  same : (k : ℕ) → k < length bs → HasSameUnits d 0 (block_at bs k) (send (block_at bs k))
   same k within = same_units d low high rooms program (block_at bs k) (blocks.shaped k within)
 
   no_reply : (k l : ℕ) → k < length bs → l < (d + 1) * 2 ^ d → on_link (block_at bs k).replies l ≡ None
@@ -160,12 +161,12 @@ module _ (d : ℕ) (partition : List ℕ) (bs : List BlockState) (rooms : BlockR
     at = home partition n
 
     at_small : at < length bs
-    at_small = home_within d partition bs blocks n (omega arith)
+    at_small = blocks.cut.homes n (omega arith)
 
     sent_home : ◌≡◌ {A = Option Switch × Ports (Option ReplyMessage)}
         (switch_at (send (block_at bs at)).switches n, on_both (send (block_at bs at)).replies (places_of d (stage_of d n) (index_of d n)))
         (after_sending_switch rooms.no_reply_room d low high (stage_of d n) (index_of d n) (Some (f.switch n), on_both (block_at bs at).replies (places_of d (stage_of d n) (index_of d n))))
-    sent_home = switch_sent d low high rooms program (block_at bs at) (blocks.shaped at at_small) n h (Some (f.switch n)) (switch_home d partition bs blocks n h)
+    sent_home = switch_sent d low high rooms program (block_at bs at) (blocks.shaped at at_small) n h (Some (f.switch n)) (at_home switches d partition bs blocks.cut n h)
 
     switch_now : (frame_of d partition now).switch n ≡ after.switch n
     switch_now =
@@ -177,13 +178,13 @@ module _ (d : ℕ) (partition : List ℕ) (bs : List BlockState) (rooms : BlockR
     module_block = home partition (module_number d m)
 
     module_block_small : module_block < length bs
-    module_block_small = home_within d partition bs blocks (module_number d m) (omega arith)
+    module_block_small = blocks.cut.homes (module_number d m) (omega arith)
 
     sent_from_module : ◌≡◌ {A = Option Bank × Option ReplyMessage}
         (module_at (send (block_at bs module_block)).modules m, on_link (send (block_at bs module_block)).replies (place_number d d m))
         (after_sending_module rooms.no_reply_room d low high m (Some (f.bank m), on_link (block_at bs module_block).replies (place_number d d m)))
     sent_from_module =
-        module_sent d low high rooms program (block_at bs module_block) (blocks.shaped module_block module_block_small) m h (Some (f.bank m)) (module_home d partition bs blocks m h)
+        module_sent d low high rooms program (block_at bs module_block) (blocks.shaped module_block module_block_small) m h (Some (f.bank m)) (at_home modules d partition bs blocks.cut m h)
 
     bank_now : (frame_of d partition now).bank m ≡ after.bank m
     bank_now =
@@ -193,7 +194,7 @@ module _ (d : ℕ) (partition : List ℕ) (bs : List BlockState) (rooms : BlockR
   element_now : (p : ℕ) → p < 2 ^ d → (frame_of d partition now).element p ≡ after.element p
   element_now p h =
       let at : ℕ = home partition (element_number d p) in
-      let within : at < length bs = home_within d partition bs blocks (element_number d p) (omega arith) in
+      let within : at < length bs = blocks.cut.homes (element_number d p) (omega arith) in
       ap (λ (b : BlockState). given no_element (element_at b.elements p)) (changed_at send bs at within)
       ∙ ap (λ es. given no_element (element_at es p)) (sent_elements d low high rooms program (block_at bs at) (blocks.shaped at within))
 
@@ -213,7 +214,7 @@ module _ (d : ℕ) (partition : List ℕ) (bs : List BlockState) (rooms : BlockR
 
   alone_away : (l h : ℕ) → AreAlone l h → (k : ℕ) → k < length now → k ≢ h → on_link (block_at now k).replies l ≡ None
   alone_away l h alone k within other =
-      each_changed d partition bs blocks send same
+      each_changed d partition bs blocks send
       (λ k b. k ≢ h → on_link b.replies l ≡ None) alone.away k within other
 
   alone_first : (l h : ℕ) → AreAlone l h → first (replies_on now l) ≡ on_link (send (block_at bs h)).replies l
@@ -242,7 +243,7 @@ module _ (d : ℕ) (partition : List ℕ) (bs : List BlockState) (rooms : BlockR
       within = at_small n h;
       away = λ k within other.
           on_now_at k
-          ∙ ap (λ p. at_port p.1 j) (switch_sent d low high rooms program (block_at bs k) (blocks.shaped k within) n h None (switch_away d partition bs blocks n h k within other))
+          ∙ ap (λ p. at_port p.1 j) (switch_sent d low high rooms program (block_at bs k) (blocks.shaped k within) n h None (away switches d partition bs blocks.cut n h k within other))
           ∙ nothing_on k within;
     }
 
@@ -264,7 +265,7 @@ module _ (d : ℕ) (partition : List ℕ) (bs : List BlockState) (rooms : BlockR
     module_alone = record {
       within = module_block_small m h;
       away = λ k within other.
-          ap (λ p. p.1) (module_sent d low high rooms program (block_at bs k) (blocks.shaped k within) m h None (module_away d partition bs blocks m h k within other))
+          ap (λ p. p.1) (module_sent d low high rooms program (block_at bs k) (blocks.shaped k within) m h None (away modules d partition bs blocks.cut m h k within other))
           ∙ no_reply k link within link_small;
     }
 
@@ -327,7 +328,7 @@ module _ (d : ℕ) (partition : List ℕ) (bs : List BlockState) (rooms : BlockR
   -- there is no link beyond
   no_link : (l : ℕ) → (d + 1) * 2 ^ d ≤ l → IsSingle (replies_on now l)
   no_link l past =
-      column_empty_single (on_now l) now (each_changed d partition bs blocks send same (λ k b. on_link b.replies l ≡ None) (λ k within.
+      column_empty_single (on_now l) now (each_changed d partition bs blocks send (λ k b. on_link b.replies l ≡ None) (λ k within.
       let shape = sent_shape d low high rooms program (block_at bs k) (blocks.shaped k within) in
       get_or_past (send (block_at bs k)).replies l None (subst (λ n. n ≤ l) (sym shape.replies) past)))
 
@@ -337,7 +338,7 @@ module _ (d : ℕ) (partition : List ℕ) (bs : List BlockState) (rooms : BlockR
   are_sent : AreRepliesSent d partition rooms bs now
   are_sent = record {
     frame = record {
-      blocks = blocks_after d partition bs blocks send same;
+      blocks = blocks_after d partition bs blocks send 0 same;
       frame = record {
         switches = switch_now;
         banks = bank_now;
@@ -347,7 +348,7 @@ module _ (d : ℕ) (partition : List ℕ) (bs : List BlockState) (rooms : BlockR
       };
     };
     single = single_now;
-    nothing = each_changed d partition bs blocks send same
+    nothing = each_changed d partition bs blocks send
         (λ k b. IsSilent b) (λ k within. silent d low high rooms program (block_at bs k) (blocks.shaped k within));
   }
 

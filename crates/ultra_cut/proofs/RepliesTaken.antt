@@ -32,10 +32,12 @@ use Rattle.ultra_cut.specs.Exchange.{AreRepliesThere}
 use Rattle.ultra_cut.specs.Halves.{AreBlocks, FewMoreEvents, all_made}
 use Rattle.ultra_cut.specs.ReplyLaws.{AreRepliesTaken, RepliesTakenLaw}
 use Rattle.ultra_cut.proofs.ReplyColumns.{changed_at, column_empty, same_column}
-use Rattle.ultra_cut.proofs.ReplyHomes.{HasSameUnits, blocks_after, each_changed, element_away, element_home, home_within, switch_away, switch_home, unit_small}
+use Rattle.ultra_cut.specs.declared.kind.Kind.TheVariants.{Replies}
+use Rattle.ultra_cut.proofs.Changed.{HasSameUnits, blocks_after, each_changed, unit_small}
+use Rattle.ultra_cut.proofs.Units.{at_home, away, elements, switches}
+use Rattle.ultra_cut.proofs.There.{end_there, nothing_for_end, nothing_for_switch, switch_there}
 use Rattle.ultra_cut.proofs.ReplyInlets.{leads_to}
-use Rattle.ultra_cut.proofs.ReplyEvents.{few_of_unit}
-use Rattle.ultra_cut.proofs.RepliesThere.{element_there, nothing_for_element, nothing_for_switch, switch_there}
+use Rattle.ultra_cut.proofs.FewEvents.{few_by_replies}
 
 -- ---- links
 port_empty : {M : Type 0} (t : List (Option M)) (p : Ports ℕ) (l : ℕ) → (l ≡ p.zero) ⊎ (l ≡ p.one) → on_both t p ≡ ports None None → on_link t l ≡ None
@@ -72,7 +74,7 @@ module _ (d : ℕ) (low : 1 ≤ d) (high : d ≤ 6) (rooms : BlockRooms) (progra
   -- at most two events are told of a unit
   few_events : length taken.events ≤ length b.events + 640
   few_events =
-      let told = few_told (λ n t. told_of d low high t (unit_of d n)) b 2 (few_of_unit d low high b) 320 in
+      let told = few_told (λ n t. told_of d low high t (unit_of d n)) b 2 (few_by_replies d low high b) 320 in
       let all = ap length (events_after_taking d low high b shape) in
       let sum = length-append b.events (told_before (λ n t. told_of d low high t (unit_of d n)) 320 b) in
       omega arith
@@ -110,10 +112,10 @@ module _ (d : ℕ) (low : 1 ≤ d) (high : d ≤ 6) (rooms : BlockRooms) (progra
     same_element None is = ap (λ p. is_some p.0) (element_taken None is) ∙ sym (ap (λ o. is_some o) is)
     same_element (Some e) is = ap (λ p. is_some p.0) (element_taken (Some e) is) ∙ sym (ap (λ o. is_some o) is)
 
-  same_units : HasSameUnits d b taken
+  same_units : HasSameUnits d 0 b taken
   same_units = record {
     shape = taken_shape;
-    done = taken_done;
+    done = taken_done ∙ (let same : b.done ≡ b.done + 0 = omega arith in same);
     switches = λ n h. same_switch n h (switch_at b.switches n) refl;
     modules = λ m h. ap (λ xs. is_some (module_at xs m)) taken_modules;
     elements = λ p h. same_element p h (element_at b.elements p) refl;
@@ -139,7 +141,7 @@ module _ (d : ℕ) (partition : List ℕ) (bs : List BlockState) (rooms : BlockR
   abbrev after : Frame
   after = takes_replies d f
 
-  same : (k : ℕ) → k < length bs → HasSameUnits d (block_at bs k) (take (block_at bs k))
+  same : (k : ℕ) → k < length bs → HasSameUnits d 0 (block_at bs k) (take (block_at bs k))
   same k within = same_units d low high rooms program (block_at bs k) (blocks.shaped k within)
 
   -- ---- switch n
@@ -156,19 +158,19 @@ module _ (d : ℕ) (partition : List ℕ) (bs : List BlockState) (rooms : BlockR
     switch_now : (frame_of d partition now).switch n ≡ after.switch n
     switch_now =
         let at : ℕ = home partition n in
-        let within : at < length bs = home_within d partition bs blocks n (omega arith) in
+        let within : at < length bs = blocks.cut.homes n (omega arith) in
         ap (λ (b : BlockState). given no_switch (switch_at b.switches n)) (changed_at take bs at within)
-        ∙ ap (λ p. given no_switch p.0) (taken_at at within (Some (f.switch n)) (switch_home d partition bs blocks n h))
-        ∙ ap (after_replies d (stage_of d n) (f.switch n)) (sym (switch_there d partition bs blocks there n h))
+        ∙ ap (λ p. given no_switch p.0) (taken_at at within (Some (f.switch n)) (at_home switches d partition bs blocks.cut n h))
+        ∙ ap (after_replies d (stage_of d n) (f.switch n)) (sym (switch_there Replies d partition bs blocks.cut there n h))
 
     emptied_by_switch : (l : ℕ) → (l ≡ inlets.zero) ⊎ (l ≡ inlets.one) → (i : ℕ) → i < length bs → on_link (take (block_at bs i)).replies l ≡ None
     emptied_by_switch l inlet i within = elim (cases_eq i (home partition n)) [
-      | inl at_home ↦
-          let stands : switch_at (block_at bs i).switches n ≡ Some (f.switch n) = ap (λ i. switch_at (block_at bs i).switches n) at_home ∙ switch_home d partition bs blocks n h in
+      | inl same ↦
+          let stands : switch_at (block_at bs i).switches n ≡ Some (f.switch n) = ap (λ i. switch_at (block_at bs i).switches n) same ∙ at_home switches d partition bs blocks.cut n h in
           port_empty (take (block_at bs i)).replies inlets l inlet (ap (λ p. p.1) (taken_at i within (Some (f.switch n)) stands))
-      | inr away ↦
-          port_empty (take (block_at bs i)).replies inlets l inlet (ap (λ p. p.1) (taken_at i within None (switch_away d partition bs blocks n h i within away))
-          ∙ nothing_for_switch d partition bs blocks there n h i within away)
+      | inr other ↦
+          port_empty (take (block_at bs i)).replies inlets l inlet (ap (λ p. p.1) (taken_at i within None (away switches d partition bs blocks.cut n h i within other))
+          ∙ nothing_for_switch Replies d partition bs blocks.cut there n h i within other)
     ]
 
   -- ---- processing element p
@@ -184,26 +186,26 @@ module _ (d : ℕ) (partition : List ℕ) (bs : List BlockState) (rooms : BlockR
     element_now : (frame_of d partition now).element p ≡ after.element p
     element_now =
         let at : ℕ = home partition (element_number d p) in
-        let within : at < length bs = home_within d partition bs blocks (element_number d p) (omega arith) in
+        let within : at < length bs = blocks.cut.homes (element_number d p) (omega arith) in
         ap (λ (b : BlockState). given no_element (element_at b.elements p)) (changed_at take bs at within)
-        ∙ ap (λ q. given no_element q.0) (delivered_at at within (Some (f.element p)) (element_home d partition bs blocks p h))
-        ∙ ap (delivered_to (f.element p)) (sym (element_there d partition bs blocks there p h))
+        ∙ ap (λ q. given no_element q.0) (delivered_at at within (Some (f.element p)) (at_home elements d partition bs blocks.cut p h))
+        ∙ ap (delivered_to (f.element p)) (sym (end_there Replies d partition bs blocks.cut there p h))
 
     emptied_by_element : (i : ℕ) → i < length bs → on_link (take (block_at bs i)).replies link ≡ None
     emptied_by_element i within = elim (cases_eq i (home partition (element_number d p))) [
-      | inl at_home ↦
-          let stands : element_at (block_at bs i).elements p ≡ Some (f.element p) = ap (λ i. element_at (block_at bs i).elements p) at_home ∙ element_home d partition bs blocks p h in
+      | inl same ↦
+          let stands : element_at (block_at bs i).elements p ≡ Some (f.element p) = ap (λ i. element_at (block_at bs i).elements p) same ∙ at_home elements d partition bs blocks.cut p h in
           ap (λ q. q.1) (delivered_at i within (Some (f.element p)) stands)
-      | inr away ↦
-          ap (λ q. q.1) (delivered_at i within None (element_away d partition bs blocks p h i within away))
-          ∙ nothing_for_element d partition bs blocks there p h i within away
+      | inr other ↦
+          ap (λ q. q.1) (delivered_at i within None (away elements d partition bs blocks.cut p h i within other))
+          ∙ nothing_for_end Replies d partition bs blocks.cut there p h i within other
     ]
 
   -- ---- the rest
   bank_now : (m : ℕ) → m < 2 ^ d → (frame_of d partition now).bank m ≡ after.bank m
   bank_now m h =
       let at : ℕ = home partition (module_number d m) in
-      let within : at < length bs = home_within d partition bs blocks (module_number d m) (omega arith) in
+      let within : at < length bs = blocks.cut.homes (module_number d m) (omega arith) in
       ap (λ (b : BlockState). given empty_bank (module_at b.modules m)) (changed_at take bs at within)
       ∙ ap (λ xs. given empty_bank (module_at xs m)) (taken_modules d low high rooms program (block_at bs at) (blocks.shaped at within))
 
@@ -216,7 +218,7 @@ module _ (d : ℕ) (partition : List ℕ) (bs : List BlockState) (rooms : BlockR
 
   replies_now : (l : ℕ) → l < (d + 1) * 2 ^ d → (frame_of d partition now).replies l ≡ None
   replies_now l h =
-      column_empty (λ b. on_link b.replies l) now (each_changed d partition bs blocks take same (λ k b. on_link b.replies l ≡ None) (emptied l h))
+      column_empty (λ b. on_link b.replies l) now (each_changed d partition bs blocks take (λ k b. on_link b.replies l ≡ None) (emptied l h))
 
   requests_now : (l : ℕ) → (frame_of d partition now).requests l ≡ after.requests l
   requests_now l =
@@ -231,7 +233,7 @@ module _ (d : ℕ) (partition : List ℕ) (bs : List BlockState) (rooms : BlockR
   are_taken : AreRepliesTaken d partition bs now
   are_taken = record {
     frame = record {
-      blocks = blocks_after d partition bs blocks take same;
+      blocks = blocks_after d partition bs blocks take 0 same;
       frame = record {
         switches = switch_now;
         banks = bank_now;

@@ -33,7 +33,8 @@ use Rattle.ultra_cut.specs.Exchange.{AreSingleRequests, IsSingle}
 use Rattle.ultra_cut.specs.Halves.{AreBlocks, HasNoRequests, all_made, noted}
 use Rattle.ultra_cut.specs.RequestLaws.{AreRequestsSent, RequestsSentLaw}
 use Rattle.ultra_cut.proofs.ReplyColumns.{changed_at, column_first, column_none, column_single, column_empty_single, same_column}
-use Rattle.ultra_cut.proofs.ReplyHomes.{HasSameUnits, blocks_after, each_changed, home_within, element_away, element_home, switch_away, switch_home, unit_small}
+use Rattle.ultra_cut.proofs.Changed.{HasSameUnits, blocks_after, each_changed, unit_small}
+use Rattle.ultra_cut.proofs.Units.{at_home, away, elements, switches}
 use Rattle.ultra_cut.proofs.RequestWays.{same_leaving, same_leaving_element}
 
 -- ---- ports
@@ -113,10 +114,10 @@ module _ (d : ℕ) (low : 1 ≤ d) (high : d ≤ 6) (rooms : BlockRooms) (progra
     same_element None is = ap (λ q. is_some q.0) (element_sent None is) ∙ sym (ap (λ o. is_some o) is)
     same_element (Some x) is = ap (λ q. is_some q.0) (element_sent (Some x) is) ∙ sym (ap (λ o. is_some o) is)
 
-  same_units : HasSameUnits d b sent
+  same_units : HasSameUnits d 0 b sent
   same_units = record {
     shape = sent_shape;
-    done = sent_done;
+    done = sent_done ∙ (let same : b.done ≡ b.done + 0 = omega arith in same);
     switches = λ n h. same_switch n h (switch_at b.switches n) refl;
     elements = λ p h. same_element p h (element_at b.elements p) refl;
     modules = λ m h. ap (λ es. is_some (module_at es m)) sent_modules;
@@ -142,7 +143,7 @@ module _ (d : ℕ) (partition : List ℕ) (bs : List BlockState) (rooms : BlockR
   abbrev after : Frame
   after = sends_requests d (noted d rooms) f
 
-  same : (k : ℕ) → k < length bs → HasSameUnits d (block_at bs k) (send (block_at bs k))
+  same : (k : ℕ) → k < length bs → HasSameUnits d 0 (block_at bs k) (send (block_at bs k))
   same k within = same_units d low high rooms program (block_at bs k) (blocks.shaped k within)
 
   no_request : (k l : ℕ) → k < length bs → l < (d + 1) * 2 ^ d → on_link (block_at bs k).requests l ≡ None
@@ -154,12 +155,12 @@ module _ (d : ℕ) (partition : List ℕ) (bs : List BlockState) (rooms : BlockR
     at = home partition n
 
     at_small : at < length bs
-    at_small = home_within d partition bs blocks n (omega arith)
+    at_small = blocks.cut.homes n (omega arith)
 
     sent_home : ◌≡◌ {A = Option Switch × Ports (Option Request)}
         (switch_at (send (block_at bs at)).switches n, on_both (send (block_at bs at)).requests (places_of d (stage_of d n) (index_of d n)))
         (after_sending_switch rooms.no_request_room d low high (stage_of d n) (index_of d n) (Some (f.switch n), on_both (block_at bs at).requests (places_of d (stage_of d n) (index_of d n))))
-    sent_home = switch_sent d low high rooms program (block_at bs at) (blocks.shaped at at_small) n h (Some (f.switch n)) (switch_home d partition bs blocks n h)
+    sent_home = switch_sent d low high rooms program (block_at bs at) (blocks.shaped at at_small) n h (Some (f.switch n)) (at_home switches d partition bs blocks.cut n h)
 
     -- what leaves it
     abbrev leaves_switch : Ports (Option Request)
@@ -179,13 +180,13 @@ module _ (d : ℕ) (partition : List ℕ) (bs : List BlockState) (rooms : BlockR
     element_block = home partition (element_number d p)
 
     element_block_small : element_block < length bs
-    element_block_small = home_within d partition bs blocks (element_number d p) (omega arith)
+    element_block_small = blocks.cut.homes (element_number d p) (omega arith)
 
     sent_from_element : ◌≡◌ {A = Option ProcessingElement × Option Request}
         (element_at (send (block_at bs element_block)).elements p, on_link (send (block_at bs element_block)).requests (place_number d d p))
         (after_sending_element rooms.no_request_room d low high p (Some (f.element p), on_link (block_at bs element_block).requests (place_number d d p)))
     sent_from_element =
-        element_sent d low high rooms program (block_at bs element_block) (blocks.shaped element_block element_block_small) p h (Some (f.element p)) (element_home d partition bs blocks p h)
+        element_sent d low high rooms program (block_at bs element_block) (blocks.shaped element_block element_block_small) p h (Some (f.element p)) (at_home elements d partition bs blocks.cut p h)
 
     abbrev leaves_element : Option Request
     leaves_element = where_room (has_way_from_element rooms.no_request_room d p (pending_head (f.element p))) (pending_head (f.element p))
@@ -202,7 +203,7 @@ module _ (d : ℕ) (partition : List ℕ) (bs : List BlockState) (rooms : BlockR
   bank_now : (m : ℕ) → m < 2 ^ d → (frame_of d partition now).bank m ≡ after.bank m
   bank_now m h =
       let at : ℕ = home partition (module_number d m) in
-      let within : at < length bs = home_within d partition bs blocks (module_number d m) (omega arith) in
+      let within : at < length bs = blocks.cut.homes (module_number d m) (omega arith) in
       ap (λ (b : BlockState). given empty_bank (module_at b.modules m)) (changed_at send bs at within)
       ∙ ap (λ es. given empty_bank (module_at es m)) (sent_modules d low high rooms program (block_at bs at) (blocks.shaped at within))
 
@@ -222,7 +223,7 @@ module _ (d : ℕ) (partition : List ℕ) (bs : List BlockState) (rooms : BlockR
 
   alone_away : (l h : ℕ) → AreAlone l h → (k : ℕ) → k < length now → k ≢ h → on_link (block_at now k).requests l ≡ None
   alone_away l h alone k within other =
-      each_changed d partition bs blocks send same
+      each_changed d partition bs blocks send
       (λ k b. k ≢ h → on_link b.requests l ≡ None) alone.away k within other
 
   alone_first : (l h : ℕ) → AreAlone l h → first (requests_on now l) ≡ on_link (send (block_at bs h)).requests l
@@ -251,7 +252,7 @@ module _ (d : ℕ) (partition : List ℕ) (bs : List BlockState) (rooms : BlockR
       within = at_small n h;
       away = λ k within other.
           on_now_at k
-          ∙ ap (λ q. at_port q.1 j) (switch_sent d low high rooms program (block_at bs k) (blocks.shaped k within) n h None (switch_away d partition bs blocks n h k within other))
+          ∙ ap (λ q. at_port q.1 j) (switch_sent d low high rooms program (block_at bs k) (blocks.shaped k within) n h None (away switches d partition bs blocks.cut n h k within other))
           ∙ nothing_on k within;
     }
 
@@ -274,7 +275,7 @@ module _ (d : ℕ) (partition : List ℕ) (bs : List BlockState) (rooms : BlockR
     element_alone = record {
       within = element_block_small p h;
       away = λ k within other.
-          ap (λ q. q.1) (element_sent d low high rooms program (block_at bs k) (blocks.shaped k within) p h None (element_away d partition bs blocks p h k within other))
+          ap (λ q. q.1) (element_sent d low high rooms program (block_at bs k) (blocks.shaped k within) p h None (away elements d partition bs blocks.cut p h k within other))
           ∙ no_request k link within link_small;
     }
 
@@ -338,7 +339,7 @@ module _ (d : ℕ) (partition : List ℕ) (bs : List BlockState) (rooms : BlockR
   -- there is no link beyond
   no_link : (l : ℕ) → (d + 1) * 2 ^ d ≤ l → IsSingle (requests_on now l)
   no_link l past =
-      column_empty_single (on_now l) now (each_changed d partition bs blocks send same (λ k b. on_link b.requests l ≡ None) (λ k within.
+      column_empty_single (on_now l) now (each_changed d partition bs blocks send (λ k b. on_link b.requests l ≡ None) (λ k within.
       let shape = sent_shape d low high rooms program (block_at bs k) (blocks.shaped k within) in
       get_or_past (send (block_at bs k)).requests l None (subst (λ n. n ≤ l) (sym shape.requests) past)))
 
@@ -348,7 +349,7 @@ module _ (d : ℕ) (partition : List ℕ) (bs : List BlockState) (rooms : BlockR
   are_sent : AreRequestsSent d partition rooms bs now
   are_sent = record {
     frame = record {
-      blocks = blocks_after d partition bs blocks send same;
+      blocks = blocks_after d partition bs blocks send 0 same;
       frame = record {
         switches = switch_now;
         elements = element_now;

@@ -28,10 +28,12 @@ use Rattle.ultra_cut.specs.Exchange.{AreRequestsThere}
 use Rattle.ultra_cut.specs.Halves.{AreBlocks, FewMoreEvents, OfEach, all_made}
 use Rattle.ultra_cut.specs.RequestLaws.{AreRequestsTaken, RequestsTakenLaw}
 use Rattle.ultra_cut.proofs.ReplyColumns.{changed_at, column_empty, same_column}
-use Rattle.ultra_cut.proofs.ReplyHomes.{HasSameUnits, blocks_after, each_changed, module_away, module_home, home_within, switch_away, switch_home, unit_small}
+use Rattle.ultra_cut.specs.declared.kind.Kind.TheVariants.{Requests}
+use Rattle.ultra_cut.proofs.Changed.{HasSameUnits, blocks_after, each_changed, unit_small}
+use Rattle.ultra_cut.proofs.Units.{at_home, away, modules, switches}
+use Rattle.ultra_cut.proofs.There.{end_there, nothing_for_end, nothing_for_switch, switch_there}
 use Rattle.ultra_cut.proofs.RequestInlets.{leads_to}
-use Rattle.ultra_cut.proofs.RequestEvents.{few_of_unit}
-use Rattle.ultra_cut.proofs.RequestsThere.{module_there, nothing_for_module, nothing_for_switch, switch_there}
+use Rattle.ultra_cut.proofs.FewEvents.{few_by_requests}
 
 -- ---- links
 port_empty : {M : Type 0} (t : List (Option M)) (p : Ports ℕ) (l : ℕ) → (l ≡ p.zero) ⊎ (l ≡ p.one) → on_both t p ≡ ports None None → on_link t l ≡ None
@@ -70,7 +72,7 @@ module _ (d c : ℕ) (low : 1 ≤ d) (high : d ≤ 6) (rooms : BlockRooms) (prog
   -- at most two events are told of a unit
   few_events : length taken.events ≤ length b.events + 640
   few_events =
-      let told = few_told (λ n t. told_of d c low high n t (unit_of d n)) b 2 (few_of_unit d c low high b) 320 in
+      let told = few_told (λ n t. told_of d c low high n t (unit_of d n)) b 2 (few_by_requests d low high b c) 320 in
       let all = ap length (events_after_taking d c low high b start) in
       let sum = length-append b.events (told_before (λ n t. told_of d c low high n t (unit_of d n)) 320 b) in
       omega arith
@@ -108,10 +110,10 @@ module _ (d c : ℕ) (low : 1 ≤ d) (high : d ≤ 6) (rooms : BlockRooms) (prog
     same_module None is = ap (λ q. is_some q.0) (module_taken None is) ∙ sym (ap (λ o. is_some o) is)
     same_module (Some x) is = ap (λ q. is_some q.0) (module_taken (Some x) is) ∙ sym (ap (λ o. is_some o) is)
 
-  same_units : HasSameUnits d b taken
+  same_units : HasSameUnits d 0 b taken
   same_units = record {
     shape = taken_in_cycle.shape;
-    done = taken_in_cycle.done ∙ sym start.done;
+    done = taken_in_cycle.done ∙ sym start.done ∙ (let same : b.done ≡ b.done + 0 = omega arith in same);
     switches = λ n h. same_switch n h (switch_at b.switches n) refl;
     elements = λ p h. ap (λ xs. is_some (element_at xs p)) taken_elements;
     modules = λ m h. same_module m h (module_at b.modules m) refl;
@@ -141,7 +143,7 @@ module _ (d : ℕ) (partition : List ℕ) (c : ℕ) (bs : List BlockState) (room
   start : (k : ℕ) → k < length bs → InCycle d c (block_at bs k)
   start k within = record { shape = blocks.shaped k within; done = done k within }
 
-  same : (k : ℕ) → k < length bs → HasSameUnits d (block_at bs k) (take (block_at bs k))
+  same : (k : ℕ) → k < length bs → HasSameUnits d 0 (block_at bs k) (take (block_at bs k))
   same k within = same_units d c low high rooms program (block_at bs k) (start k within)
 
   -- ---- switch n
@@ -158,19 +160,19 @@ module _ (d : ℕ) (partition : List ℕ) (c : ℕ) (bs : List BlockState) (room
     switch_now : (frame_of d partition now).switch n ≡ after.switch n
     switch_now =
         let at : ℕ = home partition n in
-        let within : at < length bs = home_within d partition bs blocks n (omega arith) in
+        let within : at < length bs = blocks.cut.homes n (omega arith) in
         ap (λ (b : BlockState). given no_switch (switch_at b.switches n)) (changed_at take bs at within)
-        ∙ ap (λ q. given no_switch q.0) (taken_at at within (Some (f.switch n)) (switch_home d partition bs blocks n h))
-        ∙ ap (after_requests d (stage_of d n) c (f.switch n)) (sym (switch_there d partition bs blocks there n h))
+        ∙ ap (λ q. given no_switch q.0) (taken_at at within (Some (f.switch n)) (at_home switches d partition bs blocks.cut n h))
+        ∙ ap (after_requests d (stage_of d n) c (f.switch n)) (sym (switch_there Requests d partition bs blocks.cut there n h))
 
     emptied_by_switch : (l : ℕ) → (l ≡ inlets.zero) ⊎ (l ≡ inlets.one) → (i : ℕ) → i < length bs → on_link (take (block_at bs i)).requests l ≡ None
     emptied_by_switch l inlet i within = elim (cases_eq i (home partition n)) [
-      | inl at_home ↦
-          let stands : switch_at (block_at bs i).switches n ≡ Some (f.switch n) = ap (λ i. switch_at (block_at bs i).switches n) at_home ∙ switch_home d partition bs blocks n h in
+      | inl same ↦
+          let stands : switch_at (block_at bs i).switches n ≡ Some (f.switch n) = ap (λ i. switch_at (block_at bs i).switches n) same ∙ at_home switches d partition bs blocks.cut n h in
           port_empty (take (block_at bs i)).requests inlets l inlet (ap (λ q. q.1) (taken_at i within (Some (f.switch n)) stands))
-      | inr away ↦
-          port_empty (take (block_at bs i)).requests inlets l inlet (ap (λ q. q.1) (taken_at i within None (switch_away d partition bs blocks n h i within away))
-          ∙ nothing_for_switch d partition bs blocks there n h i within away)
+      | inr other ↦
+          port_empty (take (block_at bs i)).requests inlets l inlet (ap (λ q. q.1) (taken_at i within None (away switches d partition bs blocks.cut n h i within other))
+          ∙ nothing_for_switch Requests d partition bs blocks.cut there n h i within other)
     ]
 
   -- ---- module m
@@ -186,26 +188,26 @@ module _ (d : ℕ) (partition : List ℕ) (c : ℕ) (bs : List BlockState) (room
     bank_now : (frame_of d partition now).bank m ≡ after.bank m
     bank_now =
         let at : ℕ = home partition (module_number d m) in
-        let within : at < length bs = home_within d partition bs blocks (module_number d m) (omega arith) in
+        let within : at < length bs = blocks.cut.homes (module_number d m) (omega arith) in
         ap (λ (b : BlockState). given empty_bank (module_at b.modules m)) (changed_at take bs at within)
-        ∙ ap (λ q. given empty_bank q.0) (came_at at within (Some (f.bank m)) (module_home d partition bs blocks m h))
-        ∙ ap (bank_with (2 ^ d) (f.bank m)) (sym (module_there d partition bs blocks there m h))
+        ∙ ap (λ q. given empty_bank q.0) (came_at at within (Some (f.bank m)) (at_home modules d partition bs blocks.cut m h))
+        ∙ ap (bank_with (2 ^ d) (f.bank m)) (sym (end_there Requests d partition bs blocks.cut there m h))
 
     emptied_by_module : (i : ℕ) → i < length bs → on_link (take (block_at bs i)).requests link ≡ None
     emptied_by_module i within = elim (cases_eq i (home partition (module_number d m))) [
-      | inl at_home ↦
-          let stands : module_at (block_at bs i).modules m ≡ Some (f.bank m) = ap (λ i. module_at (block_at bs i).modules m) at_home ∙ module_home d partition bs blocks m h in
+      | inl same ↦
+          let stands : module_at (block_at bs i).modules m ≡ Some (f.bank m) = ap (λ i. module_at (block_at bs i).modules m) same ∙ at_home modules d partition bs blocks.cut m h in
           ap (λ q. q.1) (came_at i within (Some (f.bank m)) stands)
-      | inr away ↦
-          ap (λ q. q.1) (came_at i within None (module_away d partition bs blocks m h i within away))
-          ∙ nothing_for_module d partition bs blocks there m h i within away
+      | inr other ↦
+          ap (λ q. q.1) (came_at i within None (away modules d partition bs blocks.cut m h i within other))
+          ∙ nothing_for_end Requests d partition bs blocks.cut there m h i within other
     ]
 
   -- ---- the rest
   element_now : (p : ℕ) → p < 2 ^ d → (frame_of d partition now).element p ≡ after.element p
   element_now p h =
       let at : ℕ = home partition (element_number d p) in
-      let within : at < length bs = home_within d partition bs blocks (element_number d p) (omega arith) in
+      let within : at < length bs = blocks.cut.homes (element_number d p) (omega arith) in
       ap (λ (b : BlockState). given no_element (element_at b.elements p)) (changed_at take bs at within)
       ∙ ap (λ xs. given no_element (element_at xs p)) (taken_elements d c low high rooms program (block_at bs at) (start at within))
 
@@ -218,7 +220,7 @@ module _ (d : ℕ) (partition : List ℕ) (c : ℕ) (bs : List BlockState) (room
 
   requests_now : (l : ℕ) → l < (d + 1) * 2 ^ d → (frame_of d partition now).requests l ≡ None
   requests_now l h =
-      column_empty (λ b. on_link b.requests l) now (each_changed d partition bs blocks take same (λ k b. on_link b.requests l ≡ None) (emptied l h))
+      column_empty (λ b. on_link b.requests l) now (each_changed d partition bs blocks take (λ k b. on_link b.requests l ≡ None) (emptied l h))
 
   replies_now : (l : ℕ) → (frame_of d partition now).replies l ≡ after.replies l
   replies_now l =
@@ -233,7 +235,7 @@ module _ (d : ℕ) (partition : List ℕ) (c : ℕ) (bs : List BlockState) (room
   are_taken : AreRequestsTaken d partition c bs now
   are_taken = record {
     frame = record {
-      blocks = blocks_after d partition bs blocks take same;
+      blocks = blocks_after d partition bs blocks take 0 same;
       frame = record {
         switches = switch_now;
         elements = element_now;
