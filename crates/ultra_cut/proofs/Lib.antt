@@ -10,6 +10,7 @@ pub mod Changed
 pub mod There
 pub mod ReplyInlets
 pub mod FewEvents
+pub mod Sending
 pub mod RepliesSent
 pub mod RepliesTaken
 pub mod CanTakeReplies
