@@ -7,7 +7,9 @@ pub mod RequestsMoved
 pub mod Alike
 pub mod ReplyColumns
 pub mod Changed
+pub mod Inlets
 pub mod There
+pub mod Taking
 pub mod ReplyInlets
 pub mod FewEvents
 pub mod Sending

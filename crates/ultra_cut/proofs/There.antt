@@ -1,43 +1,16 @@
 -- Where each message is in the block to which it leads: what comes to a unit is what its block has for it.
 use Rattle.std.proofs.Common.{◌≡◌, ◌≢◌, ℕ, ◌^◌, ◌<◌, List, Some, None, length, refl, sym, ap, subst, arith}
 use Rattle.ultra_switch.specs.declared.Ports.{Ports}
-use Rattle.ultra_units.specs.Numbers.{switch_count, unit_count, module_number, element_number}
+use Rattle.ultra_units.specs.Numbers.{switch_count, unit_count}
 use Rattle.ultra_halves.specs.Halves.{ports}
-use Rattle.ultra_section.specs.Units.{stage_of, index_of}
-use Rattle.ultra_section.specs.Marks.{delivery_link, memory_link, on_both, on_link, reply_links, request_links}
+use Rattle.ultra_section.specs.Marks.{on_both, on_link}
 use Rattle.ultra_section.specs.BlockState.{BlockState}
-use Rattle.ultra_section.specs.Away.{AreEmpty, reply_inlets, request_inlets}
-use Rattle.ultra_section.proofs.Standing.{unit_of_switch, unit_of_module, unit_of_element}
+use Rattle.ultra_section.specs.Away.{AreEmpty}
 use Rattle.ultra_cut.specs.declared.kind.Kind.{Kind}
-use Rattle.ultra_cut.specs.declared.kind.Kind.TheVariants.{Replies, Requests}
 use Rattle.ultra_cut.specs.Cut.{IsCut, block_at, first, home}
 use Rattle.ultra_cut.specs.Kinds.{HasNoneFor, inlets, on_each, table}
+use Rattle.ultra_cut.proofs.Inlets.{end_inlets, end_link, end_number, end_small, links, switch_inlets}
 use Rattle.ultra_cut.proofs.ReplyColumns.{column_first}
-
--- ---- the links to switch n, and those to unit i of the sort in which the way ends
-abbrev pub links : Kind → ℕ → ℕ → Ports ℕ
-links Replies d n = reply_links d (stage_of d n) (index_of d n)
-links Requests d n = request_links d (stage_of d n) (index_of d n)
-
-abbrev pub end_link : Kind → ℕ → ℕ → ℕ
-end_link Replies d p = delivery_link d p
-end_link Requests d m = memory_link d m
-
-abbrev pub end_number : Kind → ℕ → ℕ → ℕ
-end_number Replies d p = element_number d p
-end_number Requests d m = module_number d m
-
-switch_inlets : (kind : Kind) (d n : ℕ) → n < switch_count d → inlets kind d n ≡ Some (links kind d n)
-switch_inlets Replies d n h = rw (reply_inlets, unit_of_switch d n h) refl
-switch_inlets Requests d n h = rw (request_inlets, unit_of_switch d n h) refl
-
-end_inlets : (kind : Kind) (d i : ℕ) → i < 2 ^ d → inlets kind d (end_number kind d i) ≡ Some (ports (end_link kind d i) (end_link kind d i))
-end_inlets Replies d p h = rw (reply_inlets, unit_of_element d p h) refl
-end_inlets Requests d m h = rw (request_inlets, unit_of_module d m h) refl
-
-end_small : (kind : Kind) (d i : ℕ) → i < 2 ^ d → end_number kind d i < unit_count d
-end_small Replies d p h = omega arith
-end_small Requests d m h = omega arith
 
 module _ (kind : Kind) (d : ℕ) (partition : List ℕ) (bs : List BlockState) (cut : IsCut d partition bs)
     (there : (k n : ℕ) → k < length bs → n < unit_count d → HasNoneFor kind d partition bs k n) where
