@@ -38,7 +38,6 @@ pub mod Telling
 pub mod Happenings
 pub mod Ascending
 pub mod InOrder
-pub mod Links
 pub mod Chain
 pub mod Homes
 pub mod Replied
