@@ -15,12 +15,11 @@ pub mod FewEvents
 pub mod Sending
 pub mod RepliesSent
 pub mod RepliesTaken
-pub mod CanTakeReplies
+pub mod CanTake
 pub mod RequestInlets
 pub mod RequestWays
 pub mod RequestsSent
 pub mod RequestsTaken
-pub mod CanTakeRequests
 pub mod Units
 pub mod Each
 pub mod Served

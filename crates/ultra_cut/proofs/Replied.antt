@@ -20,7 +20,7 @@ use Rattle.ultra_cut.proofs.RepliesMoved.{still_blocks}
 use Rattle.ultra_cut.specs.ReplyLaws.{AreRepliesSent, AreRepliesTaken}
 use Rattle.ultra_cut.proofs.RepliesSent.{replies_sent}
 use Rattle.ultra_cut.proofs.RepliesTaken.{replies_taken}
-use Rattle.ultra_cut.proofs.CanTakeReplies as taking
+use Rattle.ultra_cut.proofs.CanTake as taking
 use Rattle.ultra_cut.specs.UnitLaws.{HaveServed}
 use Rattle.ultra_cut.proofs.Served.{serve_law, can_serve_law}
 use Rattle.std.specs.Option.{ForSome}

@@ -20,7 +20,7 @@ use Rattle.ultra_cut.proofs.RequestsMoved.{still_blocks}
 use Rattle.ultra_cut.specs.RequestLaws.{AreRequestsSent, AreRequestsTaken}
 use Rattle.ultra_cut.proofs.RequestsSent.{requests_sent}
 use Rattle.ultra_cut.proofs.RequestsTaken.{requests_taken}
-use Rattle.ultra_cut.proofs.CanTakeRequests as taking
+use Rattle.ultra_cut.proofs.CanTake as taking
 use Rattle.ultra_cut.specs.UnitLaws.{HaveExecuted}
 use Rattle.ultra_cut.proofs.Executed.{execute_law, can_execute_law}
 use Rattle.ultra_cut.specs.Moments.{AreMachine}
