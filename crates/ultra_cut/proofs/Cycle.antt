@@ -21,6 +21,7 @@ use Rattle.ultra_cut.proofs.Homes.{sites}
 use Rattle.ultra_cut.proofs.CycleEvents as tell
 use Rattle.ultra_cut.proofs.Replied as replied
 use Rattle.ultra_cut.proofs.Requested as requested
+use Rattle.ultra_cut.proofs.Requested.{AreServed}
 
 module _ (c : Settings) (partition : List ℕ) (n : ℕ) (events : List Event) (stops : List Stop) (m : Machine) (program : List Instr)
     (bs : List BlockState) (start : AreMachine c partition n events stops m bs) (clear : IsClear c.stages (frame_of c.stages partition bs))
@@ -39,6 +40,21 @@ module _ (c : Settings) (partition : List ℕ) (n : ℕ) (events : List Event) (
   abbrev served : List BlockState
   served = tell.served d n partition program first first bs replies replies
 
+  abbrev told : List Event
+  told = deliveries d (f replies) ++ servings d (f taken)
+
+  abbrev middle : Machine
+  middle = memory_phase c (reply_phase c m)
+
+  pub are_served : (second : BlockRooms) → AreRooms d (f served) (noted d second) → AreServed c partition n told middle served second
+  are_served second room = record {
+    machine = replied.served_machine c partition n events stops m program bs start clear first first_room replies replies_moved replies_there;
+    clear = replied.served_clear c partition n events stops m program bs start clear first first_room replies replies_moved replies_there;
+    few = replied.served_few c partition n events stops m program bs start clear first first_room replies replies_moved replies_there;
+    no_stops = replied.served_stops c partition n events stops m program bs start clear first first_room replies replies_moved replies_there;
+    room = room;
+  }
+
   module _ (second : BlockRooms) (second_room : AreRooms d (f served) (noted d second))
       (requests : List BlockState) (requests_moved : OnlyRequestsMove (all_made SendRequests second program served) requests)
       (requests_there : AreRequestsThere d partition requests) where
@@ -48,36 +64,18 @@ module _ (c : Settings) (partition : List ℕ) (n : ℕ) (events : List Event) (
     abbrev stepped : List BlockState
     stepped = tell.stepped d n partition program first second bs replies requests
 
-    abbrev told : List Event
-    told = deliveries d (f replies) ++ servings d (f taken)
+    abbrev next : AreServed c partition n told middle served second
+    next = are_served second second_room
 
-    served_machine : AreMachine c partition n told [] (memory_phase c (reply_phase c m)) served
-    served_machine = replied.served_machine c partition n events stops m program bs start clear first first_room replies replies_moved replies_there
-
-    served_clear : IsClear d (f served)
-    served_clear = replied.served_clear c partition n events stops m program bs start clear first first_room replies replies_moved replies_there
-
-    waiting_machine : AreMachine c partition n (told ++ combinations d n (f requests)) [] (request_phase c (memory_phase c (reply_phase c m))) waiting
-    waiting_machine =
-        requested.taken_machine c partition n told (memory_phase c (reply_phase c m)) program served served_machine served_clear
-        (replied.served_few c partition n events stops m program bs start clear first first_room replies replies_moved replies_there)
-        (replied.served_stops c partition n events stops m program bs start clear first first_room replies replies_moved replies_there)
-        second second_room requests requests_moved requests_there
+    waiting_machine : AreMachine c partition n (told ++ combinations d n (f requests)) [] (request_phase c middle) waiting
+    waiting_machine = requested.taken_machine c partition n told middle program served second next requests requests_moved requests_there
 
     stepped_machine : AreMachine c partition (n + 1) ((told ++ combinations d n (f requests)) ++ issues d program (f waiting)) (all_stops d program (f waiting))
-        (processor_phase c program (request_phase c (memory_phase c (reply_phase c m)))) stepped
-    stepped_machine =
-        requested.stepped_machine c partition n told (memory_phase c (reply_phase c m)) program served served_machine served_clear
-        (replied.served_few c partition n events stops m program bs start clear first first_room replies replies_moved replies_there)
-        (replied.served_stops c partition n events stops m program bs start clear first first_room replies replies_moved replies_there)
-        second second_room requests requests_moved requests_there
+        (processor_phase c program (request_phase c middle)) stepped
+    stepped_machine = requested.stepped_machine c partition n told middle program served second next requests requests_moved requests_there
 
     pub stepped_clear : IsClear d (f stepped)
-    stepped_clear =
-        requested.stepped_clear c partition n told (memory_phase c (reply_phase c m)) program served served_machine served_clear
-        (replied.served_few c partition n events stops m program bs start clear first first_room replies replies_moved replies_there)
-        (replied.served_stops c partition n events stops m program bs start clear first first_room replies replies_moved replies_there)
-        second second_room requests requests_moved requests_there
+    stepped_clear = requested.stepped_clear c partition n told middle program served second next requests requests_moved requests_there
 
     in_cycle : tell.AreInCycle d n partition program first second bs replies requests
     in_cycle = record {
@@ -87,19 +85,13 @@ module _ (c : Settings) (partition : List ℕ) (n : ℕ) (events : List Event) (
       replies_blocks = replied.there_blocks c partition n events stops m program bs start clear first first_room replies replies_moved replies_there;
       replies_home = replied.there_home c partition n events stops m program bs start clear first first_room replies replies_moved replies_there;
       taken_blocks = (replied.taken_machine c partition n events stops m program bs start clear first first_room replies replies_moved replies_there).blocks;
-      served_blocks = served_machine.blocks;
+      served_blocks = next.machine.blocks;
       requests_moved = requests_moved;
       requests_there = requests_there;
-      requests_blocks = requested.there_blocks c partition n told (memory_phase c (reply_phase c m)) program served served_machine served_clear
-          (replied.served_few c partition n events stops m program bs start clear first first_room replies replies_moved replies_there)
-          (replied.served_stops c partition n events stops m program bs start clear first first_room replies replies_moved replies_there)
-          second second_room requests requests_moved requests_there;
-      requests_done = requested.there_done c partition n told (memory_phase c (reply_phase c m)) program served served_machine served_clear
-          (replied.served_few c partition n events stops m program bs start clear first first_room replies replies_moved replies_there)
-          (replied.served_stops c partition n events stops m program bs start clear first first_room replies replies_moved replies_there)
-          second second_room requests requests_moved requests_there;
+      requests_blocks = requested.there_blocks c partition n told middle program served second next requests requests_moved requests_there;
+      requests_done = requested.there_done c partition n told middle program served second next requests requests_moved requests_there;
       waiting_blocks = waiting_machine.blocks;
-      sites = sites c n (f waiting) (told ++ combinations d n (f requests)) [] (request_phase c (memory_phase c (reply_phase c m))) waiting_machine.machine;
+      sites = sites c n (f waiting) (told ++ combinations d n (f requests)) [] (request_phase c middle) waiting_machine.machine;
     }
 
     tell_all : TellAll d n partition program (tell.course d n partition program first second bs replies requests)
@@ -112,6 +104,6 @@ module _ (c : Settings) (partition : List ℕ) (n : ℕ) (events : List Event) (
     pub cycled : AreMachine c partition (n + 1) (events_of d stepped) (stops_of d stepped) (cycle c program m) stepped
     unfolding cycle
     cycled =
-        subst (λ es. AreMachine c partition (n + 1) es (stops_of d stepped) (processor_phase c program (request_phase c (memory_phase c (reply_phase c m)))) stepped) (sym tell_all.events)
-        (subst (λ ss. AreMachine c partition (n + 1) ((told ++ combinations d n (f requests)) ++ issues d program (f waiting)) ss (processor_phase c program (request_phase c (memory_phase c (reply_phase c m)))) stepped)
+        subst (λ es. AreMachine c partition (n + 1) es (stops_of d stepped) (processor_phase c program (request_phase c middle)) stepped) (sym tell_all.events)
+        (subst (λ ss. AreMachine c partition (n + 1) ((told ++ combinations d n (f requests)) ++ issues d program (f waiting)) ss (processor_phase c program (request_phase c middle)) stepped)
         (sym tell_all.stops) stepped_machine)

@@ -2,18 +2,18 @@
 -- has changed: they are the frame in which those have.
 use Rattle.std.proofs.Common.{◌≡◌, ℕ, ◌+◌, ◌^◌, ◌<◌, List, map, Option, Some, None, true, length, refl, sym, ◌∙◌, ap, subst, arith}
 use Rattle.std.specs.Prelude.{is_some}
-use Rattle.std.proofs.lemmas.List.{ext_get_or, get_or-map, length-map}
 use Rattle.ultra_mem.specs.Serve.{Bank, empty_bank}
 use Rattle.ultra_units.specs.Numbers.{switch_count, unit_count, module_number, element_number}
 use Rattle.ultra_halves.specs.declared.elements.ProcessingElement.{ProcessingElement}
 use Rattle.ultra_section.specs.BlockState.{BlockState, switch_at, module_at, element_at}
 use Rattle.ultra_section.specs.Shape.{IsShaped}
 use Rattle.ultra_section.specs.Marks.{on_link}
-use Rattle.ultra_section.specs.Away.{stands}
-use Rattle.ultra_course.specs.Frame.{Frame, AreAlike}
-use Rattle.ultra_cut.specs.Cut.{IsCut, block_at, first, frame_of, given, home, no_block, no_element, no_switch}
-use Rattle.ultra_cut.specs.Halves.{AreBlocks, AreBlocksAfter, HaveFrame}
-use Rattle.ultra_cut.proofs.Units.{by_kind, switch_stands, module_stands, element_stands, none_stands, is_given, module_at_home, element_at_home}
+use Rattle.ultra_course.specs.Frame.{Frame}
+use Rattle.ultra_cut.specs.Cut.{block_at, first, frame_of, given, home, no_element, no_switch}
+use Rattle.ultra_cut.specs.Halves.{AreBlocks, HaveFrame}
+use Rattle.ultra_cut.proofs.Changed.{HasSameUnits, blocks_after}
+use Rattle.ultra_cut.proofs.ReplyColumns.{changed_at, same_column}
+use Rattle.ultra_cut.proofs.Units.{is_given, module_at_home, element_at_home}
 
 -- what becomes of a unit that stands there
 abbrev pub worked : {X : Type 0} → (X → X) → Option X → Option X
@@ -43,64 +43,25 @@ pub record HasWorked (d : ℕ) (f : Bank → Bank) (g : ProcessingElement → Pr
   pub replies : now.replies ≡ b.replies
   pub requests : now.requests ≡ b.requests
 
--- the same units stand there
-same_units : (d : ℕ) (f : Bank → Bank) (g : ProcessingElement → ProcessingElement) (more : ℕ) (b now : BlockState) → b.stages ≡ d
-    → HasWorked d f g more b now → (n : ℕ) → stands n now ≡ stands n b
-same_units d f g more b now stages work =
-    by_kind d (λ n. stands n now ≡ stands n b)
-    (λ n h. switch_stands d now work.shaped.stages n h ∙ ap (λ ws. is_some (switch_at ws n)) work.switches ∙ sym (switch_stands d b stages n h))
-    (λ m h. module_stands d now work.shaped.stages m h ∙ ap is_some (work.modules m h) ∙ still_some f (module_at b.modules m) ∙ sym (module_stands d b stages m h))
-    (λ p h. element_stands d now work.shaped.stages p h ∙ ap is_some (work.elements p h) ∙ still_some g (element_at b.elements p) ∙ sym (element_stands d b stages p h))
-    (λ n h. none_stands d now work.shaped.stages n h ∙ sym (none_stands d b stages n h))
+same_units : (d : ℕ) (f : Bank → Bank) (g : ProcessingElement → ProcessingElement) (more : ℕ) (b now : BlockState) → HasWorked d f g more b now → HasSameUnits d more b now
+same_units d f g more b now work = record {
+  shape = work.shaped;
+  done = work.done;
+  switches = λ n h. ap (λ ws. is_some (switch_at ws n)) work.switches;
+  modules = λ m h. ap is_some (work.modules m h) ∙ still_some f (module_at b.modules m);
+  elements = λ p h. ap is_some (work.elements p h) ∙ still_some g (element_at b.elements p);
+}
 
 module _ (d : ℕ) (partition : List ℕ) (bs : List BlockState) (are : AreBlocks d partition bs) (make : BlockState → BlockState) where
   abbrev now : List BlockState
   now = map make bs
 
-  count : length now ≡ length bs
-  count = length-map bs make
-
-  pub made_at : (k : ℕ) → k < length bs → block_at now k ≡ make (block_at bs k)
-  made_at k h = get_or-map make bs k no_block no_block h
-
   module _ (f : Bank → Bank) (g : ProcessingElement → ProcessingElement) (more : ℕ) (each : (k : ℕ) → k < length bs → HasWorked d f g more (block_at bs k) (make (block_at bs k))) where
     at_block : (k : ℕ) → k < length bs → HasWorked d f g more (block_at bs k) (block_at now k)
-    at_block k h = subst (HasWorked d f g more (block_at bs k)) (sym (made_at k h)) (each k h)
+    at_block k h = subst (HasWorked d f g more (block_at bs k)) (sym (changed_at make bs k h)) (each k h)
 
     at_home : (n : ℕ) → n < unit_count d → HasWorked d f g more (block_at bs (home partition n)) (block_at now (home partition n))
     at_home n h = at_block (home partition n) (are.cut.homes n h)
-
-    still_within : (k : ℕ) → k < length now → k < length bs
-    still_within k h = subst (λ n. k < n) count h
-
-    still_cut : IsCut d partition now
-    still_cut = record {
-      count = are.cut.count;
-      homes = λ n h. subst (λ x. home partition n < x) (sym count) (are.cut.homes n h);
-      stages = λ k h. (at_block k (still_within k h)).shaped.stages;
-      stand = λ k n h unit.
-          let within = still_within k h in
-          same_units d f g more (block_at bs k) (block_at now k) (are.cut.stages k within) (at_block k within) n ∙ are.cut.stand k n within unit;
-    }
-
-    still_blocks : AreBlocksAfter d partition more bs now
-    still_blocks = record {
-      blocks = record {
-        some_stages = are.some_stages;
-        few_stages = are.few_stages;
-        cut = still_cut;
-        shaped = λ k h. (at_block k (still_within k h)).shaped;
-      };
-      count = count;
-      done = λ k h. (at_block k h).done;
-    }
-
-    -- what the blocks have on a link
-    same_column : {X : Type 0} (get : BlockState → Option X) → ((k : ℕ) → k < length bs → get (block_at now k) ≡ get (block_at bs k)) → map get now ≡ map get bs
-    same_column get same =
-        ext_get_or None (map get now) (map get bs) (length-map now get ∙ count ∙ sym (length-map bs get)) (λ i within.
-        let inside : i < length now = subst (λ n. i < n) (length-map now get) within in
-        get_or-map get now i no_block None inside ∙ same i (still_within i inside) ∙ sym (get_or-map get bs i no_block None (still_within i inside)))
 
     abbrev after : Frame
     after = record (frame_of d partition bs) {
@@ -123,12 +84,12 @@ module _ (d : ℕ) (partition : List ℕ) (bs : List BlockState) (are : AreBlock
 
     pub have_frame : HaveFrame d partition more bs now after
     have_frame = record {
-      blocks = still_blocks;
+      blocks = blocks_after d partition bs are make more (λ k h. same_units d f g more (block_at bs k) (make (block_at bs k)) (each k h));
       frame = record {
         switches = same_switch;
         banks = bank_worked;
         elements = element_worked;
-        replies = λ l h. ap first (same_column (λ b. on_link b.replies l) (λ k within. ap (λ t. on_link t l) (at_block k within).replies));
-        requests = λ l h. ap first (same_column (λ b. on_link b.requests l) (λ k within. ap (λ t. on_link t l) (at_block k within).requests));
+        replies = λ l h. ap first (same_column make bs (λ b. on_link b.replies l) (λ k within. ap (λ t. on_link t l) (each k within).replies));
+        requests = λ l h. ap first (same_column make bs (λ b. on_link b.requests l) (λ k within. ap (λ t. on_link t l) (each k within).requests));
       };
     }

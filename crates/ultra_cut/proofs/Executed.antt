@@ -1,9 +1,9 @@
 -- After every block has made a step of the program, the blocks are the frame in which each
 -- processing element has.
-use Rattle.std.proofs.Common.{◌≡◌, ℕ, ◌+◌, ◌-◌, ◌^◌, ◌<◌, ◌≤◌, List, [], true, Option, Some, None, length, refl, sym, ◌∙◌, ap, subst, arith, le-ltb}
+use Rattle.std.proofs.Common.{◌≡◌, ℕ, ◌+◌, ◌-◌, ◌^◌, ◌<◌, ◌≤◌, List, Option, Some, None, length, refl, sym, ◌∙◌, ap, subst, arith, le-ltb}
 use Rattle.std.specs.Prelude.{is_some}
 use Rattle.ultra_isa.specs.declared.Instr.{Instr}
-use Rattle.ultra_units.specs.Numbers.{switch_count, unit_count, module_number, element_number}
+use Rattle.ultra_units.specs.Numbers.{switch_count, unit_count}
 use Rattle.ultra_units.specs.Visits.{after_units}
 use Rattle.ultra_halves.specs.declared.elements.ProcessingElement.{ProcessingElement}
 use Rattle.ultra_halves.specs.Elements.{executed}
@@ -18,11 +18,12 @@ use Rattle.ultra_section.proofs.Few.{room_for_half}
 use Rattle.ultra_section.proofs.ExecutedOnce.{element_after_executing, kept_by_executing, shape_after_executing}
 use Rattle.ultra_section.proofs.Standing.{unit_of_switch, unit_of_module, unit_of_element}
 use Rattle.ultra_course.specs.Conditions.{CanExecute}
-use Rattle.ultra_cut.specs.Cut.{block_at, frame_of, given, home, no_element}
+use Rattle.ultra_cut.specs.Cut.{block_at, frame_of, given, no_element}
 use Rattle.ultra_cut.specs.Halves.{AreBlocks, HasHalfRoom, OfEach, all_made}
 use Rattle.ultra_cut.proofs.Numbers.{few_units}
-use Rattle.ultra_cut.specs.UnitLaws.{CanCount, CanExecuteLaw, ExecuteLaw, HasNoStops, HaveExecuted}
-use Rattle.ultra_cut.proofs.Units.{by_kind, element_stands, home_is}
+use Rattle.ultra_cut.specs.UnitLaws.{CanExecuteLaw, ExecuteLaw, HasNoStops, HaveExecuted}
+use Rattle.ultra_section.proofs.OfKind.{by_kind}
+use Rattle.ultra_cut.proofs.Units.{elements, unit_is}
 use Rattle.ultra_cut.proofs.Each.{HasWorked, have_frame, same_worked, worked}
 
 module _ (program : List Instr) (d : ℕ) (low : 1 ≤ d) (high : d ≤ 6) (b : BlockState) (shape : IsShaped d b) where
@@ -68,18 +69,12 @@ pub execute_law : ExecuteLaw
 execute_law = have_executed
 
 -- ---- what the half asks
-some_is : {X : Type 0} (o : Option X) (x : X) → o ≡ Some x → is_some o ≡ true
-some_is o x is = ap is_some is
-
 module _ (d : ℕ) (partition : List ℕ) (bs : List BlockState) (are : AreBlocks d partition bs) (can : CanExecute d (frame_of d partition bs)) where
   -- a processing element that stands in a block is that of the frame
   element_can : (k : ℕ) → k < length bs → (p : ℕ) → p < 2 ^ d → ElementCanExecute p (block_at bs k)
   element_can k h p small e is =
-      let unit : element_number d p < unit_count d = omega arith in
-      let there = element_stands d (block_at bs k) (are.cut.stages k h) p small ∙ some_is (element_at (block_at bs k).elements p) e is in
-      let same : home partition (element_number d p) ≡ k = home_is d partition bs are.cut (element_number d p) k unit h there in
       let of_frame : (frame_of d partition bs).element p ≡ e =
-      ap (λ i. given no_element (element_at (block_at bs i).elements p)) same ∙ ap (given no_element) is in
+      unit_is elements d partition bs are.cut p small k h (ap is_some is) ∙ ap (given no_element) is in
       subst (λ (e : ProcessingElement). e.issued < 2 ^ 32 - 1) of_frame (can.counted p small)
 
   unit_can : (k : ℕ) → k < length bs → (n : ℕ) → UnitCanExecute (block_at bs k) (unit_of (block_at bs k).stages n)

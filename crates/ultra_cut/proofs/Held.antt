@@ -28,9 +28,10 @@ use Rattle.ultra_course.proofs.AtFrame.{lane_is, replies_is, bank_is, element_is
 use Rattle.ultra_cut.specs.Cut.{block_at, frame_of, given, home, no_switch, no_element}
 use Rattle.ultra_cut.specs.Halves.{AreBlocks}
 use Rattle.ultra_cut.specs.Holding.{holds, stage_holds, interface_holds}
-use Rattle.ultra_cut.proofs.Units.{by_kind, element_stands}
-use Rattle.ultra_cut.proofs.Numbers.{not_equal}
-use Rattle.ultra_cut.proofs.Noted.{equal, next_is, switch_there, module_there}
+use Rattle.ultra_section.proofs.OfKind.{by_kind}
+use Rattle.ultra_cut.proofs.Units.{elements, modules, stands_at, switches}
+use Rattle.ultra_cut.proofs.Numbers.{equal, not_equal}
+use Rattle.ultra_cut.proofs.Noted.{next_is}
 
 and_false : (b : Bool) → false ≡ (b && false)
 and_false true = refl
@@ -139,11 +140,6 @@ module _ (c : Settings) (partition : List ℕ) (bs : List BlockState) (are : Are
   abbrev pub whole_holds : ℕ → Bool
   whole_holds u = holds c.stages whole_machine held u
 
-  element_there : (p : ℕ) → p < 2 ^ c.stages → (i : ℕ) → i < length bs
-      → is_some (own_element_at (block_at bs i).elements p) ≡ (home partition (element_number c.stages p) == i)
-  element_there p h i within =
-      sym (element_stands c.stages (block_at bs i) (are.cut.stages i within) p h) ∙ are.cut.stand i (element_number c.stages p) within (omega arith)
-
   -- block i holds what its own units do
   holds_here : (i : ℕ) → i < length bs → (u : ℕ) → holds_at (block_at bs i) held u ≡ ((home partition u == i) && whole_holds u)
   holds_here i within =
@@ -153,17 +149,17 @@ module _ (c : Settings) (partition : List ℕ) (bs : List BlockState) (are : Are
       by_kind c.stages (λ u. holds_at b held u ≡ ((home partition u == i) && whole_holds u))
       (λ u h.
       own_switch held c.stages b stages u h
-      ∙ one_there (switch_holds held) no_switch (switch_at b.switches u) (home partition u == i) (whole_holds u) (switch_there c.stages partition bs are.cut u h i within)
+      ∙ one_there (switch_holds held) no_switch (switch_at b.switches u) (home partition u == i) (whole_holds u) (stands_at switches c.stages partition bs are.cut u h i within)
       (λ there. ap (λ k. switch_holds held (given no_switch (switch_at (block_at bs k).switches u))) (sym (eqb-true _ _ there))
       ∙ sym (switch_holding c are.some_stages are.few_stages f n events stops held u h)))
       (λ j h.
       own_module held c.stages b stages j h
-      ∙ one_there (module_holds held) empty_bank (module_at b.modules j) (home partition (module_number c.stages j) == i) (whole_holds (module_number c.stages j)) (module_there c.stages partition bs are.cut j h i within)
+      ∙ one_there (module_holds held) empty_bank (module_at b.modules j) (home partition (module_number c.stages j) == i) (whole_holds (module_number c.stages j)) (stands_at modules c.stages partition bs are.cut j h i within)
       (λ there. ap (λ k. module_holds held (given empty_bank (module_at (block_at bs k).modules j))) (sym (eqb-true _ _ there))
       ∙ sym (module_holding c are.some_stages are.few_stages f n events stops held j h)))
       (λ p h.
       own_element held c.stages b stages p h
-      ∙ one_there (element_holds held) no_element (own_element_at b.elements p) (home partition (element_number c.stages p) == i) (whole_holds (element_number c.stages p)) (element_there p h i within)
+      ∙ one_there (element_holds held) no_element (own_element_at b.elements p) (home partition (element_number c.stages p) == i) (whole_holds (element_number c.stages p)) (stands_at elements c.stages partition bs are.cut p h i within)
       (λ there. ap (λ k. element_holds held (given no_element (own_element_at (block_at bs k).elements p))) (sym (eqb-true _ _ there))
       ∙ sym (element_holding c are.some_stages are.few_stages f n events stops held p h)))
       (λ u past.

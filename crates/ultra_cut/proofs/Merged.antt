@@ -1,28 +1,10 @@
 -- What blocks tell in four halves, one after another, merged by rank.
-use Rattle.std.proofs.Common.{◌≡◌, ◌≢◌, ℕ, ◌+◌, ◌-◌, ◌<◌, ◌≤◌, List, [], ◌++◌, sym, ◌∙◌, ap, arith, append-nil}
+use Rattle.std.proofs.Common.{◌≡◌, ◌≢◌, ℕ, ◌+◌, ◌-◌, ◌<◌, ◌≤◌, List, [], ◌++◌, refl, sym, ◌∙◌, ap, arith, append-nil}
 use Rattle.std.proofs.lemmas.List.Elements.{filter-append}
 use Rattle.std.specs.Prelude.{◌==◌}
 use Rattle.ultra_model.specs.Places.{places, joined}
 use Rattle.ultra_cut.proofs.Joined.{joined_split, joined_same}
 use Rattle.ultra_cut.proofs.Ranked.{of_rank, IsPart, away, merged}
-
--- ---- of four lists only one has something
-module _ {X : Type 0} (a b c d : List X) where
-  only_first : b ≡ [] → c ≡ [] → d ≡ [] → a ++ (b ++ (c ++ d)) ≡ a
-  only_first hb hc hd =
-      ap (λ xs. a ++ (xs ++ (c ++ d))) hb ∙ ap (λ xs. a ++ (xs ++ d)) hc ∙ ap (λ xs. a ++ xs) hd ∙ append-nil a
-
-  only_second : a ≡ [] → c ≡ [] → d ≡ [] → a ++ (b ++ (c ++ d)) ≡ b
-  only_second ha hc hd =
-      ap (λ xs. xs ++ (b ++ (c ++ d))) ha ∙ ap (λ xs. b ++ (xs ++ d)) hc ∙ ap (λ xs. b ++ xs) hd ∙ append-nil b
-
-  only_third : a ≡ [] → b ≡ [] → d ≡ [] → a ++ (b ++ (c ++ d)) ≡ c
-  only_third ha hb hd =
-      ap (λ xs. xs ++ (b ++ (c ++ d))) ha ∙ ap (λ xs. xs ++ (c ++ d)) hb ∙ ap (λ xs. c ++ xs) hd ∙ append-nil c
-
-  only_fourth : a ≡ [] → b ≡ [] → c ≡ [] → a ++ (b ++ (c ++ d)) ≡ d
-  only_fourth ha hb hc =
-      ap (λ xs. xs ++ (b ++ (c ++ d))) ha ∙ ap (λ xs. xs ++ (c ++ d)) hb ∙ ap (λ xs. xs ++ d) hc
 
 pub all_same : {X : Type 0} {a b c d p q r s : List X} → a ≡ p → b ≡ q → c ≡ r → d ≡ s → a ++ (b ++ (c ++ d)) ≡ p ++ (q ++ (r ++ s))
 all_same ha hb hc hd = cc
@@ -90,34 +72,40 @@ module _ {X : Type 0} (rank : X → ℕ) (count : ℕ) where
       at_first : r < 320 → of_rank rank r (told k) ≡ of_rank rank r (all_by a k)
       at_first small =
           picked_of r k h
-          ∙ only_first _ _ _ _
+          ∙ all_same refl
           (far 320 320 b r k h (λ q l u e. absurd (omega arith)))
           (far 640 320 c r k h (λ q l u e. absurd (omega arith)))
           (far 960 320 d r k h (λ q l u e. absurd (omega arith)))
+          ∙ append-nil _
 
       at_second : 320 ≤ r → r < 640 → of_rank rank r (told k) ≡ of_rank rank r (all_by b k)
       at_second large small =
           picked_of r k h
-          ∙ only_second _ _ _ _
+          ∙ all_same
           (far 0 320 a r k h (λ q l u e. absurd (omega arith)))
+          refl
           (far 640 320 c r k h (λ q l u e. absurd (omega arith)))
           (far 960 320 d r k h (λ q l u e. absurd (omega arith)))
+          ∙ append-nil _
 
       at_third : 640 ≤ r → r < 960 → of_rank rank r (told k) ≡ of_rank rank r (all_by c k)
       at_third large small =
           picked_of r k h
-          ∙ only_third _ _ _ _
+          ∙ all_same
           (far 0 320 a r k h (λ q l u e. absurd (omega arith)))
           (far 320 320 b r k h (λ q l u e. absurd (omega arith)))
+          refl
           (far 960 320 d r k h (λ q l u e. absurd (omega arith)))
+          ∙ append-nil _
 
       at_fourth : 960 ≤ r → of_rank rank r (told k) ≡ of_rank rank r (all_by d k)
       at_fourth large =
           picked_of r k h
-          ∙ only_fourth _ _ _ _
+          ∙ all_same
           (far 0 320 a r k h (λ q l u e. absurd (omega arith)))
           (far 320 320 b r k h (λ q l u e. absurd (omega arith)))
           (far 640 320 c r k h (λ q l u e. absurd (omega arith)))
+          refl
 
     abbrev merged_at : ℕ → List X
     merged_at r = joined (places count (λ k. of_rank rank r (told k)))

@@ -1,29 +1,24 @@
 -- What blocks note one after another: of a unit without room, once its home has.
 use Rattle.std.proofs.Common.{◌≡◌, ◌≢◌, ℕ, zero, suc, ◌+◌, ◌^◌, ◌<◌, List, Bool, true, false, Option, Some, None, length, refl, sym, ◌∙◌, ap, subst, inl, inr, arith, lt-ltb, le-ltb}
-use Rattle.std.specs.Prelude.{◌==◌, ◌&&◌, ◌||◌, is_some, nat_lt, not}
+use Rattle.std.specs.Prelude.{◌&&◌, ◌||◌, is_some, nat_lt, not}
 use Rattle.std.proofs.lemmas.Bool.{cases_eq, cases_lt}
-use Rattle.std.proofs.lemmas.Bool.Decides.{nat_tests}
-use Rattle.ultra_mem.specs.Serve.{Bank, empty_bank}
-use Rattle.ultra_switch.specs.declared.Switch.{Switch}
+use Rattle.ultra_mem.specs.Serve.{Bank}
 use Rattle.ultra_model.specs.Machine.{is_nothing}
 use Rattle.ultra_units.specs.Set.{has_unit, HasNoneFrom}
 use Rattle.ultra_units.specs.Numbers.{switch_count, unit_count, module_number}
 use Rattle.ultra_halves.specs.Switches.{has_reply_room, has_request_room}
-use Rattle.ultra_section.specs.BlockState.{BlockState, switch_at, module_at}
+use Rattle.ultra_section.specs.BlockState.{BlockState, module_at}
 use Rattle.ultra_section.specs.Rooms.{HasNoted}
 use Rattle.ultra_section.specs.Sets.{if_here}
 use Rattle.ultra_section.specs.declared.rooms.Rooms.{Rooms}
 use Rattle.ultra_course.specs.Ports.{at_port}
 use Rattle.ultra_course.specs.Frame.{AreRooms, Frame}
-use Rattle.ultra_cut.specs.Cut.{IsCut, block_at, frame_of, given, home, no_switch}
+use Rattle.ultra_cut.specs.Cut.{IsCut, block_at, frame_of, given, home}
 use Rattle.ultra_cut.specs.Halves.{noted}
-use Rattle.ultra_cut.proofs.Numbers.{not_equal}
-use Rattle.ultra_cut.proofs.Units.{switch_stands, module_stands}
+use Rattle.ultra_cut.proofs.Numbers.{equal, not_equal}
+use Rattle.ultra_cut.proofs.Units.{Sort, modules, stands_at, switches, unit}
 
 -- ---- tests
-pub equal : (a b : ℕ) → a ≡ b → (a == b) ≡ true
-equal a b h = grind (arith, nat_tests)
-
 or_nothing : (b : Bool) → (b || false) ≡ b
 or_nothing true = refl
 or_nothing false = refl
@@ -93,37 +88,21 @@ module _ (d : ℕ) (partition : List ℕ) (bs : List BlockState) where
   }
 
   module _ (cut : IsCut d partition bs) where
-    -- a unit of one kind, with number n, which stands in its home alone
-    module _ {X : Type 0} (get : BlockState → Option X) (nothing : X) (n : ℕ)
-        (stands : (i : ℕ) → i < length bs → is_some (get (block_at bs i)) ≡ (home partition n == i)) where
-      abbrev unit : X
-      unit = given nothing (get (block_at bs (home partition n)))
+    -- unit u of a sort
+    module _ {X : Type 0} (sort : Sort X) (u : ℕ) (h : u < sort.count d) where
+      abbrev n : ℕ
+      n = sort.number d u
 
-      next_unit : (p : X → Bool) (i : ℕ) → i < length bs → (was now : Bool) → was ≡ (nat_lt (home partition n) i && p unit)
-          → now ≡ (was || if_here p (get (block_at bs i))) → now ≡ (nat_lt (home partition n) (i + 1) && p unit)
+      abbrev own : X
+      own = unit sort d partition bs cut u h
+
+      next_unit : (p : X → Bool) (i : ℕ) → i < length bs → (was now : Bool) → was ≡ (nat_lt (home partition n) i && p own)
+          → now ≡ (was || if_here p (sort.at (block_at bs i) u)) → now ≡ (nat_lt (home partition n) (i + 1) && p own)
       next_unit p i within was now before is =
-          next_is (home partition n) i was now (if_here p (get (block_at bs i))) (p unit) before is
-          (λ same. if_stands p nothing (get (block_at bs i)) (stands i within ∙ equal _ _ same) ∙ ap (λ k. p (given nothing (get (block_at bs k)))) (sym same))
-          (λ apart. if_elsewhere p (get (block_at bs i)) (stands i within ∙ not_equal _ _ apart))
-
-    pub switch_there : (n : ℕ) → n < switch_count d → (i : ℕ) → i < length bs
-        → is_some (switch_at (block_at bs i).switches n) ≡ (home partition n == i)
-    switch_there n h i within = sym (switch_stands d (block_at bs i) (cut.stages i within) n h) ∙ cut.stand i n within (omega arith)
-
-    pub module_there : (m : ℕ) → m < 2 ^ d → (i : ℕ) → i < length bs
-        → is_some (module_at (block_at bs i).modules m) ≡ (home partition (module_number d m) == i)
-    module_there m h i within =
-        sym (module_stands d (block_at bs i) (cut.stages i within) m h) ∙ cut.stand i (module_number d m) within (omega arith)
-
-    next_switch : (n : ℕ) → n < switch_count d → (p : Switch → Bool) (i : ℕ) → i < length bs → (was now : Bool)
-        → was ≡ (nat_lt (home partition n) i && p (frame.switch n)) → now ≡ (was || if_here p (switch_at (block_at bs i).switches n))
-        → now ≡ (nat_lt (home partition n) (i + 1) && p (frame.switch n))
-    next_switch n h = next_unit (λ b. switch_at b.switches n) no_switch n (switch_there n h)
-
-    next_module : (m : ℕ) → m < 2 ^ d → (p : Bank → Bool) (i : ℕ) → i < length bs → (was now : Bool)
-        → was ≡ (nat_lt (home partition (module_number d m)) i && p (frame.bank m)) → now ≡ (was || if_here p (module_at (block_at bs i).modules m))
-        → now ≡ (nat_lt (home partition (module_number d m)) (i + 1) && p (frame.bank m))
-    next_module m h = next_unit (λ b. module_at b.modules m) empty_bank (module_number d m) (module_there m h)
+          let stands = stands_at sort d partition bs cut u h i within in
+          next_is (home partition n) i was now (if_here p (sort.at (block_at bs i) u)) (p own) before is
+          (λ same. if_stands p sort.nothing (sort.at (block_at bs i) u) (stands ∙ equal _ _ same) ∙ ap (λ k. p (given sort.nothing (sort.at (block_at bs k) u))) (sym same))
+          (λ apart. if_elsewhere p (sort.at (block_at bs i) u) (stands ∙ not_equal _ _ apart))
 
     -- block i notes its own
     module _ (i : ℕ) (within : i < length bs) (old now : Rooms) (before : HaveNoted i old) (notes : HasNoted (block_at bs i) old now) where
@@ -140,16 +119,16 @@ module _ (d : ℕ) (partition : List ℕ) (bs : List BlockState) where
       pub next_noted : HaveNoted (i + 1) now
       next_noted = record {
         replies = λ n h.
-            next_switch n h (λ w. not (has_reply_room w)) i within (has_unit old.no_reply_room n) (has_unit now.no_reply_room n)
+            next_unit switches n h (λ w. not (has_reply_room w)) i within (has_unit old.no_reply_room n) (has_unit now.no_reply_room n)
             (before.replies n h) (notes.replies n (switch_small n h));
         zero_port = λ n h.
-            next_switch n h (λ w. not (has_request_room w).zero) i within (has_unit old.no_request_room.zero n) (has_unit now.no_request_room.zero n)
+            next_unit switches n h (λ w. not (has_request_room w).zero) i within (has_unit old.no_request_room.zero n) (has_unit now.no_request_room.zero n)
             (before.zero_port n h) (notes.requests_zero n (switch_small n h));
         one_port = λ n h.
-            next_switch n h (λ w. not (has_request_room w).one) i within (has_unit old.no_request_room.one n) (has_unit now.no_request_room.one n)
+            next_unit switches n h (λ w. not (has_request_room w).one) i within (has_unit old.no_request_room.one n) (has_unit now.no_request_room.one n)
             (before.one_port n h) (notes.requests_one n (switch_small n h));
         modules = λ m h.
-            next_module m h (λ b. is_some b.inp) i within (has_unit old.no_request_room.zero (module_number d m)) (has_unit now.no_request_room.zero (module_number d m))
+            next_unit modules m h (λ b. is_some b.inp) i within (has_unit old.no_request_room.zero (module_number d m)) (has_unit now.no_request_room.zero (module_number d m))
             (before.modules m h) (module_noted m h);
       }
 

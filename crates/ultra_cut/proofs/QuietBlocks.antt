@@ -1,23 +1,21 @@
 -- A machine is quiet where each of its blocks is.
-use Rattle.std.proofs.Common.{◌≡◌, ℕ, ◌^◌, ◌<◌, List, Bool, true, false, Option, Some, None, refl, arith, ◌∙◌, sym, ap, subst, length, get_or}
+use Rattle.std.proofs.Common.{◌≡◌, ℕ, ◌^◌, ◌<◌, List, Bool, true, false, Option, Some, None, refl, arith, ◌∙◌, sym, ap, length}
 use Rattle.std.specs.Prelude.{◌&&◌, is_some}
 use Rattle.std.specs.List.{list_all}
 use Rattle.ultra_msg.specs.declared.Event.{Event}
-use Rattle.ultra_switch.specs.declared.Switch.{Switch}
-use Rattle.ultra_mem.specs.Serve.{Bank, empty_bank}
+use Rattle.ultra_mem.specs.Serve.{empty_bank}
 use Rattle.ultra_model.specs.declared.Stop.{Stop}
 use Rattle.ultra_model.specs.Machine.{Settings, is_quiet}
 use Rattle.ultra_units.specs.Numbers.{switch_count, unit_count, module_number, element_number}
 use Rattle.ultra_halves.specs.Switches.{quiet_switch}
 use Rattle.ultra_halves.specs.Modules.{quiet_bank}
 use Rattle.ultra_halves.specs.Elements.{quiet_element}
-use Rattle.ultra_halves.specs.declared.elements.ProcessingElement.{ProcessingElement}
 use Rattle.ultra_section.specs.BlockState.{BlockState, switch_at, module_at, element_at}
 use Rattle.ultra_section.specs.Quiet.{or_elsewhere, quiet_block}
 use Rattle.ultra_course.specs.Whole.{whole}
 use Rattle.ultra_cut.specs.Cut.{block_at, frame_of, given, home, no_block, no_element, no_switch}
 use Rattle.ultra_cut.specs.Halves.{AreBlocks}
-use Rattle.ultra_cut.proofs.Units.{element_at_home, element_stands, home_is, is_given, module_at_home, module_stands, switch_at_home, switch_stands}
+use Rattle.ultra_cut.proofs.Units.{element_at_home, elements, module_at_home, modules, switch_at_home, switches, unit_is}
 use Rattle.ultra_cut.proofs.QuietUnits.{AreQuiet, all_at, all_if, both_true, left_true, quiet_if, quiet_units, right_true, same_truth}
 
 -- ---- one entry
@@ -51,25 +49,6 @@ parts b q =
     }
 
 module _ (d : ℕ) (partition : List ℕ) (bs : List BlockState) (are : AreBlocks d partition bs) where
-  -- a unit that stands in a block is that of the frame
-  switch_is : (k n : ℕ) → k < length bs → n < switch_count d → is_some (switch_at (block_at bs k).switches n) ≡ true
-      → (frame_of d partition bs).switch n ≡ given no_switch (switch_at (block_at bs k).switches n)
-  switch_is k n within h some =
-      ap (λ i. given no_switch (switch_at (block_at bs i).switches n))
-      (home_is d partition bs are.cut n k (omega arith) within (switch_stands d (block_at bs k) (are.cut.stages k within) n h ∙ some))
-
-  module_is : (k m : ℕ) → k < length bs → m < 2 ^ d → is_some (module_at (block_at bs k).modules m) ≡ true
-      → (frame_of d partition bs).bank m ≡ given empty_bank (module_at (block_at bs k).modules m)
-  module_is k m within h some =
-      ap (λ i. given empty_bank (module_at (block_at bs i).modules m))
-      (home_is d partition bs are.cut (module_number d m) k (omega arith) within (module_stands d (block_at bs k) (are.cut.stages k within) m h ∙ some))
-
-  element_is : (k p : ℕ) → k < length bs → p < 2 ^ d → is_some (element_at (block_at bs k).elements p) ≡ true
-      → (frame_of d partition bs).element p ≡ given no_element (element_at (block_at bs k).elements p)
-  element_is k p within h some =
-      ap (λ i. given no_element (element_at (block_at bs i).elements p))
-      (home_is d partition bs are.cut (element_number d p) k (omega arith) within (element_stands d (block_at bs k) (are.cut.stages k within) p h ∙ some))
-
   block_quiet : AreQuiet d (frame_of d partition bs) → (k : ℕ) → k < length bs → IsQuiet (block_at bs k)
   block_quiet q k within =
       let b = block_at bs k in
@@ -77,13 +56,13 @@ module _ (d : ℕ) (partition : List ℕ) (bs : List BlockState) (are : AreBlock
       record {
         switches = all_if (or_elsewhere quiet_switch) None b.switches (λ n small.
             let h : n < switch_count d = omega (arith, shape.switches, small) in
-            here_if quiet_switch no_switch (switch_at b.switches n) (λ some. ap quiet_switch (sym (switch_is k n within h some)) ∙ q.switches n h));
+            here_if quiet_switch no_switch (switch_at b.switches n) (λ some. ap quiet_switch (sym (unit_is switches d partition bs are.cut n h k within some)) ∙ q.switches n h));
         modules = all_if (or_elsewhere quiet_bank) None b.modules (λ m small.
             let h : m < 2 ^ d = omega (arith, shape.modules, small) in
-            here_if quiet_bank empty_bank (module_at b.modules m) (λ some. ap quiet_bank (sym (module_is k m within h some)) ∙ q.banks m h));
+            here_if quiet_bank empty_bank (module_at b.modules m) (λ some. ap quiet_bank (sym (unit_is modules d partition bs are.cut m h k within some)) ∙ q.banks m h));
         elements = all_if (or_elsewhere quiet_element) None b.elements (λ p small.
             let h : p < 2 ^ d = omega (arith, shape.elements, small) in
-            here_if quiet_element no_element (element_at b.elements p) (λ some. ap quiet_element (sym (element_is k p within h some)) ∙ q.elements p h));
+            here_if quiet_element no_element (element_at b.elements p) (λ some. ap quiet_element (sym (unit_is elements d partition bs are.cut p h k within some)) ∙ q.elements p h));
       }
 
   pub blocks_quiet : AreQuiet d (frame_of d partition bs) → list_all quiet_block bs ≡ true

@@ -1,18 +1,12 @@
 -- What is told by several, merged by rank.
-use Rattle.std.proofs.Common.{◌≡◌, ◌≢◌, ℕ, zero, suc, ◌+◌, ◌<◌, List, [], ◌∷◌, ◌++◌, true, false, refl, sym, ◌∙◌, ap, subst, inl, inr, arith, append-nil}
+use Rattle.std.proofs.Common.{◌≡◌, ◌≢◌, ℕ, zero, suc, ◌+◌, ◌<◌, List, [], ◌∷◌, ◌++◌, refl, sym, ◌∙◌, ap, subst, inl, inr, arith, append-nil}
 use Rattle.std.specs.Prelude.{◌==◌}
 use Rattle.std.specs.List.{filter, AllByRecursion}
 use Rattle.std.proofs.lemmas.Bool.{cases_eq}
-use Rattle.std.proofs.lemmas.Bool.Decides.{nat_tests}
 use Rattle.std.proofs.lemmas.List.Elements.{filter-append}
 use Rattle.ultra_model.specs.Places.{places, joined}
+use Rattle.ultra_cut.proofs.Numbers.{equal, not_equal}
 use Rattle.ultra_cut.proofs.Joined.{joined_none, joined_next, joined_same, joined_nothing, joined_only, joined_window}
-
-pub same_number : (a b : ℕ) → a ≡ b → (a == b) ≡ true
-same_number a b h = grind (arith, nat_tests)
-
-pub other_number : (a b : ℕ) → a ≢ b → (a == b) ≡ false
-other_number a b h = grind (arith, nat_tests)
 
 module _ {X : Type 0} (rank : X → ℕ) where
   abbrev pub of_rank : ℕ → List X → List X
@@ -24,11 +18,11 @@ module _ {X : Type 0} (rank : X → ℕ) where
 
   all_picked : (r : ℕ) (xs : List X) → HaveRank r xs → of_rank r xs ≡ xs
   all_picked r [] h = refl
-  all_picked r (x ∷ xs) h = rw (same_number (rank x) r h.0) (ap (λ ys. x ∷ ys) (all_picked r xs h.1))
+  all_picked r (x ∷ xs) h = rw (equal (rank x) r h.0) (ap (λ ys. x ∷ ys) (all_picked r xs h.1))
 
   none_picked : (q r : ℕ) (xs : List X) → q ≢ r → HaveRank q xs → of_rank r xs ≡ []
   none_picked q r [] other h = refl
-  none_picked q r (x ∷ xs) other h = rw (other_number (rank x) r (λ e. other (sym h.0 ∙ e))) (none_picked q r xs other h.1)
+  none_picked q r (x ∷ xs) other h = rw (not_equal (rank x) r (λ e. other (sym h.0 ∙ e))) (none_picked q r xs other h.1)
 
   -- of what is told of n units, that of unit i has rank base + i
   abbrev pub AreRanked : ℕ → ℕ → (ℕ → List X) → Type 0

@@ -13,21 +13,20 @@ use Rattle.ultra_course.specs.Course.{deliveries, reply_to, sends_replies, servi
 use Rattle.ultra_course.specs.Conditions.{CanTakeReplies}
 use Rattle.ultra_course.proofs.Steps as step
 use Rattle.ultra_cut.specs.Cut.{block_at, frame_of}
-use Rattle.ultra_cut.specs.Exchange.{AreRepliesThere, AreSingleRequests, OnlyRepliesMove}
-use Rattle.ultra_cut.specs.Halves.{AllCanMake, AreBlocks, HasNoRequests, OfEach, all_made, noted}
+use Rattle.ultra_cut.specs.Exchange.{AreRepliesThere, OnlyRepliesMove}
+use Rattle.ultra_cut.specs.Halves.{AllCanMake, AreBlocks, OfEach, all_made, noted}
 use Rattle.ultra_cut.proofs.Alike.{alike_replies}
 use Rattle.ultra_cut.proofs.RepliesMoved.{still_blocks}
 use Rattle.ultra_cut.specs.ReplyLaws.{AreRepliesSent, AreRepliesTaken}
 use Rattle.ultra_cut.proofs.RepliesSent.{replies_sent}
 use Rattle.ultra_cut.proofs.RepliesTaken.{replies_taken}
-use Rattle.ultra_cut.proofs.CanTakeReplies as taking
+use Rattle.ultra_cut.proofs.CanTake as taking
 use Rattle.ultra_cut.specs.UnitLaws.{HaveServed}
 use Rattle.ultra_cut.proofs.Served.{serve_law, can_serve_law}
 use Rattle.std.specs.Option.{ForSome}
 use Rattle.ultra_msg.specs.declared.ReplyMessage.{ReplyMessage}
 use Rattle.ultra_cut.specs.Moments.{AreMachine}
 use Rattle.ultra_cut.proofs.Homes.{replies_home}
-use Rattle.ultra_cut.proofs.Links.{single_requests}
 use Rattle.ultra_cut.proofs.Chain.{alike_by, done_after, half_room, more_events, same_value}
 
 module _ (c : Settings) (partition : List ℕ) (n : ℕ) (events : List Event) (stops : List Stop) (m : Machine) (program : List Instr)
@@ -45,12 +44,6 @@ module _ (c : Settings) (partition : List ℕ) (n : ℕ) (events : List Event) (
 
   pub are_sent : AreRepliesSent d partition rooms bs sent
   are_sent = replies_sent d partition bs rooms program start.blocks clear.replies
-
-  pub sent_without_requests : HasNoRequests d partition sent
-  sent_without_requests l h = are_sent.frame.frame.requests l h ∙ clear.requests l h
-
-  pub sent_single_requests : AreSingleRequests sent
-  sent_single_requests = single_requests d partition sent are_sent.frame.blocks.blocks sent_without_requests
 
   -- ---- they have been exchanged
   module _ (there : List BlockState) (only : OnlyRepliesMove sent there) (home : AreRepliesThere d partition there) where

@@ -1,15 +1,12 @@
 -- The half in which replies leave: the blocks become the machine after it.
-use Rattle.std.proofs.Common.{◌≡◌, ◌≢◌, ℕ, zero, suc, ◌+◌, ◌-◌, ◌*◌, ◌/◌, ◌%◌, ◌^◌, ◌<◌, ◌≤◌, List, Option, Some, None, length, refl, sym, ◌∙◌, ap, subst, arith, inl, inr, lt-ltb, le-ltb}
-use Rattle.std.specs.Prelude.{is_some, nat_lt}
-use Rattle.std.proofs.lemmas.Bool.{cases_lt}
-use Rattle.std.proofs.lemmas.List.{get_or_past, length-map}
+use Rattle.std.proofs.Common.{◌≡◌, ℕ, ◌^◌, ◌<◌, ◌≤◌, List, Option, length, refl, ◌∙◌, ap, arith}
+use Rattle.std.specs.Prelude.{is_some}
 use Rattle.ultra_msg.specs.declared.ReplyMessage.{ReplyMessage}
 use Rattle.ultra_switch.specs.declared.Switch.{Switch}
 use Rattle.ultra_switch.specs.declared.Ports.{Ports}
-use Rattle.ultra_mem.specs.Serve.{Bank, empty_bank}
+use Rattle.ultra_mem.specs.Serve.{Bank}
 use Rattle.ultra_isa.specs.declared.Instr.{Instr}
-use Rattle.ultra_units.specs.Numbers.{switch_count, module_number, element_number, place_number}
-use Rattle.ultra_halves.specs.Halves.{ports}
+use Rattle.ultra_units.specs.Numbers.{switch_count, module_number, place_number}
 use Rattle.ultra_section.specs.declared.half.Half.TheVariants.{SendReplies}
 use Rattle.ultra_section.specs.declared.rooms.Rooms.{Rooms as BlockRooms}
 use Rattle.ultra_section.specs.Units.{stage_of, index_of}
@@ -18,123 +15,28 @@ use Rattle.ultra_section.specs.BlockState.{BlockState, switch_at, module_at, ele
 use Rattle.ultra_section.specs.RepliesSent.{begun, reply_sent_by, replies_sent_by}
 use Rattle.ultra_section.specs.Shape.{IsShaped}
 use Rattle.ultra_section.specs.Making.{made}
-use Rattle.ultra_section.proofs.Standing.{is_switch}
-use Rattle.ultra_section.proofs.Put.{has_places, place_behind_small, places_of, places_twice, put_or}
+use Rattle.ultra_section.proofs.Put.{places_of}
 use Rattle.ultra_section.proofs.RepliesSentOnce.{after_sending_module, after_sending_switch, kept_by_sending, module_after_sending, shape_after_sending, switch_after_sending}
-use Rattle.ultra_course.specs.Ports.{at_port}
 use Rattle.ultra_course.specs.Frame.{Frame}
-use Rattle.ultra_course.specs.Course.{replies_from, reply_from, sends_replies}
-use Rattle.ultra_course.proofs.Numbers.{pick_false, pick_true}
-use Rattle.ultra_cut.specs.Cut.{block_at, first, frame_of, given, home, no_element, no_switch, replies_on}
-use Rattle.ultra_cut.specs.Exchange.{AreSingleReplies, IsSingle}
+use Rattle.ultra_course.specs.Course.{replies_from, reply_from}
+use Rattle.ultra_cut.specs.declared.kind.Kind.TheVariants.{Replies}
+use Rattle.ultra_cut.specs.Cut.{block_at, first, frame_of, home}
 use Rattle.ultra_cut.specs.Halves.{AreBlocks, HasNoReplies, all_made, noted}
 use Rattle.ultra_cut.specs.ReplyLaws.{AreRepliesSent, IsSilent, RepliesSentLaw}
-use Rattle.ultra_cut.proofs.ReplyColumns.{changed_at, column_first, column_none, column_single, column_empty_single, same_column}
-use Rattle.ultra_cut.proofs.ReplyHomes.{HasSameUnits, blocks_after, each_changed, home_within, module_away, module_home, switch_away, switch_home, unit_small}
+use Rattle.ultra_cut.proofs.Changed.{HasSameUnits, blocks_after, each_changed, links_away, links_home, no_more, still_there, unit_after, unit_same, unit_small}
+use Rattle.ultra_cut.proofs.ReplyColumns.{same_column}
+use Rattle.ultra_cut.proofs.Sending.{PutBehind, PutOnBoth, sent_now, single_now}
+use Rattle.ultra_cut.proofs.Units.{elements, home_small, modules, switches}
 
--- ---- ports
-on_nothing : {M : Type 0} (o on : Option M) → on ≡ None → put_or o on ≡ o
-on_nothing None on none = none
-on_nothing (Some m) on none = refl
-
-on_port : {M : Type 0} (t : List (Option M)) (p : Ports ℕ) (j : ℕ) → on_link t (at_port p j) ≡ at_port (on_both t p) j
-on_port t p zero = refl
-on_port t p (suc j) = refl
-
-put_at_port : {M : Type 0} (out on : Ports (Option M)) (j : ℕ) → at_port on j ≡ None
-    → at_port (ports (put_or out.zero on.zero) (put_or out.one on.one)) j ≡ at_port out j
-put_at_port out on zero none = on_nothing out.zero on.zero none
-put_at_port out on (suc j) none = on_nothing out.one on.one none
-
--- ---- one block
-module _ (d : ℕ) (low : 1 ≤ d) (high : d ≤ 6) (rooms : BlockRooms) (program : List Instr) (b : BlockState) (shape : IsShaped d b) where
-  abbrev closed : List ℕ
-  closed = rooms.no_reply_room
-
-  abbrev sent : BlockState
-  sent = made SendReplies rooms program b
-
-  begun_shaped : IsShaped d (begun b)
-  begun_shaped = record {
-    stages = shape.stages;
-    switches = shape.switches;
-    modules = shape.modules;
-    elements = shape.elements;
-    replies = shape.replies;
-    requests = shape.requests;
-  }
-
-  kept : {X : Type 0} (get : BlockState → X) → ((n s k : ℕ) (t : BlockState) (w : Switch) → get (replies_sent_by closed n s k t w) ≡ get t)
-      → ((m : ℕ) (t : BlockState) (x : Bank) → get (reply_sent_by closed m t x) ≡ get t) → get sent ≡ get (begun b)
-  kept get switches modules = kept_by_sending closed d low high get switches modules (begun b) begun_shaped
-
-  sent_elements : sent.elements ≡ b.elements
-  sent_elements = kept (λ t. t.elements) (λ n s k t w. refl) (λ m t x. refl)
-
-  sent_requests : sent.requests ≡ b.requests
-  sent_requests = kept (λ t. t.requests) (λ n s k t w. refl) (λ m t x. refl)
-
-  sent_done : sent.done ≡ b.done
-  sent_done = kept (λ t. t.done) (λ n s k t w. refl) (λ m t x. refl)
-
-  silent : IsSilent sent
-  silent = record {
-    events = kept (λ t. t.events) (λ n s k t w. refl) (λ m t x. refl);
-    stops = kept (λ t. t.stops) (λ n s k t w. refl) (λ m t x. refl);
-  }
-
-  sent_shape : IsShaped d sent
-  sent_shape = shape_after_sending closed d low high (begun b) begun_shaped
-
-  -- ---- switch n, and what is on its two links
-  module _ (n : ℕ) (h : n < switch_count d) where
-    abbrev s : ℕ
-    s = stage_of d n
-
-    abbrev k : ℕ
-    k = index_of d n
-
-    abbrev places : Ports ℕ
-    places = places_of d s k
-
-    switch_sent : (o : Option Switch) → switch_at b.switches n ≡ o
-        → ◌≡◌ {A = Option Switch × Ports (Option ReplyMessage)} (switch_at sent.switches n, on_both sent.replies places) (after_sending_switch closed d low high s k (o, on_both b.replies places))
-    switch_sent o is =
-        switch_after_sending closed d low high (begun b) begun_shaped n h (unit_small d n low high (omega arith))
-        ∙ ap (λ o. after_sending_switch closed d low high s k (o, on_both b.replies places)) is
-
-    same_switch : (o : Option Switch) → switch_at b.switches n ≡ o → is_some (switch_at sent.switches n) ≡ is_some (switch_at b.switches n)
-    same_switch None is = ap (λ p. is_some p.0) (switch_sent None is) ∙ sym (ap (λ o. is_some o) is)
-    same_switch (Some w) is = ap (λ p. is_some p.0) (switch_sent (Some w) is) ∙ sym (ap (λ o. is_some o) is)
-
-  -- ---- module m, and what is on its link
-  module _ (m : ℕ) (h : m < 2 ^ d) where
-    module_sent : (o : Option Bank) → module_at b.modules m ≡ o
-        → ◌≡◌ {A = Option Bank × Option ReplyMessage} (module_at sent.modules m, on_link sent.replies (place_number d d m)) (after_sending_module closed d low high m (o, on_link b.replies (place_number d d m)))
-    module_sent o is =
-        module_after_sending closed d low high (begun b) begun_shaped m h (unit_small d (module_number d m) low high (omega arith))
-        ∙ ap (λ o. after_sending_module closed d low high m (o, on_link b.replies (place_number d d m))) is
-
-    same_module : (o : Option Bank) → module_at b.modules m ≡ o → is_some (module_at sent.modules m) ≡ is_some (module_at b.modules m)
-    same_module None is = ap (λ p. is_some p.0) (module_sent None is) ∙ sym (ap (λ o. is_some o) is)
-    same_module (Some x) is = ap (λ p. is_some p.0) (module_sent (Some x) is) ∙ sym (ap (λ o. is_some o) is)
-
-  same_units : HasSameUnits d b sent
-  same_units = record {
-    shape = sent_shape;
-    done = sent_done;
-    switches = λ n h. same_switch n h (switch_at b.switches n) refl;
-    modules = λ m h. same_module m h (module_at b.modules m) refl;
-    elements = λ p h. ap (λ es. is_some (element_at es p)) sent_elements;
-  }
-
--- ---- all blocks
 module _ (d : ℕ) (partition : List ℕ) (bs : List BlockState) (rooms : BlockRooms) (program : List Instr) (blocks : AreBlocks d partition bs) (clear : HasNoReplies d partition bs) where
   abbrev low : 1 ≤ d
   low = blocks.some_stages
 
   abbrev high : d ≤ 6
   high = blocks.few_stages
+
+  abbrev closed : List ℕ
+  closed = rooms.no_reply_room
 
   abbrev send : BlockState → BlockState
   send = made SendReplies rooms program
@@ -145,210 +47,86 @@ module _ (d : ℕ) (partition : List ℕ) (bs : List BlockState) (rooms : BlockR
   abbrev f : Frame
   f = frame_of d partition bs
 
-  abbrev after : Frame
-  after = sends_replies d (noted d rooms) f
+  -- ---- block k
+  begun_shaped : (k : ℕ) → k < length bs → IsShaped d (begun (block_at bs k))
+  begun_shaped k within =
+      let shape = blocks.shaped k within in
+      record { stages = shape.stages; switches = shape.switches; modules = shape.modules; elements = shape.elements; replies = shape.replies; requests = shape.requests }
 
-  same : (k : ℕ) → k < length bs → HasSameUnits d (block_at bs k) (send (block_at bs k))
-  same k within = same_units d low high rooms program (block_at bs k) (blocks.shaped k within)
+  sent_shaped : (k : ℕ) → k < length bs → IsShaped d (send (block_at bs k))
+  sent_shaped k within = shape_after_sending closed d low high (begun (block_at bs k)) (begun_shaped k within)
 
-  no_reply : (k l : ℕ) → k < length bs → l < (d + 1) * 2 ^ d → on_link (block_at bs k).replies l ≡ None
-  no_reply k l within small = column_none (λ b. on_link b.replies l) bs (clear l small) k within
+  kept : {X : Type 0} (get : BlockState → X) → ((n s k : ℕ) (t : BlockState) (w : Switch) → get (replies_sent_by closed n s k t w) ≡ get t)
+      → ((m : ℕ) (t : BlockState) (x : Bank) → get (reply_sent_by closed m t x) ≡ get t) → (k : ℕ) → k < length bs → get (send (block_at bs k)) ≡ get (begun (block_at bs k))
+  kept get switches modules k within = kept_by_sending closed d low high get switches modules (begun (block_at bs k)) (begun_shaped k within)
 
-  -- ---- its units
+  kept_elements : (k : ℕ) → k < length bs → (send (block_at bs k)).elements ≡ (block_at bs k).elements
+  kept_elements = kept (λ t. t.elements) (λ n s k t w. refl) (λ m t x. refl)
+
+  -- ---- switch n, and what is on its two links
   module _ (n : ℕ) (h : n < switch_count d) where
-    abbrev at : ℕ
-    at = home partition n
+    abbrev on : BlockState → Ports (Option ReplyMessage)
+    on b = on_both b.replies (places_of d (stage_of d n) (index_of d n))
 
-    at_small : at < length bs
-    at_small = home_within d partition bs blocks n (omega arith)
+    abbrev step : Option Switch × Ports (Option ReplyMessage) → Option Switch × Ports (Option ReplyMessage)
+    step = after_sending_switch closed d low high (stage_of d n) (index_of d n)
 
-    sent_home : ◌≡◌ {A = Option Switch × Ports (Option ReplyMessage)}
-        (switch_at (send (block_at bs at)).switches n, on_both (send (block_at bs at)).replies (places_of d (stage_of d n) (index_of d n)))
-        (after_sending_switch rooms.no_reply_room d low high (stage_of d n) (index_of d n) (Some (f.switch n), on_both (block_at bs at).replies (places_of d (stage_of d n) (index_of d n))))
-    sent_home = switch_sent d low high rooms program (block_at bs at) (blocks.shaped at at_small) n h (Some (f.switch n)) (switch_home d partition bs blocks n h)
+    acts : (k : ℕ) → k < length bs → ◌≡◌ {A = Option Switch × Ports (Option ReplyMessage)} (switch_at (send (block_at bs k)).switches n, on (send (block_at bs k))) (step (switch_at (block_at bs k).switches n, on (block_at bs k)))
+    acts k within = switch_after_sending closed d low high (begun (block_at bs k)) (begun_shaped k within) n h (unit_small d n low high (omega arith))
 
-    switch_now : (frame_of d partition now).switch n ≡ after.switch n
-    switch_now =
-        ap (λ (b : BlockState). given no_switch (switch_at b.switches n)) (changed_at send bs at at_small)
-        ∙ ap (λ p. given no_switch p.0) sent_home
-
-  module _ (m : ℕ) (h : m < 2 ^ d) where
-    abbrev module_block : ℕ
-    module_block = home partition (module_number d m)
-
-    module_block_small : module_block < length bs
-    module_block_small = home_within d partition bs blocks (module_number d m) (omega arith)
-
-    sent_from_module : ◌≡◌ {A = Option Bank × Option ReplyMessage}
-        (module_at (send (block_at bs module_block)).modules m, on_link (send (block_at bs module_block)).replies (place_number d d m))
-        (after_sending_module rooms.no_reply_room d low high m (Some (f.bank m), on_link (block_at bs module_block).replies (place_number d d m)))
-    sent_from_module =
-        module_sent d low high rooms program (block_at bs module_block) (blocks.shaped module_block module_block_small) m h (Some (f.bank m)) (module_home d partition bs blocks m h)
-
-    bank_now : (frame_of d partition now).bank m ≡ after.bank m
-    bank_now =
-        ap (λ (b : BlockState). given empty_bank (module_at b.modules m)) (changed_at send bs module_block module_block_small)
-        ∙ ap (λ p. given empty_bank p.0) sent_from_module
-
-  element_now : (p : ℕ) → p < 2 ^ d → (frame_of d partition now).element p ≡ after.element p
-  element_now p h =
-      let at : ℕ = home partition (element_number d p) in
-      let within : at < length bs = home_within d partition bs blocks (element_number d p) (omega arith) in
-      ap (λ (b : BlockState). given no_element (element_at b.elements p)) (changed_at send bs at within)
-      ∙ ap (λ es. given no_element (element_at es p)) (sent_elements d low high rooms program (block_at bs at) (blocks.shaped at within))
-
-  -- ---- what is on its links
-  requests_now : (l : ℕ) → (frame_of d partition now).requests l ≡ after.requests l
-  requests_now l =
-      ap first (same_column send bs (λ b. on_link b.requests l)
-      (λ k within. ap (λ t. on_link t l) (sent_requests d low high rooms program (block_at bs k) (blocks.shaped k within))))
-
-  -- block h alone has anything on link l
-  pub record AreAlone (l h : ℕ) : Type 0 where
-    pub within : h < length bs
-    pub away : (k : ℕ) → k < length bs → k ≢ h → on_link (send (block_at bs k)).replies l ≡ None
-
-  abbrev on_now : ℕ → BlockState → Option ReplyMessage
-  on_now l b = on_link b.replies l
-
-  alone_away : (l h : ℕ) → AreAlone l h → (k : ℕ) → k < length now → k ≢ h → on_link (block_at now k).replies l ≡ None
-  alone_away l h alone k within other =
-      each_changed d partition bs blocks send same
-      (λ k b. k ≢ h → on_link b.replies l ≡ None) alone.away k within other
-
-  alone_first : (l h : ℕ) → AreAlone l h → first (replies_on now l) ≡ on_link (send (block_at bs h)).replies l
-  alone_first l h alone =
-      column_first (on_now l) now h (subst (λ n. h < n) (sym (length-map bs send)) alone.within) (alone_away l h alone)
-      ∙ ap (on_now l) (changed_at send bs h alone.within)
-
-  alone_single : (l h : ℕ) → AreAlone l h → IsSingle (replies_on now l)
-  alone_single l h alone =
-      column_single (on_now l) now h (subst (λ n. h < n) (sym (length-map bs send)) alone.within) (alone_away l h alone)
-
-  -- the link at port j of switch n
-  module _ (n : ℕ) (h : n < switch_count d) (j l : ℕ) (is : at_port (places_of d (stage_of d n) (index_of d n)) j ≡ l) (small : l < (d + 1) * 2 ^ d) where
-    abbrev links : Ports ℕ
-    links = places_of d (stage_of d n) (index_of d n)
-
-    nothing_on : (k : ℕ) → k < length bs → at_port (on_both (block_at bs k).replies links) j ≡ None
-    nothing_on k within =
-        sym (on_port (block_at bs k).replies links j) ∙ ap (on_link (block_at bs k).replies) is ∙ no_reply k l within small
-
-    on_now_at : (k : ℕ) → on_link (send (block_at bs k)).replies l ≡ at_port (on_both (send (block_at bs k)).replies links) j
-    on_now_at k = ap (on_link (send (block_at bs k)).replies) (sym is) ∙ on_port (send (block_at bs k)).replies links j
-
-    switch_alone : AreAlone l (home partition n)
-    switch_alone = record {
-      within = at_small n h;
-      away = λ k within other.
-          on_now_at k
-          ∙ ap (λ p. at_port p.1 j) (switch_sent d low high rooms program (block_at bs k) (blocks.shaped k within) n h None (switch_away d partition bs blocks n h k within other))
-          ∙ nothing_on k within;
+    put_on_both : PutOnBoth Replies d partition bs blocks send n (home partition n) (replies_from d (noted d rooms) f n)
+    put_on_both = record {
+      within = home_small switches d partition bs blocks.cut n h;
+      here = links_home switches d partition bs blocks.cut send n h on step acts;
+      away = links_away switches d partition bs blocks.cut send n h on step acts;
     }
 
-    from_switch : on_link (send (block_at bs (home partition n))).replies l ≡ at_port (replies_from d (noted d rooms) f n) j
-    from_switch =
-        on_now_at (home partition n)
-        ∙ ap (λ p. at_port p.1 j) (sent_home n h)
-        ∙ put_at_port (replies_from d (noted d rooms) f n) (on_both (block_at bs (home partition n)).replies links) j (nothing_on (home partition n) (at_small n h))
-
-  -- and that of module m
+  -- ---- module m, and what is on its link
   module _ (m : ℕ) (h : m < 2 ^ d) where
-    abbrev link : ℕ
-    link = place_number d d m
+    abbrev on_end : BlockState → Option ReplyMessage
+    on_end b = on_link b.replies (place_number d d m)
 
-    link_small : link < (d + 1) * 2 ^ d
-    link_small = place_behind_small d m h
+    abbrev step_end : Option Bank × Option ReplyMessage → Option Bank × Option ReplyMessage
+    step_end = after_sending_module closed d low high m
 
-    module_alone : AreAlone link (home partition (module_number d m))
-    module_alone = record {
-      within = module_block_small m h;
-      away = λ k within other.
-          ap (λ p. p.1) (module_sent d low high rooms program (block_at bs k) (blocks.shaped k within) m h None (module_away d partition bs blocks m h k within other))
-          ∙ no_reply k link within link_small;
+    acts_end : (k : ℕ) → k < length bs → ◌≡◌ {A = Option Bank × Option ReplyMessage} (module_at (send (block_at bs k)).modules m, on_end (send (block_at bs k))) (step_end (module_at (block_at bs k).modules m, on_end (block_at bs k)))
+    acts_end k within = module_after_sending closed d low high (begun (block_at bs k)) (begun_shaped k within) m h (unit_small d (module_number d m) low high (omega arith))
+
+    put_behind : PutBehind Replies d partition bs blocks send m (home partition (module_number d m)) (reply_from d (noted d rooms) f m)
+    put_behind = record {
+      within = home_small modules d partition bs blocks.cut m h;
+      here = links_home modules d partition bs blocks.cut send m h on_end step_end acts_end;
+      away = links_away modules d partition bs blocks.cut send m h on_end step_end acts_end;
     }
 
-    from_module : on_link (send (block_at bs (home partition (module_number d m)))).replies link ≡ reply_from d (noted d rooms) f m
-    from_module =
-        ap (λ p. p.1) (sent_from_module m h)
-        ∙ on_nothing (reply_from d (noted d rooms) f m) (on_link (block_at bs (home partition (module_number d m))).replies link)
-        (no_reply (home partition (module_number d m)) link (module_block_small m h) link_small)
-
-  -- what is on a link, and that one block has it
-  pub record IsSent (l : ℕ) : Type 0 where
-    pub reply : first (replies_on now l) ≡ after.replies l
-    pub single : IsSingle (replies_on now l)
-
-  port_link : (n j : ℕ) → n < switch_count d → j < 2 → at_port (places_of d (stage_of d n) (index_of d n)) j ≡ 2 * n + j
-  port_link n zero h below = (has_places d n (stage_of d n) (index_of d n) low high (is_switch d n h)).first ∙ omega arith
-  port_link n (suc zero) h below = (has_places d n (stage_of d n) (index_of d n) low high (is_switch d n h)).second
-  port_link n (suc (suc j)) h below = absurd (omega (arith, below))
-
-  sent_by_switch : (l : ℕ) → l < d * 2 ^ d → IsSent l
-  sent_by_switch l h =
-      let twice = places_twice d low high in
-      let n : ℕ = l / 2 in
-      let j : ℕ = l % 2 in
-      let is_one : n < switch_count d = omega arith in
-      let small : l < (d + 1) * 2 ^ d = grind arith in
-      let is : at_port (places_of d (stage_of d n) (index_of d n)) j ≡ l = port_link n j is_one (omega arith) ∙ omega arith in
-      let alone = switch_alone n is_one j l is small in
-      record {
-        reply = alone_first l (home partition n) alone
-            ∙ from_switch n is_one j l is small
-            ∙ sym (pick_true (nat_lt l (d * 2 ^ d)) (at_port (replies_from d (noted d rooms) f (l / 2)) (l % 2)) (reply_from d (noted d rooms) f (l - d * 2 ^ d)) (lt-ltb l (d * 2 ^ d) h));
-        single = alone_single l (home partition n) alone;
-      }
-
-  behind : (m : ℕ) → after.replies (place_number d d m) ≡ reply_from d (noted d rooms) f m
-  behind m =
-      let l : ℕ = place_number d d m in
-      let is : l - d * 2 ^ d ≡ m = omega arith in
-      pick_false (nat_lt l (d * 2 ^ d)) (at_port (replies_from d (noted d rooms) f (l / 2)) (l % 2)) (reply_from d (noted d rooms) f (l - d * 2 ^ d)) (le-ltb l (d * 2 ^ d) (omega arith))
-      ∙ ap (reply_from d (noted d rooms) f) is
-
-  sent_by_module : (l : ℕ) → d * 2 ^ d ≤ l → l < (d + 1) * 2 ^ d → IsSent l
-  sent_by_module l past h =
-      let m : ℕ = l - d * 2 ^ d in
-      let row : (d + 1) * 2 ^ d ≡ d * 2 ^ d + 2 ^ d = grind arith in
-      let is_one : m < 2 ^ d = omega arith in
-      let is : place_number d d m ≡ l = omega arith in
-      let alone = module_alone m is_one in
-      subst IsSent is record {
-        reply = alone_first (place_number d d m) (home partition (module_number d m)) alone
-            ∙ from_module m is_one
-            ∙ sym (behind m);
-        single = alone_single (place_number d d m) (home partition (module_number d m)) alone;
-      }
-
-  sent_on : (l : ℕ) → l < (d + 1) * 2 ^ d → IsSent l
-  sent_on l h = elim (cases_lt l (d * 2 ^ d)) [ inl before ↦ sent_by_switch l before | inr past ↦ sent_by_module l past h ]
-
-  -- there is no link beyond
-  no_link : (l : ℕ) → (d + 1) * 2 ^ d ≤ l → IsSingle (replies_on now l)
-  no_link l past =
-      column_empty_single (on_now l) now (each_changed d partition bs blocks send same (λ k b. on_link b.replies l ≡ None) (λ k within.
-      let shape = sent_shape d low high rooms program (block_at bs k) (blocks.shaped k within) in
-      get_or_past (send (block_at bs k)).replies l None (subst (λ n. n ≤ l) (sym shape.replies) past)))
-
-  single_now : AreSingleReplies now
-  single_now l = elim (cases_lt l ((d + 1) * 2 ^ d)) [ inl within ↦ (sent_on l within).single | inr past ↦ no_link l past ]
+  same : (k : ℕ) → k < length bs → HasSameUnits d 0 (block_at bs k) (send (block_at bs k))
+  same k within = record {
+    shape = sent_shaped k within;
+    done = kept (λ t. t.done) (λ n s k t w. refl) (λ m t x. refl) k within ∙ no_more (block_at bs k).done;
+    switches = λ n h. still_there switches d partition bs blocks.cut send n h (on n h) (step n h) (acts n h) (λ l. refl) (λ w l. refl) k within;
+    modules = λ m h. still_there modules d partition bs blocks.cut send m h (on_end m h) (step_end m h) (acts_end m h) (λ l. refl) (λ x l. refl) k within;
+    elements = λ p h. ap (λ es. is_some (element_at es p)) (kept_elements k within);
+  }
 
   are_sent : AreRepliesSent d partition rooms bs now
   are_sent = record {
     frame = record {
-      blocks = blocks_after d partition bs blocks send same;
+      blocks = blocks_after d partition bs blocks send 0 same;
       frame = record {
-        switches = switch_now;
-        banks = bank_now;
-        elements = element_now;
-        replies = λ l h. (sent_on l h).reply;
-        requests = λ l h. requests_now l;
+        switches = λ n h. unit_after switches d partition bs blocks.cut send n h (on n h) (step n h) (acts n h);
+        banks = λ m h. unit_after modules d partition bs blocks.cut send m h (on_end m h) (step_end m h) (acts_end m h);
+        elements = λ p h. unit_same elements d partition bs blocks.cut send p h (λ k within. ap (λ es. element_at es p) (kept_elements k within));
+        replies = sent_now Replies d partition bs blocks send (λ k within. (sent_shaped k within).replies) clear (replies_from d (noted d rooms) f) (reply_from d (noted d rooms) f)
+            (λ m. home partition (module_number d m)) put_on_both put_behind;
+        requests = λ l h. ap first (same_column send bs (λ b. on_link b.requests l) (kept (λ t. on_link t.requests l) (λ n s k t w. refl) (λ m t x. refl)));
       };
     };
-    single = single_now;
-    nothing = each_changed d partition bs blocks send same
-        (λ k b. IsSilent b) (λ k within. silent d low high rooms program (block_at bs k) (blocks.shaped k within));
+    single = single_now Replies d partition bs blocks send (λ k within. (sent_shaped k within).replies) clear (replies_from d (noted d rooms) f) (reply_from d (noted d rooms) f)
+        (λ m. home partition (module_number d m)) put_on_both put_behind;
+    nothing = each_changed d partition bs blocks send (λ k b. IsSilent b) (λ k within. record {
+      events = kept (λ t. t.events) (λ n s k t w. refl) (λ m t x. refl) k within;
+      stops = kept (λ t. t.stops) (λ n s k t w. refl) (λ m t x. refl) k within;
+    });
   }
 
 pub replies_sent : RepliesSentLaw

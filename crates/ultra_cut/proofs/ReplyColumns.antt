@@ -74,6 +74,15 @@ module _ {X : Type 0} (g : BlockState → Option X) (bs : List BlockState) where
   pub column_empty_single : ((k : ℕ) → k < length bs → g (block_at bs k) ≡ None) → IsSingle (map g bs)
   column_empty_single none = λ i k ne some. nowhere none k
 
+-- where as many blocks have the same
+pub same_entries : {X : Type 0} (g : BlockState → Option X) (old now : List BlockState) → length now ≡ length old → ((k : ℕ) → k < length old → g (block_at now k) ≡ g (block_at old k))
+    → map g now ≡ map g old
+same_entries g old now count same =
+    ext_get_or None (map g now) (map g old) (length-map now g ∙ count ∙ sym (length-map old g)) (λ i within.
+    let inside : i < length now = subst (λ n. i < n) (length-map now g) within in
+    let small : i < length old = subst (λ n. i < n) count inside in
+    column_at g now i inside ∙ same i small ∙ sym (column_at g old i small))
+
 -- the blocks after something was done to each
 module _ (f : BlockState → BlockState) (bs : List BlockState) where
   pub changed_at : (k : ℕ) → k < length bs → block_at (map f bs) k ≡ f (block_at bs k)
@@ -82,8 +91,4 @@ module _ (f : BlockState → BlockState) (bs : List BlockState) where
   -- where that leaves what they have
   pub same_column : {X : Type 0} (g : BlockState → Option X) → ((k : ℕ) → k < length bs → g (f (block_at bs k)) ≡ g (block_at bs k))
       → map g (map f bs) ≡ map g bs
-  same_column g same =
-      ext_get_or None (map g (map f bs)) (map g bs) (length-map (map f bs) g ∙ length-map bs f ∙ sym (length-map bs g)) (λ i within.
-      let inside : i < length (map f bs) = subst (λ n. i < n) (length-map (map f bs) g) within in
-      let small : i < length bs = subst (λ n. i < n) (length-map bs f) inside in
-      column_at g (map f bs) i inside ∙ ap g (changed_at i small) ∙ same i small ∙ sym (column_at g bs i small))
+  same_column g same = same_entries g bs (map f bs) (length-map bs f) (λ k within. ap g (changed_at k within) ∙ same k within)

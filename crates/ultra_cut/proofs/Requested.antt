@@ -13,24 +13,29 @@ use Rattle.ultra_course.specs.Course.{combinations, issues, sends_requests, stop
 use Rattle.ultra_course.specs.Conditions.{CanExecute, CanTakeRequests}
 use Rattle.ultra_course.proofs.Steps as step
 use Rattle.ultra_cut.specs.Cut.{frame_of}
-use Rattle.ultra_cut.specs.Exchange.{AreRequestsThere, AreSingleReplies, OnlyRequestsMove}
-use Rattle.ultra_cut.specs.Halves.{AllCanMake, AreBlocks, HasNoReplies, OfEach, all_made, noted}
+use Rattle.ultra_cut.specs.Exchange.{AreRequestsThere, OnlyRequestsMove}
+use Rattle.ultra_cut.specs.Halves.{AllCanMake, AreBlocks, OfEach, all_made, noted}
 use Rattle.ultra_cut.proofs.Alike.{alike_requests}
 use Rattle.ultra_cut.proofs.RequestsMoved.{still_blocks}
 use Rattle.ultra_cut.specs.RequestLaws.{AreRequestsSent, AreRequestsTaken}
 use Rattle.ultra_cut.proofs.RequestsSent.{requests_sent}
 use Rattle.ultra_cut.proofs.RequestsTaken.{requests_taken}
-use Rattle.ultra_cut.proofs.CanTakeRequests as taking
+use Rattle.ultra_cut.proofs.CanTake as taking
 use Rattle.ultra_cut.specs.UnitLaws.{HaveExecuted}
 use Rattle.ultra_cut.proofs.Executed.{execute_law, can_execute_law}
 use Rattle.ultra_cut.specs.Moments.{AreMachine}
-use Rattle.ultra_cut.proofs.Links.{single_replies}
 use Rattle.ultra_cut.proofs.Chain.{alike_by, done_after, half_room, more_events, same_events, same_value}
 
-module _ (c : Settings) (partition : List ℕ) (n : ℕ) (events : List Event) (m : Machine) (program : List Instr)
-    (bs : List BlockState) (start : AreMachine c partition n events [] m bs) (clear : IsClear c.stages (frame_of c.stages partition bs))
-    (few : OfEach (λ b. length b.events ≤ 1280) bs) (no_stops : OfEach (λ b. b.stops ≡ []) bs)
-    (rooms : BlockRooms) (room : AreRooms c.stages (frame_of c.stages partition bs) (noted c.stages rooms)) where
+-- blocks after memory has served, and the rooms by which requests are to leave
+pub record AreServed (c : Settings) (partition : List ℕ) (n : ℕ) (events : List Event) (m : Machine) (bs : List BlockState) (rooms : BlockRooms) : Type 0 where
+  pub machine : AreMachine c partition n events [] m bs
+  pub clear : IsClear c.stages (frame_of c.stages partition bs)
+  pub few : OfEach (λ b. length b.events ≤ 1280) bs
+  pub no_stops : OfEach (λ b. b.stops ≡ []) bs
+  pub room : AreRooms c.stages (frame_of c.stages partition bs) (noted c.stages rooms)
+
+module _ (c : Settings) (partition : List ℕ) (n : ℕ) (events : List Event) (m : Machine) (program : List Instr) (bs : List BlockState) (rooms : BlockRooms)
+    (start : AreServed c partition n events m bs rooms) where
   abbrev d : ℕ
   d = c.stages
 
@@ -42,13 +47,7 @@ module _ (c : Settings) (partition : List ℕ) (n : ℕ) (events : List Event) (
   sent = all_made SendRequests rooms program bs
 
   pub are_sent : AreRequestsSent d partition rooms bs sent
-  are_sent = requests_sent d partition bs rooms program start.blocks clear.requests
-
-  pub sent_without_replies : HasNoReplies d partition sent
-  sent_without_replies l h = are_sent.frame.frame.replies l h ∙ clear.replies l h
-
-  pub sent_single_replies : AreSingleReplies sent
-  sent_single_replies = single_replies d partition sent are_sent.frame.blocks.blocks sent_without_replies
+  are_sent = requests_sent d partition bs rooms program start.machine.blocks start.clear.requests
 
   -- ---- they have been exchanged
   module _ (there : List BlockState) (only : OnlyRequestsMove sent there) (home : AreRequestsThere d partition there) where
@@ -56,22 +55,22 @@ module _ (c : Settings) (partition : List ℕ) (n : ℕ) (events : List Event) (
     there_alike = alike_by d (f there) (f sent) (sends_requests d (noted d rooms) (f bs)) (alike_requests d partition sent there only) are_sent.frame.frame
 
     pub there_blocks : AreBlocks d partition there
-    there_blocks = still_blocks d start.blocks.some_stages start.blocks.few_stages partition sent there only are_sent.frame.blocks.blocks
+    there_blocks = still_blocks d start.machine.blocks.some_stages start.machine.blocks.few_stages partition sent there only are_sent.frame.blocks.blocks
 
     pub there_done : OfEach (λ b. b.done ≡ n) there
     there_done = same_value sent there only.count (λ b. b.done) n (λ k h. ap (λ (b : BlockState). b.done) (only.rest k))
-        (λ k h. done_after d partition 0 n bs sent are_sent.frame.blocks start.done k h ∙ omega arith)
+        (λ k h. done_after d partition 0 n bs sent are_sent.frame.blocks start.machine.done k h ∙ omega arith)
 
     there_few : OfEach (λ b. length b.events ≤ 1280) there
     there_few = same_events sent there only.count 1280 (λ k h. ap (λ (b : BlockState). b.events) (only.rest k))
-        (same_events bs sent are_sent.frame.blocks.count 1280 are_sent.events few)
+        (same_events bs sent are_sent.frame.blocks.count 1280 are_sent.events start.few)
 
     there_stops : OfEach (λ b. b.stops ≡ []) there
     there_stops = same_value sent there only.count (λ b. b.stops) [] (λ k h. ap (λ (b : BlockState). b.stops) (only.rest k))
-        (same_value bs sent are_sent.frame.blocks.count (λ b. b.stops) [] are_sent.stops no_stops)
+        (same_value bs sent are_sent.frame.blocks.count (λ b. b.stops) [] are_sent.stops start.no_stops)
 
     can_take : CanTakeRequests d (f there)
-    can_take = step.can_take_requests c n (f bs) events [] m start.machine (noted d rooms) room (f there) there_alike
+    can_take = step.can_take_requests c n (f bs) events [] m start.machine.machine (noted d rooms) start.room (f there) there_alike
 
     pub all_can_take : AllCanMake TakeRequests there
     all_can_take = taking.can_take_requests d partition there there_blocks home only.single can_take (half_room 1280 (omega arith) there there_few)
@@ -87,7 +86,7 @@ module _ (c : Settings) (partition : List ℕ) (n : ℕ) (events : List Event) (
     taken_machine = record {
       blocks = are_taken.frame.blocks.blocks;
       done = λ k h. done_after d partition 0 n there taken are_taken.frame.blocks there_done k h ∙ omega arith;
-      machine = step.requested c n (f bs) events [] m start.machine (noted d rooms) room (f there) there_alike (f taken) are_taken.frame.frame;
+      machine = step.requested c n (f bs) events [] m start.machine.machine (noted d rooms) start.room (f there) there_alike (f taken) are_taken.frame.frame;
     }
 
     taken_few : OfEach (λ b. length b.events ≤ 1280 + 640) taken
@@ -122,6 +121,6 @@ module _ (c : Settings) (partition : List ℕ) (n : ℕ) (events : List Event) (
     -- nothing is on a link
     pub stepped_clear : IsClear d (f stepped)
     stepped_clear = record {
-      replies = λ l h. have_executed.frame.frame.replies l h ∙ are_taken.frame.frame.replies l h ∙ there_alike.replies l h ∙ clear.replies l h;
+      replies = λ l h. have_executed.frame.frame.replies l h ∙ are_taken.frame.frame.replies l h ∙ there_alike.replies l h ∙ start.clear.replies l h;
       requests = λ l h. have_executed.frame.frame.requests l h ∙ are_taken.frame.frame.requests l h;
     }

@@ -1,20 +1,19 @@
 -- The half in which requests are taken: the blocks become the machine after it.
-use Rattle.std.proofs.Common.{◌≡◌, ℕ, ◌+◌, ◌-◌, ◌*◌, ◌^◌, ◌<◌, ◌≤◌, List, Option, Some, None, length, length-append, refl, sym, ◌∙◌, ap, subst, arith, inl, inr}
-use Rattle.std.specs.Prelude.{◌⊎◌, is_some}
-use Rattle.std.proofs.lemmas.Bool.{cases_eq}
+use Rattle.std.proofs.Common.{◌≡◌, ℕ, ◌+◌, ◌^◌, ◌<◌, ◌≤◌, List, Option, None, length, length-append, refl, sym, ◌∙◌, ap, subst, arith}
+use Rattle.std.specs.Prelude.{is_some}
 use Rattle.ultra_msg.specs.declared.Request.{Request}
 use Rattle.ultra_switch.specs.declared.Switch.{Switch}
 use Rattle.ultra_switch.specs.declared.Ports.{Ports}
-use Rattle.ultra_mem.specs.Serve.{Bank, empty_bank}
+use Rattle.ultra_mem.specs.Serve.{Bank}
 use Rattle.ultra_isa.specs.declared.Instr.{Instr}
-use Rattle.ultra_units.specs.Numbers.{switch_count, module_number, element_number}
+use Rattle.ultra_units.specs.Numbers.{switch_count, module_number}
 use Rattle.ultra_halves.specs.Halves.{ports}
 use Rattle.ultra_halves.specs.Switches.{after_requests}
 use Rattle.ultra_halves.specs.Modules.{bank_with}
 use Rattle.ultra_section.specs.declared.half.Half.TheVariants.{TakeRequests}
 use Rattle.ultra_section.specs.declared.rooms.Rooms.{Rooms as BlockRooms}
 use Rattle.ultra_section.specs.Units.{unit_of, stage_of, index_of}
-use Rattle.ultra_section.specs.Marks.{memory_link, on_both, on_link, request_links}
+use Rattle.ultra_section.specs.Marks.{on_both, on_link}
 use Rattle.ultra_section.specs.BlockState.{BlockState, switch_at, module_at, element_at}
 use Rattle.ultra_section.specs.RequestsTaken.{requests_taken_by, request_taken_by}
 use Rattle.ultra_section.specs.Making.{made}
@@ -22,102 +21,19 @@ use Rattle.ultra_section.proofs.Few.{few_told}
 use Rattle.ultra_section.proofs.Once.{told_before}
 use Rattle.ultra_section.proofs.RequestsTakenOnce.{InCycle, after_taking_module, after_taking_switch, module_after_taking, events_after_taking, kept_by_taking, shape_after_taking, switch_after_taking, told_of}
 use Rattle.ultra_course.specs.Frame.{Frame}
-use Rattle.ultra_course.specs.Course.{takes_requests}
-use Rattle.ultra_cut.specs.Cut.{block_at, first, frame_of, given, home, no_element, no_switch}
+use Rattle.ultra_cut.specs.declared.kind.Kind.TheVariants.{Requests}
+use Rattle.ultra_cut.specs.Cut.{block_at, first, frame_of}
 use Rattle.ultra_cut.specs.Exchange.{AreRequestsThere}
-use Rattle.ultra_cut.specs.Halves.{AreBlocks, FewMoreEvents, OfEach, all_made}
+use Rattle.ultra_cut.specs.Halves.{AreBlocks, OfEach, all_made}
 use Rattle.ultra_cut.specs.RequestLaws.{AreRequestsTaken, RequestsTakenLaw}
-use Rattle.ultra_cut.proofs.ReplyColumns.{changed_at, column_empty, same_column}
-use Rattle.ultra_cut.proofs.ReplyHomes.{HasSameUnits, blocks_after, each_changed, module_away, module_home, home_within, switch_away, switch_home, unit_small}
-use Rattle.ultra_cut.proofs.RequestInlets.{leads_to}
-use Rattle.ultra_cut.proofs.RequestEvents.{few_of_unit}
-use Rattle.ultra_cut.proofs.RequestsThere.{module_there, nothing_for_module, nothing_for_switch, switch_there}
+use Rattle.ultra_cut.proofs.Changed.{HasSameUnits, blocks_after, links_empty, no_more, still_there, unit_after, unit_same, unit_small}
+use Rattle.ultra_cut.proofs.FewEvents.{few_by_requests}
+use Rattle.ultra_cut.proofs.Inlets.{end_link, end_link_small, links}
+use Rattle.ultra_cut.proofs.ReplyColumns.{changed_at, same_column}
+use Rattle.ultra_cut.proofs.Taking.{taken_now}
+use Rattle.ultra_cut.proofs.There.{end_there, nothing_for_end, nothing_for_switch, switch_there}
+use Rattle.ultra_cut.proofs.Units.{elements, modules, switches}
 
--- ---- links
-port_empty : {M : Type 0} (t : List (Option M)) (p : Ports ℕ) (l : ℕ) → (l ≡ p.zero) ⊎ (l ≡ p.one) → on_both t p ≡ ports None None → on_link t l ≡ None
-port_empty t p l (inl is) none = ap (on_link t) is ∙ ap (λ q. q.zero) none
-port_empty t p l (inr is) none = ap (on_link t) is ∙ ap (λ q. q.one) none
-
-two_rows_on : (k size m : ℕ) → m < size → k * size + m < (k + 1 + 1) * size
-two_rows_on k size m h = grind arith
-
-memory_small : (d : ℕ) → 1 ≤ d → (m : ℕ) → m < 2 ^ d → memory_link d m < (d + 1) * 2 ^ d
-memory_small d low m h =
-    let e : (d - 1) + 1 ≡ d = omega arith in
-    subst (λ x. memory_link d m < (x + 1) * 2 ^ d) e (two_rows_on (d - 1) (2 ^ d) m h)
-
--- ---- one block
-module _ (d c : ℕ) (low : 1 ≤ d) (high : d ≤ 6) (rooms : BlockRooms) (program : List Instr) (b : BlockState) (start : InCycle d c b) where
-  abbrev taken : BlockState
-  taken = made TakeRequests rooms program b
-
-  kept : {X : Type 0} (get : BlockState → X) → ((n s k : ℕ) (t : BlockState) (w : Switch) → get (requests_taken_by n s k t w) ≡ get t)
-      → ((m : ℕ) (t : BlockState) (x : Bank) → get (request_taken_by m t x) ≡ get t) → get taken ≡ get b
-  kept get switches modules = kept_by_taking d c low high get switches modules b start
-
-  taken_elements : taken.elements ≡ b.elements
-  taken_elements = kept (λ t. t.elements) (λ n s k t w. refl) (λ m t x. refl)
-
-  taken_replies : taken.replies ≡ b.replies
-  taken_replies = kept (λ t. t.replies) (λ n s k t w. refl) (λ m t x. refl)
-
-  taken_stops : taken.stops ≡ b.stops
-  taken_stops = kept (λ t. t.stops) (λ n s k t w. refl) (λ m t x. refl)
-
-  taken_in_cycle : InCycle d c taken
-  taken_in_cycle = shape_after_taking d c low high b start
-
-  -- at most two events are told of a unit
-  few_events : length taken.events ≤ length b.events + 640
-  few_events =
-      let told = few_told (λ n t. told_of d c low high n t (unit_of d n)) b 2 (few_of_unit d c low high b) 320 in
-      let all = ap length (events_after_taking d c low high b start) in
-      let sum = length-append b.events (told_before (λ n t. told_of d c low high n t (unit_of d n)) 320 b) in
-      omega arith
-
-  -- ---- switch n, and what is on its two links
-  module _ (n : ℕ) (h : n < switch_count d) where
-    abbrev s : ℕ
-    s = stage_of d n
-
-    abbrev k : ℕ
-    k = index_of d n
-
-    abbrev links : Ports ℕ
-    links = request_links d s k
-
-    switch_taken : (o : Option Switch) → switch_at b.switches n ≡ o
-        → ◌≡◌ {A = Option Switch × Ports (Option Request)} (switch_at taken.switches n, on_both taken.requests links) (after_taking_switch d c low high s k (o, on_both b.requests links))
-    switch_taken o is =
-        switch_after_taking d c low high b start n h (unit_small d n low high (omega arith))
-        ∙ ap (λ o. after_taking_switch d c low high s k (o, on_both b.requests links)) is
-
-    same_switch : (o : Option Switch) → switch_at b.switches n ≡ o → is_some (switch_at taken.switches n) ≡ is_some (switch_at b.switches n)
-    same_switch None is = ap (λ q. is_some q.0) (switch_taken None is) ∙ sym (ap (λ o. is_some o) is)
-    same_switch (Some w) is = ap (λ q. is_some q.0) (switch_taken (Some w) is) ∙ sym (ap (λ o. is_some o) is)
-
-  -- ---- module m, and what is on its link
-  module _ (m : ℕ) (h : m < 2 ^ d) where
-    module_taken : (o : Option Bank) → module_at b.modules m ≡ o
-        → ◌≡◌ {A = Option Bank × Option Request} (module_at taken.modules m, on_link taken.requests (memory_link d m)) (after_taking_module d c low high (o, on_link b.requests (memory_link d m)))
-    module_taken o is =
-        module_after_taking d c low high b start m h (unit_small d (module_number d m) low high (omega arith)) (memory_small d low m h)
-        ∙ ap (λ o. after_taking_module d c low high (o, on_link b.requests (memory_link d m))) is
-
-    same_module : (o : Option Bank) → module_at b.modules m ≡ o → is_some (module_at taken.modules m) ≡ is_some (module_at b.modules m)
-    same_module None is = ap (λ q. is_some q.0) (module_taken None is) ∙ sym (ap (λ o. is_some o) is)
-    same_module (Some x) is = ap (λ q. is_some q.0) (module_taken (Some x) is) ∙ sym (ap (λ o. is_some o) is)
-
-  same_units : HasSameUnits d b taken
-  same_units = record {
-    shape = taken_in_cycle.shape;
-    done = taken_in_cycle.done ∙ sym start.done;
-    switches = λ n h. same_switch n h (switch_at b.switches n) refl;
-    elements = λ p h. ap (λ xs. is_some (element_at xs p)) taken_elements;
-    modules = λ m h. same_module m h (module_at b.modules m) refl;
-  }
-
--- ---- all blocks
 module _ (d : ℕ) (partition : List ℕ) (c : ℕ) (bs : List BlockState) (rooms : BlockRooms) (program : List Instr) (blocks : AreBlocks d partition bs) (there : AreRequestsThere d partition bs)
     (done : OfEach (λ b. b.done ≡ c) bs) where
   abbrev low : 1 ≤ d
@@ -135,117 +51,85 @@ module _ (d : ℕ) (partition : List ℕ) (c : ℕ) (bs : List BlockState) (room
   abbrev f : Frame
   f = frame_of d partition bs
 
-  abbrev after : Frame
-  after = takes_requests d c f
-
+  -- ---- block k
   start : (k : ℕ) → k < length bs → InCycle d c (block_at bs k)
   start k within = record { shape = blocks.shaped k within; done = done k within }
 
-  same : (k : ℕ) → k < length bs → HasSameUnits d (block_at bs k) (take (block_at bs k))
-  same k within = same_units d c low high rooms program (block_at bs k) (start k within)
+  after : (k : ℕ) → k < length bs → InCycle d c (take (block_at bs k))
+  after k within = shape_after_taking d c low high (block_at bs k) (start k within)
 
-  -- ---- switch n
+  kept : {X : Type 0} (get : BlockState → X) → ((n s k : ℕ) (t : BlockState) (w : Switch) → get (requests_taken_by n s k t w) ≡ get t)
+      → ((i : ℕ) (t : BlockState) (x : Bank) → get (request_taken_by i t x) ≡ get t) → (k : ℕ) → k < length bs → get (take (block_at bs k)) ≡ get (block_at bs k)
+  kept get switches ends k within = kept_by_taking d c low high get switches ends (block_at bs k) (start k within)
+
+  kept_elements : (k : ℕ) → k < length bs → (take (block_at bs k)).elements ≡ (block_at bs k).elements
+  kept_elements = kept (λ t. t.elements) (λ n s k t w. refl) (λ i t x. refl)
+
+  -- at most two events are told of a unit
+  few_events : (k : ℕ) → k < length bs → length (take (block_at bs k)).events ≤ length (block_at bs k).events + 640
+  few_events k within =
+      let b = block_at bs k in
+      let told = few_told (λ n t. told_of d c low high n t (unit_of d n)) b 2 (few_by_requests d low high b c) 320 in
+      let all = ap length (events_after_taking d c low high b (start k within)) in
+      let sum = length-append b.events (told_before (λ n t. told_of d c low high n t (unit_of d n)) 320 b) in
+      omega arith
+
+  -- ---- switch n, and what is on its two links
   module _ (n : ℕ) (h : n < switch_count d) where
-    abbrev inlets : Ports ℕ
-    inlets = request_links d (stage_of d n) (index_of d n)
+    abbrev on : BlockState → Ports (Option Request)
+    on b = on_both b.requests (links Requests d n)
 
-    -- in a block where this stands at the number of the switch
-    taken_at : (i : ℕ) → i < length bs → (o : Option Switch) → switch_at (block_at bs i).switches n ≡ o
-        → ◌≡◌ {A = Option Switch × Ports (Option Request)} (switch_at (take (block_at bs i)).switches n, on_both (take (block_at bs i)).requests inlets)
-        (after_taking_switch d c low high (stage_of d n) (index_of d n) (o, on_both (block_at bs i).requests inlets))
-    taken_at i within o is = switch_taken d c low high rooms program (block_at bs i) (start i within) n h o is
+    abbrev step : Option Switch × Ports (Option Request) → Option Switch × Ports (Option Request)
+    step = after_taking_switch d c low high (stage_of d n) (index_of d n)
 
-    switch_now : (frame_of d partition now).switch n ≡ after.switch n
-    switch_now =
-        let at : ℕ = home partition n in
-        let within : at < length bs = home_within d partition bs blocks n (omega arith) in
-        ap (λ (b : BlockState). given no_switch (switch_at b.switches n)) (changed_at take bs at within)
-        ∙ ap (λ q. given no_switch q.0) (taken_at at within (Some (f.switch n)) (switch_home d partition bs blocks n h))
-        ∙ ap (after_requests d (stage_of d n) c (f.switch n)) (sym (switch_there d partition bs blocks there n h))
+    acts : (k : ℕ) → k < length bs → ◌≡◌ {A = Option Switch × Ports (Option Request)} (switch_at (take (block_at bs k)).switches n, on (take (block_at bs k))) (step (switch_at (block_at bs k).switches n, on (block_at bs k)))
+    acts k within = switch_after_taking d c low high (block_at bs k) (start k within) n h (unit_small d n low high (omega arith))
 
-    emptied_by_switch : (l : ℕ) → (l ≡ inlets.zero) ⊎ (l ≡ inlets.one) → (i : ℕ) → i < length bs → on_link (take (block_at bs i)).requests l ≡ None
-    emptied_by_switch l inlet i within = elim (cases_eq i (home partition n)) [
-      | inl at_home ↦
-          let stands : switch_at (block_at bs i).switches n ≡ Some (f.switch n) = ap (λ i. switch_at (block_at bs i).switches n) at_home ∙ switch_home d partition bs blocks n h in
-          port_empty (take (block_at bs i)).requests inlets l inlet (ap (λ q. q.1) (taken_at i within (Some (f.switch n)) stands))
-      | inr away ↦
-          port_empty (take (block_at bs i)).requests inlets l inlet (ap (λ q. q.1) (taken_at i within None (switch_away d partition bs blocks n h i within away))
-          ∙ nothing_for_switch d partition bs blocks there n h i within away)
-    ]
+    empty : (k : ℕ) → k < length bs → on (take (block_at bs k)) ≡ ports None None
+    empty = links_empty switches d partition bs blocks.cut take n h on step acts (ports None None) refl (nothing_for_switch Requests d partition bs blocks.cut there n h)
 
-  -- ---- module m
+  -- ---- module m, and what is on its link
   module _ (m : ℕ) (h : m < 2 ^ d) where
-    abbrev link : ℕ
-    link = memory_link d m
+    abbrev on_end : BlockState → Option Request
+    on_end b = on_link b.requests (end_link Requests d m)
 
-    came_at : (i : ℕ) → i < length bs → (o : Option Bank) → module_at (block_at bs i).modules m ≡ o
-        → ◌≡◌ {A = Option Bank × Option Request} (module_at (take (block_at bs i)).modules m, on_link (take (block_at bs i)).requests link)
-        (after_taking_module d c low high (o, on_link (block_at bs i).requests link))
-    came_at i within o is = module_taken d c low high rooms program (block_at bs i) (start i within) m h o is
+    abbrev step_end : Option Bank × Option Request → Option Bank × Option Request
+    step_end = after_taking_module d c low high
 
-    bank_now : (frame_of d partition now).bank m ≡ after.bank m
-    bank_now =
-        let at : ℕ = home partition (module_number d m) in
-        let within : at < length bs = home_within d partition bs blocks (module_number d m) (omega arith) in
-        ap (λ (b : BlockState). given empty_bank (module_at b.modules m)) (changed_at take bs at within)
-        ∙ ap (λ q. given empty_bank q.0) (came_at at within (Some (f.bank m)) (module_home d partition bs blocks m h))
-        ∙ ap (bank_with (2 ^ d) (f.bank m)) (sym (module_there d partition bs blocks there m h))
+    acts_end : (k : ℕ) → k < length bs → ◌≡◌ {A = Option Bank × Option Request} (module_at (take (block_at bs k)).modules m, on_end (take (block_at bs k))) (step_end (module_at (block_at bs k).modules m, on_end (block_at bs k)))
+    acts_end k within =
+        module_after_taking d c low high (block_at bs k) (start k within) m h (unit_small d (module_number d m) low high (omega arith)) (end_link_small Requests d low high m h)
 
-    emptied_by_module : (i : ℕ) → i < length bs → on_link (take (block_at bs i)).requests link ≡ None
-    emptied_by_module i within = elim (cases_eq i (home partition (module_number d m))) [
-      | inl at_home ↦
-          let stands : module_at (block_at bs i).modules m ≡ Some (f.bank m) = ap (λ i. module_at (block_at bs i).modules m) at_home ∙ module_home d partition bs blocks m h in
-          ap (λ q. q.1) (came_at i within (Some (f.bank m)) stands)
-      | inr away ↦
-          ap (λ q. q.1) (came_at i within None (module_away d partition bs blocks m h i within away))
-          ∙ nothing_for_module d partition bs blocks there m h i within away
-    ]
+    end_empty : (k : ℕ) → k < length bs → on_end (take (block_at bs k)) ≡ None
+    end_empty = links_empty modules d partition bs blocks.cut take m h on_end step_end acts_end None refl (nothing_for_end Requests d partition bs blocks.cut there m h)
 
-  -- ---- the rest
-  element_now : (p : ℕ) → p < 2 ^ d → (frame_of d partition now).element p ≡ after.element p
-  element_now p h =
-      let at : ℕ = home partition (element_number d p) in
-      let within : at < length bs = home_within d partition bs blocks (element_number d p) (omega arith) in
-      ap (λ (b : BlockState). given no_element (element_at b.elements p)) (changed_at take bs at within)
-      ∙ ap (λ xs. given no_element (element_at xs p)) (taken_elements d c low high rooms program (block_at bs at) (start at within))
-
-  -- each link leads to a unit, which has taken what was there
-  emptied : (l : ℕ) → l < (d + 1) * 2 ^ d → (i : ℕ) → i < length bs → on_link (take (block_at bs i)).requests l ≡ None
-  emptied l h i within = elim (leads_to d low high l h) [
-    | inl it ↦ emptied_by_switch _ it.switch l it.inlet i within
-    | inr it ↦ ap (on_link (take (block_at bs i)).requests) it.inlet ∙ emptied_by_module _ it.small i within
-  ]
-
-  requests_now : (l : ℕ) → l < (d + 1) * 2 ^ d → (frame_of d partition now).requests l ≡ None
-  requests_now l h =
-      column_empty (λ b. on_link b.requests l) now (each_changed d partition bs blocks take same (λ k b. on_link b.requests l ≡ None) (emptied l h))
-
-  replies_now : (l : ℕ) → (frame_of d partition now).replies l ≡ after.replies l
-  replies_now l =
-      ap first (same_column take bs (λ b. on_link b.replies l)
-      (λ k within. ap (λ t. on_link t l) (taken_replies d c low high rooms program (block_at bs k) (start k within))))
-
-  few_more : FewMoreEvents bs now
-  few_more k within =
-      subst (λ (b : BlockState). length b.events ≤ length (block_at bs k).events + 640) (sym (changed_at take bs k within))
-      (few_events d c low high rooms program (block_at bs k) (start k within))
+  same : (k : ℕ) → k < length bs → HasSameUnits d 0 (block_at bs k) (take (block_at bs k))
+  same k within = record {
+    shape = (after k within).shape;
+    done = (after k within).done ∙ sym (done k within) ∙ no_more (block_at bs k).done;
+    switches = λ n h. still_there switches d partition bs blocks.cut take n h (on n h) (step n h) (acts n h) (λ l. refl) (λ w l. refl) k within;
+    modules = λ m h. still_there modules d partition bs blocks.cut take m h (on_end m h) (step_end m h) (acts_end m h) (λ l. refl) (λ x l. refl) k within;
+    elements = λ i h. ap (λ xs. is_some (element_at xs i)) (kept_elements k within);
+  }
 
   are_taken : AreRequestsTaken d partition c bs now
   are_taken = record {
     frame = record {
-      blocks = blocks_after d partition bs blocks take same;
+      blocks = blocks_after d partition bs blocks take 0 same;
       frame = record {
-        switches = switch_now;
-        elements = element_now;
-        banks = bank_now;
-        requests = requests_now;
-        replies = λ l h. replies_now l;
+        switches = λ n h.
+            unit_after switches d partition bs blocks.cut take n h (on n h) (step n h) (acts n h)
+            ∙ ap (after_requests d (stage_of d n) c (f.switch n)) (sym (switch_there Requests d partition bs blocks.cut there n h));
+        banks = λ m h.
+            unit_after modules d partition bs blocks.cut take m h (on_end m h) (step_end m h) (acts_end m h)
+            ∙ ap (bank_with (2 ^ d) (f.bank m)) (sym (end_there Requests d partition bs blocks.cut there m h));
+        elements = λ i h. unit_same elements d partition bs blocks.cut take i h (λ k within. ap (λ xs. element_at xs i) (kept_elements k within));
+        requests = taken_now Requests d partition bs blocks take empty end_empty;
+        replies = λ l h. ap first (same_column take bs (λ b. on_link b.replies l) (kept (λ t. on_link t.replies l) (λ n s k t w. refl) (λ i t x. refl)));
       };
     };
-    events = few_more;
-    stops = λ k within.
-        ap (λ (b : BlockState). b.stops) (changed_at take bs k within)
-        ∙ taken_stops d c low high rooms program (block_at bs k) (start k within);
+    events = λ k within. subst (λ (b : BlockState). length b.events ≤ length (block_at bs k).events + 640) (sym (changed_at take bs k within)) (few_events k within);
+    stops = λ k within. ap (λ (b : BlockState). b.stops) (changed_at take bs k within) ∙ kept (λ t. t.stops) (λ n s k t w. refl) (λ i t x. refl) k within;
   }
 
 pub requests_taken : RequestsTakenLaw

@@ -1,11 +1,10 @@
 -- After every block has served, the blocks are the frame in which each module has.
-use Rattle.std.proofs.Common.{◌≡◌, ℕ, ◌+◌, ◌*◌, ◌^◌, ◌<◌, ◌≤◌, List, Option, Some, None, length, length-append, refl, sym, ◌∙◌, ap, subst, arith, le-ltb}
+use Rattle.std.proofs.Common.{◌≡◌, ℕ, ◌+◌, ◌^◌, ◌≤◌, List, Option, Some, None, length, length-append, refl, sym, ◌∙◌, ap, subst, arith, le-ltb}
 use Rattle.ultra_isa.specs.declared.Instr.{Instr}
 use Rattle.ultra_mem.specs.Serve.{Bank, serve, served}
 use Rattle.ultra_model.specs.Phases.{serving}
-use Rattle.ultra_units.specs.Numbers.{switch_count, unit_count, module_number, element_number}
+use Rattle.ultra_units.specs.Numbers.{switch_count, unit_count}
 use Rattle.ultra_units.specs.Visits.{after_units}
-use Rattle.ultra_halves.specs.declared.elements.ProcessingElement.{ProcessingElement}
 use Rattle.ultra_section.specs.declared.half.Half.TheVariants.{Serve}
 use Rattle.ultra_section.specs.declared.rooms.Rooms.{Rooms}
 use Rattle.ultra_section.specs.BlockState.{BlockState, module_at, element_at}
@@ -18,11 +17,12 @@ use Rattle.ultra_section.proofs.Once.{told_before}
 use Rattle.ultra_section.proofs.ServedOnce.{act_told, told, told_of, events_after_serving, kept_by_serving, module_after_serving, shape_after_serving}
 use Rattle.ultra_section.proofs.Standing.{unit_of_switch, unit_of_module, unit_of_element}
 use Rattle.ultra_cut.specs.Cut.{block_at}
-use Rattle.ultra_cut.specs.Halves.{AreBlocks, FewMoreEvents, all_made}
+use Rattle.ultra_cut.specs.Halves.{AreBlocks, all_made}
 use Rattle.ultra_cut.proofs.Numbers.{few_units}
 use Rattle.ultra_cut.specs.UnitLaws.{CanServeLaw, HaveServed, ServeLaw}
-use Rattle.ultra_cut.proofs.Units.{by_kind}
-use Rattle.ultra_cut.proofs.Each.{HasWorked, have_frame, made_at, same_worked, worked}
+use Rattle.ultra_section.proofs.OfKind.{by_kind}
+use Rattle.ultra_cut.proofs.ReplyColumns.{changed_at}
+use Rattle.ultra_cut.proofs.Each.{HasWorked, have_frame, same_worked, worked}
 
 module _ (d : ℕ) (low : 1 ≤ d) (high : d ≤ 6) (b : BlockState) (shape : IsShaped d b) where
   abbrev now : BlockState
@@ -71,16 +71,13 @@ module _ (d : ℕ) (partition : List ℕ) (bs : List BlockState) (rooms : Rooms)
   abbrev make : BlockState → BlockState
   make = made Serve rooms program
 
-  at_block : (k : ℕ) → k < length bs → block_at (all_made Serve rooms program bs) k ≡ make (block_at bs k)
-  at_block = made_at d partition bs are make
-
   have_served : HaveServed d partition bs (all_made Serve rooms program bs)
   have_served = record {
     frame = have_frame d partition bs are make serve (λ e. e) 0 (λ k h. has_served d are.some_stages are.few_stages (block_at bs k) (are.shaped k h));
     events = λ k h.
-        subst (λ (b : BlockState). length b.events ≤ length (block_at bs k).events + 640) (sym (at_block k h))
+        subst (λ (b : BlockState). length b.events ≤ length (block_at bs k).events + 640) (sym (changed_at make bs k h))
         (few_more d are.some_stages are.few_stages (block_at bs k) (are.shaped k h));
-    stops = λ k h. ap (λ (b : BlockState). b.stops) (at_block k h) ∙ same_stops d are.some_stages are.few_stages (block_at bs k) (are.shaped k h);
+    stops = λ k h. ap (λ (b : BlockState). b.stops) (changed_at make bs k h) ∙ same_stops d are.some_stages are.few_stages (block_at bs k) (are.shaped k h);
   }
 
 pub serve_law : ServeLaw

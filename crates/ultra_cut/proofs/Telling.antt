@@ -1,9 +1,8 @@
 -- What a block tells in each half: unit by unit, and so kind by kind.
-use Rattle.std.proofs.Common.{◌≡◌, ℕ, zero, suc, ◌+◌, ◌-◌, ◌^◌, ◌<◌, ◌≤◌, List, [], ◌++◌, Option, Some, None, refl, sym, ◌∙◌, ap, inl, inr, arith, le-ltb}
+use Rattle.std.proofs.Common.{◌≡◌, ℕ, zero, suc, ◌+◌, ◌-◌, ◌^◌, ◌<◌, ◌≤◌, List, [], ◌++◌, Option, Some, None, refl, sym, ◌∙◌, ap, subst, inl, inr, arith}
 use Rattle.std.proofs.lemmas.Bool.{cases_lt}
 use Rattle.ultra_msg.specs.declared.Request.{Request}
 use Rattle.ultra_msg.specs.declared.ReplyMessage.{ReplyMessage}
-use Rattle.ultra_msg.specs.declared.Event.{Event}
 use Rattle.ultra_switch.specs.declared.Ports.{Ports}
 use Rattle.ultra_switch.specs.declared.Switch.{Switch}
 use Rattle.ultra_mem.specs.Serve.{Bank}
@@ -17,6 +16,7 @@ use Rattle.ultra_section.specs.Marks.{on_link, on_both, delivery_link, request_l
 use Rattle.ultra_section.specs.BlockState.{BlockState, switch_at, module_at, element_at}
 use Rattle.ultra_section.specs.Shape.{IsShaped}
 use Rattle.ultra_section.specs.RepliesSent.{begun}
+use Rattle.ultra_section.proofs.OfKind.{unit_of_none}
 use Rattle.ultra_section.proofs.Standing.{unit_of_switch, unit_of_module, unit_of_element}
 use Rattle.ultra_section.proofs.Once.{told_before}
 use Rattle.ultra_section.proofs.RepliesSentOnce as replies_sent
@@ -51,129 +51,82 @@ module _ (d : ℕ) (low : 1 ≤ d) (high : d ≤ 6) where
   few : unit_count d < 321
   few = few_units d low high
 
-  module_place : (i : ℕ) → switch_count d ≤ i → module_number d (i - switch_count d) ≡ i
-  module_place i h = omega arith
+  -- ---- units of one sort tell something
+  module _ {T E : Type 0} (told : ℕ → T → List E) (t : T) (nothing : (i : ℕ) → unit_count d ≤ i → told i t ≡ []) where
+    no_module : ((m : ℕ) → m < 2 ^ d → told (module_number d m) t ≡ []) → (i : ℕ) → switch_count d ≤ i → i < switch_count d + 2 ^ d → told i t ≡ []
+    no_module none i past h =
+        let place : module_number d (i - switch_count d) ≡ i = omega arith in subst (λ i. told i t ≡ []) place (none (i - switch_count d) (omega arith))
 
-  element_place : (i : ℕ) → switch_count d + 2 ^ d ≤ i → element_number d (i - (switch_count d + 2 ^ d)) ≡ i
-  element_place i h = omega arith
+    no_element : ((p : ℕ) → p < 2 ^ d → told (element_number d p) t ≡ []) → (i : ℕ) → switch_count d + 2 ^ d ≤ i → told i t ≡ []
+    no_element none i past = elim (cases_lt i (unit_count d)) [
+      | inl within ↦
+          let p = i - (switch_count d + 2 ^ d) in
+          let place : element_number d p ≡ i = omega arith in subst (λ i. told i t ≡ []) place (none p (omega arith))
+      | inr behind ↦ nothing i behind
+    ]
+
+    switches_tell : (g : ℕ → List E) → ((m : ℕ) → m < 2 ^ d → told (module_number d m) t ≡ []) → ((p : ℕ) → p < 2 ^ d → told (element_number d p) t ≡ [])
+        → ((i : ℕ) → i < switch_count d → told i t ≡ g i) → told_before told 320 t ≡ joined (places (switch_count d) g)
+    switches_tell g modules elements same =
+        told_by_kind told t 0 (switch_count d) g (omega (arith, few)) (λ i h. absurd (omega arith))
+        (λ i h. elim (cases_lt i (switch_count d + 2 ^ d)) [
+          | inl within ↦ no_module modules i (omega arith) within
+          | inr past ↦ no_element elements i past
+        ])
+        (λ i h. let number : 0 + i ≡ i = omega arith in ap (λ i. told i t) number ∙ same i h)
+
+    modules_tell : (g : ℕ → List E) → ((i : ℕ) → i < switch_count d → told i t ≡ []) → ((p : ℕ) → p < 2 ^ d → told (element_number d p) t ≡ [])
+        → ((m : ℕ) → m < 2 ^ d → told (module_number d m) t ≡ g m) → told_before told 320 t ≡ joined (places (2 ^ d) g)
+    modules_tell g switches elements same =
+        told_by_kind told t (switch_count d) (2 ^ d) g (omega (arith, few)) switches (no_element elements) same
+
+    elements_tell : (g : ℕ → List E) → ((i : ℕ) → i < switch_count d → told i t ≡ []) → ((m : ℕ) → m < 2 ^ d → told (module_number d m) t ≡ [])
+        → ((p : ℕ) → p < 2 ^ d → told (element_number d p) t ≡ g p) → told_before told 320 t ≡ joined (places (2 ^ d) g)
+    elements_tell g switches modules same =
+        told_by_kind told t (switch_count d + 2 ^ d) (2 ^ d) g (omega (arith, few))
+        (λ i h. elim (cases_lt i (switch_count d)) [ inl before ↦ switches i before | inr past ↦ no_module modules i past h ]) (λ i h. nothing i (omega arith)) same
 
   module _ (b : BlockState) where
     -- ---- replies
-    abbrev delivery_of : ℕ → List Event
-    delivery_of i = replies_taken.told_of d low high b (unit_of d i)
-
     delivery_as : (o : Option ProcessingElement) (came : Option ReplyMessage) → replies_taken.delivery_told d low high (o, came) ≡ delivery_told o came
     delivery_as None came = refl
     delivery_as (Some e) came = refl
 
-    no_delivery : (i : ℕ) → i < switch_count d + 2 ^ d → delivery_of i ≡ []
-    no_delivery i h = elim (cases_lt i (switch_count d)) [
-      | inl before ↦ ap (λ u. replies_taken.told_of d low high b u) (unit_of_switch d i before)
-      | inr past ↦
-          ap delivery_of (sym (module_place i past)) ∙ ap (λ u. replies_taken.told_of d low high b u) (unit_of_module d (i - switch_count d) (omega arith))
-    ]
-
-    no_delivery_past : (i : ℕ) → unit_count d ≤ i → delivery_of i ≡ []
-    no_delivery_past i h =
-        rw (replies_taken.told_of, le-ltb i (switch_count d) (omega arith), le-ltb i (switch_count d + 2 ^ d) (omega arith), le-ltb i (unit_count d) h) refl
-
-    own_delivery : (p : ℕ) → p < 2 ^ d → delivery_of (switch_count d + 2 ^ d + p) ≡ delivery_at d b p
-    own_delivery p h =
-        ap (λ u. replies_taken.told_of d low high b u) (unit_of_element d p h) ∙ delivery_as (element_at b.elements p) (on_link b.replies (delivery_link d p))
-
     told_taking_replies : told_before (λ n t. replies_taken.told_of d low high t (unit_of d n)) 320 b ≡ told_by_replies d b
     unfolding told_by_replies
     told_taking_replies =
-        told_by_kind (λ n t. replies_taken.told_of d low high t (unit_of d n)) b (switch_count d + 2 ^ d) (2 ^ d) (λ p. delivery_at d b p)
-        (omega (arith, few)) no_delivery (λ i h. no_delivery_past i (omega arith)) own_delivery
+        let tell = replies_taken.told_of d low high b in
+        elements_tell (λ n t. replies_taken.told_of d low high t (unit_of d n)) b (λ i past. ap tell (unit_of_none d i past)) (λ p. delivery_at d b p)
+        (λ i h. ap tell (unit_of_switch d i h)) (λ m h. ap tell (unit_of_module d m h))
+        (λ p h. ap tell (unit_of_element d p h) ∙ delivery_as (element_at b.elements p) (on_link b.replies (delivery_link d p)))
 
     -- ---- memory
-    abbrev serving_of : ℕ → List Event
-    serving_of i = served.told_of d b (unit_of d i)
-
     serving_as : (m : ℕ) (o : Option Bank) → served.act_told d o m ≡ serving_told m o
     serving_as m None = refl
     serving_as m (Some bank) = refl
 
-    no_serving : (i : ℕ) → i < switch_count d → serving_of i ≡ []
-    no_serving i h = ap (λ u. served.told_of d b u) (unit_of_switch d i h)
-
-    no_serving_past : (i : ℕ) → switch_count d + 2 ^ d ≤ i → serving_of i ≡ []
-    no_serving_past i h = elim (cases_lt i (unit_count d)) [
-      | inl within ↦
-          ap serving_of (sym (element_place i h)) ∙ ap (λ u. served.told_of d b u) (unit_of_element d (i - (switch_count d + 2 ^ d)) (omega arith))
-      | inr past ↦
-          rw (served.told_of, le-ltb i (switch_count d) (omega arith), le-ltb i (switch_count d + 2 ^ d) h, le-ltb i (unit_count d) past) refl
-    ]
-
-    own_serving : (m : ℕ) → m < 2 ^ d → serving_of (switch_count d + m) ≡ serving_at d b m
-    own_serving m h = ap (λ u. served.told_of d b u) (unit_of_module d m h) ∙ serving_as m (module_at b.modules m)
-
     told_serving : told_before (served.told d) 320 b ≡ told_by_service d b
     unfolding told_by_service
-    told_serving = told_by_kind (served.told d) b (switch_count d) (2 ^ d) (λ m. serving_at d b m) (omega (arith, few)) no_serving no_serving_past own_serving
+    told_serving =
+        let tell = served.told_of d b in
+        modules_tell (served.told d) b (λ i past. ap tell (unit_of_none d i past)) (λ m. serving_at d b m)
+        (λ i h. ap tell (unit_of_switch d i h)) (λ p h. ap tell (unit_of_element d p h)) (λ m h. ap tell (unit_of_module d m h) ∙ serving_as m (module_at b.modules m))
 
     -- ---- requests
     module _ (c : ℕ) where
-      abbrev combinations_of_unit : ℕ → List Event
-      combinations_of_unit i = requests_taken.told_of d c low high i b (unit_of d i)
-
       combinations_as : (s k : ℕ) (o : Option Switch) (came : Ports (Option Request)) → requests_taken.combinations_told d c low high s k (o, came) ≡ combinations_told d c s k o came
       combinations_as s k None came = refl
       combinations_as s k (Some w) came = refl
 
-      no_combination_of_module : (m : ℕ) → m < 2 ^ d → combinations_of_unit (module_number d m) ≡ []
-      no_combination_of_module m h = ap (λ u. requests_taken.told_of d c low high (module_number d m) b u) (unit_of_module d m h)
-
-      no_combination_of_element : (p : ℕ) → p < 2 ^ d → combinations_of_unit (element_number d p) ≡ []
-      no_combination_of_element p h = ap (λ u. requests_taken.told_of d c low high (element_number d p) b u) (unit_of_element d p h)
-
-      no_combination_past : (i : ℕ) → unit_count d ≤ i → combinations_of_unit i ≡ []
-      no_combination_past i h =
-          rw (requests_taken.told_of, le-ltb i (switch_count d) (omega arith), le-ltb i (switch_count d + 2 ^ d) (omega arith), le-ltb i (unit_count d) h) refl
-
-      no_combination : (i : ℕ) → switch_count d ≤ i → combinations_of_unit i ≡ []
-      no_combination i h = elim (cases_lt i (switch_count d + 2 ^ d)) [
-        | inl within ↦ ap combinations_of_unit (sym (module_place i h)) ∙ no_combination_of_module (i - switch_count d) (omega arith)
-        | inr past ↦ elim (cases_lt i (unit_count d)) [
-          | inl inside ↦ ap combinations_of_unit (sym (element_place i past)) ∙ no_combination_of_element (i - (switch_count d + 2 ^ d)) (omega arith)
-          | inr over ↦ no_combination_past i over
-        ]
-      ]
-
-      own_combinations : (i : ℕ) → i < switch_count d → combinations_of_unit i ≡ combinations_at d c b i
-      own_combinations i h =
-          ap (λ u. requests_taken.told_of d c low high i b u) (unit_of_switch d i h)
-          ∙ combinations_as (stage_of d i) (index_of d i) (switch_at b.switches i) (on_both b.requests (request_links d (stage_of d i) (index_of d i)))
-
       told_taking_requests : told_before (λ n t. requests_taken.told_of d c low high n t (unit_of d n)) 320 b ≡ told_by_requests d c b
       unfolding told_by_requests
       told_taking_requests =
-          told_by_kind (λ n t. requests_taken.told_of d c low high n t (unit_of d n)) b 0 (switch_count d) (λ i. combinations_at d c b i)
-          (omega (arith, few)) (λ i h. absurd (omega arith)) (λ i h. no_combination i (omega arith))
-          (λ i h. let number : 0 + i ≡ i = omega arith in ap combinations_of_unit number ∙ own_combinations i h)
+          let tell = λ (i : ℕ). requests_taken.told_of d c low high i b in
+          switches_tell (λ n t. requests_taken.told_of d c low high n t (unit_of d n)) b (λ i past. ap (tell i) (unit_of_none d i past)) (λ i. combinations_at d c b i)
+          (λ m h. ap (tell (module_number d m)) (unit_of_module d m h)) (λ p h. ap (tell (element_number d p)) (unit_of_element d p h))
+          (λ i h. ap (tell i) (unit_of_switch d i h) ∙ combinations_as (stage_of d i) (index_of d i) (switch_at b.switches i) (on_both b.requests (request_links d (stage_of d i) (index_of d i))))
 
     -- ---- steps: issues or stops
-    module _ (program : List Instr) {E : Type 0} (tell : ℕ → Option ProcessingElement → List E) where
-      abbrev step_of_unit : ℕ → List E
-      step_of_unit i = executed.told_of program d tell b (unit_of d i)
-
-      no_step : (i : ℕ) → i < switch_count d + 2 ^ d → step_of_unit i ≡ []
-      no_step i h = elim (cases_lt i (switch_count d)) [
-        | inl before ↦ ap (λ u. executed.told_of program d tell b u) (unit_of_switch d i before)
-        | inr past ↦ ap step_of_unit (sym (module_place i past)) ∙ ap (λ u. executed.told_of program d tell b u) (unit_of_module d (i - switch_count d) (omega arith))
-      ]
-
-      no_step_past : (i : ℕ) → unit_count d ≤ i → step_of_unit i ≡ []
-      no_step_past i h =
-          rw (executed.told_of, le-ltb i (switch_count d) (omega arith), le-ltb i (switch_count d + 2 ^ d) (omega arith), le-ltb i (unit_count d) h) refl
-
-      told_executing : (g : ℕ → List E) → ((p : ℕ) → tell p (element_at b.elements p) ≡ g p) → told_before (λ n t. executed.told_of program d tell t (unit_of d n)) 320 b ≡ joined (places (2 ^ d) g)
-      told_executing g same =
-          told_by_kind (λ n t. executed.told_of program d tell t (unit_of d n)) b (switch_count d + 2 ^ d) (2 ^ d) g
-          (omega (arith, few)) no_step (λ i h. no_step_past i (omega arith))
-          (λ p h. ap (λ u. executed.told_of program d tell b u) (unit_of_element d p h) ∙ same p)
-
     module _ (program : List Instr) where
       issue_as : (o : Option ProcessingElement) → executed.issue_told program d o ≡ issue_told program o
       issue_as None = refl
@@ -185,11 +138,17 @@ module _ (d : ℕ) (low : 1 ≤ d) (high : d ≤ 6) where
 
       told_issues : told_before (λ n t. executed.told_of program d (λ p o. executed.issue_told program d o) t (unit_of d n)) 320 b ≡ told_by_steps d program b
       unfolding told_by_steps
-      told_issues = told_executing program (λ p o. executed.issue_told program d o) (λ p. issue_at d program b p) (λ p. issue_as (element_at b.elements p))
+      told_issues =
+          let tell = executed.told_of program d (λ p o. executed.issue_told program d o) b in
+          elements_tell (λ n t. executed.told_of program d (λ p o. executed.issue_told program d o) t (unit_of d n)) b (λ i past. ap tell (unit_of_none d i past)) (λ p. issue_at d program b p)
+          (λ i h. ap tell (unit_of_switch d i h)) (λ m h. ap tell (unit_of_module d m h)) (λ p h. ap tell (unit_of_element d p h) ∙ issue_as (element_at b.elements p))
 
       told_stops : told_before (λ n t. executed.told_of program d (executed.stop_told program d) t (unit_of d n)) 320 b ≡ stops_by_steps d program b
       unfolding stops_by_steps
-      told_stops = told_executing program (executed.stop_told program d) (λ p. stop_at d program b p) (λ p. stop_as p (element_at b.elements p))
+      told_stops =
+          let tell = executed.told_of program d (executed.stop_told program d) b in
+          elements_tell (λ n t. executed.told_of program d (executed.stop_told program d) t (unit_of d n)) b (λ i past. ap tell (unit_of_none d i past)) (λ p. stop_at d program b p)
+          (λ i h. ap tell (unit_of_switch d i h)) (λ m h. ap tell (unit_of_module d m h)) (λ p h. ap tell (unit_of_element d p h) ∙ stop_as p (element_at b.elements p))
 
     -- ---- the halves
     module _ (rooms : Rooms) (program : List Instr) (shape : IsShaped d b) where

@@ -1,5 +1,5 @@
 -- A cycle of blocks that are a whole machine, step by step, and the whole machine that they are after it.
-use Rattle.std.proofs.Common.{◌≡◌, ℕ, ◌+◌, ◌^◌, ◌<◌, List, [], ◌++◌, subst, sym}
+use Rattle.std.proofs.Common.{◌≡◌, ℕ, ◌+◌, ◌^◌, ◌<◌, List, ◌++◌, subst, sym}
 use Rattle.std.specs.Prelude.{◌-◌}
 use Rattle.ultra_msg.specs.declared.Event.{Event}
 use Rattle.ultra_isa.specs.declared.Instr.{Instr}
@@ -18,6 +18,7 @@ use Rattle.ultra_cut.specs.Moments.{AreMachine, AreWhole, machine_in}
 use Rattle.ultra_cut.proofs.Cycle as whole_cycle
 use Rattle.ultra_cut.proofs.Replied as replied
 use Rattle.ultra_cut.proofs.Requested as requested
+use Rattle.ultra_cut.proofs.Requested.{AreServed}
 
 module _ (c : Settings) (partition : List ℕ) (n : ℕ) (program : List Instr) (bs : List BlockState) (start : AreWhole c partition n bs)
     (first : BlockRooms) (first_room : AreRooms c.stages (frame_of c.stages partition bs) (noted c.stages first)) where
@@ -56,52 +57,35 @@ module _ (c : Settings) (partition : List ℕ) (n : ℕ) (program : List Instr) 
     abbrev told : List Event
     told = deliveries d (f replies) ++ servings d (f taken)
 
-    served_machine : AreMachine c partition n told [] (memory_phase c (reply_phase c m)) served
-    served_machine = replied.served_machine c partition n (events_of d bs) (stops_of d bs) m program bs start.machine start.clear first first_room replies replies_moved replies_there
+    abbrev middle : Machine
+    middle = memory_phase c (reply_phase c m)
 
     pub served_blocks : AreBlocks d partition served
-    served_blocks = served_machine.blocks
+    served_blocks = (replied.served_machine c partition n (events_of d bs) (stops_of d bs) m program bs start.machine start.clear first first_room replies replies_moved replies_there).blocks
 
     -- ---- requests have left
     module _ (second : BlockRooms) (second_room : AreRooms d (f served) (noted d second)) where
       abbrev sent_on : List BlockState
       sent_on = all_made SendRequests second program served
 
+      abbrev next : AreServed c partition n told middle served second
+      next = whole_cycle.are_served c partition n (events_of d bs) (stops_of d bs) m program bs start.machine start.clear first first_room replies replies_moved replies_there second second_room
+
       pub sent_on_cut : IsCut d partition sent_on
-      sent_on_cut =
-          (requested.are_sent c partition n told (memory_phase c (reply_phase c m)) program served served_machine
-          (replied.served_clear c partition n (events_of d bs) (stops_of d bs) m program bs start.machine start.clear first first_room replies replies_moved replies_there)
-          (replied.served_few c partition n (events_of d bs) (stops_of d bs) m program bs start.machine start.clear first first_room replies replies_moved replies_there)
-          (replied.served_stops c partition n (events_of d bs) (stops_of d bs) m program bs start.machine start.clear first first_room replies replies_moved replies_there)
-          second second_room).frame.blocks.blocks.cut
+      sent_on_cut = (requested.are_sent c partition n told middle program served second next).frame.blocks.blocks.cut
 
       pub sent_on_single : AreSingleRequests sent_on
-      sent_on_single =
-          (requested.are_sent c partition n told (memory_phase c (reply_phase c m)) program served served_machine
-          (replied.served_clear c partition n (events_of d bs) (stops_of d bs) m program bs start.machine start.clear first first_room replies replies_moved replies_there)
-          (replied.served_few c partition n (events_of d bs) (stops_of d bs) m program bs start.machine start.clear first first_room replies replies_moved replies_there)
-          (replied.served_stops c partition n (events_of d bs) (stops_of d bs) m program bs start.machine start.clear first first_room replies replies_moved replies_there)
-          second second_room).single
+      sent_on_single = (requested.are_sent c partition n told middle program served second next).single
 
       module _ (requests : List BlockState) (requests_moved : OnlyRequestsMove sent_on requests) (requests_there : AreRequestsThere d partition requests) where
         pub can_take_requests : AllCanMake TakeRequests requests
-        can_take_requests =
-            requested.all_can_take c partition n told (memory_phase c (reply_phase c m)) program served served_machine
-            (replied.served_clear c partition n (events_of d bs) (stops_of d bs) m program bs start.machine start.clear first first_room replies replies_moved replies_there)
-            (replied.served_few c partition n (events_of d bs) (stops_of d bs) m program bs start.machine start.clear first first_room replies replies_moved replies_there)
-            (replied.served_stops c partition n (events_of d bs) (stops_of d bs) m program bs start.machine start.clear first first_room replies replies_moved replies_there)
-            second second_room requests requests_moved requests_there
+        can_take_requests = requested.all_can_take c partition n told middle program served second next requests requests_moved requests_there
 
         abbrev waiting : List BlockState
         waiting = all_made TakeRequests second program requests
 
         pub can_execute : n < 2 ^ 32 - 1 → AllCanMake Execute waiting
-        can_execute early =
-            requested.all_can_execute c partition n told (memory_phase c (reply_phase c m)) program served served_machine
-            (replied.served_clear c partition n (events_of d bs) (stops_of d bs) m program bs start.machine start.clear first first_room replies replies_moved replies_there)
-            (replied.served_few c partition n (events_of d bs) (stops_of d bs) m program bs start.machine start.clear first first_room replies replies_moved replies_there)
-            (replied.served_stops c partition n (events_of d bs) (stops_of d bs) m program bs start.machine start.clear first first_room replies replies_moved replies_there)
-            second second_room requests requests_moved requests_there early
+        can_execute early = requested.all_can_execute c partition n told middle program served second next requests requests_moved requests_there early
 
         abbrev stepped : List BlockState
         stepped = all_made Execute second program waiting

@@ -1,34 +1,9 @@
 -- what leads from one block to another goes there
-use Rattle.std.specs.Prelude.{◌≡◌, ◌≢◌, ℕ, ◌<◌, true, false, ◌==◌, List, Option, Some, None, length, slice_index_or, slice_set}
-use Rattle.ultra_switch.specs.declared.Ports.{Ports}
+use Rattle.std.specs.Prelude.{◌≡◌, ◌≢◌, ℕ, ◌<◌, List, Option, None, length, slice_index_or}
 use Rattle.ultra_units.specs.Numbers.{unit_count}
 use Rattle.ultra_section.specs.BlockState.{BlockState}
-use Rattle.ultra_section.specs.Away.{AreEmpty, reply_inlets, request_inlets, replies_handed_over, replies_received, requests_handed_over, requests_received, taken_by_turns}
+use Rattle.ultra_section.specs.Away.{AreEmpty, reply_inlets, request_inlets}
 use Rattle.ultra_cut.specs.Cut.{block_at, home, first, replies_on, requests_on}
-
--- what block k has on the inlets of a unit goes to block h
-abbrev pub replies_carried : ℕ → ℕ → Ports ℕ → List BlockState → List BlockState
-replies_carried k h p bs =
-    let left = slice_set bs k (replies_handed_over p (block_at bs k)) in
-    slice_set left h (replies_received p (taken_by_turns (block_at bs k).replies p) (block_at left h))
-
-abbrev pub requests_carried : ℕ → ℕ → Ports ℕ → List BlockState → List BlockState
-requests_carried k h p bs =
-    let left = slice_set bs k (requests_handed_over p (block_at bs k)) in
-    slice_set left h (requests_received p (taken_by_turns (block_at bs k).requests p) (block_at left h))
-
--- unit n stands in block h: if that is another, what block k has for the unit goes there
-abbrev pub replies_moved : ℕ → ℕ → ℕ → ℕ → List BlockState → List BlockState
-replies_moved d k h n bs = elim (h == k) [
-  | true ↦ bs
-  | false ↦ elim (reply_inlets d n) [ None ↦ bs | Some p ↦ replies_carried k h p bs ]
-]
-
-abbrev pub requests_moved : ℕ → ℕ → ℕ → ℕ → List BlockState → List BlockState
-requests_moved d k h n bs = elim (h == k) [
-  | true ↦ bs
-  | false ↦ elim (request_inlets d n) [ None ↦ bs | Some p ↦ requests_carried k h p bs ]
-]
 
 -- no two entries are there
 abbrev pub IsSingle : {X : Type 0} → List (Option X) → Type 0

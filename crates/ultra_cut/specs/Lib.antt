@@ -1,5 +1,6 @@
 pub mod Cut
 pub mod Exchange
+pub mod Kinds
 pub mod Halves
 pub mod Events
 pub mod ReplyLaws

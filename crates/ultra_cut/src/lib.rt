@@ -5,6 +5,7 @@
 mod exchange;
 mod happening_laws;
 mod holding;
+mod kind;
 mod quiet;
 mod reply_laws;
 mod request_laws;

@@ -1,4 +1,4 @@
-use Rattle.ultra_cut.proofs.CanTakeReplies.{can_take_replies}
+use Rattle.ultra_cut.proofs.CanTake.{can_take_replies}
 use Rattle.ultra_cut.proofs.reply_laws.can_take_replies_law.Goals as goal
 
 pub returns : goal.returns

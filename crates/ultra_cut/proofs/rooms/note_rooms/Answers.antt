@@ -1,4 +1,4 @@
-use Rattle.std.proofs.Common.{◌≡◌, ◌<◌, arith, ap, sym, subst, ◌∙◌, length, get_or}
+use Rattle.std.proofs.Common.{◌≡◌, ◌<◌, arith, subst, ◌∙◌, length}
 use Rattle.std.proofs.lemmas.List.{get_or_default}
 use Rattle.ultra_section.specs.Rooms.{HasNoted}
 use Rattle.ultra_cut.specs.Cut.{block_at, no_block}

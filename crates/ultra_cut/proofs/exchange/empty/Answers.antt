@@ -3,24 +3,24 @@ use Rattle.std.proofs.lemmas.Bool.{cases_eq, cases_lt}
 use Rattle.std.specs.Prelude.{length}
 use Rattle.ultra_units.specs.Numbers.{unit_count}
 use Rattle.std.proofs.lemmas.List.{get_or_default}
-use Rattle.ultra_section.specs.Away.{NoRequestLeavesWithin}
+use Rattle.ultra_cut.specs.Kinds.{NoneLeavesWithin}
 use Rattle.ultra_cut.specs.Cut.{IsCut, block_at, no_block}
-use Rattle.ultra_cut.specs.Exchange.{HasNoRequestFor}
+use Rattle.ultra_cut.specs.Kinds.{HasNoneFor}
 use Rattle.ultra_cut.proofs.Numbers.{few_units}
-use Rattle.ultra_cut.proofs.RequestsMoved.{both_moved, still_cut, none_leaves, nothing_moved}
-use Rattle.ultra_cut.proofs.exchange.empty_of_requests.Goals as goal
+use Rattle.ultra_cut.proofs.Moved.{both_moved, still_cut, none_leaves, nothing_moved}
+use Rattle.ultra_cut.proofs.exchange.empty.Goals as goal
 
 pub loop-unit-init : goal.loop-unit-init
 loop-unit-init c = record {
   within = omega arith;
-  only = nothing_moved c.args.blocks.now c.requires.single;
+  only = nothing_moved c.args.kind c.args.blocks.now c.requires.single;
   gone = λ n before. absurd (omega arith);
   kept = λ k n was. was;
 }
 
-pub move_requests_home-requires-clause-cut : goal.move_requests_home-requires-clause-cut
-move_requests_home-requires-clause-cut c =
-    still_cut c.args.net (omega arith) (omega arith) c.args.partition.now c.args.blocks.now c.loop-unit.blocks c.loop-unit.invariant.only c.requires.cut
+pub move_home-requires-clause-cut : goal.move_home-requires-clause-cut
+move_home-requires-clause-cut c =
+    still_cut c.args.kind c.args.net (omega arith) (omega arith) c.args.partition.now c.args.blocks.now c.loop-unit.blocks c.loop-unit.invariant.only c.requires.cut
 
 pub loop-unit-preserved : goal.loop-unit-preserved
 loop-unit-preserved c =
@@ -29,22 +29,22 @@ loop-unit-preserved c =
     let unit = c.in-Some.unit in
     let next = c.in-Some.ensures.some in
     let bs = c.loop-unit.blocks in
-    let now = c.move_requests_home.new.blocks in
+    let now = c.move_home.new.blocks in
     let known = c.loop-unit.invariant in
-    let cut : IsCut net partition bs = still_cut net (omega arith) (omega arith) partition c.args.blocks.now bs known.only c.requires.cut in
+    let cut : IsCut net partition bs = still_cut c.args.kind net (omega arith) (omega arith) partition c.args.blocks.now bs known.only c.requires.cut in
     let there : c.args.from < length bs = subst (λ x. c.args.from < x) (sym known.only.count) c.requires.from in
     let same : get_or bs c.args.from c.index-blocks-from.result ≡ block_at bs c.args.from = get_or_default bs c.args.from c.index-blocks-from.result no_block there in
     record {
       within = omega (arith, next.within);
-      only = both_moved c.args.blocks.now bs now known.only c.move_requests_home.ensures.only;
+      only = both_moved c.args.kind c.args.blocks.now bs now known.only c.move_home.ensures.only;
       gone = λ n before small. elim (cases_eq n unit) [
-        | inl same ↦ subst (λ m. HasNoRequestFor net partition now c.args.from m) (sym same) (c.move_requests_home.ensures.gone (omega arith))
-        | inr other ↦ c.move_requests_home.ensures.kept c.args.from n (elim (cases_lt n c.loop-unit.next) [
+        | inl same ↦ subst (λ m. HasNoneFor c.args.kind net partition now c.args.from m) (sym same) (c.move_home.ensures.gone (omega arith))
+        | inr other ↦ c.move_home.ensures.kept c.args.from n (elim (cases_lt n c.loop-unit.next) [
           | inl early ↦ known.gone n early small
-          | inr late ↦ none_leaves net (omega arith) (omega arith) partition bs c.args.from c.loop-unit.next unit cut there (subst (λ b. NoRequestLeavesWithin b c.loop-unit.next unit) same next.between) n late (omega arith) small
+          | inr late ↦ none_leaves c.args.kind net (omega arith) (omega arith) partition bs c.args.from c.loop-unit.next unit cut there (subst (λ b. NoneLeavesWithin c.args.kind b c.loop-unit.next unit) same next.between) n late (omega arith) small
         ])
       ];
-      kept = λ k n was. c.move_requests_home.ensures.kept k n (known.kept k n was);
+      kept = λ k n was. c.move_home.ensures.kept k n (known.kept k n was);
     }
 
 pub returns-clause-gone : goal.returns-clause-gone
@@ -53,11 +53,11 @@ returns-clause-gone c =
     let partition = c.args.partition.now in
     let bs = c.loop-unit.blocks in
     let known = c.loop-unit.invariant in
-    let cut : IsCut net partition bs = still_cut net (omega arith) (omega arith) partition c.args.blocks.now bs known.only c.requires.cut in
+    let cut : IsCut net partition bs = still_cut c.args.kind net (omega arith) (omega arith) partition c.args.blocks.now bs known.only c.requires.cut in
     let there : c.args.from < length bs = subst (λ x. c.args.from < x) (sym known.only.count) c.requires.from in
     let same : get_or bs c.args.from c.index-blocks-from.result ≡ block_at bs c.args.from = get_or_default bs c.args.from c.index-blocks-from.result no_block there in
     let few : unit_count net < 321 = few_units net (omega arith) (omega arith) in
     λ n small. elim (cases_lt n c.loop-unit.next) [
       | inl early ↦ known.gone n early small
-      | inr late ↦ none_leaves net (omega arith) (omega arith) partition bs c.args.from c.loop-unit.next 320 cut there (subst (λ b. NoRequestLeavesWithin b c.loop-unit.next 320) same c.in_default.ensures.none) n late (omega arith) small
+      | inr late ↦ none_leaves c.args.kind net (omega arith) (omega arith) partition bs c.args.from c.loop-unit.next 320 cut there (subst (λ b. NoneLeavesWithin c.args.kind b c.loop-unit.next 320) same c.in_default.ensures.none) n late (omega arith) small
     ]

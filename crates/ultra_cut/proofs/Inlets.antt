@@ -1,0 +1,101 @@
+-- The links that lead to a unit. Each link leads to one: computed over every network of at most six stages.
+use Rattle.std.proofs.Common.{◌≡◌, ℕ, ◌+◌, ◌-◌, ◌*◌, ◌^◌, ◌<◌, ◌≤◌, Bool, true, false, Some, refl, subst, arith, inl, inr}
+use Rattle.std.specs.Prelude.{◌⊎◌, ◌&&◌, ◌||◌, ◌==◌, nat_lt}
+use Rattle.std.proofs.lemmas.Bool.{eqb-true}
+use Rattle.ultra_switch.specs.declared.Ports.{Ports}
+use Rattle.ultra_route.proofs.Table.{all_below, all_below_at}
+use Rattle.ultra_units.specs.Numbers.{switch_count, unit_count, module_number, element_number}
+use Rattle.ultra_halves.specs.Halves.{ports}
+use Rattle.ultra_section.specs.Units.{stage_of, index_of}
+use Rattle.ultra_section.specs.Marks.{delivery_link, memory_link, reply_links, request_links}
+use Rattle.ultra_section.specs.Away.{reply_inlets, request_inlets}
+use Rattle.ultra_section.proofs.Standing.{unit_of_switch, unit_of_module, unit_of_element}
+use Rattle.ultra_cut.specs.declared.kind.Kind.{Kind}
+use Rattle.ultra_cut.specs.declared.kind.Kind.TheVariants.{Replies, Requests}
+use Rattle.ultra_cut.specs.Kinds.{inlets}
+use Rattle.ultra_cut.proofs.BothKinds.{lead_here, reader}
+use Rattle.ultra_cut.proofs.Numbers.{below}
+
+-- ---- the links to switch n, and the one to unit i of the sort in which the way ends
+abbrev pub links : Kind → ℕ → ℕ → Ports ℕ
+links Replies d n = reply_links d (stage_of d n) (index_of d n)
+links Requests d n = request_links d (stage_of d n) (index_of d n)
+
+abbrev pub end_link : Kind → ℕ → ℕ → ℕ
+end_link Replies d p = delivery_link d p
+end_link Requests d m = memory_link d m
+
+abbrev pub end_number : Kind → ℕ → ℕ → ℕ
+end_number Replies d p = element_number d p
+end_number Requests d m = module_number d m
+
+pub switch_inlets : (kind : Kind) (d n : ℕ) → n < switch_count d → inlets kind d n ≡ Some (links kind d n)
+switch_inlets Replies d n h = rw (reply_inlets, unit_of_switch d n h) refl
+switch_inlets Requests d n h = rw (request_inlets, unit_of_switch d n h) refl
+
+pub end_inlets : (kind : Kind) (d i : ℕ) → i < 2 ^ d → inlets kind d (end_number kind d i) ≡ Some (ports (end_link kind d i) (end_link kind d i))
+end_inlets Replies d p h = rw (reply_inlets, unit_of_element d p h) refl
+end_inlets Requests d m h = rw (request_inlets, unit_of_module d m h) refl
+
+pub end_small : (kind : Kind) (d i : ℕ) → i < 2 ^ d → end_number kind d i < unit_count d
+end_small Replies d p h = omega arith
+end_small Requests d m h = omega arith
+
+pub end_link_small : (kind : Kind) (d : ℕ) → 1 ≤ d → d ≤ 6 → (i : ℕ) → i < 2 ^ d → end_link kind d i < (d + 1) * 2 ^ d
+end_link_small kind d low high i h =
+    (lead_here kind d low high (end_number kind d i) (ports (end_link kind d i) (end_link kind d i)) (end_inlets kind d i h)).zero_small
+
+-- ---- link l leads to switch n, or to unit i of that sort
+pub record LeadsToSwitch (kind : Kind) (d l n : ℕ) : Type 0 where
+  pub switch : n < switch_count d
+  pub inlet : (l ≡ (links kind d n).zero) ⊎ (l ≡ (links kind d n).one)
+
+pub record LeadsToEnd (kind : Kind) (d l i : ℕ) : Type 0 where
+  pub small : i < 2 ^ d
+  pub inlet : l ≡ end_link kind d i
+
+abbrev pub end_read : Kind → ℕ → ℕ → ℕ
+end_read Replies d l = reader Replies d l - (switch_count d + 2 ^ d)
+end_read Requests d l = reader Requests d l - switch_count d
+
+abbrev leads_to_switch : Kind → ℕ → ℕ → ℕ → Bool
+leads_to_switch kind d l n = nat_lt n (switch_count d) && ((l == (links kind d n).zero) || (l == (links kind d n).one))
+
+abbrev leads_to_end : Kind → ℕ → ℕ → ℕ → Bool
+leads_to_end kind d l i = nat_lt i (2 ^ d) && (l == end_link kind d i)
+
+abbrev leads : Kind → ℕ → ℕ → Bool
+leads kind d l = leads_to_switch kind d l (reader kind d l) || leads_to_end kind d l (end_read kind d l)
+
+all_lead : (kind : Kind) → all_below (λ k. all_below (leads kind (k + 1)) ((k + 1 + 1) * 2 ^ (k + 1))) 6 ≡ true
+unfolding all_below
+all_lead Replies = refl
+all_lead Requests = refl
+
+-- ---- tests
+both : (a b : Bool) → (a && b) ≡ true → (a ≡ true) × (b ≡ true)
+both true b h = (refl, h)
+both false b h = cc
+
+either : (a b : Bool) → (a || b) ≡ true → (a ≡ true) ⊎ (b ≡ true)
+either true b h = inl refl
+either false b h = inr h
+
+module _ (kind : Kind) (d : ℕ) (low : 1 ≤ d) (high : d ≤ 6) (l : ℕ) (h : l < (d + 1) * 2 ^ d) where
+  at_switch : (n : ℕ) → leads_to_switch kind d l n ≡ true → LeadsToSwitch kind d l n
+  at_switch n is =
+      let it = both _ _ is in
+      record { switch = below _ _ it.0; inlet = elim (either _ _ it.1) [ inl e ↦ inl (eqb-true _ _ e) | inr e ↦ inr (eqb-true _ _ e) ] }
+
+  at_end : (i : ℕ) → leads_to_end kind d l i ≡ true → LeadsToEnd kind d l i
+  at_end i is = let it = both _ _ is in record { small = below _ _ it.0; inlet = eqb-true _ _ it.1 }
+
+  it_leads : leads kind d l ≡ true
+  it_leads =
+      let e : (d - 1) + 1 ≡ d = omega arith in
+      let small : d - 1 < 6 = omega arith in
+      all_below_at (leads kind d) ((d + 1) * 2 ^ d)
+      (subst (λ x. all_below (leads kind x) ((x + 1) * 2 ^ x) ≡ true) e (all_below_at (λ k. all_below (leads kind (k + 1)) ((k + 1 + 1) * 2 ^ (k + 1))) 6 (all_lead kind) (d - 1) small)) l h
+
+  pub leads_to : (LeadsToSwitch kind d l (reader kind d l)) ⊎ (LeadsToEnd kind d l (end_read kind d l))
+  leads_to = elim (either _ _ it_leads) [ inl e ↦ inl (at_switch (reader kind d l) e) | inr e ↦ inr (at_end (end_read kind d l) e) ]

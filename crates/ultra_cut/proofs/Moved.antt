@@ -1,0 +1,207 @@
+-- Messages that lead from one block to a unit in another go there, and nothing else changes.
+use Rattle.std.proofs.Common.{◌≡◌, ◌≢◌, ℕ, ◌+◌, ◌*◌, ◌^◌, ◌<◌, ◌≤◌, List, Option, Some, None, Bool, true, false, length, set, refl, sym, ◌∙◌, ap, subst, inl, inr, get_or-set_same, get_or-set_other}
+use Rattle.std.specs.Prelude.{◌⊎◌, ◌==◌}
+use Rattle.std.proofs.lemmas.Bool.{cases_eq, eqb-true}
+use Rattle.std.proofs.lemmas.List.{length-set, length-map}
+use Rattle.ultra_switch.specs.declared.Ports.{Ports}
+use Rattle.ultra_units.specs.Numbers.{unit_count}
+use Rattle.ultra_section.specs.Marks.{on_link, without_both}
+use Rattle.ultra_section.specs.BlockState.{BlockState}
+use Rattle.ultra_section.specs.Shape.{IsShaped}
+use Rattle.ultra_section.specs.Away.{AreEmpty, stands, put_on_both, taken_by_turns}
+use Rattle.ultra_section.proofs.Marks.{fewer_both}
+use Rattle.ultra_cut.specs.declared.kind.Kind.{Kind}
+use Rattle.ultra_cut.specs.Cut.{IsCut, block_at, no_block, home, first}
+use Rattle.ultra_cut.specs.Halves.{AreBlocks}
+use Rattle.ultra_cut.specs.Exchange.{IsSingle}
+use Rattle.ultra_cut.specs.Kinds.{AreSingle, HasNoneFor, Message, NoneLeavesWithin, OnlyMove, carried, inlets, moved, on_each, table, with_table}
+use Rattle.ultra_cut.proofs.Columns as columns
+use Rattle.ultra_cut.proofs.Columns.{Shift}
+use Rattle.ultra_cut.proofs.BothKinds.{lead_here, links_of, reader, shaped_with, stages_with, stands_with, table_with, with_own, with_twice}
+use Rattle.ultra_cut.proofs.Numbers.{differs, not_equal}
+
+module _ (kind : Kind) where
+  pub nothing_moved : (bs : List BlockState) → AreSingle kind bs → OnlyMove kind bs bs
+  nothing_moved bs single = record { count = refl; rest = λ k. with_own kind (block_at bs k); lengths = λ k. refl; links = λ l. refl; single = single }
+
+  pub both_moved : (a b c : List BlockState) → OnlyMove kind a b → OnlyMove kind b c → OnlyMove kind a c
+  both_moved a b c one two = record {
+    count = two.count ∙ one.count;
+    rest = λ k.
+        two.rest k ∙ ap (with_table kind (table kind (block_at c k))) (one.rest k)
+        ∙ with_twice kind (table kind (block_at c k)) (table kind (block_at b k)) (block_at a k);
+    lengths = λ k. two.lengths k ∙ one.lengths k;
+    links = λ l. two.links l ∙ one.links l;
+    single = two.single;
+  }
+
+  -- ---- what block k has on the inlets p of a unit goes to block h
+  module _ (bs : List BlockState) (k h : ℕ) (p : Ports ℕ) (apart : h ≢ k) (k_within : k < length bs) (h_within : h < length bs) where
+    abbrev was : ℕ → List (Option (Message kind))
+    was j = table kind (block_at bs j)
+
+    abbrev after : List BlockState
+    after = carried kind k h p bs
+
+    abbrev giver : BlockState
+    giver = with_table kind (without_both (was k) p) (block_at bs k)
+
+    abbrev taker : BlockState → BlockState
+    taker b = with_table kind (put_on_both (table kind b) p (taken_by_turns (was k) p)) b
+
+    abbrev left : List BlockState
+    left = set bs k giver
+
+    same_left : block_at left h ≡ block_at bs h
+    same_left = get_or-set_other bs k h giver no_block apart
+
+    now_h : block_at after h ≡ taker (block_at bs h)
+    now_h = get_or-set_same left h (taker (block_at left h)) no_block (rw length-set h_within) ∙ ap taker same_left
+
+    now_k : block_at after k ≡ giver
+    now_k = get_or-set_other left h k (taker (block_at left h)) no_block (λ e. apart (sym e)) ∙ get_or-set_same bs k giver no_block k_within
+
+    now_other : (j : ℕ) → j ≢ k → j ≢ h → block_at after j ≡ block_at bs j
+    now_other j nk nh = get_or-set_other left h j (taker (block_at left h)) no_block nh ∙ get_or-set_other bs k j giver no_block nk
+
+    -- what holds of the blocks k and h, and of each other, holds of all
+    all_after : (P : ℕ → BlockState → Type 0) → P k giver → P h (taker (block_at bs h)) → ((j : ℕ) → P j (block_at bs j)) → (j : ℕ) → P j (block_at after j)
+    all_after P gives takes others j = elim (cases_eq j h) [
+      | inl at_h ↦ subst (λ i. P i (block_at after i)) (sym at_h) (subst (P h) (sym now_h) takes)
+      | inr not_h ↦ elim (cases_eq j k) [
+        | inl at_k ↦ subst (λ i. P i (block_at after i)) (sym at_k) (subst (P k) (sym now_k) gives)
+        | inr not_k ↦ subst (P j) (sym (now_other j not_k not_h)) (others j)
+      ]
+    ]
+
+    -- block j with this on its links
+    with_this : (j : ℕ) (t : List (Option (Message kind))) → with_table kind t (block_at bs j) ≡ with_table kind (table kind (with_table kind t (block_at bs j))) (block_at bs j)
+    with_this j t = ap (λ u. with_table kind u (block_at bs j)) (sym (table_with kind t (block_at bs j)))
+
+    given : table kind giver ≡ without_both (was k) p
+    given = table_with kind (without_both (was k) p) (block_at bs k)
+
+    taken : table kind (taker (block_at bs h)) ≡ put_on_both (was h) p (taken_by_turns (was k) p)
+    taken = table_with kind (put_on_both (was h) p (taken_by_turns (was k) p)) (block_at bs h)
+
+    module _ (zero_small : p.zero < length (was h)) (one_small : p.one < length (was h)) (single : AreSingle kind bs) where
+      on_link_after : (l : ℕ) → (on_each kind after l ≡ on_each kind bs l) ⊎ (Shift k h l p (on_each kind bs l) (on_each kind after l))
+      on_link_after l =
+          columns.carried (table kind) no_block bs k h p giver (taker (block_at left h)) k_within h_within given (ap (λ b. table kind (taker b)) same_left ∙ taken) zero_small one_small l
+
+      link_same : (l : ℕ) → (on_each kind after l ≡ on_each kind bs l) ⊎ (Shift k h l p (on_each kind bs l) (on_each kind after l)) → first (on_each kind after l) ≡ first (on_each kind bs l)
+      link_same l (inl same) = ap first same
+      link_same l (inr shift) = ap first shift.now ∙ columns.shifted_first (on_each kind bs l) k h shift.message shift.there (single l) (rw length-map h_within)
+
+      still_single : (l : ℕ) → (on_each kind after l ≡ on_each kind bs l) ⊎ (Shift k h l p (on_each kind bs l) (on_each kind after l)) → IsSingle (on_each kind after l)
+      still_single l (inl same) = subst (λ xs. IsSingle xs) (sym same) (single l)
+      still_single l (inr shift) = subst (λ xs. IsSingle xs) (sym shift.now) (columns.shifted_single (on_each kind bs l) k h shift.message shift.there (single l) (rw length-map h_within))
+
+      only_moved : OnlyMove kind bs after
+      only_moved = record {
+        count = length-set left h (taker (block_at left h)) ∙ length-set bs k giver;
+        rest = all_after (λ j b. b ≡ with_table kind (table kind b) (block_at bs j)) (with_this k (without_both (was k) p))
+            (with_this h (put_on_both (was h) p (taken_by_turns (was k) p))) (λ j. with_own kind (block_at bs j));
+        lengths = all_after (λ j b. length (table kind b) ≡ length (was j)) (ap length given ∙ columns.both_taken (was k) p)
+            (ap length taken ∙ columns.both_put (was h) p (taken_by_turns (was k) p)) (λ j. refl);
+        links = λ l. link_same l (on_link_after l);
+        single = λ l. still_single l (on_link_after l);
+      }
+
+    gone_here : AreEmpty (table kind (block_at after k)) (Some p)
+    gone_here =
+        subst (λ t. AreEmpty t (Some p)) (sym (ap (table kind) now_k ∙ given)) (columns.gone_first (was k) p.zero p.one, columns.gone (set (was k) p.zero None) p.one)
+
+    -- a link with nothing on it in block j, unless it is an inlet and j is h
+    still_none : (j l : ℕ) → (j ≡ h → (l ≢ p.zero) × (l ≢ p.one)) → p.zero < length (was h) → p.one < length (was h) → on_link (was j) l ≡ None → on_link (table kind (block_at after j)) l ≡ None
+    still_none j l away zero_small one_small none =
+        all_after (λ i b. (i ≡ h → (l ≢ p.zero) × (l ≢ p.one)) → on_link (was i) l ≡ None → on_link (table kind b) l ≡ None)
+        (λ _ empty. ap (λ t. on_link t l) given ∙ elim (fewer_both (was k) p.zero p.one l) [ inl same ↦ same ∙ empty | inr less ↦ less ])
+        (λ other empty. ap (λ t. on_link t l) taken ∙ columns.at_other (was k) (was h) p zero_small one_small l (other refl).0 (other refl).1 ∙ empty)
+        (λ i _ empty. empty) j away none
+
+  module _ (d : ℕ) (low : 1 ≤ d) (high : d ≤ 6) (partition : List ℕ) where
+    -- what a move of the messages for unit n from block k leaves
+    pub record Step (k n : ℕ) (bs now : List BlockState) : Type 0 where
+      pub only : OnlyMove kind bs now
+      pub gone : HasNoneFor kind d partition now k n
+      pub kept : (j m : ℕ) → HasNoneFor kind d partition bs j m → HasNoneFor kind d partition now j m
+
+    module _ (bs : List BlockState) (k n : ℕ) (p : Ports ℕ) (is : inlets kind d n ≡ Some p) (apart : home partition n ≢ k) (k_within : k < length bs) (h_within : home partition n < length bs)
+        (links : length (table kind (block_at bs (home partition n))) ≡ (d + 1) * 2 ^ d) where
+      zero_small : p.zero < length (table kind (block_at bs (home partition n)))
+      zero_small = subst (λ x. p.zero < x) (sym links) (lead_here kind d low high n p is).zero_small
+
+      one_small : p.one < length (table kind (block_at bs (home partition n)))
+      one_small = subst (λ x. p.one < x) (sym links) (lead_here kind d low high n p is).one_small
+
+      -- a link that leads to a unit of another home is no inlet of this one
+      no_inlet : (j m l : ℕ) → home partition m ≢ j → reader kind d l ≡ m → j ≡ home partition n → (l ≢ p.zero) × (l ≢ p.one)
+      no_inlet j m l elsewhere leads there =
+          let it = lead_here kind d low high n p is in (
+            λ e. elsewhere (ap (home partition) (sym leads ∙ ap (reader kind d) e ∙ it.zero_reader) ∙ sym there),
+            λ e. elsewhere (ap (home partition) (sym leads ∙ ap (reader kind d) e ∙ it.one_reader) ∙ sym there),
+          )
+
+      kept_at : (j m : ℕ) (o : Option (Ports ℕ)) → inlets kind d m ≡ o → home partition m ≢ j → AreEmpty (table kind (block_at bs j)) o
+          → AreEmpty (table kind (block_at (carried kind k (home partition n) p bs) j)) o
+      kept_at j m None leads elsewhere none = tt
+      kept_at j m (Some q) leads elsewhere none =
+          let it = lead_here kind d low high m q leads in (
+            still_none bs k (home partition n) p apart k_within h_within j q.zero (no_inlet j m q.zero elsewhere it.zero_reader) zero_small one_small none.0,
+            still_none bs k (home partition n) p apart k_within h_within j q.one (no_inlet j m q.one elsewhere it.one_reader) zero_small one_small none.1,
+          )
+
+      carried_step : AreSingle kind bs → Step k n bs (carried kind k (home partition n) p bs)
+      carried_step single = record {
+        only = only_moved bs k (home partition n) p apart k_within h_within zero_small one_small single;
+        gone = λ elsewhere. subst (λ o. AreEmpty (table kind (block_at (carried kind k (home partition n) p bs) k)) o) (sym is) (gone_here bs k (home partition n) p apart k_within h_within);
+        kept = λ j m none elsewhere. kept_at j m (inlets kind d m) refl elsewhere (none elsewhere);
+      }
+
+    module _ (bs : List BlockState) (k n : ℕ) (single : AreSingle kind bs) (k_within : k < length bs) (h_within : home partition n < length bs)
+        (links : home partition n ≢ k → (p : Ports ℕ) → inlets kind d n ≡ Some p → length (table kind (block_at bs (home partition n))) ≡ (d + 1) * 2 ^ d) where
+      by_inlets : (o : Option (Ports ℕ)) → inlets kind d n ≡ o → home partition n ≢ k
+          → Step k n bs (elim o [ None ↦ bs | Some p ↦ carried kind k (home partition n) p bs ])
+      by_inlets None is apart = record { only = nothing_moved bs single; gone = λ elsewhere. subst (λ o. AreEmpty (table kind (block_at bs k)) o) (sym is) tt; kept = λ j m was. was }
+      by_inlets (Some p) is apart = carried_step bs k n p is apart k_within h_within (links apart p is) single
+
+      by_home : (b : Bool) → (home partition n == k) ≡ b
+          → Step k n bs (elim b [ true ↦ bs | false ↦ elim (inlets kind d n) [ None ↦ bs | Some p ↦ carried kind k (home partition n) p bs ] ])
+      by_home true same = record { only = nothing_moved bs single; gone = λ elsewhere. absurd (elsewhere (eqb-true _ _ same)); kept = λ j m was. was }
+      by_home false same = by_inlets (inlets kind d n) refl (differs (home partition n) k same)
+
+      pub moved_step : (now : List BlockState) → now ≡ moved kind d k (home partition n) n bs → Step k n bs now
+      moved_step now is = subst (λ xs. Step k n bs xs) (sym is) (by_home (home partition n == k) refl)
+
+    -- the blocks are cut as before
+    pub still_cut : (bs now : List BlockState) → OnlyMove kind bs now → IsCut d partition bs → IsCut d partition now
+    still_cut bs now only cut = record {
+      count = cut.count;
+      homes = λ n h. subst (λ x. home partition n < x) (sym only.count) (cut.homes n h);
+      stages = λ k h.
+          ap (λ (b : BlockState). b.stages) (only.rest k) ∙ stages_with kind (table kind (block_at now k)) (block_at bs k)
+          ∙ cut.stages k (subst (λ x. k < x) only.count h);
+      stand = λ k n h within.
+          ap (λ (b : BlockState). stands n b) (only.rest k) ∙ stands_with kind (table kind (block_at now k)) (block_at bs k) n
+          ∙ cut.stand k n (subst (λ x. k < x) only.count h) within;
+    }
+
+    -- they are blocks of the machine as before
+    pub still_blocks : (bs now : List BlockState) → OnlyMove kind bs now → AreBlocks d partition bs → AreBlocks d partition now
+    still_blocks bs now only blocks = record {
+      some_stages = low;
+      few_stages = high;
+      cut = still_cut bs now only blocks.cut;
+      shaped = λ k h.
+          let shape = blocks.shaped k (subst (λ x. k < x) only.count h) in
+          subst (λ b. IsShaped d b) (sym (only.rest k))
+          (shaped_with kind d (table kind (block_at now k)) (block_at bs k) (only.lengths k ∙ links_of kind d (block_at bs k) shape) shape);
+    }
+
+    -- where nothing leaves a block for units elsewhere
+    pub none_leaves : (bs : List BlockState) (k from to : ℕ) → IsCut d partition bs → k < length bs → NoneLeavesWithin kind (block_at bs k) from to
+        → (n : ℕ) → from ≤ n → n < to → n < unit_count d → HasNoneFor kind d partition bs k n
+    none_leaves bs k from to cut within none n after before unit elsewhere =
+        subst (λ e. AreEmpty (table kind (block_at bs k)) (inlets kind e n)) (cut.stages k within)
+        (none n after before (cut.stand k n within unit ∙ not_equal (home partition n) k elsewhere))

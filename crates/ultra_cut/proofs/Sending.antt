@@ -1,0 +1,164 @@
+-- What is on links after a half in which messages leave: each link is that of one unit, from which they come.
+use Rattle.std.proofs.Common.{◌≡◌, ◌≢◌, ℕ, zero, suc, ◌+◌, ◌-◌, ◌*◌, ◌/◌, ◌%◌, ◌^◌, ◌<◌, ◌≤◌, List, map, Option, Some, None, length, refl, sym, ◌∙◌, ap, subst, arith, inl, inr, lt-ltb, le-ltb}
+use Rattle.std.specs.Prelude.{nat_lt}
+use Rattle.std.proofs.lemmas.Bool.{cases_lt}
+use Rattle.std.proofs.lemmas.List.{get_or_past, length-map}
+use Rattle.ultra_switch.specs.declared.Ports.{Ports}
+use Rattle.ultra_units.specs.Numbers.{switch_count, place_number}
+use Rattle.ultra_halves.specs.Halves.{ports}
+use Rattle.ultra_section.specs.Units.{stage_of, index_of}
+use Rattle.ultra_section.specs.Marks.{on_link, on_both}
+use Rattle.ultra_section.specs.BlockState.{BlockState}
+use Rattle.ultra_section.proofs.Standing.{is_switch}
+use Rattle.ultra_section.proofs.Put.{has_places, place_behind_small, places_of, places_twice, put_or}
+use Rattle.ultra_course.specs.Ports.{at_port}
+use Rattle.ultra_course.specs.Course.{on_links}
+use Rattle.ultra_course.proofs.Numbers.{pick_false, pick_true}
+use Rattle.ultra_cut.specs.declared.kind.Kind.{Kind}
+use Rattle.ultra_cut.specs.Cut.{block_at, first, home}
+use Rattle.ultra_cut.specs.Exchange.{IsSingle}
+use Rattle.ultra_cut.specs.Halves.{AreBlocks}
+use Rattle.ultra_cut.specs.Kinds.{AreSingle, Message, on_each, table}
+use Rattle.ultra_cut.proofs.Changed.{each_changed}
+use Rattle.ultra_cut.proofs.ReplyColumns.{changed_at, column_first, column_none, column_single, column_empty_single}
+
+-- ---- ports
+on_nothing : {M : Type 0} (o on : Option M) → on ≡ None → put_or o on ≡ o
+on_nothing None on none = none
+on_nothing (Some m) on none = refl
+
+on_port : {M : Type 0} (t : List (Option M)) (p : Ports ℕ) (j : ℕ) → on_link t (at_port p j) ≡ at_port (on_both t p) j
+on_port t p zero = refl
+on_port t p (suc j) = refl
+
+abbrev pub put_on_ports : {M : Type 0} → Ports (Option M) → Ports (Option M) → Ports (Option M)
+put_on_ports out on = ports (put_or out.zero on.zero) (put_or out.one on.one)
+
+put_at_port : {M : Type 0} (out on : Ports (Option M)) (j : ℕ) → at_port on j ≡ None → at_port (put_on_ports out on) j ≡ at_port out j
+put_at_port out on zero none = on_nothing out.zero on.zero none
+put_at_port out on (suc j) none = on_nothing out.one on.one none
+
+-- ---- all blocks
+module _ (kind : Kind) (d : ℕ) (partition : List ℕ) (bs : List BlockState) (blocks : AreBlocks d partition bs) (send : BlockState → BlockState) where
+  abbrev now : List BlockState
+  now = map send bs
+
+  abbrev was_on : ℕ → List (Option (Message kind))
+  was_on k = table kind (block_at bs k)
+
+  abbrev is_on : ℕ → List (Option (Message kind))
+  is_on k = table kind (send (block_at bs k))
+
+  abbrev places : ℕ → Ports ℕ
+  places n = places_of d (stage_of d n) (index_of d n)
+
+  -- units in block h put this on their links, and in other blocks they leave them alone
+  pub record PutOnBoth (n h : ℕ) (out : Ports (Option (Message kind))) : Type 0 where
+    pub within : h < length bs
+    pub here : on_both (is_on h) (places n) ≡ put_on_ports out (on_both (was_on h) (places n))
+    pub away : (k : ℕ) → k < length bs → k ≢ h → on_both (is_on k) (places n) ≡ on_both (was_on k) (places n)
+
+  pub record PutBehind (i h : ℕ) (out : Option (Message kind)) : Type 0 where
+    pub within : h < length bs
+    pub here : on_link (is_on h) (place_number d d i) ≡ put_or out (on_link (was_on h) (place_number d d i))
+    pub away : (k : ℕ) → k < length bs → k ≢ h → on_link (is_on k) (place_number d d i) ≡ on_link (was_on k) (place_number d d i)
+
+  -- block h alone has anything on link l, and this is it
+  pub record IsAlone (l h : ℕ) (out : Option (Message kind)) : Type 0 where
+    pub within : h < length bs
+    pub here : on_link (is_on h) l ≡ out
+    pub away : (k : ℕ) → k < length bs → k ≢ h → on_link (is_on k) l ≡ None
+
+  -- what is on a link, and that one block has it
+  pub record IsSent (l : ℕ) (out : Option (Message kind)) : Type 0 where
+    pub message : first (on_each kind now l) ≡ out
+    pub single : IsSingle (on_each kind now l)
+
+  alone_sent : (l h : ℕ) (out : Option (Message kind)) → IsAlone l h out → IsSent l out
+  alone_sent l h out alone =
+      let within : h < length now = subst (λ n. h < n) (sym (length-map bs send)) alone.within in
+      let away : (k : ℕ) → k < length now → k ≢ h → on_link (table kind (block_at now k)) l ≡ None =
+      each_changed d partition bs blocks send (λ k b. k ≢ h → on_link (table kind b) l ≡ None) alone.away in
+      record {
+        message = column_first (λ b. on_link (table kind b) l) now h within away
+            ∙ ap (λ b. on_link (table kind b) l) (changed_at send bs h alone.within)
+            ∙ alone.here;
+        single = column_single (λ b. on_link (table kind b) l) now h within away;
+      }
+
+  module _ (long : (k : ℕ) → k < length bs → length (is_on k) ≡ (d + 1) * 2 ^ d) (clear : (l : ℕ) → l < (d + 1) * 2 ^ d → first (on_each kind bs l) ≡ None)
+      (outs : ℕ → Ports (Option (Message kind))) (out : ℕ → Option (Message kind)) (end_home : ℕ → ℕ)
+      (switches : (n : ℕ) → n < switch_count d → PutOnBoth n (home partition n) (outs n)) (ends : (i : ℕ) → i < 2 ^ d → PutBehind i (end_home i) (out i)) where
+    abbrev low : 1 ≤ d
+    low = blocks.some_stages
+
+    abbrev high : d ≤ 6
+    high = blocks.few_stages
+
+    nothing : (k l : ℕ) → k < length bs → l < (d + 1) * 2 ^ d → on_link (was_on k) l ≡ None
+    nothing k l within small = column_none (λ b. on_link (table kind b) l) bs (clear l small) k within
+
+    -- the link at port j of switch n
+    switch_alone : (n j l : ℕ) → n < switch_count d → at_port (places n) j ≡ l → l < (d + 1) * 2 ^ d → IsAlone l (home partition n) (at_port (outs n) j)
+    switch_alone n j l h is small =
+        let put = switches n h in
+        let none : (k : ℕ) → k < length bs → at_port (on_both (was_on k) (places n)) j ≡ None = λ k within.
+        sym (on_port (was_on k) (places n) j) ∙ ap (on_link (was_on k)) is ∙ nothing k l within small in
+        let on_now : (k : ℕ) → on_link (is_on k) l ≡ at_port (on_both (is_on k) (places n)) j = λ k. ap (on_link (is_on k)) (sym is) ∙ on_port (is_on k) (places n) j in
+        record {
+          within = put.within;
+          here = on_now (home partition n) ∙ ap (λ q. at_port q j) put.here
+              ∙ put_at_port (outs n) (on_both (was_on (home partition n)) (places n)) j (none (home partition n) put.within);
+          away = λ k within other. on_now k ∙ ap (λ q. at_port q j) (put.away k within other) ∙ none k within;
+        }
+
+    -- and that behind the last stage
+    end_alone : (i : ℕ) → i < 2 ^ d → IsAlone (place_number d d i) (end_home i) (out i)
+    end_alone i h =
+        let put = ends i h in
+        let link = place_number d d i in
+        let small = place_behind_small d i h in
+        record {
+          within = put.within;
+          here = put.here ∙ on_nothing (out i) (on_link (was_on (end_home i)) link) (nothing (end_home i) link put.within small);
+          away = λ k within other. put.away k within other ∙ nothing k link within small;
+        }
+
+    port_link : (n j : ℕ) → n < switch_count d → j < 2 → at_port (places n) j ≡ 2 * n + j
+    port_link n zero h below = (has_places d n (stage_of d n) (index_of d n) low high (is_switch d n h)).first ∙ omega arith
+    port_link n (suc zero) h below = (has_places d n (stage_of d n) (index_of d n) low high (is_switch d n h)).second
+    port_link n (suc (suc j)) h below = absurd (omega (arith, below))
+
+    sent_by_switch : (l : ℕ) → l < d * 2 ^ d → IsSent l (on_links d outs out l)
+    sent_by_switch l h =
+        let twice = places_twice d low high in
+        let n : ℕ = l / 2 in
+        let j : ℕ = l % 2 in
+        let is_one : n < switch_count d = omega arith in
+        let small : l < (d + 1) * 2 ^ d = grind arith in
+        let is : at_port (places n) j ≡ l = port_link n j is_one (omega arith) ∙ omega arith in
+        subst (IsSent l) (sym (pick_true (nat_lt l (d * 2 ^ d)) (at_port (outs n) j) (out (l - d * 2 ^ d)) (lt-ltb l (d * 2 ^ d) h)))
+        (alone_sent l (home partition n) (at_port (outs n) j) (switch_alone n j l is_one is small))
+
+    sent_by_end : (l : ℕ) → d * 2 ^ d ≤ l → l < (d + 1) * 2 ^ d → IsSent l (on_links d outs out l)
+    sent_by_end l past h =
+        let i : ℕ = l - d * 2 ^ d in
+        let row : (d + 1) * 2 ^ d ≡ d * 2 ^ d + 2 ^ d = grind arith in
+        let is_one : i < 2 ^ d = omega arith in
+        let is : place_number d d i ≡ l = omega arith in
+        subst (IsSent l) (sym (pick_false (nat_lt l (d * 2 ^ d)) (at_port (outs (l / 2)) (l % 2)) (out i) (le-ltb l (d * 2 ^ d) past)))
+        (subst (λ l. IsSent l (out i)) is (alone_sent (place_number d d i) (end_home i) (out i) (end_alone i is_one)))
+
+    sent_on : (l : ℕ) → l < (d + 1) * 2 ^ d → IsSent l (on_links d outs out l)
+    sent_on l h = elim (cases_lt l (d * 2 ^ d)) [ inl before ↦ sent_by_switch l before | inr past ↦ sent_by_end l past h ]
+
+    pub sent_now : (l : ℕ) → l < (d + 1) * 2 ^ d → first (on_each kind now l) ≡ on_links d outs out l
+    sent_now l h = (sent_on l h).message
+
+    pub single_now : AreSingle kind now
+    single_now l = elim (cases_lt l ((d + 1) * 2 ^ d)) [
+      | inl within ↦ (sent_on l within).single
+      | inr past ↦ column_empty_single (λ b. on_link (table kind b) l) now
+          (each_changed d partition bs blocks send (λ k b. on_link (table kind b) l ≡ None)
+          (λ k within. get_or_past (is_on k) l None (subst (λ n. n ≤ l) (sym (long k within)) past)))
+    ]

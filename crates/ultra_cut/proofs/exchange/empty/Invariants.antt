@@ -1,0 +1,15 @@
+use Rattle.std.proofs.Common.{ℕ, ◌<◌, ◌≤◌, ◌-◌}
+use Rattle.ultra_units.specs.Numbers.{unit_count}
+use Rattle.ultra_cut.specs.Kinds.{HasNoneFor, OnlyMove}
+use Rattle.ultra_cut.proofs.exchange.empty.Given as goal
+
+abbrev pub decreases-loop-unit : goal.decreases-loop-unit
+decreases-loop-unit l = 320 - l.next
+
+abbrev pub invariant-loop-unit : goal.invariant-loop-unit
+invariant-loop-unit l = record {
+  within : l.next ≤ 320;
+  only : OnlyMove l.kind l.initial.blocks l.blocks;
+  gone : (n : ℕ) → n < l.next → n < unit_count l.net → HasNoneFor l.kind l.net l.partition l.blocks l.from n;
+  kept : (k n : ℕ) → HasNoneFor l.kind l.net l.partition l.initial.blocks k n → HasNoneFor l.kind l.net l.partition l.blocks k n;
+}

@@ -1,0 +1,82 @@
+-- replies and requests: what is said of both is said of a kind
+use Rattle.std.specs.Prelude.{◌≡◌, ◌≢◌, ℕ, ◌+◌, ◌*◌, ◌^◌, ◌<◌, ◌≤◌, ◌==◌, List, Option, Some, None, true, false, length, map, slice_set}
+use Rattle.ultra_msg.specs.declared.Request.{Request}
+use Rattle.ultra_msg.specs.declared.ReplyMessage.{ReplyMessage}
+use Rattle.ultra_switch.specs.declared.Ports.{Ports}
+use Rattle.ultra_section.specs.BlockState.{BlockState}
+use Rattle.ultra_section.specs.Marks.{on_link, without_both}
+use Rattle.ultra_section.specs.Away.{AreEmpty, put_on_both, reply_inlets, request_inlets, stands, taken_by_turns}
+use Rattle.ultra_cut.specs.declared.kind.Kind.{Kind}
+use Rattle.ultra_cut.specs.declared.kind.Kind.TheVariants.{Replies, Requests}
+use Rattle.ultra_cut.specs.Cut.{block_at, home, first}
+use Rattle.ultra_cut.specs.Exchange.{IsSingle}
+
+abbrev pub Message : Kind → Type 0
+Message Replies = ReplyMessage
+Message Requests = Request
+
+-- what a block has of a kind on its links, and the block with something else there
+abbrev pub table : (kind : Kind) → BlockState → List (Option (Message kind))
+table Replies b = b.replies
+table Requests b = b.requests
+
+abbrev pub with_table : (kind : Kind) → List (Option (Message kind)) → BlockState → BlockState
+with_table Replies t b = record b { replies = t }
+with_table Requests t b = record b { requests = t }
+
+-- the links by which it comes to the unit with number n of a machine of d stages
+abbrev pub inlets : Kind → ℕ → ℕ → Option (Ports ℕ)
+inlets Replies d n = reply_inlets d n
+inlets Requests d n = request_inlets d n
+
+-- what each block has on a link
+abbrev pub on_each : (kind : Kind) → List BlockState → ℕ → List (Option (Message kind))
+on_each kind bs l = map (λ b. on_link (table kind b) l) bs
+
+-- nothing leads from a block to a unit that stands elsewhere, from number `from` on and below `to`
+abbrev pub NoneLeavesWithin : Kind → BlockState → ℕ → ℕ → Type 0
+NoneLeavesWithin kind b from to =
+    (n : ℕ) → from ≤ n → n < to → stands n b ≡ false → AreEmpty (table kind b) (inlets kind b.stages n)
+
+-- unit n is the first from `from` on to which something may lead from the block
+pub record IsNext (kind : Kind) (b : BlockState) (from n : ℕ) : Type 0 where
+  pub after : from ≤ n
+  pub within : n < 320
+  pub between : NoneLeavesWithin kind b from n
+
+-- what block k has on the inlets p of a unit goes to block h
+abbrev pub carried : Kind → ℕ → ℕ → Ports ℕ → List BlockState → List BlockState
+carried kind k h p bs =
+    let was = table kind (block_at bs k) in
+    let left = slice_set bs k (with_table kind (without_both was p) (block_at bs k)) in
+    let got = put_on_both (table kind (block_at left h)) p (taken_by_turns was p) in
+    slice_set left h (with_table kind got (block_at left h))
+
+-- unit n stands in block h: if that is another, what block k has for the unit goes there
+abbrev pub moved : Kind → ℕ → ℕ → ℕ → ℕ → List BlockState → List BlockState
+moved kind d k h n bs = elim (h == k) [
+  | true ↦ bs
+  | false ↦ elim (inlets kind d n) [ None ↦ bs | Some p ↦ carried kind k h p bs ]
+]
+
+-- if it is another and anything can come to the unit, block h has all links
+abbrev pub HasLinks : Kind → ℕ → ℕ → ℕ → ℕ → List BlockState → Type 0
+HasLinks kind d k h n bs =
+    h ≢ k → (p : Ports ℕ) → inlets kind d n ≡ Some p → length (table kind (block_at bs h)) ≡ (d + 1) * 2 ^ d
+
+-- no link has a message in two blocks
+abbrev pub AreSingle : Kind → List BlockState → Type 0
+AreSingle kind bs = (l : ℕ) → IsSingle (on_each kind bs l)
+
+-- of the blocks nothing has changed but where messages of the kind are
+pub record OnlyMove (kind : Kind) (old now : List BlockState) : Type 0 where
+  pub count : length now ≡ length old
+  pub rest : (k : ℕ) → block_at now k ≡ with_table kind (table kind (block_at now k)) (block_at old k)
+  pub lengths : (k : ℕ) → length (table kind (block_at now k)) ≡ length (table kind (block_at old k))
+  pub links : (l : ℕ) → first (on_each kind now l) ≡ first (on_each kind old l)
+  pub single : AreSingle kind now
+
+-- block k has no message that leads to unit n, unless it stands there
+abbrev pub HasNoneFor : Kind → ℕ → List ℕ → List BlockState → ℕ → ℕ → Type 0
+HasNoneFor kind d partition bs k n =
+    home partition n ≢ k → AreEmpty (table kind (block_at bs k)) (inlets kind d n)
