@@ -85,8 +85,8 @@ impl Visit<Block> for SendReplies<'_> {
     ghost visited = { λ v n b. sends_replies v.closed.now n b };
 
     #[inline(always)]
-    fn next(&self, block: &Block, from: usize) -> Option<usize> {
-        block.sets.holds_replies.next(from)
+    fn units<'t>(&self, block: &'t Block) -> &'t UnitSet {
+        &block.sets.holds_replies
     }
 
     #[inline(always)]

@@ -152,8 +152,8 @@ impl Visit<Block> for SendRequests<'_> {
     ghost visited = { λ v n b. sends_requests v.closed.now n b };
 
     #[inline(always)]
-    fn next(&self, block: &Block, from: usize) -> Option<usize> {
-        block.sets.holds_requests.next(from)
+    fn units<'t>(&self, block: &'t Block) -> &'t UnitSet {
+        &block.sets.holds_requests
     }
 
     #[inline(always)]

@@ -1,7 +1,10 @@
 //! One loop over units.
 
-ghost use Rattle.std.specs.Prelude.{◌≡◌, ℕ, ◌+◌, ◌-◌, ◌<◌, ◌≤◌, IfNone, IfSome};
-ghost use Rattle.ultra_units.specs.Visits.{AreStillFrom, IsNextUnit, after_units};
+ghost use Rattle.std.specs.Prelude.{◌≡◌, ℕ, ◌+◌, ◌*◌, ◌<◌, ◌≤◌, false};
+ghost use Rattle.ultra_units.specs.Set.{has_unit};
+ghost use Rattle.ultra_units.specs.Visits.{after_units};
+
+use crate::unit_set::{BITS, UnitSet, WORDS};
 
 /// What is done to the units of something, one after another by their numbers.
 pub trait Visit<T> {
@@ -11,10 +14,9 @@ pub trait Visit<T> {
     /// What comes of a visit of a unit.
     ghost visited: { Self → ℕ → T → T };
 
-    /// The first unit from `from` on that a visit may change.
-    fn next(&self, target: &T, from: usize) -> Option<usize>
-        ensures some { IfSome result (λ k. IsNextUnit (visited self.now) target.now from k) }
-        ensures none { IfNone result (AreStillFrom (visited self.now) target.now from) };
+    /// At least the units that a visit may change.
+    fn units<'t>(&self, target: &'t T) -> &'t UnitSet
+        ensures { (k : ℕ) → has_unit result.now k ≡ false → visited self.now k target.now ≡ target.now };
 
     /// Visits a unit. What the visits of later units ask is kept.
     fn visit(&self, target: &mut T, unit: usize)
@@ -26,26 +28,42 @@ pub trait Visit<T> {
 
 /// Visits all units, by their numbers. It skips those that a visit would leave as they are.
 ///
-/// Where there is none to visit, it takes no more than a look for the first.
+/// Where there is none to visit, it takes no more than one look at the set.
 #[inline(always)]
 pub fn visit_all<T, V: Visit<T>>(visit: &V, target: &mut T)
     requires { (k : ℕ) → k < 320 → V.can_visit visit.now k target.old }
     ensures { target.new ≡ after_units (V.visited visit.now) 320 target.old }
 {
-    if let Some(_) = visit.next(target, 0) {
-        visit_some(visit, target);
+    if !visit.units(target).is_empty() {
+        visit_words(visit, target);
     }
 }
 
-/// Visits all units, by their numbers.
+/// Visits all units, word by word.
 #[inline(never)]
-fn visit_some<T, V: Visit<T>>(visit: &V, target: &mut T)
+fn visit_words<T, V: Visit<T>>(visit: &V, target: &mut T)
     requires { (k : ℕ) → k < 320 → V.can_visit visit.now k target.old }
     ensures { target.new ≡ after_units (V.visited visit.now) 320 target.old }
 {
+    for word in 0..WORDS {
+        visit_word(visit, target, word);
+    }
+}
+
+/// Visits the units of a word, after those of the words before it.
+#[inline(always)]
+fn visit_word<T, V: Visit<T>>(visit: &V, target: &mut T, word: usize)
+    requires word { word < 5 }
+    requires can { (k : ℕ) → word * 64 ≤ k → k < 320 → V.can_visit visit.now k target.old }
+    ensures visited { (t : T) → target.old ≡ after_units (V.visited visit.now) (word * 64) t → target.new ≡ after_units (V.visited visit.now) ((word + 1) * 64) t }
+    ensures can { (k : ℕ) → (word + 1) * 64 ≤ k → k < 320 → V.can_visit visit.now k target.new }
+{
     let mut from = 0;
-    while let Some(unit) = visit.next(target, from) {
-        visit.visit(target, unit);
-        from = unit + 1;
+    while from < BITS {
+        let Some(bit) = visit.units(target).next_of_word(word, from) else {
+            return;
+        };
+        visit.visit(target, word * BITS + bit);
+        from = bit + 1;
     }
 }

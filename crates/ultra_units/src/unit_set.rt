@@ -1,6 +1,6 @@
 //! Sets of units.
 
-ghost use Rattle.std.specs.Prelude.{◌≡◌, ◌≢◌, ℕ, ◌+◌, ◌*◌, ◌<◌, ◌≤◌, ◌↔◌, Bool, ◌||◌, true, false, IfNone, IfSome};
+ghost use Rattle.std.specs.Prelude.{◌≡◌, ◌≢◌, ℕ, ◌+◌, ◌*◌, ◌<◌, ◌≤◌, ◌↔◌, Bool, ◌||◌, true, false, slice_index, IfNone, IfSome};
 ghost use Rattle.ultra_units.specs.Set.{HasNoBitFrom, HasNoneFrom, IsFirstBit, IsFirstFrom, has_unit};
 
 use std::marker::Model;
@@ -8,8 +8,11 @@ use std::marker::Model;
 /// How many units the largest machine has: 192 switches, 64 modules and 64 processing elements.
 pub(crate) const UNITS: usize = 320;
 
-/// How many words of 64 bits that takes.
-const WORDS: usize = 5;
+/// How many units a word stands for.
+pub(crate) const BITS: usize = 64;
+
+/// How many words that takes.
+pub(crate) const WORDS: usize = 5;
 
 /// A set of units, by their numbers: switches first, then modules, then processing elements. A number from 320 on is never in it.
 #[derive(Clone, Copy, Drop)]
@@ -34,6 +37,15 @@ impl UnitSet {
         ensures { HasNoneFrom result 0 }
     {
         UnitSet { words: [0; WORDS] }
+    }
+
+    /// Whether no unit is in the set.
+    #[inline(always)]
+    pub fn is_empty(&self) -> bool
+        ensures { result ≡ true → HasNoneFrom self.now 0 }
+    {
+        let words = &self.words;
+        words[0] | words[1] | words[2] | words[3] | words[4] == 0
     }
 
     /// Whether the unit of this number is in the set.
@@ -106,6 +118,17 @@ impl UnitSet {
             Some(bit) => Some(word * 64 + bit),
             None => self.next_of_words(word + 1),
         }
+    }
+
+    /// The first bit of a word of the set from `from` on that is set.
+    #[inline(always)]
+    pub(crate) fn next_of_word(&self, word: usize, from: usize) -> Option<usize>
+        requires word { word < 5 }
+        requires from { from < 64 }
+        ensures some { IfSome result (λ bit. IsFirstBit (slice_index self.now word) from bit) }
+        ensures none { IfNone result (HasNoBitFrom (slice_index self.now word) from) }
+    {
+        first_bit(self.words[word], from)
     }
 
     /// The first unit of the set in the words from `first` on.
