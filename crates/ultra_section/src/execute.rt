@@ -31,6 +31,12 @@ impl Block {
         if let Outcome::AtRest = outcome {
             return;
         }
+        if let Outcome::Done = outcome
+            && !element.has_stopped()
+        {
+            // it holds no request that it didn't hold before
+            return;
+        }
         self.sets.note_element(number, element);
         match outcome {
             Outcome::Issued(event) => tell(&mut self.events, event),

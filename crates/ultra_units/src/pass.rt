@@ -1,10 +1,10 @@
 //! One loop over units.
 
-ghost use Rattle.std.specs.Prelude.{◌≡◌, ℕ, ◌+◌, ◌*◌, ◌<◌, ◌≤◌, false};
+ghost use Rattle.std.specs.Prelude.{◌≡◌, ℕ, ◌<◌, false};
 ghost use Rattle.ultra_units.specs.Set.{has_unit};
 ghost use Rattle.ultra_units.specs.Visits.{after_units};
 
-use crate::unit_set::{BITS, UnitSet, WORDS};
+use crate::unit_set::UnitSet;
 
 /// What is done to the units of something, one after another by their numbers.
 pub trait Visit<T> {
@@ -35,35 +35,19 @@ pub fn visit_all<T, V: Visit<T>>(visit: &V, target: &mut T)
     ensures { target.new ≡ after_units (V.visited visit.now) 320 target.old }
 {
     if !visit.units(target).is_empty() {
-        visit_words(visit, target);
+        visit_some(visit, target);
     }
 }
 
-/// Visits all units, word by word.
+/// Visits all units, by their numbers.
 #[inline(never)]
-fn visit_words<T, V: Visit<T>>(visit: &V, target: &mut T)
+fn visit_some<T, V: Visit<T>>(visit: &V, target: &mut T)
     requires { (k : ℕ) → k < 320 → V.can_visit visit.now k target.old }
     ensures { target.new ≡ after_units (V.visited visit.now) 320 target.old }
 {
-    for word in 0..WORDS {
-        visit_word(visit, target, word);
-    }
-}
-
-/// Visits the units of a word, after those of the words before it.
-#[inline(always)]
-fn visit_word<T, V: Visit<T>>(visit: &V, target: &mut T, word: usize)
-    requires word { word < 5 }
-    requires can { (k : ℕ) → word * 64 ≤ k → k < 320 → V.can_visit visit.now k target.old }
-    ensures visited { (t : T) → target.old ≡ after_units (V.visited visit.now) (word * 64) t → target.new ≡ after_units (V.visited visit.now) ((word + 1) * 64) t }
-    ensures can { (k : ℕ) → (word + 1) * 64 ≤ k → k < 320 → V.can_visit visit.now k target.new }
-{
     let mut from = 0;
-    while from < BITS {
-        let Some(bit) = visit.units(target).next_of_word(word, from) else {
-            return;
-        };
-        visit.visit(target, word * BITS + bit);
-        from = bit + 1;
+    while let Some(unit) = visit.units(target).next(from) {
+        visit.visit(target, unit);
+        from = unit + 1;
     }
 }

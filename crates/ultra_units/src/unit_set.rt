@@ -1,6 +1,6 @@
 //! Sets of units.
 
-ghost use Rattle.std.specs.Prelude.{◌≡◌, ◌≢◌, ℕ, ◌+◌, ◌*◌, ◌<◌, ◌≤◌, ◌↔◌, Bool, ◌||◌, true, false, slice_index, IfNone, IfSome};
+ghost use Rattle.std.specs.Prelude.{◌≡◌, ◌≢◌, ℕ, ◌+◌, ◌*◌, ◌<◌, ◌≤◌, ◌↔◌, Bool, ◌||◌, true, false, IfNone, IfSome};
 ghost use Rattle.ultra_units.specs.Set.{HasNoBitFrom, HasNoneFrom, IsFirstBit, IsFirstFrom, has_unit};
 
 use std::marker::Model;
@@ -8,11 +8,8 @@ use std::marker::Model;
 /// How many units the largest machine has: 192 switches, 64 modules and 64 processing elements.
 pub(crate) const UNITS: usize = 320;
 
-/// How many units a word stands for.
-pub(crate) const BITS: usize = 64;
-
-/// How many words that takes.
-pub(crate) const WORDS: usize = 5;
+/// How many words of 64 bits that takes.
+const WORDS: usize = 5;
 
 /// A set of units, by their numbers: switches first, then modules, then processing elements. A number from 320 on is never in it.
 #[derive(Clone, Copy, Drop)]
@@ -86,10 +83,10 @@ impl UnitSet {
         ensures there { number < 320 → has_unit self.new number ≡ is_in }
         ensures only { has_unit self.new number ≡ true → is_in ≡ true }
     {
-        if is_in {
-            self.insert(number);
-        } else {
-            self.remove(number);
+        if number < UNITS {
+            let bit = 1u64 << (number % 64);
+            let word = self.words[number / 64];
+            self.words[number / 64] = if is_in { word | bit } else { word & !bit };
         }
     }
 
@@ -118,17 +115,6 @@ impl UnitSet {
             Some(bit) => Some(word * 64 + bit),
             None => self.next_of_words(word + 1),
         }
-    }
-
-    /// The first bit of a word of the set from `from` on that is set.
-    #[inline(always)]
-    pub(crate) fn next_of_word(&self, word: usize, from: usize) -> Option<usize>
-        requires word { word < 5 }
-        requires from { from < 64 }
-        ensures some { IfSome result (λ bit. IsFirstBit (slice_index self.now word) from bit) }
-        ensures none { IfNone result (HasNoBitFrom (slice_index self.now word) from) }
-    {
-        first_bit(self.words[word], from)
     }
 
     /// The first unit of the set in the words from `first` on.
