@@ -7,7 +7,6 @@ pub mod Moved
 pub mod Standing
 pub mod OfKind
 pub mod Empty
-pub mod Nexts
 pub mod Once
 pub mod ByKind
 pub mod Put

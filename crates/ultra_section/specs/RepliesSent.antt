@@ -13,6 +13,10 @@ use Rattle.ultra_section.specs.Units.{unit_of}
 use Rattle.ultra_section.specs.Links.{put_on}
 use Rattle.ultra_section.specs.BlockState.{BlockState, switch_at, module_at}
 
+-- the units to which replies go from switch k of stage s, by the PE-side port
+abbrev pub reply_targets : ℕ → ℕ → ℕ → Ports ℕ
+reply_targets d s k = ports (reply_target d s (2 * k)) (reply_target d s (2 * k + 1))
+
 -- `closed` are the switches without room for replies
 module _ (closed : List ℕ) where
   -- whether a reply may go on from a PE-side position of a stage: to a processing element always

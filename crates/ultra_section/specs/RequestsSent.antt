@@ -15,6 +15,10 @@ use Rattle.ultra_section.specs.Units.{unit_of}
 use Rattle.ultra_section.specs.Links.{put_on}
 use Rattle.ultra_section.specs.BlockState.{BlockState, switch_at, element_at}
 
+-- the units to which requests go from switch k of stage s, by the memory-side port
+abbrev pub request_targets : ℕ → ℕ → ℕ → Ports ℕ
+request_targets d s k = ports (request_target d s (2 * k)) (request_target d s (2 * k + 1))
+
 -- `closed` are, by the memory-side port, the switches whose queue there has no room for requests; in `zero` also the modules whose register holds one
 module _ (closed : Ports (List ℕ)) where
   -- whether the queue that a request goes to at a switch of stage s has room

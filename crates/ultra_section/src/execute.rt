@@ -10,7 +10,7 @@ use crate::block::{Block, tell};
 use crate::unit::{Unit, unit_of};
 use ultra_halves::Outcome;
 use ultra_isa::Program;
-use ultra_units::{Visit, visit_all};
+use ultra_units::{UnitSet, Visit, visit_all};
 
 impl Block {
     /// A processing element makes a step.
@@ -29,6 +29,12 @@ impl Block {
         };
         let outcome = element.execute(program, pe);
         if let Outcome::AtRest = outcome {
+            return;
+        }
+        if let Outcome::Done = outcome
+            && !element.has_stopped()
+        {
+            // it holds no request that it didn't hold before
             return;
         }
         self.sets.note_element(number, element);
@@ -52,8 +58,8 @@ impl Visit<Block> for Execute<'_> {
     ghost visited = { λ v n b. executes v.program.now n b };
 
     #[inline(always)]
-    fn next(&self, block: &Block, from: usize) -> Option<usize> {
-        block.sets.to_step.next(from)
+    fn units<'t>(&self, block: &'t Block) -> &'t UnitSet {
+        &block.sets.to_step
     }
 
     #[inline(always)]

@@ -1,7 +1,7 @@
 //! Replies on the links between units.
 
 ghost use Rattle.std.specs.Prelude.{◌≡◌, ℕ, ◌^◌, ◌<◌, List, None, slice_set};
-ghost use Rattle.ultra_units.specs.Numbers.{place_number as number_of_place};
+ghost use Rattle.ultra_units.specs.Numbers.{place_number as number_of_place, reply_target as target_of_reply};
 ghost use Rattle.ultra_section.specs.Links.{put_on};
 ghost use Rattle.ultra_section.specs.Marks.{HasAllLinks, RepliesAreKnown, delivery_link, on_both, on_link, reply_links, without_both};
 ghost use Rattle.ultra_section.specs.Units.{IsElement, IsSwitch};
@@ -10,9 +10,9 @@ use crate::links::Links;
 use ultra_msg::ReplyMessage;
 use ultra_route::Net;
 use ultra_switch::Ports;
-use ultra_units::{UnitSet, place_number, reply_source, reply_target, switch_number};
+use ultra_units::{UnitSet, place_number, reply_source, switch_number};
 
-/// A reply, if there is one, leaves a PE-side position of a stage. `here` are the units that stand here.
+/// A reply, if there is one, leaves a PE-side position of a stage, for the unit `target`. `here` are the units that stand here.
 #[inline(always)]
 pub(crate) fn leave_stage(
     links: &mut Links<ReplyMessage>,
@@ -20,16 +20,18 @@ pub(crate) fn leave_stage(
     net: Net,
     stage: u32,
     position: u32,
+    target: usize,
     reply: Option<ReplyMessage>,
 )
     requires stage { stage < net }
     requires position { position < 2 ^ net }
+    requires target { target ≡ target_of_reply net stage position }
+    requires small { target < 320 }
     requires known { RepliesAreKnown net here.now links.old }
     ensures table { links.new.table.items ≡ put_on links.old.table.items (number_of_place net stage position) reply }
     ensures known { RepliesAreKnown net here.now links.new }
 {
     let link = place_number(net, stage, position);
-    let target = reply_target(net, stage, position);
     links.put(here, link, target, reply);
 }
 

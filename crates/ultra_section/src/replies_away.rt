@@ -38,7 +38,11 @@ impl Block {
         ensures some { IfSome result (λ k. IsNextForReplies self.now from k) }
         ensures none { IfNone result (NoReplyLeavesWithin self.now from 320) }
     {
-        self.replies.away.next(from)
+        let away = &self.replies.away;
+        if away.is_empty() {
+            return None;
+        }
+        away.next(from)
     }
 
     /// Takes the replies that lead to a unit elsewhere. `inlets` are the links by which they do.

@@ -1,7 +1,7 @@
 //! Requests on the links between units.
 
 ghost use Rattle.std.specs.Prelude.{◌≡◌, ℕ, ◌^◌, ◌<◌, List, None, slice_set};
-ghost use Rattle.ultra_units.specs.Numbers.{place_number as number_of_place};
+ghost use Rattle.ultra_units.specs.Numbers.{place_number as number_of_place, request_target as target_of_request};
 ghost use Rattle.ultra_section.specs.Links.{put_on};
 ghost use Rattle.ultra_section.specs.Marks.{HasAllLinks, RequestsAreKnown, memory_link, on_both, on_link, request_links, without_both};
 ghost use Rattle.ultra_section.specs.Units.{IsModule, IsSwitch};
@@ -10,9 +10,9 @@ use crate::links::Links;
 use ultra_msg::Request;
 use ultra_route::Net;
 use ultra_switch::Ports;
-use ultra_units::{UnitSet, place_number, request_source, request_target, switch_number};
+use ultra_units::{UnitSet, place_number, request_source, switch_number};
 
-/// A request, if there is one, leaves a memory-side position of a stage. `here` are the units that stand here.
+/// A request, if there is one, leaves a memory-side position of a stage, for the unit `target`. `here` are the units that stand here.
 #[inline(always)]
 pub(crate) fn leave_stage(
     links: &mut Links<Request>,
@@ -20,16 +20,18 @@ pub(crate) fn leave_stage(
     net: Net,
     stage: u32,
     position: u32,
+    target: usize,
     request: Option<Request>,
 )
     requires stage { stage < net }
     requires position { position < 2 ^ net }
+    requires target { target ≡ target_of_request net stage position }
+    requires small { target < 320 }
     requires known { RequestsAreKnown net here.now links.old }
     ensures table { links.new.table.items ≡ put_on links.old.table.items (number_of_place net stage position) request }
     ensures known { RequestsAreKnown net here.now links.new }
 {
     let link = place_number(net, stage, position);
-    let target = request_target(net, stage, position);
     links.put(here, link, target, request);
 }
 

@@ -38,7 +38,11 @@ impl Block {
         ensures some { IfSome result (λ k. IsNextForRequests self.now from k) }
         ensures none { IfNone result (NoRequestLeavesWithin self.now from 320) }
     {
-        self.requests.away.next(from)
+        let away = &self.requests.away;
+        if away.is_empty() {
+            return None;
+        }
+        away.next(from)
     }
 
     /// Takes the requests that lead to a unit elsewhere. `inlets` are the links by which they do.

@@ -1,7 +1,7 @@
 //! The half of a cycle in which replies leave switches and modules.
 
 ghost use Rattle.std.specs.Prelude.{◌≡◌, ℕ, ◌-◌, ◌^◌, ◌<◌};
-ghost use Rattle.ultra_section.specs.RepliesSent.{begun, has_reply_way as way_of_reply, module_sends_reply, reply_ways, sends_replies, switch_sends_replies};
+ghost use Rattle.ultra_section.specs.RepliesSent.{begun, module_sends_reply, reply_targets as targets_of_replies, reply_ways, sends_replies, switch_sends_replies};
 ghost use Rattle.ultra_units.specs.Visits.{after_units};
 ghost use Rattle.ultra_section.specs.Units.{IsModule, IsSwitch};
 
@@ -14,27 +14,30 @@ use ultra_route::Net;
 use ultra_switch::Ports;
 use ultra_units::{UnitSet, Visit, reply_target, switch_number, visit_all};
 
-/// Whether a reply may go on from a PE-side position of a stage. `closed` are the switches without room for replies.
+/// The units to which replies go from a switch, by the PE-side port.
 #[inline(always)]
-fn has_reply_way(net: Net, closed: &UnitSet, stage: u32, position: u32) -> bool
-    requires stage { stage < net }
-    requires position { position < 2 ^ net }
-    ensures { result ≡ way_of_reply closed.now net stage position }
-{
-    stage == 0 || !closed.has(reply_target(net, stage, position))
-}
-
-/// Whether replies may go on from a switch, by the PE-side port.
-#[inline(always)]
-fn find_reply_ways(net: Net, closed: &UnitSet, stage: u32, index: u32) -> Ports<bool>
+fn reply_targets(net: Net, stage: u32, index: u32) -> Ports<usize>
     requires stage { stage < net }
     requires index { index < 2 ^ (net - 1) }
-    ensures { result ≡ reply_ways closed.now net stage index }
+    ensures value { result ≡ targets_of_replies net stage index }
+    ensures zero { result.zero < 320 }
+    ensures one { result.one < 320 }
 {
     let _even = net.size();
     Ports {
-        zero: has_reply_way(net, closed, stage, 2 * index),
-        one: has_reply_way(net, closed, stage, 2 * index + 1),
+        zero: reply_target(net, stage, 2 * index),
+        one: reply_target(net, stage, 2 * index + 1),
+    }
+}
+
+/// Whether replies may go on from a switch, by the PE-side port, to the units `targets`. `closed` are the switches without room for replies.
+#[inline(always)]
+fn find_reply_ways(closed: &UnitSet, stage: u32, targets: Ports<usize>) -> Ports<bool>
+    ensures { (net index : ℕ) → targets ≡ targets_of_replies net stage index → result ≡ reply_ways closed.now net stage index }
+{
+    Ports {
+        zero: stage == 0 || !closed.has(targets.zero),
+        one: stage == 0 || !closed.has(targets.one),
     }
 }
 
@@ -49,11 +52,14 @@ impl Block {
         let Some(switch) = &mut self.switches[number] else {
             return;
         };
-        let out = switches::send_replies(switch, find_reply_ways(net, closed, stage, index));
+        let targets = reply_targets(net, stage, index);
+        let out = switches::send_replies(switch, find_reply_ways(closed, stage, targets));
         self.sets.note_replies(number, switch);
         let here = &self.sets.here;
-        leave_stage(&mut self.replies, here, net, stage, 2 * index, out.zero);
-        leave_stage(&mut self.replies, here, net, stage, 2 * index + 1, out.one);
+        let (zero, one) = (2 * index, 2 * index + 1);
+        let links = &mut self.replies;
+        leave_stage(links, here, net, stage, zero, targets.zero, out.zero);
+        leave_stage(links, here, net, stage, one, targets.one, out.one);
     }
 
     /// The reply of a module goes onto its link, if there is a way.
@@ -85,8 +91,8 @@ impl Visit<Block> for SendReplies<'_> {
     ghost visited = { λ v n b. sends_replies v.closed.now n b };
 
     #[inline(always)]
-    fn next(&self, block: &Block, from: usize) -> Option<usize> {
-        block.sets.holds_replies.next(from)
+    fn units<'t>(&self, block: &'t Block) -> &'t UnitSet {
+        &block.sets.holds_replies
     }
 
     #[inline(always)]

@@ -1,8 +1,9 @@
 //! The half of a cycle in which requests leave switches and processing elements.
 
 ghost use Rattle.std.specs.Prelude.{◌≡◌, ℕ, ◌-◌, ◌^◌, ◌<◌};
+ghost use Rattle.ultra_units.specs.Numbers.{request_target as target_of_request};
 ghost use Rattle.ultra_units.specs.Visits.{after_units};
-ghost use Rattle.ultra_section.specs.RequestsSent.{element_sends_request, has_request_way as way_of_request, has_room_at as room_at, has_way_from_element as way_from_element, request_ways, sends_requests, switch_sends_requests};
+ghost use Rattle.ultra_section.specs.RequestsSent.{element_sends_request, has_request_way as way_of_request, has_room_at as room_at, has_way_from_element as way_from_element, request_targets as targets_of_requests, request_ways, sends_requests, switch_sends_requests};
 ghost use Rattle.ultra_section.specs.Units.{IsElement, IsSwitch};
 
 use crate::block::Block;
@@ -34,23 +35,37 @@ fn has_room_at(
     }
 }
 
-/// Whether the first request of a queue may go on from a memory-side position of a stage. In `zero`, `closed` has also the modules whose register holds a request.
+/// The units to which requests go from a switch, by the memory-side port.
+#[inline(always)]
+fn request_targets(net: Net, stage: u32, index: u32) -> Ports<usize>
+    requires stage { stage < net }
+    requires index { index < 2 ^ (net - 1) }
+    ensures value { result ≡ targets_of_requests net stage index }
+    ensures zero { result.zero < 320 }
+    ensures one { result.one < 320 }
+{
+    let _even = net.size();
+    Ports {
+        zero: request_target(net, stage, 2 * index),
+        one: request_target(net, stage, 2 * index + 1),
+    }
+}
+
+/// Whether the first request of a queue may go on from a stage to the unit `target`. In `zero`, `closed` has also the modules whose register holds a request.
 #[inline(always)]
 fn has_request_way(
     net: Net,
     closed: &Ports<UnitSet>,
     stage: u32,
-    position: u32,
+    target: usize,
     head: Option<Request>,
 ) -> bool
-    requires stage { stage < net }
-    requires position { position < 2 ^ net }
-    ensures { result ≡ way_of_request closed.now net stage position head }
+    requires { stage < net }
+    ensures { (position : ℕ) → target ≡ target_of_request net stage position → result ≡ way_of_request closed.now net stage position head }
 {
     let Some(request) = head else {
         return false;
     };
-    let target = request_target(net, stage, position);
     if stage == net.stages() - 1 {
         !closed.zero.has(target)
     } else {
@@ -58,7 +73,7 @@ fn has_request_way(
     }
 }
 
-/// Whether the first requests of a switch may go on, by the memory-side port.
+/// The units to which requests go from a switch, and whether its first requests may go on there, by the memory-side port.
 #[inline(always)]
 fn find_request_ways(
     net: Net,
@@ -66,16 +81,20 @@ fn find_request_ways(
     stage: u32,
     index: u32,
     heads: Ports<Option<Request>>,
-) -> Ports<bool>
+) -> (Ports<usize>, Ports<bool>)
     requires stage { stage < net }
     requires index { index < 2 ^ (net - 1) }
-    ensures { result ≡ request_ways closed.now net stage index heads }
+    ensures targets { result.0 ≡ targets_of_requests net stage index }
+    ensures zero { result.0.zero < 320 }
+    ensures one { result.0.one < 320 }
+    ensures ways { result.1 ≡ request_ways closed.now net stage index heads }
 {
-    let _even = net.size();
-    Ports {
-        zero: has_request_way(net, closed, stage, 2 * index, heads.zero),
-        one: has_request_way(net, closed, stage, 2 * index + 1, heads.one),
-    }
+    let targets = request_targets(net, stage, index);
+    let ways = Ports {
+        zero: has_request_way(net, closed, stage, targets.zero, heads.zero),
+        one: has_request_way(net, closed, stage, targets.one, heads.one),
+    };
+    (targets, ways)
 }
 
 /// Whether the first request of a processing element may go on.
@@ -111,14 +130,14 @@ impl Block {
             return;
         };
         let heads = switches::request_heads(switch);
-        let out = switches::send_requests(
-            switch,
-            find_request_ways(net, closed, stage, index, heads),
-        );
+        let (targets, ways) = find_request_ways(net, closed, stage, index, heads);
+        let out = switches::send_requests(switch, ways);
         self.sets.note_requests(number, switch);
         let here = &self.sets.here;
-        leave_stage(&mut self.requests, here, net, stage, 2 * index, out.zero);
-        leave_stage(&mut self.requests, here, net, stage, 2 * index + 1, out.one);
+        let (zero, one) = (2 * index, 2 * index + 1);
+        let links = &mut self.requests;
+        leave_stage(links, here, net, stage, zero, targets.zero, out.zero);
+        leave_stage(links, here, net, stage, one, targets.one, out.one);
     }
 
     /// The first request of a processing element goes onto its link, if there is a way.
@@ -152,8 +171,8 @@ impl Visit<Block> for SendRequests<'_> {
     ghost visited = { λ v n b. sends_requests v.closed.now n b };
 
     #[inline(always)]
-    fn next(&self, block: &Block, from: usize) -> Option<usize> {
-        block.sets.holds_requests.next(from)
+    fn units<'t>(&self, block: &'t Block) -> &'t UnitSet {
+        &block.sets.holds_requests
     }
 
     #[inline(always)]

@@ -9,7 +9,7 @@ ghost use Rattle.ultra_section.specs.Units.{IsModule};
 use crate::block::{Block, tell};
 use crate::unit::{Unit, unit_of};
 use ultra_msg::Event;
-use ultra_units::{Visit, visit_all};
+use ultra_units::{UnitSet, Visit, visit_all};
 
 impl Block {
     /// A module serves the request that waits, if no reply is in its way.
@@ -48,8 +48,8 @@ impl Visit<Block> for Serve {
     ghost visited = { λ v n b. serves n b };
 
     #[inline(always)]
-    fn next(&self, block: &Block, from: usize) -> Option<usize> {
-        block.sets.to_serve.next(from)
+    fn units<'t>(&self, block: &'t Block) -> &'t UnitSet {
+        &block.sets.to_serve
     }
 
     #[inline(always)]

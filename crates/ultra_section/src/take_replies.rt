@@ -11,7 +11,7 @@ use crate::replies::{take_at_element, take_at_switch};
 use crate::unit::{Unit, unit_of};
 use ultra_halves::switches;
 use ultra_msg::Event;
-use ultra_units::{Visit, visit_all};
+use ultra_units::{UnitSet, Visit, visit_all};
 
 impl Block {
     /// What comes to a switch goes through its wait buffers into its queues.
@@ -61,8 +61,8 @@ impl Visit<Block> for TakeReplies {
     ghost visited = { λ v n b. takes_replies n b };
 
     #[inline(always)]
-    fn next(&self, block: &Block, from: usize) -> Option<usize> {
-        block.replies.came.next(from)
+    fn units<'t>(&self, block: &'t Block) -> &'t UnitSet {
+        &block.replies.came
     }
 
     #[inline(always)]

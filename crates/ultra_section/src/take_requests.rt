@@ -13,7 +13,7 @@ use crate::unit::{Unit, unit_of};
 use ultra_halves::{modules, switches};
 use ultra_msg::Event;
 use ultra_switch::Ports;
-use ultra_units::{Visit, visit_all};
+use ultra_units::{UnitSet, Visit, visit_all};
 
 /// Puts two events, if they are there, at the end of the list. Where there is only one, it is in `zero`.
 fn tell_both(list: &mut Vec<Event>, events: Ports<Option<Event>>)
@@ -83,8 +83,8 @@ impl Visit<Block> for TakeRequests {
     ghost visited = { λ v n b. takes_requests n b };
 
     #[inline(always)]
-    fn next(&self, block: &Block, from: usize) -> Option<usize> {
-        block.requests.came.next(from)
+    fn units<'t>(&self, block: &'t Block) -> &'t UnitSet {
+        &block.requests.came
     }
 
     #[inline(always)]

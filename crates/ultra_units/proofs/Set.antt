@@ -2,7 +2,7 @@
 use Rattle.std.proofs.Common.{◌≡◌, ℕ, zero, suc, max, ◌||◌, ◌+◌, ◌-◌, ◌*◌, ◌/◌, ◌%◌, ◌^◌, ◌<◌, ◌≤◌, true, false, List, length, get_or, set, eqb, refl, sym, ◌∙◌, ap, inl, inr, arith, eq-eqb, get_or-set_same, get_or-set_other, replicate, w64}
 use Rattle.std.proofs.lemmas.Bool.{cases_eq, cases_lt}
 use Rattle.std.proofs.lemmas.List.{get_or-replicate, get_or_past, length-replicate}
-use Rattle.std.proofs.lemmas.Nat.{shr-shr, shr_le}
+use Rattle.std.proofs.lemmas.Nat.{shr-shr, shr_le, le_or_l, le_or_r}
 use Rattle.std.proofs.lemmas.Nat.Bits.{bit_at-zero, bit_at-lt, shr_and_one, bit_at_above, bit_at_or, bit_at_set_same, bit_at_set_other, bit_at_clear_same, bit_at_clear_other, bit_at-trailing_zeros}
 use Rattle.std.specs.Prelude.{bit_and, bit_or, ◌≢◌, Option, Some, None, IfSome, IfNone}
 use Rattle.std.specs.Int.{bit_at, bit_not, trailing_zeros}
@@ -192,3 +192,38 @@ united a b c n five_a five_b five_c all words same k =
           past_words c k (omega arith)
           ∙ rw (past_words a k (omega arith), past_words b k (omega arith)) refl
     ]
+
+-- ---- a set without any unit
+
+empty_word : (words : List ℕ) (k : ℕ) → get_or words (k / 64) 0 ≡ 0 → has_unit words k ≡ false
+unfolding has_unit
+empty_word words k none = ap (λ x. eqb (bit_at x (k % 64)) 1) none ∙ ap (λ x. eqb x 1) (bit_at-zero (k % 64))
+
+-- numbers whose union is 0 are 0
+none_of_both : (a b : ℕ) → bit_or a b ≡ 0 → (a ≡ 0) × (b ≡ 0)
+none_of_both a b none = (omega (arith, le_or_l a b), omega (arith, le_or_r a b))
+
+module _ (words : List ℕ) (five : length words ≡ 5) where
+  row_at : (k row : ℕ) → k / 64 ≡ row → get_or words row 0 ≡ 0 → has_unit words k ≡ false
+  row_at k row is none = empty_word words k (ap (λ i. get_or words i 0) is ∙ none)
+
+  pub none_in_words : bit_or (bit_or (bit_or (bit_or (get_or words 0 0) (get_or words 1 0)) (get_or words 2 0)) (get_or words 3 0)) (get_or words 4 0) ≡ 0
+      → HasNoneFrom words 0
+  none_in_words none k _ =
+      let to_three = none_of_both _ _ none in
+      let to_two = none_of_both _ _ to_three.0 in
+      let to_one = none_of_both _ _ to_two.0 in
+      let to_zero = none_of_both _ _ to_one.0 in
+      elim (cases_lt k 64) [
+        | inl below ↦ row_at k 0 (omega arith) to_zero.0
+        | inr one ↦ elim (cases_lt k 128) [
+          | inl below ↦ row_at k 1 (omega arith) to_zero.1
+          | inr two ↦ elim (cases_lt k 192) [
+            | inl below ↦ row_at k 2 (omega arith) to_one.1
+            | inr three ↦ elim (cases_lt k 256) [
+              | inl below ↦ row_at k 3 (omega arith) to_two.1
+              | inr four ↦ elim (cases_lt k 320) [ inl below ↦ row_at k 4 (omega arith) to_three.1 | inr past ↦ past_words words k (omega arith) ]
+            ]
+          ]
+        ]
+      ]

@@ -9,13 +9,3 @@ after_units f (suc n) t = f n (after_units f n t)
 -- a visit of any unit from `from` on, below `to`, changes nothing
 abbrev pub AreStillWithin : {T : Type 0} → (ℕ → T → T) → T → ℕ → ℕ → Type 0
 AreStillWithin f t from to = (k : ℕ) → from ≤ k → k < to → f k t ≡ t
-
--- nor does one of any unit from `from` on
-abbrev pub AreStillFrom : {T : Type 0} → (ℕ → T → T) → T → ℕ → Type 0
-AreStillFrom f t from = AreStillWithin f t from 320
-
--- unit k is the first from `from` on of which a visit may change something
-pub record IsNextUnit {T : Type 0} (f : ℕ → T → T) (t : T) (from k : ℕ) : Type 0 where
-  pub after : from ≤ k
-  pub within : k < 320
-  pub still : AreStillWithin f t from k

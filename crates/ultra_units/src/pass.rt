@@ -1,7 +1,10 @@
 //! One loop over units.
 
-ghost use Rattle.std.specs.Prelude.{◌≡◌, ℕ, ◌+◌, ◌-◌, ◌<◌, ◌≤◌, IfNone, IfSome};
-ghost use Rattle.ultra_units.specs.Visits.{AreStillFrom, IsNextUnit, after_units};
+ghost use Rattle.std.specs.Prelude.{◌≡◌, ℕ, ◌<◌, false};
+ghost use Rattle.ultra_units.specs.Set.{has_unit};
+ghost use Rattle.ultra_units.specs.Visits.{after_units};
+
+use crate::unit_set::UnitSet;
 
 /// What is done to the units of something, one after another by their numbers.
 pub trait Visit<T> {
@@ -11,10 +14,9 @@ pub trait Visit<T> {
     /// What comes of a visit of a unit.
     ghost visited: { Self → ℕ → T → T };
 
-    /// The first unit from `from` on that a visit may change.
-    fn next(&self, target: &T, from: usize) -> Option<usize>
-        ensures some { IfSome result (λ k. IsNextUnit (visited self.now) target.now from k) }
-        ensures none { IfNone result (AreStillFrom (visited self.now) target.now from) };
+    /// At least the units that a visit may change.
+    fn units<'t>(&self, target: &'t T) -> &'t UnitSet
+        ensures { (k : ℕ) → has_unit result.now k ≡ false → visited self.now k target.now ≡ target.now };
 
     /// Visits a unit. What the visits of later units ask is kept.
     fn visit(&self, target: &mut T, unit: usize)
@@ -26,13 +28,13 @@ pub trait Visit<T> {
 
 /// Visits all units, by their numbers. It skips those that a visit would leave as they are.
 ///
-/// Where there is none to visit, it takes no more than a look for the first.
+/// Where there is none to visit, it takes no more than one look at the set.
 #[inline(always)]
 pub fn visit_all<T, V: Visit<T>>(visit: &V, target: &mut T)
     requires { (k : ℕ) → k < 320 → V.can_visit visit.now k target.old }
     ensures { target.new ≡ after_units (V.visited visit.now) 320 target.old }
 {
-    if let Some(_) = visit.next(target, 0) {
+    if !visit.units(target).is_empty() {
         visit_some(visit, target);
     }
 }
@@ -44,7 +46,7 @@ fn visit_some<T, V: Visit<T>>(visit: &V, target: &mut T)
     ensures { target.new ≡ after_units (V.visited visit.now) 320 target.old }
 {
     let mut from = 0;
-    while let Some(unit) = visit.next(target, from) {
+    while let Some(unit) = visit.units(target).next(from) {
         visit.visit(target, unit);
         from = unit + 1;
     }

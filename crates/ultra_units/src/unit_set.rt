@@ -36,6 +36,15 @@ impl UnitSet {
         UnitSet { words: [0; WORDS] }
     }
 
+    /// Whether no unit is in the set.
+    #[inline(always)]
+    pub fn is_empty(&self) -> bool
+        ensures { result ≡ true → HasNoneFrom self.now 0 }
+    {
+        let words = &self.words;
+        words[0] | words[1] | words[2] | words[3] | words[4] == 0
+    }
+
     /// Whether the unit of this number is in the set.
     #[inline(always)]
     pub fn has(&self, number: usize) -> bool
@@ -74,10 +83,10 @@ impl UnitSet {
         ensures there { number < 320 → has_unit self.new number ≡ is_in }
         ensures only { has_unit self.new number ≡ true → is_in ≡ true }
     {
-        if is_in {
-            self.insert(number);
-        } else {
-            self.remove(number);
+        if number < UNITS {
+            let bit = 1u64 << (number % 64);
+            let word = self.words[number / 64];
+            self.words[number / 64] = if is_in { word | bit } else { word & !bit };
         }
     }
 

@@ -5,7 +5,7 @@ use Rattle.ultra_section.proofs.replies.leave_stage.Goals as goal
 
 pub returns-clause-known : goal.returns-clause-known
 returns-clause-known c =
-    known_put c.args.net (omega arith) (omega arith) c.args.here.now c.args.links.now c.put.new.self c.place_number-link.result c.reply_target-target.result c.args.reply
-    (ap (reply_reader c.args.net) c.place_number-link.ensures.value ∙ reply_of_stage c.args.net (omega arith) (omega arith) c.args.stage c.args.position c.requires.stage c.requires.position ∙ sym c.reply_target-target.ensures.value)
+    known_put c.args.net (omega arith) (omega arith) c.args.here.now c.args.links.now c.put.new.self c.place_number-link.result c.args.target c.args.reply
+    (ap (reply_reader c.args.net) c.place_number-link.ensures.value ∙ reply_of_stage c.args.net (omega arith) (omega arith) c.args.stage c.args.position c.requires.stage c.requires.position ∙ sym c.requires.target)
     record { table = c.put.ensures.table; leads_there = c.put.ensures.leads; came = c.put.ensures.came; away = c.put.ensures.away }
     c.requires.known

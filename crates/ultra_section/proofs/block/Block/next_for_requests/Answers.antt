@@ -1,4 +1,4 @@
-use Rattle.std.proofs.Common.{◌≡◌, ℕ, List, false, Option, Some, None, refl, subst}
+use Rattle.std.proofs.Common.{◌≡◌, ℕ, List, false, Option, Some, None, refl, subst, arith}
 use Rattle.std.specs.Prelude.{IfSome, IfNone}
 use Rattle.ultra_units.specs.Set.{has_unit, HasNoneFrom, IsFirstFrom}
 use Rattle.ultra_section.specs.BlockState.{BlockState}
@@ -34,3 +34,12 @@ returns-clause-none c =
     (subst (λ (b : BlockState). (n : ℕ) → has_unit inside.requests.away n ≡ false → stands n b ≡ false → AreEmpty b.requests (request_inlets b.stages n)) c.self.view_is
     (none_away record { stages = inside.net; done = inside.done; switches = inside.switches.items; modules = inside.modules.items; elements = inside.elements.items; replies = inside.replies.table.items; requests = inside.requests.table.items; events = inside.events.items; stops = inside.stops.items } inside.sets inside.requests refl known.units known.requests))
     c.next.ensures.none
+
+pub returns-then-is_empty-clause-none : goal.returns-then-is_empty-clause-none
+returns-then-is_empty-clause-none c =
+    let inside = c.self.inside in
+    let known = c.self.invariant in
+    no_unit inside.requests.away c.args.self.now c.args.from None
+    (subst (λ (b : BlockState). (n : ℕ) → has_unit inside.requests.away n ≡ false → stands n b ≡ false → AreEmpty b.requests (request_inlets b.stages n)) c.self.view_is
+    (none_away record { stages = inside.net; done = inside.done; switches = inside.switches.items; modules = inside.modules.items; elements = inside.elements.items; replies = inside.replies.table.items; requests = inside.requests.table.items; events = inside.events.items; stops = inside.stops.items } inside.sets inside.requests refl known.units known.requests))
+    (λ k _. c.is_empty.ensures c.if-is_empty.true k (omega arith))
