@@ -318,10 +318,10 @@ fn many_loads<R: AllocGlobal>(rt: &R, count: usize) -> Result<String, Fail> {
 /// write.
 #[test]
 fn long_orders_are_written_in_pieces(rt: HostRuntime) -> Result<(), Fail> {
-    let settings = b"stages = 1\ncycles = 3000";
-    let program = many_loads(&rt, 300)?;
+    let settings = b"stages = 1\ncycles = 40000";
+    let program = many_loads(&rt, 4000)?;
     let mut order = String::new(rt.alloc());
-    for number in 0..300 {
+    for number in 0..4000 {
         order.push_str(format!(in rt.alloc(); "0.{number} load 0 = 0\n")?.as_str())?;
     }
     let wanted = (0, order.as_str(), "");
@@ -342,7 +342,7 @@ fn long_orders_are_written_in_pieces(rt: HostRuntime) -> Result<(), Fail> {
     assert_eq!(rt; status, 5);
     assert_eq!(rt; err.text()?, "ultra: write failed\n");
     assert!(rt; order.as_str().starts_with(out.text()?));
-    assert!(rt; out.bytes.len() >= 4096);
+    assert!(rt; out.bytes.len() >= 60000);
     Ok(())
 }
 

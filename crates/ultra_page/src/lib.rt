@@ -9,7 +9,7 @@ use itoa::{Buffer, Integer};
 use ultra_msg::{Sink, SinkFault, write_all};
 
 /// How many bytes a page holds.
-const PAGE_BYTES: usize = 16384;
+const PAGE_BYTES: usize = 65536;
 
 /// Text on its way to a sink. What is written waits on the page, and is handed on once the page is full, or at the end by [`finish`](Page::finish). What has not been handed on when the page is dropped is lost.
 ///
