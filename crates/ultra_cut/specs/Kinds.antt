@@ -36,7 +36,8 @@ on_each kind bs l = map (λ b. on_link (table kind b) l) bs
 -- nothing leads from a block to a unit that stands elsewhere, from number `from` on and below `to`
 abbrev pub NoneLeavesWithin : Kind → BlockState → ℕ → ℕ → Type 0
 NoneLeavesWithin kind b from to =
-    (n : ℕ) → from ≤ n → n < to → stands n b ≡ false → AreEmpty (table kind b) (inlets kind b.stages n)
+    (n : ℕ) → from ≤ n → n < to → stands n b ≡ false
+    → AreEmpty (table kind b) (inlets kind b.stages n)
 
 -- unit n is the first from `from` on to which something may lead from the block
 pub record IsNext (kind : Kind) (b : BlockState) (from n : ℕ) : Type 0 where
@@ -62,7 +63,8 @@ moved kind d k h n bs = elim (h == k) [
 -- if it is another and anything can come to the unit, block h has all links
 abbrev pub HasLinks : Kind → ℕ → ℕ → ℕ → ℕ → List BlockState → Type 0
 HasLinks kind d k h n bs =
-    h ≢ k → (p : Ports ℕ) → inlets kind d n ≡ Some p → length (table kind (block_at bs h)) ≡ (d + 1) * 2 ^ d
+    h ≢ k → (p : Ports ℕ) → inlets kind d n ≡ Some p
+    → length (table kind (block_at bs h)) ≡ (d + 1) * 2 ^ d
 
 -- no link has a message in two blocks
 abbrev pub AreSingle : Kind → List BlockState → Type 0
@@ -71,8 +73,10 @@ AreSingle kind bs = (l : ℕ) → IsSingle (on_each kind bs l)
 -- of the blocks nothing has changed but where messages of the kind are
 pub record OnlyMove (kind : Kind) (old now : List BlockState) : Type 0 where
   pub count : length now ≡ length old
-  pub rest : (k : ℕ) → block_at now k ≡ with_table kind (table kind (block_at now k)) (block_at old k)
-  pub lengths : (k : ℕ) → length (table kind (block_at now k)) ≡ length (table kind (block_at old k))
+  pub rest :
+      (k : ℕ) → block_at now k ≡ with_table kind (table kind (block_at now k)) (block_at old k)
+  pub lengths :
+      (k : ℕ) → length (table kind (block_at now k)) ≡ length (table kind (block_at old k))
   pub links : (l : ℕ) → first (on_each kind now l) ≡ first (on_each kind old l)
   pub single : AreSingle kind now
 
