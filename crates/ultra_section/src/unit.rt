@@ -30,18 +30,15 @@ pub(crate) fn unit_of(net: Net, number: usize) -> Unit
     if number < switches {
         let stage = number >> (net.stages() - 1);
         let index = number - stage * (size / 2);
-        return Unit::Switch {
+        Unit::Switch {
             stage: stage as u32,
             index: index as u32,
-        };
+        }
+    } else if number < switches + size {
+        Unit::Module((number - switches) as u32)
+    } else if number < switches + 2 * size {
+        Unit::Element((number - switches - size) as u32)
+    } else {
+        Unit::Nothing
     }
-    let past_switches = number - switches;
-    if past_switches < size {
-        return Unit::Module(past_switches as u32);
-    }
-    let past_modules = past_switches - size;
-    if past_modules < size {
-        return Unit::Element(past_modules as u32);
-    }
-    Unit::Nothing
 }

@@ -207,6 +207,22 @@ module _ (words : List ℕ) (five : length words ≡ 5) where
   row_at : (k row : ℕ) → k / 64 ≡ row → get_or words row 0 ≡ 0 → has_unit words k ≡ false
   row_at k row is none = empty_word words k (ap (λ i. get_or words i 0) is ∙ none)
 
+  pub none_past_first : bit_or (bit_or (bit_or (get_or words 1 0) (get_or words 2 0)) (get_or words 3 0)) (get_or words 4 0) ≡ 0 → HasNoneFrom words 64
+  none_past_first none k one =
+      let to_three = none_of_both _ _ none in
+      let to_two = none_of_both _ _ to_three.0 in
+      let to_one = none_of_both _ _ to_two.0 in
+      elim (cases_lt k 128) [
+        | inl below ↦ row_at k 1 (omega arith) to_one.0
+        | inr two ↦ elim (cases_lt k 192) [
+          | inl below ↦ row_at k 2 (omega arith) to_one.1
+          | inr three ↦ elim (cases_lt k 256) [
+            | inl below ↦ row_at k 3 (omega arith) to_two.1
+            | inr four ↦ elim (cases_lt k 320) [ inl below ↦ row_at k 4 (omega arith) to_three.1 | inr past ↦ past_words words k (omega arith) ]
+          ]
+        ]
+      ]
+
   pub none_in_words : bit_or (bit_or (bit_or (bit_or (get_or words 0 0) (get_or words 1 0)) (get_or words 2 0)) (get_or words 3 0)) (get_or words 4 0) ≡ 0
       → HasNoneFrom words 0
   none_in_words none k _ =

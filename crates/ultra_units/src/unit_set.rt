@@ -113,8 +113,18 @@ impl UnitSet {
         let word = from / 64;
         match first_bit(words[word], from % 64) {
             Some(bit) => Some(word * 64 + bit),
+            None if word == 0 && self.is_in_first_word() => None,
             None => self.next_of_words(word + 1),
         }
+    }
+
+    /// Whether all units of the set are in its first word, as in a small machine.
+    #[inline(always)]
+    fn is_in_first_word(&self) -> bool
+        ensures { result ≡ true → HasNoneFrom self.now 64 }
+    {
+        let words = &self.words;
+        words[1] | words[2] | words[3] | words[4] == 0
     }
 
     /// The first unit of the set in the words from `first` on.

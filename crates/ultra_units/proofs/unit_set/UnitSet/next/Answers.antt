@@ -1,5 +1,5 @@
 use Rattle.std.proofs.Common.{◌+◌, ◌/◌, ◌%◌, ◌*◌, arith}
-use Rattle.ultra_units.proofs.Set.{first_in_word, found_after, not_found_after, none_in_word, none_past}
+use Rattle.ultra_units.proofs.Set.{first_in_word, found_after, not_found_after, none_after, none_in_word, none_past}
 use Rattle.ultra_units.proofs.unit_set.UnitSet.next.Goals as goal
 
 pub returns-then-from-ge-UNITS-clause-none : goal.returns-then-from-ge-UNITS-clause-none
@@ -12,14 +12,20 @@ returns-in-Some-clause-some c =
     first_in_word c.args.self.now from (from / 64) (from % 64) (omega arith) c.in-Some.bit (omega arith)
     (rw (← c.self.view_is) c.in-Some.ensures.some)
 
-pub returns-in-None-clause-some : goal.returns-in-None-clause-some
-returns-in-None-clause-some c =
-    let from = c.args.from in
-    let low = none_in_word c.args.self.now from (from / 64) (from % 64) (omega arith) (rw (← c.self.view_is) c.in-None.ensures.none) in
-    found_after c.args.self.now from ((from / 64 + 1) * 64) _ (omega arith) low c.next_of_words.ensures.some
-
 pub returns-in-None-clause-none : goal.returns-in-None-clause-none
 returns-in-None-clause-none c =
     let from = c.args.from in
     let low = none_in_word c.args.self.now from (from / 64) (from % 64) (omega arith) (rw (← c.self.view_is) c.in-None.ensures.none) in
+    none_after c.args.self.now from 64 (λ k after before. low k after (omega (arith, c.if-word-eq0.true))) (c.is_in_first_word.ensures c.if-is_in_first_word.true)
+
+pub returns-in-None-2-clause-some : goal.returns-in-None-2-clause-some
+returns-in-None-2-clause-some c =
+    let from = c.args.from in
+    let low = none_in_word c.args.self.now from (from / 64) (from % 64) (omega arith) (rw (← c.self.view_is) c.in-None-2.ensures.none) in
+    found_after c.args.self.now from ((from / 64 + 1) * 64) _ (omega arith) low c.next_of_words.ensures.some
+
+pub returns-in-None-2-clause-none : goal.returns-in-None-2-clause-none
+returns-in-None-2-clause-none c =
+    let from = c.args.from in
+    let low = none_in_word c.args.self.now from (from / 64) (from % 64) (omega arith) (rw (← c.self.view_is) c.in-None-2.ensures.none) in
     not_found_after c.args.self.now from ((from / 64 + 1) * 64) _ low c.next_of_words.ensures.none
