@@ -16,11 +16,11 @@ use std::marker::Model;
 use std::sync::{Arc, Wait};
 use std::thread::{Scope, Threads};
 use ultra_block::{Blocks, Parts};
+use ultra_cut::note_rooms;
 use ultra_desk::{Course, CrewFault, Desk, Gate, Name, Task, deal, empty_teams, gather};
 use ultra_isa::Program;
 use ultra_model::Config;
 use ultra_section::{Block, Half, Rooms};
-use ultra_cut::note_rooms;
 
 /// Host workers at work, each in a thread of its own that is kept until the shift ends. Contracts see how many they are.
 #[derive(Drop)]
