@@ -16,14 +16,26 @@ SOURCES = ("src", "specs", "proofs", "data", "args", "stdout", "stdin", "status"
 MEMORY_OF_A_JOB = 3_000_000_000
 
 
-def crates_listed():
-    """Each crate of crates.txt, with the crates of the workspace that it names."""
+def lines_listed():
+    """Each crate of crates.txt, with all libraries that it names."""
     listed = {}
     for line in (ROOT / "crates.txt").read_text().splitlines():
         name, colon, used = line.partition("#")[0].partition(":")
         if colon:
             listed[name.split()[0]] = used.split()
+    return listed
+
+
+def crates_listed():
+    """Each crate of crates.txt, with the crates of the workspace that it names."""
+    listed = lines_listed()
     return {name: [it for it in used if it in listed] for name, used in listed.items()}
+
+
+def libraries_of_kit(name):
+    """The libraries of the kit that a crate names."""
+    listed = lines_listed()
+    return [it for it in listed[name] if it not in listed]
 
 
 def with_all_below(listed, names):

@@ -1,0 +1,85 @@
+"""Crates proved from nothing, by the prover itself, over the statements of the libraries below them.
+
+The command rt keeps what it has proved, function by function, and reads each library below a crate with its proofs. A
+first run has nothing kept. So here a library holds its statements alone, which are read several times as fast, and
+several crates are proved in one tree without a lock. Nothing is kept for later changes.
+"""
+
+import hashlib
+import shutil
+import subprocess
+from pathlib import Path
+
+from workspace import ROOT, below, is_program, libraries_of_kit
+
+KIT = Path(shutil.which("rt") or "bin/rt").resolve().parent.parent
+
+
+def library(name):
+    """Where the library of a crate stands."""
+    return ROOT / "crates" / name / "out" / "statements" / f"{name}.rlib"
+
+
+def stamp_of(listed, name):
+    """A sum of all that a crate's library or program is made from."""
+    total = hashlib.sha256((KIT / "KIT-ID").read_bytes())
+    for crate in [*below(listed, name), name]:
+        total.update(repr((crate, listed[crate], libraries_of_kit(crate))).encode())
+        folders = [ROOT / "crates" / crate / part for part in ("src", "specs", "proofs")]
+        for file in sorted(it for folder in folders for it in folder.rglob("*") if it.is_file()):
+            total.update(repr((str(file.relative_to(ROOT)), file.read_bytes())).encode())
+    return total.hexdigest()
+
+
+def words_for(listed, name, jobs, library):
+    """The words by which the prover is called for a crate, given where the library of each crate below stands."""
+    words = ["--crate-name", name, "src/main.rt" if is_program(name) else "src/lib.rt"]
+    for it in ["std", *libraries_of_kit(name)]:
+        words += ["--extern", f"{it}={KIT}/rlibs/{it}.rlib"]
+    words += ["-L", f"dependency={KIT}/rlibs"]
+    for it in listed[name]:
+        words += ["--extern", f"{it}={library(it)}"]
+    for it in below(listed, name):
+        words += ["-L", f"dependency={library(it).parent}"]
+    words += ["--antt-project", f"{KIT}/rattle/logic/antt-project.json", "--logic-built", f"{KIT}/logic_built"]
+    return [*words, "--jobs", str(jobs), "--links", f"{name}="]
+
+
+def run(folder, words):
+    """Runs a command of the kit, and gives whether it ended well and what it said."""
+    ran = subprocess.run(
+        [str(it) for it in words], cwd=folder, stdin=subprocess.DEVNULL, stdout=subprocess.PIPE,
+        stderr=subprocess.STDOUT, text=True, errors="replace",
+    )
+    return ran.returncode == 0, ran.stdout
+
+
+def prove(listed, name, jobs):
+    """Proves one crate and builds its library or program, and gives whether it is proved and what was said."""
+    folder = ROOT / "crates" / name
+    built = folder / "out" / name if is_program(name) else library(name)
+    stamp, now = library(name).parent / "stamp", stamp_of(listed, name)
+    if built.exists() and stamp.is_file() and stamp.read_text() == now:
+        return True, ""
+    shutil.rmtree(stamp.parent, ignore_errors=True)
+    stamp.parent.mkdir(parents=True)
+    build = build_program if is_program(name) else build_library
+    is_proved, said = build(folder, built, words_for(listed, name, jobs, library))
+    if is_proved:
+        stamp.write_text(now)
+    return is_proved, said
+
+
+def build_library(folder, built, words):
+    return run(folder, [KIT / "bin" / "rattle", "build", *words, "--statements", "-o", built])
+
+
+def build_program(folder, built, words):
+    toolchain, code = ["--toolchain", KIT / "toolchain"], built.with_suffix(".o")
+    is_proved, said = run(folder, [KIT / "bin" / "rattle", "build", *words, *toolchain, "--backend", "llvm", "-o", code])
+    if not is_proved:
+        return False, said
+    system = [KIT / "c" / "libos_c.a", KIT / "c" / "liblibc_c.a"]
+    link = [KIT / "bin" / "rattle-link", "--target", "x86_64-unknown-linux-gnu", *toolchain, "-o", built, code, *system]
+    is_linked, more = run(folder, link)
+    return is_linked, said + more
