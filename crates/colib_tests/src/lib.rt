@@ -1,4 +1,4 @@
-//! Tests of the coordination library, over its public calls.
+//! Tests of the assembler and of the coordination library, over their public calls.
 #![tactic(auto)]
 
 #[cfg(test)]
@@ -7,6 +7,8 @@ mod cases;
 mod listings;
 #[cfg(test)]
 mod runs;
+#[cfg(test)]
+mod texts;
 #[cfg(test)]
 mod trays;
 #[cfg(test)]

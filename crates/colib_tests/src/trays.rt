@@ -1,23 +1,29 @@
 //! A sink in memory.
 
+ghost use Rattle.std.specs.Prelude.{◌≡◌};
+
 use std::process::Abort;
 use std::str;
 use std::test::Fail;
 use ultra_msg::{Sink, SinkFault};
 
-/// A sink in memory that takes three bytes a write.
+/// A sink in memory, which takes three bytes a write at most and fails after `sound_writes` writes.
 #[derive(Drop)]
 pub(crate) struct Tray<'r, R: Abort> {
     rt: &'r R,
     bytes: Vec<u8>,
+    pub(crate) failures: u64,
+    pub(crate) sound_writes: usize,
 }
 
 impl<'r, R: Abort + AllocGlobal> Tray<'r, R> {
-    /// An empty tray.
+    /// An empty tray that never fails.
     pub(crate) fn in_threes(rt: &'r R) -> Self {
         Tray {
             rt,
             bytes: Vec::new(rt.alloc()),
+            failures: 0,
+            sound_writes: usize::MAX,
         }
     }
 }
@@ -30,17 +36,23 @@ impl<R: Abort> Tray<'_, R> {
 }
 
 impl<R: Abort> Sink for Tray<'_, R> {
-    ghost use Rattle.std.specs.Prelude.{ℕ};
-
     ghost taken = { λ t. t.bytes.items };
 
-    ghost failures = { λ t. 0 };
+    ghost failures = { λ t. t.failures };
 
     fn write(&mut self, bytes: &[u8]) -> Result<usize, SinkFault> {
+        if self.sound_writes == 0 {
+            self.failures = self
+                .failures
+                .checked_add(1)
+                .expect(self.rt, "too many failures");
+            return Err(SinkFault);
+        }
         let count = bytes.len().min(3);
         self.bytes
             .extend_from_slice(&bytes[..count])
             .expect(self.rt, "no memory");
+        self.sound_writes -= 1;
         Ok(count)
     }
 }

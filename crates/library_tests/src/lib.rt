@@ -4,8 +4,6 @@
 #[cfg(test)]
 mod blocks;
 #[cfg(test)]
-mod boards;
-#[cfg(test)]
 mod crews;
 #[cfg(test)]
 mod cuts;
@@ -29,8 +27,6 @@ mod routes;
 mod settings;
 #[cfg(test)]
 mod switches;
-#[cfg(test)]
-mod texts;
 #[cfg(test)]
 mod traces;
 #[cfg(test)]

@@ -1,7 +1,9 @@
-//! Tests of sweeps and of files of jobs, over public calls. They stand in a crate of their own, so
+//! Tests of boards, of sweeps and of files of jobs, over public calls. They stand in a crate of their own, so
 //! that no library is proved a second time with its tests.
 #![tactic(auto)]
 
+#[cfg(test)]
+mod boards;
 #[cfg(test)]
 mod files;
 #[cfg(test)]

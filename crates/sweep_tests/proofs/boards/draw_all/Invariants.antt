@@ -1,5 +1,5 @@
 use Rattle.std.proofs.Common.{◌≡◌}
-use Rattle.library_tests.proofs.boards.draw_all.Given as goal
+use Rattle.sweep_tests.proofs.boards.draw_all.Given as goal
 
 abbrev pub invariant-loop : goal.invariant-loop
 invariant-loop l =

@@ -128,7 +128,7 @@ fn a_program_has_at_most_4096_instructions(rt: HostRuntime) -> Result<(), Fail> 
 }
 
 #[test]
-fn a_fault_of_the_sink_is_told(rt: HostRuntime) -> Result<(), Fail> {
+fn a_fault_of_the_sink_is_reported(rt: HostRuntime) -> Result<(), Fail> {
     let program = assemble(rt.alloc(), "x: jmp x")?;
     let mut tray = Tray::in_threes(&rt);
     tray.sound_writes = 3;
