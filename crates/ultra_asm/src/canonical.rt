@@ -5,12 +5,13 @@ ghost use Rattle.ultra_asm.specs.Instruction.{operands_of};
 ghost use Rattle.ultra_asm.specs.ProgramText.{IsProgramText};
 ghost use Rattle.ultra_asm.specs.declared.instruction.Operand.TheVariants as operand;
 ghost use Rattle.ultra_asm.specs.Listing.{label_text, label_line, label_if, operand_text, operands_text, line_text, instruction_line, target_of, is_target, listing_text, AreWritable, IsListable};
-ghost use Rattle.ultra_msg.specs.Bytes.{TakesPrefix, Writes};
+ghost use Rattle.ultra_msg.specs.Bytes.{TakesPrefix};
+ghost use Rattle.ultra_page.specs.Page.{Writes};
 
 use crate::instruction::{Mnemonic, Operand};
-use itoa::Buffer;
 use ultra_isa::{Instr, MOST_INSTRUCTIONS, Program};
-use ultra_msg::{Register, Sink, SinkFault, write_all};
+use ultra_msg::{Register, Sink, SinkFault};
+use ultra_page::Page;
 
 /// How many places a jump can go to.
 const PLACES: usize = MOST_INSTRUCTIONS + 1;
@@ -60,98 +61,102 @@ pub fn listing<S: Sink>(program: &Program, sink: &mut S) -> Result<(), SinkFault
     ensures counted { OnErr result (S.failures sink.new ≡ S.failures sink.old + 1) }
     ensures reads_back { IsProgramText (listing_text program.now) program.now }
 {
+    let mut page = Page::new(sink);
+    write_program(&mut page, program);
+    page.finish()
+}
+
+/// Writes the canonical text of a program.
+fn write_program<S: Sink>(page: &mut Page<'_, S>, program: &Program)
+    ensures text { Writes S.taken S.failures (listing_text program.now) page.old page.new }
+    ensures reads_back { IsProgramText (listing_text program.now) program.now }
+{
     let targets = Targets::of(program);
     for place in 0..program.len() {
         if let Some(instruction) = program.instruction(place) {
-            write_place(sink, &targets, place, instruction)?;
+            write_place(page, &targets, place, instruction);
         }
     }
-    write_label_line(sink, &targets, program.len())
+    write_label_line(page, &targets, program.len());
 }
 
 /// Writes the instruction at a place, behind the label of the place if some jump goes there.
-fn write_place<S: Sink>(
-    sink: &mut S,
-    targets: &Targets,
-    place: usize,
-    instruction: Instr,
-) -> Result<(), SinkFault>
+fn write_place<S: Sink>(page: &mut Page<'_, S>, targets: &Targets, place: usize, instruction: Instr)
     requires { place ≤ 4096 }
-    ensures { Writes result (label_if (slice_index_or targets.now.marked place false) place ++ instruction_line instruction) (S.taken sink.old) (S.taken sink.new) (S.failures sink.old) (S.failures sink.new) }
+    ensures { Writes S.taken S.failures (label_if (slice_index_or targets.now.marked place false) place ++ instruction_line instruction) page.old page.new }
 {
-    write_label_line(sink, targets, place)?;
-    write_instruction(sink, instruction)
+    write_label_line(page, targets, place);
+    write_instruction(page, instruction);
 }
 
 /// Writes the label of a place on a line of its own, if some jump goes there.
-fn write_label_line<S: Sink>(sink: &mut S, targets: &Targets, place: usize) -> Result<(), SinkFault>
+fn write_label_line<S: Sink>(page: &mut Page<'_, S>, targets: &Targets, place: usize)
     requires { place ≤ 4096 }
-    ensures { Writes result (label_if (slice_index_or targets.now.marked place false) place) (S.taken sink.old) (S.taken sink.new) (S.failures sink.old) (S.failures sink.new) }
+    ensures { Writes S.taken S.failures (label_if (slice_index_or targets.now.marked place false) place) page.old page.new }
 {
-    if !targets.marked[place] {
-        return Ok(());
+    if targets.marked[place] {
+        write_label(page, place);
+        page.put(b":\n");
     }
-    write_label(sink, place)?;
-    write(sink, b":\n")
 }
 
 /// Writes an instruction on a line of its own.
-fn write_instruction<S: Sink>(sink: &mut S, instruction: Instr) -> Result<(), SinkFault>
-    ensures { Writes result (instruction_line instruction) (S.taken sink.old) (S.taken sink.new) (S.failures sink.old) (S.failures sink.new) }
+fn write_instruction<S: Sink>(page: &mut Page<'_, S>, instruction: Instr)
+    ensures { Writes S.taken S.failures (instruction_line instruction) page.old page.new }
 {
     use Operand::{Bits, Label, Number, Register};
 
     match instruction {
-        Instr::Set(d, n) => write_line(sink, Mnemonic::Set, &[Register(d), Number(n)]),
-        Instr::Add(d, a, b) => write_registers(sink, Mnemonic::Add, d, a, b),
+        Instr::Set(d, n) => write_line(page, Mnemonic::Set, &[Register(d), Number(n)]),
+        Instr::Add(d, a, b) => write_registers(page, Mnemonic::Add, d, a, b),
         Instr::AddWord(d, a, n) => {
             write_line(
-                sink,
+                page,
                 Mnemonic::AddWord,
                 &[Register(d), Register(a), Number(n)],
             )
         }
-        Instr::Subtract(d, a, b) => write_registers(sink, Mnemonic::Subtract, d, a, b),
-        Instr::And(d, a, b) => write_registers(sink, Mnemonic::And, d, a, b),
+        Instr::Subtract(d, a, b) => write_registers(page, Mnemonic::Subtract, d, a, b),
+        Instr::And(d, a, b) => write_registers(page, Mnemonic::And, d, a, b),
         Instr::ShiftRight(d, a, n) => {
             write_line(
-                sink,
+                page,
                 Mnemonic::ShiftRight,
                 &[Register(d), Register(a), Bits(n)],
             )
         }
-        Instr::IsBelow(d, a, b) => write_registers(sink, Mnemonic::IsBelow, d, a, b),
-        Instr::IsEqual(d, a, b) => write_registers(sink, Mnemonic::IsEqual, d, a, b),
+        Instr::IsBelow(d, a, b) => write_registers(page, Mnemonic::IsBelow, d, a, b),
+        Instr::IsEqual(d, a, b) => write_registers(page, Mnemonic::IsEqual, d, a, b),
         Instr::JumpIfZero(a, to) => {
-            write_line(sink, Mnemonic::JumpIfZero, &[Register(a), Label(to)])
+            write_line(page, Mnemonic::JumpIfZero, &[Register(a), Label(to)])
         }
         Instr::JumpIfNotZero(a, to) => {
-            write_line(sink, Mnemonic::JumpIfNotZero, &[Register(a), Label(to)])
+            write_line(page, Mnemonic::JumpIfNotZero, &[Register(a), Label(to)])
         }
-        Instr::Jump(to) => write_line(sink, Mnemonic::Jump, &[Label(to)]),
-        Instr::Number(d) => write_line(sink, Mnemonic::Number, &[Register(d)]),
-        Instr::Size(d) => write_line(sink, Mnemonic::Size, &[Register(d)]),
-        Instr::Load(d, a) => write_line(sink, Mnemonic::Load, &[Register(d), Register(a)]),
-        Instr::Store(a, b) => write_line(sink, Mnemonic::Store, &[Register(a), Register(b)]),
-        Instr::Faa(d, a, b) => write_registers(sink, Mnemonic::Faa, d, a, b),
-        Instr::Swap(d, a, b) => write_registers(sink, Mnemonic::Swap, d, a, b),
-        Instr::Fence => write_line(sink, Mnemonic::Fence, &[]),
-        Instr::Halt => write_line(sink, Mnemonic::Halt, &[]),
+        Instr::Jump(to) => write_line(page, Mnemonic::Jump, &[Label(to)]),
+        Instr::Number(d) => write_line(page, Mnemonic::Number, &[Register(d)]),
+        Instr::Size(d) => write_line(page, Mnemonic::Size, &[Register(d)]),
+        Instr::Load(d, a) => write_line(page, Mnemonic::Load, &[Register(d), Register(a)]),
+        Instr::Store(a, b) => write_line(page, Mnemonic::Store, &[Register(a), Register(b)]),
+        Instr::Faa(d, a, b) => write_registers(page, Mnemonic::Faa, d, a, b),
+        Instr::Swap(d, a, b) => write_registers(page, Mnemonic::Swap, d, a, b),
+        Instr::Fence => write_line(page, Mnemonic::Fence, &[]),
+        Instr::Halt => write_line(page, Mnemonic::Halt, &[]),
     }
 }
 
 /// Writes the line of an instruction with three registers.
 fn write_registers<S: Sink>(
-    sink: &mut S,
+    page: &mut Page<'_, S>,
     mnemonic: Mnemonic,
     first: Register,
     second: Register,
     third: Register,
-) -> Result<(), SinkFault>
-    ensures { Writes result (line_text mnemonic (operand.Register first ∷ operand.Register second ∷ operand.Register third ∷ [])) (S.taken sink.old) (S.taken sink.new) (S.failures sink.old) (S.failures sink.new) }
+)
+    ensures { Writes S.taken S.failures (line_text mnemonic (operand.Register first ∷ operand.Register second ∷ operand.Register third ∷ [])) page.old page.new }
 {
     write_line(
-        sink,
+        page,
         mnemonic,
         &[
             Operand::Register(first),
@@ -162,74 +167,54 @@ fn write_registers<S: Sink>(
 }
 
 /// Writes the line of an instruction with these operands.
-fn write_line<S: Sink>(
-    sink: &mut S,
-    mnemonic: Mnemonic,
-    operands: &[Operand],
-) -> Result<(), SinkFault>
-    ensures { Writes result (line_text mnemonic operands.now) (S.taken sink.old) (S.taken sink.new) (S.failures sink.old) (S.failures sink.new) }
+fn write_line<S: Sink>(page: &mut Page<'_, S>, mnemonic: Mnemonic, operands: &[Operand])
+    ensures { Writes S.taken S.failures (line_text mnemonic operands.now) page.old page.new }
 {
-    write(sink, mnemonic.word())?;
-    write_operands(sink, operands)?;
-    write(sink, b"\n")
+    page.put(mnemonic.word());
+    write_operands(page, operands);
+    page.put(b"\n");
 }
 
 /// Writes operands, each behind a blank.
-fn write_operands<S: Sink>(sink: &mut S, operands: &[Operand]) -> Result<(), SinkFault>
-    ensures { Writes result (operands_text operands.now) (S.taken sink.old) (S.taken sink.new) (S.failures sink.old) (S.failures sink.new) }
+fn write_operands<S: Sink>(page: &mut Page<'_, S>, operands: &[Operand])
+    ensures { Writes S.taken S.failures (operands_text operands.now) page.old page.new }
 {
     for operand in operands {
-        write_next(sink, *operand)?;
+        write_next(page, *operand);
     }
-    Ok(())
 }
 
 /// Writes an operand behind a blank.
-fn write_next<S: Sink>(sink: &mut S, operand: Operand) -> Result<(), SinkFault>
-    ensures { Writes result (codes " " ++ operand_text operand) (S.taken sink.old) (S.taken sink.new) (S.failures sink.old) (S.failures sink.new) }
+fn write_next<S: Sink>(page: &mut Page<'_, S>, operand: Operand)
+    ensures { Writes S.taken S.failures (codes " " ++ operand_text operand) page.old page.new }
 {
-    write(sink, b" ")?;
-    write_operand(sink, operand)
+    page.put(b" ");
+    write_operand(page, operand);
 }
 
 /// Writes an operand.
-fn write_operand<S: Sink>(sink: &mut S, operand: Operand) -> Result<(), SinkFault>
-    ensures { Writes result (operand_text operand) (S.taken sink.old) (S.taken sink.new) (S.failures sink.old) (S.failures sink.new) }
+fn write_operand<S: Sink>(page: &mut Page<'_, S>, operand: Operand)
+    ensures { Writes S.taken S.failures (operand_text operand) page.old page.new }
 {
     match operand {
-        Operand::Register(register) => write_numbered(sink, b"r", register.index()),
-        Operand::Number(number) => write_number(sink, number as usize),
-        Operand::Bits(shift) => write_number(sink, shift.bits() as usize),
-        Operand::Label(place) => write_label(sink, usize::from(place)),
+        Operand::Register(register) => write_numbered(page, b"r", register.index()),
+        Operand::Number(number) => page.put_number(number),
+        Operand::Bits(shift) => page.put_number(shift.bits()),
+        Operand::Label(place) => write_label(page, usize::from(place)),
     }
 }
 
 /// Writes the label of a place, as `L7`.
-fn write_label<S: Sink>(sink: &mut S, place: usize) -> Result<(), SinkFault>
-    ensures { Writes result (label_text place) (S.taken sink.old) (S.taken sink.new) (S.failures sink.old) (S.failures sink.new) }
+fn write_label<S: Sink>(page: &mut Page<'_, S>, place: usize)
+    ensures { Writes S.taken S.failures (label_text place) page.old page.new }
 {
-    write_numbered(sink, b"L", place)
+    write_numbered(page, b"L", place);
 }
 
 /// Writes a letter, and a number behind it in decimal digits.
-fn write_numbered<S: Sink>(sink: &mut S, letter: &[u8], number: usize) -> Result<(), SinkFault>
-    ensures { Writes result (letter.now ++ decimal number) (S.taken sink.old) (S.taken sink.new) (S.failures sink.old) (S.failures sink.new) }
+fn write_numbered<S: Sink>(page: &mut Page<'_, S>, letter: &[u8], number: usize)
+    ensures { Writes S.taken S.failures (letter.now ++ decimal number) page.old page.new }
 {
-    write(sink, letter)?;
-    write_number(sink, number)
-}
-
-/// Writes a number in decimal digits.
-fn write_number<S: Sink>(sink: &mut S, number: usize) -> Result<(), SinkFault>
-    ensures { Writes result (decimal number) (S.taken sink.old) (S.taken sink.new) (S.failures sink.old) (S.failures sink.new) }
-{
-    let mut digits = Buffer::new();
-    write(sink, digits.format(number).as_bytes())
-}
-
-/// Writes bytes.
-fn write<S: Sink>(sink: &mut S, bytes: &[u8]) -> Result<(), SinkFault>
-    ensures { Writes result bytes.now (S.taken sink.old) (S.taken sink.new) (S.failures sink.old) (S.failures sink.new) }
-{
-    write_all(sink, bytes)
+    page.put(letter);
+    page.put_number(number);
 }

@@ -1,9 +1,5 @@
-use Rattle.ultra_asm.specs.Listing.{operand_text}
-use Rattle.ultra_msg.proofs.Writing.{writes_then, writes_failed}
+use Rattle.ultra_page.proofs.Writing.{◌then◌}
 use Rattle.ultra_asm.proofs.canonical.write_next.Goals as goal
 
-pub returns-in_err-write : goal.returns-in_err-write
-returns-in_err-write g c = writes_failed (operand_text c.args.operand) c.from_residual.result c.from_residual.ensures.0 c.in_err-write.ensures
-
 pub returns : goal.returns
-returns g c = writes_then c.write_operand.result c.in_ok-write.ensures c.write_operand.ensures
+returns g c = c.put.ensures then c.write_operand.ensures
