@@ -10,7 +10,7 @@ import shutil
 import subprocess
 from pathlib import Path
 
-from workspace import ROOT, below, is_program, libraries_of_kit
+from workspace import ROOT, below, has_tests, is_program, libraries_of_kit
 
 KIT = Path(shutil.which("rt") or "bin/rt").resolve().parent.parent
 
@@ -55,7 +55,10 @@ def run(folder, words):
 
 
 def prove(listed, name, jobs):
-    """Proves one crate and builds its library or program, and gives whether it is proved and what was said."""
+    """Proves one crate and builds its library or program, and gives whether it is proved and what was said.
+
+    The tests of a crate are proved, built and run too.
+    """
     folder = ROOT / "crates" / name
     built = folder / "out" / name if is_program(name) else library(name)
     stamp, now = library(name).parent / "stamp", stamp_of(listed, name)
@@ -63,11 +66,16 @@ def prove(listed, name, jobs):
         return True, ""
     shutil.rmtree(stamp.parent, ignore_errors=True)
     stamp.parent.mkdir(parents=True)
-    build = build_program if is_program(name) else build_library
-    is_proved, said = build(folder, built, words_for(listed, name, jobs, library))
-    if is_proved:
+    words = words_for(listed, name, jobs, library)
+    is_well, said = build_program(folder, built, words) if is_program(name) else build_library(folder, built, words)
+    if is_well and has_tests(name):
+        tests = folder / "out" / f"{name}_tests"
+        is_well, said = build_program(folder, tests, [*words, "--test"])
+        if is_well:
+            is_well, said = run(folder, [KIT / "bin" / "rattle-test", "--seconds", "60", tests])
+    if is_well:
         stamp.write_text(now)
-    return is_proved, said
+    return is_well, said
 
 
 def build_library(folder, built, words):
@@ -75,6 +83,7 @@ def build_library(folder, built, words):
 
 
 def build_program(folder, built, words):
+    """Proves and links a program, or the tests of a crate, which are a program too."""
     toolchain, code = ["--toolchain", KIT / "toolchain"], built.with_suffix(".o")
     is_proved, said = run(folder, [KIT / "bin" / "rattle", "build", *words, *toolchain, "--backend", "llvm", "-o", code])
     if not is_proved:
