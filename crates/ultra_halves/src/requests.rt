@@ -97,12 +97,7 @@ pub(crate) fn in_turn(
 }
 
 /// Whether of two requests the second leaves the stage by port 0, and the first by port 1.
-fn is_turned(
-    net: Net,
-    stage: u32,
-    first: Option<Request>,
-    second: Option<Request>,
-) -> bool
+fn is_turned(net: Net, stage: u32, first: Option<Request>, second: Option<Request>) -> bool
     requires { stage < net }
     ensures { result ≡ is_turned net stage first second }
 {
