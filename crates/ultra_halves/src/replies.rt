@@ -33,6 +33,7 @@ fn put_reply(to_pe: &mut Ports<ToPe>, net: Net, stage: u32, reply: ReplyMessage)
 }
 
 /// A reply comes to a memory-side position of a stage: it is split by the wait buffer there, and what comes of it goes on.
+#[inline(always)]
 pub(crate) fn take_reply(
     to_mm: &mut ToMm,
     to_pe: &mut Ports<ToPe>,

@@ -30,6 +30,7 @@ fn exit(net: Net, stage: u32, request: Request) -> u32
 }
 
 /// A request comes to a queue toward memory, at this position of a stage: it combines, or it goes to the end. Its combination, if there is one.
+#[inline(always)]
 fn arrive(to_mm: &mut ToMm, stage: u32, position: u32, request: Request) -> Option<Event>
     requires { length to_mm.old.lane.queue < to_mm.old.request_places }
     ensures lane { to_mm.new ≡ lane_with to_mm.old (request ∷ []) }
@@ -53,6 +54,7 @@ fn arrive(to_mm: &mut ToMm, stage: u32, position: u32, request: Request) -> Opti
 }
 
 /// What came to a port of the switch goes to the queue by which it leaves the stage. Its combination, if there is one.
+#[inline(always)]
 pub(crate) fn take_request(
     to_mm: &mut Ports<ToMm>,
     net: Net,
@@ -95,12 +97,7 @@ pub(crate) fn in_turn(
 }
 
 /// Whether of two requests the second leaves the stage by port 0, and the first by port 1.
-pub(crate) fn is_turned(
-    net: Net,
-    stage: u32,
-    first: Option<Request>,
-    second: Option<Request>,
-) -> bool
+fn is_turned(net: Net, stage: u32, first: Option<Request>, second: Option<Request>) -> bool
     requires { stage < net }
     ensures { result ≡ is_turned net stage first second }
 {
@@ -112,13 +109,17 @@ pub(crate) fn is_turned(
     }
 }
 
-/// Two events, if they are there, in their order or turned. Where there is only one, it comes first.
+/// The combinations of two requests, if there are any, in the order of their positions. Where there is only one, it comes first.
+#[inline(always)]
 pub(crate) fn in_order(
-    turned: bool,
+    net: Net,
+    stage: u32,
+    requests: (Option<Request>, Option<Request>),
     first: Option<Event>,
     second: Option<Event>,
 ) -> Ports<Option<Event>>
-    ensures list { present (result.zero ∷ result.one ∷ []) ≡ present (in_order turned first second) }
+    requires { stage < net }
+    ensures list { present (result.zero ∷ result.one ∷ []) ≡ present (in_order (is_turned net stage requests.0 requests.1) first second) }
     ensures front { result.zero ≡ None → result.one ≡ None }
 {
     if second.is_none() {
@@ -126,7 +127,7 @@ pub(crate) fn in_order(
             zero: first,
             one: None,
         }
-    } else if first.is_none() || turned {
+    } else if first.is_none() || is_turned(net, stage, requests.0, requests.1) {
         Ports {
             zero: second,
             one: first,

@@ -5,7 +5,7 @@ ghost use Rattle.ultra_model.specs.Places.{present};
 ghost use Rattle.ultra_halves.specs.Switches.{CanTakeReplies, CanTakeRequests, after_replies, after_requests, combinations_of, has_reply_room, has_request_room, holds_replies, holds_requests, keeps_records, quiet_switch, replies_leaving, request_heads, requests_leaving, without_replies, without_requests};
 
 use crate::replies::{self, take_reply};
-use crate::requests::{self, in_order, in_turn, is_turned, take_request};
+use crate::requests::{self, in_order, in_turn, take_request};
 use ultra_msg::{Event, ReplyMessage, Request};
 use ultra_route::Net;
 use ultra_switch::{Ports, Switch};
@@ -79,8 +79,7 @@ pub fn take_requests(
     let to_mm = &mut switch.to_mm;
     let of_first = take_request(to_mm, net, stage, index, first);
     let of_second = take_request(to_mm, net, stage, index, second);
-    let turned = is_turned(net, stage, first, second);
-    in_order(turned, of_first, of_second)
+    in_order(net, stage, (first, second), of_first, of_second)
 }
 
 /// Whether a reply stands in one of the queues toward the processing elements.

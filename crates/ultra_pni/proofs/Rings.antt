@@ -1,5 +1,5 @@
 -- requests in a ring over 8 places
-use Rattle.std.proofs.Common.{◌≡◌, ◌≢◌, ℕ, zero, suc, ◌+◌, ◌-◌, ◌%◌, ◌<◌, ◌≤◌, length, List, [], ◌∷◌, ◌++◌, refl, arith, ap, get_or}
+use Rattle.std.proofs.Common.{◌≡◌, ◌≢◌, ℕ, zero, suc, ◌+◌, ◌-◌, ◌%◌, ◌<◌, length, List, [], ◌∷◌, ◌++◌, refl, arith, ap}
 use Rattle.std.specs.Prelude.{Some, drop, slice_get, slice_set, slice_index_or}
 use Rattle.std.proofs.lemmas.List.{get_or-set_same, get_or-set_other}
 use Rattle.ultra_msg.specs.declared.Request.{Request}

@@ -1,2 +1,3 @@
 pub mod Interface
 pub mod Ring
+pub mod Registers

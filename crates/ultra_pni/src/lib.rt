@@ -3,11 +3,13 @@
 
 ghost use Rattle.std.specs.Prelude.{◌≡◌, ℕ, ◌-◌, ◌<◌, ◌≤◌, ◌==◌, ◌&&◌, [], length, drop, slice_get};
 ghost use Rattle.std.specs.List.{position};
-ghost use Rattle.ultra_pni.specs.Interface.{empty_interface, is_open, goes_to, is_awaited, issue_of, after_issue, target_of, closed, IsWithin};
+ghost use Rattle.ultra_pni.specs.Interface.{empty_interface, is_open, is_awaited, issue_of, after_issue, target_of, closed, IsWithin};
 
+mod registers;
 mod ring;
 
 use arrayvec::ArrayVec;
+use registers::{Registers, awaited_by};
 use ring::RequestRing;
 use std::marker::Model;
 use ultra_msg::{Cell, Register, ReplyMessage, Request};
@@ -20,18 +22,6 @@ pub const MOST_OPEN: usize = 8;
 pub struct OpenCell {
     pub cell: Cell,
     pub target: Option<Register>,
-}
-
-impl OpenCell {
-    /// Whether the reply for this cell goes to the register.
-    fn reaches(&self, register: Register) -> bool
-        ensures { result ≡ goes_to register self.now.target }
-    {
-        match self.target {
-            Some(target) => register == target,
-            None => false,
-        }
-    }
 }
 
 /// What became of a request that a processing element would issue.
@@ -53,16 +43,19 @@ pub struct Pni {
     opened: ArrayVec<OpenCell, MOST_OPEN>,
     pending: RequestRing,
     most_open: usize,
+    // the registers to which the replies for open cells go
+    awaited: Registers,
 }
 
 impl Model for Pni {
-    ghost use Rattle.ultra_pni.specs.Interface.{SizedInterface, IsWithin};
+    ghost use Rattle.ultra_pni.specs.Interface.{SizedInterface};
+    ghost use Rattle.ultra_pni.specs.Registers.{IsKept};
 
     ghost Value = { SizedInterface };
 
     ghost view = { λ p. record { interface = record { opened = p.opened.items; pending = p.pending }; most_open = p.most_open } };
 
-    ghost invariant = { λ p. IsWithin record { opened = p.opened.items; pending = p.pending } p.most_open };
+    ghost invariant = { λ p. IsKept record { opened = p.opened.items; pending = p.pending } p.most_open p.awaited };
 }
 
 /// The place of a cell among the open ones, or `None` where it isn't open.
@@ -82,6 +75,7 @@ impl Pni {
             opened: ArrayVec::new(),
             pending: RequestRing::new(),
             most_open,
+            awaited: Registers::none(),
         }
     }
 
@@ -98,6 +92,7 @@ impl Pni {
         if self.opened.len() >= self.most_open {
             return Issue::Full;
         }
+        self.awaited = self.awaited.with(&target);
         self.opened.push(OpenCell {
             cell: request.cell,
             target,
@@ -134,7 +129,9 @@ impl Pni {
         ensures interface { self.new ≡ record self.old { interface = record self.old.interface { opened = closed reply.cell self.old.interface.opened } } }
     {
         let place = place_of(self.opened.as_slice(), reply.cell)?;
-        self.opened.remove(place).target
+        let closed = self.opened.remove(place);
+        self.awaited = awaited_by(self.opened.as_slice());
+        closed.target
     }
 
     /// Whether the cell is open: a reference to it hasn't been answered.
@@ -148,7 +145,7 @@ impl Pni {
     pub fn awaits(&self, register: Register) -> bool
         ensures { result ≡ is_awaited register self.now.interface.opened }
     {
-        self.opened.iter().any(|open| open.reaches(register))
+        self.awaited.has(register)
     }
 
     /// How many cells are open.

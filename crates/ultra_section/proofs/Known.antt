@@ -128,7 +128,7 @@ stands xs n o x within read is = get_or_default xs n None o within ∙ sym read 
 
 -- ---- a unit is changed, and noted: `o` is what was read of its entry
 module _ (d : ℕ) (old now : Sets) (ws : List (Option Switch)) (bs : List (Option Bank)) (es : List (Option ProcessingElement)) (known : UnitsAreKnown d old ws bs es) where
-  switch_was : (n : ℕ) (o : Option Switch) (w : Switch) → n < switch_count d → o ≡ get_or ws n o → o ≡ Some w → KnowsSwitch (facts_at old n) (Some w)
+  pub switch_was : (n : ℕ) (o : Option Switch) (w : Switch) → n < switch_count d → o ≡ get_or ws n o → o ≡ Some w → KnowsSwitch (facts_at old n) (Some w)
   switch_was n o w within read is =
       subst (λ x. KnowsSwitch (facts_at old n) x) (stands ws n o w (omega (arith, known.switch_entries)) read is) (known.switches n within)
 
@@ -196,11 +196,12 @@ module _ (d : ℕ) (old now : Sets) (ws : List (Option Switch)) (bs : List (Opti
       record { here = was.here; holds_replies = was.holds_replies; holds_requests = was.holds_requests ∙ sym pending; to_step = was.to_step ∙ ap (λ b. not b) (sym stopped); keeps_records = was.keeps_records }
 
 -- ---- a block whose units have changed, and not what is on its links
-pub units_changed : (d : ℕ) (old now : Sets) (ws vs : List (Option Switch)) (bs cs : List (Option Bank)) (es fs : List (Option ProcessingElement))
+pub units_changed : (d numbering : ℕ) (old now : Sets) (ws vs : List (Option Switch)) (bs cs : List (Option Bank)) (es fs : List (Option ProcessingElement))
     (for_replies : Links ReplyMessage) (for_requests : Links Request) (event_places stop_places more_event_places more_stop_places : ℕ)
-    → IsKept d old ws bs es for_replies for_requests event_places stop_places → now.here ≡ old.here → UnitsAreKnown d now vs cs fs
-    → event_places ≤ more_event_places → stop_places ≤ more_stop_places → IsKept d now vs cs fs for_replies for_requests more_event_places more_stop_places
-units_changed d old now ws vs bs cs es fs rs qs e s e' s' kept same units more_events more_stops = record {
+    → IsKept d numbering old ws bs es for_replies for_requests event_places stop_places → now.here ≡ old.here → UnitsAreKnown d now vs cs fs
+    → event_places ≤ more_event_places → stop_places ≤ more_stop_places → IsKept d numbering now vs cs fs for_replies for_requests more_event_places more_stop_places
+units_changed d numbering old now ws vs bs cs es fs rs qs e s e' s' kept same units more_events more_stops = record {
+  numbers = kept.numbers;
   units = units;
   replies = subst (λ h. RepliesAreKnown d h rs) (sym same) kept.replies;
   requests = subst (λ h. RequestsAreKnown d h qs) (sym same) kept.requests;

@@ -1,4 +1,5 @@
 pub mod Readers
+pub mod Records
 pub mod Marks
 pub mod ReplyMarks
 pub mod RequestMarks

@@ -95,11 +95,12 @@ module _ (d n : ℕ) (here now : List ℕ) (others : (k : ℕ) → k ≢ n → h
 pub others_here : (n : ℕ) (old now : Sets) → AgreeBut n old now → (k : ℕ) → k ≢ n → has_unit now.here k ≡ has_unit old.here k
 others_here n old now agree k other = ap (λ (f : UnitFacts). f.here) (agree k other)
 
-pub unit_moved : (d : ℕ) (old now : Sets) (ws vs : List (Option Switch)) (bs cs : List (Option Bank)) (es fs : List (Option ProcessingElement))
+pub unit_moved : (d numbering : ℕ) (old now : Sets) (ws vs : List (Option Switch)) (bs cs : List (Option Bank)) (es fs : List (Option ProcessingElement))
     (rl rm : Links ReplyMessage) (ql qm : Links Request) (event_places stop_places : ℕ)
-    → IsKept d old ws bs es rl ql event_places stop_places → UnitsAreKnown d now vs cs fs → RepliesAreKnown d now.here rm → RequestsAreKnown d now.here qm
-    → IsKept d now vs cs fs rm qm event_places stop_places
-unit_moved d old now ws vs bs cs es fs rl rm ql qm e s kept units replies requests = record {
+    → IsKept d numbering old ws bs es rl ql event_places stop_places → UnitsAreKnown d now vs cs fs → RepliesAreKnown d now.here rm → RequestsAreKnown d now.here qm
+    → IsKept d numbering now vs cs fs rm qm event_places stop_places
+unit_moved d numbering old now ws vs bs cs es fs rl rm ql qm e s kept units replies requests = record {
+  numbers = kept.numbers;
   units = units;
   replies = replies;
   requests = requests;
@@ -148,11 +149,12 @@ no_entry xs m n is = ap (λ ys. get_or ys n None) is
 nothing_marked : {M : Type 0} (here : List ℕ) (l : Links M) (m : ℕ) → l.table.items ≡ replicate m None → (unit link : ℕ) → IsMarked here l unit link
 nothing_marked here l m is unit link some = absurd (let e : false ≡ true = ap is_some (sym (no_entry l.table.items m link is)) ∙ some in cc)
 
-pub nothing_kept : (d : ℕ) (s : Sets) (ws : List (Option Switch)) (bs : List (Option Bank)) (es : List (Option ProcessingElement)) (rl : Links ReplyMessage) (ql : Links Request) (event_places stop_places : ℕ)
-    → ((k : ℕ) → facts_at s k ≡ no_facts) → ws ≡ replicate (switch_count d) None → bs ≡ replicate (2 ^ d) None → es ≡ replicate (2 ^ d) None
+pub nothing_kept : (d numbering : ℕ) (s : Sets) (ws : List (Option Switch)) (bs : List (Option Bank)) (es : List (Option ProcessingElement)) (rl : Links ReplyMessage) (ql : Links Request) (event_places stop_places : ℕ)
+    → numbering ≡ d → ((k : ℕ) → facts_at s k ≡ no_facts) → ws ≡ replicate (switch_count d) None → bs ≡ replicate (2 ^ d) None → es ≡ replicate (2 ^ d) None
     → rl.table.items ≡ replicate ((d + 1) * 2 ^ d) None → ql.table.items ≡ replicate ((d + 1) * 2 ^ d) None
-    → most_events ≤ event_places → most_stops ≤ stop_places → IsKept d s ws bs es rl ql event_places stop_places
-nothing_kept d s ws bs es rl ql e t none switches modules elements replies requests events stops = record {
+    → most_events ≤ event_places → most_stops ≤ stop_places → IsKept d numbering s ws bs es rl ql event_places stop_places
+nothing_kept d numbering s ws bs es rl ql e t numbers none switches modules elements replies requests events stops = record {
+  numbers = numbers;
   units = record {
     switch_entries = ap length switches ∙ length-replicate (switch_count d) None;
     module_entries = ap length modules ∙ length-replicate (2 ^ d) None;

@@ -51,7 +51,8 @@ most_events = 2560
 abbrev pub most_stops : ℕ
 most_stops = 320
 
-pub record IsKept (d : ℕ) (s : Sets) (ws : List (Option Switch)) (bs : List (Option Bank)) (es : List (Option ProcessingElement)) (for_replies : Links ReplyMessage) (for_requests : Links Request) (event_places stop_places : ℕ) : Type 0 where
+pub record IsKept (d numbering : ℕ) (s : Sets) (ws : List (Option Switch)) (bs : List (Option Bank)) (es : List (Option ProcessingElement)) (for_replies : Links ReplyMessage) (for_requests : Links Request) (event_places stop_places : ℕ) : Type 0 where
+  pub numbers : numbering ≡ d
   pub units : UnitsAreKnown d s ws bs es
   pub replies : RepliesAreKnown d s.here for_replies
   pub requests : RequestsAreKnown d s.here for_requests

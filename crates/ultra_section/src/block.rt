@@ -4,6 +4,7 @@ ghost use Rattle.std.specs.Prelude.{◌≡◌, ℕ, ◌<◌, ◌≤◌, ◌++◌
 
 use crate::links::Links;
 use crate::sets::Sets;
+use crate::unit::Numbering;
 use std::marker::Model;
 use ultra_halves::ProcessingElement;
 use ultra_mem::Module;
@@ -18,6 +19,8 @@ use ultra_switch::Switch;
 #[derive(Drop)]
 pub struct Block {
     pub(crate) net: Net,
+    /// Where the numbers of each kind of unit begin.
+    pub(crate) numbering: Numbering,
     pub(crate) done: u32,
     /// By the number of the switch, each that stands here.
     pub(crate) switches: Vec<Option<Switch>>,
@@ -52,7 +55,7 @@ impl Model for Block {
       stops = b.stops.items;
     } };
 
-    ghost invariant = { λ b. IsKept b.net b.sets b.switches.items b.modules.items b.elements.items b.replies b.requests (vec_capacity b.events) (vec_capacity b.stops) };
+    ghost invariant = { λ b. IsKept b.net b.numbering b.sets b.switches.items b.modules.items b.elements.items b.replies b.requests (vec_capacity b.events) (vec_capacity b.stops) };
 }
 
 /// Puts an entry at the end of a list that has memory for it.

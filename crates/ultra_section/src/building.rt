@@ -10,7 +10,7 @@ ghost use Rattle.ultra_section.specs.Marks.{HasAllLinks};
 use crate::block::Block;
 use crate::links::Links;
 use crate::sets::Sets;
-use crate::unit::{Unit, unit_of};
+use crate::unit::{Numbering, Unit};
 use std::alloc::{AllocError, Global};
 use std::mem::swap;
 use ultra_halves::ProcessingElement;
@@ -57,6 +57,7 @@ impl Block {
         let links = (net.stages() as usize + 1) * size;
         Ok(Block {
             net,
+            numbering: Numbering::of(net),
             done: 0,
             switches: no_entries(alloc, switch_count(net))?,
             modules: no_entries(alloc, size)?,
@@ -87,7 +88,7 @@ impl Block {
         self.sets.stand(number);
         self.sets.note_replies(number, &switch);
         self.sets.note_requests(number, &switch);
-        self.sets.note_records(number, &switch);
+        self.sets.note_records(number, &switch, true);
         self.replies.renew(number, true);
         self.requests.renew(number, true);
         self.switches[number] = Some(switch);
@@ -196,7 +197,7 @@ impl Block {
         ensures left { self.new ≡ without_unit number self.old }
         ensures there { to.new ≡ with_unit number self.old to.old }
     {
-        match unit_of(self.net, number) {
+        match self.unit(number) {
             Unit::Switch { .. } => self.move_switch(number, to),
             Unit::Module(module) => self.move_module(module, to),
             Unit::Element(pe) => self.move_element(pe, to),

@@ -7,7 +7,7 @@ ghost use Rattle.ultra_section.specs.Execution.{CanExecuteAt, ElementCanExecute,
 ghost use Rattle.ultra_section.specs.Units.{IsElement};
 
 use crate::block::{Block, tell};
-use crate::unit::{Unit, unit_of};
+use crate::unit::Unit;
 use ultra_halves::Outcome;
 use ultra_isa::Program;
 use ultra_units::{UnitSet, Visit, visit_all};
@@ -64,7 +64,7 @@ impl Visit<Block> for Execute<'_> {
 
     #[inline(always)]
     fn visit(&self, block: &mut Block, unit: usize) {
-        match unit_of(block.net, unit) {
+        match block.unit(unit) {
             Unit::Element(pe) => block.execute_element(self.program, unit, pe),
             Unit::Switch { .. } | Unit::Module(_) | Unit::Nothing => {}
         }

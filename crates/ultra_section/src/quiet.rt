@@ -8,7 +8,7 @@ ghost use Rattle.ultra_halves.specs.Switches.{quiet_switch};
 ghost use Rattle.ultra_section.specs.Quiet.{or_elsewhere, quiet_block};
 
 use crate::block::Block;
-use crate::unit::{Unit, unit_of};
+use crate::unit::Unit;
 use ultra_halves::{ProcessingElement, modules, switches};
 use ultra_mem::Module;
 use ultra_switch::Switch;
@@ -71,7 +71,7 @@ impl Block {
         ensures { result ≡ true → quiet_block self.now ≡ false }
     {
         match self.sets.to_step.next(0) {
-            Some(number) => matches!(unit_of(self.net, number), Unit::Element(_)),
+            Some(number) => matches!(self.unit(number), Unit::Element(_)),
             None => false,
         }
     }

@@ -8,7 +8,7 @@ ghost use Rattle.ultra_section.specs.Units.{IsModule, IsSwitch};
 use crate::block::Block;
 use crate::replies::{leave_module, leave_stage};
 use crate::rooms::Rooms;
-use crate::unit::{Unit, unit_of};
+use crate::unit::Unit;
 use ultra_halves::{modules, switches};
 use ultra_route::Net;
 use ultra_switch::Ports;
@@ -97,7 +97,7 @@ impl Visit<Block> for SendReplies<'_> {
 
     #[inline(always)]
     fn visit(&self, block: &mut Block, unit: usize) {
-        match unit_of(block.net, unit) {
+        match block.unit(unit) {
             Unit::Switch { stage, index } => {
                 block.send_replies_of_switch(self.closed, unit, stage, index);
             }

@@ -9,7 +9,7 @@ ghost use Rattle.ultra_section.specs.Units.{IsElement, IsSwitch};
 use crate::block::Block;
 use crate::requests::{leave_element, leave_stage};
 use crate::rooms::Rooms;
-use crate::unit::{Unit, unit_of};
+use crate::unit::Unit;
 use ultra_halves::switches;
 use ultra_msg::Request;
 use ultra_route::Net;
@@ -177,7 +177,7 @@ impl Visit<Block> for SendRequests<'_> {
 
     #[inline(always)]
     fn visit(&self, block: &mut Block, unit: usize) {
-        match unit_of(block.net, unit) {
+        match block.unit(unit) {
             Unit::Switch { stage, index } => {
                 block.send_requests_of_switch(self.closed, unit, stage, index);
             }

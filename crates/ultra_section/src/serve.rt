@@ -7,7 +7,7 @@ ghost use Rattle.ultra_section.specs.Serving.{module_serves, serves};
 ghost use Rattle.ultra_section.specs.Units.{IsModule};
 
 use crate::block::{Block, tell};
-use crate::unit::{Unit, unit_of};
+use crate::unit::Unit;
 use ultra_msg::Event;
 use ultra_units::{UnitSet, Visit, visit_all};
 
@@ -54,7 +54,7 @@ impl Visit<Block> for Serve {
 
     #[inline(always)]
     fn visit(&self, block: &mut Block, unit: usize) {
-        match unit_of(block.net, unit) {
+        match block.unit(unit) {
             Unit::Module(number) => block.serve_module(unit, number),
             Unit::Switch { .. } | Unit::Element(_) | Unit::Nothing => {}
         }

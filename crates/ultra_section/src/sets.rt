@@ -1,6 +1,6 @@
 //! What is known of the units that stand in a block, as sets of their numbers.
 
-ghost use Rattle.std.specs.Prelude.{◌≡◌, ◌≢◌, ℕ, ◌<◌, true, not, is_some};
+ghost use Rattle.std.specs.Prelude.{◌≡◌, ◌≢◌, ℕ, ◌<◌, true, false, not, is_some};
 ghost use Rattle.ultra_isa.specs.Step.{has_stopped};
 ghost use Rattle.ultra_halves.specs.Elements.{holds_request};
 ghost use Rattle.ultra_halves.specs.Switches.{has_reply_room, has_request_room, holds_replies, holds_requests, keeps_records};
@@ -121,16 +121,19 @@ impl Sets {
         self.no_request_room.one.note(number, !room.one);
     }
 
-    /// Notes whether a switch that stands here keeps records.
+    /// Notes whether a switch that stands here keeps records. Unless it `may_differ`, that is noted already.
     #[inline(always)]
-    pub(crate) fn note_records(&mut self, number: usize, switch: &Switch)
-        requires { number < 320 }
+    pub(crate) fn note_records(&mut self, number: usize, switch: &Switch, may_differ: bool)
+        requires small { number < 320 }
+        requires noted { may_differ ≡ false → (facts_at self.old number).keeps_records ≡ keeps_records switch.now }
         ensures there { facts_at self.new number ≡ record (facts_at self.old number) { keeps_records = keeps_records switch.now } }
         ensures others { (k : ℕ) → k ≢ number → facts_at self.new k ≡ facts_at self.old k }
         ensures here { self.new.here ≡ self.old.here }
     {
-        self.keeps_records
-            .note(number, switches::keeps_records(switch));
+        if may_differ {
+            self.keeps_records
+                .note(number, switches::keeps_records(switch));
+        }
     }
 
     /// Notes what is true of a module that stands here.

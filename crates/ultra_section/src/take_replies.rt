@@ -8,7 +8,7 @@ ghost use Rattle.ultra_section.specs.Units.{IsElement, IsSwitch};
 
 use crate::block::{Block, tell};
 use crate::replies::{take_at_element, take_at_switch};
-use crate::unit::{Unit, unit_of};
+use crate::unit::Unit;
 use ultra_halves::switches;
 use ultra_msg::Event;
 use ultra_units::{UnitSet, Visit, visit_all};
@@ -28,7 +28,8 @@ impl Block {
         let came = take_at_switch(&mut self.replies, net, number, stage, index);
         switches::take_replies(switch, net, stage, came);
         self.sets.note_replies(number, switch);
-        self.sets.note_records(number, switch);
+        let kept_records = self.sets.keeps_records.has(number);
+        self.sets.note_records(number, switch, kept_records);
     }
 
     /// What comes to a processing element is delivered.
@@ -67,7 +68,7 @@ impl Visit<Block> for TakeReplies {
 
     #[inline(always)]
     fn visit(&self, block: &mut Block, unit: usize) {
-        match unit_of(block.net, unit) {
+        match block.unit(unit) {
             Unit::Switch { stage, index } => block.take_replies_of_switch(unit, stage, index),
             Unit::Element(pe) => block.take_reply_of_element(unit, pe),
             Unit::Module(_) | Unit::Nothing => {}

@@ -9,7 +9,7 @@ ghost use Rattle.ultra_section.specs.Units.{IsModule, IsSwitch};
 
 use crate::block::{Block, tell};
 use crate::requests::{take_at_module, take_at_switch};
-use crate::unit::{Unit, unit_of};
+use crate::unit::Unit;
 use ultra_halves::{modules, switches};
 use ultra_msg::Event;
 use ultra_switch::Ports;
@@ -50,7 +50,8 @@ impl Block {
         let came = take_at_switch(&mut self.requests, net, number, stage, index);
         let combined = switches::take_requests(switch, net, stage, index, cycle, came);
         self.sets.note_requests(number, switch);
-        self.sets.note_records(number, switch);
+        let has_combined = combined.zero.is_some();
+        self.sets.note_records(number, switch, has_combined);
         tell_both(&mut self.events, combined);
     }
 
@@ -89,7 +90,7 @@ impl Visit<Block> for TakeRequests {
 
     #[inline(always)]
     fn visit(&self, block: &mut Block, unit: usize) {
-        match unit_of(block.net, unit) {
+        match block.unit(unit) {
             Unit::Switch { stage, index } => block.take_requests_of_switch(unit, stage, index),
             Unit::Module(number) => block.take_request_of_module(unit, number),
             Unit::Element(_) | Unit::Nothing => {}

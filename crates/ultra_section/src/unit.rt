@@ -3,6 +3,8 @@
 ghost use Rattle.std.specs.Prelude.{◌≡◌, ℕ};
 ghost use Rattle.ultra_section.specs.Units.{IsUnit, unit_of};
 
+use crate::block::Block;
+use std::marker::Model;
 use ultra_route::Net;
 use ultra_units::switch_count;
 
@@ -19,26 +21,83 @@ pub(crate) enum Unit {
     Nothing,
 }
 
-/// The unit with this number.
+/// Where the numbers of each kind of unit begin: switches come first, then modules, then processing elements.
+#[derive(Drop)]
+pub(crate) struct Numbering {
+    net: Net,
+    /// The number of the first module.
+    modules: usize,
+    /// The number of the first processing element.
+    elements: usize,
+    /// How many units there are.
+    units: usize,
+}
+
+impl Model for Numbering {
+    ghost use Rattle.std.specs.Prelude.{ℕ};
+    ghost use Rattle.ultra_section.specs.Units.{IsNumbering};
+
+    ghost Value = { ℕ };
+
+    ghost view = { λ n. n.net };
+
+    ghost invariant = { λ n. IsNumbering n.net n.modules n.elements n.units };
+}
+
+impl Numbering {
+    /// That of a machine with this network.
+    pub(crate) fn of(net: Net) -> Numbering
+        ensures { result ≡ net }
+    {
+        let modules = switch_count(net);
+        let size = net.size() as usize;
+        Numbering {
+            net,
+            modules,
+            elements: modules + size,
+            units: modules + 2 * size,
+        }
+    }
+
+    /// The unit with this number.
+    #[inline(always)]
+    pub(crate) fn unit(&self, number: usize) -> Unit
+        ensures value { result ≡ unit_of self.now number }
+        ensures is { IsUnit self.now number result }
+    {
+        let _size = self.net.size();
+        if number < self.modules {
+            let high = self.net.stages() - 1;
+            Unit::Switch {
+                stage: (number >> high) as u32,
+                index: (number % (1 << high)) as u32,
+            }
+        } else if number < self.elements {
+            Unit::Module((number - self.modules) as u32)
+        } else if number < self.units {
+            Unit::Element((number - self.elements) as u32)
+        } else {
+            Unit::Nothing
+        }
+    }
+}
+
+/// The unit with this number in a machine with this network.
 #[inline(always)]
 pub(crate) fn unit_of(net: Net, number: usize) -> Unit
     ensures value { result ≡ unit_of net number }
     ensures is { IsUnit net number result }
 {
-    let switches = switch_count(net);
-    let size = net.size() as usize;
-    if number < switches {
-        let stage = number >> (net.stages() - 1);
-        let index = number - stage * (size / 2);
-        Unit::Switch {
-            stage: stage as u32,
-            index: index as u32,
-        }
-    } else if number < switches + size {
-        Unit::Module((number - switches) as u32)
-    } else if number < switches + 2 * size {
-        Unit::Element((number - switches - size) as u32)
-    } else {
-        Unit::Nothing
+    Numbering::of(net).unit(number)
+}
+
+impl Block {
+    /// The unit with this number, wherever it stands.
+    #[inline(always)]
+    pub(crate) fn unit(&self, number: usize) -> Unit
+        ensures value { result ≡ unit_of self.now.stages number }
+        ensures is { IsUnit self.now.stages number result }
+    {
+        self.numbering.unit(number)
     }
 }

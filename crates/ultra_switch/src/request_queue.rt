@@ -116,6 +116,7 @@ impl ToMm {
     }
 
     /// A request arrives. It combines with the frontmost entry for its cell that hasn't combined in this queue, where there is one and the wait buffer has a free place; otherwise it goes to the end of the queue. The record of a combination goes behind those that are there.
+    #[inline(always)]
     pub fn arrive(&mut self, request: Request) -> Arrived
         requires { length self.old.lane.queue < self.old.request_places }
         ensures outcome { result ≡ arrival self.old.wait_places self.old.lane request }
@@ -143,6 +144,7 @@ impl ToMm {
     }
 
     /// A reply comes back. Where the wait buffer has a record of its processing element and cell, the oldest such record goes, and the replies to the two requests of that pair are made by it; otherwise the reply goes on itself.
+    #[inline(always)]
     pub fn split(&mut self, reply: ReplyMessage) -> Split
         ensures replies { replies_in result ≡ replies_of reply self.old.lane.records }
         ensures records { self.new ≡ record self.old { lane = record self.old.lane { records = records_after reply self.old.lane.records } } }

@@ -13,7 +13,7 @@ invariant_of-self c =
     let within : c.args.number < switch_count inside.net = subst (λ (b : BlockState). c.args.number < switch_count b.stages) (sym c.self.view_is) c.requires in
     let now = c.note_records.new.self in
     let agree : AgreeBut c.args.number inside.sets now = λ k other. c.note_records.ensures.others k other ∙ c.note_requests.ensures.others k other ∙ c.note_replies.ensures.others k other ∙ c.stand.ensures.others k other in
-    unit_moved inside.net inside.sets now inside.switches.items _ inside.modules.items _ inside.elements.items _ inside.replies c.renew.new.self inside.requests c.renew-2.new.self _ _
+    unit_moved inside.net inside.numbering inside.sets now inside.switches.items _ inside.modules.items _ inside.elements.items _ inside.replies c.renew.new.self inside.requests c.renew-2.new.self _ _
     known
     (switch_known inside.net inside.sets now inside.switches.items inside.modules.items inside.elements.items known.units c.args.number (Some c.args.switch) within agree
     (switch_put (facts_at inside.sets c.args.number) (facts_at c.stand.new.self c.args.number) (facts_at c.note_replies.new.self c.args.number) (facts_at c.note_requests.new.self c.args.number) (facts_at now c.args.number) c.args.switch c.stand.ensures.there c.note_replies.ensures.there c.note_requests.ensures.there c.note_records.ensures.there))

@@ -21,4 +21,5 @@ invariant_of-self-2 c =
       requests = subst (λ h. RequestsAreKnown inside.net h inside.requests) (sym c.note_replies.ensures.here) known.requests;
       events_fit = known.events_fit;
       stops_fit = known.stops_fit;
+      numbers = known.numbers;
     }

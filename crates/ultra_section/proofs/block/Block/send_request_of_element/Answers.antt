@@ -19,4 +19,5 @@ invariant_of-self-2 c =
       requests = c.leave_element.ensures.known;
       events_fit = known.events_fit;
       stops_fit = known.stops_fit;
+      numbers = known.numbers;
     }

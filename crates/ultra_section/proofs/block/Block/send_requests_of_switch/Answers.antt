@@ -21,4 +21,5 @@ invariant_of-self-2 c =
       requests = c.leave_stage-2.ensures.known;
       events_fit = known.events_fit;
       stops_fit = known.stops_fit;
+      numbers = known.numbers;
     }

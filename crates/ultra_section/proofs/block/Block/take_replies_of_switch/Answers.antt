@@ -1,10 +1,12 @@
 use Rattle.std.proofs.Common.{◌∙◌, sym, ap, subst, arith}
-use Rattle.ultra_halves.specs.Switches.{has_request_room, holds_requests, CanTakeReplies}
+use Rattle.ultra_halves.specs.Switches.{has_request_room, holds_requests, keeps_records, CanTakeReplies}
 use Rattle.ultra_section.specs.BlockState.{BlockState}
 use Rattle.ultra_section.specs.Marks.{RepliesAreKnown, RequestsAreKnown}
 use Rattle.ultra_section.specs.RepliesTaken.{SwitchCanTakeReplies}
 use Rattle.ultra_section.specs.Units.{IsSwitch}
-use Rattle.ultra_section.proofs.Known.{switch_replies_taken, stands}
+use Rattle.ultra_section.specs.Sets.{UnitFacts}
+use Rattle.ultra_section.proofs.Known.{switch_replies_taken, switch_was, stands}
+use Rattle.ultra_section.proofs.Records.{keeps_none}
 use Rattle.ultra_section.proofs.block.Block.take_replies_of_switch.Goals as goal
 
 pub take_replies-requires-clause-room : goal.take_replies-requires-clause-room
@@ -14,6 +16,15 @@ take_replies-requires-clause-room c =
     let can = subst (λ (b : BlockState). SwitchCanTakeReplies c.args.number c.args.stage c.args.index b) (sym c.self.view_is) c.requires.room in
     subst (λ came. CanTakeReplies c.in-Some.switch came) (sym c.take_at_switch-came.ensures.came)
     (can c.in-Some.switch (stands inside.switches.items c.args.number c.index_mut.result.now c.in-Some.switch (omega (arith, c.self.invariant.units.switch_entries, is.within)) c.index_mut.ensures.value c.in-Some.is))
+
+pub note_records-requires-clause-noted : goal.note_records-requires-clause-noted
+note_records-requires-clause-noted c none =
+    let inside = c.self.inside in
+    let is : IsSwitch inside.net c.args.number c.args.stage c.args.index = subst (λ (b : BlockState). IsSwitch b.stages c.args.number c.args.stage c.args.index) (sym c.self.view_is) c.requires.is in
+    let was = switch_was inside.net inside.sets inside.sets inside.switches.items inside.modules.items inside.elements.items c.self.invariant.units c.args.number c.index_mut.result.now c.in-Some.switch is.within c.index_mut.ensures.value c.in-Some.is in
+    let same = ap (λ (f : UnitFacts). f.keeps_records) c.note_replies.ensures.there in
+    let kept = sym c.has-kept_records.ensures ∙ none in
+    kept ∙ sym (ap keeps_records c.take_replies.ensures ∙ keeps_none inside.net c.args.stage c.in-Some.switch c.take_at_switch-came.result (sym was.keeps_records ∙ sym same ∙ kept))
 
 pub invariant_of-self-2 : goal.invariant_of-self-2
 invariant_of-self-2 c =
@@ -29,4 +40,5 @@ invariant_of-self-2 c =
       requests = subst (λ h. RequestsAreKnown inside.net h inside.requests) (sym (c.note_records.ensures.here ∙ c.note_replies.ensures.here)) known.requests;
       events_fit = known.events_fit;
       stops_fit = known.stops_fit;
+      numbers = known.numbers;
     }

@@ -30,6 +30,7 @@ invariant_of-self-in-Some-came c =
       requests = known.requests;
       events_fit = let more = c.tell.ensures.places in omega (arith, known.events_fit);
       stops_fit = known.stops_fit;
+      numbers = known.numbers;
     }
 
 pub invariant_of-self-in_default-came : goal.invariant_of-self-in_default-came
@@ -45,4 +46,5 @@ invariant_of-self-in_default-came c =
       requests = known.requests;
       events_fit = known.events_fit;
       stops_fit = known.stops_fit;
+      numbers = known.numbers;
     }

@@ -15,6 +15,6 @@ returns-in-Switch-clause-later c =
 
 pub returns-in-Element-clause-later : goal.returns-in-Element-clause-later
 returns-in-Element-clause-later c =
-    let is : IsElement c.args.block.now.stages c.args.unit c.in-Element.pe = subst (λ (b : BlockState). IsElement b.stages c.args.unit c.in-Element.pe) c.block.view_is c.in-Element.ensures.is in
+    let is : IsElement c.args.block.now.stages c.args.unit c.in-Element.pe = c.in-Element.ensures.is in
     λ k order can.
     subst (λ b. CanTakeRepliesAt k b) (sym c.take_reply_of_element.ensures) (later_element c.args.block.now k c.args.unit c.in-Element.pe order is c.requires.can.room can)

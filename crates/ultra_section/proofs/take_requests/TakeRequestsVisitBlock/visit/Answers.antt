@@ -16,6 +16,6 @@ returns-in-Switch-clause-later c =
 
 pub returns-in-Module-clause-later : goal.returns-in-Module-clause-later
 returns-in-Module-clause-later c =
-    let is : IsModule c.args.block.now.stages c.args.unit c.in-Module.number = subst (λ (b : BlockState). IsModule b.stages c.args.unit c.in-Module.number) c.block.view_is c.in-Module.ensures.is in
+    let is : IsModule c.args.block.now.stages c.args.unit c.in-Module.number = c.in-Module.ensures.is in
     λ k order can.
     subst (λ b. CanTakeRequestsAt k b) (sym c.take_request_of_module.ensures) (later_module c.args.block.now k c.args.unit c.in-Module.number order is can)

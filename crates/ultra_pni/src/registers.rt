@@ -1,0 +1,75 @@
+//! Sets of registers.
+
+ghost use Rattle.std.specs.Prelude.{◌≡◌, ℕ, ◌<◌, ◌==◌, ◌||◌, false};
+ghost use Rattle.ultra_pni.specs.Interface.{goes_to, is_awaited};
+ghost use Rattle.ultra_pni.specs.Registers.{has_register};
+
+use crate::OpenCell;
+use std::marker::Model;
+use ultra_msg::Register;
+
+/// Some of the registers of a processing element: bit r of the word says whether register r is one of them.
+#[derive(Clone, Copy, Drop)]
+pub(crate) struct Registers {
+    word: u32,
+}
+
+impl Model for Registers {
+    ghost use Rattle.std.specs.Prelude.{ℕ, ◌^◌, ◌<◌};
+
+    ghost Value = { ℕ };
+
+    ghost view = { λ s. s.word };
+
+    ghost invariant = { λ s. s.word < 2 ^ 32 };
+
+    ghost inverse = { λ word. record { word = word } };
+}
+
+impl Registers {
+    /// None of them.
+    pub(crate) fn none() -> Registers
+        ensures { (r : ℕ) → has_register result r ≡ false }
+    {
+        Registers { word: 0 }
+    }
+
+    /// Whether the register is one of them.
+    #[inline(always)]
+    pub(crate) fn has(self, register: Register) -> bool
+        ensures { result ≡ has_register self register }
+    {
+        (self.word >> register.index()) % 2 == 1
+    }
+
+    /// These, and the register `target`, if there is one.
+    pub(crate) fn with(self, target: &Option<Register>) -> Registers
+        ensures { (r : ℕ) → has_register result r ≡ has_register self r || goes_to r target.now }
+    {
+        match *target {
+            Some(register) => self.and(register.index()),
+            None => self,
+        }
+    }
+
+    /// These, and the register of this number.
+    fn and(self, number: usize) -> Registers
+        requires { number < 32 }
+        ensures { (r : ℕ) → has_register result r ≡ has_register self r || (r == number) }
+    {
+        Registers {
+            word: self.word | (1 << number),
+        }
+    }
+}
+
+/// The registers to which the replies for open cells go.
+pub(crate) fn awaited_by(opened: &[OpenCell]) -> Registers
+    ensures { (r : ℕ) → has_register result r ≡ is_awaited r opened.now }
+{
+    let mut awaited = Registers::none();
+    for open in opened {
+        awaited = awaited.with(&open.target);
+    }
+    awaited
+}
