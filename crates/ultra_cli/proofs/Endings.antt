@@ -11,7 +11,7 @@ use Rattle.ultra_inputs.specs.declared.failure.Failure.TheVariants.{Usage, NotWo
 use Rattle.ultra_inputs.specs.Failure.{status_of, read_failures, write_failures}
 use Rattle.ultra_inputs.specs.Traffic.{Traffic, IsStopped, TextFails, refused, stopped}
 use Rattle.run_command.specs.Stops.{IsStoppedBy}
-use Rattle.explain_command.specs.Explanation.{IsCutShort}
+use Rattle.explain_command.specs.Explanation.{explanation_of, EndsFull, IsCutShort}
 use Rattle.lib_command.specs.Coordination as lib
 use Rattle.lib_command.specs.Coordination.{LibFails}
 use Rattle.ultra_command_line.specs.declared.Coordination.{Coordination}
@@ -19,7 +19,7 @@ use Rattle.ultra_command_line.specs.declared.Parsed.{Parsed}
 use Rattle.sweep_command.specs.Shown.{Told}
 use Rattle.sweep_command.specs.Sweep as sweep
 use Rattle.sweep_command.specs.Sweep.{Swept, SweepFails, HasFailed, JobsFail}
-use Rattle.ultra_cli.specs.Outcome.{IsStatus, IsRefusal, status_failures, ListFails, unread_text, refused_text, unwritten, Obeyed, NotObeyed, HasReported, HasEnded}
+use Rattle.ultra_cli.specs.Outcome.{IsStatus, IsRefusal, status_failures, ListFails, unread_text, refused_text, unwritten, ExplainFails, Obeyed, NotObeyed, HasReported, HasEnded}
 
 two : IsStatus 2
 two = inr (inl refl)
@@ -95,8 +95,16 @@ module _ (conf prog : List ℕ) (old new : Traffic) (f : Failure) (text : Settin
   pub run_refused : (workers : ℕ) → TextFails text (IsStoppedBy workers) conf prog old new f → IsRefusal (status_of f) → new.written ≡ old.written
   run_refused workers = text_refused (IsStoppedBy workers) (is_stopped_by workers f)
 
-  pub explain_refused : TextFails text IsCutShort conf prog old new f → IsRefusal (status_of f) → new.written ≡ old.written
-  explain_refused = text_refused IsCutShort (is_cut_short f)
+  cut_short_refused : TextFails text IsCutShort conf prog old new f → IsRefusal (status_of f) → new.written ≡ old.written
+  cut_short_refused = text_refused IsCutShort (is_cut_short f)
+
+pub explain_refused : (conf prog : List ℕ) (old new : Traffic) (f : Failure) → ExplainFails conf prog old new f → IsRefusal (status_of f) → new.written ≡ old.written
+explain_refused conf prog old new f why = cut_short_refused conf prog old new f explanation_of why.fails
+
+-- what the command explain says of its failure, as one fact
+pub explain_failed : {T : Type 0} (conf prog : List ℕ) (old new : Traffic) (r : Result T Failure) → IfErr r (TextFails explanation_of IsCutShort conf prog old new) → IfErr r (λ f. f ≡ HeapFull → EndsFull conf prog old new) → IfErr r (ExplainFails conf prog old new)
+explain_failed conf prog old new (Ok x) fails full = fails
+explain_failed conf prog old new (Err f) fails full = record { fails = fails; full = full }
 
 pub list_refused : (prog : List ℕ) (old new : Traffic) (f : Failure) → ListFails prog old new f → IsRefusal (status_of f) → new.written ≡ old.written
 list_refused prog old new f (unread_text why same) r = ap (λ t. t.written) same

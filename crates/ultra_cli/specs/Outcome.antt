@@ -7,7 +7,7 @@ use Rattle.ultra_command_line.specs.declared.Command.TheVariants.{Run, Order, Ex
 use Rattle.ultra_command_line.specs.declared.Parsed.{Parsed}
 use Rattle.ultra_command_line.specs.declared.Parsed.TheVariants as parsed
 use Rattle.ultra_inputs.specs.declared.failure.Failure.{Failure}
-use Rattle.ultra_inputs.specs.declared.failure.Failure.TheVariants.{Usage, NoMemory, NotWritten}
+use Rattle.ultra_inputs.specs.declared.failure.Failure.TheVariants.{Usage, NoMemory, HeapFull, NotWritten}
 use Rattle.ultra_inputs.specs.Inputs.{IsProgramOf, IsUnread, ExplainsProgram}
 use Rattle.ultra_inputs.specs.Traffic.{Traffic, with_files, IsStopped, WroteText, TextFails}
 use Rattle.ultra_inputs.specs.Failure.{status_of, read_failures}
@@ -15,7 +15,7 @@ use Rattle.ultra_io.specs.Account.{SinkTold}
 use Rattle.ultra_io.specs.Source.{file_of}
 use Rattle.run_command.specs.Stops.{IsStoppedBy}
 use Rattle.order_command.specs.Order.{order_of}
-use Rattle.explain_command.specs.Explanation.{explanation_of, IsCutShort}
+use Rattle.explain_command.specs.Explanation.{explanation_of, EndsFull, IsCutShort}
 use Rattle.lib_command.specs.Coordination.{WroteProgram, LibFails}
 use Rattle.sweep_command.specs.Shown.{Told}
 use Rattle.sweep_command.specs.Sweep.{Swept, SweepFails}
@@ -47,6 +47,11 @@ pub data ListFails (prog : List ℕ) (old new : Traffic) (f : Failure) : Type 0 
   refused_text : (text : List ℕ) → ExplainsProgram prog text f → new ≡ with_files old (file_of prog text ∷ []) → ListFails prog old new f
   unwritten : (text : List ℕ) (p : List Instr) → IsProgramOf text p → f ≡ NotWritten → new.files ≡ old.files ++ file_of prog text ∷ [] → TakesPrefix (listing_text p) old.written new.written → ListFails prog old new f
 
+-- how an explanation fails: where the heap is full, the lines before a combination are written
+pub record ExplainFails (conf prog : List ℕ) (old new : Traffic) (f : Failure) : Type 0 where
+  pub fails : TextFails explanation_of IsCutShort conf prog old new f
+  pub full : f ≡ HeapFull → EndsFull conf prog old new
+
 -- help or the version was written
 abbrev pub WroteAnswer : List ℕ → Traffic → Traffic → Type 0
 WroteAnswer text old new = new ≡ record old { written = old.written ++ text }
@@ -73,7 +78,7 @@ Obeyed parsed.NoMemory old new before after = ⊥
 abbrev pub NotObeyed : Parsed → Traffic → Traffic → SinkTold → SinkTold → Failure → Type 0
 NotObeyed (parsed.Command (Run conf prog workers)) old new before after f = TextFails trace (IsStoppedBy workers.count) conf.now prog.now old new f × (after ≡ before)
 NotObeyed (parsed.Command (Order conf prog)) old new before after f = TextFails order_of IsStopped conf.now prog.now old new f × (after ≡ before)
-NotObeyed (parsed.Command (Explain conf prog heap)) old new before after f = TextFails explanation_of IsCutShort conf.now prog.now old new f × (after ≡ before)
+NotObeyed (parsed.Command (Explain conf prog heap)) old new before after f = ExplainFails conf.now prog.now old new f × (after ≡ before)
 NotObeyed (parsed.Command (ListOf prog)) old new before after f = ListFails prog.now old new f × (after ≡ before)
 NotObeyed (parsed.Command (Sweep jobs workers at_once progress)) old new before after f = SweepFails jobs.now progress old new before after f
 NotObeyed (parsed.Command (Lib coordination)) old new before after f = (new.files ≡ old.files) × LibFails coordination old.written new.written f × (after ≡ before)

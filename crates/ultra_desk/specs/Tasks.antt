@@ -1,6 +1,6 @@
 -- the tasks of the workers, and their results
-use Rattle.std.specs.Prelude.{◌≡◌, ℕ, ◌+◌, ◌%◌, ◌==◌, ◌<◌}
-use Rattle.std.specs.Prelude.{List, [], ◌∷◌, Bool, Vec, filter, length, slice_index_or}
+use Rattle.std.specs.Prelude.{◌≡◌, ℕ, ◌+◌, ◌%◌, ◌==◌, ◌<◌, ◌≤◌}
+use Rattle.std.specs.Prelude.{List, [], ◌∷◌, Bool, Vec, filter, length, slice_index_or, vec_capacity}
 use Rattle.std.specs.Global.{Global}
 use Rattle.ultra_isa.specs.declared.Instr.{Instr}
 use Rattle.ultra_section.specs.BlockState.{BlockState}
@@ -33,6 +33,10 @@ AreTeams workers teams bs =
 pub record AreEmptyTeams (workers : ℕ) (teams : List (Vec Task Global)) : Type 0 where
   pub count : length teams ≡ workers
   pub tasks : AreTeams workers teams []
+
+-- a team holds n tasks without more memory
+abbrev pub HasRoom : ℕ → Vec Task Global → Type 0
+HasRoom n team = n ≤ vec_capacity team
 
 -- a task that is done keeps its number
 abbrev pub task_made : Half → Rooms → List Instr → Task → Task

@@ -1,8 +1,8 @@
 //! Blocks are dealt to the teams of the workers, and taken out of them again.
 
-ghost use Rattle.std.specs.Prelude.{◌≡◌, ℕ, ◌<◌, ◌≤◌, List, [], length, slice_index_or, IfOk, OnOk};
+ghost use Rattle.std.specs.Prelude.{◌≡◌, ℕ, ◌<◌, ◌≤◌, List, [], length, slice_index_or, All, IfOk, OnOk};
 ghost use Rattle.ultra_section.specs.BlockState.{BlockState};
-ghost use Rattle.ultra_desk.specs.Tasks.{AreEmptyTeams, AreTeams};
+ghost use Rattle.ultra_desk.specs.Tasks.{AreEmptyTeams, AreTeams, HasRoom};
 
 use crate::task::Task;
 use std::alloc::{AllocError, Global};
@@ -10,7 +10,8 @@ use ultra_section::Block;
 
 /// As many teams as there are workers, all empty, each with room for n tasks. An error says that memory was refused.
 pub fn empty_teams(alloc: Global, workers: usize, room: usize) -> Result<Vec<Vec<Task>>, AllocError>
-    ensures { IfOk result (λ v. AreEmptyTeams workers v.items) }
+    ensures empty { IfOk result (λ v. AreEmptyTeams workers v.items) }
+    ensures room { IfOk result (λ v. All (HasRoom room) v.items) }
 {
     let mut teams = Vec::with_capacity(alloc, workers)?;
     for _ in 0..workers {

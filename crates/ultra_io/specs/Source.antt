@@ -1,5 +1,5 @@
 -- what a source of files has read, and how it fails; this project's profile
-use Rattle.std.specs.Prelude.{ℕ, List}
+use Rattle.std.specs.Prelude.{◌≡◌, ℕ, List, Option, IfSome}
 use Rattle.ultra_io.specs.declared.source.SourceFault.{SourceFault}
 use Rattle.ultra_io.specs.declared.source.SourceFault.TheVariants.{NotRead, NoMemory}
 
@@ -15,3 +15,7 @@ file_of path bytes = record { path = path; bytes = bytes }
 abbrev pub failures_of : SourceFault → ℕ
 failures_of NotRead = 1
 failures_of NoMemory = 0
+
+-- these are all bytes that a reader gives, where std says which it gives
+abbrev pub IsWhole : Option (List ℕ) → List ℕ → Type 0
+IsWhole known bytes = IfSome known (λ given. bytes ≡ given)

@@ -1,8 +1,10 @@
 //! Where the files of a program come from.
 
-ghost use Rattle.std.specs.Prelude.{◌≡◌, ℕ, ◌+◌, List, [], ◌∷◌, ◌++◌, IfOk, OnOk, IfErr, OnErr};
+ghost use Rattle.std.specs.Prelude.{◌≡◌, ◌≢◌, ◌↔◌, ℕ, ◌+◌, List, [], ◌∷◌, ◌++◌, IfOk, OnOk, IfErr, OnErr};
+ghost use Rattle.std.specs.Io.KnownBytes.{IsAtEnd};
+ghost use Rattle.std.specs.IoError.{error_kind};
 ghost use Rattle.ultra_io.specs.Account.{SourceTold, source_told};
-ghost use Rattle.ultra_io.specs.Source.{File, file_of, failures_of};
+ghost use Rattle.ultra_io.specs.Source.{File, file_of, failures_of, IsWhole};
 
 use crate::account::Account;
 use std::alloc::Global;
@@ -75,18 +77,42 @@ impl<R: Files> Source for FileSource<'_, R> {
                 self.account.note_read(path, &bytes);
                 Ok(bytes)
             }
-            Err(error) if error.kind() == ErrorKind::OutOfMemory => Err(SourceFault::NoMemory),
-            Err(_) => {
-                self.account.note_failure();
-                Err(SourceFault::NotRead)
-            }
+            Err(error) => match fault_of(error.kind()) {
+                SourceFault::NotRead => {
+                    self.account.note_failure();
+                    Err(SourceFault::NotRead)
+                }
+                SourceFault::NoMemory => Err(SourceFault::NoMemory),
+            },
         }
     }
 }
 
-/// All bytes of the file at a path.
-fn read_whole<R: Files>(alloc: Global, files: &R, path: &str) -> io::Result<Vec<u8>> {
+/// What an error of this kind is for a source: want of memory is no failure of its own.
+fn fault_of(kind: ErrorKind) -> SourceFault
+    ensures { (result ≡ SourceFault.NoMemory) ↔ (kind ≡ ErrorKind.OutOfMemory) }
+{
+    match kind {
+        ErrorKind::OutOfMemory => SourceFault::NoMemory,
+        _ => SourceFault::NotRead,
+    }
+}
+
+/// All bytes of the file at a path: those that a file of this system gives once it is open.
+fn read_whole<R: Files>(alloc: Global, files: &R, path: &str) -> io::Result<Vec<u8>>
+    ensures { IfOk result (λ v. (file : R.File) × IsWhole (R.File.remaining file) v.items) }
+{
+    let mut file = fs::open(files, path)?;
+    read_all(alloc, &mut file)
+}
+
+/// All bytes that a reader gives from here on. An interrupted read is tried again.
+fn read_all<F: Read>(alloc: Global, reader: &mut F) -> io::Result<Vec<u8>>
+    ensures bytes { IfOk result (λ v. IsWhole (F.remaining reader.old) v.items) }
+    ensures end { OnOk result (IsAtEnd (F.remaining reader.new)) }
+    ensures retried { IfErr result (λ e. error_kind e ≢ ErrorKind.Interrupted) }
+{
     let mut bytes = Vec::new(alloc);
-    fs::open(files, path)?.read_to_end(&mut bytes)?;
+    reader.read_to_end(&mut bytes)?;
     Ok(bytes)
 }

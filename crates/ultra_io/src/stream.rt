@@ -1,6 +1,7 @@
 //! The output streams of a program.
 
-ghost use Rattle.std.specs.Prelude.{◌≡◌, []};
+ghost use Rattle.std.specs.Prelude.{◌≡◌, ◌≤◌, [], length, take, IfNone, IfSome};
+ghost use Rattle.std.specs.Io.KnownBytes.{Appends};
 ghost use Rattle.ultra_io.specs.Account.{SinkTold, sink_told};
 
 use crate::account::Account;
@@ -39,15 +40,30 @@ impl<W: Write> Sink for Stream<W> {
     ghost failures = { λ s. s.failures };
 
     fn write(&mut self, bytes: &[u8]) -> Result<usize, SinkFault> {
-        match self.writer.write(bytes) {
-            Ok(count) if count > 0 || bytes.is_empty() => {
+        match hand_on(&mut self.writer, bytes) {
+            Some(count) => {
                 self.account.note_taken(&bytes[..count]);
                 Ok(count)
             }
-            _ => {
+            None => {
                 self.account.note_failure();
                 Err(SinkFault)
             }
         }
+    }
+}
+
+/// Hands bytes to a writer, in one call, and answers how many it took. `None` says that it took
+/// none, though there were some.
+fn hand_on<W: Write>(writer: &mut W, bytes: &[u8]) -> Option<usize>
+    ensures within { IfSome result (λ n. n ≤ length bytes.now) }
+    ensures some { IfSome result (λ n. n ≡ 0 → bytes.now ≡ []) }
+    ensures taken { IfSome result
+        (λ n. Appends (W.contents writer.old) (W.contents writer.new) (take n bytes.now)) }
+    ensures none { IfNone result (Appends (W.contents writer.old) (W.contents writer.new) []) }
+{
+    match writer.write(bytes) {
+        Ok(count) if count > 0 || bytes.is_empty() => Some(count),
+        _ => None,
     }
 }

@@ -9,10 +9,10 @@ use Rattle.ultra_inputs.specs.Traffic.{traffic, IsStopped, WroteText, TextFails}
 use Rattle.run_command.specs.Trace.{trace}
 use Rattle.run_command.specs.Stops.{IsStoppedBy}
 use Rattle.order_command.specs.Order.{order_of}
-use Rattle.explain_command.specs.Explanation.{explanation_of, IsCutShort}
+use Rattle.explain_command.specs.Explanation.{explanation_of}
 use Rattle.lib_command.specs.Coordination.{WroteProgram, LibFails}
-use Rattle.ultra_cli.specs.Outcome.{WroteListing, ListFails}
-use Rattle.ultra_cli.proofs.Endings.{run_refused, order_refused, explain_refused, list_refused, lib_refused, lib_unread, command_ended, sweep_ended}
+use Rattle.ultra_cli.specs.Outcome.{WroteListing, ListFails, ExplainFails}
+use Rattle.ultra_cli.proofs.Endings.{run_refused, order_refused, explain_failed, explain_refused, list_refused, lib_refused, lib_unread, command_ended, sweep_ended}
 use Rattle.ultra_cli.proofs.carry_out.Goals as goal
 
 pub returns-in-Run : goal.returns-in-Run
@@ -43,7 +43,7 @@ returns-in-Explain g c =
     let old = traffic (g.F.Source.files c.args.source.now) (g.O.Sink.taken c.args.out.now) in
     let new = traffic (g.F.Source.files c.explain-done.new.source) (g.O.Sink.taken c.explain-done.new.out) in
     let did = c.explain-done.ensures in
-    rw a.is (command_ended (parsed.Command (Explain a.settings a.program a.heap)) old new _ _ _ _ _ _ _ c.explain-done.result (WroteText explanation_of conf prog old new) (TextFails explanation_of IsCutShort conf prog old new) (λ d same. (d, same)) (λ f why. (why, refl)) (λ f. explain_refused conf prog old new f explanation_of) did.ok did.err did.read_still did.read_counted did.write_still did.write_counted c.ended-in-Explain.ensures)
+    rw a.is (command_ended (parsed.Command (Explain a.settings a.program a.heap)) old new _ _ _ _ _ _ _ c.explain-done.result (WroteText explanation_of conf prog old new) (ExplainFails conf prog old new) (λ d same. (d, same)) (λ f why. (why, refl)) (explain_refused conf prog old new) did.ok (explain_failed conf prog old new c.explain-done.result did.err did.full) did.read_still did.read_counted did.write_still did.write_counted c.ended-in-Explain.ensures)
 
 pub returns-in-List : goal.returns-in-List
 returns-in-List g c =

@@ -1,5 +1,11 @@
 use Rattle.std.proofs.Common.{◌≡◌, ℕ, ◌<◌, [], length, slice_index_or}
+use Rattle.std.specs.Prelude.{All}
+use Rattle.ultra_desk.specs.Tasks.{HasRoom}
 use Rattle.ultra_desk.proofs.teams.empty_teams.Given as goal
 
 abbrev pub invariant-loop : goal.invariant-loop
-invariant-loop l = (length l.teams.items ≡ l.counter) × ((w : ℕ) (d : _) → w < l.counter → (slice_index_or l.teams.items w d).items ≡ [])
+invariant-loop l = record {
+  count : length l.teams.items ≡ l.counter;
+  empty : (w : ℕ) (d : _) → w < l.counter → (slice_index_or l.teams.items w d).items ≡ [];
+  room : All (HasRoom l.room) l.teams.items;
+}
