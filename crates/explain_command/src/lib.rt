@@ -4,7 +4,7 @@
 mod acts;
 mod lines;
 
-ghost use Rattle.std.specs.Prelude.{◌≡◌, ◌+◌, ◌++◌, false, IfErr, OnErr, OnOk};
+ghost use Rattle.std.specs.Prelude.{◌≡◌, ◌+◌, ◌++◌, false, IfErr, IfOk, OnErr, OnOk};
 ghost use Rattle.ultra_msg.specs.Bytes.{AreTakenOrWait, TakesPrefix};
 ghost use Rattle.ultra_model.specs.Machine.{size, start};
 ghost use Rattle.ultra_model.specs.Ranges.{AreInRange};
@@ -84,14 +84,28 @@ fn explain_run<'p, O: Sink>(
         (λ f. O.failures out.new ≡ O.failures out.old + write_failures f) }
 {
     let heap = LocalHeap::new(alloc, heap_bytes)?;
-    let Ok(mut explainer) = Explainer::new(config, &heap) else {
-        return Err(Failure::HeapFull);
-    };
+    let mut explainer = new_explainer(config, &heap)?;
     let mut machine = Machine::new(alloc, config, program)?;
     let mut lines = Lines::new(alloc);
     explain_cycles(&mut machine, &mut explainer, &mut lines, out)?;
     lines.hand_on(out)?;
     Ok(())
+}
+
+/// An explainer of a machine with these settings, which holds no trees. `HeapFull` says that the heap
+/// has no room for it.
+fn new_explainer<'p, A: Allocator + Clone>(
+    config: &Config,
+    heap: A,
+) -> Result<Explainer<A>, Failure<'p>>
+    ensures explainer { IfOk result
+        (λ e. e ≡ nothing_absorbed (size config.now) config.now.most_open) }
+    ensures no_room { IfErr result (λ f. f ≡ HeapFull) }
+{
+    match Explainer::new(config, heap) {
+        Ok(explainer) => Ok(explainer),
+        Err(_) => Err(Failure::HeapFull),
+    }
 }
 
 /// Follows a machine from its start to the end of its run. Its last lines may still wait.

@@ -35,6 +35,21 @@ impl Plan {
     }
 }
 
+/// The board of `count` jobs, with a pass for each job that may run at once, and its seat, which has
+/// a place for the caller and for each thread. An error says that memory was refused.
+fn open_board(alloc: Global, count: u64, plan: Plan) -> Result<(Board, Seat), SweepFault>
+    ensures jobs { IfOk result (λ b. b.0.limits.limit ≡ count) }
+    ensures at_once { IfOk result (λ b. b.0.limits.bound ≡ plan.at_once.count) }
+    ensures places { IfOk result (λ b. b.0.limits.seats ≡ threads_of plan + 1) }
+    ensures seat { IfOk result (λ b. IsFresh b.0 (threads_of plan + 1) b.1) }
+{
+    let at_once = plan.at_once.count as u64;
+    match Board::open(alloc, count, at_once, plan.threads() as u64 + 1) {
+        Ok(opened) => Ok(opened),
+        Err(_) => Err(SweepFault::NoMemory),
+    }
+}
+
 /// Runs the jobs by threads of the host, and gives their traces in order. `NoThread` says that a
 /// thread couldn't be started, and `NoMemory` that memory was refused; all threads have ended then.
 pub(crate) fn run_jobs<R: Threads + Wait + Sync, E: Sink>(
@@ -53,8 +68,7 @@ pub(crate) fn run_jobs<R: Threads + Wait + Sync, E: Sink>(
         (stream (E.taken err.new) (E.failures err.new))) }
 {
     let count = jobs.len() as u64;
-    let at_once = plan.at_once.count as u64;
-    let Ok((board, seat)) = Board::open(alloc, count, at_once, plan.threads() as u64 + 1) else {
+    let Ok((board, seat)) = open_board(alloc, count, plan) else {
         return Err(SweepFault::NoMemory);
     };
     let bell = Bell::new();

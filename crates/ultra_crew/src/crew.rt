@@ -1,6 +1,6 @@
 //! A cycle of the whole machine, made by host workers.
 
-ghost use Rattle.std.specs.Prelude.{◌≡◌, ◌+◌, ◌-◌, ◌<◌, ◌≤◌, ◌^◌, IfOk, IsOk};
+ghost use Rattle.std.specs.Prelude.{◌≡◌, ◌+◌, ◌-◌, ◌<◌, ◌≤◌, ◌^◌, min, max, IfOk, IsOk};
 ghost use Rattle.ultra_model.specs.Phases.{cycle as next_cycle};
 ghost use Rattle.ultra_crew.specs.Course.{IsCourse, cycles_on};
 
@@ -98,6 +98,7 @@ fn cycles_alone(blocks: &mut Blocks, count: u32)
 fn count_busy(blocks: Blocks, workers: usize) -> (Blocks, usize)
     requires { 1 ≤ workers }
     ensures same { result.0 ≡ blocks }
+    ensures busy { result.1 ≡ max (min workers blocks.count) 1 }
     ensures some_worker { 1 ≤ result.1 }
 {
     let parts = blocks.into_parts();

@@ -7,6 +7,9 @@ use Rattle.explain_command.proofs.explain_run.Goals as goal
 pub returns-in_err-heap-clause-err : goal.returns-in_err-heap-clause-err
 returns-in_err-heap-clause-err g c = at_error c.from_residual.result (takes_none _ _)
 
+pub returns-in_err-explainer-clause-err : goal.returns-in_err-explainer-clause-err
+returns-in_err-explainer-clause-err g c = at_error c.from_residual-in_err-explainer.result (takes_none _ _)
+
 pub returns-in_err-machine-clause-err : goal.returns-in_err-machine-clause-err
 returns-in_err-machine-clause-err g c = at_error c.from_residual-in_err-machine.result (takes_none _ _)
 
