@@ -2,6 +2,8 @@ pub mod Comments
 pub mod Numerals
 pub mod Operands
 pub mod Definitions
+pub mod InOrder
+pub mod Collecting
 pub mod FirstWords
 pub mod Turns
 pub mod Lines

@@ -3,7 +3,8 @@ use Rattle.std.proofs.lemmas.List.{append-nil, length_push}
 use Rattle.std.proofs.lemmas.Iterator.Consumers.{YieldsList-at, YieldsList-from_enumerate}
 use Rattle.std.proofs.lemmas.Iterator.Splits.{YieldsList-from_slice_split}
 use Rattle.ultra_asm.specs.Words.{text_words}
-use Rattle.ultra_asm.specs.Labels.{definition_in, definition_of}
+use Rattle.ultra_asm.specs.Labels.{definition_of}
+use Rattle.ultra_asm.specs.Found.{definition_in}
 use Rattle.ultra_asm.specs.ProgramText.{IsFirstFault}
 use Rattle.ultra_asm.specs.Reading.{read_line}
 use Rattle.ultra_asm.proofs.FirstWords.{line_few}
