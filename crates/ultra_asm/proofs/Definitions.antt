@@ -5,7 +5,7 @@ use Rattle.std.proofs.lemmas.List.Elements.{filter-append}
 use Rattle.std.proofs.lemmas.Bool.{cases_Bool, lt-ltb, le-ltb}
 use Rattle.std.proofs.lemmas.List.{take-append-drop, length-take-le, take_more, map-append, length-append}
 use Rattle.ultra_asm.specs.declared.labels.Definition.{Definition}
-use Rattle.ultra_asm.specs.Labels.{statement, line_label, is_named, one_or_none, instructions_on, defines, definition_from, definition_of, place_of, is_defined_before, near_place, near_place_of}
+use Rattle.ultra_asm.specs.Labels.{statement, line_label, is_named, one_or_none, instructions_on, defines, definition_from, definition_of, place_of, is_defined_before, near_place, near_place_of, near_definition}
 use Rattle.ultra_asm.specs.ProgramText.{statements, has_words}
 
 abbrev pub Lines : Type 0
@@ -106,6 +106,11 @@ near_in ls name (Some d) short h =
 -- in a text that isn't too long all places are near
 pub near_is : (ls : Lines) (name : List ℕ) → length (statements ls) ≤ 4096 → near_place_of ls name ≡ place_of ls name
 near_is ls name short = near_in ls name (definition_of ls name) short refl
+
+-- near places are near already
+pub near_twice : (d : Option Definition) → option_map near_place (option_map near_definition d) ≡ option_map near_place d
+near_twice None = refl
+near_twice (Some d) = let same : min (min d.place 4096) 4096 ≡ min d.place 4096 = omega arith in ap Some same
 
 -- ---- one more line
 pub statements-append : (ls ms : Lines) → statements (ls ++ ms) ≡ statements ls ++ statements ms

@@ -20,7 +20,7 @@ abbrev name_cmp : List ℕ → List ℕ → Ordering
 name_cmp = slice_cmp nat_cmp
 
 label_total : IsTotalOrder label_cmp
-label_total = then_total (on_total (λ (l : Label). l.name.now) nat_list_cmp_total) (on_total (λ (l : Label). l.definition.line) nat_cmp_total)
+label_total = then_total (on_total (λ (l : Label). l.name.now) nat_list_cmp_total) (on_total (λ (l : Label). l.line) nat_cmp_total)
 
 name_weak : IsStrictWeakOrder (λ a b. is_lt (name_cmp a b))
 name_weak = ranks_by nat_list_cmp_total (λ (n : List ℕ). n)
@@ -72,17 +72,17 @@ module _ (q : List ℕ) where
   -- those of the name stand by line
   abbrev pub AreInTurn : List Label → Type 0
   AreInTurn [] = Unit {0}
-  AreInTurn (l ∷ ls) = (has_name q l ≡ true → All (λ m. has_name q m ≡ true → l.definition.line ≤ m.definition.line) ls) × AreInTurn ls
+  AreInTurn (l ∷ ls) = (has_name q l ≡ true → All (λ m. has_name q m ≡ true → l.line ≤ m.line) ls) × AreInTurn ls
 
-  pub turns_push : (ls : List Label) (m : Label) → AreInTurn ls → All (λ l. l.definition.line ≤ m.definition.line) ls → AreInTurn (ls ++ m ∷ [])
-  turns_push [] m t all = ((λ is. All-nil (λ n. has_name q n ≡ true → m.definition.line ≤ n.definition.line)), tt)
+  pub turns_push : (ls : List Label) (m : Label) → AreInTurn ls → All (λ l. l.line ≤ m.line) ls → AreInTurn (ls ++ m ∷ [])
+  turns_push [] m t all = ((λ is. All-nil (λ n. has_name q n ≡ true → m.line ≤ n.line)), tt)
   turns_push (l ∷ ls) m t all =
-      let P : Label → Type 0 = λ n. has_name q n ≡ true → l.definition.line ≤ n.definition.line in
-      let here = All-head (λ n. n.definition.line ≤ m.definition.line) l ls all in
-      let rest = All-tail (λ n. n.definition.line ≤ m.definition.line) l ls all in
+      let P : Label → Type 0 = λ n. has_name q n ≡ true → l.line ≤ n.line in
+      let here = All-head (λ n. n.line ≤ m.line) l ls all in
+      let rest = All-tail (λ n. n.line ≤ m.line) l ls all in
       ((λ is. All-push P ls m (t.0 is) (λ there. here)), turns_push ls m t.1 rest)
 
-  turns_by_index : (ls : List Label) → ((i j : ℕ) (d : Label) → i ≤ j → j < length ls → has_name q (get_or ls i d) ≡ true → has_name q (get_or ls j d) ≡ true → (get_or ls i d).definition.line ≤ (get_or ls j d).definition.line) → AreInTurn ls
+  turns_by_index : (ls : List Label) → ((i j : ℕ) (d : Label) → i ≤ j → j < length ls → has_name q (get_or ls i d) ≡ true → has_name q (get_or ls j d) ≡ true → (get_or ls i d).line ≤ (get_or ls j d).line) → AreInTurn ls
   turns_by_index [] h = tt
   turns_by_index (l ∷ ls) h = ((λ is k d lt there. h 0 (suc k) d (omega arith) (omega arith) is there), turns_by_index ls (λ i j d le lt is there. h (suc i) (suc j) d (omega arith) (omega arith) is there))
 
@@ -92,7 +92,7 @@ module _ (q : List ℕ) where
   record IsLeast (ls : List Label) (l : Label) : Type 0 where
     stands : Contains ls l
     named : has_name q l ≡ true
-    least : All (λ m. has_name q m ≡ true → l.definition.line ≤ m.definition.line) ls
+    least : All (λ m. has_name q m ≡ true → l.line ≤ m.line) ls
 
   found_least : (ls : List Label) → AreInTurn ls → (l : Label) → find (has_name q) ls ≡ Some l → IsLeast ls l
   found_least [] t l h = absurd cc
@@ -103,7 +103,7 @@ module _ (q : List ℕ) where
         subst (IsLeast (m ∷ ms)) same (record {
           stands = (0, omega arith, refl);
           named = y;
-          least = All-cons (λ n. has_name q n ≡ true → m.definition.line ≤ n.definition.line) m ms (λ is. omega arith) (t.0 y);
+          least = All-cons (λ n. has_name q n ≡ true → m.line ≤ n.line) m ms (λ is. omega arith) (t.0 y);
         })
     | inr n ↦
         let later = found_least ms t.1 l (rw n at h) in
@@ -111,7 +111,7 @@ module _ (q : List ℕ) where
         record {
           stands = (suc k, omega arith, is);
           named = later.named;
-          least = All-cons (λ n. has_name q n ≡ true → l.definition.line ≤ n.definition.line) m ms (λ y. absurd cc) later.least;
+          least = All-cons (λ n. has_name q n ≡ true → l.line ≤ n.line) m ms (λ y. absurd cc) later.least;
         }
   ]
 
@@ -122,14 +122,14 @@ module _ (q : List ℕ) where
     | inr n ↦ All-cons (λ l. has_name q l ≡ false) l ls n (none_named ls (rw n at h))
   ]
 
-  module _ (xs ys : List Label) (moved : IsPermutation xs ys) (before : AreInTurn xs) (after : AreInTurn ys) (places : ℕ → ℕ) (placed : All (λ l. l.definition.place ≡ places l.definition.line) xs) where
+  module _ (xs ys : List Label) (moved : IsPermutation xs ys) (before : AreInTurn xs) (after : AreInTurn ys) where
     there : (l : Label) → Contains xs l → Contains ys l
     there l h = Contains-permutation xs ys l moved h
 
     back : (l : Label) → Contains ys l → Contains xs l
     back l h = Contains-permutation ys xs l (IsPermutation-sym xs ys moved) h
 
-    same_by : (a b : Option Label) → find (has_name q) xs ≡ a → find (has_name q) ys ≡ b → option_map (λ l. l.definition) b ≡ option_map (λ l. l.definition) a
+    same_by : (a b : Option Label) → find (has_name q) xs ≡ a → find (has_name q) ys ≡ b → option_map (λ l. l.line) b ≡ option_map (λ l. l.line) a
     same_by None None e f = refl
     same_by None (Some m) e f =
         let found = found_least ys after m f in
@@ -144,16 +144,12 @@ module _ (q : List ℕ) where
     same_by (Some l) (Some m) e f =
         let first = found_least xs before l e in
         let second = found_least ys after m f in
-        let up = All-contains (λ n. has_name q n ≡ true → l.definition.line ≤ n.definition.line) xs m first.least (back m second.stands) second.named in
-        let down = All-contains (λ n. has_name q n ≡ true → m.definition.line ≤ n.definition.line) ys l second.least (there l first.stands) first.named in
-        let line : m.definition.line ≡ l.definition.line = omega arith in
-        let here = All-contains (λ n. n.definition.place ≡ places n.definition.line) xs l placed first.stands in
-        let here_too = All-contains (λ n. n.definition.place ≡ places n.definition.line) xs m placed (back m second.stands) in
-        let place : m.definition.place ≡ l.definition.place = here_too ∙ ap places line ∙ sym here in
-        let same : m.definition ≡ l.definition = λ i. record { line = line i; place = place i } in
-        ap Some same
+        let up = All-contains (λ n. has_name q n ≡ true → l.line ≤ n.line) xs m first.least (back m second.stands) second.named in
+        let down = All-contains (λ n. has_name q n ≡ true → m.line ≤ n.line) ys l second.least (there l first.stands) first.named in
+        let line : m.line ≡ l.line = omega arith in
+        ap Some line
 
-    pub same_first : option_map (λ l. l.definition) (find (has_name q) ys) ≡ option_map (λ l. l.definition) (find (has_name q) xs)
+    pub same_first : option_map (λ l. l.line) (find (has_name q) ys) ≡ option_map (λ l. l.line) (find (has_name q) xs)
     same_first = same_by (find (has_name q) xs) (find (has_name q) ys) refl refl
 
   -- ---- the search

@@ -3,6 +3,7 @@ pub mod Numerals
 pub mod Operands
 pub mod Definitions
 pub mod InOrder
+pub mod InstructionLines
 pub mod Collecting
 pub mod FirstWords
 pub mod Turns

@@ -1,5 +1,6 @@
 -- the labels of a text as a list; this project's profile
-use Rattle.std.specs.Prelude.{ℕ, Bool, List, bytes_eq}
+use Rattle.std.specs.Prelude.{ℕ, Bool, List, bytes_eq, nat_lt}
+use Rattle.std.specs.List.{prefix_len}
 use Rattle.std.specs.declared.cmp.Ordering.{Ordering}
 use Rattle.std.specs.Cmp.Lexicographic.{slice_cmp}
 use Rattle.std.specs.List.Sorted.{IsSortedBy}
@@ -12,7 +13,11 @@ has_name name l = bytes_eq l.name.now name
 
 -- by name, and then by line
 abbrev pub label_cmp : Label → Label → Ordering
-label_cmp a b = ordering_then (slice_cmp nat_cmp a.name.now b.name.now) (nat_cmp a.definition.line b.definition.line)
+label_cmp a b = ordering_then (slice_cmp nat_cmp a.name.now b.name.now) (nat_cmp a.line b.line)
 
 abbrev pub AreInOrder : List Label → Type 0
 AreInOrder ls = IsSortedBy (λ a b. is_lt (label_cmp a b)) ls
+
+-- how many instructions stand before a line, where these are the lines of instructions
+abbrev pub place_at : List ℕ → ℕ → ℕ
+place_at lines line = prefix_len (λ n. nat_lt n line) lines

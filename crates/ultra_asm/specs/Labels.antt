@@ -63,3 +63,10 @@ near_place d = min d.place 4096
 
 abbrev pub near_place_of : List (List (List ℕ)) → List ℕ → Option ℕ
 near_place_of ls name = option_map near_place (definition_of ls name)
+
+-- the same definitions, with these places
+abbrev pub near_definition : Definition → Definition
+near_definition d = record { line = d.line; place = near_place d }
+
+abbrev pub near_definition_of : List (List (List ℕ)) → List ℕ → Option Definition
+near_definition_of ls name = option_map near_definition (definition_of ls name)

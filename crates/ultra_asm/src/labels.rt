@@ -1,10 +1,11 @@
 //! The labels of a text.
 
 ghost use Rattle.std.specs.Prelude.{◌≡◌, ℕ, List, map, IfOk};
+ghost use Rattle.std.specs.List.Sorted.{IsNonDecreasing};
 ghost use Rattle.std.specs.Option.{option_copied};
 ghost use Rattle.ultra_asm.specs.Words.{text_words};
-ghost use Rattle.ultra_asm.specs.Label.{AreInOrder};
-ghost use Rattle.ultra_asm.specs.Labels.{line_label, statement, definition_of};
+ghost use Rattle.ultra_asm.specs.Label.{place_at, AreInOrder};
+ghost use Rattle.ultra_asm.specs.Labels.{line_label, statement, near_definition_of};
 
 use crate::words::{before_colon, first_words, is_name};
 use std::alloc::{AllocError, Global};
@@ -15,7 +16,7 @@ use ultra_isa::MOST_INSTRUCTIONS;
 pub struct Definition {
     /// The line, by its index from 0.
     pub line: usize,
-    /// The place of the next instruction.
+    /// The place of the next instruction; 4096 for those above it too.
     pub place: usize,
 }
 
@@ -23,7 +24,7 @@ pub struct Definition {
 #[derive(Clone, Copy, Drop)]
 pub struct Label<'t> {
     name: &'t [u8],
-    definition: Definition,
+    line: usize,
 }
 
 /// The labels of a text.
@@ -33,7 +34,10 @@ pub struct Label<'t> {
 pub struct Labels<'t> {
     /// By name, and then by line.
     list: Vec<Label<'t>>,
+    /// The lines of the first 4096 instructions.
+    instructions: Vec<usize>,
     ghost in_order: { AreInOrder list.items },
+    ghost rising: { IsNonDecreasing instructions.items },
 }
 
 impl<'t> Labels<'t> {
@@ -41,22 +45,21 @@ impl<'t> Labels<'t> {
 
     /// The labels of a text.
     pub fn of(alloc: Global, text: &'t [u8]) -> Result<Labels<'t>, AllocError>
-        ensures { IfOk result (λ l. (q : List ℕ) → definition_in l q ≡ definition_of (text_words text.now) q) }
+        ensures { IfOk result (λ l. (q : List ℕ) → definition_in l q ≡ near_definition_of (text_words text.now) q) }
     {
         let mut list = Vec::new(alloc);
-        let mut place = 0;
+        let mut instructions = Vec::new(alloc);
         for (line, code) in text.split(|byte| *byte == b'\n').enumerate() {
             let words = first_words(alloc, code)?;
             if let Some(name) = line_label(words.as_slice()) {
-                let definition = Definition { line, place };
-                list.push(Label { name, definition })?;
+                list.push(Label { name, line })?;
             }
-            if !statement(words.as_slice()).is_empty() {
-                place += 1;
+            if !statement(words.as_slice()).is_empty() && instructions.len() < MOST_INSTRUCTIONS {
+                instructions.push(line)?;
             }
         }
-        list.sort_unstable_by_key(|label| (label.name, label.definition.line));
-        Ok(Labels { list })
+        list.sort_unstable_by_key(|label| (label.name, label.line));
+        Ok(Labels { list, instructions })
     }
 
     /// Where the name is defined first, if it is.
@@ -67,7 +70,9 @@ impl<'t> Labels<'t> {
         let index = labels.partition_point(|label| label.name.cmp(name).is_lt());
         let label = labels.get(index)?;
         if label.name == name {
-            Some(label.definition)
+            let line = label.line;
+            let place = place_at(self.instructions.as_slice(), line);
+            Some(Definition { line, place })
         } else {
             None
         }
@@ -80,6 +85,14 @@ impl<'t> Labels<'t> {
         let definition = self.definition(name)?;
         Some(definition.place.min(MOST_INSTRUCTIONS) as u16)
     }
+}
+
+/// How many of these lines, which rise, stand before a line.
+fn place_at(lines: &[usize], line: usize) -> usize
+    requires { IsNonDecreasing lines.now }
+    ensures { result ≡ place_at lines.now line }
+{
+    lines.partition_point(|at| *at < line)
 }
 
 /// The label that a line of these words begins with, if it does: a name followed directly by `:`.
