@@ -13,12 +13,12 @@ use Rattle.ultra_asm.specs.declared.labels.Definition.{Definition}
 use Rattle.ultra_asm.specs.declared.instruction.Operand.{Operand}
 use Rattle.ultra_asm.specs.declared.instruction.Operand.TheVariants as operand
 use Rattle.ultra_asm.specs.Words.{before_colon, is_name}
-use Rattle.ultra_asm.specs.Labels.{statement, definition_of, place_of, is_defined_before, near_place}
+use Rattle.ultra_asm.specs.Labels.{statement, definition_of, near_definition_of, place_of, is_defined_before, near_place}
 use Rattle.ultra_asm.specs.Instruction.{operands_of}
 use Rattle.ultra_asm.specs.ProgramText.{IsOperand, AreOperands, IsInstruction, AreInstructions, has_words, statements, line_at, IsNewLabel, IsLabelled, AreLinesOf, fault_if, or_else, statement_fault, label_fault, first_word_fault, line_fault, IsFirstFault}
 use Rattle.ultra_asm.specs.Reading.{Places, read_line}
 use Rattle.ultra_asm.proofs.Operands.{fault_in}
-use Rattle.ultra_asm.proofs.Definitions.{Lines, statements-append, place_within, near_is}
+use Rattle.ultra_asm.proofs.Definitions.{Lines, statements-append, place_within, near_twice, near_is}
 use Rattle.ultra_asm.proofs.Lines.{line_is, line_fault_is, line_has_room, no_fault, instruction_same}
 
 -- ---- the instructions of statements, one after another
@@ -205,7 +205,7 @@ module _ (ls : Lines) (defined : List ℕ → Option Definition) where
     short = lit≤ tt;
   }
 
-  module _ (table : (q : List ℕ) → defined q ≡ definition_of ls q) (k : ℕ) (is : List Instr) (lt : k < length ls) (m : IsSoFar k is) where
+  module _ (table : (q : List ℕ) → defined q ≡ near_definition_of ls q) (k : ℕ) (is : List Instr) (lt : k < length ls) (m : IsSoFar k is) where
     -- the result of line k
     abbrev pub result : Result (Option Instr) AsmFaultKind
     result = read_line defined k (nat_lt (length is) 4096) (line_at ls k)
@@ -242,7 +242,7 @@ module _ (ls : Lines) (defined : List ℕ → Option Definition) where
           first = λ j before. m.faultless_lines j (omega arith);
         }
 
-  module _ (table : (q : List ℕ) → defined q ≡ definition_of ls q) (k : ℕ) (is : List Instr) (end : length ls ≤ k) (m : IsSoFar k is) where
+  module _ (table : (q : List ℕ) → defined q ≡ near_definition_of ls q) (k : ℕ) (is : List Instr) (end : length ls ≤ k) (m : IsSoFar k is) where
     all : AreInstructions near (statements ls) is
     all = rw (take_all k ls end) at m.instructions
 
@@ -250,7 +250,7 @@ module _ (ls : Lines) (defined : List ℕ → Option Definition) where
     few = let s = m.short in omega (arith, instructions_length near (statements ls) is all)
 
     true_places : (w : List ℕ) → near w ≡ place_of ls w
-    true_places w = ap (option_map near_place) (table w) ∙ near_is ls w few
+    true_places w = ap (option_map near_place) (table w) ∙ near_twice (definition_of ls w) ∙ near_is ls w few
 
     at_places : AreInstructions (place_of ls) (statements ls) is
     at_places = instructions_at near (place_of ls) true_places (statements ls) is all

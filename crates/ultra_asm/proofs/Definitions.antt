@@ -1,14 +1,11 @@
 -- where the names of a text are defined
-use Rattle.std.proofs.Common.{◌≡◌, ℕ, ◌+◌, ◌<◌, ◌≤◌, Bool, true, false, List, [], ◌∷◌, ◌++◌, length, take, drop, filter, map, get_or, Option, Some, None, is_some, refl, sym, ◌∙◌, ap, inl, inr, arith, nat_lt, min, cond, add-zero}
-use Rattle.std.specs.Str.{bytes_eq}
+use Rattle.std.proofs.Common.{◌≡◌, ℕ, ◌+◌, ◌<◌, ◌≤◌, Bool, false, List, [], ◌∷◌, ◌++◌, length, take, drop, filter, map, get_or, Option, Some, None, is_some, refl, sym, ◌∙◌, ap, inl, inr, arith, nat_lt, min, cond, add-zero}
 use Rattle.std.specs.Option.{option_map}
-use Rattle.std.specs.Map.{update}
 use Rattle.std.proofs.lemmas.List.Elements.{filter-append}
-use Rattle.std.proofs.lemmas.Slice.Eq.{bytes_eq-Decides}
 use Rattle.std.proofs.lemmas.Bool.{cases_Bool, lt-ltb, le-ltb}
 use Rattle.std.proofs.lemmas.List.{take-append-drop, length-take-le, take_more, map-append, length-append}
 use Rattle.ultra_asm.specs.declared.labels.Definition.{Definition}
-use Rattle.ultra_asm.specs.Labels.{statement, line_label, is_named, one_or_none, instructions_on, defines, definition_from, definition_of, place_of, is_defined_before, near_place, near_place_of}
+use Rattle.ultra_asm.specs.Labels.{statement, line_label, is_named, one_or_none, instructions_on, defines, definition_from, definition_of, place_of, is_defined_before, near_place, near_place_of, near_definition}
 use Rattle.ultra_asm.specs.ProgramText.{statements, has_words}
 
 abbrev pub Lines : Type 0
@@ -110,6 +107,11 @@ near_in ls name (Some d) short h =
 pub near_is : (ls : Lines) (name : List ℕ) → length (statements ls) ≤ 4096 → near_place_of ls name ≡ place_of ls name
 near_is ls name short = near_in ls name (definition_of ls name) short refl
 
+-- near places are near already
+pub near_twice : (d : Option Definition) → option_map near_place (option_map near_definition d) ≡ option_map near_place d
+near_twice None = refl
+near_twice (Some d) = let same : min (min d.place 4096) 4096 ≡ min d.place 4096 = omega arith in ap Some same
+
 -- ---- one more line
 pub statements-append : (ls ms : Lines) → statements (ls ++ ms) ≡ statements ls ++ statements ms
 statements-append ls ms = ap (filter has_words) (map-append statement ls ms) ∙ filter-append has_words (map statement ls) (map statement ms)
@@ -134,33 +136,6 @@ definition_next ls k name h =
     ∙ ap (λ n. first_of (definition_of (take k ls) name) (definition_at n (0 + length (statements (take k ls))) (line_label (get_or ls k [])) name)) l
     ∙ ap (λ n. first_of (definition_of (take k ls) name) (definition_at k n (line_label (get_or ls k [])) name)) p
 
-first_none : (d : Option Definition) → d ≡ first_of d None
+pub first_none : (d : Option Definition) → d ≡ first_of d None
 first_none None = refl
 first_none (Some d) = refl
-
-first_some : (d e : Option Definition) → is_some d ≡ true → d ≡ first_of d e
-first_some None e h = absurd cc
-first_some (Some d) e h = refl
-
-first_absent : (d e : Option Definition) → is_some d ≡ false → e ≡ first_of d e
-first_absent None e h = refl
-first_absent (Some d) e h = absurd cc
-
--- a table of what is defined before a line, and after it
-module _ (old : List ℕ → Option Definition) (line place : ℕ) (q : List ℕ) where
-  pub unlabelled : (label : Option (List ℕ)) → None ≡ label → old q ≡ first_of (old q) (definition_at line place label q)
-  unlabelled label e = rw (← e) (first_none (old q))
-
-  stays_by : (name : List ℕ) (b : Bool) → bytes_eq name q ≡ b → is_some (old name) ≡ true → old q ≡ first_of (old q) (cond b (Some (record { line = line; place = place })) None)
-  stays_by name true e h = let same : name ≡ q = (bytes_eq-Decides name q).0 e in first_some (old q) _ (ap (λ n. is_some (old n)) (sym same) ∙ h)
-  stays_by name false e h = first_none (old q)
-
-  pub stays : (label : Option (List ℕ)) (name : List ℕ) → Some name ≡ label → is_some (old name) ≡ true → old q ≡ first_of (old q) (definition_at line place label q)
-  stays label name e h = rw (← e) (stays_by name (bytes_eq name q) refl h)
-
-  comes_by : (name : List ℕ) (b : Bool) → bytes_eq name q ≡ b → is_some (old name) ≡ false → cond b (Some (record { line = line; place = place })) (old q) ≡ first_of (old q) (cond b (Some (record { line = line; place = place })) None)
-  comes_by name true e h = let same : name ≡ q = (bytes_eq-Decides name q).0 e in first_absent (old q) _ (ap (λ n. is_some (old n)) (sym same) ∙ h)
-  comes_by name false e h = first_none (old q)
-
-  pub comes : (label : Option (List ℕ)) (name : List ℕ) → Some name ≡ label → is_some (old name) ≡ false → update bytes_eq old name (Some (record { line = line; place = place })) q ≡ first_of (old q) (definition_at line place label q)
-  comes label name e h = rw (← e) (comes_by name (bytes_eq name q) refl h)

@@ -2,6 +2,9 @@ pub mod Assembly
 pub mod Comments
 pub mod Cutting
 pub mod Definitions
+pub mod InOrder
+pub mod InstructionLines
+pub mod Collecting
 pub mod FirstWords
 pub mod Lines
 pub mod Numerals

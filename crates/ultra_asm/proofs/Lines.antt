@@ -12,7 +12,7 @@ use Rattle.ultra_asm.specs.declared.instruction.Mnemonic.{Mnemonic}
 use Rattle.ultra_asm.specs.declared.instruction.Mnemonic.TheVariants.{Set, Add, AddWord, Subtract, And, ShiftRight, IsBelow, IsEqual, JumpIfZero, JumpIfNotZero, Jump, Number, Size, Load, Store, Faa, Swap, Fence, Halt}
 use Rattle.ultra_asm.specs.declared.labels.Definition.{Definition}
 use Rattle.ultra_asm.specs.Words.{before_colon, is_name}
-use Rattle.ultra_asm.specs.Labels.{statement, definition_of, place_of, is_defined_before, near_place}
+use Rattle.ultra_asm.specs.Labels.{statement, definition_of, place_of, is_defined_before, near_place, near_definition, near_definition_of}
 use Rattle.ultra_asm.specs.Instruction.{word_of, mnemonics, mnemonic_named, mnemonic_of, Sort, a_register, a_number, a_shift, a_label, sorts_of}
 use Rattle.ultra_asm.specs.ProgramText.{IsInstruction, AreInstructions, has_words, statements, line_at, fault_if, fault_unless, or_else, operand_fault, operands_fault, instruction_fault, statement_fault, label_fault, first_word_fault, line_fault}
 use Rattle.ultra_asm.specs.Reading.{Places, made, read_instruction, next_instruction, read_statement, check_definition, check_name, check_colon, check_label, and_then, read_line}
@@ -141,11 +141,15 @@ double_fault : (k : ℕ) (d : Option Definition) → fault_if (is_before k d) Do
 double_fault k None = refl
 double_fault k (Some d) = elim (nat_lt d.line k) as (λ b. fault_if b DoubleLabel ≡ fault_in (cond b (Err DoubleLabel) (Ok tt))) [ true ↦ refl | false ↦ refl ]
 
+before_near : (k : ℕ) (d : Option Definition) → is_before k d ≡ is_before k (option_map near_definition d)
+before_near k None = refl
+before_near k (Some d) = refl
+
 -- a text, and what its table of labels says
-module _ (ls : Lines) (defined : List ℕ → Option Definition) (table : (q : List ℕ) → defined q ≡ definition_of ls q) (k : ℕ) (within : k ≤ length ls) where
+module _ (ls : Lines) (defined : List ℕ → Option Definition) (table : (q : List ℕ) → defined q ≡ near_definition_of ls q) (k : ℕ) (within : k ≤ length ls) where
   name_fault : (name : List ℕ) → or_else (fault_if (not (is_name name)) UnknownWord) (fault_if (is_defined_before ls k name) DoubleLabel) ≡ fault_in (check_name defined k name)
   name_fault name = elim (cases_Bool (is_name name)) [
-    | inl t ↦ rw t (ap (λ b. fault_if b DoubleLabel) (sym (before_is ls k name within) ∙ ap (is_before k) (sym (table name))) ∙ double_fault k (defined name))
+    | inl t ↦ rw t (ap (λ b. fault_if b DoubleLabel) (sym (before_is ls k name within) ∙ before_near k (definition_of ls name) ∙ ap (is_before k) (sym (table name))) ∙ double_fault k (defined name))
     | inr f ↦ rw f refl
   ]
 
@@ -157,7 +161,7 @@ module _ (ls : Lines) (defined : List ℕ → Option Definition) (table : (q : L
   first_fault [] = refl
   first_fault (w ∷ ws) = colon_fault (before_colon w)
 
-  found_same : (d : Option Definition) → fault_unless (option_map (λ e. e.place) d) UnknownLabel ≡ fault_unless (option_map near_place d) UnknownLabel
+  found_same : (d : Option Definition) → fault_unless (option_map (λ e. e.place) d) UnknownLabel ≡ fault_unless (option_map near_place (option_map near_definition d)) UnknownLabel
   found_same None = refl
   found_same (Some d) = refl
 

@@ -1,12 +1,8 @@
 -- the labels of a text, and what each of its lines does besides; this project's profile
 use Rattle.std.specs.Prelude.{ℕ, ◌+◌, Bool, false, List, [], ◌∷◌, drop, take, Option, Some, None, is_some, if◌then◌else◌, bytes_eq, min}
 use Rattle.std.specs.Option.{option_map}
-use Rattle.std.specs.BTreeMap.{get_by}
-use Rattle.std.specs.Cmp.Lexicographic.{slice_cmp}
-use Rattle.std.specs.Ordering.{nat_cmp}
 use Rattle.ultra_asm.specs.Words.{before_colon, is_name}
 use Rattle.ultra_asm.specs.declared.labels.Definition.{Definition}
-use Rattle.ultra_asm.specs.declared.labels.Labels.{Labels}
 
 -- a label's word is a name followed directly by `:`
 abbrev pub if_name : Option (List ℕ) → Option (List ℕ)
@@ -68,9 +64,9 @@ near_place d = min d.place 4096
 abbrev pub near_place_of : List (List (List ℕ)) → List ℕ → Option ℕ
 near_place_of ls name = option_map near_place (definition_of ls name)
 
--- what a table of labels holds
-abbrev pub definition_in : Labels → List ℕ → Option Definition
-definition_in l name = get_by (λ k. slice_cmp nat_cmp name k.now) l.definitions
+-- the same definitions, with these places
+abbrev pub near_definition : Definition → Definition
+near_definition d = record { line = d.line; place = near_place d }
 
-abbrev pub places_in : Labels → List ℕ → Option ℕ
-places_in l name = option_map near_place (definition_in l name)
+abbrev pub near_definition_of : List (List (List ℕ)) → List ℕ → Option Definition
+near_definition_of ls name = option_map near_definition (definition_of ls name)

@@ -1,6 +1,8 @@
 pub mod AsmFault
 pub mod Words
+pub mod Label
 pub mod Labels
+pub mod Found
 pub mod Instruction
 pub mod Reading
 pub mod ProgramText

@@ -1,13 +1,14 @@
 //! The labels of a text.
 
 ghost use Rattle.std.specs.Prelude.{◌≡◌, ℕ, List, map, IfOk};
+ghost use Rattle.std.specs.List.Sorted.{IsNonDecreasing};
 ghost use Rattle.std.specs.Option.{option_copied};
 ghost use Rattle.ultra_asm.specs.Words.{text_words};
-ghost use Rattle.ultra_asm.specs.Labels.{line_label, statement, definition_of, definition_in, places_in};
+ghost use Rattle.ultra_asm.specs.Label.{place_at, AreInOrder};
+ghost use Rattle.ultra_asm.specs.Labels.{line_label, statement, near_definition_of};
 
 use crate::words::{before_colon, first_words, is_name};
 use std::alloc::{AllocError, Global};
-use std::collections::BTreeMap;
 use ultra_isa::MOST_INSTRUCTIONS;
 
 /// Where a label is defined.
@@ -15,42 +16,66 @@ use ultra_isa::MOST_INSTRUCTIONS;
 pub struct Definition {
     /// The line, by its index from 0.
     pub line: usize,
-    /// The place of the next instruction.
+    /// The place of the next instruction; 4096 for those above it too.
     pub place: usize,
 }
 
-/// The labels of a text, each with the first line that defines it.
+/// A label, on one of the lines that define it.
+#[derive(Clone, Copy, Drop)]
+pub struct Label<'t> {
+    name: &'t [u8],
+    line: usize,
+}
+
+/// The labels of a text.
+///
+/// They stand in a list, which takes less memory than a map: a text may consist of labels.
 #[derive(Drop)]
 pub struct Labels<'t> {
-    definitions: BTreeMap<&'t [u8], Definition, Global>,
+    /// By name, and then by line.
+    list: Vec<Label<'t>>,
+    /// The lines of the first 4096 instructions.
+    instructions: Vec<usize>,
+    ghost in_order: { AreInOrder list.items },
+    ghost rising: { IsNonDecreasing instructions.items },
 }
 
 impl<'t> Labels<'t> {
+    ghost use Rattle.ultra_asm.specs.Found.{definition_in, places_in};
+
     /// The labels of a text.
     pub fn of(alloc: Global, text: &'t [u8]) -> Result<Labels<'t>, AllocError>
-        ensures { IfOk result (λ l. (q : List ℕ) → definition_in l q ≡ definition_of (text_words text.now) q) }
+        ensures { IfOk result (λ l. (q : List ℕ) → definition_in l q ≡ near_definition_of (text_words text.now) q) }
     {
-        let mut definitions = BTreeMap::new(alloc);
-        let mut place = 0;
+        let mut list = Vec::new(alloc);
+        let mut instructions = Vec::new(alloc);
         for (line, code) in text.split(|byte| *byte == b'\n').enumerate() {
             let words = first_words(alloc, code)?;
             if let Some(name) = line_label(words.as_slice()) {
-                if !definitions.contains_key(name) {
-                    definitions.insert(name, Definition { line, place })?;
-                }
+                list.push(Label { name, line })?;
             }
-            if !statement(words.as_slice()).is_empty() {
-                place += 1;
+            if !statement(words.as_slice()).is_empty() && instructions.len() < MOST_INSTRUCTIONS {
+                instructions.push(line)?;
             }
         }
-        Ok(Labels { definitions })
+        list.sort_unstable_by_key(|label| (label.name, label.line));
+        Ok(Labels { list, instructions })
     }
 
-    /// Where the name is defined, if it is.
+    /// Where the name is defined first, if it is.
     pub fn definition(&self, name: &[u8]) -> Option<Definition>
         ensures { result ≡ definition_in self.now name.now }
     {
-        self.definitions.get(name).copied()
+        let labels = self.list.as_slice();
+        let index = labels.partition_point(|label| label.name.cmp(name).is_lt());
+        let label = labels.get(index)?;
+        if label.name == name {
+            let line = label.line;
+            let place = place_at(self.instructions.as_slice(), line);
+            Some(Definition { line, place })
+        } else {
+            None
+        }
     }
 
     /// The place that the name stands for, if it is defined. Places above 4096 count as 4096.
@@ -60,6 +85,14 @@ impl<'t> Labels<'t> {
         let definition = self.definition(name)?;
         Some(definition.place.min(MOST_INSTRUCTIONS) as u16)
     }
+}
+
+/// How many of these lines, which rise, stand before a line.
+fn place_at(lines: &[usize], line: usize) -> usize
+    requires { IsNonDecreasing lines.now }
+    ensures { result ≡ place_at lines.now line }
+{
+    lines.partition_point(|at| *at < line)
 }
 
 /// The label that a line of these words begins with, if it does: a name followed directly by `:`.

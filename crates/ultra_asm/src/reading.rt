@@ -1,7 +1,7 @@
 //! From the words of an instruction to the instruction.
 
 ghost use Rattle.std.specs.Prelude.{◌≡◌, map};
-ghost use Rattle.ultra_asm.specs.Labels.{definition_in, places_in};
+ghost use Rattle.ultra_asm.specs.Found.{definition_in, places_in};
 ghost use Rattle.ultra_asm.specs.Reading.{none_in, one_in, two_in, three_in, read_instruction, read_statement, check_label, read_line};
 
 use crate::AsmFaultKind;

@@ -3,7 +3,8 @@ use Rattle.std.proofs.lemmas.List.{append-nil, length_push}
 use Rattle.std.proofs.lemmas.Iterator.Consumers.{YieldsList-at, YieldsList-from_enumerate}
 use Rattle.std.proofs.lemmas.Iterator.Splits.{YieldsList-from_slice_split}
 use Rattle.ultra_asm.specs.Words.{text_words}
-use Rattle.ultra_asm.specs.Labels.{definition_in, definition_of}
+use Rattle.ultra_asm.specs.Labels.{near_definition_of}
+use Rattle.ultra_asm.specs.Found.{definition_in}
 use Rattle.ultra_asm.specs.ProgramText.{IsFirstFault}
 use Rattle.ultra_asm.specs.Reading.{read_line}
 use Rattle.ultra_asm.proofs.FirstWords.{line_few}
@@ -17,8 +18,8 @@ here : (c : After-line_instruction) → IsTurn c.args.text.now (length c.loop-in
 here c =
     turn c.args.text.now c.loop-index.yielded _ c.loop-index.yielded_by _ _ c.in-Some.index c.in-Some.line c.in-Some.is c.next.ensures.steps (YieldsList-at c.into_iter-index-iterator.ensures.into_iter_gives (YieldsList-from_enumerate (YieldsList-at c.enumerate-index-items.ensures.source (YieldsList-from_slice_split _ (λ b. eqb b 10) c.args.text.now (cc) (cc) (cc) (λ x b q k. search (rules, tests)))) c.enumerate-index-items.ensures.count))
 
-table : (c : After-line_instruction) (q : List ℕ) → definition_in c.in_ok-labels.labels q ≡ definition_of (text_words c.args.text.now) q
-table c q = c.in_ok-labels.ensures q ∙ ap (λ text. definition_of (text_words text) q) c.as_bytes-text.ensures.value
+table : (c : After-line_instruction) (q : List ℕ) → definition_in c.in_ok-labels.labels q ≡ near_definition_of (text_words c.args.text.now) q
+table c q = c.in_ok-labels.ensures q ∙ ap (λ text. near_definition_of (text_words text) q) c.as_bytes-text.ensures.value
 
 -- what is read from it
 read : (c : After-line_instruction) → read_line (definition_in c.in_ok-labels.labels) (length c.loop-index.yielded) (nat_lt (length c.loop-index.list.items) 4096) (get_or (text_words c.args.text.now) (length c.loop-index.yielded) []) ≡ c.line_instruction.result
@@ -64,8 +65,8 @@ module _ (c : After-new) where
   all_read =
       end c.args.text.now c.loop-index.yielded _ c.loop-index.yielded_by _ _ c.in-None.is c.next.ensures.steps (YieldsList-at c.into_iter-index-iterator.ensures.into_iter_gives (YieldsList-from_enumerate (YieldsList-at c.enumerate-index-items.ensures.source (YieldsList-from_slice_split _ (λ b. eqb b 10) c.args.text.now (cc) (cc) (cc) (λ x b q k. search (rules, tests)))) c.enumerate-index-items.ensures.count))
 
-  whole_table : (q : List ℕ) → definition_in c.in_ok-labels.labels q ≡ definition_of (text_words c.args.text.now) q
-  whole_table q = c.in_ok-labels.ensures q ∙ ap (λ text. definition_of (text_words text) q) c.as_bytes-text.ensures.value
+  whole_table : (q : List ℕ) → definition_in c.in_ok-labels.labels q ≡ near_definition_of (text_words c.args.text.now) q
+  whole_table q = c.in_ok-labels.ensures q ∙ ap (λ text. near_definition_of (text_words text) q) c.as_bytes-text.ensures.value
 
 pub unwrap-requires : goal.unwrap-requires
 unwrap-requires c =

@@ -1,6 +1,6 @@
 use Rattle.std.proofs.Common.{length}
 use Rattle.ultra_asm.specs.Words.{text_words}
-use Rattle.ultra_asm.specs.Labels.{definition_in}
+use Rattle.ultra_asm.specs.Found.{definition_in}
 use Rattle.ultra_asm.proofs.Assembly.{IsSoFar}
 use Rattle.ultra_asm.proofs.assemble.Given as goal
 
