@@ -9,7 +9,7 @@ use ultra_model::Config;
 use ultra_msg::{Op, Pe};
 use ultra_tree::{Explainer, Leaf, Tree, height, leaves};
 
-/// A tree of this height: processing element 1 issues anew as soon as its request has combined.
+/// A tree of this height: processing element 1 issues anew as soon as its request has combined. Its memory has to be there.
 fn high_tree<A: Allocator + Clone>(
     rt: &impl Abort,
     settings: &Config,
@@ -28,7 +28,8 @@ fn high_tree<A: Allocator + Clone>(
 
 #[test]
 fn a_high_tree(rt: HostRuntime) -> Result<(), Fail> {
-    let tree = high_tree(&rt, &settings(&rt, 2)?, rt.alloc(), 1000);
+    let heap = LocalHeap::new(rt.alloc(), 1 << 20)?;
+    let tree = high_tree(&rt, &settings(&rt, 2)?, &heap, 1000);
     assert_eq!(&rt; height(&tree), 1000);
     let all = leaves(rt.alloc(), &tree)?;
     assert_eq!(&rt; all.len(), 1001);
@@ -39,7 +40,8 @@ fn a_high_tree(rt: HostRuntime) -> Result<(), Fail> {
 /// A drop that called itself for each level would need more stack than there is.
 #[test]
 fn a_high_tree_is_dropped(rt: HostRuntime) -> Result<(), Fail> {
-    drop(high_tree(&rt, &settings(&rt, 2)?, rt.alloc(), 200_000));
+    let heap = LocalHeap::new(rt.alloc(), 1 << 26)?;
+    drop(high_tree(&rt, &settings(&rt, 2)?, &heap, 200_000));
     Ok(())
 }
 
@@ -52,8 +54,7 @@ fn leaf(pe: Pe, number: u32) -> Leaf {
     }
 }
 
-/// With each allocation refused in turn, the list of leaves is refused or whole. The tree itself is made in the memory
-/// of a heap.
+/// With each allocation refused in turn, the list of leaves is refused or whole.
 #[test]
 fn leaves_are_refused_or_whole(rt: HostRuntime) -> Result<(), Fail> {
     let heap = LocalHeap::new(rt.alloc(), 4096)?;
