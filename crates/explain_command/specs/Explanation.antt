@@ -18,7 +18,7 @@ use Rattle.ultra_tree.specs.Text.{tree_text}
 abbrev pub act_line : ℕ → ℕ → ℕ → Tree → List ℕ
 act_line c k a t = codes "cycle " ++ decimal c ++ codes " module " ++ decimal k ++ codes " cell " ++ decimal a ++ codes " " ++ tree_text t ++ codes "\n"
 
--- it where there is such a tree
+-- the line, where there is a tree
 abbrev pub act_line_of : ℕ → ℕ → ℕ → Option Tree → List ℕ
 act_line_of c k a None = []
 act_line_of c k a (Some t) = act_line c k a t

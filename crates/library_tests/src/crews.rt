@@ -20,7 +20,7 @@ use ultra_model::Stop;
 use ultra_msg::{Pe, Register};
 use ultra_switch::{ToMm, ToPe};
 
-/// So many cycles, each by these workers.
+/// Makes n cycles, each by these workers.
 fn make_cycles<R: Threads + Wait + Sync + Abort, G: Gate + Sync>(
     rt: &R,
     alloc: Global,

@@ -20,7 +20,7 @@ pub(crate) fn machine(
     Ok(Machine::new(alloc, &config, program)?)
 }
 
-/// So many cycles.
+/// Makes n cycles.
 pub(crate) fn run(rt: &impl Abort, machine: &mut Machine, cycles: u32) {
     for _ in 0..cycles {
         assert!(rt; machine.done() < 1000);
@@ -153,7 +153,7 @@ pub(crate) fn ends_with(rt: &impl Abort, machine: &Machine, word: Word) {
     assert_eq!(rt; machine.bank(0).peek(0), Some(word));
 }
 
-/// A record of requests for cell 0, of which the second gets so much more than the first.
+/// A record of two requests for cell 0: the second gets `more` more than the first.
 pub(crate) fn kept(pe: Pe, partner: Pe, more: Word) -> WaitRecord {
     WaitRecord {
         pe,

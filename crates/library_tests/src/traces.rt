@@ -16,7 +16,7 @@ use ultra_isa::Program;
 use ultra_machine::Config;
 use ultra_trace::{RunFault, run, run_alone};
 
-/// The trace of two processing elements of which each adds 1 to cell 0.
+/// The trace of two processing elements that each add 1 to cell 0.
 const COMBINED_PAIR: &str = "\
 ultra trace 2
 cycle 0
@@ -46,7 +46,7 @@ pe 0 halted 3 r2=1 r3=1
 pe 1 halted 3 r2=1
 ";
 
-/// The trace of four processing elements of which each adds its number and 1 to cell 0.
+/// The trace of four processing elements that each add their number and 1 to cell 0.
 const TWO_LEVEL_TREE: &str = "\
 ultra trace 2
 cycle 0

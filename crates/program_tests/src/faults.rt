@@ -52,7 +52,7 @@ impl Sink for Dropper {
     }
 }
 
-/// Files in memory, of which one read fails: the one after `sound_reads` reads.
+/// Files in memory, where one read fails: the one after `sound_reads` reads.
 #[derive(Drop)]
 struct FaultyShelf<'f> {
     shelf: Shelf<'f>,

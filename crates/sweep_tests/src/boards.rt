@@ -137,7 +137,7 @@ fn passes_in_turn(rt: HostRuntime) -> Result<(), Fail> {
     Ok(())
 }
 
-/// Each seat is told of what the other has finished.
+/// Each seat sees what the other has finished.
 #[test]
 fn progress_reads(rt: HostRuntime) -> Result<(), Fail> {
     let (board, seat) = Board::open(rt.alloc(), 3, 1, 2)?;

@@ -18,7 +18,7 @@ only_one [] one = absurd (omega arith)
 only_one (b ∷ []) one = refl
 only_one (b ∷ x ∷ xs) one = absurd (omega arith)
 
--- what one block tells is all that is told
+-- the lists of one block are those of the machine
 module _ (d : ℕ) (b : BlockState) (order : IsInOrder d b) where
   one_events : events_of d (b ∷ []) ≡ b.events
   unfolding events_of
@@ -36,11 +36,11 @@ module _ (c : Settings) (partition : List ℕ) (n : ℕ) (bs : List BlockState) 
   pub only : bs ≡ block_at bs 0 ∷ []
   only = only_one bs one
 
-  pub events_told : events_of c.stages bs ≡ (block_at bs 0).events
-  events_told = ap (λ xs. events_of c.stages xs) only ∙ one_events c.stages (block_at bs 0) (whole.in_order 0 (omega arith))
+  pub events_alone : events_of c.stages bs ≡ (block_at bs 0).events
+  events_alone = ap (λ xs. events_of c.stages xs) only ∙ one_events c.stages (block_at bs 0) (whole.in_order 0 (omega arith))
 
-  pub stops_told : stops_of c.stages bs ≡ (block_at bs 0).stops
-  stops_told = ap (λ xs. stops_of c.stages xs) only ∙ one_stops c.stages (block_at bs 0) (whole.in_order 0 (omega arith))
+  pub stops_alone : stops_of c.stages bs ≡ (block_at bs 0).stops
+  stops_alone = ap (λ xs. stops_of c.stages xs) only ∙ one_stops c.stages (block_at bs 0) (whole.in_order 0 (omega arith))
 
   pub all_in_one : partition ≡ one_block c.stages
   all_in_one =

@@ -1,4 +1,4 @@
--- The units of one block, of which those below a number have gone to the blocks that a partition names.
+-- The units of one block: those below a number have gone to the blocks that a partition names.
 use Rattle.std.proofs.Common.{◌≡◌, ◌≢◌, ℕ, ◌+◌, ◌*◌, ◌^◌, ◌<◌, List, Option, None, length, set, replicate, refl, sym, ◌∙◌, ap, subst, inl, inr, arith, get_or-set_same, get_or-set_other}
 use Rattle.std.proofs.lemmas.Bool.{cases_eq}
 use Rattle.std.proofs.lemmas.List.{get_or-replicate, length-replicate, length-set}
@@ -13,7 +13,7 @@ use Rattle.ultra_section.specs.Shape.{IsShaped}
 use Rattle.ultra_section.proofs.OfKind.{by_kind, without_switch, without_module, without_element, with_switch, with_module, with_element}
 use Rattle.ultra_cut.specs.Cut.{block_at, home, no_block}
 use Rattle.ultra_cut.specs.Halves.{OfEach}
-use Rattle.ultra_block.specs.Dealt.{AreCarried, HasOnlyUnits, TellsAs, empty_after}
+use Rattle.ultra_block.specs.Dealt.{AreCarried, HasOnlyUnits, ListsSame, empty_after}
 use Rattle.ultra_block.proofs.Tables as table
 
 -- ---- one block put for another
@@ -46,7 +46,7 @@ module _ (d : ℕ) (partition : List ℕ) (b : BlockState) (blocks : ℕ) where
 
   pub record AreCarriedBelow (n : ℕ) (left : BlockState) (now : List BlockState) : Type 0 where
     pub stages : left.stages ≡ d
-    pub story : TellsAs left b
+    pub story : ListsSame left b
     pub count : length now ≡ blocks
     pub bare : OfEach IsBare now
     pub switches : table.AreCarried partition (λ i. i) (switch_count d) blocks n b.switches left.switches (λ k. (block_at now k).switches)

@@ -18,9 +18,9 @@ use Rattle.ultra_block.specs.Fresh.{IsFresh, frame_of_one, one_block}
 use Rattle.ultra_block.specs.Dealt.{IsDealt}
 use Rattle.ultra_cut.specs.Moments.{AreWhole, machine_in}
 
--- ---- what blocks tell
-tells_same : (d : ℕ) (x y : BlockState) → x.events ≡ y.events → x.stops ≡ y.stops → IsInOrder d y → IsInOrder d x
-tells_same d x y events stops order = record {
+-- ---- what blocks list
+lists_same : (d : ℕ) (x y : BlockState) → x.events ≡ y.events → x.stops ≡ y.stops → IsInOrder d y → IsInOrder d x
+lists_same d x y events stops order = record {
   events = subst (λ es. IsNonDecreasing (map (event_rank d) es)) (sym events) order.events;
   ranks = subst (λ es. All (λ e. event_rank d e < 1280) es) (sym events) order.ranks;
   stops = subst (λ ss. IsNonDecreasing (map (λ (s : Stop). s.pe) ss)) (sym stops) order.stops;
@@ -33,15 +33,15 @@ none_fall f i j d order within = absurd (omega arith)
 none_fail : {X : Type 0} (P : X → Type 0) → All P []
 none_fail P i d within = absurd (omega arith)
 
-tells_nothing : (d : ℕ) (x : BlockState) → x.events ≡ [] → x.stops ≡ [] → IsInOrder d x
-tells_nothing d x events stops = record {
+lists_nothing : (d : ℕ) (x : BlockState) → x.events ≡ [] → x.stops ≡ [] → IsInOrder d x
+lists_nothing d x events stops = record {
   events = subst (λ es. IsNonDecreasing (map (event_rank d) es)) (sym events) (none_fall (event_rank d));
   ranks = subst (λ es. All (λ e. event_rank d e < 1280) es) (sym events) (none_fail (λ (e : Event). event_rank d e < 1280));
   stops = subst (λ ss. IsNonDecreasing (map (λ (s : Stop). s.pe) ss)) (sym stops) (none_fall (λ (s : Stop). s.pe));
   elements = subst (λ ss. All (λ (s : Stop). s.pe < 64) ss) (sym stops) (none_fail (λ (s : Stop). s.pe < 64));
 }
 
--- of one block that tells nothing, nothing is told
+-- one block that lists nothing has no events and no stops
 one_empty : {X : Type 0} (xs : List X) → xs ≡ [] → (i : ℕ) → i < 1 → get_or {A = List X} (xs ∷ []) i [] ≡ []
 one_empty xs none zero h = none
 one_empty xs none (suc i) h = absurd (omega arith)
@@ -77,7 +77,7 @@ module _ (c : Settings) (b : BlockState) (fresh : IsFresh c b) where
       machine = record { range = fresh.machine.range; fits = fresh.machine.fits; machine = refl; sound = subst (λ m. IsSound c m) (sym fresh_machine) fresh.machine.sound };
     };
     clear = fresh.clear;
-    in_order = only_block (λ x. IsInOrder c.stages x) (tells_nothing c.stages b fresh.events fresh.stops);
+    in_order = only_block (λ x. IsInOrder c.stages x) (lists_nothing c.stages b fresh.events fresh.stops);
   }
 
 -- ---- dealt to blocks
@@ -92,10 +92,10 @@ module _ (c : Settings) (n : ℕ) (b : BlockState) (was : AreWhole c (one_block 
       ∙ ap (λ ss. whole c (frame_of_one d b) n (events_of d (b ∷ [])) ss) dealt.stops
 
   block_in_order : (k : ℕ) → k < length now → IsInOrder d (block_at now k)
-  block_in_order zero within = tells_same d (block_at now 0) b dealt.told.events dealt.told.stops (was.in_order 0 (omega arith))
+  block_in_order zero within = lists_same d (block_at now 0) b dealt.first.events dealt.first.stops (was.in_order 0 (omega arith))
   block_in_order (suc k) within =
       let silent = dealt.silent (suc k) (omega arith) within in
-      tells_nothing d (block_at now (suc k)) silent.events silent.stops
+      lists_nothing d (block_at now (suc k)) silent.events silent.stops
 
   pub dealt_whole : AreWhole c partition n now
   dealt_whole =

@@ -10,8 +10,8 @@ use Rattle.ultra_merge.proofs.Merged.{merged_of}
 
 pub one_more : {X Y : Type 0} (f : X → Y) (xs : List X) (i : ℕ) (x d : X) (ys : List Y) → i < length xs → x ≡ get_or xs i d → ys ≡ map f (take i xs)
     → ys ++ f x ∷ [] ≡ map f (take (i + 1) xs)
-one_more f xs i x d ys within is told =
-    ap (λ zs. zs ++ f x ∷ []) told ∙ ap (λ y. map f (take i xs) ++ f y ∷ []) is
+one_more f xs i x d ys within is so_far =
+    ap (λ zs. zs ++ f x ∷ []) so_far ∙ ap (λ y. map f (take i xs) ++ f y ∷ []) is
     ∙ sym (map-append f (take i xs) (get_or xs i d ∷ [])) ∙ ap (λ zs. map f zs) (sym (take_more xs i d within))
 
 -- what ascends by rank, as a merge takes it
@@ -25,11 +25,11 @@ by_rank n xs ascends i j d order within =
 pub is_ranked : {X : Type 0} (n : X → ℕ) (count : ℕ) (xs : List X) → IsNonDecreasing (map n xs) → All (λ x. n x < count) xs → IsRanked n count xs
 is_ranked n count xs ascends within = record { ascends = by_rank n xs ascends; within = within }
 
--- what blocks tell is the merge of their lists
-pub told_events : (d : ℕ) (bs : List BlockState) → merged (event_rank d) 1280 (map (λ (b : BlockState). b.events) bs) ≡ events_of d bs
+-- the events and the stops of blocks are the merge of their lists
+pub merged_events : (d : ℕ) (bs : List BlockState) → merged (event_rank d) 1280 (map (λ (b : BlockState). b.events) bs) ≡ events_of d bs
 unfolding events_of
-told_events d bs = merged_of (event_rank d) 1280 (λ (b : BlockState). b.events) bs
+merged_events d bs = merged_of (event_rank d) 1280 (λ (b : BlockState). b.events) bs
 
-pub told_stops : (d : ℕ) (bs : List BlockState) → merged (λ (s : Stop). s.pe) 64 (map (λ (b : BlockState). b.stops) bs) ≡ stops_of d bs
+pub merged_stops : (d : ℕ) (bs : List BlockState) → merged (λ (s : Stop). s.pe) 64 (map (λ (b : BlockState). b.stops) bs) ≡ stops_of d bs
 unfolding stops_of
-told_stops d bs = merged_of (λ (s : Stop). s.pe) 64 (λ (b : BlockState). b.stops) bs
+merged_stops d bs = merged_of (λ (s : Stop). s.pe) 64 (λ (b : BlockState). b.stops) bs

@@ -9,6 +9,6 @@ pub mod Placed
 pub mod FreshBlock
 pub mod Tables
 pub mod Carried
-pub mod Telling
+pub mod Listing
 pub mod Parted
 pub use Rattle.ultra_cut.proofs.NothingHeld

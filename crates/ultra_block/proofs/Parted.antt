@@ -1,4 +1,4 @@
--- A machine whose units have gone to the blocks that a partition names, and of which block 0 tells what was told.
+-- A machine whose units have gone to the blocks that a partition names; block 0 has the lists of the cycle.
 use Rattle.std.proofs.Common.{◌≡◌, ℕ, suc, ◌+◌, ◌*◌, ◌^◌, ◌<◌, ◌≤◌, List, [], ◌∷◌, Option, None, Some, Bool, true, false, length, map, get_or, set, replicate, refl, sym, ◌∙◌, ap, subst, arith}
 use Rattle.std.specs.Prelude.{◌==◌, All, is_some}
 use Rattle.std.proofs.lemmas.Bool.{eq-eqb}
@@ -14,10 +14,10 @@ use Rattle.ultra_course.specs.Frame.{AreAlike, IsClear}
 use Rattle.ultra_cut.specs.Cut.{block_at, first, frame_of, given, home, no_block, no_element, no_switch}
 use Rattle.ultra_cut.specs.Halves.{AreBlocks, OfEach}
 use Rattle.ultra_block.specs.Fresh.{frame_of_one, one_block}
-use Rattle.ultra_block.specs.Dealt.{AreCarried, IsDealt, IsLastNamed, TellsAs, TellsNothing, only_if}
+use Rattle.ultra_block.specs.Dealt.{AreCarried, IsDealt, IsLastNamed, ListsSame, ListsNothing, only_if}
 use Rattle.ultra_block.proofs.FreshBlock.{block_is, home_is_zero}
 use Rattle.ultra_block.proofs.Carried.{block_now, block_still, same_part}
-use Rattle.ultra_block.proofs.Telling.{same_events, same_stops}
+use Rattle.ultra_block.proofs.Listing.{same_events, same_stops}
 
 some_only : {X : Type 0} (e : Bool) (o : Option X) → is_some o ≡ true → is_some (only_if e o) ≡ e
 some_only true o some = some
@@ -36,14 +36,14 @@ column_none bs links count l h empty =
     let within : k < length bs = let e = length-map bs (λ b. on_link (links b) l) in omega arith in
     get_or-map (λ b. on_link (links b) l) bs k no_block None within ∙ ap (λ t. on_link t l) (empty k within) ∙ get_or-replicate count l None None h)
 
--- block 0 tells what another told
-abbrev pub teller : BlockState → List BlockState → BlockState
-teller b bs = record (block_at bs 0) { events = b.events; stops = b.stops }
+-- block 0, with the lists of another block
+abbrev pub first_block : BlockState → List BlockState → BlockState
+first_block b bs = record (block_at bs 0) { events = b.events; stops = b.stops }
 
 module _ (d : ℕ) (partition : List ℕ) (b : BlockState) (bs : List BlockState) (whole : AreBlocks d (one_block d) (b ∷ [])) (clear : IsClear d (frame_of_one d b))
     (count : length partition ≡ unit_count d) (named : All (λ (k : ℕ). k < length bs) partition) (some : 1 ≤ length bs) (carried : AreCarried d partition b bs) where
   abbrev it : BlockState
-  it = teller b bs
+  it = first_block b bs
 
   abbrev now : List BlockState
   now = set bs 0 it
@@ -141,13 +141,13 @@ module _ (d : ℕ) (partition : List ℕ) (b : BlockState) (bs : List BlockState
         ∙ sym (clear.requests l h);
   }
 
-  -- ---- what they tell
-  told : TellsAs (block_at now 0) b
-  told =
+  -- ---- what they list
+  same : ListsSame (block_at now 0) b
+  same =
       let is = block_now bs 0 it some in
       record { events = ap (λ (x : BlockState). x.events) is; stops = ap (λ (x : BlockState). x.stops) is }
 
-  silent : (k : ℕ) → 0 < k → k < length now → TellsNothing (block_at now k)
+  silent : (k : ℕ) → 0 < k → k < length now → ListsNothing (block_at now k)
   silent k after h =
       let still = block_still bs 0 it some k (λ e. absurd (omega arith)) in
       let story = (carried.bare k (omega (arith, long))).story in
@@ -156,15 +156,15 @@ module _ (d : ℕ) (partition : List ℕ) (b : BlockState) (bs : List BlockState
         stops = ap (λ (x : BlockState). x.stops) still ∙ story.stops;
       }
 
-  pub is_dealt : length bs ≤ 64 → IsLastNamed partition (length bs) → IsDealt d partition b (set bs 0 (teller b bs))
+  pub is_dealt : length bs ≤ 64 → IsLastNamed partition (length bs) → IsDealt d partition b (set bs 0 (first_block b bs))
   is_dealt few last = record {
     blocks = are_blocks;
     few = omega (arith, long);
     last = subst (IsLastNamed partition) (sym long) last;
     frame = alike;
     done = λ k h. part (λ (x : BlockState). x.done) refl k ∙ (carried.bare k (omega (arith, long))).done;
-    told = told;
+    first = same;
     silent = silent;
-    events = same_events d now b (omega (arith, long)) told silent;
-    stops = same_stops d now b (omega (arith, long)) told silent;
+    events = same_events d now b (omega (arith, long)) same silent;
+    stops = same_stops d now b (omega (arith, long)) same silent;
   }

@@ -1,4 +1,4 @@
--- Units of one kind, of which those below a number have gone to the blocks that a partition names.
+-- Units of one kind: those below a number have gone to the blocks that a partition names.
 use Rattle.std.proofs.Common.{◌≡◌, ◌≢◌, ℕ, ◌+◌, ◌<◌, ◌≤◌, List, Option, Some, None, true, false, length, get_or, set, replicate, refl, sym, ◌∙◌, ap, subst, inl, inr, arith, get_or-set_other}
 use Rattle.std.specs.Prelude.{◌==◌}
 use Rattle.std.proofs.lemmas.Bool.{cases_eq, eq-eqb}
@@ -14,7 +14,7 @@ or_none : {X : Type 0} (o : Option X) → put_or o None ≡ o
 or_none None = refl
 or_none (Some x) = refl
 
--- units of one kind by their numbers in it, of which a machine has `count`, in as many blocks as `blocks`
+-- the `count` units of one kind, by their numbers within the kind, in `blocks` blocks
 module _ {X : Type 0} (partition : List ℕ) (number : ℕ → ℕ) (count blocks : ℕ) where
   -- of the units in a table those with numbers below n stand in the tables of their blocks, and
   -- the others are left

@@ -14,21 +14,21 @@ use Rattle.ultra_block.specs.Fresh.{frame_of_one}
 abbrev pub empty_after : ℕ → ℕ → BlockState
 empty_after d n = record (empty_block d) { done = n }
 
--- a block tells of the cycle what another tells, or nothing
-pub record TellsAs (x b : BlockState) : Type 0 where
+-- a block lists what another lists of the cycle, or nothing
+pub record ListsSame (x b : BlockState) : Type 0 where
   pub events : x.events ≡ b.events
   pub stops : x.stops ≡ b.stops
 
-pub record TellsNothing (x : BlockState) : Type 0 where
+pub record ListsNothing (x : BlockState) : Type 0 where
   pub events : x.events ≡ []
   pub stops : x.stops ≡ []
 
--- nothing is on its links, it tells nothing, and n cycles are done
+-- nothing is on its links, it lists nothing, and n cycles are done
 pub record HasOnlyUnits (d n : ℕ) (x : BlockState) : Type 0 where
   pub done : x.done ≡ n
   pub replies : x.replies ≡ replicate ((d + 1) * 2 ^ d) None
   pub requests : x.requests ≡ replicate ((d + 1) * 2 ^ d) None
-  pub story : TellsNothing x
+  pub story : ListsNothing x
 
 -- what there is, if it belongs here
 abbrev pub only_if : {X : Type 0} → Bool → Option X → Option X
@@ -58,14 +58,14 @@ module _ (d : ℕ) (partition : List ℕ) (b : BlockState) where
         → element_at (block_at now k).elements p
         ≡ only_if (home partition (element_number d p) == k) (element_at b.elements p)
 
-  -- the machine that stood in block b, cut into at most 64 blocks; block 0 tells what b told
+  -- the machine that stood in block b, cut into at most 64 blocks; block 0 lists what b listed
   pub record IsDealt (now : List BlockState) : Type 0 where
     pub blocks : AreBlocks d partition now
     pub few : length now ≤ 64
     pub last : IsLastNamed partition (length now)
     pub frame : AreAlike d (frame_of d partition now) (frame_of_one d b)
     pub done : OfEach (λ x. x.done ≡ b.done) now
-    pub told : TellsAs (block_at now 0) b
-    pub silent : (k : ℕ) → 0 < k → k < length now → TellsNothing (block_at now k)
+    pub first : ListsSame (block_at now 0) b
+    pub silent : (k : ℕ) → 0 < k → k < length now → ListsNothing (block_at now k)
     pub events : events_of d now ≡ events_of d (b ∷ [])
     pub stops : stops_of d now ≡ stops_of d (b ∷ [])

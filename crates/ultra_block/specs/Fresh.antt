@@ -14,7 +14,7 @@ use Rattle.ultra_course.specs.Whole.{IsFrameOf, empty_switch}
 use Rattle.ultra_cut.specs.Cut.{frame_of}
 use Rattle.ultra_cut.specs.Halves.{AreBlocks}
 
--- module m of as many as `size`, with cells that have the values of a list of addresses with values
+-- module m of `size`, whose cells have the values that a list gives by address
 abbrev pub filled : ℕ → ℕ → ℕ → List (ℕ × ℕ) → Bank
 filled size m cells initial = record {
   cells = places cells (λ o. given_value initial (o * size + m) 0);

@@ -51,7 +51,7 @@ impl Blocks {
     ghost use Rattle.ultra_halves.specs.Elements.{element_of};
     ghost use Rattle.ultra_block.specs.State.{AreParts, events_left, put_together, stops_left};
 
-    /// The machine of these settings and this program before its first cycle: all registers and cells are 0 but for the initial ones, and nothing is on its way. The partition names the block of each unit, 0 to 63: switches come first, then modules, then processing elements. Blocks may be empty; there is one more than the greatest that is named.
+    /// The machine of these settings and this program before its first cycle: all registers and cells are 0 but for the initial ones, and nothing is on its way. The partition names the block of each unit, 0 to 63: switches come first, then modules, then processing elements. Blocks may be empty; their count is one more than the greatest number in the partition.
     ///
     /// It keeps copies of its own. `BadPartition` says that the partition is not of this length, or that a block is above 63; it is found before memory is asked for. `NoMemory` says that memory was refused.
     pub fn new(
@@ -144,7 +144,7 @@ impl Blocks {
         self.parts.done += 1;
     }
 
-    /// Whether every processing element has halted or faulted, and nothing is on its way or open. It looks no further than the first unit of which this is not so.
+    /// Whether every processing element has halted or faulted, and nothing is on its way or open. It looks no further than the first unit that isn't at rest.
     pub fn is_quiet(&self) -> bool
         ensures { result ≡ is_quiet self.now.machine }
     {
@@ -179,7 +179,7 @@ impl Blocks {
         self.parts.partition.as_slice()
     }
 
-    /// The first unit from number `from` on that holds such a thing. Switches are numbered first, by stage, then modules, then processing elements.
+    /// The first unit from number `from` on that holds what is asked for. Switches are numbered first, by stage, then modules, then processing elements.
     #[inline(always)]
     pub fn next_holding(&self, held: Held, from: usize) -> Option<usize>
         ensures { IsNextWhere (holds self.now.config.stages self.now.machine held) from result }

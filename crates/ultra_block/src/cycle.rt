@@ -10,7 +10,7 @@ use ultra_isa::Program;
 use ultra_model::Config;
 use ultra_section::{Block, Half};
 
-/// The blocks of a machine, which has made `done` cycles, make one more: replies, memory, requests, processors. Each half is made by all blocks before the next, and what has left one block for another goes there between the two halves of a phase.
+/// The blocks of a machine, which has made `done` cycles, make one more: replies, memory, requests, processors. All blocks make a half before any makes the next, and between the two halves of a phase each message goes to the block of the unit to which it leads.
 pub(crate) fn make_cycle(
     blocks: &mut [Block],
     config: &Config,

@@ -12,7 +12,7 @@ use std::alloc::{AllocError, Global};
 use ultra_route::Net;
 use ultra_section::Block;
 
-/// How many blocks a partition names: one more than the last of them, and one at least.
+/// How many blocks a partition makes: one more than the greatest number in it, and at least one.
 fn count_blocks(partition: &[u8]) -> usize
     ensures named { All (λ b. b < result) partition.now }
     ensures some { 1 ≤ result }
@@ -25,7 +25,7 @@ fn count_blocks(partition: &[u8]) -> usize
     }
 }
 
-/// This many blocks without units, after this many cycles. An error says that memory was refused.
+/// `count` blocks without units, after `done` cycles. An error says that memory was refused.
 fn empty_blocks(alloc: Global, net: Net, done: u32, count: usize) -> Result<Vec<Block>, AllocError>
     ensures { IfOk result (λ v. v.items ≡ replicate count (empty_after net done)) }
 {
@@ -53,7 +53,7 @@ fn carry(partition: &[u8], block: &mut Block, blocks: &mut [Block])
     }
 }
 
-/// Cuts a machine that stands in one block: each of its units goes to the block that the partition names, 0 to 63, and block 0 gets what has been told of the cycle. An error says that memory was refused; the block is then as it was.
+/// Cuts a machine that stands in one block: each of its units goes to the block that the partition names, 0 to 63, and block 0 gets the events and faults of the cycle. An error says that memory was refused; the block is then as it was.
 pub fn deal(
     alloc: Global,
     net: Net,

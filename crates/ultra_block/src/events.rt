@@ -1,4 +1,4 @@
-//! What the blocks of a machine tell of the last cycle, in the order of the rules.
+//! What happened in the last cycle, by the lists of all blocks, in the order of the rules.
 
 ghost use Rattle.std.specs.Prelude.{◌≡◌, ◌≤◌, length, map};
 ghost use Rattle.ultra_section.specs.BlockState.{BlockState};
@@ -12,7 +12,7 @@ use ultra_msg::Event;
 use ultra_route::Net;
 use ultra_section::Block;
 
-/// The events of all blocks, of which each has its own in order.
+/// The events of all blocks, merged. Each block has its own in order.
 pub(crate) fn events_in(blocks: &[Block], net: Net) -> Merge<'_, Event, ByRules>
     requires order { OfEach (IsInOrder net) blocks.now }
     requires few { length blocks.now ≤ 64 }
@@ -26,7 +26,7 @@ pub(crate) fn events_in(blocks: &[Block], net: Net) -> Merge<'_, Event, ByRules>
     events
 }
 
-/// The faults of all blocks, of which each has its own in order.
+/// The faults of all blocks, merged. Each block has its own in order.
 pub(crate) fn stops_in(blocks: &[Block], net: Net) -> Merge<'_, Stop, ByElement>
     requires order { OfEach (IsInOrder net) blocks.now }
     requires few { length blocks.now ≤ 64 }

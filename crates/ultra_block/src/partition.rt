@@ -13,7 +13,7 @@ use ultra_units::switch_count;
 /// The most blocks that a machine is cut into.
 pub const MOST_BLOCKS: u8 = 64;
 
-/// Why a machine is not cut so.
+/// Why a machine isn't cut by a partition.
 #[derive(Clone, Copy, PartialEq, Eq, Debug, Drop, Error)]
 pub enum PartitionFault {
     /// Memory was refused.

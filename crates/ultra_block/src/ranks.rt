@@ -1,4 +1,4 @@
-//! The order in which the rules tell what happens in a cycle.
+//! The order in which the rules list what happens in a cycle.
 
 ghost use Rattle.std.specs.Prelude.{◌≡◌, ℕ};
 ghost use Rattle.ultra_cut.specs.Events.{event_rank};

@@ -5,9 +5,9 @@ use Rattle.ultra_board.specs.declared.TheConstants.{MOST_SEATS}
 use Rattle.ultra_board.specs.declared.rule.View.{View}
 use Rattle.ultra_board.specs.View.{times}
 
--- a step shows this of the views, and no slot is taken or given
-abbrev pub Tells : (View → ℕ → View → Type 0) → Me ℕ View → ℕ → Me ℕ View → Type 0
-Tells fact m n w = fact m.0 n w.0 × (w.1 ≡ m.1)
+-- a step has this effect on the views, and takes or gives no slot
+abbrev pub HasEffect : (View → ℕ → View → Type 0) → Me ℕ View → ℕ → Me ℕ View → Type 0
+HasEffect fact m n w = fact m.0 n w.0 × (w.1 ≡ m.1)
 
 -- add to claim, which is counted: an old value below the limit is drawn, which wasn't drawn or finished before; else the seat is spent
 pub record AddsToClaim (v : View) (n : ℕ) (w : View) : Type 0 where

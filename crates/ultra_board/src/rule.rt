@@ -67,9 +67,9 @@ impl TableRule<u64, View, Limits> for BoardRule {
 pub struct AddToClaim;
 
 impl Play<u64, View> for AddToClaim {
-    ghost use Rattle.ultra_board.specs.Step.{Tells, AddsToClaim};
+    ghost use Rattle.ultra_board.specs.Step.{HasEffect, AddsToClaim};
 
-    ghost then = { λ _ m n w. Tells AddsToClaim m n w };
+    ghost then = { λ _ m n w. HasEffect AddsToClaim m n w };
 }
 
 /// A number that a proof picks.
@@ -87,54 +87,54 @@ pub struct AddToDone<N: Number> {
 }
 
 impl<N: Number> Play<u64, View> for AddToDone<N> {
-    ghost use Rattle.ultra_board.specs.Step.{Tells, AddsToDone};
+    ghost use Rattle.ultra_board.specs.Step.{HasEffect, AddsToDone};
 
-    ghost then = { λ _ m n w. Tells (AddsToDone N.number) m n w };
+    ghost then = { λ _ m n w. HasEffect (AddsToDone N.number) m n w };
 }
 
 /// A load of done.
 pub struct LoadOfDone;
 
 impl Play<u64, View> for LoadOfDone {
-    ghost use Rattle.ultra_board.specs.Step.{Tells, LoadsDone};
+    ghost use Rattle.ultra_board.specs.Step.{HasEffect, LoadsDone};
 
-    ghost then = { λ _ m n w. Tells LoadsDone m n w };
+    ghost then = { λ _ m n w. HasEffect LoadsDone m n w };
 }
 
 /// A load of passes.
 pub struct LoadOfPasses;
 
 impl Play<u64, View> for LoadOfPasses {
-    ghost use Rattle.ultra_board.specs.Step.{Tells, LoadsPasses};
+    ghost use Rattle.ultra_board.specs.Step.{HasEffect, LoadsPasses};
 
-    ghost then = { λ _ m n w. Tells LoadsPasses m n w };
+    ghost then = { λ _ m n w. HasEffect LoadsPasses m n w };
 }
 
 /// An add to passes: it takes a pass, or begins a try that has to be undone.
 pub struct AddToPasses;
 
 impl Play<u64, View> for AddToPasses {
-    ghost use Rattle.ultra_board.specs.Step.{Tells, AddsToPasses};
+    ghost use Rattle.ultra_board.specs.Step.{HasEffect, AddsToPasses};
 
-    ghost then = { λ _ m n w. Tells AddsToPasses m n w };
+    ghost then = { λ _ m n w. HasEffect AddsToPasses m n w };
 }
 
 /// A subtraction from passes: it undoes a try, or gives a pass back.
 pub struct SubtractFromPasses;
 
 impl Play<u64, View> for SubtractFromPasses {
-    ghost use Rattle.ultra_board.specs.Step.{Tells, SubtractsFromPasses};
+    ghost use Rattle.ultra_board.specs.Step.{HasEffect, SubtractsFromPasses};
 
-    ghost then = { λ _ m n w. Tells (λ v _ u. SubtractsFromPasses v u) m n w };
+    ghost then = { λ _ m n w. HasEffect (λ v _ u. SubtractsFromPasses v u) m n w };
 }
 
 /// A load of claim that looks at no value. It shows what the rule says of the seat's own view.
 pub struct LoadOfClaim;
 
 impl Play<u64, View> for LoadOfClaim {
-    ghost use Rattle.ultra_board.specs.Step.{Tells, LoadsClaim};
+    ghost use Rattle.ultra_board.specs.Step.{HasEffect, LoadsClaim};
 
-    ghost then = { λ _ m n w. Tells (λ v _ u. LoadsClaim v u) m n w };
+    ghost then = { λ _ m n w. HasEffect (λ v _ u. LoadsClaim v u) m n w };
 }
 
 /// How a seat is split: the second seat has one place and nothing else.

@@ -39,7 +39,7 @@ run_asked name conf prog a b =
     let p = plain_word prog b in
     rw (c.trailing, c.long, c.short, p.trailing, p.long, p.short) refl
 
--- words without a fault of which something is asked have none
+-- words that ask for something have no fault
 no_fault : (words : List Text) (a : Asked) (k : ErrorKind) → fault_of ultra_app words ≡ [] → asked words ≡ Some a → ¬ IsFault words k
 no_fault words a k none is (inl among) = subst (IsAmong k) none among
 no_fault words a k none is (inr rest) =

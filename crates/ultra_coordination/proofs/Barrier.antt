@@ -37,7 +37,7 @@ passed (stage m b f s) = s
 abbrev out : Phase
 out = stage 0 0 0 0
 
--- a sum of numbers of which each is at most k
+-- a sum of numbers that are at most k
 sum_within : (phases : List Phase) (k : ℕ) → ((p : ℕ) → p < length phases → made (slice_index_or phases p out) ≤ k) → sum_by made phases ≤ k * length phases
 sum_within [] k h = omega arith
 sum_within (φ ∷ phases) k h =
@@ -46,7 +46,7 @@ sum_within (φ ∷ phases) k h =
     let all : sum_by made (φ ∷ phases) ≡ made φ + sum_by made phases = sum_by-cons made φ phases in
     rw (mul-suc k (length phases)) (omega arith)
 
--- and of which one is less
+-- the same, where one of them is less
 sum_below : (phases : List Phase) (k q : ℕ) → ((p : ℕ) → p < length phases → made (slice_index_or phases p out) ≤ k) → q < length phases → made (slice_index_or phases q out) < k → sum_by made phases < k * length phases
 sum_below phases k q h b l =
     let ψ = stage k 0 0 0 in

@@ -23,28 +23,28 @@ module _ (c : Settings) (n : ℕ) (program : List Instr) (x : Course) (events : 
   abbrev m3 : Machine
   m3 = request_phase c m2
 
-  -- what is told until the memory has served
-  abbrev told : List Event
-  told = deliveries d x.replies_sent ++ servings d x.replies_taken
+  -- the events until the memory has served
+  abbrev so_far : List Event
+  so_far = deliveries d x.replies_sent ++ servings d x.replies_taken
 
   replied : IsFrameOf c n x.replies_taken (deliveries d x.replies_sent) [] m1
   replied = step.replied c n x.start events stops m w x.first_rooms k.first_rooms x.replies_sent k.replies_sent x.replies_taken k.replies_taken
 
-  served : IsFrameOf c n x.memory_served told [] m2
+  served : IsFrameOf c n x.memory_served so_far [] m2
   served = step.served c n x.replies_taken (deliveries d x.replies_sent) [] m1 replied x.memory_served k.memory_served
 
-  requested : IsFrameOf c n x.requests_taken (told ++ combinations d n x.requests_sent) [] m3
-  requested = step.requested c n x.memory_served told [] m2 served x.second_rooms k.second_rooms x.requests_sent k.requests_sent x.requests_taken k.requests_taken
+  requested : IsFrameOf c n x.requests_taken (so_far ++ combinations d n x.requests_sent) [] m3
+  requested = step.requested c n x.memory_served so_far [] m2 served x.second_rooms k.second_rooms x.requests_sent k.requests_sent x.requests_taken k.requests_taken
 
   stepped : IsFrameOf c (n + 1) x.steps_made (events_of d n program x) (stops_of d n program x) (cycle c program m)
   unfolding cycle
-  stepped = step.stepped c n x.requests_taken (told ++ combinations d n x.requests_sent) [] m3 requested program x.steps_made k.steps_made
+  stepped = step.stepped c n x.requests_taken (so_far ++ combinations d n x.requests_sent) [] m3 requested program x.steps_made k.steps_made
 
   is_cycled : IsCycled c n program x m
   is_cycled = record {
     replies = step.can_take_replies c n x.start events stops m w x.first_rooms k.first_rooms x.replies_sent k.replies_sent;
-    requests = step.can_take_requests c n x.memory_served told [] m2 served x.second_rooms k.second_rooms x.requests_sent k.requests_sent;
-    steps = step.can_execute c n x.requests_taken (told ++ combinations d n x.requests_sent) [] m3 requested;
+    requests = step.can_take_requests c n x.memory_served so_far [] m2 served x.second_rooms k.second_rooms x.requests_sent k.requests_sent;
+    steps = step.can_execute c n x.requests_taken (so_far ++ combinations d n x.requests_sent) [] m3 requested;
     machine = stepped;
     clear = record {
       replies = λ l hl. k.steps_made.replies l hl ∙ k.requests_taken.replies l hl ∙ k.requests_sent.replies l hl ∙ k.memory_served.replies l hl ∙ k.replies_taken.replies l hl;

@@ -15,15 +15,15 @@ use Rattle.ultra_course.specs.Course.{serves, servings, executes, issues, stops}
 use Rattle.ultra_course.specs.Whole.{whole, Fits}
 use Rattle.ultra_course.proofs.AtFrame.{same_places, same_machine, bank_is, element_is}
 
-module _ (c : Settings) (f : Frame) (n : ℕ) (events : List Event) (told : List Stop) where
+module _ (c : Settings) (f : Frame) (n : ℕ) (events : List Event) (faults : List Stop) where
   abbrev m : Machine
-  m = whole c f n events told
+  m = whole c f n events faults
 
-  pub memory_is : whole c (serves c.stages f) n (events ++ servings c.stages f) told ≡ memory_phase c m
+  pub memory_is : whole c (serves c.stages f) n (events ++ servings c.stages f) faults ≡ memory_phase c m
   unfolding memory_phase whole servings
   memory_is =
-      let banks = same_places (size c) (λ k. serve (f.bank k)) (λ k. serve (bank_at m k)) (λ k hk. ap (λ b. serve b) (sym (bank_is c f n events told k hk))) in
-      let acted = same_places (size c) (λ k. serving k (served (f.bank k))) (λ k. serving k (served (bank_at m k))) (λ k hk. ap (λ b. serving k (served b)) (sym (bank_is c f n events told k hk))) in
+      let banks = same_places (size c) (λ k. serve (f.bank k)) (λ k. serve (bank_at m k)) (λ k hk. ap (λ b. serve b) (sym (bank_is c f n events faults k hk))) in
+      let acted = same_places (size c) (λ k. serving k (served (f.bank k))) (λ k. serving k (served (bank_at m k))) (λ k hk. ap (λ b. serving k (served b)) (sym (bank_is c f n events faults k hk))) in
       same_machine n refl refl banks refl (ap (λ os. events ++ present os) acted) refl
 
   module _ (fits : Fits c n f) (program : List Instr) where
@@ -39,11 +39,11 @@ module _ (c : Settings) (f : Frame) (n : ℕ) (events : List Event) (told : List
         let e = f.element p in
         ap (λ s. step_of s e.interface.most_open program e.processor.core e.interface.interface) (fits.sites p hp)
         ∙ ap (λ k. step_of (site c p) k program e.processor.core e.interface.interface) (fits.most_open p hp)
-        ∙ ap (λ (v : Element). step_of (site c p) c.most_open program v.core v.interface) (sym (element_is c f n events told p hp))
+        ∙ ap (λ (v : Element). step_of (site c p) c.most_open program v.core v.interface) (sym (element_is c f n events faults p hp))
 
     -- what is made of a processing element and its step
     of_step : {X : Type 0} (g : ℕ → Element → Stepped → X) (p : ℕ) → p < size c → g p (element_of (f.element p)) (made p) ≡ g p (element_at m p) (defined p)
-    of_step g p hp = ap (λ t. g p (element_of (f.element p)) t) (step_is p hp) ∙ ap (λ e. g p e (defined p)) (sym (element_is c f n events told p hp))
+    of_step g p hp = ap (λ t. g p (element_of (f.element p)) t) (step_is p hp) ∙ ap (λ e. g p e (defined p)) (sym (element_is c f n events faults p hp))
 
     pub steps_are : whole c (executes c.stages program f) (n + 1) (events ++ issues c.stages program f) (stops c.stages program f) ≡ processor_phase c program m
     unfolding processor_phase whole issues stops

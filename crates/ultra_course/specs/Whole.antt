@@ -1,4 +1,4 @@
--- the whole machine of which the units are given by their numbers
+-- the whole machine that units, given by their numbers, make up
 use Rattle.std.specs.Prelude.{◌≡◌, ℕ, ◌/◌, ◌%◌, ◌<◌, ◌≤◌, List, length}
 use Rattle.ultra_msg.specs.declared.Event.{Event}
 use Rattle.ultra_switch.specs.declared.Switch.{Switch}

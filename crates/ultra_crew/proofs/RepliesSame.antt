@@ -27,7 +27,7 @@ use Rattle.ultra_course.specs.Frame.{Frame, AreRooms}
 use Rattle.ultra_course.proofs.Numbers.{number_small, pick_false}
 use Rattle.ultra_cut.specs.Halves.{noted}
 
--- visits that are the same where something is so that they keep
+-- visits that are the same where a fact holds that they keep
 pub same_with : {T : Type 0} (f g : ℕ → T → T) (P : T → Type 0) → ((n : ℕ) (t : T) → P t → P (f n t))
     → ((n : ℕ) (t : T) → P t → f n t ≡ g n t) → (m : ℕ) (t : T) → P t → after_units f m t ≡ after_units g m t
 unfolding after_units

@@ -1,4 +1,4 @@
--- The blocks of a machine between two cycles are settled by the machine, but for what they tell of the last one.
+-- A machine between two cycles settles its blocks, but for what they list of the last one.
 use Rattle.std.proofs.Common.{◌≡◌, ℕ, ◌+◌, ◌*◌, ◌^◌, ◌<◌, List, [], Bool, true, false, Option, Some, None, length, refl, sym, ◌∙◌, ap, subst, arith, map, replicate}
 use Rattle.std.specs.Prelude.{◌==◌, is_some}
 use Rattle.std.proofs.lemmas.Bool.{eqb-true}

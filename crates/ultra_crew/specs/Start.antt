@@ -69,7 +69,7 @@ module _ (b : BlocksState) where
   unfoldable pub first_blocks : List BlockState
   first_blocks = places b.count first_block
 
--- a machine of which these are the blocks, after n cycles
+-- these are the blocks of a machine after n cycles
 abbrev pub state_of : Settings → List Instr → List ℕ → ℕ → List BlockState → BlocksState
 state_of c program partition n bs = record {
   config = c;

@@ -11,12 +11,12 @@ abbrev pub bit_of_test : Bool → ℕ
 bit_of_test true = 1
 bit_of_test false = 0
 
--- the number whose bit i says whether something is so of i, for each i below n
+-- the number whose bit i says whether a test is true of i, for each i below n
 unfoldable pub word_of : (ℕ → Bool) → ℕ → ℕ
 word_of p zero = 0
 word_of p (suc n) = bit_of_test (p n) * 2 ^ n + word_of p n
 
--- the set of the units of which something is so
+-- the set of the units that pass a test
 unfoldable pub units_with : (ℕ → Bool) → List ℕ
 units_with p = places 5 (λ k. word_of (λ i. p (k * 64 + i)) 64)
 

@@ -1,4 +1,4 @@
-//! Workers that are kept over several cycles.
+//! Workers whose threads are kept over several cycles.
 
 ghost use Rattle.std.specs.Prelude.{◌≡◌, ℕ, ◌+◌, ◌-◌, ◌<◌, ◌≤◌, ◌^◌, All, IfOk, OnOk, [], length, map, slice_index_or};
 ghost use Rattle.std.specs.Arc.{arc_value};
@@ -122,7 +122,7 @@ impl<J: Course> Shift<J> {
         Ok(blocks)
     }
 
-    /// The blocks of a machine, which has made `done` cycles, make one more, each half of it in their workers' threads: replies, memory, requests, processors. What has left one block for another goes there between the two halves of a phase.
+    /// The blocks of a machine, which has made `done` cycles, make one more, each half of it in their workers' threads: replies, memory, requests, processors. Between the two halves of a phase each message goes to the block of the unit to which it leads.
     fn make_cycle<R: Wait>(
         &self,
         rt: &R,

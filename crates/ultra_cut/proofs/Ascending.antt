@@ -1,4 +1,4 @@
--- Lists that ascend between two bounds, and what is told of units in the order of their ranks.
+-- Lists that ascend between two bounds, and what is listed of units in the order of their ranks.
 use Rattle.std.proofs.Common.{◌≡◌, ℕ, zero, suc, ◌+◌, ◌<◌, ◌≤◌, List, [], ◌∷◌, ◌++◌, map, All, length, get_or, sym, subst, arith}
 use Rattle.std.proofs.lemmas.List.{map-append}
 use Rattle.std.proofs.lemmas.List.Elements.{All-nil, All-cons}
@@ -48,29 +48,29 @@ module _ {X : Type 0} (rank : X → ℕ) where
   all_below low high [] h = All-nil (λ x. rank x < high)
   all_below low high (x ∷ xs) h = All-cons (λ x. rank x < high) x xs h.1 (all_below (rank x) high xs h.2)
 
-  -- ---- what is told, by rank
+  -- ---- what is listed, by rank
   abbrev pub InRanks : ℕ → ℕ → List X → Type 0
   InRanks low high xs = AscendsWithin low high (map rank xs)
 
-  pub told_after : (low mid high : ℕ) (xs ys : List X) → InRanks low mid xs → InRanks mid high ys → InRanks low high (xs ++ ys)
-  told_after low mid high xs ys hx hy =
+  pub listed_after : (low mid high : ℕ) (xs ys : List X) → InRanks low mid xs → InRanks mid high ys → InRanks low high (xs ++ ys)
+  listed_after low mid high xs ys hx hy =
       subst (AscendsWithin low high) (sym (map-append rank xs ys)) (one_after low mid high (map rank xs) (map rank ys) hx hy)
 
-  told_of_one : (r : ℕ) (xs : List X) → HaveRank rank r xs → InRanks r (r + 1) xs
-  told_of_one r [] h = omega arith
-  told_of_one r (x ∷ xs) h = (omega arith, omega arith, wider r (r + 1) (rank x) (r + 1) (map rank xs) (omega arith) (omega arith) (told_of_one r xs h.1))
+  listed_one : (r : ℕ) (xs : List X) → HaveRank rank r xs → InRanks r (r + 1) xs
+  listed_one r [] h = omega arith
+  listed_one r (x ∷ xs) h = (omega arith, omega arith, wider r (r + 1) (rank x) (r + 1) (map rank xs) (omega arith) (omega arith) (listed_one r xs h.1))
 
-  told_in_order : (base n : ℕ) (f : ℕ → List X) → AreRanked rank base n f → InRanks base (base + n) (joined (places n f))
-  told_in_order base zero f ranked = subst (InRanks base (base + 0)) (sym (joined_none f)) (omega arith)
-  told_in_order base (suc n) f ranked =
+  listed_in_order : (base n : ℕ) (f : ℕ → List X) → AreRanked rank base n f → InRanks base (base + n) (joined (places n f))
+  listed_in_order base zero f ranked = subst (InRanks base (base + 0)) (sym (joined_none f)) (omega arith)
+  listed_in_order base (suc n) f ranked =
       let number : base + n + 1 ≡ base + suc n = omega arith in
-      let before = told_in_order base n f (λ i h. ranked i (omega arith)) in
-      let last = told_of_one (base + n) (f n) (ranked n (omega arith)) in
+      let before = listed_in_order base n f (λ i h. ranked i (omega arith)) in
+      let last = listed_one (base + n) (f n) (ranked n (omega arith)) in
       subst (InRanks base (base + suc n)) (sym (joined_next f (suc n) n (omega arith)))
       (subst (λ high. InRanks base high (joined (places n f) ++ f n)) number
-      (told_after base (base + n) (base + n + 1) (joined (places n f)) (f n) before last))
+      (listed_after base (base + n) (base + n + 1) (joined (places n f)) (f n) before last))
 
   -- between wider bounds
-  pub told_within : (base n low high : ℕ) (f : ℕ → List X) → AreRanked rank base n f → low ≤ base → base + n ≤ high → InRanks low high (joined (places n f))
-  told_within base n low high f ranked from to =
-      wider base (base + n) low high (map rank (joined (places n f))) from to (told_in_order base n f ranked)
+  pub listed_within : (base n low high : ℕ) (f : ℕ → List X) → AreRanked rank base n f → low ≤ base → base + n ≤ high → InRanks low high (joined (places n f))
+  listed_within base n low high f ranked from to =
+      wider base (base + n) low high (map rank (joined (places n f))) from to (listed_in_order base n f ranked)

@@ -1,4 +1,4 @@
--- What is so of replies and of requests alike.
+-- What is true of replies and of requests alike.
 use Rattle.std.proofs.Common.{◌≡◌, ℕ, ◌+◌, ◌*◌, ◌^◌, ◌<◌, ◌≤◌, List, Option, Some, None, length, refl}
 use Rattle.std.specs.Prelude.{IfSome}
 use Rattle.ultra_switch.specs.declared.Ports.{Ports}

@@ -15,7 +15,7 @@ alike_by d f g h a b = record {
   requests = λ l hl. a.requests l hl ∙ b.requests l hl;
 }
 
--- ---- what is so of each block
+-- ---- what is true of each block
 module _ (old now : List BlockState) (count : length now ≡ length old) where
   within : (k : ℕ) → k < length now → k < length old
   within k h = subst (λ x. k < x) count h

@@ -14,11 +14,11 @@ use Rattle.ultra_cut.specs.Cut.{frame_of}
 use Rattle.ultra_cut.specs.Exchange.{AreRepliesThere, AreRequestsThere, OnlyRepliesMove, OnlyRequestsMove}
 use Rattle.ultra_cut.specs.Halves.{OfEach, all_made, noted}
 use Rattle.ultra_cut.specs.Events.{events_of, stops_of}
-use Rattle.ultra_cut.specs.HappeningLaws.{TellAll}
+use Rattle.ultra_cut.specs.HappeningLaws.{ListWhatHappens}
 use Rattle.ultra_cut.specs.InOrder.{IsInOrder}
 use Rattle.ultra_cut.specs.Moments.{AreMachine}
 use Rattle.ultra_cut.proofs.Homes.{sites}
-use Rattle.ultra_cut.proofs.CycleEvents as tell
+use Rattle.ultra_cut.proofs.CycleEvents as listing
 use Rattle.ultra_cut.proofs.Replied as replied
 use Rattle.ultra_cut.proofs.Requested as requested
 use Rattle.ultra_cut.proofs.Requested.{AreServed}
@@ -35,18 +35,18 @@ module _ (c : Settings) (partition : List ℕ) (n : ℕ) (events : List Event) (
   f xs = frame_of d partition xs
 
   abbrev taken : List BlockState
-  taken = tell.taken d n partition program first first bs replies replies
+  taken = listing.taken d n partition program first first bs replies replies
 
   abbrev served : List BlockState
-  served = tell.served d n partition program first first bs replies replies
+  served = listing.served d n partition program first first bs replies replies
 
-  abbrev told : List Event
-  told = deliveries d (f replies) ++ servings d (f taken)
+  abbrev so_far : List Event
+  so_far = deliveries d (f replies) ++ servings d (f taken)
 
   abbrev middle : Machine
   middle = memory_phase c (reply_phase c m)
 
-  pub are_served : (second : BlockRooms) → AreRooms d (f served) (noted d second) → AreServed c partition n told middle served second
+  pub are_served : (second : BlockRooms) → AreRooms d (f served) (noted d second) → AreServed c partition n so_far middle served second
   are_served second room = record {
     machine = replied.served_machine c partition n events stops m program bs start clear first first_room replies replies_moved replies_there;
     clear = replied.served_clear c partition n events stops m program bs start clear first first_room replies replies_moved replies_there;
@@ -59,25 +59,25 @@ module _ (c : Settings) (partition : List ℕ) (n : ℕ) (events : List Event) (
       (requests : List BlockState) (requests_moved : OnlyRequestsMove (all_made SendRequests second program served) requests)
       (requests_there : AreRequestsThere d partition requests) where
     abbrev waiting : List BlockState
-    waiting = tell.waiting d n partition program first second bs replies requests
+    waiting = listing.waiting d n partition program first second bs replies requests
 
     abbrev stepped : List BlockState
-    stepped = tell.stepped d n partition program first second bs replies requests
+    stepped = listing.stepped d n partition program first second bs replies requests
 
-    abbrev next : AreServed c partition n told middle served second
+    abbrev next : AreServed c partition n so_far middle served second
     next = are_served second second_room
 
-    waiting_machine : AreMachine c partition n (told ++ combinations d n (f requests)) [] (request_phase c middle) waiting
-    waiting_machine = requested.taken_machine c partition n told middle program served second next requests requests_moved requests_there
+    waiting_machine : AreMachine c partition n (so_far ++ combinations d n (f requests)) [] (request_phase c middle) waiting
+    waiting_machine = requested.taken_machine c partition n so_far middle program served second next requests requests_moved requests_there
 
-    stepped_machine : AreMachine c partition (n + 1) ((told ++ combinations d n (f requests)) ++ issues d program (f waiting)) (all_stops d program (f waiting))
+    stepped_machine : AreMachine c partition (n + 1) ((so_far ++ combinations d n (f requests)) ++ issues d program (f waiting)) (all_stops d program (f waiting))
         (processor_phase c program (request_phase c middle)) stepped
-    stepped_machine = requested.stepped_machine c partition n told middle program served second next requests requests_moved requests_there
+    stepped_machine = requested.stepped_machine c partition n so_far middle program served second next requests requests_moved requests_there
 
     pub stepped_clear : IsClear d (f stepped)
-    stepped_clear = requested.stepped_clear c partition n told middle program served second next requests requests_moved requests_there
+    stepped_clear = requested.stepped_clear c partition n so_far middle program served second next requests requests_moved requests_there
 
-    in_cycle : tell.AreInCycle d n partition program first second bs replies requests
+    in_cycle : listing.AreInCycle d n partition program first second bs replies requests
     in_cycle = record {
       start = start.blocks;
       replies_moved = replies_moved;
@@ -88,22 +88,22 @@ module _ (c : Settings) (partition : List ℕ) (n : ℕ) (events : List Event) (
       served_blocks = next.machine.blocks;
       requests_moved = requests_moved;
       requests_there = requests_there;
-      requests_blocks = requested.there_blocks c partition n told middle program served second next requests requests_moved requests_there;
-      requests_done = requested.there_done c partition n told middle program served second next requests requests_moved requests_there;
+      requests_blocks = requested.there_blocks c partition n so_far middle program served second next requests requests_moved requests_there;
+      requests_done = requested.there_done c partition n so_far middle program served second next requests requests_moved requests_there;
       waiting_blocks = waiting_machine.blocks;
-      sites = sites c n (f waiting) (told ++ combinations d n (f requests)) [] (request_phase c middle) waiting_machine.machine;
+      sites = sites c n (f waiting) (so_far ++ combinations d n (f requests)) [] (request_phase c middle) waiting_machine.machine;
     }
 
-    tell_all : TellAll d n partition program (tell.course d n partition program first second bs replies requests)
-    tell_all = tell.tell_all d n partition program first second bs replies requests in_cycle
+    list_what_happens : ListWhatHappens d n partition program (listing.course d n partition program first second bs replies requests)
+    list_what_happens = listing.list_what_happens d n partition program first second bs replies requests in_cycle
 
     pub stepped_in_order : OfEach (IsInOrder d) stepped
-    stepped_in_order = tell.in_order d n partition program first second bs replies requests in_cycle
+    stepped_in_order = listing.in_order d n partition program first second bs replies requests in_cycle
 
-    -- the blocks are the machine after the cycle, and what they tell, merged, is what happened in it
+    -- the blocks are the machine after the cycle, and what they list, merged, is what happened in it
     pub cycled : AreMachine c partition (n + 1) (events_of d stepped) (stops_of d stepped) (cycle c program m) stepped
     unfolding cycle
     cycled =
-        subst (λ es. AreMachine c partition (n + 1) es (stops_of d stepped) (processor_phase c program (request_phase c middle)) stepped) (sym tell_all.events)
-        (subst (λ ss. AreMachine c partition (n + 1) ((told ++ combinations d n (f requests)) ++ issues d program (f waiting)) ss (processor_phase c program (request_phase c middle)) stepped)
-        (sym tell_all.stops) stepped_machine)
+        subst (λ es. AreMachine c partition (n + 1) es (stops_of d stepped) (processor_phase c program (request_phase c middle)) stepped) (sym list_what_happens.events)
+        (subst (λ ss. AreMachine c partition (n + 1) ((so_far ++ combinations d n (f requests)) ++ issues d program (f waiting)) ss (processor_phase c program (request_phase c middle)) stepped)
+        (sym list_what_happens.stops) stepped_machine)

@@ -1,4 +1,4 @@
--- What the blocks of a machine tell in a cycle is what happens in it.
+-- What the blocks of a machine list in a cycle is what happens in it.
 use Rattle.std.proofs.Common.{◌≡◌, ℕ, ◌^◌, ◌<◌, List, [], ◌++◌, length, sym, ◌∙◌, ap, subst}
 use Rattle.std.proofs.lemmas.List.{length-map}
 use Rattle.std.specs.Option.{ForSome}
@@ -14,12 +14,12 @@ use Rattle.ultra_cut.specs.Cut.{block_at, frame_of}
 use Rattle.ultra_cut.specs.Exchange.{AreRepliesThere, AreRequestsThere, OnlyRepliesMove, OnlyRequestsMove}
 use Rattle.ultra_cut.specs.Halves.{AreBlocks, OfEach, all_made}
 use Rattle.ultra_cut.proofs.ReplyColumns.{changed_at}
-use Rattle.ultra_cut.specs.Happenings.{told_by_replies, told_by_service, told_by_requests, told_by_steps, stops_by_steps}
-use Rattle.ultra_cut.specs.HappeningLaws.{AddsEvents, AddsStops, Course, IsTold, Tells, TellAll}
+use Rattle.ultra_cut.specs.Happenings.{events_of_replies, events_of_service, events_of_requests, events_of_steps, stops_of_steps}
+use Rattle.ultra_cut.specs.HappeningLaws.{AddsEvents, AddsStops, Course, HaveListed, HasListed, ListWhatHappens}
 use Rattle.ultra_cut.specs.InOrder.{IsInOrder}
 use Rattle.ultra_cut.proofs.Happenings.{happenings_law}
 use Rattle.ultra_cut.proofs.InOrder.{in_order_law}
-use Rattle.ultra_cut.proofs.Telling.{telling_law}
+use Rattle.ultra_cut.proofs.Listing.{events_added_law}
 
 -- the blocks of a cycle: at the start, after each exchange, and after the halves between
 module _ (d n : ℕ) (partition : List ℕ) (program : List Instr) (first second : Rooms) (bs replies requests : List BlockState) where
@@ -41,7 +41,7 @@ module _ (d n : ℕ) (partition : List ℕ) (program : List Instr) (first second
   abbrev pub stepped : List BlockState
   stepped = all_made Execute second program waiting
 
-  -- what they are to the law of what blocks tell
+  -- what they are to the law of what blocks list
   abbrev pub course : Course
   course = record {
     replies_sent = replies;
@@ -87,7 +87,7 @@ module _ (d n : ℕ) (partition : List ℕ) (program : List Instr) (first second
     start_count : length bs ≡ length stepped
     start_count = sym (length-map bs (made SendReplies first program)) ∙ sym all.replies_moved.count ∙ replies_count
 
-    -- ---- what block k has told
+    -- ---- what block k has listed
     module _ (k : ℕ) (within : k < length stepped) where
       inside : (xs : List BlockState) → length xs ≡ length stepped → k < length xs
       inside xs count = subst (λ x. k < x) (sym count) within
@@ -99,7 +99,7 @@ module _ (d n : ℕ) (partition : List ℕ) (program : List Instr) (first second
 
       adds : (rooms : Rooms) (xs : List BlockState) → length xs ≡ length stepped → AreBlocks d partition xs
           → AddsEvents d rooms program (block_at xs k) × AddsStops d rooms program (block_at xs k)
-      adds rooms xs count blocks = telling_law d rooms program (block_at xs k) blocks.some_stages blocks.few_stages (blocks.shaped k (inside xs count))
+      adds rooms xs count blocks = events_added_law d rooms program (block_at xs k) blocks.some_stages blocks.few_stages (blocks.shaped k (inside xs count))
 
       silent : (block_at replies k).events ≡ []
       silent =
@@ -107,17 +107,17 @@ module _ (d n : ℕ) (partition : List ℕ) (program : List Instr) (first second
           ∙ after (λ b. b.events) SendReplies first bs start_count
           ∙ (adds first bs start_count all.start).0.sending_replies
 
-      taken_events : (block_at taken k).events ≡ told_by_replies d (block_at replies k)
+      taken_events : (block_at taken k).events ≡ events_of_replies d (block_at replies k)
       taken_events =
           after (λ b. b.events) TakeReplies first replies replies_count
           ∙ (adds first replies replies_count all.replies_blocks).0.taking_replies
-          ∙ ap (λ es. es ++ told_by_replies d (block_at replies k)) silent
+          ∙ ap (λ es. es ++ events_of_replies d (block_at replies k)) silent
 
-      served_events : (block_at served k).events ≡ told_by_replies d (block_at replies k) ++ told_by_service d (block_at taken k)
+      served_events : (block_at served k).events ≡ events_of_replies d (block_at replies k) ++ events_of_service d (block_at taken k)
       served_events =
           after (λ b. b.events) Serve first taken taken_count
           ∙ (adds first taken taken_count all.taken_blocks).0.serving
-          ∙ ap (λ es. es ++ told_by_service d (block_at taken k)) taken_events
+          ∙ ap (λ es. es ++ events_of_service d (block_at taken k)) taken_events
 
       requests_events : (block_at requests k).events ≡ (block_at served k).events
       requests_events =
@@ -125,11 +125,11 @@ module _ (d n : ℕ) (partition : List ℕ) (program : List Instr) (first second
           ∙ after (λ b. b.events) SendRequests second served served_count
           ∙ (adds second served served_count all.served_blocks).0.sending_requests
 
-      waiting_events : (block_at waiting k).events ≡ (block_at requests k).events ++ told_by_requests d n (block_at requests k)
+      waiting_events : (block_at waiting k).events ≡ (block_at requests k).events ++ events_of_requests d n (block_at requests k)
       waiting_events =
           after (λ b. b.events) TakeRequests second requests requests_count
           ∙ (adds second requests requests_count all.requests_blocks).0.taking_requests
-          ∙ ap (λ i. (block_at requests k).events ++ told_by_requests d i (block_at requests k)) (all.requests_done k (inside requests requests_count))
+          ∙ ap (λ i. (block_at requests k).events ++ events_of_requests d i (block_at requests k)) (all.requests_done k (inside requests requests_count))
 
       no_stops : (block_at waiting k).stops ≡ []
       no_stops =
@@ -146,21 +146,21 @@ module _ (d n : ℕ) (partition : List ℕ) (program : List Instr) (first second
           ∙ after (λ b. b.stops) SendReplies first bs start_count
           ∙ (adds first bs start_count all.start).1.sending_replies
 
-      tells : Tells d n partition program course k
-      tells = record {
+      lists : HasListed d n partition program course k
+      lists = record {
         events =
             after (λ b. b.events) Execute second waiting waiting_count
             ∙ (adds second waiting waiting_count all.waiting_blocks).0.executing
-            ∙ ap (λ es. es ++ told_by_steps d program (block_at waiting k))
-            (waiting_events ∙ ap (λ es. es ++ told_by_requests d n (block_at requests k)) (requests_events ∙ served_events));
+            ∙ ap (λ es. es ++ events_of_steps d program (block_at waiting k))
+            (waiting_events ∙ ap (λ es. es ++ events_of_requests d n (block_at requests k)) (requests_events ∙ served_events));
         stops =
             after (λ b. b.stops) Execute second waiting waiting_count
             ∙ (adds second waiting waiting_count all.waiting_blocks).1.executing
-            ∙ ap (λ ss. ss ++ stops_by_steps d program (block_at waiting k)) no_stops;
+            ∙ ap (λ ss. ss ++ stops_of_steps d program (block_at waiting k)) no_stops;
       }
 
-    is_told : IsTold d n partition program course
-    is_told = record {
+    have_listed : HaveListed d n partition program course
+    have_listed = record {
       replies_sent = (all.replies_blocks, replies_count);
       replies_taken = (all.taken_blocks, taken_count);
       requests_sent = (all.requests_blocks, requests_count);
@@ -169,11 +169,11 @@ module _ (d n : ℕ) (partition : List ℕ) (program : List Instr) (first second
       requests_there = all.requests_there;
       replies_home = all.replies_home;
       sites = all.sites;
-      tells = tells;
+      lists = lists;
     }
 
-    pub tell_all : TellAll d n partition program course
-    tell_all = happenings_law d n partition program course is_told
+    pub list_what_happens : ListWhatHappens d n partition program course
+    list_what_happens = happenings_law d n partition program course have_listed
 
     pub in_order : OfEach (IsInOrder d) stepped
-    in_order = in_order_law d n partition program course is_told
+    in_order = in_order_law d n partition program course have_listed

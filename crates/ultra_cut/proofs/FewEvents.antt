@@ -1,4 +1,4 @@
--- In the halves in which messages are taken at most two events are told of a unit.
+-- In the halves that take messages, a unit has at most two events.
 use Rattle.std.proofs.Common.{ℕ, ◌≤◌, Option, Some, None, length, sym, subst, arith}
 use Rattle.ultra_msg.specs.declared.Request.{Request}
 use Rattle.ultra_msg.specs.declared.ReplyMessage.{ReplyMessage}

@@ -33,7 +33,7 @@ pub mod Joined
 pub mod Ranked
 pub mod Merged
 pub mod Parts
-pub mod Telling
+pub mod Listing
 pub mod Happenings
 pub mod Ascending
 pub mod InOrder

@@ -1,4 +1,4 @@
--- What blocks tell in each half, as a part of what they tell in a cycle: its ranks, and what the homes tell.
+-- What blocks list in each half, as a part of what they list in a cycle: its ranks, and what the homes list.
 use Rattle.std.proofs.Common.{◌≡◌, ◌≢◌, ℕ, ◌+◌, ◌*◌, ◌/◌, ◌^◌, ◌<◌, ◌≤◌, List, [], ◌∷◌, Option, Some, None, length, refl, sym, ◌∙◌, ap, subst, inl, inr, arith}
 use Rattle.std.specs.Option.{ForSome}
 use Rattle.std.proofs.lemmas.Bool.{cases_eq}
@@ -36,7 +36,7 @@ use Rattle.ultra_cut.specs.Cut.{block_at, frame_of, given, home, no_element}
 use Rattle.ultra_cut.specs.Exchange.{AreRepliesThere, AreRequestsThere}
 use Rattle.ultra_cut.specs.Halves.{AreBlocks}
 use Rattle.ultra_cut.specs.Events.{event_rank}
-use Rattle.ultra_cut.specs.Happenings.{delivery_told, serving_told, combinations_told, issue_told, stop_told}
+use Rattle.ultra_cut.specs.Happenings.{delivery_events, serving_events, combination_events, issue_events, element_stops}
 use Rattle.ultra_cut.proofs.Joined.{joined_same, joined_present}
 use Rattle.ultra_cut.proofs.Ranked.{HaveRank}
 use Rattle.ultra_cut.proofs.Merged.{Part, all_home}
@@ -44,10 +44,10 @@ use Rattle.ultra_cut.specs.declared.kind.Kind.TheVariants.{Replies, Requests}
 use Rattle.ultra_cut.proofs.Units.{Sort, at_home, away, elements, home_small, modules, switches, unit}
 use Rattle.ultra_cut.proofs.There.{end_there, switch_there}
 
--- ---- what is told of one unit has its rank
+-- ---- the events of one unit have its rank
 module _ (d : ℕ) where
   pub delivery_ranked : (p : ℕ) (o : Option ProcessingElement) (came : Option ReplyMessage) → ForSome came (λ (r : ReplyMessage). r.pe ≡ p)
-      → HaveRank (event_rank d) (switch_count d + 2 ^ d + p) (delivery_told o came)
+      → HaveRank (event_rank d) (switch_count d + 2 ^ d + p) (delivery_events o came)
   delivery_ranked p None came names = tt
   delivery_ranked p (Some e) None names = tt
   delivery_ranked p (Some e) (Some r) names = (ap (element_number d) (names r refl), tt)
@@ -56,7 +56,7 @@ module _ (d : ℕ) where
   act_ranked m None = tt
   act_ranked m (Some a) = (omega arith, tt)
 
-  pub serving_ranked : (m : ℕ) (o : Option Bank) → HaveRank (event_rank d) (320 + switch_count d + m) (serving_told m o)
+  pub serving_ranked : (m : ℕ) (o : Option Bank) → HaveRank (event_rank d) (320 + switch_count d + m) (serving_events m o)
   serving_ranked m None = tt
   serving_ranked m (Some bank) = act_ranked m (served bank)
 
@@ -70,7 +70,7 @@ module _ (d : ℕ) where
       each-append (λ e. event_rank d e ≡ 640 + i) (combination s x r (combine_within wait_places l r)) (combinations wait_places s x (arrive wait_places l r) rs)
       (combination_ranked i s x r (combine_within wait_places l r) at) (each_ranked i wait_places s x (arrive wait_places l r) rs at)
 
-  pub combinations_ranked : (n i s k : ℕ) (o : Option Switch) (came : Ports (Option Request)) → switch_number d s k ≡ i → HaveRank (event_rank d) (640 + i) (combinations_told d n s k o came)
+  pub combinations_ranked : (n i s k : ℕ) (o : Option Switch) (came : Ports (Option Request)) → switch_number d s k ≡ i → HaveRank (event_rank d) (640 + i) (combination_events d n s k o came)
   combinations_ranked n i s k None came at = tt
   combinations_ranked n i s k (Some w) came at =
       let even : 2 * k / 2 ≡ k = omega arith in
@@ -89,7 +89,7 @@ module _ (d : ℕ) where
       (ap (λ q. 960 + element_number d q) names ∙ number, tt)
 
   pub issue_ranked : (program : List Instr) (p : ℕ) (o : Option ProcessingElement) → (given no_element o).processor.site.pe ≡ p
-      → HaveRank (event_rank d) (960 + (switch_count d + 2 ^ d) + p) (issue_told program o)
+      → HaveRank (event_rank d) (960 + (switch_count d + 2 ^ d) + p) (issue_events program o)
   issue_ranked program p None at = tt
   issue_ranked program p (Some e) at =
       let made = step_is e.processor.site e.interface.most_open e.interface.interface program e.processor.core in
@@ -105,53 +105,53 @@ fault_ranked p step.Stalled = tt
 fault_ranked p step.Halted = tt
 fault_ranked p (step.Fault f) = (omega arith, tt)
 
-pub stop_ranked : (program : List Instr) (p : ℕ) (o : Option ProcessingElement) → HaveRank stop_rank (0 + p) (stop_told program p o)
+pub stop_ranked : (program : List Instr) (p : ℕ) (o : Option ProcessingElement) → HaveRank stop_rank (0 + p) (element_stops program p o)
 stop_ranked program p None = tt
 stop_ranked program p (Some e) = fault_ranked p (step_at program e).was
 
--- ---- a part: of the units of a sort each block tells what `tell` says
+-- ---- a part: of the units of a sort each block lists what `list` says
 module _ (d : ℕ) (partition : List ℕ) (bs : List BlockState) (blocks : AreBlocks d partition bs) (count : ℕ) (same : length bs ≡ count)
-    {X E : Type 0} (sort : Sort X) (tell : BlockState → ℕ → Option X → List E) where
+    {X E : Type 0} (sort : Sort X) (list : BlockState → ℕ → Option X → List E) where
   abbrev at : ℕ → ℕ
   at i = home partition (sort.number d i)
 
-  abbrev told : ℕ → ℕ → List E
-  told k i = tell (block_at bs k) i (sort.at (block_at bs k) i)
+  abbrev listed : ℕ → ℕ → List E
+  listed k i = list (block_at bs k) i (sort.at (block_at bs k) i)
 
-  -- of a unit that stands elsewhere a block tells nothing
-  module _ (nothing : (b : BlockState) (i : ℕ) → tell b i None ≡ []) where
-    pub told_away : (k i : ℕ) → k < length bs → i < sort.count d → k ≢ at i → told k i ≡ []
-    told_away k i within small other = ap (tell (block_at bs k) i) (away sort d partition bs blocks.cut i small k within other) ∙ nothing (block_at bs k) i
+  -- of a unit that stands elsewhere a block lists nothing
+  module _ (nothing : (b : BlockState) (i : ℕ) → list b i None ≡ []) where
+    pub listed_away : (k i : ℕ) → k < length bs → i < sort.count d → k ≢ at i → listed k i ≡ []
+    listed_away k i within small other = ap (list (block_at bs k) i) (away sort d partition bs blocks.cut i small k within other) ∙ nothing (block_at bs k) i
 
-    -- it has its rank if what the home tells has
-    pub ranked_by_home : (rank : E → ℕ) (base : ℕ) → ((i : ℕ) → i < sort.count d → HaveRank rank (base + i) (told (at i) i)) → (k : ℕ) → k < length bs → (i : ℕ) → i < sort.count d
-        → HaveRank rank (base + i) (told k i)
+    -- every list has the unit's rank if the list of its home has
+    pub ranked_by_home : (rank : E → ℕ) (base : ℕ) → ((i : ℕ) → i < sort.count d → HaveRank rank (base + i) (listed (at i) i)) → (k : ℕ) → k < length bs → (i : ℕ) → i < sort.count d
+        → HaveRank rank (base + i) (listed k i)
     ranked_by_home rank base ranked k within i small = elim (cases_eq k (at i)) [
-      | inl here ↦ subst (λ j. HaveRank rank (base + i) (told j i)) (sym here) (ranked i small)
-      | inr other ↦ subst (HaveRank rank (base + i)) (sym (told_away k i within small other)) tt
+      | inl here ↦ subst (λ j. HaveRank rank (base + i) (listed j i)) (sym here) (ranked i small)
+      | inr other ↦ subst (HaveRank rank (base + i)) (sym (listed_away k i within small other)) tt
     ]
 
-    abbrev pub part_of : (rank : E → ℕ) (base low width : ℕ) → ((k : ℕ) → k < length bs → (i : ℕ) → i < sort.count d → HaveRank rank (base + i) (told k i))
+    abbrev pub part_of : (rank : E → ℕ) (base low width : ℕ) → ((k : ℕ) → k < length bs → (i : ℕ) → i < sort.count d → HaveRank rank (base + i) (listed k i))
         → low ≤ base → base + sort.count d ≤ low + width → Part rank count low width
     part_of rank base low width ranked from to = record {
       base = base;
       n = sort.count d;
-      told = told;
+      listed = listed;
       home = at;
       is = record {
         ranked = λ k h. ranked k (omega (arith, same));
         homes = λ i small. rw (sym same) (home_small sort d partition bs blocks.cut i small);
-        elsewhere = λ k i h small other. told_away k i (omega (arith, same)) small other;
+        elsewhere = λ k i h small other. listed_away k i (omega (arith, same)) small other;
       };
       from = from;
       to = to;
     }
 
-  -- what the homes tell
-  pub homes_tell : (g : ℕ → List E) → ((i : ℕ) (small : i < sort.count d) → tell (block_at bs (at i)) i (Some (unit sort d partition bs blocks.cut i small)) ≡ g i)
-      → joined (places (sort.count d) (λ i. told (at i) i)) ≡ joined (places (sort.count d) g)
-  homes_tell g is =
-      joined_same (sort.count d) (λ i. told (at i) i) g (λ i small. ap (tell (block_at bs (at i)) i) (at_home sort d partition bs blocks.cut i small) ∙ is i small)
+  -- what the homes list
+  pub homes_list : (g : ℕ → List E) → ((i : ℕ) (small : i < sort.count d) → list (block_at bs (at i)) i (Some (unit sort d partition bs blocks.cut i small)) ≡ g i)
+      → joined (places (sort.count d) (λ i. listed (at i) i)) ≡ joined (places (sort.count d) g)
+  homes_list g is =
+      joined_same (sort.count d) (λ i. listed (at i) i) g (λ i small. ap (list (block_at bs (at i)) i) (at_home sort d partition bs blocks.cut i small) ∙ is i small)
 
 -- ---- the parts
 module _ (d : ℕ) (partition : List ℕ) (bs : List BlockState) (blocks : AreBlocks d partition bs) (count : ℕ) (same : length bs ≡ count) (few : unit_count d < 321) where
@@ -160,7 +160,7 @@ module _ (d : ℕ) (partition : List ℕ) (bs : List BlockState) (blocks : AreBl
 
   module _ (come : AreRepliesThere d partition bs) (names : (p : ℕ) → p < 2 ^ d → ForSome (course.reply_to d f p) (λ (r : ReplyMessage). r.pe ≡ p)) where
     abbrev deliver : BlockState → ℕ → Option ProcessingElement → List Event
-    deliver b p o = delivery_told o (on_link b.replies (delivery_link d p))
+    deliver b p o = delivery_events o (on_link b.replies (delivery_link d p))
 
     abbrev pub part_of_replies : Part (event_rank d) count 0 320
     part_of_replies =
@@ -173,24 +173,24 @@ module _ (d : ℕ) (partition : List ℕ) (bs : List BlockState) (blocks : AreBl
     pub deliveries_home : all_home (event_rank d) count part_of_replies ≡ course.deliveries d f
     unfolding course.deliveries
     deliveries_home =
-        homes_tell d partition bs blocks count same elements deliver (λ p. present (delivery (course.reply_to d f p) ∷ []))
+        homes_list d partition bs blocks count same elements deliver (λ p. present (delivery (course.reply_to d f p) ∷ []))
         (λ p small. ap (λ o. present (delivery o ∷ [])) (sym (end_there Replies d partition bs blocks.cut come p small)))
         ∙ joined_present (2 ^ d) (λ p. delivery (course.reply_to d f p))
 
   abbrev pub part_of_service : Part (event_rank d) count 320 320
   part_of_service =
-      part_of d partition bs blocks count same modules (λ b m o. serving_told m o) (λ b m. refl) (event_rank d) (320 + switch_count d) 320 320
+      part_of d partition bs blocks count same modules (λ b m o. serving_events m o) (λ b m. refl) (event_rank d) (320 + switch_count d) 320 320
       (λ k h m small. serving_ranked d m (module_at (block_at bs k).modules m)) (omega arith) (omega (arith, few))
 
   pub servings_home : all_home (event_rank d) count part_of_service ≡ course.servings d f
   unfolding course.servings
   servings_home =
-      homes_tell d partition bs blocks count same modules (λ b m o. serving_told m o) (λ m. present (serving m (served (f.bank m)) ∷ [])) (λ m small. refl)
+      homes_list d partition bs blocks count same modules (λ b m o. serving_events m o) (λ m. present (serving m (served (f.bank m)) ∷ [])) (λ m small. refl)
       ∙ joined_present (2 ^ d) (λ m. serving m (served (f.bank m)))
 
   module _ (n : ℕ) where
     abbrev combine : BlockState → ℕ → Option Switch → List Event
-    combine b i o = combinations_told d n (stage_of d i) (index_of d i) o (on_both b.requests (request_links d (stage_of d i) (index_of d i)))
+    combine b i o = combination_events d n (stage_of d i) (index_of d i) o (on_both b.requests (request_links d (stage_of d i) (index_of d i)))
 
     abbrev pub part_of_requests : Part (event_rank d) count 640 320
     part_of_requests =
@@ -201,13 +201,13 @@ module _ (d : ℕ) (partition : List ℕ) (bs : List BlockState) (blocks : AreBl
     pub combinations_home : AreRequestsThere d partition bs → all_home (event_rank d) count part_of_requests ≡ course.combinations d n f
     unfolding course.combinations
     combinations_home come =
-        homes_tell d partition bs blocks count same switches combine (λ i. course.at_switch d (λ s k. combinations_of d s k n (f.switch i) (course.requests_to d f i)) i)
+        homes_list d partition bs blocks count same switches combine (λ i. course.at_switch d (λ s k. combinations_of d s k n (f.switch i) (course.requests_to d f i)) i)
         (λ i small. ap (combinations_of d (stage_of d i) (index_of d i) n (f.switch i)) (sym (switch_there Requests d partition bs blocks.cut come i small)))
 
   module _ (program : List Instr) where
     module _ (sites : (p : ℕ) → p < 2 ^ d → (f.element p).processor.site.pe ≡ p) where
       abbrev issue : BlockState → ℕ → Option ProcessingElement → List Event
-      issue b p o = issue_told program o
+      issue b p o = issue_events program o
 
       abbrev pub part_of_steps : Part (event_rank d) count 960 320
       part_of_steps =
@@ -219,17 +219,17 @@ module _ (d : ℕ) (partition : List ℕ) (bs : List BlockState) (blocks : AreBl
       pub issues_home : all_home (event_rank d) count part_of_steps ≡ course.issues d program f
       unfolding course.issues
       issues_home =
-          homes_tell d partition bs blocks count same elements issue (λ p. present (issue_event (element_of (f.element p)) (step_at program (f.element p)).sent ∷ [])) (λ p small. refl)
+          homes_list d partition bs blocks count same elements issue (λ p. present (issue_event (element_of (f.element p)) (step_at program (f.element p)).sent ∷ [])) (λ p small. refl)
           ∙ joined_present (2 ^ d) (λ p. issue_event (element_of (f.element p)) (step_at program (f.element p)).sent)
 
     module _ (narrow : 2 ^ d ≤ 64) where
       abbrev pub part_of_stops : Part stop_rank count 0 64
       part_of_stops =
-          part_of d partition bs blocks count same elements (λ b p o. stop_told program p o) (λ b p. refl) stop_rank 0 0 64
+          part_of d partition bs blocks count same elements (λ b p o. element_stops program p o) (λ b p. refl) stop_rank 0 0 64
           (λ k h p small. stop_ranked program p (element_at (block_at bs k).elements p)) (omega arith) (omega (arith, narrow))
 
       pub stops_home : all_home stop_rank count part_of_stops ≡ course.stops d program f
       unfolding course.stops
       stops_home =
-          homes_tell d partition bs blocks count same elements (λ b p o. stop_told program p o) (λ p. present (stop_of p (step_at program (f.element p)).was ∷ [])) (λ p small. refl)
+          homes_list d partition bs blocks count same elements (λ b p o. element_stops program p o) (λ p. present (stop_of p (step_at program (f.element p)).was ∷ [])) (λ p small. refl)
           ∙ joined_present (2 ^ d) (λ p. stop_of p (step_at program (f.element p)).was)

@@ -1,4 +1,4 @@
--- What is told by several, merged by rank.
+-- What several blocks list, merged by rank.
 use Rattle.std.proofs.Common.{◌≡◌, ◌≢◌, ℕ, zero, suc, ◌+◌, ◌<◌, List, [], ◌∷◌, ◌++◌, refl, sym, ◌∙◌, ap, subst, inl, inr, arith, append-nil}
 use Rattle.std.specs.Prelude.{◌==◌}
 use Rattle.std.specs.List.{filter, AllByRecursion}
@@ -24,7 +24,7 @@ module _ {X : Type 0} (rank : X → ℕ) where
   none_picked q r [] other h = refl
   none_picked q r (x ∷ xs) other h = rw (not_equal (rank x) r (λ e. other (sym h.0 ∙ e))) (none_picked q r xs other h.1)
 
-  -- of what is told of n units, that of unit i has rank base + i
+  -- of n lists, the entries of list i have rank base + i
   abbrev pub AreRanked : ℕ → ℕ → (ℕ → List X) → Type 0
   AreRanked base n f = (i : ℕ) → i < n → HaveRank (base + i) (f i)
 
@@ -54,8 +54,8 @@ module _ {X : Type 0} (rank : X → ℕ) where
             ∙ picked base n i f lower (omega arith)
       ]
 
-  -- what `count` blocks tell of n units, f k i by block k of unit i, that has rank base + i: only its
-  -- home tells of a unit
+  -- what `count` blocks list of n units, f k i by block k of unit i, which has rank base + i: of a unit
+  -- only its home lists something
   pub record IsPart (count base n : ℕ) (f : ℕ → ℕ → List X) (home : ℕ → ℕ) : Type 0 where
     pub ranked : (k : ℕ) → k < count → AreRanked base n (f k)
     pub homes : (i : ℕ) → i < n → home i < count
@@ -63,22 +63,22 @@ module _ {X : Type 0} (rank : X → ℕ) where
 
   -- ---- merged
   module _ (count base n : ℕ) (f : ℕ → ℕ → List X) (home : ℕ → ℕ) (part : IsPart count base n f home) where
-    abbrev pub told_by : ℕ → List X
-    told_by k = joined (places n (f k))
+    abbrev pub listed_by : ℕ → List X
+    listed_by k = joined (places n (f k))
 
     -- what has another rank isn't there
-    pub away : (r k : ℕ) → k < count → ((i : ℕ) → i < n → base + i ≢ r) → of_rank r (told_by k) ≡ []
+    pub away : (r k : ℕ) → k < count → ((i : ℕ) → i < n → base + i ≢ r) → of_rank r (listed_by k) ≡ []
     away r k h others = passed_over base n r (f k) (part.ranked k h) others
 
     abbrev merged_at : ℕ → List X
-    merged_at r = joined (places count (λ k. of_rank r (told_by k)))
+    merged_at r = joined (places count (λ k. of_rank r (listed_by k)))
 
     nothing_at : (r : ℕ) → ((i : ℕ) → i < n → base + i ≢ r) → merged_at r ≡ []
-    nothing_at r others = joined_nothing count (λ k. of_rank r (told_by k)) (λ k h. away r k h others)
+    nothing_at r others = joined_nothing count (λ k. of_rank r (listed_by k)) (λ k h. away r k h others)
 
     one_at : (i : ℕ) → i < n → merged_at (base + i) ≡ f (home i) i
     one_at i h =
-        joined_same count (λ k. of_rank (base + i) (told_by k)) (λ k. f k i) (λ k within. picked base n i (f k) (part.ranked k within) h)
+        joined_same count (λ k. of_rank (base + i) (listed_by k)) (λ k. f k i) (λ k within. picked base n i (f k) (part.ranked k within) h)
         ∙ joined_only count (home i) (λ k. f k i) (part.homes i h) (λ k within other. part.elsewhere k i within h other)
 
     -- by the ranks from `low` on

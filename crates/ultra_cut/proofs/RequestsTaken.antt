@@ -65,11 +65,11 @@ module _ (d : ℕ) (partition : List ℕ) (c : ℕ) (bs : List BlockState) (room
   kept_elements : (k : ℕ) → k < length bs → (take (block_at bs k)).elements ≡ (block_at bs k).elements
   kept_elements = kept (λ t. t.elements) (λ n s k t w. refl) (λ i t x. refl)
 
-  -- at most two events are told of a unit
+  -- a unit has at most two events
   few_events : (k : ℕ) → k < length bs → length (take (block_at bs k)).events ≤ length (block_at bs k).events + 640
   few_events k within =
       let b = block_at bs k in
-      let told = few_told (λ n t. told_of d c low high n t (unit_of d n)) b 2 (few_by_requests d low high b c) 320 in
+      let few = few_told (λ n t. told_of d c low high n t (unit_of d n)) b 2 (few_by_requests d low high b c) 320 in
       let all = ap length (events_after_taking d c low high b (start k within)) in
       let sum = length-append b.events (told_before (λ n t. told_of d c low high n t (unit_of d n)) 320 b) in
       omega arith

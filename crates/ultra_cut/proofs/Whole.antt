@@ -54,8 +54,8 @@ module _ (c : Settings) (partition : List ℕ) (n : ℕ) (program : List Instr) 
     abbrev served : List BlockState
     served = all_made Serve first program taken
 
-    abbrev told : List Event
-    told = deliveries d (f replies) ++ servings d (f taken)
+    abbrev so_far : List Event
+    so_far = deliveries d (f replies) ++ servings d (f taken)
 
     abbrev middle : Machine
     middle = memory_phase c (reply_phase c m)
@@ -68,24 +68,24 @@ module _ (c : Settings) (partition : List ℕ) (n : ℕ) (program : List Instr) 
       abbrev sent_on : List BlockState
       sent_on = all_made SendRequests second program served
 
-      abbrev next : AreServed c partition n told middle served second
+      abbrev next : AreServed c partition n so_far middle served second
       next = whole_cycle.are_served c partition n (events_of d bs) (stops_of d bs) m program bs start.machine start.clear first first_room replies replies_moved replies_there second second_room
 
       pub sent_on_cut : IsCut d partition sent_on
-      sent_on_cut = (requested.are_sent c partition n told middle program served second next).frame.blocks.blocks.cut
+      sent_on_cut = (requested.are_sent c partition n so_far middle program served second next).frame.blocks.blocks.cut
 
       pub sent_on_single : AreSingleRequests sent_on
-      sent_on_single = (requested.are_sent c partition n told middle program served second next).single
+      sent_on_single = (requested.are_sent c partition n so_far middle program served second next).single
 
       module _ (requests : List BlockState) (requests_moved : OnlyRequestsMove sent_on requests) (requests_there : AreRequestsThere d partition requests) where
         pub can_take_requests : AllCanMake TakeRequests requests
-        can_take_requests = requested.all_can_take c partition n told middle program served second next requests requests_moved requests_there
+        can_take_requests = requested.all_can_take c partition n so_far middle program served second next requests requests_moved requests_there
 
         abbrev waiting : List BlockState
         waiting = all_made TakeRequests second program requests
 
         pub can_execute : n < 2 ^ 32 - 1 → AllCanMake Execute waiting
-        can_execute early = requested.all_can_execute c partition n told middle program served second next requests requests_moved requests_there early
+        can_execute early = requested.all_can_execute c partition n so_far middle program served second next requests requests_moved requests_there early
 
         abbrev stepped : List BlockState
         stepped = all_made Execute second program waiting

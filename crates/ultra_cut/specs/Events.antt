@@ -1,4 +1,4 @@
--- what blocks tell of a cycle, in the order of the rules
+-- what blocks list in a cycle, in the order of the rules
 use Rattle.std.specs.Prelude.{ℕ, ◌+◌, ◌/◌, ◌==◌, List, filter, map}
 use Rattle.ultra_msg.specs.declared.Event.{Event}
 use Rattle.ultra_msg.specs.declared.Event.TheVariants.{Delivered, Served, Combined, Issued}
@@ -7,7 +7,7 @@ use Rattle.ultra_model.specs.Places.{places, joined}
 use Rattle.ultra_units.specs.Numbers.{switch_number, module_number, element_number}
 use Rattle.ultra_section.specs.BlockState.{BlockState}
 
--- the order in which the rules tell what happens in a cycle of a machine of d stages: deliveries by
+-- the order in which the rules list what happens in a cycle of a machine of d stages: deliveries by
 -- processing element, servings by module, combinations by switch, issues by processing element
 abbrev pub event_rank : ℕ → Event → ℕ
 event_rank d (Delivered r) = element_number d r.pe
@@ -15,7 +15,7 @@ event_rank d (Served m r reply now) = 320 + module_number d m
 event_rank d (Combined s x a old new first) = 640 + switch_number d s (x / 2)
 event_rank d (Issued r n) = 960 + element_number d r.pe
 
--- what blocks tell, in that order; a block tells what happens in one unit as it happened
+-- the events of all blocks, in that order; those of one unit in the order in which they happened
 unfoldable pub events_of : ℕ → List BlockState → List Event
 events_of d bs = joined (places 1280 (λ i. joined (map (λ b. filter (λ e. event_rank d e == i) b.events) bs)))
 

@@ -1,4 +1,4 @@
--- what leads from one block to another goes there
+-- messages go to the block of the unit to which they lead
 use Rattle.std.specs.Prelude.{◌≡◌, ◌≢◌, ℕ, ◌<◌, List, Option, None, length, slice_index_or}
 use Rattle.ultra_units.specs.Numbers.{unit_count}
 use Rattle.ultra_section.specs.BlockState.{BlockState}
@@ -39,7 +39,7 @@ module _ (d : ℕ) (partition : List ℕ) where
   abbrev pub HasNoRequestFor : List BlockState → ℕ → ℕ → Type 0
   HasNoRequestFor bs k n = home partition n ≢ k → AreEmpty (block_at bs k).requests (request_inlets d n)
 
-  -- each message is in the block where the unit stands to which it leads
+  -- each message is in the block of the unit to which it leads
   abbrev pub AreRepliesThere : List BlockState → Type 0
   AreRepliesThere bs = (k n : ℕ) → k < length bs → n < unit_count d → HasNoReplyFor bs k n
 

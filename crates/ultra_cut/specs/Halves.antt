@@ -24,7 +24,7 @@ noted d rooms = record {
 abbrev pub all_made : Half → BlockRooms → List Instr → List BlockState → List BlockState
 all_made half rooms program bs = map (made half rooms program) bs
 
--- something is so of each block
+-- a fact is true of each block
 abbrev pub OfEach : (BlockState → Type 0) → List BlockState → Type 0
 OfEach P bs = (k : ℕ) → k < length bs → P (block_at bs k)
 

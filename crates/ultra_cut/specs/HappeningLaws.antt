@@ -1,4 +1,4 @@
--- what the blocks of a machine tell in a cycle, merged, is what the definition tells
+-- what the blocks of a machine list in a cycle, merged, is what the definition says
 use Rattle.std.specs.Prelude.{◌≡◌, ℕ, ◌^◌, ◌<◌, ◌≤◌, List, [], ◌++◌, length}
 use Rattle.std.specs.Option.{ForSome}
 use Rattle.ultra_msg.specs.declared.ReplyMessage.{ReplyMessage}
@@ -14,19 +14,19 @@ use Rattle.ultra_cut.specs.Cut.{block_at, frame_of}
 use Rattle.ultra_cut.specs.Exchange.{AreRepliesThere, AreRequestsThere}
 use Rattle.ultra_cut.specs.Halves.{AreBlocks}
 use Rattle.ultra_cut.specs.Events.{events_of, stops_of}
-use Rattle.ultra_cut.specs.Happenings.{told_by_replies, told_by_service, told_by_requests, told_by_steps, stops_by_steps}
+use Rattle.ultra_cut.specs.Happenings.{events_of_replies, events_of_service, events_of_requests, events_of_steps, stops_of_steps}
 
--- what a block of a machine of d stages tells in each half stands behind what it has told; a cycle
--- begins with nothing told
+-- each half adds events at the end of the list of a block of a machine of d stages; a cycle begins
+-- with an empty list
 module _ (d : ℕ) (rooms : Rooms) (program : List Instr) (b : BlockState) where
   pub record AddsEvents : Type 0 where
     pub sending_replies : (made SendReplies rooms program b).events ≡ []
-    pub taking_replies : (made TakeReplies rooms program b).events ≡ b.events ++ told_by_replies d b
-    pub serving : (made Serve rooms program b).events ≡ b.events ++ told_by_service d b
+    pub taking_replies : (made TakeReplies rooms program b).events ≡ b.events ++ events_of_replies d b
+    pub serving : (made Serve rooms program b).events ≡ b.events ++ events_of_service d b
     pub sending_requests : (made SendRequests rooms program b).events ≡ b.events
     pub taking_requests :
-        (made TakeRequests rooms program b).events ≡ b.events ++ told_by_requests d b.done b
-    pub executing : (made Execute rooms program b).events ≡ b.events ++ told_by_steps d program b
+        (made TakeRequests rooms program b).events ≡ b.events ++ events_of_requests d b.done b
+    pub executing : (made Execute rooms program b).events ≡ b.events ++ events_of_steps d program b
 
   -- the same of stops
   pub record AddsStops : Type 0 where
@@ -35,14 +35,14 @@ module _ (d : ℕ) (rooms : Rooms) (program : List Instr) (b : BlockState) where
     pub serving : (made Serve rooms program b).stops ≡ b.stops
     pub sending_requests : (made SendRequests rooms program b).stops ≡ b.stops
     pub taking_requests : (made TakeRequests rooms program b).stops ≡ b.stops
-    pub executing : (made Execute rooms program b).stops ≡ b.stops ++ stops_by_steps d program b
+    pub executing : (made Execute rooms program b).stops ≡ b.stops ++ stops_of_steps d program b
 
-abbrev pub TellingLaw : Type 0
-TellingLaw =
+abbrev pub EventsAddedLaw : Type 0
+EventsAddedLaw =
     (d : ℕ) (rooms : Rooms) (program : List Instr) (b : BlockState)
     → 1 ≤ d → d ≤ 6 → IsShaped d b → AddsEvents d rooms program b × AddsStops d rooms program b
 
--- the blocks of a machine in a cycle: before each half in which they tell something, and after all
+-- the blocks of a machine in a cycle: before each half that adds something, and after the last half
 pub record Course : Type 0 where
   pub replies_sent : List BlockState
   pub replies_taken : List BlockState
@@ -64,20 +64,20 @@ module _ (d n : ℕ) (partition : List ℕ) (program : List Instr) (x : Course) 
   abbrev pub AreSites : Frame → Type 0
   AreSites f = (p : ℕ) → p < 2 ^ d → (f.element p).processor.site.pe ≡ p
 
-  -- what block k tells in the four halves
-  pub record Tells (k : ℕ) : Type 0 where
+  -- block k has listed what happened in the four halves, one after another
+  pub record HasListed (k : ℕ) : Type 0 where
     pub events :
         (block_at x.steps_made k).events
-        ≡ told_by_replies d (block_at x.replies_sent k)
-        ++ told_by_service d (block_at x.replies_taken k)
-        ++ told_by_requests d n (block_at x.requests_sent k)
-        ++ told_by_steps d program (block_at x.requests_taken k)
+        ≡ events_of_replies d (block_at x.replies_sent k)
+        ++ events_of_service d (block_at x.replies_taken k)
+        ++ events_of_requests d n (block_at x.requests_sent k)
+        ++ events_of_steps d program (block_at x.requests_taken k)
     pub stops :
-        (block_at x.steps_made k).stops ≡ stops_by_steps d program (block_at x.requests_taken k)
+        (block_at x.steps_made k).stops ≡ stops_of_steps d program (block_at x.requests_taken k)
 
-  -- before each half there are the blocks of the machine; each message is with the unit to which it
-  -- leads, where messages are taken; at the end each block has told what it tells
-  pub record IsTold : Type 0 where
+  -- before each half there are the blocks of the machine; before a half that takes messages, each
+  -- message is in the block of the unit to which it leads; at the end each block has its lists
+  pub record HaveListed : Type 0 where
     pub replies_sent : AreAllBlocks x.replies_sent
     pub replies_taken : AreAllBlocks x.replies_taken
     pub requests_sent : AreAllBlocks x.requests_sent
@@ -86,10 +86,10 @@ module _ (d n : ℕ) (partition : List ℕ) (program : List Instr) (x : Course) 
     pub requests_there : AreRequestsThere d partition x.requests_sent
     pub replies_home : AreRepliesHome (frame_of d partition x.replies_sent)
     pub sites : AreSites (frame_of d partition x.requests_taken)
-    pub tells : (k : ℕ) → k < length x.steps_made → Tells k
+    pub lists : (k : ℕ) → k < length x.steps_made → HasListed k
 
-  -- the blocks tell what happens to the frames
-  pub record TellAll : Type 0 where
+  -- the blocks list what happens to the frames
+  pub record ListWhatHappens : Type 0 where
     pub events :
         events_of d x.steps_made
         ≡ deliveries d (frame_of d partition x.replies_sent)
@@ -101,4 +101,4 @@ module _ (d n : ℕ) (partition : List ℕ) (program : List Instr) (x : Course) 
 abbrev pub HappeningsLaw : Type 0
 HappeningsLaw =
     (d n : ℕ) (partition : List ℕ) (program : List Instr) (x : Course)
-    → IsTold d n partition program x → TellAll d n partition program x
+    → HaveListed d n partition program x → ListWhatHappens d n partition program x

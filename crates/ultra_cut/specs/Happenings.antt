@@ -1,4 +1,4 @@
--- what a block tells in a half of a cycle, unit by unit: of one that doesn't stand there, nothing
+-- the events of a block in a half of a cycle, unit by unit: a unit that stands elsewhere has none
 use Rattle.std.specs.Prelude.{ℕ, ◌^◌, List, [], ◌∷◌, Option, Some, None}
 use Rattle.ultra_msg.specs.declared.Request.{Request}
 use Rattle.ultra_msg.specs.declared.ReplyMessage.{ReplyMessage}
@@ -19,62 +19,63 @@ use Rattle.ultra_section.specs.Marks.{on_link, on_both, delivery_link, request_l
 use Rattle.ultra_section.specs.BlockState.{BlockState, switch_at, module_at, element_at}
 
 -- ---- of a unit
--- of a processing element, and the reply on its link
-abbrev pub delivery_told : Option ProcessingElement → Option ReplyMessage → List Event
-delivery_told None came = []
-delivery_told (Some e) came = present (delivery came ∷ [])
+-- of a processing element, given the reply on its link
+abbrev pub delivery_events : Option ProcessingElement → Option ReplyMessage → List Event
+delivery_events None came = []
+delivery_events (Some e) came = present (delivery came ∷ [])
 
 -- of module m
-abbrev pub serving_told : ℕ → Option Bank → List Event
-serving_told m None = []
-serving_told m (Some bank) = present (serving m (served bank) ∷ [])
+abbrev pub serving_events : ℕ → Option Bank → List Event
+serving_events m None = []
+serving_events m (Some bank) = present (serving m (served bank) ∷ [])
 
--- of switch k of stage s of a machine of d stages, and the requests on its links, in cycle n
-abbrev pub combinations_told : ℕ → ℕ → ℕ → ℕ → Option Switch → Ports (Option Request) → List Event
-combinations_told d n s k None came = []
-combinations_told d n s k (Some w) came = combinations_of d s k n w came
+-- of switch k of stage s of a machine of d stages, given the requests on its links, in cycle n
+abbrev pub combination_events : ℕ → ℕ → ℕ → ℕ → Option Switch → Ports (Option Request) → List Event
+combination_events d n s k None came = []
+combination_events d n s k (Some w) came = combinations_of d s k n w came
 
-abbrev pub issue_told : List Instr → Option ProcessingElement → List Event
-issue_told program None = []
-issue_told program (Some e) = present (issue_event (element_of e) (step_at program e).sent ∷ [])
+-- of a processing element, which makes a step
+abbrev pub issue_events : List Instr → Option ProcessingElement → List Event
+issue_events program None = []
+issue_events program (Some e) = present (issue_event (element_of e) (step_at program e).sent ∷ [])
 
--- of processing element p
-abbrev pub stop_told : List Instr → ℕ → Option ProcessingElement → List Stop
-stop_told program p None = []
-stop_told program p (Some e) = present (stop_of p (step_at program e).was ∷ [])
+-- the faults of processing element p
+abbrev pub element_stops : List Instr → ℕ → Option ProcessingElement → List Stop
+element_stops program p None = []
+element_stops program p (Some e) = present (stop_of p (step_at program e).was ∷ [])
 
 -- ---- of the unit with a number, as a block of a machine of d stages has it
 module _ (d : ℕ) where
   abbrev pub delivery_at : BlockState → ℕ → List Event
-  delivery_at b p = delivery_told (element_at b.elements p) (on_link b.replies (delivery_link d p))
+  delivery_at b p = delivery_events (element_at b.elements p) (on_link b.replies (delivery_link d p))
 
   abbrev pub serving_at : BlockState → ℕ → List Event
-  serving_at b m = serving_told m (module_at b.modules m)
+  serving_at b m = serving_events m (module_at b.modules m)
 
   -- in cycle n
   abbrev pub combinations_at : ℕ → BlockState → ℕ → List Event
   combinations_at n b i =
       let came = on_both b.requests (request_links d (stage_of d i) (index_of d i)) in
-      combinations_told d n (stage_of d i) (index_of d i) (switch_at b.switches i) came
+      combination_events d n (stage_of d i) (index_of d i) (switch_at b.switches i) came
 
   abbrev pub issue_at : List Instr → BlockState → ℕ → List Event
-  issue_at program b p = issue_told program (element_at b.elements p)
+  issue_at program b p = issue_events program (element_at b.elements p)
 
   abbrev pub stop_at : List Instr → BlockState → ℕ → List Stop
-  stop_at program b p = stop_told program p (element_at b.elements p)
+  stop_at program b p = element_stops program p (element_at b.elements p)
 
   -- ---- of all units of a block, as it is before the half
-  unfoldable pub told_by_replies : BlockState → List Event
-  told_by_replies b = joined (places (2 ^ d) (λ p. delivery_at b p))
+  unfoldable pub events_of_replies : BlockState → List Event
+  events_of_replies b = joined (places (2 ^ d) (λ p. delivery_at b p))
 
-  unfoldable pub told_by_service : BlockState → List Event
-  told_by_service b = joined (places (2 ^ d) (λ m. serving_at b m))
+  unfoldable pub events_of_service : BlockState → List Event
+  events_of_service b = joined (places (2 ^ d) (λ m. serving_at b m))
 
-  unfoldable pub told_by_requests : ℕ → BlockState → List Event
-  told_by_requests n b = joined (places (switch_count d) (λ i. combinations_at n b i))
+  unfoldable pub events_of_requests : ℕ → BlockState → List Event
+  events_of_requests n b = joined (places (switch_count d) (λ i. combinations_at n b i))
 
-  unfoldable pub told_by_steps : List Instr → BlockState → List Event
-  told_by_steps program b = joined (places (2 ^ d) (λ p. issue_at program b p))
+  unfoldable pub events_of_steps : List Instr → BlockState → List Event
+  events_of_steps program b = joined (places (2 ^ d) (λ p. issue_at program b p))
 
-  unfoldable pub stops_by_steps : List Instr → BlockState → List Stop
-  stops_by_steps program b = joined (places (2 ^ d) (λ p. stop_at program b p))
+  unfoldable pub stops_of_steps : List Instr → BlockState → List Stop
+  stops_of_steps program b = joined (places (2 ^ d) (λ p. stop_at program b p))

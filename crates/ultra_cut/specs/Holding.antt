@@ -33,8 +33,8 @@ holds d m held n =
     (λ p. interface_holds held (element_at m p))
     false n
 
--- the first unit from number `from` on that holds such a thing, or that there is none, however the
--- machine is cut
+-- the first unit from number `from` on that holds it, or that there is none, however the machine is
+-- cut
 abbrev pub IsNextOfAll : List BlockState → Held → ℕ → Option ℕ → Type 0
 IsNextOfAll bs held from next =
     (c : Settings) (partition : List ℕ) (n : ℕ) (events : List Event) (stops : List Stop)

@@ -1,4 +1,4 @@
--- each block tells a cycle in ascending rank
+-- each block lists a cycle in ascending rank
 use Rattle.std.specs.Prelude.{ℕ, ◌<◌, List, map, All}
 use Rattle.std.specs.List.Sorted.{IsNonDecreasing}
 use Rattle.ultra_isa.specs.declared.Instr.{Instr}
@@ -6,7 +6,7 @@ use Rattle.ultra_model.specs.declared.Stop.{Stop}
 use Rattle.ultra_section.specs.BlockState.{BlockState}
 use Rattle.ultra_cut.specs.Halves.{OfEach}
 use Rattle.ultra_cut.specs.Events.{event_rank}
-use Rattle.ultra_cut.specs.HappeningLaws.{Course, IsTold}
+use Rattle.ultra_cut.specs.HappeningLaws.{Course, HaveListed}
 
 -- no number is below one that stands before it
 abbrev pub IsAscending : List ℕ → Type 0
@@ -23,4 +23,4 @@ pub record IsInOrder (d : ℕ) (b : BlockState) : Type 0 where
 abbrev pub InOrderLaw : Type 0
 InOrderLaw =
     (d n : ℕ) (partition : List ℕ) (program : List Instr) (x : Course)
-    → IsTold d n partition program x → OfEach (IsInOrder d) x.steps_made
+    → HaveListed d n partition program x → OfEach (IsInOrder d) x.steps_made

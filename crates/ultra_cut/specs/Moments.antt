@@ -24,7 +24,7 @@ machine_in c partition n bs =
     whole c (frame_of c.stages partition bs) n (events_of c.stages bs) (stops_of c.stages bs)
 
 -- between two cycles: each block has made n, they make up a machine that is sound, no message is on
--- a link, and each block tells what happened last in the order of the rules
+-- a link, and each block lists what happened last in the order of the rules
 pub record AreWhole (c : Settings) (partition : List ℕ) (n : ℕ) (bs : List BlockState) : Type 0 where
   pub machine :
       AreMachine c partition n (events_of c.stages bs) (stops_of c.stages bs) (machine_in c partition n bs) bs

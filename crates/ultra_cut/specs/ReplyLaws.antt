@@ -10,12 +10,12 @@ use Rattle.ultra_cut.specs.Cut.{block_at, frame_of}
 use Rattle.ultra_cut.specs.Exchange.{AreRepliesThere, AreSingleReplies}
 use Rattle.ultra_cut.specs.Halves.{AllCanMake, AreBlocks, FewMoreEvents, HasHalfRoom, HasNoReplies, HaveFrame, OfEach, all_made, noted}
 
--- a block tells nothing
+-- a block lists nothing
 pub record IsSilent (b : BlockState) : Type 0 where
   pub events : b.events ≡ []
   pub stops : b.stops ≡ []
 
--- each block tells of the stops of which it told
+-- each block keeps its list of stops
 abbrev pub AreSameStops : List BlockState → List BlockState → Type 0
 AreSameStops old now = (k : ℕ) → k < length old → (block_at now k).stops ≡ (block_at old k).stops
 

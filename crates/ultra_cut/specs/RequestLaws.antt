@@ -10,10 +10,11 @@ use Rattle.ultra_cut.specs.Cut.{block_at, frame_of}
 use Rattle.ultra_cut.specs.Exchange.{AreRequestsThere, AreSingleRequests}
 use Rattle.ultra_cut.specs.Halves.{AllCanMake, AreBlocks, FewMoreEvents, HasHalfRoom, HasNoRequests, HaveFrame, OfEach, all_made, noted}
 
--- each block tells of the events of which it told, and of the stops
+-- each block keeps its list of events
 abbrev pub AreSameEvents : List BlockState → List BlockState → Type 0
 AreSameEvents old now = (k : ℕ) → k < length old → (block_at now k).events ≡ (block_at old k).events
 
+-- each block keeps its list of stops
 abbrev pub AreSameStops : List BlockState → List BlockState → Type 0
 AreSameStops old now = (k : ℕ) → k < length old → (block_at now k).stops ≡ (block_at old k).stops
 

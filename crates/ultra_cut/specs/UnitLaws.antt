@@ -10,7 +10,7 @@ use Rattle.ultra_cut.specs.Cut.{block_at, frame_of}
 use Rattle.ultra_cut.specs.Halves.{AllCanMake, AreBlocks, FewMoreEvents, HasHalfRoom, HaveFrame, OfEach, all_made}
 
 -- ---- modules serve
--- the blocks are the frame in which all modules have served, and no stop is told
+-- the blocks are the frame in which all modules have served, and the stops stay as they are
 pub record HaveServed (d : ℕ) (partition : List ℕ) (bs now : List BlockState) : Type 0 where
   pub frame : HaveFrame d partition 0 bs now (serves d (frame_of d partition bs))
   pub events : FewMoreEvents bs now
@@ -30,10 +30,11 @@ module _ (d : ℕ) (partition : List ℕ) (program : List Instr) where
   pub record HaveExecuted (bs now : List BlockState) : Type 0 where
     pub frame : HaveFrame d partition 1 bs now (executes d program (frame_of d partition bs))
 
--- what else there is to know of a block before: its cycles can be counted, and no stop is told yet
+-- one cycle more can be counted
 abbrev pub CanCount : BlockState → Type 0
 CanCount b = b.done < 2 ^ 32 - 1
 
+-- no stop is listed yet
 abbrev pub HasNoStops : BlockState → Type 0
 HasNoStops b = b.stops ≡ []
 

@@ -1,4 +1,4 @@
-//! What leads from one block to a unit in another goes there.
+//! Messages go from the block in which they were sent to the block of the unit to which they lead.
 
 ghost use Rattle.std.specs.Prelude.{◌≡◌, ℕ, ◌<◌, IfNone, IfSome, length};
 ghost use Rattle.ultra_units.specs.Numbers.{unit_count};
@@ -23,7 +23,7 @@ fn next_for(block: &Block, kind: Kind, from: usize) -> Option<usize>
     }
 }
 
-/// The replies that lead from block `from` to a unit, which stands in block `home`, go there.
+/// Moves the replies in block `from` that lead to a unit to block `home`, in which the unit stands.
 #[inline(always)]
 fn move_replies(blocks: &mut [Block], net: Net, from: usize, home: usize, unit: usize)
     requires from { from < length blocks.old }
@@ -43,7 +43,7 @@ fn move_replies(blocks: &mut [Block], net: Net, from: usize, home: usize, unit: 
     }
 }
 
-/// The requests that lead from block `from` to a unit, which stands in block `home`, go there.
+/// Moves the requests in block `from` that lead to a unit to block `home`, in which the unit stands.
 #[inline(always)]
 fn move_requests(blocks: &mut [Block], net: Net, from: usize, home: usize, unit: usize)
     requires from { from < length blocks.old }
@@ -63,7 +63,7 @@ fn move_requests(blocks: &mut [Block], net: Net, from: usize, home: usize, unit:
     }
 }
 
-/// The messages of a kind that lead from block `from` to a unit, which stands in block `home`, go there.
+/// Moves the messages of a kind in block `from` that lead to a unit to block `home`, in which the unit stands.
 #[inline(always)]
 fn move_messages(blocks: &mut [Block], kind: Kind, net: Net, from: usize, home: usize, unit: usize)
     requires from { from < length blocks.old }
@@ -80,7 +80,7 @@ fn move_messages(blocks: &mut [Block], kind: Kind, net: Net, from: usize, home: 
     }
 }
 
-/// The messages that lead from block `from` to a unit elsewhere go to the block in which the unit stands.
+/// Moves the messages in block `from` that lead to a unit of another block to that block.
 #[inline(never)]
 fn move_home(blocks: &mut [Block], partition: &[u8], kind: Kind, net: Net, from: usize, unit: usize)
     requires from { from < length blocks.old }
@@ -99,7 +99,7 @@ fn move_home(blocks: &mut [Block], partition: &[u8], kind: Kind, net: Net, from:
     move_messages(blocks, kind, net, from, home, unit);
 }
 
-/// All messages that lead from block `from` to units elsewhere go to the blocks in which those stand.
+/// Moves all messages in block `from` that lead to units of other blocks to those blocks.
 #[inline(always)]
 fn empty(blocks: &mut [Block], partition: &[u8], kind: Kind, net: Net, from: usize)
     requires from { from < length blocks.old }
@@ -117,7 +117,7 @@ fn empty(blocks: &mut [Block], partition: &[u8], kind: Kind, net: Net, from: usi
     }
 }
 
-/// Each message goes to the block in which the unit stands to which it leads; nothing else changes. Nothing is looked at where no block has one for a unit of another.
+/// Moves each message to the block of the unit to which it leads; nothing else changes. A block whose messages all lead to its own units is skipped.
 #[inline(always)]
 fn exchange(blocks: &mut [Block], partition: &[u8], kind: Kind, net: Net)
     requires cut { IsCut net partition.now blocks.old }
@@ -131,7 +131,7 @@ fn exchange(blocks: &mut [Block], partition: &[u8], kind: Kind, net: Net)
     }
 }
 
-/// Each reply goes to the block in which the unit stands to which it leads; nothing else changes.
+/// Moves each reply to the block of the unit to which it leads; nothing else changes.
 #[inline(always)]
 pub fn exchange_replies(blocks: &mut [Block], partition: &[u8], net: Net)
     requires cut { IsCut net partition.now blocks.old }
@@ -142,7 +142,7 @@ pub fn exchange_replies(blocks: &mut [Block], partition: &[u8], net: Net)
     exchange(blocks, partition, Kind::Replies, net);
 }
 
-/// Each request goes to the block in which the unit stands to which it leads; nothing else changes.
+/// Moves each request to the block of the unit to which it leads; nothing else changes.
 #[inline(always)]
 pub fn exchange_requests(blocks: &mut [Block], partition: &[u8], net: Net)
     requires cut { IsCut net partition.now blocks.old }

@@ -1,23 +1,23 @@
-//! What the blocks of a machine tell of a cycle: each tells it in order, and merged it is what the
-//! definition tells.
+//! The events and faults that the blocks of a machine list in a cycle: each block lists its own in
+//! order, and merged by rank they are those of the definition.
 
-ghost use Rattle.ultra_cut.specs.HappeningLaws.{HappeningsLaw, TellingLaw};
+ghost use Rattle.ultra_cut.specs.HappeningLaws.{HappeningsLaw, EventsAddedLaw};
 ghost use Rattle.ultra_cut.specs.InOrder.{InOrderLaw};
 
-/// The law of what happens in a cycle, as this function's contract: what the blocks tell, merged by
-/// rank, is what the definition tells of the frames that they hold. The function itself does
-/// nothing.
+/// The law of what happens in a cycle, as this function's contract: what the blocks list, merged by
+/// rank, is what the definition says of the frames that they hold. The function itself does nothing.
 pub fn happenings_law()
     ensures merged { HappeningsLaw }
 {}
 
-/// The law of one half, as this function's contract: what a block tells in it stands behind what it
-/// has told, unit by unit as the block had them before the half. The function itself does nothing.
-pub fn telling_law()
-    ensures told { TellingLaw }
+/// The law of one half, as this function's contract: a half adds what happens in it at the end of a
+/// block's lists, unit by unit, as the block had the units before the half. The function itself does
+/// nothing.
+pub fn events_added_law()
+    ensures adds { EventsAddedLaw }
 {}
 
-/// The law of the order in which a block tells a cycle, as this function's contract: its events
+/// The law of the order in which a block lists a cycle, as this function's contract: its events
 /// ascend by rank, its stops by processing element. The function itself does nothing.
 pub fn in_order_law()
     ensures in_order { InOrderLaw }

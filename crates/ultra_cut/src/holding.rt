@@ -6,7 +6,7 @@ ghost use Rattle.ultra_cut.specs.Holding.{IsNextOfAll};
 
 use ultra_section::{Block, Held};
 
-/// The lesser of two numbers, of those that there are.
+/// The lesser of two numbers, or the one that is there, or `None`.
 #[inline(always)]
 fn lesser(left: Option<usize>, right: Option<usize>) -> Option<usize>
     ensures { (p q : ℕ → Bool) (from : ℕ) → IsNextWhere p from left → IsNextWhere q from right → IsNextWhere (λ n. p n || q n) from result }
@@ -18,7 +18,7 @@ fn lesser(left: Option<usize>, right: Option<usize>) -> Option<usize>
     }
 }
 
-/// The first unit from number `from` on that holds such a thing, of all units of the machine, however it is cut.
+/// The first unit from number `from` on that holds what is asked for, of all units of the machine, however it is cut.
 #[inline(always)]
 pub fn next_holding(blocks: &[Block], held: Held, from: usize) -> Option<usize>
     ensures { IsNextOfAll blocks.now held from result }

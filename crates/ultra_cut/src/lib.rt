@@ -1,5 +1,5 @@
-//! A machine cut into blocks by a partition: where its units stand, what goes from one block to another, and what all
-//! blocks together do to the whole machine in a cycle.
+//! A machine cut into blocks by a partition: where its units stand, which messages go from one block to another, and what
+//! all blocks together do to the whole machine in a cycle.
 #![tactic(auto)]
 
 mod exchange;
@@ -13,7 +13,7 @@ mod rooms;
 mod unit_laws;
 
 pub use exchange::{exchange_replies, exchange_requests};
-pub use happening_laws::{happenings_law, in_order_law, telling_law};
+pub use happening_laws::{events_added_law, happenings_law, in_order_law};
 pub use holding::next_holding;
 pub use quiet::are_quiet;
 pub use reply_laws::{can_take_replies_law, replies_sent_law, replies_taken_law};

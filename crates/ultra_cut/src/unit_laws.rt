@@ -1,5 +1,5 @@
-//! What the two halves do to a machine cut into blocks in which each unit works by itself: in the
-//! one modules serve, in the other processing elements make a step of the program.
+//! The two halves of a cycle in which each unit works by itself, and what they do to a machine cut
+//! into blocks: in one the modules serve, in the other the processing elements make a step.
 
 ghost use Rattle.ultra_cut.specs.UnitLaws.{CanExecuteLaw, CanServeLaw, ExecuteLaw, ServeLaw};
 

@@ -121,7 +121,7 @@ impl<J: Course> Desk<J> {
         }
     }
 
-    /// The team of this name after its half. Results of another name are put away. `NoThread` says that the thread is gone.
+    /// The team of this name after its half. Results of another name are dropped. `NoThread` says that the thread is gone.
     pub fn collect<R: Wait>(&self, rt: &R, name: Name) -> Result<Vec<Task>, CrewFault>
         ensures { IfOk result (λ v. v.items ≡ J.results name.cycle name.half name.worker) }
     {

@@ -8,7 +8,7 @@ use std::sync::Wait;
 use ultra_isa::Program;
 use ultra_section::{Block, Half, Rooms};
 
-/// Which worker in which half of which cycle: the name of what goes to the worker, and of what comes back.
+/// A cycle, a half and a worker: the name of what goes to the worker, and of what comes back.
 #[derive(Clone, Copy, PartialEq, Eq, Drop)]
 pub struct Name {
     /// The cycle, counted from 0.

@@ -160,7 +160,7 @@ module _ (c : Settings) (Φ : Type 0) (out : Φ) (Local : ℕ → ℕ → List �
   abbrev pub IsKept : ℕ → Instr → Type 0
   IsKept k i = (p : ℕ) → p < size c → (x : Sixteen) (φ : Φ) → Local p k (listed x) φ → Owes p k (listed x) φ i
 
-  -- of the instructions of a program, the first of which stands at this place
+  -- of instructions that follow one another, from this place of the program on
   abbrev pub AreKept : ℕ → List Instr → Type 0
   AreKept k [] = Unit {0}
   AreKept k (i ∷ is) = IsKept k i × AreKept (k + 1) is

@@ -164,7 +164,7 @@ module _ (c : Settings) (range : AreInRange c) where
     answers = tt;
   }
 
--- ---- which events a phase tells
+-- ---- which events a phase adds
 some_delivery : (P : Event → Type 0) (o : Option ReplyMessage) → IfSome o (λ r. P (Delivered r)) → IfSome (delivery o) P
 some_delivery P None h = tt
 some_delivery P (Some r) h = h

@@ -357,7 +357,7 @@ module _ (c : Settings) (range : AreInRange c) (m : Machine) where
     up_to_requested : (s : ℕ) → s < c.stages → up_to t c (request_phase c m) s + leaves s ≡ up_to t c m s
     up_to_requested s h = omega (arith, request_rows s h, requests.all_pending c range m t, replies_requested s)
 
-    -- the marks of a stage, of which some leave
+    -- the marks of a stage that some requests leave
     abbrev marked_left : ℕ → ℕ
     marked_left s = total (size c) (λ x. marked_in t (lane_after_leaving c m s x).queue)
 

@@ -4,7 +4,7 @@ use Rattle.ultra_msg.specs.declared.Event.{Event}
 use Rattle.ultra_msg.specs.declared.Event.TheVariants.{Delivered, Served, Combined, Issued}
 pub use Rattle.ultra_law.specs.declared.records.Leaf.{Leaf}
 
--- a request as it was issued, or two trees that met at a stage and position, with the word of which comes first
+-- a request as it was issued, or two trees that met at a stage and position, and whether the old one comes first
 pub data Tree : Type 0 where
   leaf : Leaf → Tree
   pair : (stage position : ℕ) → (old new : Tree) → (old_first : Bool) → Tree

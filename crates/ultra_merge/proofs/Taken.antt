@@ -12,7 +12,7 @@ use Rattle.ultra_merge.proofs.Merged.{merged_next}
 refill_whole : {X : Type 0} (xs ws : List X) → length ws ≡ length xs → refill (length xs) xs ws ≡ ws
 refill_whole xs ws same = grind (arith, common_steps)
 
--- the lists, of which the one at a place gives its first entry
+-- the lists, after the one at a place has given its first entry
 module _ {T : Type 0} (rank : T → ℕ) (count : ℕ) (items : List (Bor (List T))) (all : All (λ l. IsRanked rank count l.now) items)
     (place r : ℕ) (next : IsNextPlace rank (map (λ l. l.now) items) (length (map (λ l. l.now) items)) place r)
     (old new : Bor (List T)) (x : T) (taken : (get_or items place old).now ≡ x ∷ new.now) where

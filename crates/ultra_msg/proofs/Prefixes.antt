@@ -66,7 +66,7 @@ takes_later {a = a} {s = s} {u = u} {ws = ws} {wt = wt} b v w = subst (λ x. Tak
 pub all_handed_on : {old new : List ℕ} (bytes waited : List ℕ) → new ≡ old ++ (waited ++ bytes) → AreTakenOrWait bytes old waited new []
 all_handed_on bytes waited all = record { handed_on = waited ++ bytes; taken = all; rest = append-nil (waited ++ bytes) }
 
--- bytes were written, of which some waited, and then those were handed on: all of them, or a prefix
+-- bytes were written, some of them waited, and then those were handed on: all of them, or a prefix
 pub rest_handed_on : {bytes s t u ws wt : List ℕ} → AreTakenOrWait bytes s ws t wt → u ≡ t ++ wt → u ≡ s ++ (ws ++ bytes)
 rest_handed_on {s = s} {wt = wt} v all = all ∙ ap (λ x. x ++ wt) v.taken ∙ append_assoc s v.handed_on wt ∙ ap (λ x. s ++ x) v.rest
 

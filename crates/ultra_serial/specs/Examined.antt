@@ -38,12 +38,12 @@ module _ (log : Log) (before : List Entry) (from : ℕ) (cells : Cells) (e : Ent
   Finds (Some Missing) = ⊥
   Finds (Some WrongCell) = ⊥
 
--- all issues of these entries were made before this cycle, and it is the first such
+-- the first cycle before which all these entries were issued
 pub record IsFirstAfter (log : Log) (before : List Entry) (from : ℕ) : Type 0 where
   pub above : (f : Entry) (i : Issue) → Has before f → Has log.issues i → IsIssueNamed f i → i.cycle < from
   pub reached : 0 < from → (f : Entry) × (i : Issue) × Has before f × Has log.issues i × IsIssueNamed f i × (i.cycle + 1 ≡ from)
 
--- a list of which each entry is without fault
+-- a list without a faulty entry
 pub record AreExplained (initial : Cells) (log : Log) (list : List Entry) : Type 0 where
   pub issued : (e : Entry) → Has list e → (i : Issue) × Has log.issues i × IsIssueOf e i
   pub once : (j k : ℕ) (e f : Entry) → slice_get list j ≡ Some e → slice_get list k ≡ Some f → e.pe ≡ f.pe → e.number ≡ f.number → j ≡ k

@@ -13,8 +13,11 @@ use std::alloc::{AllocError, Global};
 /// The issues and answers of a log, and entries: each under its name, the processing element with the number.
 #[derive(Drop)]
 pub(crate) struct ByName {
+    /// The issues, under their names.
     pub issues: ListsByPair<Issue>,
+    /// The answers, under the names of their requests.
     pub answers: ListsByPair<Answer>,
+    /// The entries, under their names.
     pub entries: ListsByPair<Entry>,
 }
 

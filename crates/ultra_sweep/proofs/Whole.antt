@@ -33,7 +33,7 @@ only_memory n results once (Missing i) missing =
     let none = missing.missing in let all = once i in let one = times_below-in i n missing.below in absurd (omega arith)
 only_memory n results once NoMemory why = refl
 
--- what is drawn on a board of which a seat is spent
+-- what is drawn on a board where a seat is spent
 all_drawn : (k : Limits) (s : State ℕ View) → IsKept k s → IsSomeSpent s.views → (i : ℕ) → total (λ (v : View). times i v.drawn) s.views ≡ times_below i k.limit
 all_drawn k s kept spent i =
     let past = (kept.views spent.place spent.view spent.there).spent spent.spent in

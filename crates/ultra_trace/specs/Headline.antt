@@ -19,7 +19,7 @@ got_lines c program (suc n) =
 abbrev pub delivery_line : Delivery → List ℕ
 delivery_line d = codes "got " ++ message_text d.message ++ newline
 
-pub record AreRepliesTold (c : Settings) (program : List Instr) : Type 0 where
+pub record AreRepliesShown (c : Settings) (program : List Instr) : Type 0 where
   -- the `got` lines show the deliveries, one a line, in their order
   pub lines : (n : ℕ) → got_lines c program n ≡ flat_map delivery_line (deliveries c program n)
   -- the deliveries are the answers of the log, in the same order, each with its request
@@ -31,4 +31,4 @@ pub record Headline (c : Settings) (program : List Instr) (written : List ℕ) :
   -- the serial lists of the run are a chain of legal lists
   pub chain : AreChained c program
   -- the replies that the trace shows are the answers that these lists explain
-  pub replies : AreRepliesTold c program
+  pub replies : AreRepliesShown c program

@@ -32,12 +32,12 @@ present_more n f =
     let next : suc n ≡ n + 1 = omega arith in
     ap (λ k. present (places k f)) next ∙ (ap (λ os. present os) (places_more n f) ∙ present-append (places n f) (f n ∷ []))
 
--- what is told at a place stands in the list
-told_at : {X : Type 0} (n : ℕ) (f : ℕ → Option X) (k : ℕ) (x : X) → k < n → f k ≡ Some x → Contains (present (places n f)) x
-told_at zero f k x h e = absurd (omega (arith, h))
-told_at (suc n) f k x h e =
+-- what a place gives stands in the list
+present_at : {X : Type 0} (n : ℕ) (f : ℕ → Option X) (k : ℕ) (x : X) → k < n → f k ≡ Some x → Contains (present (places n f)) x
+present_at zero f k x h e = absurd (omega (arith, h))
+present_at (suc n) f k x h e =
     subst (λ xs. Contains xs x) (sym (present_more n f))
-    (⊎_elim (λ l. Contains-append_left (present (places n f)) (present (f n ∷ [])) x (told_at n f k x l e))
+    (⊎_elim (λ l. Contains-append_left (present (places n f)) (present (f n ∷ [])) x (present_at n f k x l e))
     (λ l. let same : k ≡ n = omega (arith, h, l) in
     let here : f n ≡ Some x = subst (λ j. f j ≡ Some x) same e in
     rw here (Contains-push (present (places n f)) x)) (cases_lt k n))
@@ -54,7 +54,7 @@ module _ (a : ℕ) where
   no_acts [] h = refl
   no_acts (e ∷ es) h = rw (h.0, no_acts es h.1) refl
 
-  -- ---- what a place tells
+  -- ---- what a place gives
   abbrev acts_at : (ℕ → Option Event) → ℕ → List Request
   acts_at f k = acts_on a (present (f k ∷ []))
 
@@ -64,21 +64,21 @@ module _ (a : ℕ) where
   acts_none : (f : ℕ → Option Event) → acts_on a (present (places 0 f)) ≡ []
   acts_none f = ap (λ os. acts_on a (present os)) (places_none f)
 
-  none_told : (n : ℕ) (f : ℕ → Option Event) → ((k : ℕ) → k < n → acts_at f k ≡ []) → acts_on a (present (places n f)) ≡ []
-  none_told zero f h = acts_none f
-  none_told (suc n) f h = acts_more n f ∙ rw (none_told n f (λ k l. h k (omega arith)), h n (omega arith)) refl
+  none_listed : (n : ℕ) (f : ℕ → Option Event) → ((k : ℕ) → k < n → acts_at f k ≡ []) → acts_on a (present (places n f)) ≡ []
+  none_listed zero f h = acts_none f
+  none_listed (suc n) f h = acts_more n f ∙ rw (none_listed n f (λ k l. h k (omega arith)), h n (omega arith)) refl
 
-  pub one_told : (n : ℕ) (f : ℕ → Option Event) (m : ℕ) (r : Request) → m < n → acts_at f m ≡ r ∷ [] → ((k : ℕ) → k < n → k ≢ m → acts_at f k ≡ []) → acts_on a (present (places n f)) ≡ r ∷ []
-  one_told zero f m r l e h = absurd (omega (arith, l))
-  one_told (suc n) f m r l e h =
+  pub one_listed : (n : ℕ) (f : ℕ → Option Event) (m : ℕ) (r : Request) → m < n → acts_at f m ≡ r ∷ [] → ((k : ℕ) → k < n → k ≢ m → acts_at f k ≡ []) → acts_on a (present (places n f)) ≡ r ∷ []
+  one_listed zero f m r l e h = absurd (omega (arith, l))
+  one_listed (suc n) f m r l e h =
       acts_more n f
       ∙ ⊎_elim
       (λ same. let here : acts_at f n ≡ r ∷ [] = subst (λ j. acts_at f j ≡ r ∷ []) same e in
-      rw (none_told n f (λ k i. h k (omega arith) (omega (arith, same))), here) refl)
+      rw (none_listed n f (λ k i. h k (omega arith) (omega (arith, same))), here) refl)
       (λ apart. let last : acts_at f n ≡ [] = h n (omega arith) (λ z. apart (sym z)) in
-      rw last (append-nil (acts_on a (present (places n f))) ∙ one_told n f m r (omega (arith, l, apart)) e (λ k i z. h k (omega arith) z))) (cases_eq m n)
+      rw last (append-nil (acts_on a (present (places n f))) ∙ one_listed n f m r (omega (arith, l, apart)) e (λ k i z. h k (omega arith) z))) (cases_eq m n)
 
-  -- ---- what a module tells
+  -- ---- what a module gives
   act_other : (k : ℕ) (b : Bank) (i : Option Placed) (o : Option ReplyMessage) → IfSome i (λ (p : Placed). p.request.cell ≢ a)
       → acts_on a (present (serving k (act_of b (elim o [ None ↦ i | Some r ↦ None ])) ∷ [])) ≡ []
   act_other k b None None h = refl
@@ -160,10 +160,10 @@ module _ (a : ℕ) where
 
     -- in a cycle in which each module serves other cells there is no act on this one
     pub no_act : ((k : ℕ) → k < size c → ServesOther a (bank_at (reply_phase c m) k)) → acts_on a (cycle c program m).events ≡ []
-    no_act h = acts_of_cycle ∙ none_told (size c) (λ k. serving k (served (bank_at (reply_phase c m) k))) (λ k l. serves_other k (bank_at (reply_phase c m) k) (h k l))
+    no_act h = acts_of_cycle ∙ none_listed (size c) (λ k. serving k (served (bank_at (reply_phase c m) k))) (λ k l. serves_other k (bank_at (reply_phase c m) k) (h k l))
 
-    pub delivered_told : (p : ℕ) (r : ReplyMessage) → p < size c → delivered c m p ≡ Some r → Contains (cycle c program m).events (Delivered r)
-    delivered_told p r hp e =
-        let told = told_at (size c) (λ q. delivery (delivered c m q)) p (Delivered r) hp (ap (λ o. delivery o) e) in
+    pub delivery_listed : (p : ℕ) (r : ReplyMessage) → p < size c → delivered c m p ≡ Some r → Contains (cycle c program m).events (Delivered r)
+    delivery_listed p r hp e =
+        let there = present_at (size c) (λ q. delivery (delivered c m q)) p (Delivered r) hp (ap (λ o. delivery o) e) in
         subst (λ es. Contains es (Delivered r)) (sym events_are)
-        (Contains-append_left ((deliveries ++ servings) ++ meetings) issues (Delivered r) (Contains-append_left (deliveries ++ servings) meetings (Delivered r) (Contains-append_left deliveries servings (Delivered r) told)))
+        (Contains-append_left ((deliveries ++ servings) ++ meetings) issues (Delivered r) (Contains-append_left (deliveries ++ servings) meetings (Delivered r) (Contains-append_left deliveries servings (Delivered r) there)))

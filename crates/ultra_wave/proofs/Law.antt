@@ -21,10 +21,10 @@ use Rattle.ultra_wave.specs.AllAtOnce.{acts_on, AreAllAt, AreServedAtOnce, WaveL
 use Rattle.ultra_wave.proofs.Fronts.{front_cell}
 use Rattle.ultra_wave.proofs.Quiet.{input_stays}
 use Rattle.ultra_wave.proofs.Calm.{ServesOther}
-use Rattle.ultra_wave.proofs.Module.{inside_replied, told}
+use Rattle.ultra_wave.proofs.Module.{inside_replied, served_here}
 use Rattle.ultra_wave.proofs.Home.{all_answered}
 use Rattle.ultra_wave.proofs.Cycle.{after_next, cycles_after, set_cycle, stage_cycle, last_cycle, inside_cycle, served_cycle, returned_cycle}
-use Rattle.ultra_wave.proofs.Acts.{acts_of_cycle, one_told, no_act, serves_one, delivered_told}
+use Rattle.ultra_wave.proofs.Acts.{acts_of_cycle, one_listed, no_act, serves_one, delivery_listed}
 use Rattle.ultra_wave.proofs.Opened.{pending_is_open}
 use Rattle.ultra_wave.proofs.Stages.{IsAsked, fronts, placed, IsInside, IsServed, IsReturned, IsSet, IsAtStage}
 
@@ -135,11 +135,11 @@ module _ (c : Settings) (range : AreInRange c) (some_waits : 1 ≤ c.wait_places
       let inside = inside_replied c range a n asked each some_waits m h in
       let p = λ (k : ℕ). placed c (fronts c n asked c.stages k) in
       let f : ℕ → Bool → Option Act = λ k b. elim b [ true ↦ act_of (bank_at r k) (Some (p k)) | false ↦ None ] in
-      let tells = λ (k : ℕ) (hk : k < size c). told c range a n asked each some_waits r inside k hk in
-      let one = serves_one a home (bank_at r home) (p home) (front_cell c range a n asked each c.stages home small) (tells home small ∙ ap (f home) (itself home)) in
+      let serves = λ (k : ℕ) (hk : k < size c). served_here c range a n asked each some_waits r inside k hk in
+      let one = serves_one a home (bank_at r home) (p home) (front_cell c range a n asked each c.stages home small) (serves home small ∙ ap (f home) (itself home)) in
       acts_of_cycle a c program m
-      ∙ one_told a (size c) (λ k. serving k (served (bank_at r k))) home the_request small one
-      (λ k hk apart. ap (λ o. acts_on a (present (serving k o ∷ []))) (tells k hk ∙ ap (f k) (other k home apart)))
+      ∙ one_listed a (size c) (λ k. serving k (served (bank_at r k))) home the_request small one
+      (λ k hk apart. ap (λ o. acts_on a (present (serving k o ∷ []))) (serves k hk ∙ ap (f k) (other k home apart)))
 
   acts_at : (k : ℕ) → k ≤ 2 * c.stages + 2 → k ≢ c.stages + 1 → acts_after (at k) ≡ []
   acts_at zero h apart = ap (λ m. acts_after m) start_at ∙ none_from_set
@@ -180,7 +180,7 @@ module _ (c : Settings) (range : AreInRange c) (some_waits : 1 ≤ c.wait_places
     answered = λ p hp.
         let last = 2 * c.stages + 2 in
         let one = all_answered c range a n asked each some_waits (at last) home_at p hp in
-        (one.0, subst (λ (m : Machine). Contains m.events (Delivered record { pe = p; cell = a; reply = one.0 })) (sym (events_at last)) (delivered_told a c program (at last) p record { pe = p; cell = a; reply = one.0 } hp one.1));
+        (one.0, subst (λ (m : Machine). Contains m.events (Delivered record { pe = p; cell = a; reply = one.0 })) (sym (events_at last)) (delivery_listed a c program (at last) p record { pe = p; cell = a; reply = one.0 } hp one.1));
   }
 
 pub wave : WaveLaw

@@ -118,12 +118,12 @@ module _ (c : Settings) (range : AreInRange c) (a n : ℕ) (asked : ℕ → Requ
       replies = w.replies;
     }
 
-    -- what is told of the acts
-    tells_if : (bank : Bank) (b : Bool) (p : Placed) → bank.out ≡ None → bank.inp ≡ elim b [ true ↦ Some p | false ↦ None ] → served bank ≡ elim b [ true ↦ act_of bank (Some p) | false ↦ None ]
-    tells_if bank true p e f = rw (e, f) refl
-    tells_if bank false p e f = rw (e, f) refl
+    -- what each module serves
+    served_if : (bank : Bank) (b : Bool) (p : Placed) → bank.out ≡ None → bank.inp ≡ elim b [ true ↦ Some p | false ↦ None ] → served bank ≡ elim b [ true ↦ act_of bank (Some p) | false ↦ None ]
+    served_if bank true p e f = rw (e, f) refl
+    served_if bank false p e f = rw (e, f) refl
 
-    pub told : (k : ℕ) → k < size c → served (bank_at m k) ≡ elim (k == module_of c a) [ true ↦ act_of (bank_at m k) (Some (placed c (fronts c n asked c.stages k))) | false ↦ None ]
-    told k hk =
+    pub served_here : (k : ℕ) → k < size c → served (bank_at m k) ≡ elim (k == module_of c a) [ true ↦ act_of (bank_at m k) (Some (placed c (fronts c n asked c.stages k))) | false ↦ None ]
+    served_here k hk =
         let f : Bool → Option Act = λ b. elim b [ true ↦ act_of (bank_at m k) (Some (placed c (fronts c n asked c.stages k))) | false ↦ None ] in
-        tells_if (bank_at m k) (is_on c a c.stages k) (placed c (fronts c n asked c.stages k)) (w.outputs k hk) (w.inputs k hk) ∙ ap f (leads_last k hk)
+        served_if (bank_at m k) (is_on c a c.stages k) (placed c (fronts c n asked c.stages k)) (w.outputs k hk) (w.inputs k hk) ∙ ap f (leads_last k hk)

@@ -5,7 +5,7 @@ use Rattle.ultra_units.specs.Numbers.{unit_count}
 use Rattle.ultra_section.specs.BlockState.{BlockState}
 use Rattle.ultra_cut.specs.Cut.{block_at, no_block}
 use Rattle.ultra_block.specs.Dealt.{AreCarried, IsDealt, IsLastNamed, empty_after}
-use Rattle.ultra_block.proofs.Parted.{is_dealt, teller}
+use Rattle.ultra_block.proofs.Parted.{is_dealt, first_block}
 use Rattle.ultra_block.proofs.dealing.deal.Goals as goal
 
 pub carry-requires-clause-count : goal.carry-requires-clause-count
@@ -41,13 +41,13 @@ returns-clause-dealt c =
     let last : IsLastNamed partition (length bs) = subst (IsLastNamed partition) (sym count) c.count_blocks-count.ensures.last in
     let carried : AreCarried d partition b bs = subst (λ e. AreCarried e partition b bs) (c.requires.blocks.cut.stages 0 (omega arith)) c.carry.ensures.carried in
     let left = c.carry.new.block in
-    let story : record (block_at bs 0) { events = left.events; stops = left.stops } ≡ teller b bs =
+    let story : record (block_at bs 0) { events = left.events; stops = left.stops } ≡ first_block b bs =
     ap (λ es. record (block_at bs 0) { events = es; stops = left.stops }) c.carry.ensures.story.0
     ∙ ap (λ ss. record (block_at bs 0) { events = b.events; stops = ss }) c.carry.ensures.story.1 in
     let first : c.index_mut.result.now ≡ block_at bs 0 =
     c.index_mut.ensures.value ∙ ap (λ xs. get_or xs 0 c.index_mut.result.now) held ∙ get_or_default bs 0 c.index_mut.result.now no_block some in
-    let told : c.take_story.new.self ≡ record c.index_mut.result.now { events = left.events; stops = left.stops } = c.take_story.ensures.here in
-    let now = told ∙ ap (λ (x : BlockState). record x { events = left.events; stops = left.stops }) first ∙ story in
+    let taken : c.take_story.new.self ≡ record c.index_mut.result.now { events = left.events; stops = left.stops } = c.take_story.ensures.here in
+    let now = taken ∙ ap (λ (x : BlockState). record x { events = left.events; stops = left.stops }) first ∙ story in
     subst (λ x. IsDealt d partition b (set (take c.in_ok-blocks.blocks.len (bs ++ drop (length bs) items)) 0 x)) (sym now)
-    (subst (λ xs. IsDealt d partition b (set xs 0 (teller b bs))) (sym held)
+    (subst (λ xs. IsDealt d partition b (set xs 0 (first_block b bs))) (sym held)
     (is_dealt d partition b bs c.requires.blocks c.requires.clear c.requires.partition named some carried few last))

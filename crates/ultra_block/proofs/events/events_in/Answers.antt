@@ -21,6 +21,6 @@ add-requires c =
     ap (λ ls. length ls) c.loop-block.invariant.lists ∙ length-map (take i bs) (λ (b : BlockState). b.events) ∙ length-take-le i bs (omega arith) in
     let ranked : IsRanked (event_rank c.args.net) 1280 v.events = is_ranked (event_rank c.args.net) 1280 v.events order.events order.ranks in
     let net : c.args.net ≡ c.loop-block.events.ranking.net = sym (ap (λ (o : ByRules). o.net) (c.loop-block.invariant.ranking ∙ c.new-events.ensures.ranking)) in
-    let told : IsRanked (event_rank c.loop-block.events.ranking.net) 1280 c.events.result.now =
+    let same_ranks : IsRanked (event_rank c.loop-block.events.ranking.net) 1280 c.events.result.now =
     subst (λ d. IsRanked (event_rank d) 1280 c.events.result.now) net (subst (λ es. IsRanked (event_rank c.args.net) 1280 es) (sym c.events.ensures) ranked) in
-    (omega arith, (omega arith, told))
+    (omega arith, (omega arith, same_ranks))

@@ -5,7 +5,7 @@ use Rattle.ultra_cut.specs.Halves.{OfEach}
 use Rattle.ultra_cut.specs.InOrder.{IsInOrder}
 use Rattle.ultra_merge.specs.Merging.{merged}
 use Rattle.ultra_block.specs.State.{BlocksState}
-use Rattle.ultra_block.proofs.Firsts.{told_events}
+use Rattle.ultra_block.proofs.Firsts.{merged_events}
 use Rattle.ultra_block.proofs.Seen.{events_are}
 use Rattle.ultra_block.proofs.blocks.Blocks.events.Goals as goal
 
@@ -23,6 +23,6 @@ returns c =
     c.events_in.ensures.lists ∙ ap (λ bs. map (λ (b : BlockState). b.events) bs) c.as_slice.ensures.value in
     ap (λ e. merged (event_rank e) 1280 c.events_in.result.lists) (c.events_in.ensures.ranking ∙ c.net.ensures)
     ∙ ap (λ ls. merged (event_rank d) 1280 ls) lists
-    ∙ told_events d p.blocks.items
+    ∙ merged_events d p.blocks.items
     ∙ sym (events_are p.config p.partition.items p.done p.blocks.items)
     ∙ ap (λ (s : BlocksState). s.machine.events) c.self.view_is

@@ -5,7 +5,7 @@ use Rattle.ultra_cut.specs.Halves.{OfEach}
 use Rattle.ultra_cut.specs.InOrder.{IsInOrder}
 use Rattle.ultra_merge.specs.Merging.{merged}
 use Rattle.ultra_block.specs.State.{BlocksState}
-use Rattle.ultra_block.proofs.Firsts.{told_stops}
+use Rattle.ultra_block.proofs.Firsts.{merged_stops}
 use Rattle.ultra_block.proofs.Seen.{stops_are}
 use Rattle.ultra_block.proofs.blocks.Blocks.stops.Goals as goal
 
@@ -21,6 +21,6 @@ returns c =
     let lists : c.stops_in.result.lists ≡ map (λ (b : BlockState). b.stops) p.blocks.items =
     c.stops_in.ensures.lists ∙ ap (λ bs. map (λ (b : BlockState). b.stops) bs) c.as_slice.ensures.value in
     ap (λ ls. merged (λ (s : Stop). s.pe) 64 ls) lists
-    ∙ told_stops p.config.stages p.blocks.items
+    ∙ merged_stops p.config.stages p.blocks.items
     ∙ sym (stops_are p.config p.partition.items p.done p.blocks.items)
     ∙ ap (λ (s : BlocksState). s.machine.stops) c.self.view_is

@@ -1,0 +1,189 @@
+-- What a block lists in each half: unit by unit, and so kind by kind.
+use Rattle.std.proofs.Common.{◌≡◌, ℕ, zero, suc, ◌+◌, ◌-◌, ◌^◌, ◌<◌, ◌≤◌, List, [], ◌++◌, Option, Some, None, refl, sym, ◌∙◌, ap, subst, inl, inr, arith}
+use Rattle.std.proofs.lemmas.Bool.{cases_lt}
+use Rattle.ultra_msg.specs.declared.Request.{Request}
+use Rattle.ultra_msg.specs.declared.ReplyMessage.{ReplyMessage}
+use Rattle.ultra_switch.specs.declared.Ports.{Ports}
+use Rattle.ultra_switch.specs.declared.Switch.{Switch}
+use Rattle.ultra_mem.specs.Serve.{Bank}
+use Rattle.ultra_isa.specs.declared.Instr.{Instr}
+use Rattle.ultra_model.specs.Places.{places, joined}
+use Rattle.ultra_units.specs.Numbers.{switch_count, unit_count, module_number, element_number}
+use Rattle.ultra_halves.specs.declared.elements.ProcessingElement.{ProcessingElement}
+use Rattle.ultra_section.specs.declared.rooms.Rooms.{Rooms}
+use Rattle.ultra_section.specs.Units.{unit_of, stage_of, index_of}
+use Rattle.ultra_section.specs.Marks.{on_link, on_both, delivery_link, request_links}
+use Rattle.ultra_section.specs.BlockState.{BlockState, switch_at, module_at, element_at}
+use Rattle.ultra_section.specs.Shape.{IsShaped}
+use Rattle.ultra_section.specs.RepliesSent.{begun}
+use Rattle.ultra_section.proofs.OfKind.{unit_of_none}
+use Rattle.ultra_section.proofs.Standing.{unit_of_switch, unit_of_module, unit_of_element}
+use Rattle.ultra_section.proofs.Once.{told_before}
+use Rattle.ultra_section.proofs.RepliesSentOnce as replies_sent
+use Rattle.ultra_section.proofs.RepliesTakenOnce as replies_taken
+use Rattle.ultra_section.proofs.ServedOnce as served
+use Rattle.ultra_section.proofs.RequestsSentOnce as requests_sent
+use Rattle.ultra_section.proofs.RequestsTakenOnce as requests_taken
+use Rattle.ultra_section.proofs.ExecutedOnce as executed
+use Rattle.ultra_cut.proofs.Numbers.{few_units}
+use Rattle.ultra_cut.specs.Happenings.{delivery_events, serving_events, combination_events, issue_events, element_stops, delivery_at, serving_at, combinations_at, issue_at, stop_at, events_of_replies, events_of_service, events_of_requests, events_of_steps, stops_of_steps}
+use Rattle.ultra_cut.specs.HappeningLaws.{AddsEvents, AddsStops, EventsAddedLaw}
+use Rattle.ultra_cut.proofs.Joined.{joined_none, joined_next, joined_same, joined_window}
+
+-- what is listed of the units before a number, as lists joined
+before_as_places : {T E : Type 0} (listed : ℕ → T → List E) (m : ℕ) (t : T) → told_before listed m t ≡ joined (places m (λ n. listed n t))
+unfolding told_before
+before_as_places listed zero t = sym (joined_none (λ n. listed n t))
+before_as_places listed (suc n) t = ap (λ es. es ++ listed n t) (before_as_places listed n t) ∙ sym (joined_next (λ n. listed n t) (suc n) n (omega arith))
+
+-- only units of one kind have events
+module _ {T E : Type 0} (listed : ℕ → T → List E) (t : T) (before n : ℕ) (g : ℕ → List E) (within : before + n ≤ 320)
+    (lower : (i : ℕ) → i < before → listed i t ≡ []) (upper : (i : ℕ) → before + n ≤ i → listed i t ≡ []) (same : (i : ℕ) → i < n → listed (before + i) t ≡ g i) where
+  listed_by_kind : told_before listed 320 t ≡ joined (places n g)
+  listed_by_kind =
+      let all : before + (n + (320 - (before + n))) ≡ 320 = omega arith in
+      before_as_places listed 320 t
+      ∙ ap (λ m. joined (places m (λ i. listed i t))) (sym all)
+      ∙ joined_window before n (320 - (before + n)) (λ i. listed i t) lower (λ i h. upper (before + (n + i)) (omega arith))
+      ∙ joined_same n (λ i. listed (before + i) t) g same
+
+module _ (d : ℕ) (low : 1 ≤ d) (high : d ≤ 6) where
+  few : unit_count d < 321
+  few = few_units d low high
+
+  -- ---- only units of one sort have events
+  module _ {T E : Type 0} (listed : ℕ → T → List E) (t : T) (nothing : (i : ℕ) → unit_count d ≤ i → listed i t ≡ []) where
+    no_module : ((m : ℕ) → m < 2 ^ d → listed (module_number d m) t ≡ []) → (i : ℕ) → switch_count d ≤ i → i < switch_count d + 2 ^ d → listed i t ≡ []
+    no_module none i past h =
+        let place : module_number d (i - switch_count d) ≡ i = omega arith in subst (λ i. listed i t ≡ []) place (none (i - switch_count d) (omega arith))
+
+    no_element : ((p : ℕ) → p < 2 ^ d → listed (element_number d p) t ≡ []) → (i : ℕ) → switch_count d + 2 ^ d ≤ i → listed i t ≡ []
+    no_element none i past = elim (cases_lt i (unit_count d)) [
+      | inl within ↦
+          let p = i - (switch_count d + 2 ^ d) in
+          let place : element_number d p ≡ i = omega arith in subst (λ i. listed i t ≡ []) place (none p (omega arith))
+      | inr behind ↦ nothing i behind
+    ]
+
+    switches_list : (g : ℕ → List E) → ((m : ℕ) → m < 2 ^ d → listed (module_number d m) t ≡ []) → ((p : ℕ) → p < 2 ^ d → listed (element_number d p) t ≡ [])
+        → ((i : ℕ) → i < switch_count d → listed i t ≡ g i) → told_before listed 320 t ≡ joined (places (switch_count d) g)
+    switches_list g modules elements same =
+        listed_by_kind listed t 0 (switch_count d) g (omega (arith, few)) (λ i h. absurd (omega arith))
+        (λ i h. elim (cases_lt i (switch_count d + 2 ^ d)) [
+          | inl within ↦ no_module modules i (omega arith) within
+          | inr past ↦ no_element elements i past
+        ])
+        (λ i h. let number : 0 + i ≡ i = omega arith in ap (λ i. listed i t) number ∙ same i h)
+
+    modules_list : (g : ℕ → List E) → ((i : ℕ) → i < switch_count d → listed i t ≡ []) → ((p : ℕ) → p < 2 ^ d → listed (element_number d p) t ≡ [])
+        → ((m : ℕ) → m < 2 ^ d → listed (module_number d m) t ≡ g m) → told_before listed 320 t ≡ joined (places (2 ^ d) g)
+    modules_list g switches elements same =
+        listed_by_kind listed t (switch_count d) (2 ^ d) g (omega (arith, few)) switches (no_element elements) same
+
+    elements_list : (g : ℕ → List E) → ((i : ℕ) → i < switch_count d → listed i t ≡ []) → ((m : ℕ) → m < 2 ^ d → listed (module_number d m) t ≡ [])
+        → ((p : ℕ) → p < 2 ^ d → listed (element_number d p) t ≡ g p) → told_before listed 320 t ≡ joined (places (2 ^ d) g)
+    elements_list g switches modules same =
+        listed_by_kind listed t (switch_count d + 2 ^ d) (2 ^ d) g (omega (arith, few))
+        (λ i h. elim (cases_lt i (switch_count d)) [ inl before ↦ switches i before | inr past ↦ no_module modules i past h ]) (λ i h. nothing i (omega arith)) same
+
+  module _ (b : BlockState) where
+    -- ---- replies
+    delivery_as : (o : Option ProcessingElement) (came : Option ReplyMessage) → replies_taken.delivery_told d low high (o, came) ≡ delivery_events o came
+    delivery_as None came = refl
+    delivery_as (Some e) came = refl
+
+    listed_taking_replies : told_before (λ n t. replies_taken.told_of d low high t (unit_of d n)) 320 b ≡ events_of_replies d b
+    unfolding events_of_replies
+    listed_taking_replies =
+        let list = replies_taken.told_of d low high b in
+        elements_list (λ n t. replies_taken.told_of d low high t (unit_of d n)) b (λ i past. ap list (unit_of_none d i past)) (λ p. delivery_at d b p)
+        (λ i h. ap list (unit_of_switch d i h)) (λ m h. ap list (unit_of_module d m h))
+        (λ p h. ap list (unit_of_element d p h) ∙ delivery_as (element_at b.elements p) (on_link b.replies (delivery_link d p)))
+
+    -- ---- memory
+    serving_as : (m : ℕ) (o : Option Bank) → served.act_told d o m ≡ serving_events m o
+    serving_as m None = refl
+    serving_as m (Some bank) = refl
+
+    listed_serving : told_before (served.told d) 320 b ≡ events_of_service d b
+    unfolding events_of_service
+    listed_serving =
+        let list = served.told_of d b in
+        modules_list (served.told d) b (λ i past. ap list (unit_of_none d i past)) (λ m. serving_at d b m)
+        (λ i h. ap list (unit_of_switch d i h)) (λ p h. ap list (unit_of_element d p h)) (λ m h. ap list (unit_of_module d m h) ∙ serving_as m (module_at b.modules m))
+
+    -- ---- requests
+    module _ (c : ℕ) where
+      combinations_as : (s k : ℕ) (o : Option Switch) (came : Ports (Option Request)) → requests_taken.combinations_told d c low high s k (o, came) ≡ combination_events d c s k o came
+      combinations_as s k None came = refl
+      combinations_as s k (Some w) came = refl
+
+      listed_taking_requests : told_before (λ n t. requests_taken.told_of d c low high n t (unit_of d n)) 320 b ≡ events_of_requests d c b
+      unfolding events_of_requests
+      listed_taking_requests =
+          let list = λ (i : ℕ). requests_taken.told_of d c low high i b in
+          switches_list (λ n t. requests_taken.told_of d c low high n t (unit_of d n)) b (λ i past. ap (list i) (unit_of_none d i past)) (λ i. combinations_at d c b i)
+          (λ m h. ap (list (module_number d m)) (unit_of_module d m h)) (λ p h. ap (list (element_number d p)) (unit_of_element d p h))
+          (λ i h. ap (list i) (unit_of_switch d i h) ∙ combinations_as (stage_of d i) (index_of d i) (switch_at b.switches i) (on_both b.requests (request_links d (stage_of d i) (index_of d i))))
+
+    -- ---- steps: issues or stops
+    module _ (program : List Instr) where
+      issue_as : (o : Option ProcessingElement) → executed.issue_told program d o ≡ issue_events program o
+      issue_as None = refl
+      issue_as (Some e) = refl
+
+      stop_as : (p : ℕ) (o : Option ProcessingElement) → executed.stop_told program d p o ≡ element_stops program p o
+      stop_as p None = refl
+      stop_as p (Some e) = refl
+
+      listed_issues : told_before (λ n t. executed.told_of program d (λ p o. executed.issue_told program d o) t (unit_of d n)) 320 b ≡ events_of_steps d program b
+      unfolding events_of_steps
+      listed_issues =
+          let list = executed.told_of program d (λ p o. executed.issue_told program d o) b in
+          elements_list (λ n t. executed.told_of program d (λ p o. executed.issue_told program d o) t (unit_of d n)) b (λ i past. ap list (unit_of_none d i past)) (λ p. issue_at d program b p)
+          (λ i h. ap list (unit_of_switch d i h)) (λ m h. ap list (unit_of_module d m h)) (λ p h. ap list (unit_of_element d p h) ∙ issue_as (element_at b.elements p))
+
+      listed_stops : told_before (λ n t. executed.told_of program d (executed.stop_told program d) t (unit_of d n)) 320 b ≡ stops_of_steps d program b
+      unfolding stops_of_steps
+      listed_stops =
+          let list = executed.told_of program d (executed.stop_told program d) b in
+          elements_list (λ n t. executed.told_of program d (executed.stop_told program d) t (unit_of d n)) b (λ i past. ap list (unit_of_none d i past)) (λ p. stop_at d program b p)
+          (λ i h. ap list (unit_of_switch d i h)) (λ m h. ap list (unit_of_module d m h)) (λ p h. ap list (unit_of_element d p h) ∙ stop_as p (element_at b.elements p))
+
+    -- ---- the halves
+    module _ (rooms : Rooms) (program : List Instr) (shape : IsShaped d b) where
+      begun_shape : IsShaped d (begun b)
+      begun_shape = record {
+        stages = shape.stages;
+        switches = shape.switches;
+        modules = shape.modules;
+        elements = shape.elements;
+        replies = shape.replies;
+        requests = shape.requests;
+      }
+
+      in_cycle : requests_taken.InCycle d b.done b
+      in_cycle = record { shape = shape; done = refl }
+
+      adds_events : AddsEvents d rooms program b
+      adds_events = record {
+        sending_replies = replies_sent.kept_by_sending rooms.no_reply_room d low high (λ (t : BlockState). t.events) (λ n s k t w. refl) (λ m t bank. refl) (begun b) begun_shape;
+        taking_replies = replies_taken.events_after_taking d low high b shape ∙ ap (λ es. b.events ++ es) listed_taking_replies;
+        serving = served.events_after_serving d b shape ∙ ap (λ es. b.events ++ es) listed_serving;
+        sending_requests = requests_sent.kept_by_sending rooms.no_request_room d low high (λ (t : BlockState). t.events) (λ n s k t w. refl) (λ p t e. refl) b shape;
+        taking_requests = requests_taken.events_after_taking d b.done low high b in_cycle ∙ ap (λ es. b.events ++ es) (listed_taking_requests b.done);
+        executing = executed.events_after_executing program d b shape ∙ ap (λ es. b.events ++ es) (listed_issues program);
+      }
+
+      adds_stops : AddsStops d rooms program b
+      adds_stops = record {
+        sending_replies = replies_sent.kept_by_sending rooms.no_reply_room d low high (λ (t : BlockState). t.stops) (λ n s k t w. refl) (λ m t bank. refl) (begun b) begun_shape;
+        taking_replies = replies_taken.kept_by_taking d low high (λ (t : BlockState). t.stops) (λ n s k t w. refl) (λ p t e. refl) b shape;
+        serving = served.kept_by_serving d (λ (t : BlockState). t.stops) (λ m t bank. refl) b shape;
+        sending_requests = requests_sent.kept_by_sending rooms.no_request_room d low high (λ (t : BlockState). t.stops) (λ n s k t w. refl) (λ p t e. refl) b shape;
+        taking_requests = requests_taken.kept_by_taking d b.done low high (λ (t : BlockState). t.stops) (λ n s k t w. refl) (λ m t bank. refl) b in_cycle;
+        executing = executed.stops_after_executing program d b shape ∙ ap (λ ss. b.stops ++ ss) (listed_stops program);
+      }
+
+pub events_added_law : EventsAddedLaw
+events_added_law d rooms program b low high shape = (adds_events d low high b rooms program shape, adds_stops d low high b rooms program shape)
