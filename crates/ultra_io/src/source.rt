@@ -1,7 +1,7 @@
 //! Where the files of a program come from.
 
 ghost use Rattle.std.specs.Prelude.{◌≡◌, ℕ, ◌+◌, List, [], ◌∷◌, ◌++◌, IfOk, OnOk, IfErr, OnErr};
-ghost use Rattle.ultra_io.specs.Account.{SourceTold, source_told};
+ghost use Rattle.ultra_io.specs.Account.{SourceState, source_state};
 ghost use Rattle.ultra_io.specs.Source.{File, file_of, failures_of};
 
 use crate::account::Account;
@@ -47,9 +47,9 @@ pub struct FileSource<'r, R: Files> {
 }
 
 impl<'r, R: Files> Model for FileSource<'r, R> {
-    ghost Value = { SourceTold };
+    ghost Value = { SourceState };
 
-    ghost view = { λ s. source_told s.account };
+    ghost view = { λ s. source_state s.account };
 }
 
 impl<'r, R: Files> FileSource<'r, R> {

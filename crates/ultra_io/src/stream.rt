@@ -1,7 +1,7 @@
 //! The output streams of a program.
 
 ghost use Rattle.std.specs.Prelude.{◌≡◌, []};
-ghost use Rattle.ultra_io.specs.Account.{SinkTold, sink_told};
+ghost use Rattle.ultra_io.specs.Account.{SinkState, sink_state};
 
 use crate::account::Account;
 use std::io::Write;
@@ -16,9 +16,9 @@ pub struct Stream<W> {
 }
 
 impl<W> Model for Stream<W> {
-    ghost Value = { SinkTold };
+    ghost Value = { SinkState };
 
-    ghost view = { λ s. sink_told s.account };
+    ghost view = { λ s. sink_state s.account };
 }
 
 impl<W: Write> Stream<W> {
