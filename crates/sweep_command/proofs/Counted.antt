@@ -1,4 +1,4 @@
--- a failure of which standard output knows nothing
+-- a failure that isn't one of standard output
 use Rattle.std.proofs.Common.{◌≡◌, ℕ, List, refl}
 use Rattle.ultra_io.specs.Source.{File}
 use Rattle.ultra_inputs.specs.declared.failure.Failure.{Failure}

@@ -5,7 +5,7 @@ use Rattle.std.specs.Prelude.{Result, Ok, Err}
 use Rattle.std.specs.Result.{is_err}
 use Rattle.ultra_msg.specs.Bytes.{TakesPrefix, Writes}
 use Rattle.ultra_msg.proofs.Prefixes.{takes_all, takes_behind, takes_more, takes_none}
-use Rattle.ultra_io.specs.Account.{SinkTold}
+use Rattle.ultra_io.specs.Account.{SinkState}
 use Rattle.sweep_command.specs.declared.meter.Meter.{Meter}
 use Rattle.sweep_command.specs.Shown.{GrowTo, progress_line, progress_text, Shows, IsShown, HasShown}
 
@@ -20,7 +20,7 @@ text-more n ks k = flat_map-append (progress_line n) ks (k ∷ []) ∙ ap (λ t.
 longer : (n : ℕ) (ks : List ℕ) (k : ℕ) (start : List ℕ) → (start ++ progress_text n ks) ++ progress_line n k ≡ start ++ progress_text n (ks ++ k ∷ [])
 longer n ks k start = append_assoc start (progress_text n ks) (progress_line n k) ∙ ap (λ t. start ++ t) (sym (text-more n ks k))
 
-module _ (n last k : ℕ) (start now : SinkTold) (so_far : Shows n last start now) (above : last < k) (within : k ≤ n) where
+module _ (n last k : ℕ) (start now : SinkState) (so_far : Shows n last start now) (above : last < k) (within : k ≤ n) where
   -- nothing is written, since the stream has failed
   pub shows-unwritten : start.failures < now.failures → Shows n k start now
   shows-unwritten failed = record {
@@ -32,7 +32,7 @@ module _ (n last k : ℕ) (start now : SinkTold) (so_far : Shows n last start no
   }
 
   -- the line is written
-  pub shows-written : now.failures ≡ start.failures → (then : SinkTold) → then.taken ≡ now.taken ++ progress_line n k → then.failures ≡ now.failures → Shows n k start then
+  pub shows-written : now.failures ≡ start.failures → (then : SinkState) → then.taken ≡ now.taken ++ progress_line n k → then.failures ≡ now.failures → Shows n k start then
   shows-written sound then taken still =
       let all : then.taken ≡ start.taken ++ progress_text n (so_far.counts ++ k ∷ []) =
       taken ∙ (ap (λ t. t ++ progress_line n k) (so_far.whole sound) ∙ longer n so_far.counts k start.taken) in
@@ -45,7 +45,7 @@ module _ (n last k : ℕ) (start now : SinkTold) (so_far : Shows n last start no
       }
 
   -- the stream fails
-  pub shows-cut : now.failures ≡ start.failures → (then : SinkTold) → TakesPrefix (progress_line n k) now.taken then.taken → then.failures ≡ now.failures + 1 → Shows n k start then
+  pub shows-cut : now.failures ≡ start.failures → (then : SinkState) → TakesPrefix (progress_line n k) now.taken then.taken → then.failures ≡ now.failures + 1 → Shows n k start then
   shows-cut sound then begun counted = record {
     counts = so_far.counts ++ k ∷ [];
     growing = grow-more 0 so_far.counts last k so_far.growing above;
@@ -54,7 +54,7 @@ module _ (n last k : ℕ) (start now : SinkTold) (so_far : Shows n last start no
     whole = λ same. absurd (omega arith);
   }
 
-module _ (m : Meter) (k : ℕ) (start now : SinkTold) (so_far : HasShown m start now) (above : m.last < k) (within : k ≤ m.count) where
+module _ (m : Meter) (k : ℕ) (start now : SinkState) (so_far : HasShown m start now) (above : m.last < k) (within : k ≤ m.count) where
   -- a meter that is broken shows nothing more
   pub shown-unwritten : m.broken ≡ true → HasShown (record m { last = k }) start now
   shown-unwritten broken = record {
@@ -64,7 +64,7 @@ module _ (m : Meter) (k : ℕ) (start now : SinkTold) (so_far : HasShown m start
   }
 
   -- else it shows the count, and is broken where that fails
-  pub shown-more : {T E : Type 0} → m.broken ≡ false → (then : SinkTold) (r : Result T E) → Writes r (progress_line m.count k) now.taken then.taken now.failures then.failures → HasShown (record m { last = k; broken = is_err r }) start then
+  pub shown-more : {T E : Type 0} → m.broken ≡ false → (then : SinkState) (r : Result T E) → Writes r (progress_line m.count k) now.taken then.taken now.failures then.failures → HasShown (record m { last = k; broken = is_err r }) start then
   shown-more sound then (Ok x) written =
       let s = so_far.sound sound in
       record {
@@ -82,7 +82,7 @@ module _ (m : Meter) (k : ℕ) (start now : SinkTold) (so_far : HasShown m start
       }
 
 -- a meter that has shown nothing
-pub shown-first : (m : Meter) (s : SinkTold) → m.last ≡ 0 → m.broken ≡ false → HasShown m s s
+pub shown-first : (m : Meter) (s : SinkState) → m.last ≡ 0 → m.broken ≡ false → HasShown m s s
 shown-first m s none sound = record {
   shows = record {
     counts = [];
@@ -96,6 +96,6 @@ shown-first m s none sound = record {
 }
 
 -- what a meter has shown where progress is asked for; else nothing was
-pub is-shown : (progress : Bool) (n : ℕ) (m : Meter) (before after : SinkTold) → m.count ≡ n → HasShown m before after → (progress ≡ false → after ≡ before) → IsShown progress n m.last before after
+pub is-shown : (progress : Bool) (n : ℕ) (m : Meter) (before after : SinkState) → m.count ≡ n → HasShown m before after → (progress ≡ false → after ≡ before) → IsShown progress n m.last before after
 is-shown true n m before after count shown quiet = subst (λ k. Shows k m.last before after) count shown.shows
 is-shown false n m before after count shown quiet = quiet refl

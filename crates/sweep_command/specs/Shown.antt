@@ -2,13 +2,13 @@
 use Rattle.std.specs.Prelude.{◌≡◌, ◌<◌, ◌≤◌, ℕ, Bool, true, false, List, [], ◌∷◌, ◌++◌, codes, decimal}
 use Rattle.std.specs.List.{flat_map}
 use Rattle.ultra_msg.specs.Bytes.{TakesPrefix}
-use Rattle.ultra_io.specs.Account.{SinkTold}
+use Rattle.ultra_io.specs.Account.{SinkState}
 use Rattle.ultra_inputs.specs.Failure.{text_of}
 use Rattle.ultra_inputs.specs.declared.failure.Failure.{Failure}
 use Rattle.sweep_command.specs.declared.meter.Meter.{Meter}
 
 -- a stream: what it has taken, and how often it has failed
-abbrev pub stream : List ℕ → ℕ → SinkTold
+abbrev pub stream : List ℕ → ℕ → SinkState
 stream taken failures = record { taken = taken; failures = failures }
 
 -- numbers that grow from one above the first to the last of them, or none where the two are the same
@@ -26,7 +26,7 @@ progress_text n counts = flat_map (progress_line n) counts
 
 -- lines went to a stream that say how many of n jobs are finished, the last of them this many; where
 -- the stream has failed, a prefix of them
-pub record Shows (n last : ℕ) (before after : SinkTold) : Type 0 where
+pub record Shows (n last : ℕ) (before after : SinkState) : Type 0 where
   pub counts : List ℕ
   pub growing : GrowTo 0 counts last
   pub within : last ≤ n
@@ -34,17 +34,17 @@ pub record Shows (n last : ℕ) (before after : SinkTold) : Type 0 where
   pub whole : after.failures ≡ before.failures → after.taken ≡ before.taken ++ progress_text n counts
 
 -- the same where progress is asked for, and else nothing
-abbrev pub IsShown : Bool → ℕ → ℕ → SinkTold → SinkTold → Type 0
+abbrev pub IsShown : Bool → ℕ → ℕ → SinkState → SinkState → Type 0
 IsShown true n last before after = Shows n last before after
 IsShown false n last before after = after ≡ before
 
 -- what a meter has shown so far
-pub record HasShown (m : Meter) (before after : SinkTold) : Type 0 where
+pub record HasShown (m : Meter) (before after : SinkState) : Type 0 where
   pub shows : Shows m.count m.last before after
   pub failed : m.broken ≡ true → before.failures < after.failures
   pub sound : m.broken ≡ false → after.failures ≡ before.failures
 
 -- a failure was reported on a stream
-pub record Told (f : Failure) (before after : SinkTold) : Type 0 where
+pub record IsReported (f : Failure) (before after : SinkState) : Type 0 where
   pub begun : TakesPrefix (text_of f) before.taken after.taken
   pub whole : after.failures ≡ before.failures → after.taken ≡ before.taken ++ text_of f

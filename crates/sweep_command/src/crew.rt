@@ -1,7 +1,7 @@
 //! The threads of a sweep.
 
 ghost use Rattle.std.specs.Prelude.{◌≡◌, ◌≤◌, ◌<◌, ℕ, ◌+◌, min, max, length, IfOk, IfErr, All};
-ghost use Rattle.ultra_io.specs.Account.{SinkTold};
+ghost use Rattle.ultra_io.specs.Account.{SinkState};
 ghost use Rattle.sweep_command.specs.Share.{IsFresh, IsShare, IsWhole, IsTask, IsCrew, HasRead};
 ghost use Rattle.sweep_command.specs.Shown.{stream, HasShown};
 ghost use Rattle.sweep_command.specs.declared.fault.SweepFault.TheVariants.{NoThread};
@@ -77,7 +77,7 @@ impl<'a> Crew<'a> {
         ensures task { self.new.task ≡ self.old.task }
         ensures threads { self.new.threads ≡ self.old.threads }
         ensures count { meter.new.count ≡ meter.old.count }
-        ensures shown { (start : SinkTold) →
+        ensures shown { (start : SinkState) →
             HasShown meter.old start (stream (E.taken err.old) (E.failures err.old)) →
             HasShown meter.new start (stream (E.taken err.new) (E.failures err.new)) }
     {
@@ -193,7 +193,7 @@ fn show_progress<E: Sink>(board: &Board, seat: &mut Seat, meter: &mut Meter, err
     ensures read { HasRead seat.old.view seat.new.view }
     ensures count { meter.new.count ≡ meter.old.count }
     ensures last { meter.new.last ≡ max meter.old.last (min seat.new.view.seen meter.old.count) }
-    ensures shown { (start : SinkTold) →
+    ensures shown { (start : SinkState) →
         HasShown meter.old start (stream (E.taken err.old) (E.failures err.old)) →
         HasShown meter.new start (stream (E.taken err.new) (E.failures err.new)) }
 {

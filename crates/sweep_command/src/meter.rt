@@ -2,7 +2,7 @@
 
 ghost use Rattle.std.specs.Prelude.{◌≡◌, false, min, max};
 ghost use Rattle.ultra_msg.specs.Bytes.{Writes};
-ghost use Rattle.ultra_io.specs.Account.{SinkTold};
+ghost use Rattle.ultra_io.specs.Account.{SinkState};
 ghost use Rattle.sweep_command.specs.Shown.{stream, progress_line, HasShown};
 
 use itoa::Buffer;
@@ -37,7 +37,7 @@ impl Meter {
     pub(crate) fn show<E: Sink>(&mut self, finished: u64, err: &mut E)
         ensures count { self.new.count ≡ self.old.count }
         ensures last { self.new.last ≡ max self.old.last (min finished self.old.count) }
-        ensures shown { (start : SinkTold) →
+        ensures shown { (start : SinkState) →
             HasShown self.old start (stream (E.taken err.old) (E.failures err.old)) →
             HasShown self.new start (stream (E.taken err.new) (E.failures err.new)) }
     {

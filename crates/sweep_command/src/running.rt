@@ -1,7 +1,7 @@
 //! The run of all jobs.
 
 ghost use Rattle.std.specs.Prelude.{◌≡◌, ◌<◌, ℕ, ◌+◌, false, map, length, IfOk, IfErr, OnOk, OnErr};
-ghost use Rattle.ultra_io.specs.Account.{SinkTold};
+ghost use Rattle.ultra_io.specs.Account.{SinkState};
 ghost use Rattle.ultra_sweep.specs.Job.{trace_of};
 ghost use Rattle.sweep_command.specs.Share.{threads_of, IsTask, IsFresh, IsWhole};
 ghost use Rattle.sweep_command.specs.Shown.{stream, HasShown, IsShown};
@@ -149,7 +149,7 @@ fn conduct<'a, S, R: Threads + Wait + Sync, E: Sink>(
     ensures share { IfOk result
         (IsWhole task.entry.board.now task.entry.jobs.now (threads_of plan + 1)) }
     ensures count { meter.new.count ≡ meter.old.count }
-    ensures shown { (start : SinkTold) →
+    ensures shown { (start : SinkState) →
         HasShown meter.old start (stream (E.taken err.old) (E.failures err.old)) →
         HasShown meter.new start (stream (E.taken err.new) (E.failures err.new)) }
     ensures quiet { plan.progress ≡ false → stream (E.taken err.new) (E.failures err.new) ≡

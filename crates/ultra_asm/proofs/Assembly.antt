@@ -188,7 +188,7 @@ module _ (ls : Lines) (is : List Instr) (m : AreLinesOf ls is) where
   pub only : (js : List Instr) → AreLinesOf ls js → js ≡ is
   only js n = instructions_same (place_of ls) (statements ls) js is n.instructions m.instructions
 
--- ---- the instructions of the first k lines, none of which has a fault
+-- ---- the instructions of the first k lines, where these have no fault
 module _ (ls : Lines) (defined : List ℕ → Option Definition) where
   abbrev pub near : Places
   near w = option_map near_place (defined w)

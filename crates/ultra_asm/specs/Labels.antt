@@ -57,7 +57,7 @@ place_of ls name = option_map (λ d. d.place) (definition_of ls name)
 abbrev pub is_defined_before : List (List (List ℕ)) → ℕ → List ℕ → Bool
 is_defined_before ls k name = is_some (definition_of (take k ls) name)
 
--- the same places, of which those above 4096 count as 4096: a program that has them is too long
+-- the same places, where one above 4096 counts as 4096: a program that has it is too long
 abbrev pub near_place : Definition → ℕ
 near_place d = min d.place 4096
 

@@ -47,7 +47,7 @@ has_words (w ∷ ws) = true
 abbrev pub statements : List (List (List ℕ)) → List (List (List ℕ))
 statements ls = filter has_words (map statement ls)
 
--- what ends with `:` at the beginning of line k is a label that no earlier line has
+-- a word that ends with `:` at the start of line k is a label that no earlier line has
 module _ (ls : List (List (List ℕ))) (k : ℕ) where
   abbrev pub IsNewLabel : List ℕ → Type 0
   IsNewLabel name = (is_name name ≡ true) × (is_defined_before ls k name ≡ false)
@@ -111,7 +111,7 @@ module _ (places : List ℕ → Option ℕ) where
   statement_fault before [] = None
   statement_fault before (w ∷ ws) = instruction_fault before (mnemonic_named w) ws
 
--- of what ends with `:` at the beginning of line k
+-- of a word that ends with `:` at the start of line k
 module _ (ls : List (List (List ℕ))) (k : ℕ) where
   abbrev pub label_fault : Option (List ℕ) → Option AsmFaultKind
   label_fault None = None

@@ -25,7 +25,7 @@ pub enum AsmFaultKind {
     /// Memory for the labels, the instructions or the words of a line was refused.
     #[error("no memory")]
     NoMemory,
-    /// The word names no instruction; or it ends with `:` at the beginning of a line and isn't a label.
+    /// The word names no instruction; or it ends with `:` at the start of a line and isn't a label.
     #[error("unknown word")]
     UnknownWord,
     /// An operand should be a register, and isn't.
@@ -52,7 +52,7 @@ pub enum AsmFaultKind {
 #[derive(Clone, Copy, PartialEq, Eq, Debug, Drop, Error)]
 #[error("line {line}: {kind}")]
 pub struct AsmFault {
-    /// The line's number, from 1; 0 for want of memory.
+    /// The line's number, from 1; 0 where memory was refused.
     pub line: usize,
     /// What is wrong there.
     pub kind: AsmFaultKind,

@@ -5,7 +5,7 @@ use Rattle.std.proofs.lemmas.Bool.{cases_eq}
 use Rattle.ultra_jobs.specs.JobsText.{Paths}
 use Rattle.ultra_isa.specs.declared.Instr.{Instr}
 use Rattle.ultra_model.specs.Machine.{Settings}
-use Rattle.ultra_io.specs.Account.{SinkTold}
+use Rattle.ultra_io.specs.Account.{SinkState}
 use Rattle.ultra_inputs.specs.declared.failure.Failure.{Failure}
 use Rattle.ultra_inputs.specs.declared.failure.Failure.TheVariants.{Usage, NotWords, NotRead, NotToml, BadField, UnknownKey, NotUtf8, BadLine, BadJob, BadParameter, NoMemory, NoThread, HeapFull, NotWritten}
 use Rattle.ultra_inputs.specs.Failure.{status_of, read_failures, write_failures}
@@ -16,7 +16,7 @@ use Rattle.lib_command.specs.Coordination as lib
 use Rattle.lib_command.specs.Coordination.{LibFails}
 use Rattle.ultra_command_line.specs.declared.Coordination.{Coordination}
 use Rattle.ultra_command_line.specs.declared.Parsed.{Parsed}
-use Rattle.sweep_command.specs.Shown.{Told}
+use Rattle.sweep_command.specs.Shown.{IsReported}
 use Rattle.sweep_command.specs.Sweep as sweep
 use Rattle.sweep_command.specs.Sweep.{Swept, SweepFails, HasFailed, JobsFail}
 use Rattle.ultra_cli.specs.Outcome.{IsStatus, IsRefusal, status_failures, ListFails, unread_text, refused_text, unwritten, ExplainFails, Obeyed, NotObeyed, HasReported, HasEnded}
@@ -122,12 +122,12 @@ lib_unread c old new f (lib.refused bad why same) = ap read_failures why
 lib_unread c old new f (lib.no_memory good why same) = ap read_failures why
 lib_unread c old new f (lib.unwritten good why begun) = ap read_failures why
 
-jobs_refused : (paths : List Paths) (progress : Bool) (old new : Traffic) (before after : SinkTold) (f : Failure) → JobsFail paths progress old new before after f → IsRefusal (status_of f) → new.written ≡ old.written
+jobs_refused : (paths : List Paths) (progress : Bool) (old new : Traffic) (before after : SinkState) (f : Failure) → JobsFail paths progress old new before after f → IsRefusal (status_of f) → new.written ≡ old.written
 jobs_refused paths progress old new before after f (sweep.refused gave same still) r = same
 jobs_refused paths progress old new before after f (sweep.not_run jobs last gave stops same shown) r = same
 jobs_refused paths progress old new before after f (sweep.unwritten jobs gave why begun shown) r = absurd (is_unwritten f why r)
 
-sweep_refused : (path : List ℕ) (progress : Bool) (old new : Traffic) (before after : SinkTold) (f : Failure) → SweepFails path progress old new before after f → IsRefusal (status_of f) → new.written ≡ old.written
+sweep_refused : (path : List ℕ) (progress : Bool) (old new : Traffic) (before after : SinkState) (f : Failure) → SweepFails path progress old new before after f → IsRefusal (status_of f) → new.written ≡ old.written
 sweep_refused path progress old new before after f (sweep.unlisted gave same still) r = same
 sweep_refused path progress old new before after f (sweep.listed text paths gave fails) r = jobs_refused paths progress _ new before after f fails r
 
@@ -135,7 +135,7 @@ not_zero : ¬ IsRefusal 0
 not_zero (inl e) = cc
 not_zero (inr e) = cc
 
-module _ (p : Parsed) (old new : Traffic) (before after : SinkTold) (source_failures source_failures_after failures failures_after end : ℕ) where
+module _ (p : Parsed) (old new : Traffic) (before after : SinkState) (source_failures source_failures_after failures failures_after end : ℕ) where
   -- what was asked for was done
   well_ended : end ≡ 0 → Obeyed p old new before after → source_failures_after ≡ source_failures → failures_after ≡ failures → HasEnded p old new before after source_failures source_failures_after failures failures_after end
   well_ended zero good read_still still = record {
@@ -148,8 +148,8 @@ module _ (p : Parsed) (old new : Traffic) (before after : SinkTold) (source_fail
   }
 
   -- a command whose failure was reported
-  pub failure_ended : (f : Failure) (shown : SinkTold) → NotObeyed p old new before shown f → (IsRefusal (status_of f) → new.written ≡ old.written) → source_failures_after ≡ source_failures + read_failures f → failures_after ≡ failures + write_failures f → end ≡ status_of f → Told f shown after → HasEnded p old new before after source_failures source_failures_after failures failures_after end
-  failure_ended f shown why nothing read_counted counted same told =
+  pub failure_ended : (f : Failure) (shown : SinkState) → NotObeyed p old new before shown f → (IsRefusal (status_of f) → new.written ≡ old.written) → source_failures_after ≡ source_failures + read_failures f → failures_after ≡ failures + write_failures f → end ≡ status_of f → IsReported f shown after → HasEnded p old new before after source_failures source_failures_after failures failures_after end
+  failure_ended f shown why nothing read_counted counted same report =
       let e = ends f in
       let read_nothing : end ≢ 3 → read_failures f ≡ 0 = λ ne. e.unread (λ three. ne (same ∙ three)) in
       record {
@@ -158,7 +158,7 @@ module _ (p : Parsed) (old new : Traffic) (before after : SinkTold) (source_fail
         counted = rw same (counted ∙ ap (λ n. failures + n) e.written);
         read_still = λ ne. let none = read_nothing ne in omega (arith, read_counted, none);
         done = λ zero. absurd (e.bad (sym same ∙ zero));
-        failed = λ ne. record { failure = f; shown = shown; same_status = sym same; why = why; told = told; read_counted = read_counted };
+        failed = λ ne. record { failure = f; shown = shown; same_status = sym same; why = why; report = report; read_counted = read_counted };
       }
 
   -- a command that is done, or whose failure was reported
@@ -169,7 +169,7 @@ module _ (p : Parsed) (old new : Traffic) (before after : SinkTold) (source_fail
   command_ended (Err f) Done Fails obeyed failed nothing good bad read_still read_counted still counted reported = failure_ended f before (failed f bad) (nothing f bad) read_counted counted reported.badly.0 reported.badly.1
 
   -- a sweep that is done, or whose failure was reported
-  pub sweep_ended : (path : List ℕ) (progress : Bool) → (Swept path progress old new before after → Obeyed p old new before after) → ((f : Failure) (shown : SinkTold) → SweepFails path progress old new before shown f → NotObeyed p old new before shown f)
+  pub sweep_ended : (path : List ℕ) (progress : Bool) → (Swept path progress old new before after → Obeyed p old new before after) → ((f : Failure) (shown : SinkState) → SweepFails path progress old new before shown f → NotObeyed p old new before shown f)
       → (end ≡ 0 → Swept path progress old new before after) → (end ≢ 0 → HasFailed path progress old new before after source_failures source_failures_after end)
       → (end ≡ 0 → source_failures_after ≡ source_failures) → (end ≡ 0 → failures_after ≡ failures) → (end ≢ 0 → (f : Failure) × (status_of f ≡ end) × (failures_after ≡ failures + write_failures f)) → HasEnded p old new before after source_failures source_failures_after failures failures_after end
   sweep_ended path progress obeyed failed done fails read_still still counted = ⊎_elim (λ zero. well_ended zero (obeyed (done zero)) (read_still zero) (still zero)) (λ (bad : end ≢ 0). badly (fails bad) (counted bad)) (cases_eq end 0)
@@ -178,4 +178,4 @@ module _ (p : Parsed) (old new : Traffic) (before after : SinkTold) (source_fail
       badly b (g, other, count) =
           let f = b.failure in
           let both : write_failures g ≡ write_failures f = (ends g).written ∙ (ap status_failures (other ∙ sym b.same_status) ∙ sym (ends f).written) in
-          failure_ended f b.shown (failed f b.shown b.why) (sweep_refused path progress old new before b.shown f b.why) b.read_counted (count ∙ ap (λ n. failures + n) both) (sym b.same_status) b.told
+          failure_ended f b.shown (failed f b.shown b.why) (sweep_refused path progress old new before b.shown f b.why) b.read_counted (count ∙ ap (λ n. failures + n) both) (sym b.same_status) b.report

@@ -11,13 +11,13 @@ use Rattle.ultra_inputs.specs.declared.failure.Failure.TheVariants.{Usage, NoMem
 use Rattle.ultra_inputs.specs.Inputs.{IsProgramOf, IsUnread, ExplainsProgram}
 use Rattle.ultra_inputs.specs.Traffic.{Traffic, with_files, IsStopped, WroteText, TextFails}
 use Rattle.ultra_inputs.specs.Failure.{status_of, read_failures}
-use Rattle.ultra_io.specs.Account.{SinkTold}
+use Rattle.ultra_io.specs.Account.{SinkState}
 use Rattle.ultra_io.specs.Source.{file_of}
 use Rattle.run_command.specs.Stops.{IsStoppedBy}
 use Rattle.order_command.specs.Order.{order_of}
 use Rattle.explain_command.specs.Explanation.{explanation_of, EndsFull, IsCutShort}
 use Rattle.lib_command.specs.Coordination.{WroteProgram, LibFails}
-use Rattle.sweep_command.specs.Shown.{Told}
+use Rattle.sweep_command.specs.Shown.{IsReported}
 use Rattle.sweep_command.specs.Sweep.{Swept, SweepFails}
 use Rattle.run_command.specs.Trace.{trace}
 
@@ -62,7 +62,7 @@ AnswerFails text old new f =
     (f ≡ NotWritten) × (new.files ≡ old.files) × TakesPrefix text old.written new.written
 
 -- what was asked for was done. Standard error took nothing, but for the progress of a sweep
-abbrev pub Obeyed : Parsed → Traffic → Traffic → SinkTold → SinkTold → Type 0
+abbrev pub Obeyed : Parsed → Traffic → Traffic → SinkState → SinkState → Type 0
 Obeyed (parsed.Command (Run conf prog workers)) old new before after = WroteText trace conf.now prog.now old new × (after ≡ before)
 Obeyed (parsed.Command (Order conf prog)) old new before after = WroteText order_of conf.now prog.now old new × (after ≡ before)
 Obeyed (parsed.Command (Explain conf prog heap)) old new before after = WroteText explanation_of conf.now prog.now old new × (after ≡ before)
@@ -75,7 +75,7 @@ Obeyed (parsed.Usage text) old new before after = ⊥
 Obeyed parsed.NoMemory old new before after = ⊥
 
 -- how it wasn't done, before the failure was reported
-abbrev pub NotObeyed : Parsed → Traffic → Traffic → SinkTold → SinkTold → Failure → Type 0
+abbrev pub NotObeyed : Parsed → Traffic → Traffic → SinkState → SinkState → Failure → Type 0
 NotObeyed (parsed.Command (Run conf prog workers)) old new before after f = TextFails trace (IsStoppedBy workers.count) conf.now prog.now old new f × (after ≡ before)
 NotObeyed (parsed.Command (Order conf prog)) old new before after f = TextFails order_of IsStopped conf.now prog.now old new f × (after ≡ before)
 NotObeyed (parsed.Command (Explain conf prog heap)) old new before after f = ExplainFails conf.now prog.now old new f × (after ≡ before)
@@ -91,22 +91,22 @@ NotObeyed parsed.NoMemory old new before after f = (f ≡ NoMemory) × (new ≡ 
 
 -- the failure was reported, after what was shown before. The source of files has failed as often as the
 -- failure says
-pub record Failed (p : Parsed) (old new : Traffic) (before after : SinkTold)
+pub record Failed (p : Parsed) (old new : Traffic) (before after : SinkState)
     (source_failures source_failures_after status : ℕ) : Type 0 where
   pub failure : Failure
-  pub shown : SinkTold
+  pub shown : SinkState
   pub same_status : status_of failure ≡ status
   pub why : NotObeyed p old new before shown failure
-  pub told : Told failure shown after
+  pub report : IsReported failure shown after
   pub read_counted : source_failures_after ≡ source_failures + read_failures failure
 
 -- a failure was reported, and else nothing
-pub record HasReported {T : Type 0} (done : Result T Failure) (before after : SinkTold) (status : ℕ) : Type 0 where
+pub record HasReported {T : Type 0} (done : Result T Failure) (before after : SinkState) (status : ℕ) : Type 0 where
   pub well : OnOk done ((status ≡ 0) × (after ≡ before))
-  pub badly : IfErr done (λ f. (status ≡ status_of f) × Told f before after)
+  pub badly : IfErr done (λ f. (status ≡ status_of f) × IsReported f before after)
 
 -- the program ended: what was asked for was done, or a failure was reported
-pub record HasEnded (p : Parsed) (old new : Traffic) (before after : SinkTold)
+pub record HasEnded (p : Parsed) (old new : Traffic) (before after : SinkState)
     (source_failures source_failures_after failures failures_after end : ℕ) : Type 0 where
   pub status : IsStatus end
   pub nothing : IsRefusal end → new.written ≡ old.written

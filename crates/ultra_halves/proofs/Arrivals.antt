@@ -1,4 +1,4 @@
--- a request that arrives takes at most one place of a queue, and its combination is told from the record that is kept of it
+-- a request that arrives takes at most one place of a queue, and the record that is kept gives its combination
 use Rattle.std.proofs.Common.{◌≡◌, ℕ, suc, ◌+◌, ◌-◌, ◌≤◌, List, [], ◌∷◌, ◌++◌, false, refl, arith, ap, length, length-append}
 use Rattle.std.specs.Prelude.{Option, Some, None, IfSome, slice_get, nat_lt, not}
 use Rattle.ultra_msg.specs.declared.Request.{Request}

@@ -61,7 +61,7 @@ module _ (s k : ℕ) (lanes : Ports SizedLane) where
       let here = combine_within lanes.one.wait_places lanes.one.lane r in
       present_first s (2 * k + 1) r here rest ∙ ap (λ es. combination s (2 * k + 1) r here ++ es) none
 
-  -- two requests, of which the second comes to the queues after the first
+  -- two requests: the second comes to the queues after the first
   two : (f g : Request) (zero next : Bool)
       → present (in_order (not zero && next)
       (elim zero [ true ↦ event_in s (2 * k) lanes.zero f | false ↦ event_in s (2 * k + 1) lanes.one f ])

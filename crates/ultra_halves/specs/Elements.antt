@@ -39,7 +39,7 @@ step_at program e = step_of e.processor.site e.interface.most_open program e.pro
 abbrev pub executed : List Instr → ProcessingElement → ProcessingElement
 executed program e = with_element e (stepped (element_of e) (step_at program e))
 
--- what an outcome tells of an issue, and of a stop
+-- the issue of an outcome, and its stop, if it has one
 abbrev pub issue_in : Outcome → Option Event
 issue_in Done = None
 issue_in (Issued e) = Some e

@@ -22,7 +22,7 @@ pub struct ProcessingElement {
 pub enum Outcome {
     /// It did an instruction that needs no memory.
     Done,
-    /// It issued a request, which the event tells.
+    /// It issued a request; this is the event.
     Issued(Event),
     /// It faulted.
     Faulted(Stop),
@@ -78,7 +78,7 @@ impl ProcessingElement {
         }
     }
 
-    /// Counts the request that was issued last, and tells it.
+    /// Counts the request that was issued last, and gives its event.
     fn count_issue(&mut self) -> Event
         requires few { self.old.issued < 2 ^ 32 - 1 }
         requires some { IsSome (slice_get self.old.interface.interface.pending (length self.old.interface.interface.pending - 1)) }

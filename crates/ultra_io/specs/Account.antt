@@ -1,4 +1,4 @@
--- what an account tells; this project's profile
+-- what an account says; this project's profile
 use Rattle.std.specs.Prelude.{ℕ, ◌+◌, List, [], ◌∷◌, ◌++◌}
 use Rattle.ultra_io.specs.declared.account.Account.{Account}
 use Rattle.ultra_io.specs.declared.account.Account.TheVariants.{Opened, Took', Read', Failed'}
@@ -25,18 +25,18 @@ failures_in (Took' m before byte) = failures_in before
 failures_in (Read' m before n path bytes) = failures_in before
 failures_in (Failed' m before) = failures_in before + 1
 
--- what an account tells of a sink
-pub record SinkTold : Type 0 where
+-- what an account says of a sink: the bytes that it took, and how often it failed
+pub record SinkState : Type 0 where
   pub taken : List ℕ
   pub failures : ℕ
 
-abbrev pub sink_told : Account → SinkTold
-sink_told a = record { taken = bytes_in a; failures = failures_in a }
+abbrev pub sink_state : Account → SinkState
+sink_state a = record { taken = bytes_in a; failures = failures_in a }
 
--- what an account tells of a source of files
-pub record SourceTold : Type 0 where
+-- what an account says of a source of files: the files that it gave, and how often it failed
+pub record SourceState : Type 0 where
   pub files : List File
   pub failures : ℕ
 
-abbrev pub source_told : Account → SourceTold
-source_told a = record { files = files_in a; failures = failures_in a }
+abbrev pub source_state : Account → SourceState
+source_state a = record { files = files_in a; failures = failures_in a }

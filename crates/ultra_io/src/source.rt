@@ -3,7 +3,7 @@
 ghost use Rattle.std.specs.Prelude.{◌≡◌, ◌≢◌, ◌↔◌, ℕ, ◌+◌, List, [], ◌∷◌, ◌++◌, IfOk, OnOk, IfErr, OnErr};
 ghost use Rattle.std.specs.Io.KnownBytes.{IsAtEnd};
 ghost use Rattle.std.specs.IoError.{error_kind};
-ghost use Rattle.ultra_io.specs.Account.{SourceTold, source_told};
+ghost use Rattle.ultra_io.specs.Account.{SourceState, source_state};
 ghost use Rattle.ultra_io.specs.Source.{File, file_of, failures_of, IsWhole};
 
 use crate::account::Account;
@@ -49,9 +49,9 @@ pub struct FileSource<'r, R: Files> {
 }
 
 impl<'r, R: Files> Model for FileSource<'r, R> {
-    ghost Value = { SourceTold };
+    ghost Value = { SourceState };
 
-    ghost view = { λ s. source_told s.account };
+    ghost view = { λ s. source_state s.account };
 }
 
 impl<'r, R: Files> FileSource<'r, R> {

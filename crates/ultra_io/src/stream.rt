@@ -2,7 +2,7 @@
 
 ghost use Rattle.std.specs.Prelude.{◌≡◌, ◌≤◌, [], length, take, IfNone, IfSome};
 ghost use Rattle.std.specs.Io.KnownBytes.{Appends};
-ghost use Rattle.ultra_io.specs.Account.{SinkTold, sink_told};
+ghost use Rattle.ultra_io.specs.Account.{SinkState, sink_state};
 
 use crate::account::Account;
 use std::io::Write;
@@ -17,9 +17,9 @@ pub struct Stream<W> {
 }
 
 impl<W> Model for Stream<W> {
-    ghost Value = { SinkTold };
+    ghost Value = { SinkState };
 
-    ghost view = { λ s. sink_told s.account };
+    ghost view = { λ s. sink_state s.account };
 }
 
 impl<W: Write> Stream<W> {

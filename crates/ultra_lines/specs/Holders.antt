@@ -6,7 +6,7 @@ use Rattle.ultra_block.specs.Holding.{holds}
 use Rattle.ultra_block.specs.State.{BlocksState}
 use Rattle.ultra_lines.specs.declared.holders.Holders.{Holders}
 
--- of the n numbers from a on those with which a unit holds such a thing; base is the number of the
+-- of the n numbers from a on those of units that hold it; base is the number of the
 -- kind's first unit among all units
 abbrev pub holding : BlocksState → Held → ℕ → ℕ → ℕ → List ℕ
 holding b held base a n =

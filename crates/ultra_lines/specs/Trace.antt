@@ -96,7 +96,7 @@ out_of m k = out_line k (bank_at m k).out
 abbrev pub rep_of : Machine → ℕ → ℕ → List ℕ
 rep_of m s y = rep_line s y (replies_at m s y)
 
--- ---- one cycle, of which this is the machine afterwards
+-- ---- one cycle, after which this is the machine
 -- what happened in the cycle
 abbrev pub events_text : List Event → List Stop → List ℕ
 events_text events stops = flat_map got_line events ++ flat_map act_line events ++ flat_map fault_line stops

@@ -8,7 +8,7 @@ ghost use Rattle.ultra_lines.specs.Holders.{holders_left, holding};
 use ultra_block::{Blocks, Held};
 use ultra_units::{element_number, module_number, switch_number};
 
-/// The units of one kind that hold such a thing, by their numbers within the kind.
+/// The units of one kind that hold what is asked for, by their numbers within the kind.
 #[derive(Drop)]
 pub(crate) struct Holders<'a> {
     blocks: &'a Blocks,
@@ -41,7 +41,7 @@ impl Iterator for Holders<'_> {
     }
 }
 
-/// The switches of a stage that hold such a thing, by their numbers within the stage.
+/// The switches of a stage that hold what is asked for, by their numbers within the stage.
 pub(crate) fn switches_with(blocks: &Blocks, held: Held, stage: u32) -> Holders<'_>
     requires { stage < blocks.now.config.stages }
     ensures { holders_left result ≡ holding blocks.now held (number_of_switch blocks.now.config.stages stage 0) 0 (2 ^ (blocks.now.config.stages - 1)) }
@@ -57,7 +57,7 @@ pub(crate) fn switches_with(blocks: &Blocks, held: Held, stage: u32) -> Holders<
     }
 }
 
-/// The modules that hold such a thing, by their numbers.
+/// The modules that hold what is asked for, by their numbers.
 pub(crate) fn modules_with(blocks: &Blocks, held: Held) -> Holders<'_>
     ensures { holders_left result ≡ holding blocks.now held (number_of_module blocks.now.config.stages 0) 0 (2 ^ blocks.now.config.stages) }
 {
@@ -72,7 +72,7 @@ pub(crate) fn modules_with(blocks: &Blocks, held: Held) -> Holders<'_>
     }
 }
 
-/// The processing elements that hold such a thing, by their numbers.
+/// The processing elements that hold what is asked for, by their numbers.
 pub(crate) fn elements_with(blocks: &Blocks, held: Held) -> Holders<'_>
     ensures { holders_left result ≡ holding blocks.now held (number_of_element blocks.now.config.stages 0) 0 (2 ^ blocks.now.config.stages) }
 {

@@ -94,7 +94,7 @@ pub(crate) fn put_rep<S: Sink>(page: &mut Page<'_, S>, stage: u32, position: u32
     }
 }
 
-/// Writes the beginning of the line of a module's or processing element's place.
+/// Writes the start of the line of a place of a module or a processing element.
 fn put_unit<S: Sink>(page: &mut Page<'_, S>, word: &[u8], unit: u32)
     ensures { Writes S.taken S.failures (unit_name word.now unit ++ codes ": ") page.old page.new }
 {
@@ -104,7 +104,7 @@ fn put_unit<S: Sink>(page: &mut Page<'_, S>, word: &[u8], unit: u32)
     page.put(b": ");
 }
 
-/// Writes the beginning of the line of a place of a stage.
+/// Writes the start of the line of a place of a stage.
 fn put_place<S: Sink>(page: &mut Page<'_, S>, word: &[u8], stage: u32, position: u32)
     ensures { Writes S.taken S.failures (stage_name word.now stage position ++ codes ": ") page.old page.new }
 {

@@ -15,12 +15,19 @@ use ultra_route::{MOST_STAGES, Net};
 /// The settings as they are given: the number of each key, or its default where the key is absent. `None` is a value that is missing, or of another kind than wanted.
 #[derive(Drop)]
 pub struct RawSettings {
+    /// The stages of the network, to be 1 to 6.
     pub stages: Option<i64>,
+    /// The places of a queue toward memory, to be 2 to 32.
     pub request_places: Option<i64>,
+    /// The places of a queue toward the processing elements, to be 4 to 64.
     pub reply_places: Option<i64>,
+    /// The places of a wait buffer, to be 0 to 16.
     pub wait_places: Option<i64>,
+    /// The most cells that a processing element may have open, to be 1 to 8.
     pub most_open: Option<i64>,
+    /// The cells of a module, to be 1 to 4096.
     pub cells: Option<i64>,
+    /// The most cycles of a run, to be 1 to 1,000,000.
     pub cycles: Option<i64>,
     /// Addresses of cells, each with the value that the cell has at first.
     pub initial: Option<Vec<(i64, i64)>>,
@@ -29,13 +36,21 @@ pub struct RawSettings {
 /// A key of the settings.
 #[derive(Clone, Copy, PartialEq, Eq, Debug, Drop)]
 pub enum Field {
+    /// `stages`
     Stages,
+    /// `request_places`
     RequestPlaces,
+    /// `reply_places`
     ReplyPlaces,
+    /// `wait_places`
     WaitPlaces,
+    /// `open`
     MostOpen,
+    /// `cells`
     Cells,
+    /// `cycles`
     Cycles,
+    /// `initial`
     Initial,
 }
 

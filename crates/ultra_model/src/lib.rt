@@ -11,6 +11,8 @@ use ultra_msg::Pe;
 /// A processing element that faulted in the last cycle, and why.
 #[derive(Clone, Copy, Drop)]
 pub struct Stop {
+    /// The element.
     pub pe: Pe,
+    /// Why it faulted.
     pub fault: MachineFault,
 }

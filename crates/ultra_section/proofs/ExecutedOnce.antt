@@ -1,4 +1,4 @@
--- After the half in which processing elements make a step: each has made one, and what it issued and its stop are told in the order of the elements.
+-- After the half in which processing elements make a step: each has made one, and issues and stops are listed in the order of the elements.
 use Rattle.std.proofs.Common.{◌≡◌, ◌≢◌, ℕ, ◌^◌, ◌<◌, List, [], ◌∷◌, ◌++◌, Option, Some, None, length, get_or-set_same, get_or-set_other, refl, sym, ◌∙◌, ap, subst, arith}
 use Rattle.std.proofs.lemmas.List.{length-set, append-nil}
 use Rattle.ultra_msg.specs.declared.Event.{Event}
@@ -100,7 +100,7 @@ module _ (program : List Instr) where
     stop_told p None = []
     stop_told p (Some e) = present (stop_of p (step_at program e).was ∷ [])
 
-    -- what is told of one unit, as `tell` tells of a processing element
+    -- the list of one unit, where `tell` gives that of a processing element
     abbrev pub told_of : {E : Type 0} → (ℕ → Option ProcessingElement → List E) → BlockState → Unit → List E
     told_of tell t (unit.Switch s k) = []
     told_of tell t (unit.Module m) = []

@@ -1,4 +1,4 @@
--- In each half at most two events are told of a unit, so there is memory for all of a cycle.
+-- In each half a unit has at most two events, so there is memory for all events of a cycle.
 use Rattle.std.proofs.Common.{◌≡◌, ℕ, zero, suc, ◌+◌, ◌*◌, ◌<◌, ◌≤◌, List, [], ◌∷◌, ◌++◌, Bool, true, false, Option, Some, None, length, length-append, sym, ap, subst, arith}
 use Rattle.ultra_msg.specs.declared.Event.{Event}
 use Rattle.ultra_msg.specs.declared.Request.{Request}
@@ -48,6 +48,6 @@ pub two_combine : (d s k n : ℕ) (w : Switch) (came : Ports (Option Request)) �
 two_combine d s k n w came =
     subst (λ es. length es ≤ 2) (combined s k w.to_mm d (first_of n came) (second_of n came)) (ordered_present _ _ _)
 
--- where no more than so many events have happened, there is room for those of one half
+-- where at most n events have happened, there is room for those of one half
 pub room_for_half : (b : BlockState) → length b.events + 640 ≤ most_events → (n : ℕ) → HasEventRoom n b
 room_for_half b h n = omega arith

@@ -81,7 +81,7 @@ module _ (d : ℕ) (old now : Sets) (ws : List (Option Switch)) (bs : List (Opti
   }
 
 -- ---- what is noted of one
--- a switch of which `kept` says whether it keeps records
+-- a switch, where `kept` says whether it keeps records
 abbrev with_replies : UnitFacts → Switch → Bool → UnitFacts
 with_replies f v kept = record f { holds_replies = holds_replies v; no_reply_room = not (has_reply_room v); keeps_records = kept }
 

@@ -4,7 +4,7 @@ use Rattle.std.proofs.lemmas.Bool.{cases_eq}
 use Rattle.std.proofs.lemmas.List.{append-nil}
 use Rattle.ultra_units.specs.Visits.{after_units}
 
--- what is told of the units below a number, one after another
+-- the events of the units below a number, one after another
 unfoldable pub told_before : {T E : Type 0} → (ℕ → T → List E) → ℕ → T → List E
 told_before told zero t = []
 told_before told (suc n) t = told_before told n t ++ told n t
@@ -45,7 +45,7 @@ module _ {T : Type 0} (f : ℕ → T → T) (P : T → Type 0) (keeps : (j : ℕ
             | inr other ↦ others k (after_units f k t) (all_keep k t p) other ∙ changed_once g own k t p (omega arith)
           ]
 
-  -- what is told of the units, one after another
+  -- the events of the units, one after another
   module _ {E : Type 0} (told : ℕ → T → List E) where
     pub all_told : (events : T → List E) → ((j : ℕ) (t : T) → P t → events (f j t) ≡ events t ++ told j t)
         → ((n : ℕ) (t : T) → P t → told n (after_units f n t) ≡ told n t) → (m : ℕ) (t : T) → P t → events (after_units f m t) ≡ events t ++ told_before told m t

@@ -171,7 +171,7 @@ module _ (d : ℕ) (low : 1 ≤ d) (high : d ≤ 6) where
         (λ j t p. leaves replies_taken_by no_module reply_taken_by d get j t p.stages (λ s k is w. same_switch j s k t w) (λ m is b. refl) (λ q is e. same_element q t e)) 320 b shape
 
   -- ---- events
-  -- what is told of a processing element, and what is on its link
+  -- the events of a processing element, given what is on its link
   abbrev pub delivery_told : Option ProcessingElement × Option ReplyMessage → List Event
   delivery_told (None, came) = []
   delivery_told (Some e, came) = present (delivery came ∷ [])

@@ -16,7 +16,7 @@ pub both_links : (d : ℕ) → 1 ≤ d → d ≤ 6 → (n s k : ℕ) → IsSwitc
 both_links d low high n s k is = rw (is.stage, is.index) (replies_to_switch d low high n is.within)
 
 module _ (d : ℕ) (low : 1 ≤ d) (high : d ≤ 6) (here : List ℕ) (l m : Links ReplyMessage) where
-  -- something was put on a link, of which the reader is known
+  -- something was put on a link whose reader is known
   pub known_put : (at target : ℕ) (o : Option ReplyMessage) → reply_reader d at ≡ target → HasPut here l m at target o → RepliesAreKnown d here l → RepliesAreKnown d here m
   known_put at target o reader put known = record {
     all = ap length put.table ∙ length-put_on l.table.items at o ∙ known.all;

@@ -177,7 +177,7 @@ module _ (d c : ℕ) (low : 1 ≤ d) (high : d ≤ 6) where
         (λ j t p. leaves requests_taken_by request_taken_by no_element d get j t p.shape.stages (λ s k is w. same_switch j s k t w) (λ m is b. same_module m t b) (λ q is e. refl)) 320 b shape
 
   -- ---- events
-  -- what is told of switch k of stage s, and what is on its two links
+  -- the events of switch k of stage s, given what is on its two links
   abbrev pub combinations_told : ℕ → ℕ → Option Switch × Ports (Option Request) → List Event
   combinations_told s k (None, came) = []
   combinations_told s k (Some w, came) = combinations_of d s k c w came

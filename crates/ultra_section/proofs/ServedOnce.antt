@@ -1,4 +1,4 @@
--- After the half in which modules serve: each has served once, by what it held at the start, and the acts are told in the order of the modules.
+-- After the half in which modules serve: each has served once, by what it held at the start, and the acts are listed in the order of the modules.
 use Rattle.std.proofs.Common.{◌≡◌, ◌≢◌, ℕ, ◌^◌, ◌<◌, List, [], ◌∷◌, ◌++◌, Option, Some, None, length, get_or-set_same, get_or-set_other, refl, sym, ◌∙◌, ap, subst, arith}
 use Rattle.std.proofs.lemmas.List.{length-set, append-nil}
 use Rattle.ultra_msg.specs.declared.Event.{Event}
@@ -88,7 +88,7 @@ module _ (d : ℕ) where
         (λ j t p. leaves no_switch served_by no_element d get j t p.stages (λ s k is w. refl) (λ m is bank. same m t bank) (λ p is e. refl)) 320 b shape
 
   -- ---- events
-  -- what is told of the unit with number n
+  -- the events of the unit with number n
   abbrev pub act_told : Option Bank → ℕ → List Event
   act_told None m = []
   act_told (Some bank) m = present (serving m (served bank) ∷ [])

@@ -63,6 +63,6 @@ pub record IsKept (d numbering : ℕ) (s : Sets) (ws : List (Option Switch)) (bs
 abbrev pub HasEventRoom : ℕ → BlockState → Type 0
 HasEventRoom n b = length b.events + 640 ≤ most_events + 2 * n
 
--- and for their stops, of which each has at most one
+-- and for their stops: each has at most one
 abbrev pub HasStopRoom : ℕ → BlockState → Type 0
 HasStopRoom n b = length b.stops + 320 ≤ most_stops + n

@@ -27,7 +27,7 @@ element_holds Reply e = false
 element_holds Request e = holds_request e
 element_holds Record e = false
 
--- whether the unit with number n stands here and holds such a thing
+-- whether the unit with number n stands here and holds it
 abbrev pub holds_at : BlockState → Held → ℕ → Bool
 holds_at b held n =
     of_unit b.stages
@@ -37,13 +37,13 @@ holds_at b held n =
     false n
 
 -- ---- numbers from `from` on
--- k is the first of which p is true
+-- k is the first number for which p is true
 pub record IsFirstWhere (p : ℕ → Bool) (from k : ℕ) : Type 0 where
   pub after : from ≤ k
   pub there : p k ≡ true
   pub between : (n : ℕ) → from ≤ n → n < k → p n ≡ false
 
--- the first of which p is true, or that there is none
+-- the first number for which p is true, or that there is none
 pub record IsNextWhere (p : ℕ → Bool) (from : ℕ) (next : Option ℕ) : Type 0 where
   pub some : IfSome next (λ k. IsFirstWhere p from k)
   pub none : IfNone next ((n : ℕ) → from ≤ n → p n ≡ false)

@@ -13,7 +13,7 @@ use Rattle.ultra_section.specs.RequestsSent.{sends_requests}
 use Rattle.ultra_section.specs.RequestsTaken.{CanTakeRequestsAt, takes_requests}
 use Rattle.ultra_section.specs.Execution.{CanExecuteAt, counted, executes}
 
--- something is so at each unit
+-- a fact is true at each unit
 abbrev pub AtUnits : (ℕ → BlockState → Type 0) → BlockState → Type 0
 AtUnits P b = (k : ℕ) → k < 320 → P k b
 

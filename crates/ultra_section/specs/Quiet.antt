@@ -6,7 +6,7 @@ use Rattle.ultra_halves.specs.Modules.{quiet_bank}
 use Rattle.ultra_halves.specs.Elements.{quiet_element}
 use Rattle.ultra_section.specs.BlockState.{BlockState}
 
--- something is so of a unit, or it stands elsewhere
+-- a test is true of a unit, or the unit stands elsewhere
 abbrev pub or_elsewhere : {X : Type 0} → (X → Bool) → Option X → Bool
 or_elsewhere p None = true
 or_elsewhere p (Some x) = p x

@@ -58,7 +58,7 @@ impl Model for Block {
     ghost invariant = { λ b. IsKept b.net b.numbering b.sets b.switches.items b.modules.items b.elements.items b.replies b.requests (vec_capacity b.events) (vec_capacity b.stops) };
 }
 
-/// Puts an entry at the end of a list that has memory for it.
+/// Adds an entry at the end of a list that has memory for it.
 #[inline(always)]
 pub(crate) fn tell<T: Drop>(list: &mut Vec<T>, entry: T)
     requires { length list.old.items < vec_capacity list.old }

@@ -16,7 +16,7 @@ pub enum Held {
 }
 
 impl Block {
-    /// The first unit from number `from` on that stands here and holds such a thing. It takes no more than a look at a set.
+    /// The first unit from number `from` on that stands here and holds what is asked for. It reads one set.
     #[inline(always)]
     pub fn next_holding(&self, held: Held, from: usize) -> Option<usize>
         ensures { IsNextWhere (holds_at self.now held) from result }

@@ -65,7 +65,7 @@ fn are_elements_quiet(entries: &[Option<ProcessingElement>]) -> bool
 }
 
 impl Block {
-    /// Whether one of its processing elements has yet to stop. Then the block isn't quiet; it is a first look at that, which takes no more than a few words.
+    /// Whether one of its processing elements has yet to stop. Then the block isn't quiet. This first look reads only a few words.
     #[inline(always)]
     pub fn is_stepping(&self) -> bool
         ensures { result ≡ true → quiet_block self.now ≡ false }

@@ -13,7 +13,7 @@ use ultra_mem::Module;
 use ultra_switch::{Ports, Switch};
 use ultra_units::UnitSet;
 
-/// What is known of the units that stand in a block, as sets of their numbers. Each is exactly the units of which it is true.
+/// What is known of the units that stand in a block, as sets of their numbers. Each is exactly the set of the units for which it is true.
 #[derive(Drop)]
 pub(crate) struct Sets {
     /// Those that stand here.
@@ -80,7 +80,7 @@ impl Sets {
         self.keeps_records.remove(number);
     }
 
-    /// The units that hold such a thing.
+    /// The units that hold what is asked for.
     #[inline(always)]
     pub(crate) fn holding(&self, held: Held) -> &UnitSet
         ensures { (k : ℕ) → has_unit result.now k ≡ fact_of held (facts_at self.now k) }

@@ -181,7 +181,7 @@ added a b c k word =
     ∙ ap (λ x. eqb x 1) (bit_at_or (get_or a (k / 64) 0) (get_or b (k / 64) 0) (k % 64))
     ∙ one_of (bit_at (get_or a (k / 64) 0) (k % 64)) (bit_at (get_or b (k / 64) 0) (k % 64)) (bit_at-lt _ _) (bit_at-lt _ _)
 
--- five words, of which each was united with the other's word
+-- five words, each united with the other's word
 pub united : (a b c : List ℕ) (n : ℕ) → length a ≡ 5 → length b ≡ 5 → length c ≡ 5 → 5 ≤ n
     → ((i : ℕ) → i < n → get_or c i 0 ≡ bit_or (get_or a i 0) (get_or b i 0)) → ((i : ℕ) → n ≤ i → get_or c i 0 ≡ get_or a i 0)
     → (k : ℕ) → has_unit c k ≡ has_unit a k || has_unit b k

@@ -9,13 +9,13 @@ use Rattle.sweep_command.proofs.sweep.Goals as goal
 pub returns-in-Err-clause-failed : goal.returns-in-Err-clause-failed
 returns-in-Err-clause-failed g c ne =
     let before = stream (g.E.Sink.taken c.args.err.now) (g.E.Sink.failures c.args.err.now) in
-    let told = c.give_up.ensures in
+    let given_up = c.give_up.ensures in
     record {
       failure = c.in-Err.failure;
       shown = before;
-      same_status = sym told.status;
+      same_status = sym given_up.status;
       why = unlisted c.in-Err.ensures.err (refl {a = g.O.Sink.taken c.args.out.now}) (refl {a = before});
-      told = record { begun = told.prefix; whole = told.whole };
+      report = record { begun = given_up.prefix; whole = given_up.whole };
       read_counted = c.in-Err.ensures.counted;
     }
 
@@ -23,13 +23,13 @@ pub returns-clause-failed : goal.returns-clause-failed
 returns-clause-failed g c ne =
     let gave = c.in-Ok.ensures.ok in
     let why = c.in-Err-sweep_jobs.ensures in
-    let told = c.give_up-in-Err-sweep_jobs.ensures in
+    let given_up = c.give_up-in-Err-sweep_jobs.ensures in
     record {
       failure = c.in-Err-sweep_jobs.failure;
       shown = stream (g.E.Sink.taken c.sweep_jobs.new.err) (g.E.Sink.failures c.sweep_jobs.new.err);
-      same_status = sym told.status;
+      same_status = sym given_up.status;
       why = listed gave.text (all_paths c.in-Ok.list.items) gave.given (rw gave.files at (rw c.as_slice.ensures.value at why.err));
-      told = record { begun = told.prefix; whole = told.whole };
+      report = record { begun = given_up.prefix; whole = given_up.whole };
       read_counted = rw c.in-Ok.ensures.still at why.read_counted;
     }
 

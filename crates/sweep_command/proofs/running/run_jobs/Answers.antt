@@ -3,7 +3,7 @@ use Rattle.std.specs.Prelude.{Result, Ok, Err, OnErr}
 use Rattle.sweep_command.proofs.Showing.{is-shown}
 use Rattle.sweep_command.proofs.running.run_jobs.Goals as goal
 
--- what is so in any case is so where there is an error
+-- what is true in any case is true where there is an error
 on-err : {A B : Type 0} (r : Result A B) (P : Type 0) → P → OnErr r P
 on-err (Ok x) P p = tt
 on-err (Err x) P p = p

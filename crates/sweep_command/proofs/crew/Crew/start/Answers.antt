@@ -5,7 +5,7 @@ use Rattle.ultra_board.specs.Seat.{Opened, Seated}
 use Rattle.sweep_command.specs.Share.{IsFresh}
 use Rattle.sweep_command.proofs.crew.Crew.start.Goals as goal
 
--- what is left of a seat of n places, the first of which are still to be split off
+-- what is left of a seat of n places, when some of them are still to be split off
 fresh-rest : (board : Opened) (n k count : ℕ) (seat rest : Seated) → n + k ≡ count + 1 → k < count → IsFresh board n seat → ((m : ℕ) → IsFresh board (m + 1) seat → IsFresh board m rest) → IsFresh board (n - 1) rest
 fresh-rest board n k count seat rest left more fresh split =
     let one_more : n ≡ n - 1 + 1 = omega arith in

@@ -6,18 +6,18 @@ use Rattle.sweep_command.proofs.crew.Crew.watch.Goals.{in-None, in-Some+then-end
 pub loop-preserved : goal.loop-preserved
 loop-preserved g c =
     let so_far = c.loop.invariant in
-    let told = c.show_progress.ensures in
+    let progress = c.show_progress.ensures in
     record {
       can = tt;
       crew = record {
         task = so_far.crew.task;
-        fresh = fresh-read c.loop.self.task.board.now 1 c.loop.self.seat c.show_progress.new.seat told.board told.read so_far.crew.fresh;
+        fresh = fresh-read c.loop.self.task.board.now 1 c.loop.self.seat c.show_progress.new.seat progress.board progress.read so_far.crew.fresh;
         parts = so_far.crew.parts;
       };
       task = so_far.task;
       threads = so_far.threads;
-      count = told.count ∙ so_far.count;
-      shown = λ start shown. told.shown start (so_far.shown start shown);
+      count = progress.count ∙ so_far.count;
+      shown = λ start shown. progress.shown start (so_far.shown start shown);
     }
 
 pub returns-clause-shown : goal.returns-clause-shown

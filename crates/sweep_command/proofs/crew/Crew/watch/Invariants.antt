@@ -1,5 +1,5 @@
 use Rattle.std.proofs.Common.{◌≡◌}
-use Rattle.ultra_io.specs.Account.{SinkTold}
+use Rattle.ultra_io.specs.Account.{SinkState}
 use Rattle.sweep_command.specs.Share.{IsCrew}
 use Rattle.sweep_command.specs.Shown.{stream, HasShown}
 use Rattle.sweep_command.proofs.crew.Crew.watch.Given as goal
@@ -11,5 +11,5 @@ invariant-loop g l = record {
   task : l.self.task ≡ l.initial.self.task;
   threads : l.self.threads ≡ l.initial.self.threads;
   count : l.meter.count ≡ l.initial.meter.count;
-  shown : (start : SinkTold) → HasShown l.initial.meter start (stream (g.E.Sink.taken l.initial.err) (g.E.Sink.failures l.initial.err)) → HasShown l.meter start (stream (g.E.Sink.taken l.err) (g.E.Sink.failures l.err));
+  shown : (start : SinkState) → HasShown l.initial.meter start (stream (g.E.Sink.taken l.initial.err) (g.E.Sink.failures l.initial.err)) → HasShown l.meter start (stream (g.E.Sink.taken l.err) (g.E.Sink.failures l.err));
 }

@@ -6,7 +6,7 @@ use Rattle.ultra_section.specs.Away.{AreEmpty, IsNextForReplies, NoReplyLeavesWi
 use Rattle.ultra_section.proofs.RepliesAway.{none_away}
 use Rattle.ultra_section.proofs.block.Block.next_for_replies.Goals as goal
 
--- the next unit of a set, outside of which nothing leaves
+-- the next unit of a set; nothing leaves for a unit outside of it
 next_unit : (set : List ℕ) (b : BlockState) (from : ℕ) (o : Option ℕ) → ((n : ℕ) → has_unit set n ≡ false → stands n b ≡ false → AreEmpty b.replies (reply_inlets b.stages n))
     → IfSome o (λ k. IsFirstFrom set from k) → IfSome o (λ k. IsNextForReplies b from k)
 next_unit set b from None empty found = tt
