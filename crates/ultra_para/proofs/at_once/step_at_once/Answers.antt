@@ -1,29 +1,64 @@
-use Rattle.std.proofs.Common.{◌≡◌, refl, sym, ◌∙◌, ap}
-use Rattle.std.specs.Prelude.{Some, slice_get}
+use Rattle.std.proofs.Common.{◌≡◌, ℕ, ◌<◌, ◌≤◌, List, length, refl, sym, ◌∙◌, ap, subst, arith}
+use Rattle.std.specs.Prelude.{Some, IfSome, slice_get}
+use Rattle.ultra_msg.specs.declared.Request.{Request}
 use Rattle.ultra_pni.specs.Interface.{Interface, empty_interface, SizedInterface}
-use Rattle.ultra_isa.specs.Step.{step_of}
+use Rattle.ultra_isa.specs.declared.Instr.{Instr}
+use Rattle.ultra_isa.specs.Instruction.{Site}
+use Rattle.ultra_isa.specs.Step.{Core, step_of}
 use Rattle.ultra_para.proofs.Sending.{pending_is_sent, more_is_open}
 use Rattle.ultra_para.proofs.at_once.step_at_once.Goals as goal
+
+-- what a step leaves in a new interface
+interface_after : (s : Site) (program : List Instr) (core : Core) (i j : SizedInterface) → i ≡ record { interface = empty_interface; most_open = 1 } → j ≡ record i { interface = (step_of s i.most_open program core i.interface).interface }
+    → j.interface ≡ (step_of s 1 program core empty_interface).interface
+interface_after s program core i j new step = ap (λ (n : SizedInterface). n.interface) step ∙ ap (λ (n : SizedInterface). (step_of s n.most_open program core n.interface).interface) new
+
+-- the request that leaves it is the one that the step sent
+is_sent : (s : Site) (program : List Instr) (core : Core) (j : Interface) (r : Request) → j ≡ (step_of s 1 program core empty_interface).interface → Some r ≡ slice_get j.pending 0
+    → (step_of s 1 program core empty_interface).sent ≡ Some r
+is_sent s program core j r after leaves = sym (pending_is_sent s program core) ∙ (ap (λ (n : Interface). slice_get n.pending 0) (sym after) ∙ sym leaves)
+
+-- its cell is one of the memory
+cell_within : (s : Site) (program : List Instr) (core : Core) (i : SizedInterface) (r : Request) (count : ℕ) → i ≡ record { interface = empty_interface; most_open = 1 }
+    → (step_of s 1 program core empty_interface).sent ≡ Some r → IfSome (step_of s i.most_open program core i.interface).sent (λ q. (q.pe ≡ s.pe) × (q.cell < s.all_cells)) → s.all_cells ≤ count → r.cell < count
+cell_within s program core i r count new sent own all =
+    let here = subst (λ (n : SizedInterface). IfSome (step_of s n.most_open program core n.interface).sent (λ q. (q.pe ≡ s.pe) × (q.cell < s.all_cells))) new own in
+    let within = (rw sent at here).1 in
+    omega arith
+
+pub bounds-cells-cell : goal.bounds-cells-cell
+bounds-cells-cell c =
+    let s = c.args.processor.now.site in
+    let program = c.args.program.now in
+    let core = c.args.processor.now.core in
+    let after = interface_after s program core _ _ c.new-interface.ensures c.step.ensures.interface in
+    let sent = is_sent s program core _ _ after c.in-Some.ensures.request in
+    cell_within s program core _ _ _ c.new-interface.ensures sent c.step.ensures.own c.requires
+
+pub bounds-cells-cell-in-Some : goal.bounds-cells-cell-in-Some
+bounds-cells-cell-in-Some c =
+    let s = c.args.processor.now.site in
+    let program = c.args.program.now in
+    let core = c.args.processor.now.core in
+    let after = interface_after s program core _ _ c.new-interface.ensures c.step.ensures.interface in
+    let sent = is_sent s program core _ _ after c.in-Some.ensures.request in
+    cell_within s program core _ _ _ c.new-interface.ensures sent c.step.ensures.own c.requires
 
 pub deliver-target-requires : goal.deliver-target-requires
 deliver-target-requires c =
     let s = c.args.processor.now.site in
     let program = c.args.program.now in
     let core = c.args.processor.now.core in
-    let i : c.step.new.interface.interface ≡ (step_of s 1 program core empty_interface).interface =
-    ap (λ (n : SizedInterface). n.interface) c.step.ensures.interface ∙ ap (λ (n : SizedInterface). (step_of s n.most_open program core n.interface).interface) c.new-interface.ensures in
-    let sent : (step_of s 1 program core empty_interface).sent ≡ Some c.in-Some.request =
-    sym (pending_is_sent s program core) ∙ (ap (λ (n : Interface). slice_get n.pending 0) (sym i) ∙ sym c.in-Some.ensures.request) in
+    let after = interface_after s program core _ _ c.new-interface.ensures c.step.ensures.interface in
+    let sent = is_sent s program core _ _ after c.in-Some.ensures.request in
     let more = more_is_open s program core c.in-Some.request sent in
-    rw (c.leave.ensures.interface, i) more
+    rw (c.leave.ensures.interface, after) more
 
 pub returns-in_default-target-clause-cells : goal.returns-in_default-target-clause-cells
 returns-in_default-target-clause-cells c =
     let s = c.args.processor.now.site in
     let program = c.args.program.now in
     let core = c.args.processor.now.core in
-    let i : c.step.new.interface.interface ≡ (step_of s 1 program core empty_interface).interface =
-    ap (λ (n : SizedInterface). n.interface) c.step.ensures.interface ∙ ap (λ (n : SizedInterface). (step_of s n.most_open program core n.interface).interface) c.new-interface.ensures in
-    let sent : (step_of s 1 program core empty_interface).sent ≡ Some c.in-Some.request =
-    sym (pending_is_sent s program core) ∙ (ap (λ (n : Interface). slice_get n.pending 0) (sym i) ∙ sym c.in-Some.ensures.request) in
+    let after = interface_after s program core _ _ c.new-interface.ensures c.step.ensures.interface in
+    let sent = is_sent s program core _ _ after c.in-Some.ensures.request in
     rw (sent, c.act-word.ensures) refl
