@@ -133,7 +133,7 @@ fn a_fault_of_the_sink_is_reported(rt: HostRuntime) -> Result<(), Fail> {
     let mut tray = Tray::in_threes(&rt);
     tray.sound_writes = 3;
     assert_eq!(rt; listing(&program, &mut tray), Err(SinkFault));
-    assert_eq!(rt; tray.text()?, "L0:\n");
+    assert_eq!(rt; tray.text()?, "L0:\njmp L");
     assert_eq!(rt; tray.failures, 1);
     Ok(())
 }
