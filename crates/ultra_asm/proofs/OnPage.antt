@@ -1,4 +1,4 @@
--- a text of which the rest is still to be written on a page
+-- a text whose rest is still to be written on a page
 use Rattle.std.proofs.Common.{ℕ, ◌≡◌, List, [], ◌++◌, refl, sym, ◌∙◌, append_assoc}
 use Rattle.ultra_page.specs.declared.Page.{Page}
 use Rattle.ultra_page.specs.Page.{Writes}

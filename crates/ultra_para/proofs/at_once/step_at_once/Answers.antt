@@ -19,30 +19,22 @@ is_sent : (s : Site) (program : List Instr) (core : Core) (j : Interface) (r : R
 is_sent s program core j r after leaves = sym (pending_is_sent s program core) ∙ (ap (λ (n : Interface). slice_get n.pending 0) (sym after) ∙ sym leaves)
 
 -- its cell is one of the memory
-cell_within : (s : Site) (program : List Instr) (core : Core) (i : SizedInterface) (r : Request) (count : ℕ) → i ≡ record { interface = empty_interface; most_open = 1 }
-    → (step_of s 1 program core empty_interface).sent ≡ Some r → IfSome (step_of s i.most_open program core i.interface).sent (λ q. (q.pe ≡ s.pe) × (q.cell < s.all_cells)) → s.all_cells ≤ count → r.cell < count
-cell_within s program core i r count new sent own all =
+cell_within : (s : Site) (program : List Instr) (core : Core) (i j : SizedInterface) (r : Request) (count : ℕ) → i ≡ record { interface = empty_interface; most_open = 1 }
+    → j ≡ record i { interface = (step_of s i.most_open program core i.interface).interface } → Some r ≡ slice_get j.interface.pending 0
+    → IfSome (step_of s i.most_open program core i.interface).sent (λ q. (q.pe ≡ s.pe) × (q.cell < s.all_cells)) → s.all_cells ≤ count → r.cell < count
+cell_within s program core i j r count new step leaves own all =
+    let sent = is_sent s program core j.interface r (interface_after s program core i j new step) leaves in
     let here = subst (λ (n : SizedInterface). IfSome (step_of s n.most_open program core n.interface).sent (λ q. (q.pe ≡ s.pe) × (q.cell < s.all_cells))) new own in
     let within = (rw sent at here).1 in
     omega arith
 
 pub bounds-cells-cell : goal.bounds-cells-cell
 bounds-cells-cell c =
-    let s = c.args.processor.now.site in
-    let program = c.args.program.now in
-    let core = c.args.processor.now.core in
-    let after = interface_after s program core _ _ c.new-interface.ensures c.step.ensures.interface in
-    let sent = is_sent s program core _ _ after c.in-Some.ensures.request in
-    cell_within s program core _ _ _ c.new-interface.ensures sent c.step.ensures.own c.requires
+    cell_within c.args.processor.now.site c.args.program.now c.args.processor.now.core _ _ _ _ c.new-interface.ensures c.step.ensures.interface c.in-Some.ensures.request c.step.ensures.own c.requires
 
 pub bounds-cells-cell-in-Some : goal.bounds-cells-cell-in-Some
 bounds-cells-cell-in-Some c =
-    let s = c.args.processor.now.site in
-    let program = c.args.program.now in
-    let core = c.args.processor.now.core in
-    let after = interface_after s program core _ _ c.new-interface.ensures c.step.ensures.interface in
-    let sent = is_sent s program core _ _ after c.in-Some.ensures.request in
-    cell_within s program core _ _ _ c.new-interface.ensures sent c.step.ensures.own c.requires
+    cell_within c.args.processor.now.site c.args.program.now c.args.processor.now.core _ _ _ _ c.new-interface.ensures c.step.ensures.interface c.in-Some.ensures.request c.step.ensures.own c.requires
 
 pub deliver-target-requires : goal.deliver-target-requires
 deliver-target-requires c =
