@@ -9,31 +9,52 @@ use ultra_msg::{Register, Shift, Word};
 /// What an instruction is, without its operands. The names are those of `Instr`.
 #[derive(Clone, Copy, Drop)]
 pub enum Mnemonic {
+    /// `li`
     Set,
+    /// `add`
     Add,
+    /// `addi`
     AddWord,
+    /// `sub`
     Subtract,
+    /// `and`
     And,
+    /// `shr`
     ShiftRight,
+    /// `slt`
     IsBelow,
+    /// `seq`
     IsEqual,
+    /// `jz`
     JumpIfZero,
+    /// `jnz`
     JumpIfNotZero,
+    /// `jmp`
     Jump,
+    /// `pid`
     Number,
+    /// `np`
     Size,
+    /// `ld`
     Load,
+    /// `st`
     Store,
+    /// `faa`
     Faa,
+    /// `swap`
     Swap,
+    /// `fence`
     Fence,
+    /// `halt`
     Halt,
 }
 
 /// One operand of an instruction.
 #[derive(Clone, Copy, Drop)]
 pub enum Operand {
+    /// A register.
     Register(Register),
+    /// A number below `2^32`.
     Number(Word),
     /// By how many bits a word is shifted.
     Bits(Shift),

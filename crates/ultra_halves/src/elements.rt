@@ -12,8 +12,11 @@ use ultra_pni::Pni;
 /// A processing element: its processor, its network interface, and how many requests it has issued.
 #[derive(Drop)]
 pub struct ProcessingElement {
+    /// Its registers, and where it is in the program.
     pub processor: Processor,
+    /// Its open cells, and its requests that aren't in the network yet.
     pub interface: Pni,
+    /// How many requests it has issued, which is the number of the next.
     pub issued: u32,
 }
 

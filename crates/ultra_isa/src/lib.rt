@@ -66,8 +66,11 @@ pub enum MachineFault {
 /// What a processing element is doing.
 #[derive(Clone, Copy, PartialEq, Eq, Debug, Drop)]
 pub enum Activity {
+    /// It makes a step of its program each cycle.
     Running,
+    /// It has executed `halt`.
     Halted,
+    /// A fault has stopped it.
     Faulted(MachineFault),
 }
 

@@ -20,7 +20,9 @@ pub const MOST_OPEN: usize = 8;
 /// A cell with an outstanding reference, and the register that its value goes to, if it goes to one.
 #[derive(Clone, Copy, Default, Drop)]
 pub struct OpenCell {
+    /// The cell.
     pub cell: Cell,
+    /// The register, or `None` where the reference was a store.
     pub target: Option<Register>,
 }
 

@@ -68,7 +68,9 @@ pub enum SwitchFault {
 /// What there is at each of the two ports of a switch, port 0 and port 1.
 #[derive(Clone, Copy, Drop)]
 pub struct Ports<T> {
+    /// At port 0.
     pub zero: T,
+    /// At port 1.
     pub one: T,
 }
 
