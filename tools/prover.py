@@ -1,8 +1,8 @@
 """Crates proved from nothing, by the prover itself, over the statements of the libraries below them.
 
 The command rt keeps what it has proved, function by function, and reads each library below a crate with its proofs. A
-first run has nothing kept. So here a library holds its statements alone, which are read several times as fast, and
-several crates are proved in one tree without a lock. Nothing is kept for later changes.
+first run has nothing kept. So here a library holds its statements alone, and several crates are proved in one tree
+without a lock. Nothing is kept for later changes.
 """
 
 import hashlib
