@@ -32,7 +32,7 @@ both true true h g = refl
 both true false h g = absurd cc
 both false b h g = absurd cc
 
--- of two replies, one of which passes a test
+-- of two replies the first passes a test, and the second does not
 first_passes : {X : Type 0} (t : X → Bool) (x y : X) → t x ≡ true → t y ≡ false → filter t (x ∷ y ∷ []) ≡ x ∷ []
 first_passes t x y h g = rw (h, g) refl
 
