@@ -1,7 +1,7 @@
 -- why a trace ended early; this project's profile
 use Rattle.std.specs.Prelude.{◌≡◌, ◌≢◌, ℕ, ◌⊎◌}
-use Rattle.ultra_trace.specs.declared.running.RunFault.{RunFault}
-use Rattle.ultra_trace.specs.declared.running.RunFault.TheVariants as run
+use Rattle.ultra_trace.specs.RunFault.{RunFault}
+use Rattle.ultra_trace.specs.RunFault.TheVariants as run
 use Rattle.ultra_inputs.specs.Traffic.{IsStopped}
 use Rattle.ultra_inputs.specs.declared.failure.Failure.{Failure}
 use Rattle.ultra_inputs.specs.declared.failure.Failure.TheVariants.{NoMemory, NoThread, NotWritten}

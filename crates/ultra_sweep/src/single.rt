@@ -4,8 +4,8 @@ use crate::job::{Job, JobGate, JobResult, Outcome};
 use crate::text::Text;
 use std::alloc::Global;
 use std::sync::Wait;
+use ultra_alone::run_alone;
 use ultra_board::Seat;
-use ultra_trace::run_alone;
 
 /// Runs each job in the thread that drew it, into a text.
 pub struct RunAlone;

@@ -7,7 +7,7 @@ use std::alloc::Global;
 use std::snapshot::Snapshot;
 use ultra_msg::{Sink, SinkFault};
 
-/// How often memory was refused, for clauses alone: a `Snapshot` has no bytes.
+/// How often memory was refused. It is for contracts alone: a `Snapshot` has no bytes.
 #[derive(Drop)]
 pub enum Refusals {
     /// Never.

@@ -1,5 +1,4 @@
 pub mod Faults
-pub mod Dealt
-pub mod BlocksAfter
-pub mod Headline
+pub use Rattle.ultra_alone.specs.declared.fault.RunFault
+pub use Rattle.ultra_alone.specs.Headline
 pub use Rattle.ultra_lines.specs.Trace

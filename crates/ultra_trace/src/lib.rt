@@ -1,11 +1,10 @@
-//! The trace of a run: what a machine does from its start to the end, written cycle by cycle.
+//! A run by several workers, each in a thread of its own, and its trace. The run in the caller's thread, and what both share, is in `ultra_alone`.
 #![tactic(auto)]
 
-mod alone;
 mod running;
-mod start;
 mod together;
 
-pub use running::{RunFault, run, run_alone};
+pub use running::run;
+pub use ultra_alone::{RunFault, run_alone};
 pub use ultra_crew::{Gate, Half};
 pub use ultra_lines::write_cycle;

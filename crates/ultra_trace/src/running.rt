@@ -1,60 +1,21 @@
-//! The trace of a run, from the start of a machine to the end.
+//! The trace of a run by n workers: in the caller's thread for one (`ultra_alone`), and else in a thread for each.
 
 ghost use Rattle.std.specs.Prelude.{◌≡◌, ◌≢◌, ◌+◌, ◌≤◌, List, ℕ, ◌++◌, OnOk, OnErr, IfErr};
 ghost use Rattle.ultra_msg.specs.Bytes.{TakesPrefix};
 ghost use Rattle.ultra_lines.specs.Trace.{trace};
-ghost use Rattle.ultra_trace.specs.declared.running.RunFault.TheVariants.{Write, NoMemory, NoThread};
-ghost use Rattle.ultra_trace.specs.Faults.{fault_of_crew, sink_faults};
-ghost use Rattle.ultra_trace.specs.Headline.{Headline};
+ghost use Rattle.ultra_alone.specs.declared.fault.RunFault.TheVariants.{NoMemory, NoThread};
+ghost use Rattle.ultra_alone.specs.Faults.{sink_faults};
+ghost use Rattle.ultra_alone.specs.Headline.{Headline};
 
-use crate::alone::write_trace;
-use crate::start::new_blocks;
 use crate::together::write_trace_together;
-use std::alloc::{AllocError, Global};
+use std::alloc::Global;
 use std::sync::Wait;
 use std::thread::Threads;
-use ultra_crew::{CrewFault, Gate};
+use ultra_alone::{RunFault, new_blocks, run_alone};
+use ultra_crew::Gate;
 use ultra_isa::Program;
 use ultra_model::Config;
-use ultra_msg::{Sink, SinkFault};
-
-/// Why a run has not written its trace.
-#[derive(Clone, Copy, PartialEq, Eq, Debug, Drop)]
-pub enum RunFault {
-    /// The sink failed.
-    Write,
-    /// Memory was refused.
-    NoMemory,
-    /// A thread could not be started.
-    NoThread,
-}
-
-impl From<SinkFault> for RunFault {
-    ghost from_gives = { λ _ fault. fault ≡ Write };
-
-    fn from(_: SinkFault) -> RunFault {
-        RunFault::Write
-    }
-}
-
-impl From<AllocError> for RunFault {
-    ghost from_gives = { λ _ fault. fault ≡ NoMemory };
-
-    fn from(_: AllocError) -> RunFault {
-        RunFault::NoMemory
-    }
-}
-
-impl From<CrewFault> for RunFault {
-    ghost from_gives = { λ fault run_fault. run_fault ≡ fault_of_crew fault };
-
-    fn from(fault: CrewFault) -> RunFault {
-        match fault {
-            CrewFault::NoThread => RunFault::NoThread,
-            CrewFault::NoMemory => RunFault::NoMemory,
-        }
-    }
-}
+use ultra_msg::Sink;
 
 /// Runs a program on a machine of these settings by n workers, 1 to 64, and writes the trace to the sink: the same bytes for every number of workers and every gate. After a fault the sink has taken a prefix of it.
 ///
@@ -62,7 +23,7 @@ impl From<CrewFault> for RunFault {
 ///
 /// Unit `u` of the machine stands in block `u` modulo the number of workers. With one worker the run is `run_alone`, and no gate is called. Several workers have a thread of their own each, which is started once and kept for all cycles; memory is asked for in each cycle. The call may wait, and in every end the threads that were started are joined.
 ///
-/// `Write` says that the sink failed, `NoMemory` that memory was refused, and `NoThread` that a thread could not be started, which is never answered with one worker.
+/// `Write` says that the sink failed, `NoMemory` that memory was refused, and `NoThread` that a thread could not be started or was gone; with one worker it is never answered.
 pub fn run<R: Threads + Wait + Sync, G: Gate + Sync, S: Sink>(
     rt: &R,
     alloc: Global,
@@ -88,28 +49,6 @@ pub fn run<R: Threads + Wait + Sync, G: Gate + Sync, S: Sink>(
     } else {
         run_together(rt, alloc, config, program, workers, gate, sink)
     }
-}
-
-/// Runs a program on a machine of these settings in the caller's thread, and writes the trace to the sink; with `Ok` the whole headline holds, as in [`run`]. After a fault the sink has taken a prefix of the trace.
-///
-/// `Write` says that the sink failed, and `NoMemory` that memory was refused; it is asked for only before the first byte is written. `NoThread` is never answered.
-pub fn run_alone<S: Sink>(
-    alloc: Global,
-    config: &Config,
-    program: &Program,
-    sink: &mut S,
-) -> Result<(), RunFault>
-    ensures headline { OnOk result ((written : List ℕ) × (S.taken sink.new ≡ S.taken sink.old ++ written) × Headline config.now program.now written) }
-    ensures ok { OnOk result (S.taken sink.new ≡ S.taken sink.old ++ trace config.now program.now) }
-    ensures still { OnOk result (S.failures sink.new ≡ S.failures sink.old) }
-    ensures err { OnErr result (TakesPrefix (trace config.now program.now) (S.taken sink.old) (S.taken sink.new)) }
-    ensures counted { IfErr result (λ e. S.failures sink.new ≡ S.failures sink.old + sink_faults e) }
-    ensures alone { IfErr result (λ e. e ≢ NoThread) }
-    ensures memory_first { IfErr result (λ e. e ≡ NoMemory → S.taken sink.new ≡ S.taken sink.old) }
-{
-    let mut blocks = new_blocks(alloc, config, program, 1)?;
-    write_trace(&mut blocks, sink)?;
-    Ok(())
 }
 
 /// Runs a program on a machine of these settings by several workers, each in a thread of its own, and writes the trace to the sink. After a fault the sink has taken a prefix of it.

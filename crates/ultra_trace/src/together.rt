@@ -5,16 +5,16 @@ ghost use Rattle.ultra_msg.specs.Bytes.{TakesPrefix};
 ghost use Rattle.ultra_page.specs.Page.{Writes, WritesPrefix, has_failed};
 ghost use Rattle.ultra_lines.specs.Trace.{all_cycles_text, cycle_count, trace};
 ghost use Rattle.ultra_crew.specs.Course.{IsCourse};
-ghost use Rattle.ultra_trace.specs.Faults.{sink_faults};
-ghost use Rattle.ultra_trace.specs.BlocksAfter.{IsAfter};
-ghost use Rattle.ultra_trace.specs.Dealt.{IsDealtOut};
+ghost use Rattle.ultra_alone.specs.Faults.{sink_faults};
+ghost use Rattle.ultra_alone.specs.BlocksAfter.{IsAfter};
+ghost use Rattle.ultra_alone.specs.Dealt.{IsDealtOut};
+ghost use Rattle.ultra_trace.specs.Faults.{fault_of_crew};
 
-use crate::alone::{most_cycles, put_and_judge, put_first_line};
-use crate::running::RunFault;
 use std::alloc::Global;
 use std::marker::Brand;
 use std::sync::Wait;
 use std::thread::{self, Threads};
+use ultra_alone::{RunFault, most_cycles, put_and_judge, put_first_line};
 use ultra_crew::{Blocks, Course, CrewFault, Gate, Shift};
 use ultra_lines::put_end;
 use ultra_msg::Sink;
@@ -77,7 +77,7 @@ fn write_by_workers<'s, J: Course + Send, R: Threads + Wait + Sync, G: Gate + Sy
                     shift.end(rt);
                     (sink, result)
                 }
-                Err(fault) => (sink, Err(RunFault::from(fault))),
+                Err(fault) => (sink, Err(run_fault(fault))),
             }
         },
     )
@@ -100,9 +100,10 @@ fn write_by_shift<J: Course, R: Wait, S: Sink>(
     ensures counted { IfErr result (λ e. S.failures sink.new ≡ S.failures sink.old + sink_faults e) }
 {
     let mut page = Page::new(sink);
-    put_trace_together(&mut page, rt, alloc, blocks, shift)?;
-    page.finish()?;
-    Ok(())
+    match put_trace_together(&mut page, rt, alloc, blocks, shift) {
+        Ok(()) => Ok(page.finish()?),
+        Err(fault) => Err(run_fault(fault)),
+    }
 }
 
 /// Runs a machine from its start by workers, and writes its trace. It ends early where the sink or a worker fails.
@@ -154,4 +155,14 @@ fn put_cycles_together<J: Course, R: Wait, S: Sink>(
         }
     }
     Ok(blocks)
+}
+
+/// The fault of the run that a fault of the workers ends.
+fn run_fault(fault: CrewFault) -> RunFault
+    ensures { result ≡ fault_of_crew fault }
+{
+    match fault {
+        CrewFault::NoThread => RunFault::NoThread,
+        CrewFault::NoMemory => RunFault::NoMemory,
+    }
 }

@@ -1,8 +1,8 @@
 -- how each exit of a run is one of the ways in which a run fails
 use Rattle.std.proofs.Common.{◌≡◌, ◌≢◌, ℕ, inl, inr, refl}
 use Rattle.std.proofs.lemmas.Result.{err_from_is_err_and}
-use Rattle.ultra_trace.specs.declared.running.RunFault.{RunFault}
-use Rattle.ultra_trace.specs.declared.running.RunFault.TheVariants.{Write, NoMemory, NoThread}
+use Rattle.ultra_trace.specs.RunFault.{RunFault}
+use Rattle.ultra_trace.specs.RunFault.TheVariants.{Write, NoMemory, NoThread}
 use Rattle.ultra_inputs.specs.Traffic.{refused, stopped}
 use Rattle.run_command.specs.Stops.{failure_of_run, IsStoppedBy}
 use Rattle.run_command.proofs.run.Goals as goal

@@ -1,4 +1,4 @@
-use Rattle.ultra_trace.proofs.Headlines.{headline_on_ok}
+use Rattle.ultra_alone.proofs.Headlines.{headline_on_ok}
 use Rattle.ultra_trace.proofs.running.run_together.Goals as goal
 
 pub returns-clause-headline : goal.returns-clause-headline

@@ -3,7 +3,7 @@ use Rattle.ultra_lines.specs.Text.{newline}
 use Rattle.ultra_page.specs.Page.{WritesPrefix}
 use Rattle.ultra_lines.specs.Trace.{all_cycles_text, end_text, last_state, trace}
 use Rattle.ultra_page.proofs.Writing.{◌then◌, begins_within, writes_failed}
-use Rattle.ultra_trace.proofs.Count.{end_written}
+use Rattle.ultra_alone.proofs.Count.{end_written}
 use Rattle.ultra_trace.proofs.together.put_trace_together.Goals as goal
 
 pub returns-then-has_failed-clause-ok : goal.returns-then-has_failed-clause-ok

@@ -3,14 +3,14 @@ use Rattle.ultra_lines.specs.Trace.{trace}
 use Rattle.ultra_page.proofs.Writing.{finished, part_taken}
 use Rattle.ultra_trace.proofs.together.write_by_shift.Goals as goal
 
-pub returns-in_err-put_trace_together-clause-err : goal.returns-in_err-put_trace_together-clause-err
-returns-in_err-put_trace_together-clause-err g c =
+pub returns-in-Err-clause-err : goal.returns-in-Err-clause-err
+returns-in-Err-clause-err g c =
     let first = c.args.blocks in
-    let (part, begins, writes) = c.in_err-put_trace_together.ensures.err in
-    let taken = part_taken part (trace first.config first.program) _ _ c.new-page.ensures.blank.empty c.in_err-put_trace_together.ensures.sound begins writes.wrote in
+    let (part, begins, writes) = rw c.in-Err.is at c.put_trace_together.ensures.err in
+    let taken = part_taken part (trace first.config first.program) _ _ c.new-page.ensures.blank.empty (rw c.in-Err.is at c.put_trace_together.ensures.sound) begins writes.wrote in
     search rules
 
-pub returns-in_err-finish-clause-err : goal.returns-in_err-finish-clause-err
-returns-in_err-finish-clause-err g c =
-    let gone = finished c.finish.result c.new-page.ensures.blank c.in_ok-put_trace_together.ensures.ok c.finish.ensures.writes c.finish.ensures.ok c.finish.ensures.err in
+pub returns-in_err-finish-in-Ok-clause-err : goal.returns-in_err-finish-in-Ok-clause-err
+returns-in_err-finish-in-Ok-clause-err g c =
+    let gone = finished c.finish.result c.new-page.ensures.blank (rw c.in-Ok.is at c.put_trace_together.ensures.ok) c.finish.ensures.writes c.finish.ensures.ok c.finish.ensures.err in
     search rules

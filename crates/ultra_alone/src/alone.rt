@@ -1,4 +1,4 @@
-//! A run in the caller's thread.
+//! A machine runs and its trace is written.
 
 ghost use Rattle.std.specs.Prelude.{◌≡◌, ◌+◌, ◌<◌, ◌≤◌, ◌++◌, ◌||◌, codes, false, OnOk, OnErr};
 ghost use Rattle.ultra_msg.specs.Bytes.{TakesPrefix};
@@ -6,9 +6,9 @@ ghost use Rattle.ultra_model.specs.Machine.{is_quiet};
 ghost use Rattle.ultra_page.specs.Page.{Writes, has_failed};
 ghost use Rattle.ultra_lines.specs.Text.{newline};
 ghost use Rattle.ultra_lines.specs.Trace.{all_cycles_text, cycle_count, cycle_text, trace};
-ghost use Rattle.ultra_trace.specs.BlocksAfter.{IsAfter};
+ghost use Rattle.ultra_alone.specs.BlocksAfter.{IsAfter};
 
-use ultra_crew::Blocks;
+use ultra_block::Blocks;
 use ultra_lines::{put_cycle, put_end};
 use ultra_msg::{Sink, SinkFault};
 use ultra_page::Page;
@@ -37,7 +37,7 @@ fn put_trace<S: Sink>(page: &mut Page<'_, S>, blocks: &mut Blocks)
 }
 
 /// Writes the first line, which names the format.
-pub(crate) fn put_first_line<S: Sink>(page: &mut Page<'_, S>)
+pub fn put_first_line<S: Sink>(page: &mut Page<'_, S>)
     ensures { Writes S.taken S.failures (codes "ultra trace 2" ++ newline) page.old page.new }
 {
     page.put(b"ultra trace 2\n");
@@ -58,7 +58,7 @@ fn put_cycles<S: Sink>(page: &mut Page<'_, S>, blocks: &mut Blocks)
 }
 
 /// Writes the lines of the last cycle, and says whether the trace ends with it before the settings' limit: where the machine is quiet, or the sink has failed.
-pub(crate) fn put_and_judge<S: Sink>(page: &mut Page<'_, S>, blocks: &Blocks) -> bool
+pub fn put_and_judge<S: Sink>(page: &mut Page<'_, S>, blocks: &Blocks) -> bool
     requires { 0 < blocks.now.machine.cycles }
     ensures writes { Writes S.taken S.failures (cycle_text blocks.now.config blocks.now.machine) page.old page.new }
     ensures over { result ≡ (is_quiet blocks.now.machine || has_failed page.new) }
@@ -68,7 +68,7 @@ pub(crate) fn put_and_judge<S: Sink>(page: &mut Page<'_, S>, blocks: &Blocks) ->
 }
 
 /// How many cycles the settings allow.
-pub(crate) fn most_cycles(blocks: &Blocks) -> u32
+pub fn most_cycles(blocks: &Blocks) -> u32
     ensures value { result ≡ blocks.now.config.cycles }
     ensures small { result ≤ 1000000 }
 {

@@ -1,7 +1,7 @@
 use Rattle.ultra_lines.specs.Trace.{trace}
 use Rattle.ultra_page.proofs.Writing.{◌then◌}
-use Rattle.ultra_trace.proofs.Count.{end_written}
-use Rattle.ultra_trace.proofs.alone.put_trace.Goals as goal
+use Rattle.ultra_alone.proofs.Count.{end_written}
+use Rattle.ultra_alone.proofs.alone.put_trace.Goals as goal
 
 pub returns : goal.returns
 unfolding trace

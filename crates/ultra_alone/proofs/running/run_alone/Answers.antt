@@ -1,5 +1,5 @@
-use Rattle.ultra_trace.proofs.Headlines.{headline_of}
-use Rattle.ultra_trace.proofs.running.run_alone.Goals as goal
+use Rattle.ultra_alone.proofs.Headlines.{headline_of}
+use Rattle.ultra_alone.proofs.running.run_alone.Goals as goal
 
 pub returns-clause-headline : goal.returns-clause-headline
 returns-clause-headline g c =

@@ -1,6 +1,6 @@
 use Rattle.std.proofs.Common.{rules}
 use Rattle.ultra_page.proofs.Writing.{finished}
-use Rattle.ultra_trace.proofs.alone.write_trace.Goals as goal
+use Rattle.ultra_alone.proofs.alone.write_trace.Goals as goal
 
 pub returns : goal.returns
 returns g c =

@@ -1,7 +1,7 @@
 use Rattle.std.proofs.Common.{◌≡◌, true, length, nat_lt}
 use Rattle.std.specs.List.{list_all}
-use Rattle.ultra_trace.specs.Dealt.{IsDealtOut}
-use Rattle.ultra_trace.proofs.start.dealt_out.Given as goal
+use Rattle.ultra_alone.specs.Dealt.{IsDealtOut}
+use Rattle.ultra_alone.proofs.start.dealt_out.Given as goal
 
 abbrev pub invariant-loop-unit : goal.invariant-loop-unit
 invariant-loop-unit l = record {

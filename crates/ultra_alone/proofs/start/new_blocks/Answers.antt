@@ -1,6 +1,6 @@
 use Rattle.std.proofs.Common.{sym, ◌∙◌}
-use Rattle.ultra_trace.proofs.Count.{after_none}
-use Rattle.ultra_trace.proofs.start.new_blocks.Goals as goal
+use Rattle.ultra_alone.proofs.Count.{after_none}
+use Rattle.ultra_alone.proofs.start.new_blocks.Goals as goal
 
 pub returns-in-Ok-clause-start : goal.returns-in-Ok-clause-start
 returns-in-Ok-clause-start c =

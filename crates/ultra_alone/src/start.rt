@@ -2,17 +2,17 @@
 
 ghost use Rattle.std.specs.Prelude.{◌≡◌, ◌≤◌, true, IfOk, OnOk};
 ghost use Rattle.ultra_model.specs.Ranges.{AreInRange};
-ghost use Rattle.ultra_crew.specs.Cut.{is_partition};
-ghost use Rattle.ultra_trace.specs.BlocksAfter.{IsAfter};
-ghost use Rattle.ultra_trace.specs.Dealt.{IsDealtOut};
+ghost use Rattle.ultra_block.specs.Cut.{is_partition};
+ghost use Rattle.ultra_alone.specs.BlocksAfter.{IsAfter};
+ghost use Rattle.ultra_alone.specs.Dealt.{IsDealtOut};
 
 use std::alloc::{AllocError, Global};
-use ultra_crew::{Blocks, PartitionFault};
+use ultra_block::{Blocks, PartitionFault};
 use ultra_isa::Program;
 use ultra_model::Config;
 
 /// The machine before its first cycle, cut for n workers: unit `u` stands in block `u` modulo n. An error says that memory was refused.
-pub(crate) fn new_blocks(
+pub fn new_blocks(
     alloc: Global,
     config: &Config,
     program: &Program,

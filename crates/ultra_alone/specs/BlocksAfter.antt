@@ -3,7 +3,7 @@ use Rattle.std.specs.Prelude.{◌≡◌, ℕ, List}
 use Rattle.ultra_isa.specs.declared.Instr.{Instr}
 use Rattle.ultra_model.specs.Machine.{Settings}
 use Rattle.ultra_model.specs.Phases.{after}
-use Rattle.ultra_crew.specs.State.{BlocksState}
+use Rattle.ultra_block.specs.State.{BlocksState}
 
 -- it is the machine of these settings and this program after n cycles
 pub record IsAfter (c : Settings) (program : List Instr) (n : ℕ) (b : BlocksState) : Type 0 where

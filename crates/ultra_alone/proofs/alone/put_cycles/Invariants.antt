@@ -1,8 +1,8 @@
 use Rattle.ultra_page.specs.Page.{Writes}
-use Rattle.ultra_trace.specs.BlocksAfter.{IsAfter}
+use Rattle.ultra_alone.specs.BlocksAfter.{IsAfter}
 use Rattle.ultra_lines.specs.Trace.{cycles_text}
-use Rattle.ultra_trace.proofs.Count.{IsBusy}
-use Rattle.ultra_trace.proofs.alone.put_cycles.Given as goal
+use Rattle.ultra_alone.proofs.Count.{IsBusy}
+use Rattle.ultra_alone.proofs.alone.put_cycles.Given as goal
 
 abbrev pub invariant-loop : goal.invariant-loop
 invariant-loop g l = record {

@@ -12,10 +12,10 @@ use Rattle.ultra_model.specs.Ranges.{AreInRange}
 use Rattle.ultra_law.specs.Replies.{deliveries_in, deliveries}
 use Rattle.ultra_law.proofs.Law.{are_chained}
 use Rattle.ultra_law.proofs.Replies.{answers_after}
-use Rattle.ultra_crew.specs.State.{BlocksState}
+use Rattle.ultra_block.specs.State.{BlocksState}
 use Rattle.ultra_lines.specs.Trace.{got_line, trace}
-use Rattle.ultra_trace.specs.BlocksAfter.{IsAfter}
-use Rattle.ultra_trace.specs.Headline.{got_lines, delivery_line, Headline}
+use Rattle.ultra_alone.specs.BlocksAfter.{IsAfter}
+use Rattle.ultra_alone.specs.Headline.{got_lines, delivery_line, Headline}
 
 -- deliveries alone have `got` lines
 lines_of_cycle : (n : ℕ) (es : List Event) → flat_map got_line es ≡ flat_map delivery_line (deliveries_in n es)
