@@ -230,7 +230,7 @@ impl Board {
         self.words.subtract_from_passes(&mut seat.token)
     }
 
-    /// Closes the board, by the seat that has all its places, and gives what its words are.
+    /// Closes the board, by the seat that has all its places, and gives the values of its words.
     pub fn close(self, seat: Seat) -> Totals
         requires board { seat.board ≡ self.id }
         requires all { seat.view.places ≡ self.limits.seats }

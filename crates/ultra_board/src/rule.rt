@@ -15,7 +15,7 @@ pub struct Limits {
     pub limit: u64,
     /// The most passes that are held at once.
     pub bound: u64,
-    /// The places of all seats.
+    /// The places of all seats together.
     pub seats: u64,
 }
 
@@ -37,7 +37,7 @@ pub struct View {
     pub loads: u64,
     /// How often one was added to the passes.
     pub adds: u64,
-    /// Whether no number was left.
+    /// Whether a draw has found no number left.
     pub spent: bool,
     /// The passes held.
     pub held: u64,

@@ -13,7 +13,7 @@ use atomic_table::{Seat, Table};
 use std::alloc::{AllocError, Global};
 use std::marker::Model;
 
-/// The word that is the next number to draw.
+/// The word that counts the draws that asked for a number; below the limit it is the next number to draw.
 const CLAIM: usize = 0;
 
 /// The word that is the count of the numbers finished.
@@ -25,10 +25,10 @@ const PASSES: usize = 2;
 /// What the words know a seat by. It has no bytes.
 pub(crate) type Token = Seat<u64, View>;
 
-/// What a board's words are when it is closed.
+/// The values of a board's words when it is closed.
 #[derive(Clone, Copy, PartialEq, Eq, Debug, Drop)]
 pub struct Totals {
-    /// How often a number was asked for: past the limit by the asks that found none left.
+    /// How many draws asked for a number: those that got one, and those that found none left.
     pub claimed: u64,
     /// How many numbers are finished.
     pub finished: u64,

@@ -1,4 +1,4 @@
--- what the units ask of the halves that take messages holds in a sound machine
+-- the conditions of the halves that take messages are met in a sound machine
 use Rattle.std.proofs.Common.{◌≡◌, ℕ, ◌+◌, ◌*◌, ◌-◌, ◌/◌, ◌%◌, ◌^◌, ◌<◌, List, Bool, true, false, refl, arith, ap, ◌∙◌, sym, subst, length}
 use Rattle.std.specs.Prelude.{◌&&◌, nat_le, Option, Some, None, IfSome, slice_get, IsTrue}
 use Rattle.std.proofs.lemmas.Bool.{eqb-true}

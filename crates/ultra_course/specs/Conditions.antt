@@ -1,4 +1,4 @@
--- what the units ask of the halves that take messages
+-- the conditions of the halves that take messages, and of the one in which processing elements make a step
 use Rattle.std.specs.Prelude.{◌≡◌, ℕ, ◌-◌, ◌/◌, ◌^◌, ◌<◌, length, None}
 use Rattle.std.specs.Option.{ForSome}
 use Rattle.ultra_units.specs.Numbers.{switch_count}

@@ -28,8 +28,7 @@ module _ (d : ℕ) where
   at_switch g n = g (n / 2 ^ (d - 1)) (n % 2 ^ (d - 1))
 
   -- what leaves the switches and, behind them, the modules or the processing elements, by the
-  -- number
-  -- of the link
+  -- number of the link
   abbrev pub on_links : {X : Type 0} → (ℕ → Ports X) → (ℕ → X) → ℕ → X
   on_links g h l = elim (nat_lt l (d * 2 ^ d)) [
     | true ↦ at_port (g (l / 2)) (l % 2)
@@ -90,8 +89,7 @@ module _ (d : ℕ) where
   finds_room rooms s n r = rooms.request n (bit_of (d - 1 - s) (r.cell % 2 ^ d))
 
   -- whether the first request at memory-side position x of stage s, if there is one, goes on: to
-  -- its
-  -- module, or to the next stage
+  -- its module, or to the next stage
   abbrev pub request_goes : Rooms → ℕ → ℕ → Option Request → Bool
   request_goes rooms s x None = false
   request_goes rooms s x (Some r) = elim (s == d - 1) [

@@ -10,7 +10,7 @@ use Rattle.ultra_course.specs.Course.{sends_replies, takes_replies, deliveries, 
 use Rattle.ultra_course.specs.Whole.{IsFrameOf}
 use Rattle.ultra_course.specs.Conditions.{CanTakeReplies, CanTakeRequests, CanExecute}
 
--- the frames of a machine in a cycle, and the rooms that it goes by
+-- the frames of a machine in a cycle, before it and after each half, and the rooms that are noted
 pub record Course : Type 0 where
   pub start : Frame
   pub first_rooms : Rooms
@@ -48,7 +48,7 @@ module _ (d n : ℕ) (program : List Instr) (x : Course) where
   abbrev pub stops_of : List Stop
   stops_of = stops d program x.requests_taken
 
--- each half finds what the units ask, the six make up a cycle of the definition, and no message is
+-- the conditions of each half are met, the six make up a cycle of the definition, and no message is
 -- left on a link
 pub record IsCycled (c : Settings) (n : ℕ) (program : List Instr) (x : Course) (m : Machine) : Type 0 where
   pub replies : CanTakeReplies c.stages x.replies_sent

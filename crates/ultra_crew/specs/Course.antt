@@ -64,7 +64,7 @@ module _ (d : ℕ) (partition : List ℕ) (program : List Instr) (bs : List Bloc
   blocks_after Execute = with_steps_made
 
 -- ---- the workers
--- what each of them has when the blocks are these
+-- the team of each of them, when the blocks are these
 abbrev pub teams_of : ℕ → List BlockState → ℕ → List Task
 teams_of workers bs w = team workers w (tasks_from 0 bs)
 
@@ -77,7 +77,7 @@ results_in workers b h =
 unfoldable pub course_of : ℕ → BlocksState → ℕ → Half → ℕ → List Task
 course_of workers b c = results_in workers (later (c - b.machine.cycles) b)
 
--- from now on its workers go by its program, and these are their results
+-- from now on these are the results of its workers, whose blocks run its program
 pub record IsCourse (results : ℕ → Half → ℕ → List Task) (program : List Instr) (workers : ℕ)
     (b : BlocksState) : Type 0 where
   pub program_is : program ≡ b.program

@@ -33,7 +33,7 @@ impl Crew {
     ///
     /// The machine's count of cycles has to be below `2^32 - 1`. The call may wait. In every end the threads that were started are joined.
     ///
-    /// `NoThread` says that a thread could not be started, `NoMemory` that memory was refused; the blocks are then given up. With one worker the call succeeds.
+    /// `NoThread` says that a thread could not be started or was gone, `NoMemory` that memory was refused; the blocks are then given up. With one worker the call succeeds.
     pub fn cycle<R: Threads + Wait + Sync, G: Gate + Sync>(
         rt: &R,
         alloc: Global,
@@ -60,7 +60,7 @@ impl Crew {
     ///
     /// The machine's count of cycles has to be below `2^32` after these too. The call may wait. In every end the threads that were started are joined.
     ///
-    /// `NoThread` says that a thread could not be started, `NoMemory` that memory was refused; the blocks are then given up.
+    /// `NoThread` says that a thread could not be started or was gone, `NoMemory` that memory was refused; the blocks are then given up.
     pub fn cycles<R: Threads + Wait + Sync, G: Gate + Sync>(
         rt: &R,
         alloc: Global,

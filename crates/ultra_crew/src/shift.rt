@@ -35,7 +35,7 @@ impl<J: Course> Model for Shift<J> {
 }
 
 impl<J: Course> Shift<J> {
-    /// Starts the threads of n workers, which go by a copy of this program, that of the course, and call this gate before each half of a block. In every end the threads that were started are joined: by `end`, or here where one could not be started.
+    /// Starts a thread for each of n workers. They make the halves of blocks whose processing elements run this program, which is that of the course `J`, and call this gate before each half of a block. In every end the threads that were started are joined: by `end`, or here where one could not be started.
     ///
     /// `NoThread` says that a thread could not be started, `NoMemory` that memory was refused.
     pub fn begin<'s, E, R: Threads + Wait + Sync, G: Gate + Sync>(
@@ -280,7 +280,7 @@ impl<J: Course> Shift<J> {
     }
 }
 
-/// Starts one worker's thread, which goes by this program.
+/// Starts the thread of one worker, who makes halves of blocks whose processing elements run this program.
 fn open<'s, J: Course, E, R: Threads + Wait + Sync, G: Gate + Sync>(
     scope: &Scope<'s, E>,
     rt: &'s R,

@@ -18,7 +18,7 @@ use Rattle.ultra_section.specs.Shape.{IsShaped}
 use Rattle.ultra_section.specs.RepliesSent.{begun}
 use Rattle.ultra_section.proofs.OfKind.{unit_of_none}
 use Rattle.ultra_section.proofs.Standing.{unit_of_switch, unit_of_module, unit_of_element}
-use Rattle.ultra_section.proofs.Once.{told_before}
+use Rattle.ultra_section.proofs.Once.{entries_before}
 use Rattle.ultra_section.proofs.RepliesSentOnce as replies_sent
 use Rattle.ultra_section.proofs.RepliesTakenOnce as replies_taken
 use Rattle.ultra_section.proofs.ServedOnce as served
@@ -31,15 +31,15 @@ use Rattle.ultra_cut.specs.HappeningLaws.{AddsEvents, AddsStops, EventsAddedLaw}
 use Rattle.ultra_cut.proofs.Joined.{joined_none, joined_next, joined_same, joined_window}
 
 -- what is listed of the units before a number, as lists joined
-before_as_places : {T E : Type 0} (listed : ℕ → T → List E) (m : ℕ) (t : T) → told_before listed m t ≡ joined (places m (λ n. listed n t))
-unfolding told_before
+before_as_places : {T E : Type 0} (listed : ℕ → T → List E) (m : ℕ) (t : T) → entries_before listed m t ≡ joined (places m (λ n. listed n t))
+unfolding entries_before
 before_as_places listed zero t = sym (joined_none (λ n. listed n t))
 before_as_places listed (suc n) t = ap (λ es. es ++ listed n t) (before_as_places listed n t) ∙ sym (joined_next (λ n. listed n t) (suc n) n (omega arith))
 
 -- only units of one kind have events
 module _ {T E : Type 0} (listed : ℕ → T → List E) (t : T) (before n : ℕ) (g : ℕ → List E) (within : before + n ≤ 320)
     (lower : (i : ℕ) → i < before → listed i t ≡ []) (upper : (i : ℕ) → before + n ≤ i → listed i t ≡ []) (same : (i : ℕ) → i < n → listed (before + i) t ≡ g i) where
-  listed_by_kind : told_before listed 320 t ≡ joined (places n g)
+  listed_by_kind : entries_before listed 320 t ≡ joined (places n g)
   listed_by_kind =
       let all : before + (n + (320 - (before + n))) ≡ 320 = omega arith in
       before_as_places listed 320 t
@@ -66,7 +66,7 @@ module _ (d : ℕ) (low : 1 ≤ d) (high : d ≤ 6) where
     ]
 
     switches_list : (g : ℕ → List E) → ((m : ℕ) → m < 2 ^ d → listed (module_number d m) t ≡ []) → ((p : ℕ) → p < 2 ^ d → listed (element_number d p) t ≡ [])
-        → ((i : ℕ) → i < switch_count d → listed i t ≡ g i) → told_before listed 320 t ≡ joined (places (switch_count d) g)
+        → ((i : ℕ) → i < switch_count d → listed i t ≡ g i) → entries_before listed 320 t ≡ joined (places (switch_count d) g)
     switches_list g modules elements same =
         listed_by_kind listed t 0 (switch_count d) g (omega (arith, few)) (λ i h. absurd (omega arith))
         (λ i h. elim (cases_lt i (switch_count d + 2 ^ d)) [
@@ -76,78 +76,78 @@ module _ (d : ℕ) (low : 1 ≤ d) (high : d ≤ 6) where
         (λ i h. let number : 0 + i ≡ i = omega arith in ap (λ i. listed i t) number ∙ same i h)
 
     modules_list : (g : ℕ → List E) → ((i : ℕ) → i < switch_count d → listed i t ≡ []) → ((p : ℕ) → p < 2 ^ d → listed (element_number d p) t ≡ [])
-        → ((m : ℕ) → m < 2 ^ d → listed (module_number d m) t ≡ g m) → told_before listed 320 t ≡ joined (places (2 ^ d) g)
+        → ((m : ℕ) → m < 2 ^ d → listed (module_number d m) t ≡ g m) → entries_before listed 320 t ≡ joined (places (2 ^ d) g)
     modules_list g switches elements same =
         listed_by_kind listed t (switch_count d) (2 ^ d) g (omega (arith, few)) switches (no_element elements) same
 
     elements_list : (g : ℕ → List E) → ((i : ℕ) → i < switch_count d → listed i t ≡ []) → ((m : ℕ) → m < 2 ^ d → listed (module_number d m) t ≡ [])
-        → ((p : ℕ) → p < 2 ^ d → listed (element_number d p) t ≡ g p) → told_before listed 320 t ≡ joined (places (2 ^ d) g)
+        → ((p : ℕ) → p < 2 ^ d → listed (element_number d p) t ≡ g p) → entries_before listed 320 t ≡ joined (places (2 ^ d) g)
     elements_list g switches modules same =
         listed_by_kind listed t (switch_count d + 2 ^ d) (2 ^ d) g (omega (arith, few))
         (λ i h. elim (cases_lt i (switch_count d)) [ inl before ↦ switches i before | inr past ↦ no_module modules i past h ]) (λ i h. nothing i (omega arith)) same
 
   module _ (b : BlockState) where
     -- ---- replies
-    delivery_as : (o : Option ProcessingElement) (came : Option ReplyMessage) → replies_taken.delivery_told d low high (o, came) ≡ delivery_events o came
+    delivery_as : (o : Option ProcessingElement) (came : Option ReplyMessage) → replies_taken.delivery_entries d low high (o, came) ≡ delivery_events o came
     delivery_as None came = refl
     delivery_as (Some e) came = refl
 
-    listed_taking_replies : told_before (λ n t. replies_taken.told_of d low high t (unit_of d n)) 320 b ≡ events_of_replies d b
+    listed_taking_replies : entries_before (λ n t. replies_taken.entries_of d low high t (unit_of d n)) 320 b ≡ events_of_replies d b
     unfolding events_of_replies
     listed_taking_replies =
-        let list = replies_taken.told_of d low high b in
-        elements_list (λ n t. replies_taken.told_of d low high t (unit_of d n)) b (λ i past. ap list (unit_of_none d i past)) (λ p. delivery_at d b p)
+        let list = replies_taken.entries_of d low high b in
+        elements_list (λ n t. replies_taken.entries_of d low high t (unit_of d n)) b (λ i past. ap list (unit_of_none d i past)) (λ p. delivery_at d b p)
         (λ i h. ap list (unit_of_switch d i h)) (λ m h. ap list (unit_of_module d m h))
         (λ p h. ap list (unit_of_element d p h) ∙ delivery_as (element_at b.elements p) (on_link b.replies (delivery_link d p)))
 
     -- ---- memory
-    serving_as : (m : ℕ) (o : Option Bank) → served.act_told d o m ≡ serving_events m o
+    serving_as : (m : ℕ) (o : Option Bank) → served.act_entries d o m ≡ serving_events m o
     serving_as m None = refl
     serving_as m (Some bank) = refl
 
-    listed_serving : told_before (served.told d) 320 b ≡ events_of_service d b
+    listed_serving : entries_before (served.entries d) 320 b ≡ events_of_service d b
     unfolding events_of_service
     listed_serving =
-        let list = served.told_of d b in
-        modules_list (served.told d) b (λ i past. ap list (unit_of_none d i past)) (λ m. serving_at d b m)
+        let list = served.entries_of d b in
+        modules_list (served.entries d) b (λ i past. ap list (unit_of_none d i past)) (λ m. serving_at d b m)
         (λ i h. ap list (unit_of_switch d i h)) (λ p h. ap list (unit_of_element d p h)) (λ m h. ap list (unit_of_module d m h) ∙ serving_as m (module_at b.modules m))
 
     -- ---- requests
     module _ (c : ℕ) where
-      combinations_as : (s k : ℕ) (o : Option Switch) (came : Ports (Option Request)) → requests_taken.combinations_told d c low high s k (o, came) ≡ combination_events d c s k o came
+      combinations_as : (s k : ℕ) (o : Option Switch) (came : Ports (Option Request)) → requests_taken.combination_entries d c low high s k (o, came) ≡ combination_events d c s k o came
       combinations_as s k None came = refl
       combinations_as s k (Some w) came = refl
 
-      listed_taking_requests : told_before (λ n t. requests_taken.told_of d c low high n t (unit_of d n)) 320 b ≡ events_of_requests d c b
+      listed_taking_requests : entries_before (λ n t. requests_taken.entries_of d c low high n t (unit_of d n)) 320 b ≡ events_of_requests d c b
       unfolding events_of_requests
       listed_taking_requests =
-          let list = λ (i : ℕ). requests_taken.told_of d c low high i b in
-          switches_list (λ n t. requests_taken.told_of d c low high n t (unit_of d n)) b (λ i past. ap (list i) (unit_of_none d i past)) (λ i. combinations_at d c b i)
+          let list = λ (i : ℕ). requests_taken.entries_of d c low high i b in
+          switches_list (λ n t. requests_taken.entries_of d c low high n t (unit_of d n)) b (λ i past. ap (list i) (unit_of_none d i past)) (λ i. combinations_at d c b i)
           (λ m h. ap (list (module_number d m)) (unit_of_module d m h)) (λ p h. ap (list (element_number d p)) (unit_of_element d p h))
           (λ i h. ap (list i) (unit_of_switch d i h) ∙ combinations_as (stage_of d i) (index_of d i) (switch_at b.switches i) (on_both b.requests (request_links d (stage_of d i) (index_of d i))))
 
     -- ---- steps: issues or stops
     module _ (program : List Instr) where
-      issue_as : (o : Option ProcessingElement) → executed.issue_told program d o ≡ issue_events program o
+      issue_as : (o : Option ProcessingElement) → executed.issue_entries program d o ≡ issue_events program o
       issue_as None = refl
       issue_as (Some e) = refl
 
-      stop_as : (p : ℕ) (o : Option ProcessingElement) → executed.stop_told program d p o ≡ element_stops program p o
+      stop_as : (p : ℕ) (o : Option ProcessingElement) → executed.stop_entries program d p o ≡ element_stops program p o
       stop_as p None = refl
       stop_as p (Some e) = refl
 
-      listed_issues : told_before (λ n t. executed.told_of program d (λ p o. executed.issue_told program d o) t (unit_of d n)) 320 b ≡ events_of_steps d program b
+      listed_issues : entries_before (λ n t. executed.entries_of program d (λ p o. executed.issue_entries program d o) t (unit_of d n)) 320 b ≡ events_of_steps d program b
       unfolding events_of_steps
       listed_issues =
-          let list = executed.told_of program d (λ p o. executed.issue_told program d o) b in
-          elements_list (λ n t. executed.told_of program d (λ p o. executed.issue_told program d o) t (unit_of d n)) b (λ i past. ap list (unit_of_none d i past)) (λ p. issue_at d program b p)
+          let list = executed.entries_of program d (λ p o. executed.issue_entries program d o) b in
+          elements_list (λ n t. executed.entries_of program d (λ p o. executed.issue_entries program d o) t (unit_of d n)) b (λ i past. ap list (unit_of_none d i past)) (λ p. issue_at d program b p)
           (λ i h. ap list (unit_of_switch d i h)) (λ m h. ap list (unit_of_module d m h)) (λ p h. ap list (unit_of_element d p h) ∙ issue_as (element_at b.elements p))
 
-      listed_stops : told_before (λ n t. executed.told_of program d (executed.stop_told program d) t (unit_of d n)) 320 b ≡ stops_of_steps d program b
+      listed_stops : entries_before (λ n t. executed.entries_of program d (executed.stop_entries program d) t (unit_of d n)) 320 b ≡ stops_of_steps d program b
       unfolding stops_of_steps
       listed_stops =
-          let list = executed.told_of program d (executed.stop_told program d) b in
-          elements_list (λ n t. executed.told_of program d (executed.stop_told program d) t (unit_of d n)) b (λ i past. ap list (unit_of_none d i past)) (λ p. stop_at d program b p)
+          let list = executed.entries_of program d (executed.stop_entries program d) b in
+          elements_list (λ n t. executed.entries_of program d (executed.stop_entries program d) t (unit_of d n)) b (λ i past. ap list (unit_of_none d i past)) (λ p. stop_at d program b p)
           (λ i h. ap list (unit_of_switch d i h)) (λ m h. ap list (unit_of_module d m h)) (λ p h. ap list (unit_of_element d p h) ∙ stop_as p (element_at b.elements p))
 
     -- ---- the halves

@@ -17,9 +17,9 @@ use Rattle.ultra_section.specs.Marks.{on_both, on_link}
 use Rattle.ultra_section.specs.BlockState.{BlockState, switch_at, module_at, element_at}
 use Rattle.ultra_section.specs.RepliesTaken.{replies_taken_by, reply_taken_by}
 use Rattle.ultra_section.specs.Making.{made}
-use Rattle.ultra_section.proofs.Few.{few_told}
-use Rattle.ultra_section.proofs.Once.{told_before}
-use Rattle.ultra_section.proofs.RepliesTakenOnce.{after_taking_element, after_taking_switch, element_after_taking, events_after_taking, kept_by_taking, shape_after_taking, switch_after_taking, told_of}
+use Rattle.ultra_section.proofs.Few.{few_entries}
+use Rattle.ultra_section.proofs.Once.{entries_before}
+use Rattle.ultra_section.proofs.RepliesTakenOnce.{after_taking_element, after_taking_switch, element_after_taking, events_after_taking, kept_by_taking, shape_after_taking, switch_after_taking, entries_of}
 use Rattle.ultra_course.specs.Frame.{Frame}
 use Rattle.ultra_cut.specs.declared.kind.Kind.TheVariants.{Replies}
 use Rattle.ultra_cut.specs.Cut.{block_at, first, frame_of}
@@ -62,9 +62,9 @@ module _ (d : ℕ) (partition : List ℕ) (bs : List BlockState) (rooms : BlockR
   few_events : (k : ℕ) → k < length bs → length (take (block_at bs k)).events ≤ length (block_at bs k).events + 640
   few_events k within =
       let b = block_at bs k in
-      let few = few_told (λ n t. told_of d low high t (unit_of d n)) b 2 (few_by_replies d low high b) 320 in
+      let few = few_entries (λ n t. entries_of d low high t (unit_of d n)) b 2 (few_by_replies d low high b) 320 in
       let all = ap length (events_after_taking d low high b (blocks.shaped k within)) in
-      let sum = length-append b.events (told_before (λ n t. told_of d low high t (unit_of d n)) 320 b) in
+      let sum = length-append b.events (entries_before (λ n t. entries_of d low high t (unit_of d n)) 320 b) in
       omega arith
 
   -- ---- switch n, and what is on its two links

@@ -17,9 +17,9 @@ use Rattle.ultra_section.specs.Marks.{on_both, on_link}
 use Rattle.ultra_section.specs.BlockState.{BlockState, switch_at, module_at, element_at}
 use Rattle.ultra_section.specs.RequestsTaken.{requests_taken_by, request_taken_by}
 use Rattle.ultra_section.specs.Making.{made}
-use Rattle.ultra_section.proofs.Few.{few_told}
-use Rattle.ultra_section.proofs.Once.{told_before}
-use Rattle.ultra_section.proofs.RequestsTakenOnce.{InCycle, after_taking_module, after_taking_switch, module_after_taking, events_after_taking, kept_by_taking, shape_after_taking, switch_after_taking, told_of}
+use Rattle.ultra_section.proofs.Few.{few_entries}
+use Rattle.ultra_section.proofs.Once.{entries_before}
+use Rattle.ultra_section.proofs.RequestsTakenOnce.{InCycle, after_taking_module, after_taking_switch, module_after_taking, events_after_taking, kept_by_taking, shape_after_taking, switch_after_taking, entries_of}
 use Rattle.ultra_course.specs.Frame.{Frame}
 use Rattle.ultra_cut.specs.declared.kind.Kind.TheVariants.{Requests}
 use Rattle.ultra_cut.specs.Cut.{block_at, first, frame_of}
@@ -69,9 +69,9 @@ module _ (d : ℕ) (partition : List ℕ) (c : ℕ) (bs : List BlockState) (room
   few_events : (k : ℕ) → k < length bs → length (take (block_at bs k)).events ≤ length (block_at bs k).events + 640
   few_events k within =
       let b = block_at bs k in
-      let few = few_told (λ n t. told_of d c low high n t (unit_of d n)) b 2 (few_by_requests d low high b c) 320 in
+      let few = few_entries (λ n t. entries_of d c low high n t (unit_of d n)) b 2 (few_by_requests d low high b c) 320 in
       let all = ap length (events_after_taking d c low high b (start k within)) in
-      let sum = length-append b.events (told_before (λ n t. told_of d c low high n t (unit_of d n)) 320 b) in
+      let sum = length-append b.events (entries_before (λ n t. entries_of d c low high n t (unit_of d n)) 320 b) in
       omega arith
 
   -- ---- switch n, and what is on its two links

@@ -12,9 +12,9 @@ use Rattle.ultra_section.specs.Shape.{IsShaped}
 use Rattle.ultra_section.specs.Serving.{serves}
 use Rattle.ultra_section.specs.Units.{unit_of}
 use Rattle.ultra_section.specs.Making.{made}
-use Rattle.ultra_section.proofs.Few.{few_told, one_present, room_for_half}
-use Rattle.ultra_section.proofs.Once.{told_before}
-use Rattle.ultra_section.proofs.ServedOnce.{act_told, told, told_of, events_after_serving, kept_by_serving, module_after_serving, shape_after_serving}
+use Rattle.ultra_section.proofs.Few.{few_entries, one_present, room_for_half}
+use Rattle.ultra_section.proofs.Once.{entries_before}
+use Rattle.ultra_section.proofs.ServedOnce.{act_entries, entries, entries_of, events_after_serving, kept_by_serving, module_after_serving, shape_after_serving}
 use Rattle.ultra_section.proofs.Standing.{unit_of_switch, unit_of_module, unit_of_element}
 use Rattle.ultra_cut.specs.Cut.{block_at}
 use Rattle.ultra_cut.specs.Halves.{AreBlocks, all_made}
@@ -45,23 +45,23 @@ module _ (d : ℕ) (low : 1 ≤ d) (high : d ≤ 6) (b : BlockState) (shape : Is
     requests = kept_by_serving d (λ t. t.requests) (λ m t bank. refl) b shape;
   }
 
-  few_acts : (o : Option Bank) (m : ℕ) → length (act_told d o m) ≤ 2
+  few_acts : (o : Option Bank) (m : ℕ) → length (act_entries d o m) ≤ 2
   few_acts None m = omega arith
   few_acts (Some bank) m = one_present (serving m (served bank))
 
-  few_of_unit : (n : ℕ) → length (told d n b) ≤ 2
+  few_of_unit : (n : ℕ) → length (entries d n b) ≤ 2
   few_of_unit =
-      by_kind d (λ n. length (told d n b) ≤ 2)
+      by_kind d (λ n. length (entries d n b) ≤ 2)
       (λ n h. rw (unit_of_switch d n h) (omega arith))
       (λ m h. rw (unit_of_module d m h) (few_acts (module_at b.modules m) m))
       (λ p h. rw (unit_of_element d p h) (omega arith))
-      (λ n past. rw (told, told_of, unit_of, le-ltb n (switch_count d) (omega arith), le-ltb n (switch_count d + 2 ^ d) (omega arith), le-ltb n (unit_count d) past) (omega arith))
+      (λ n past. rw (entries, entries_of, unit_of, le-ltb n (switch_count d) (omega arith), le-ltb n (switch_count d + 2 ^ d) (omega arith), le-ltb n (unit_count d) past) (omega arith))
 
   few_more : length now.events ≤ length b.events + 640
   few_more =
-      let more = few_told (told d) b 2 few_of_unit 320 in
-      let all = length-append b.events (told_before (told d) 320 b) in
-      let is : length now.events ≡ length b.events + length (told_before (told d) 320 b) = ap (λ es. length es) (events_after_serving d b shape) ∙ all in
+      let more = few_entries (entries d) b 2 few_of_unit 320 in
+      let all = length-append b.events (entries_before (entries d) 320 b) in
+      let is : length now.events ≡ length b.events + length (entries_before (entries d) 320 b) = ap (λ es. length es) (events_after_serving d b shape) ∙ all in
       omega (arith, more, is)
 
   same_stops : now.stops ≡ b.stops

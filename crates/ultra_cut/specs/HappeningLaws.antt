@@ -88,7 +88,7 @@ module _ (d n : ℕ) (partition : List ℕ) (program : List Instr) (x : Course) 
     pub sites : AreSites (frame_of d partition x.requests_taken)
     pub lists : (k : ℕ) → k < length x.steps_made → HasListed k
 
-  -- the blocks list what happens to the frames
+  -- what the blocks list is what happens to the whole machine that they make up before each half
   pub record ListWhatHappens : Type 0 where
     pub events :
         events_of d x.steps_made

@@ -5,7 +5,8 @@ ghost use Rattle.ultra_cut.specs.HappeningLaws.{HappeningsLaw, EventsAddedLaw};
 ghost use Rattle.ultra_cut.specs.InOrder.{InOrderLaw};
 
 /// The law of what happens in a cycle, as this function's contract: what the blocks list, merged by
-/// rank, is what the definition says of the frames that they hold. The function itself does nothing.
+/// rank, is what happens in each half to the whole machine that they make up. The function itself
+/// does nothing.
 pub fn happenings_law()
     ensures merged { HappeningsLaw }
 {}

@@ -15,8 +15,8 @@ pub fn requests_taken_law()
     ensures made { RequestsTakenLaw }
 {}
 
-/// The law of the conditions of that half: it is enough that the whole machine may make it, and that
-/// each block has memory for the events.
+/// The law of the conditions under which requests are taken: it is enough that the whole machine meets
+/// them, and that each block has memory for the events.
 pub fn can_take_requests_law()
     ensures enough { CanTakeRequestsLaw }
 {}

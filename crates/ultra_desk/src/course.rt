@@ -1,4 +1,4 @@
-//! What kept workers give back.
+//! What workers give back over several cycles.
 
 ghost use Rattle.std.specs.Prelude.{ℕ, List, []};
 ghost use Rattle.ultra_isa.specs.declared.Instr.{Instr};
@@ -7,7 +7,7 @@ ghost use Rattle.ultra_desk.specs.declared.task.Task.{Task};
 
 use std::marker::Brand;
 
-/// What workers that are kept over several cycles give back: by cycle, half and worker, the results of that worker, and the program by which all of them go. A machine's course is settled by where it starts, so whoever keeps workers picks it, and a result that has this name is known to be the right one.
+/// What the workers of a machine give back over several cycles: the program that the machine runs and, for each cycle, half and worker, that worker's results. All of this follows from the machine at the start. So whoever starts the workers names the course, and a result that bears the name of a cycle, a half and a worker is known to be the right one.
 pub trait Course {
     ghost results: { ℕ → Half → ℕ → List Task };
 

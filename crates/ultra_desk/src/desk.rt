@@ -26,7 +26,7 @@ pub struct Desk<J: Course> {
     thread: JoinHandle<()>,
 }
 
-/// The program by which a worker goes as long as its desk is open.
+/// What a worker's thread holds as long as its desk is open: the program that the machine runs.
 #[derive(Drop)]
 struct Hand<J: Course> {
     program: Arc<Program, Global>,
@@ -69,7 +69,7 @@ fn work<J: Course, R: Wait, G: Gate>(
 }
 
 impl<J: Course> Desk<J> {
-    /// Starts a worker's thread, which goes by this program and calls this gate before each half of a block. `NoThread` says that it could not be started, `NoMemory` that memory was refused.
+    /// Starts a worker's thread. It makes halves of blocks whose processing elements run this program, and calls this gate before each half of a block. `NoThread` says that it could not be started, `NoMemory` that memory was refused.
     pub fn open<'s, E, R: Threads + Wait + Sync, G: Gate + Sync>(
         scope: &Scope<'s, E>,
         rt: &'s R,

@@ -8,7 +8,7 @@ use crate::task::Task;
 use std::alloc::{AllocError, Global};
 use ultra_section::Block;
 
-/// As many teams as there are workers, all empty, each with room for n tasks. An error says that memory was refused.
+/// A team for each of n workers, all empty, each with room for this number of tasks. An error says that memory was refused.
 pub fn empty_teams(alloc: Global, workers: usize, room: usize) -> Result<Vec<Vec<Task>>, AllocError>
     ensures empty { IfOk result (λ v. AreEmptyTeams workers v.items) }
     ensures room { IfOk result (λ v. All (HasRoom room) v.items) }

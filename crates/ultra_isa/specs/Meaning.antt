@@ -1,4 +1,4 @@
--- what the code's word for an instruction's effect means
+-- an effect of the code as one of the definition
 use Rattle.std.specs.Prelude.{◌≤◌}
 use Rattle.ultra_isa.specs.declared.processor.Effect.{Effect as Found}
 use Rattle.ultra_isa.specs.declared.processor.Effect.TheVariants.{Sets, GoesOnAt, Refers, Waits, Halts}
@@ -11,7 +11,7 @@ meaning (Refers a o target) = refers a o target
 meaning Waits = waits
 meaning Halts = halts
 
--- where an effect goes on at a place, that is at most the length of the longest program
+-- where an effect goes on at a place, that place is at most the length of the longest program
 abbrev pub StaysWithin : Effect → Type 0
 StaysWithin (sets d v) = Unit {0}
 StaysWithin (goes_on_at place) = place ≤ 4096

@@ -1,4 +1,4 @@
--- events that come to the trees at first come to them one after the other, where each reference is named at most once
+-- where trees can absorb each of several events at first, they can absorb them one after the other, if each reference is named at most once
 use Rattle.std.proofs.Common.{◌≡◌, ◌≢◌, ℕ, ◌+◌, ◌≤◌, List, [], ◌∷◌, ◌++◌, Bool, true, false, refl, arith, sym, subst, inl, inr, ⊎_elim}
 use Rattle.std.specs.Prelude.{Option, Some, None, IsSome, IfSome}
 use Rattle.std.specs.List.{AllByRecursion}

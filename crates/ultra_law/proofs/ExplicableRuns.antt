@@ -1,4 +1,4 @@
--- the law of the explainer: in every run each event can come to the trees so far
+-- the law of the explainer: in every run the trees so far can absorb each event
 use Rattle.std.proofs.Common.{◌≡◌, ℕ, zero, suc, ◌+◌, ◌≤◌, List, [], ◌∷◌, ◌++◌, Bool, refl, arith, sym, ◌∙◌, ap, subst}
 use Rattle.std.specs.Prelude.{Option, None, IfSome}
 use Rattle.std.specs.List.{AllByRecursion}
@@ -65,8 +65,8 @@ module _ (c : Settings) (range : AreInRange c) (program : List Instr) where
     abbrev moved : Machine
     moved = request_phase c acted
 
-    abbrev told : List Event
-    told = deliveries c range program n m
+    abbrev deliveries_now : List Event
+    deliveries_now = deliveries c range program n m
 
     abbrev acts : List Event
     acts = servings c range program n replied
@@ -78,7 +78,7 @@ module _ (c : Settings) (range : AreInRange c) (program : List Instr) where
     sent = issues_of c range program n moved
 
     abbrev h1 : History
-    h1 = noted n told h
+    h1 = noted n deliveries_now h
 
     abbrev h2 : History
     h2 = noted n acts h1
@@ -96,17 +96,17 @@ module _ (c : Settings) (range : AreInRange c) (program : List Instr) where
     w3 = serial-request_phase c range program n acted h2 w2
 
     -- ---- replies
-    told_fit : AllByRecursion (IsFit (IsOfMachine c) h.trees told) told
-    told_fit = any_delivery c range program n (IsFit (IsOfMachine c) h.trees told) m (λ r. tt)
+    deliveries_fit : AllByRecursion (IsFit (IsOfMachine c) h.trees deliveries_now) deliveries_now
+    deliveries_fit = any_delivery c range program n (IsFit (IsOfMachine c) h.trees deliveries_now) m (λ r. tt)
 
-    told_come : CanCome h.trees told
-    told_come = fit_absorbable (IsOfMachine c) (size c) c.most_open told h.trees told_fit
+    deliveries_come : CanCome h.trees deliveries_now
+    deliveries_come = fit_absorbable (IsOfMachine c) (size c) c.most_open deliveries_now h.trees deliveries_fit
 
     few1 : AreFew replied h1.trees
     few1 t =
-        let kept = events_kept t (size c) c.most_open told h.trees told_come in
-        let none = fit_brings t (IsOfMachine c) h.trees told told told_fit in
-        let now = ap (λ ks. kept_passing t ks) (noted_trees n told h) in
+        let kept = events_kept t (size c) c.most_open deliveries_now h.trees deliveries_come in
+        let none = fit_brings t (IsOfMachine c) h.trees deliveries_now deliveries_now deliveries_fit in
+        let now = ap (λ ks. kept_passing t ks) (noted_trees n deliveries_now h) in
         omega (arith, few t, kept, none, now, requests_replied t c m)
 
     -- ---- memory
@@ -153,28 +153,28 @@ module _ (c : Settings) (range : AreInRange c) (program : List Instr) where
         omega (arith, few3 t, kept, none, now, requests_issued t c range program n moved h3 w3)
 
     -- ---- one after the other
-    at1 : trees_noted told h.trees ≡ h1.trees
-    at1 = sym (noted_trees n told h)
+    at1 : trees_noted deliveries_now h.trees ≡ h1.trees
+    at1 = sym (noted_trees n deliveries_now h)
 
-    at2 : trees_noted (told ++ acts) h.trees ≡ h2.trees
-    at2 = trees_noted-append told acts h.trees ∙ (ap (λ ks. trees_noted acts ks) at1 ∙ sym (noted_trees n acts h1))
+    at2 : trees_noted (deliveries_now ++ acts) h.trees ≡ h2.trees
+    at2 = trees_noted-append deliveries_now acts h.trees ∙ (ap (λ ks. trees_noted acts ks) at1 ∙ sym (noted_trees n acts h1))
 
-    at3 : trees_noted ((told ++ acts) ++ meets) h.trees ≡ h3.trees
-    at3 = trees_noted-append (told ++ acts) meets h.trees ∙ (ap (λ ks. trees_noted meets ks) at2 ∙ sym (noted_trees n meets h2))
+    at3 : trees_noted ((deliveries_now ++ acts) ++ meets) h.trees ≡ h3.trees
+    at3 = trees_noted-append (deliveries_now ++ acts) meets h.trees ∙ (ap (λ ks. trees_noted meets ks) at2 ∙ sym (noted_trees n meets h2))
 
-    all_come : CanCome h.trees (((told ++ acts) ++ meets) ++ sent)
+    all_come : CanCome h.trees (((deliveries_now ++ acts) ++ meets) ++ sent)
     all_come =
-        absorbable-append (size c) c.most_open ((told ++ acts) ++ meets) sent h.trees
-        (absorbable-append (size c) c.most_open (told ++ acts) meets h.trees
-        (absorbable-append (size c) c.most_open told acts h.trees told_come (subst (λ ks. CanCome ks acts) (sym at1) acts_come))
+        absorbable-append (size c) c.most_open ((deliveries_now ++ acts) ++ meets) sent h.trees
+        (absorbable-append (size c) c.most_open (deliveries_now ++ acts) meets h.trees
+        (absorbable-append (size c) c.most_open deliveries_now acts h.trees deliveries_come (subst (λ ks. CanCome ks acts) (sym at1) acts_come))
         (subst (λ ks. CanCome ks meets) (sym at2) meets_come))
         (subst (λ ks. CanCome ks sent) (sym at3) sent_come)
 
-    all_serve : Serve h.trees (((told ++ acts) ++ meets) ++ sent)
+    all_serve : Serve h.trees (((deliveries_now ++ acts) ++ meets) ++ sent)
     all_serve =
-        serve_trees-append (IsOfMachine c) ((told ++ acts) ++ meets) sent h.trees
-        (serve_trees-append (IsOfMachine c) (told ++ acts) meets h.trees
-        (serve_trees-append (IsOfMachine c) told acts h.trees (fit_served (IsOfMachine c) told h.trees told_fit) (subst (λ ks. Serve ks acts) (sym at1) (fit_served (IsOfMachine c) acts h1.trees acts_fit)))
+        serve_trees-append (IsOfMachine c) ((deliveries_now ++ acts) ++ meets) sent h.trees
+        (serve_trees-append (IsOfMachine c) (deliveries_now ++ acts) meets h.trees
+        (serve_trees-append (IsOfMachine c) deliveries_now acts h.trees (fit_served (IsOfMachine c) deliveries_now h.trees deliveries_fit) (subst (λ ks. Serve ks acts) (sym at1) (fit_served (IsOfMachine c) acts h1.trees acts_fit)))
         (subst (λ ks. Serve ks meets) (sym at2) (fit_served (IsOfMachine c) meets h2.trees meets_fit)))
         (subst (λ ks. Serve ks sent) (sym at3) sent_serve)
 

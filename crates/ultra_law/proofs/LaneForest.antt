@@ -155,7 +155,7 @@ module _ (c : Settings) (m : Machine) (is : List Issue) (ks : List Kept) (s x : 
     pub old_kept : IsKeptAt c m is ks s old.request
     pub new_kept : IsKeptAt c m is ks s new
     pub noted : IsIn (wait_record old new) ws
-    pub told : IsIn (Combined s x new.cell old.request.pe new.pe (pair_of old.request.op new.op).old_first) es
+    pub event_listed : IsIn (Combined s x new.cell old.request.pe new.pe (pair_of old.request.op new.op).old_first) es
 
   -- an entry that had combined before
   pub record HadCombined (e : Entry) : Type 0 where
@@ -181,7 +181,7 @@ module _ (c : Settings) (m : Machine) (is : List Issue) (ks : List Kept) (s x : 
     old_kept = h.old_kept;
     new_kept = h.new_kept;
     noted = in-append _ ws us h.noted;
-    told = in-append _ es fs h.told;
+    event_listed = in-append _ es fs h.event_listed;
   })
 
   -- one that can combine is single
@@ -206,7 +206,7 @@ module _ (c : Settings) (m : Machine) (is : List Issue) (ks : List Kept) (s x : 
         old_kept = single_of l.records es r v.old g.0 g.1;
         new_kept = k;
         noted = in-append_right (wait_record v.old r) l.records (wait_record v.old r ∷ []) (inl refl);
-        told = in-append_right _ es (combination s x r (Some v)) (inl refl);
+        event_listed = in-append_right _ es (combination s x r (Some v)) (inl refl);
       }))
 
   arrive_combines : (w : ℕ) (l : Lane) (r : Request) (es : List Event) (o : Option Combination) → AllByRecursion (IsSaid l.records es) l.queue

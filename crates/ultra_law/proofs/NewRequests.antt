@@ -63,7 +63,7 @@ module _ (n m : ℕ) where
   new_now ks es (Combined s x a p q f) g = absurd g
   new_now ks es (Issued r i) g = (g.0, g.1, g.2)
 
-  -- an issue of another element changes nothing
+  -- an issue of another processing element changes nothing
   new_later : (ks : List Kept) (e : Event) (es : List Event) (u : Event) → IsNew ks (e ∷ es) e → IsIn u es → IsNew ks (e ∷ es) u → IsNew (trees_after ks e) es u
   new_later ks (Delivered r) es u z h g = absurd z
   new_later ks (Served k r reply now) es u z h g = absurd z

@@ -104,9 +104,9 @@ answers_noted n es fs h ds z y same g =
     let k = noted n es h in
     let js = more_issues n fs k.log.issues in
     let issues : (noted n fs k).log.issues ≡ h.log.issues ++ js.0 = noted_issues n fs k ∙ (js.1 ∙ ap (λ is. is ++ js.0) same) in
-    let told : deliveries_in n (es ++ fs) ≡ deliveries_in n es = deliveries-append n es fs ∙ (ap (λ us. deliveries_in n es ++ us) (no_deliveries n fs y) ∙ append-nil (deliveries_in n es)) in
+    let deliveries_now : deliveries_in n (es ++ fs) ≡ deliveries_in n es = deliveries-append n es fs ∙ (ap (λ us. deliveries_in n es ++ us) (no_deliveries n fs y) ∙ append-nil (deliveries_in n es)) in
     let all = answers_more h.log.issues js.0 (ds ++ deliveries_in n es) k.log.answers (due_answers n es h ds z g) in
-    rw (noted-append n es fs h, told, issues, same_answers n fs k y) all
+    rw (noted-append n es fs h, deliveries_now, issues, same_answers n fs k y) all
 
 module _ (c : Settings) (range : AreInRange c) (program : List Instr) where
   module _ (n : ℕ) (m : Machine) (h : History) (w : IsSerial c n m h) where
@@ -120,8 +120,8 @@ module _ (c : Settings) (range : AreInRange c) (program : List Instr) where
     asked = request_phase c acted
 
     -- the events of the cycle: deliveries, servings, combinations, issues
-    abbrev told : List Event
-    told = delivered_now c range program n m
+    abbrev deliveries_now : List Event
+    deliveries_now = delivered_now c range program n m
 
     abbrev acts : List Event
     acts = servings c range program n replied
@@ -144,8 +144,8 @@ module _ (c : Settings) (range : AreInRange c) (program : List Instr) where
     entry_due (Combined s x a p q f) z = absurd z
     entry_due (Issued r k) z = absurd z
 
-    all_due : AllByRecursion (IsDue n h.log.issues) told
-    all_due = each-weaker (DeliversWell h.log.issues (list_of c h)) (IsDue n h.log.issues) told entry_due (delivers_well c range program n m h w)
+    all_due : AllByRecursion (IsDue n h.log.issues) deliveries_now
+    all_due = each-weaker (DeliversWell h.log.issues (list_of c h)) (IsDue n h.log.issues) deliveries_now entry_due (delivers_well c range program n m h w)
 
     -- what comes behind the deliveries
     abbrev others : List Event
@@ -156,14 +156,14 @@ module _ (c : Settings) (range : AreInRange c) (program : List Instr) where
         each-append IsNoDelivery acts (meets ++ asks) (each_serving c range program n IsNoDelivery replied (λ k a. tt))
         (each-append IsNoDelivery meets asks (each_meeting c range program n IsNoDelivery acted (λ s x a p q f. tt)) (each_issued c program asked IsNoDelivery (λ p r hp e. tt)))
 
-    in_turn : (cycle c program m).events ≡ told ++ others
-    in_turn = events_of c range program n m ∙ (append_assoc (told ++ acts) meets asks ∙ append_assoc told acts (meets ++ asks))
+    in_turn : (cycle c program m).events ≡ deliveries_now ++ others
+    in_turn = events_of c range program n m ∙ (append_assoc (deliveries_now ++ acts) meets asks ∙ append_assoc deliveries_now acts (meets ++ asks))
 
     answers_next : (ds : List Delivery) → AreAnswersOf h.log.issues ds h.log.answers
         → AreAnswersOf (noted n (cycle c program m).events h).log.issues (ds ++ deliveries_in n (cycle c program m).events) (noted n (cycle c program m).events h).log.answers
     answers_next ds g =
         subst (λ es. AreAnswersOf (noted n es h).log.issues (ds ++ deliveries_in n es) (noted n es h).log.answers) (sym in_turn)
-        (answers_noted n told others h ds all_due none_delivered (same_issues n told h (any_delivery c range program n IsNoIssue m (λ r. tt))) g)
+        (answers_noted n deliveries_now others h ds all_due none_delivered (same_issues n deliveries_now h (any_delivery c range program n IsNoIssue m (λ r. tt))) g)
 
   pub answers_after : (n : ℕ) → AreAnswersOf (history c program n).log.issues (deliveries c program n) (history c program n).log.answers
   unfolding after history deliveries

@@ -285,7 +285,7 @@ module _ (c : Settings) (range : AreInRange c) (m : Machine) (w : IsRouted c m) 
           → IsKeptAt c m is ks s old.request → IsKeptAt c m is ks s new → IsIn (wait_record old new) (next_lane c m s x).records
           → IsIn (Combined s x new.cell old.request.pe new.pe (pair_of old.request.op new.op).old_first) (combined_at s x)
           → IsRecordAt c s x (wait_record old new) → 1 ≤ lane_on_way (only old.request.pe old.request.cell) (lane_at after s x) → IsKeptAt c after is trees (suc s) (combined_entry old new).request
-      pair_after s x old new hs hx route same_cell old_kept new_kept noted told record_route l =
+      pair_after s x old new hs hx route same_cell old_kept new_kept noted event_listed record_route l =
           let p = old.request.pe in
           let a = old.request.cell in
           let q = new.pe in
@@ -303,11 +303,11 @@ module _ (c : Settings) (range : AreInRange c) (m : Machine) (w : IsRouted c m) 
           let old_tree = same_tree s p a (omega (arith, hs)) hp (λ i z. quiet_apart p a s i hp hs z there) in
           let new_tree = same_tree s q a (omega (arith, hs)) hq (λ i z. quiet_apart q a s i hq hs z there_new) in
           let new_here : IsKept c m is ks s q a new = subst (λ v. IsKept c m is ks s q v new) (sym same_cell) new_kept in
-          let told_here : IsIn (Combined s x a p q (pair_of old.request.op new.op).old_first) (combined_at s x) = subst (λ v. IsIn (Combined s x v p q (pair_of old.request.op new.op).old_first) (combined_at s x)) (sym same_cell) told in
-          let told_all = in-table c.stages (size c) (λ i z. combined_at i z) s x (Combined s x a p q (pair_of old.request.op new.op).old_first) hs hx told_here in
+          let event_here : IsIn (Combined s x a p q (pair_of old.request.op new.op).old_first) (combined_at s x) = subst (λ v. IsIn (Combined s x v p q (pair_of old.request.op new.op).old_first) (combined_at s x)) (sym same_cell) event_listed in
+          let event_among_all = in-table c.stages (size c) (λ i z. combined_at i z) s x (Combined s x a p q (pair_of old.request.op new.op).old_first) hs hx event_here in
           let one = all_parts (only p a) in
           let two = all_parts (only q a) in
-          let made = combined_tree s x a p q (pair_of old.request.op new.op).old_first (built c m is s p a) (built c m is s q a) all_combined ks told_all
+          let made = combined_tree s x a p q (pair_of old.request.op new.op).old_first (built c m is s p a) (built c m is s q a) all_combined ks event_among_all
           (omega (arith, one, lanes_once p a hp)) (omega (arith, two, lanes_once q a hq)) old_kept.tree new_here.tree in
           let grows : built c after is (suc s) p a ≡ pair s x (built c m is s p a) (built c m is s q a) (pair_of old.request.op new.op).old_first =
           built_next c after is s p a
@@ -334,7 +334,7 @@ module _ (c : Settings) (range : AreInRange c) (m : Machine) (w : IsRouted c m) 
           let lane : 1 ≤ lane_on_way t (lane_at after s x) = rw (lane-request_phase c m s x hs hx) (omega (arith, one)) in
           let record_route = in_holds (IsRecordAt c s x) (wait_record h.old h.new) (next_lane c m s x).records (rw (lane-request_phase c m s x hs hx) at (routed.records s x hs hx)) h.noted in
           let marked : e.combined ≡ true = rw h.entry refl in
-          let pair_kept = pair_after s x h.old h.new hs hx (subst (λ v. IsEntryAt c s x v) h.entry route) h.cell h.old_kept h.new_kept h.noted h.told record_route
+          let pair_kept = pair_after s x h.old h.new hs hx (subst (λ v. IsEntryAt c s x v) h.entry route) h.cell h.old_kept h.new_kept h.noted h.event_listed record_route
           (subst (λ v. 1 ≤ lane_on_way (only v.request.pe v.request.cell) (lane_at after s x)) h.entry lane) in
           by_mark s e true marked (subst (λ v. IsKeptAt c after is trees (suc s) v.request) (sym h.entry) pair_kept)
 

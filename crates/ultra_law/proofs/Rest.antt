@@ -82,7 +82,7 @@ idle_lane l h = rw (nothing_in l.queue (both_true (is_empty l.queue) (is_empty l
 idle_interface : (i : Interface) → is_empty i.opened ≡ true → is_empty i.pending ≡ true → i ≡ empty_interface
 idle_interface i o p = rw (nothing_in i.opened o, nothing_in i.pending p) refl
 
--- an element that is quiet
+-- a processing element that is quiet
 abbrev rests : Element → Bool
 rests e = has_stopped e.core.activity && is_empty e.interface.opened && is_empty e.interface.pending
 

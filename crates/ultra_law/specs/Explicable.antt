@@ -1,4 +1,4 @@
--- which events can come to the trees that are kept, and what every run's events are to them
+-- which events the trees that are kept can absorb, and that they can absorb those of every run
 use Rattle.std.specs.Prelude.{◌≡◌, ◌≢◌, ◌<◌, ◌≤◌, ◌+◌, ◌==◌, ℕ, List, [], ◌∷◌, length, Bool, true, false, Option, Some, None, IsSome, IfSome, slice_get}
 use Rattle.ultra_msg.specs.declared.Event.{Event}
 use Rattle.ultra_msg.specs.declared.Event.TheVariants.{Delivered, Served, Combined, Issued}
@@ -18,7 +18,7 @@ abbrev pub held_by : ℕ → List Kept → ℕ
 held_by p [] = 0
 held_by p (k ∷ ks) = one_if (k.pe == p) + held_by p ks
 
--- whether an event can come to these trees, of n processing elements with at most m requests each: the requests that are served or combined are held, and are two if they combine; a request that is issued isn't held yet, its element is below n, and fewer than m of its requests are held
+-- these trees, of n processing elements (PEs) with at most m requests each, can absorb an event: the requests that are served or combined are held, and are of two PEs if they combine; a request that is issued isn't held yet, its PE is below n, and fewer than m of that PE's requests are held
 abbrev pub IsAbsorbable : ℕ → ℕ → List Kept → Event → Type 0
 IsAbsorbable n m ks (Delivered r) = Unit {0}
 IsAbsorbable n m ks (Served k r reply now) = IsSome (tree_of r.pe r.cell ks)
@@ -32,7 +32,7 @@ served_tree ks (Served k r reply now) = tree_of r.pe r.cell ks
 served_tree ks (Combined s x a p q f) = None
 served_tree ks (Issued r i) = None
 
--- each of several events can come, one after the other
+-- they can absorb several events, one after the other
 abbrev pub AreAbsorbable : ℕ → ℕ → List Kept → List Event → Type 0
 AreAbsorbable n m ks [] = Unit {0}
 AreAbsorbable n m ks (e ∷ es) = IsAbsorbable n m ks e × AreAbsorbable n m (trees_after ks e) es
@@ -48,7 +48,7 @@ pub record IsOfMachine (c : Settings) (t : Tree) : Type 0 where
   pub few : length (leaves t) ≤ size c
   pub different : (j k : ℕ) (l r : Leaf) → slice_get (leaves t) j ≡ Some l → slice_get (leaves t) k ≡ Some r → l.pe ≡ r.pe → j ≡ k
 
--- in every cycle each event can come to the trees so far
+-- in every cycle the trees so far can absorb each event
 pub record AreExplicable (c : Settings) (program : List Instr) : Type 0 where
   pub absorbable : (n : ℕ) → AreAbsorbable (size c) c.most_open (history c program n).trees (after c program (n + 1)).events
   pub served : (n : ℕ) → ServeTrees (IsOfMachine c) (history c program n).trees (after c program (n + 1)).events

@@ -1,6 +1,6 @@
 //! The serial order of what a machine's requests do, as definitions, and its laws: the lists of a run are a chain of
-//! legal lists, each event of a run can come to the trees so far, and a hot spot is served at once. They speak of the
-//! whole machine's definition alone.
+//! legal lists, the replies of a run are the answers of its log, each event of a run can be absorbed by the trees kept so
+//! far, and the memory serves a hot spot by one act. They speak of the whole machine's definition alone.
 #![tactic(auto)]
 
 mod records;
@@ -26,8 +26,8 @@ pub fn serialization_law()
 
 /// The replies of a run are the answers of its log, as this function's contract: for all settings in their ranges, every
 /// program and every number of cycles, the log's answers are the replies that were delivered so far, one by one and in
-/// the same order, each with its processing element, its value and its cycle. The request of each was issued in an
-/// earlier cycle, by that element, for the cell of the reply, and has the number that the answer names.
+/// the same order, each with its processing element (PE), its value and its cycle. The request of each was issued in an
+/// earlier cycle, by that PE, for the cell of the reply, and has the number that the answer names.
 ///
 /// So what the serialization law says of answers it says of the replies that come to the processing elements. The
 /// function itself does nothing.
@@ -35,11 +35,10 @@ pub fn reply_law()
     ensures answered { ReplyLaw }
 {}
 
-/// What every run's events are to the trees that an explainer keeps, as this function's contract: for all settings in
-/// their ranges, every program and every number of cycles, each event of the next cycle can come to the trees of the
-/// cycles so far. A request that is served or combines is held, one that is issued isn't held yet, and there is room
-/// for it. The tree of a request that is served is no higher than the stages, and has at most one leaf of each
-/// processing element. The function itself does nothing.
+/// Each event of a run can be absorbed by the trees kept so far, as this function's contract. For all settings in their
+/// ranges, every program, every cycle and each of its events, one after the other: a request that is served or combines
+/// is held, and one that is issued isn't held yet, and there is room for it. The tree of a request that is served is no
+/// higher than the stages, and has at most one leaf of each processing element. The function itself does nothing.
 pub fn explaining_law()
     ensures explained { ExplainingLaw }
 {}

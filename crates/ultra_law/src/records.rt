@@ -2,12 +2,12 @@
 
 use ultra_msg::{Cell, Op, Pe, Reply};
 
-/// A request as its processing element issued it. Its name is the element with the number.
+/// A request as its processing element (PE) issued it. The PE and the number are its name.
 #[derive(Clone, Copy, Drop)]
 pub struct Leaf {
-    /// The element that issued it.
+    /// The PE that issued it.
     pub pe: Pe,
-    /// How many requests that element had issued before.
+    /// How many requests that PE had issued before.
     pub number: u32,
     /// The cell that it is for.
     pub cell: Cell,
@@ -15,12 +15,12 @@ pub struct Leaf {
     pub op: Op,
 }
 
-/// A request of a serial list, with its reply. Its name is the element with the number.
+/// A request of a serial list, with its reply. The PE and the number are its name.
 #[derive(Clone, Copy, PartialEq, Eq, Debug, Drop)]
 pub struct Entry {
-    /// The element that issued it.
+    /// The PE that issued it.
     pub pe: Pe,
-    /// How many requests that element had issued before.
+    /// How many requests that PE had issued before.
     pub number: u32,
     /// The cell that it is for.
     pub cell: Cell,
@@ -33,12 +33,12 @@ pub struct Entry {
 /// Requests in an order in which they could have acted one after the other.
 pub type SerialList = Vec<Entry>;
 
-/// A request was issued. Its name is the element with the number.
+/// A request was issued. The PE and the number are its name.
 #[derive(Clone, Copy, PartialEq, Eq, Debug, Drop)]
 pub struct Issue {
-    /// The element that issued it.
+    /// The PE that issued it.
     pub pe: Pe,
-    /// How many requests that element had issued before.
+    /// How many requests that PE had issued before.
     pub number: u32,
     /// The cell that it is for.
     pub cell: Cell,
@@ -48,12 +48,12 @@ pub struct Issue {
     pub cycle: u32,
 }
 
-/// A request was answered. Its name is the element with the number.
+/// A request was answered. The PE and the number are its name.
 #[derive(Clone, Copy, PartialEq, Eq, Debug, Drop)]
 pub struct Answer {
-    /// The element that the answer came to.
+    /// The PE that the answer came to.
     pub pe: Pe,
-    /// How many requests that element had issued before the one that is answered.
+    /// How many requests that PE had issued before the one that is answered.
     pub number: u32,
     /// What it was answered.
     pub reply: Reply,

@@ -89,7 +89,7 @@ is_good r Cells = is_within 1 4096 r.cells
 is_good r Cycles = is_within 1 1000000 r.cycles
 is_good r Initial = are_initial_given (all_cells_of r) r.initial
 
--- the keys in the order in which they are looked at, those of one number first
+-- the keys in the order in which they are looked at: these with a single number, and then `initial`
 abbrev pub numbers : List Field
 numbers = Stages ∷ RequestPlaces ∷ ReplyPlaces ∷ WaitPlaces ∷ MostOpen ∷ Cells ∷ Cycles ∷ []
 
@@ -113,7 +113,7 @@ settings_of r = record {
   initial = initial_of r.initial;
 }
 
--- the fault names the first bad key. Memory is wanted only where all keys of one number are accepted
+-- the fault names the first bad key. `NoMemory` comes only where all keys with a single number are accepted
 abbrev pub ExplainsRefusal : RawSettings → ConfigFault → Type 0
 ExplainsRefusal r NoMemory = first_bad_of r numbers ≡ None
 ExplainsRefusal r (BadConfig f) = first_bad r ≡ Some f

@@ -78,7 +78,7 @@ module _ (c : Settings) where
     stops = [];
   }
 
--- the places of a machine: of a stage and a position, or of a module or a processing element
+-- the parts of a machine: by stage and position, or by the number of a module or a processing element
 abbrev pub lane_at : Machine → ℕ → ℕ → Lane
 lane_at m s x = in_table empty_lane m.lanes s x
 

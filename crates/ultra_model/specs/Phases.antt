@@ -1,4 +1,4 @@
--- one cycle of the whole machine, as formulas over all places at once; each phase reads the machine as it stands at the phase's start. The routes are the 1983 paper's Omega network; the phases, the room rules and their order are this project's profile
+-- one cycle of the whole machine, as formulas over all parts at once; each phase reads the machine as it stands at the phase's start. The routes are the 1983 paper's Omega network; the phases, the room rules and their order are this project's profile
 use Rattle.std.specs.Prelude.{ℕ, suc, zero, ◌+◌, ◌-◌, ◌*◌, ◌/◌, ◌%◌, List, [], ◌∷◌, ◌++◌, Bool, true, false, ◌&&◌, ◌==◌, nat_le, length, Option, Some, None, slice_get}
 use Rattle.std.specs.List.{filter}
 use Rattle.ultra_msg.specs.declared.Request.{Request}
@@ -22,7 +22,7 @@ use Rattle.ultra_model.specs.declared.Stop.{Stop}
 use Rattle.ultra_model.specs.Places.{places, table, after_leaving, present, joined}
 use Rattle.ultra_model.specs.Machine.{Settings, Machine, Element, size, last_stage, site, request_exit, reply_exit, lane_at, replies_at, bank_at, element_at, start}
 
--- ---- what a phase does to one place, module or processing element
+-- ---- what a phase does to one processing element, queue or module
 abbrev pub delivery : Option ReplyMessage → Option Event
 delivery None = None
 delivery (Some r) = Some (Delivered r)

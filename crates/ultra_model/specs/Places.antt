@@ -1,4 +1,4 @@
--- lists with a value for each place below a bound
+-- lists with a value for each number below a bound
 use Rattle.std.specs.Prelude.{ℕ, List, [], ◌∷◌, map, slice_index_or, Option, Some, None, ◌++◌, drop}
 use Rattle.std.specs.List.{range_with_len}
 
@@ -10,7 +10,7 @@ places n f = map f (range_with_len 0 n)
 abbrev pub table : {X : Type 0} → ℕ → ℕ → (ℕ → ℕ → X) → List (List X)
 table m n f = places m (λ s. places n (λ x. f s x))
 
--- the value in a row at a place, and the default where there is none
+-- the value in row s at index x, and the default where there is none
 abbrev pub in_table : {X : Type 0} → X → List (List X) → ℕ → ℕ → X
 in_table d xs s x = slice_index_or (slice_index_or xs s []) x d
 

@@ -1,4 +1,4 @@
--- how many places the parts of a machine have
+-- how many parts of each kind a machine has
 use Rattle.std.specs.Prelude.{◌≡◌, ℕ, ◌<◌, [], length, slice_index_or}
 use Rattle.ultra_model.specs.Machine.{Settings, Machine, size, bank_at}
 

@@ -11,7 +11,7 @@ use ultra_msg::Pe;
 /// A processing element that faulted in the last cycle, and why.
 #[derive(Clone, Copy, Drop)]
 pub struct Stop {
-    /// The element.
+    /// The processing element.
     pub pe: Pe,
     /// Why it faulted.
     pub fault: MachineFault,

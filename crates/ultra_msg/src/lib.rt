@@ -115,10 +115,10 @@ pub enum Op {
     Swap(Word),
 }
 
-/// A reference of a processing element to a cell. The element and the cell are its identity in the network.
+/// A reference of a processing element (PE) to a cell. The PE and the cell are its identity in the network.
 #[derive(Clone, Copy, PartialEq, Eq, Debug, Default, Drop)]
 pub struct Request {
-    /// The element that issued it.
+    /// The PE that issued it.
     pub pe: Pe,
     /// The cell that it is for.
     pub cell: Cell,
@@ -135,10 +135,10 @@ pub enum Reply {
     Ack,
 }
 
-/// A reply on its way to a processing element. The element and the cell are its identity in the network.
+/// A reply on its way to a processing element (PE). The PE and the cell are its identity in the network.
 #[derive(Clone, Copy, PartialEq, Eq, Debug, Drop)]
 pub struct ReplyMessage {
-    /// The element that it goes to.
+    /// The PE that it goes to.
     pub pe: Pe,
     /// The cell that the request was for.
     pub cell: Cell,
@@ -178,15 +178,15 @@ pub enum Event {
     },
     /// A request combined with one that stood in a queue toward memory.
     Combined {
-        /// The stage, from 0 at the elements' side.
+        /// The stage, from 0 at the PEs' side.
         stage: u32,
         /// The queue's memory-side position in the stage, from 0.
         position: u32,
         /// The cell that both are for.
         cell: Cell,
-        /// The element whose request stood in the queue.
+        /// The PE whose request stood in the queue.
         old: Pe,
-        /// The element whose request came to it.
+        /// The PE whose request came to it.
         new: Pe,
         /// Whether the one that stood in the queue comes first in the serial order.
         old_first: bool,
@@ -265,9 +265,9 @@ impl Give {
         }
     }
 
-    /// Whether the old request of a pair that is answered in this way comes first in the serial order.
+    /// Whether the old request of a pair comes first in the serial order, where it is answered in this way: it does unless that is `Fixed`.
     ///
-    /// Only a store that came to a load or a fetch-and-add goes before what stood in the queue, and only these are answered with a word that was known when the pair was made; this project's profile.
+    /// Only a store that came to a load or a fetch-and-add goes before it, and only then is the old request answered by `Fixed`; this project's profile.
     pub fn old_goes_first(self) -> bool
         ensures fixed { result ≡ not (is_fixed self) }
         ensures in_pair { (old new : Op) → self ≡ (pair_of old new).give_old → result ≡ (pair_of old new).old_first }

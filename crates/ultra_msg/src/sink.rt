@@ -3,11 +3,11 @@
 ghost use Rattle.std.specs.Prelude.{◌≡◌, ℕ, ◌+◌, ◌++◌, List, IfOk, OnOk, OnErr};
 ghost use Rattle.ultra_msg.specs.Bytes.{TakesPart, TakesPrefix};
 
-/// A sink took nothing of what it was offered.
+/// A sink has failed: it took nothing of the bytes that it was offered.
 #[derive(Clone, Copy, PartialEq, Eq, Debug, Drop)]
 pub struct SinkFault;
 
-/// A place where bytes go: a stream, a file or a text in memory. It may take any part of what it is offered.
+/// What takes bytes: a stream, a file or a text in memory. It may take any part of what it is offered.
 pub trait Sink {
     /// The bytes that it has taken.
     ghost taken: { Self → List ℕ };

@@ -37,9 +37,9 @@ pub enum Issue {
     Full,
 }
 
-/// The network interface of one processing element (this project's profile).
+/// The network interface of one processing element, or PE (this project's profile).
 ///
-/// It holds the requests that the element has issued and that are not yet in the network, in the order of their issues, and the cells that are open: those with a reference that hasn't been answered. No cell is open twice, as in the 1983 paper.
+/// It holds the requests that this PE has issued and that are not yet in the network, in the order of their issues, and the cells that are open: those with a reference that hasn't been answered. No cell is open twice, as in the 1983 paper.
 #[derive(Drop)]
 pub struct Pni {
     opened: ArrayVec<OpenCell, MOST_OPEN>,

@@ -10,7 +10,7 @@ lines_right : lines ≡ 6 ∷ 4 ∷ 1 ∷ 3 ∷ []
 unfolding lines
 lines_right = refl
 
--- the element-side positions at which the request enters each stage
+-- the PE-side positions at which the request enters each stage
 positions : List ℕ
 positions = entry_of 3 0 6 3 ∷ entry_of 3 1 6 3 ∷ entry_of 3 2 6 3 ∷ []
 
@@ -18,7 +18,7 @@ positions_right : positions ≡ 5 ∷ 1 ∷ 2 ∷ []
 unfolding positions
 positions_right = refl
 
--- the lines over which the reply leaves these stages: the last one is the element
+-- the lines over which the reply leaves these stages: the last one is the processing element
 lines_back : List ℕ
 lines_back = unshuffled 3 2 ∷ unshuffled 3 1 ∷ unshuffled 3 5 ∷ []
 

@@ -8,7 +8,7 @@ use Rattle.ultra_law.specs.Log.{Log}
 use Rattle.ultra_law.specs.declared.records.Entry.{Entry}
 use Rattle.ultra_law.specs.Legal.{Has}
 
--- the lists of the names hold what the whole list does, each element under its own name
+-- the lists of the names hold what the whole list does, each item under its own name
 pub record AreByName {X : Type 0} (pe number : X → ℕ) (lists : ℕ → ℕ → List X) (whole : List X) : Type 0 where
   pub within : (p n : ℕ) (x : X) → Has (lists p n) x → Has whole x
   pub all : (x : X) → Has whole x → Has (lists (pe x) (number x)) x

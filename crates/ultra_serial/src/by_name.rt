@@ -10,7 +10,7 @@ use crate::by_pair::ListsByPair;
 use crate::{Answer, Entry, Issue, Log};
 use std::alloc::{AllocError, Global};
 
-/// The issues and answers of a log, and entries: each under its name, the processing element with the number.
+/// The issues and answers of a log, and entries: each under its name, which is the processing element and the number.
 #[derive(Drop)]
 pub(crate) struct ByName {
     /// The issues, under their names.

@@ -17,22 +17,22 @@ use crate::{Answer, Entry, Log};
 use std::alloc::{AllocError, Global};
 use ultra_msg::{Cell, Word};
 
-/// What is wrong with a list.
+/// What is wrong with a list: with one of its entries, with an answer that none of them has (`Missing`) or with a cell (`WrongCell`).
 #[derive(Clone, Copy, PartialEq, Eq, Debug, Drop)]
 pub enum BreachKind {
-    /// An entry was not issued with this cell and operation.
+    /// The log has no issue of this name with this cell and operation.
     NotIssued,
-    /// The name of an entry stands before it too.
+    /// An earlier entry has the same name.
     Repeated,
-    /// A request that was answered stands nowhere in the list.
+    /// The log has an answer whose name no entry has.
     Missing,
-    /// A replay of the list gives an entry another reply than its own.
+    /// A replay of the list gives the entry another reply than its own.
     WrongReplay,
-    /// The machine answered an entry otherwise.
+    /// The log has an answer of this name with another reply.
     WrongAnswer,
     /// A replay of the list leaves a cell with another value.
     WrongCell,
-    /// An entry was answered in a cycle that isn't after the issue of an entry before it.
+    /// The entry was answered in the cycle in which an earlier entry was issued, or before that cycle.
     TooLate,
 }
 

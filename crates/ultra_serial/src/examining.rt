@@ -18,7 +18,9 @@ use crate::memory::SerialMemory;
 use crate::{Answer, Entry, Issue};
 use std::alloc::AllocError;
 
-/// The first fault of an entry that stands after those that are known by name, if it has one: their requests have acted on the memory, and all of them were issued before the cycle `from`.
+/// The first fault of the next entry of a list, or `None` where it has none; then the entry has acted on the memory. An error says that memory was refused.
+///
+/// `names` has the log and the entries before this one, by name. They have acted on `memory`, and `from` is the first cycle after all their issues.
 pub(crate) fn fault_of(
     names: &ByName,
     from: u64,

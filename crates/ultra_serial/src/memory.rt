@@ -47,7 +47,7 @@ impl SerialMemory {
         self.cells.get(&cell).copied().unwrap_or(0)
     }
 
-    /// An operation acts on a cell: what it is answered.
+    /// Has an operation act on a cell, and gives its reply.
     ///
     /// An error says that memory of the host was refused, which happens only at a cell that was never given a value; the cells are then as before.
     pub fn act(&mut self, cell: Cell, op: Op) -> Result<Reply, AllocError>

@@ -64,8 +64,8 @@ impl OrderedRun {
         })
     }
 
-    /// The requests that were served in the last cycle, each with its reply, in serial order. None
-    /// before the first cycle.
+    /// The requests that were served in the last cycle, each with its reply, in serial order. Before
+    /// the first cycle there are none.
     pub fn entries(&self) -> &[Entry]
         ensures { result.now ≡ self.now.entries }
     {
@@ -111,7 +111,7 @@ impl OrderedRun {
 
 /// The serial order of a run of n cycles, at most 1,000,000: for each cycle and module the requests that were served there, each with its reply where all act one after the other.
 ///
-/// It explains the run, and at every number of cycles up to n its prefix does: that is the serial order of these cycles, and legal for their log and for the cells after them (see [`crate::serialization_law`]). So [`crate::check`] accepts it, memory aside. `NoMemory` means that memory was refused.
+/// It explains the run. For every m up to n it begins with the serial order of the first m cycles, which is legal for their log and for the cells after them (see [`crate::serialization_law`]). So [`crate::check`] accepts it, unless memory is refused. `NoMemory` means that memory was refused.
 pub fn order(
     alloc: Global,
     config: &Config,

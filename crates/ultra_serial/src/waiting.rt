@@ -43,7 +43,7 @@ impl Waiting {
         Ok(())
     }
 
-    /// The requests of two elements for a cell have combined; what is sent for both is the old one's.
+    /// The requests of two processing elements for a cell have combined; the request that is sent for both keeps the identity of the old one.
     pub fn combine(
         &mut self,
         cell: Cell,
@@ -66,7 +66,7 @@ impl Waiting {
         Ok(())
     }
 
-    /// Takes the leaves of the request of an element for a cell, if there is one.
+    /// Takes the leaves of the request of a processing element for a cell, if there is one.
     pub fn take(&mut self, pe: Pe, cell: Cell) -> Option<Vec<Leaf>>
         ensures kept { (ks : List Kept) → Keeps self.old ks → Keeps self.new (without pe cell ks) }
         ensures taken { (ks : List Kept) → Keeps self.old ks → items_in result ≡ option_map leaves_in (tree_of pe cell ks) }
@@ -74,7 +74,7 @@ impl Waiting {
         self.chains.pop((pe, cell))
     }
 
-    /// Keeps leaves as those of the request of an element for a cell.
+    /// Keeps leaves as those of the request of a processing element for a cell.
     fn put(&mut self, pe: Pe, cell: Cell, leaves: Vec<Leaf>) -> Result<(), AllocError>
         ensures { OnOk result ((ks : List Kept) (t : Tree) → Keeps self.old ks → leaves.items ≡ leaves_in t → Keeps self.new (kept pe cell t ∷ ks)) }
     {

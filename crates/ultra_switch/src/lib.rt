@@ -84,7 +84,7 @@ pub struct Switch {
 }
 
 impl Switch {
-    /// A switch whose queues and wait buffers are empty. `request_places` is the size of each queue toward memory, at most 32, `reply_places` that of each queue toward the processing elements, and `wait_places` that of each wait buffer, at most 16.
+    /// A switch whose queues and wait buffers are empty. `request_places` are the places of each queue toward memory, at most 32, `reply_places` those of each queue toward the processing elements, and `wait_places` those of each wait buffer, at most 16.
     ///
     /// `NoMemory` means that the memory for a queue was refused.
     pub fn new(

@@ -18,7 +18,7 @@ element_number d p = switch_count d + 2 ^ d + p
 abbrev pub unit_count : ℕ → ℕ
 unit_count d = switch_count d + 2 * 2 ^ d
 
--- a link has the number of the place from which a message leaves: that of position x of stage s, counted over all stages, and behind them all that of a module or of a processing element
+-- a link has the number of the position from which a message leaves: that of position x of stage s, counted over all stages; behind them, as positions of stage d, come the modules, from which replies leave, and the processing elements, from which requests leave
 abbrev pub place_number : ℕ → ℕ → ℕ → ℕ
 place_number d s x = s * 2 ^ d + x
 

@@ -47,7 +47,7 @@ pub fn element_number(net: Net, pe: u32) -> usize
     switch_count(net) + (net.size() + pe) as usize
 }
 
-/// The number of a position of a stage, counted over all stages, or behind them that of a module or a processing element.
+/// The number of a link: of the position of a stage from which it leads, counted over all stages; or, where `stage` is the number of stages, of the module or the processing element from which it leads.
 #[inline(always)]
 pub fn place_number(net: Net, stage: u32, position: u32) -> usize
     requires stage { stage ≤ net }

@@ -8,17 +8,17 @@ use crate::unit_set::UnitSet;
 
 /// What is done to the units of something, one after another by their numbers.
 pub trait Visit<T> {
-    /// What a visit of a unit asks.
+    /// The condition of a visit of a unit.
     ghost can_visit: { Self → ℕ → T → Type 0 };
 
-    /// What comes of a visit of a unit.
+    /// The target after a visit of a unit.
     ghost visited: { Self → ℕ → T → T };
 
     /// At least the units that a visit may change.
     fn units<'t>(&self, target: &'t T) -> &'t UnitSet
         ensures { (k : ℕ) → has_unit result.now k ≡ false → visited self.now k target.now ≡ target.now };
 
-    /// Visits a unit. What the visits of later units ask is kept.
+    /// Visits a unit. Where the conditions of later visits are met before it, they are met after it too.
     fn visit(&self, target: &mut T, unit: usize)
         requires within { unit < 320 }
         requires can { can_visit self.now unit target.old }

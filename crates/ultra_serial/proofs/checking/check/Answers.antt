@@ -5,7 +5,7 @@ use Rattle.ultra_law.specs.Log.{log_of}
 use Rattle.ultra_law.specs.Legal.{given}
 use Rattle.ultra_serial.specs.Memory.{cell_in}
 use Rattle.ultra_serial.specs.Examined.{IsFine, IsWrongAt}
-use Rattle.ultra_serial.proofs.Explaining.{told, first_missing_fault, fine_everywhere, wrong_cell_found, legal_found}
+use Rattle.ultra_serial.proofs.Explaining.{breach_explained, first_missing_fault, fine_everywhere, wrong_cell_found, legal_found}
 use Rattle.ultra_serial.proofs.checking.check.Goals as goal
 
 pub returns-in_err-memory-clause-breach : goal.returns-in_err-memory-clause-breach
@@ -17,7 +17,7 @@ returns-in-Some-clause-breach c =
     let log = log_of c.args.log.now in
     let final = given c.args.cells.now in
     let list = c.args.list.now in
-    told initial log final list Missing c.in-Some.index (first_missing_fault initial log final list c.in_ok-memory.ensures.explained c.in-Some.index (rw c.as_slice.ensures.value at c.in-Some.ensures.some log list c.in_ok-memory.ensures.names))
+    breach_explained initial log final list Missing c.in-Some.index (first_missing_fault initial log final list c.in_ok-memory.ensures.explained c.in-Some.index (rw c.as_slice.ensures.value at c.in-Some.ensures.some log list c.in_ok-memory.ensures.names))
 
 pub returns-in-Some-lowest_used-clause-breach : goal.returns-in-Some-lowest_used-clause-breach
 returns-in-Some-lowest_used-clause-breach c =
@@ -34,7 +34,7 @@ returns-in-Some-lowest_used-clause-breach c =
     (λ k i at. c.lowest_used.ensures.kept i.0 (c.lowest_given-of_cells.ensures.kept i.0 (c.lowest_given-of_initial.ensures.covered k i at)))
     (λ k i at. c.lowest_used.ensures.kept i.0 (c.lowest_given-of_cells.ensures.covered k i at))
     c.lowest_used.ensures.covered in
-    told (given is) log (given cs) list WrongCell cell
+    breach_explained (given is) log (given cs) list WrongCell cell
     (wrong_cell_found is cs log list c.in_ok-memory.ensures.explained listed r w c.in_ok-memory.ensures.cells c.in_ok-wanted.ensures cell
     (subst (λ o. IsWrongAt r w o) c.in-Some-lowest_used.is wrong) (λ a. subst (λ o. IsFine r w o a) c.in-Some-lowest_used.is (fine a)))
 

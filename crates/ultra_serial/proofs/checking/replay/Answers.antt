@@ -10,7 +10,7 @@ use Rattle.ultra_law.specs.Legal.{Cells, with_cell, given}
 use Rattle.ultra_serial.specs.Memory.{cell_in}
 use Rattle.ultra_serial.specs.Breach.{cells_past}
 use Rattle.ultra_serial.specs.Examined.{Finds, IsFirstAfter, AreExplained}
-use Rattle.ultra_serial.proofs.Explaining.{past_more, explained_more, first_more, first_fault, told}
+use Rattle.ultra_serial.proofs.Explaining.{past_more, explained_more, first_more, first_fault, breach_explained}
 use Rattle.ultra_serial.specs.ByName.{Holds}
 use Rattle.ultra_serial.proofs.ByName.{all_above, one_reached}
 use Rattle.ultra_serial.proofs.checking.replay.Goals as goal
@@ -29,7 +29,7 @@ returns-in-Some-clause-breach c = λ final.
     let from = c.loop-index.from in
     let kind = c.in-Some.kind in
     let found : Finds log before from (cell_in c.loop-index.memory) e (Some kind) = rw c.in-Some.is at c.in_ok-kind.ensures.finds log before c.loop-index.invariant.names in
-    told initial log final xs kind n (first_fault initial log final xs n from e (slice_get-get_or xs n some_entry (omega arith)) c.loop-index.invariant.explained c.loop-index.invariant.first kind
+    breach_explained initial log final xs kind n (first_fault initial log final xs n from e (slice_get-get_or xs n some_entry (omega arith)) c.loop-index.invariant.explained c.loop-index.invariant.first kind
     (subst (λ (m : Cells). Finds log before from m e (Some kind)) c.loop-index.invariant.cells found))
 
 pub loop-index-preserved : goal.loop-index-preserved
