@@ -1,6 +1,6 @@
 //! The whole machine, cut into blocks.
 
-ghost use Rattle.std.specs.Prelude.{◌≡◌, ◌-◌, ◌^◌, ◌<◌, ◌↔◌, false, length, true, IfErr, IfOk, IsErrOf, OnOk};
+ghost use Rattle.std.specs.Prelude.{◌≡◌, ◌-◌, ◌^◌, ◌<◌, ◌↔◌, ◌==◌, false, length, true, IfErr, IfOk, IsErrOf, OnOk};
 ghost use Rattle.ultra_model.specs.Machine.{bank_at, element_at, is_quiet, lane_at, replies_at, site, start};
 ghost use Rattle.ultra_model.specs.Phases.{cycle as next_cycle};
 ghost use Rattle.ultra_cut.specs.Cut.{is_partition};
@@ -87,7 +87,7 @@ impl Blocks {
         })
     }
 
-    /// The same machine, which stands in one block, cut by a partition: its units are moved, and everything stays as it is. The partition names the block of each unit as for `new`.
+    /// The same machine cut by a partition: its units move to other blocks, and nothing else changes. All of them have to stand in one block before. The partition names the block of each unit as for `new`.
     ///
     /// `BadPartition` says that it is not one; it is found before memory is asked for. `NoMemory` says that memory was refused. With either the same machine is given back.
     pub fn recut(self, alloc: Global, partition: &[u8]) -> Result<Blocks, (Blocks, PartitionFault)>
@@ -119,7 +119,7 @@ impl Blocks {
         self.parts
     }
 
-    /// Puts the parts of a machine together. A cycle of it has to be over.
+    /// Puts the parts of a machine together, which has to be between two cycles.
     pub fn of_parts(parts: Parts) -> Blocks
         requires { AreParts parts }
         ensures { result ≡ put_together parts }
@@ -199,6 +199,13 @@ impl Blocks {
         ensures { stops_left result ≡ self.now.machine.stops }
     {
         stops_in(self.parts.blocks.as_slice(), self.parts.config.net())
+    }
+
+    /// Whether all units stand in one block, so that nothing has to be merged.
+    pub fn is_in_one_block(&self) -> bool
+        ensures { result ≡ (self.now.count == 1) }
+    {
+        self.parts.blocks.len() == 1
     }
 
     /// What happened in the last cycle of a machine in one block, in the order of the rules.

@@ -6,7 +6,7 @@ ghost use Rattle.ultra_cut.specs.Halves.{AllCanMake, all_made};
 use ultra_isa::Program;
 use ultra_section::{Block, Half, Rooms};
 
-/// Every block makes this half of a cycle, with the rooms that were noted before it. What it asks of each block is what the half asks.
+/// Every block makes this half of a cycle, with the rooms that were noted before it. Each block has to meet the half's conditions.
 #[inline(always)]
 pub fn make(blocks: &mut [Block], half: Half, rooms: &Rooms, program: &Program)
     requires { AllCanMake half blocks.old }

@@ -1,4 +1,4 @@
--- the texts of messages and of what places hold, as lists of bytes; this project's profile
+-- the texts of messages, of records, of faults and of what processing elements are doing, as lists of bytes; this project's profile
 use Rattle.std.specs.Prelude.{ℕ, zero, suc, List, [], ◌∷◌, ◌++◌, Bool, true, false, codes, decimal}
 use Rattle.std.specs.List.{flat_map}
 use Rattle.ultra_msg.specs.declared.Op.{Op}
@@ -72,12 +72,12 @@ activity_text Running = codes "running"
 activity_text Halted = codes "halted"
 activity_text (Faulted f) = fault_text f
 
--- several in one place, the front first
+-- the entries of one line, the front first
 abbrev pub listed : {X : Type 0} → (X → List ℕ) → List X → List ℕ
 listed text [] = []
 listed text (x ∷ xs) = text x ++ flat_map (λ y. codes ", " ++ text y) xs
 
--- what stands before the one at an index
+-- what stands before the entry at an index
 abbrev pub separator : ℕ → List ℕ
 separator zero = []
 separator (suc n) = codes ", "

@@ -45,7 +45,7 @@ abbrev pub held : {X : Type 0} → Option X → List X
 held None = []
 held (Some x) = x ∷ []
 
--- the name of a place of a module or a processing element, and of a place of a stage
+-- how a line begins that belongs to a module or a processing element, and one that belongs to a position of a stage
 abbrev pub unit_name : List ℕ → ℕ → List ℕ
 unit_name word k = word ++ codes " " ++ decimal k
 
@@ -77,7 +77,7 @@ by_number n line = flat_map line (range_with_len 0 n)
 abbrev pub by_stage : Settings → (ℕ → ℕ → List ℕ) → List ℕ
 by_stage c line = by_number c.stages (λ s. by_number (size c) (λ x. line s x))
 
--- the lines of a machine's places
+-- the lines of one processing element, of one position of a stage, and of one module
 abbrev pub pni_of : Machine → ℕ → List ℕ
 pni_of m p = pni_line p (element_at m p).interface.pending
 

@@ -72,7 +72,7 @@ fn put_pe<S: Sink>(page: &mut Page<'_, S>, pe: Pe, processor: &Processor)
     page.put(b" ");
     put_activity(page, processor.activity());
     page.put(b" ");
-    page.put_number(processor.place());
+    page.put_count(processor.place());
     put_registers(page, processor);
     page.put(b"\n");
 }
@@ -94,7 +94,7 @@ fn put_register<S: Sink>(page: &mut Page<'_, S>, register: Register, value: Word
 {
     if value > 0 {
         page.put(b" r");
-        page.put_number(register.index());
+        page.put_count(register.index());
         page.put(b"=");
         page.put_number(value);
     }

@@ -23,8 +23,14 @@ pub(crate) fn put_events<S: Sink>(page: &mut Page<'_, S>, blocks: &Blocks)
 fn put_deliveries<S: Sink>(page: &mut Page<'_, S>, blocks: &Blocks)
     ensures { Writes S.taken S.failures (flat_map got_line blocks.now.machine.events) page.old page.new }
 {
-    for event in blocks.events() {
-        put_got(page, event);
+    if blocks.is_in_one_block() {
+        for event in blocks.events_of_one() {
+            put_got(page, *event);
+        }
+    } else {
+        for event in blocks.events() {
+            put_got(page, event);
+        }
     }
 }
 
@@ -32,8 +38,14 @@ fn put_deliveries<S: Sink>(page: &mut Page<'_, S>, blocks: &Blocks)
 fn put_servings<S: Sink>(page: &mut Page<'_, S>, blocks: &Blocks)
     ensures { Writes S.taken S.failures (flat_map act_line blocks.now.machine.events) page.old page.new }
 {
-    for event in blocks.events() {
-        put_act(page, event);
+    if blocks.is_in_one_block() {
+        for event in blocks.events_of_one() {
+            put_act(page, *event);
+        }
+    } else {
+        for event in blocks.events() {
+            put_act(page, event);
+        }
     }
 }
 
@@ -41,8 +53,14 @@ fn put_servings<S: Sink>(page: &mut Page<'_, S>, blocks: &Blocks)
 fn put_stops<S: Sink>(page: &mut Page<'_, S>, blocks: &Blocks)
     ensures { Writes S.taken S.failures (flat_map fault_line blocks.now.machine.stops) page.old page.new }
 {
-    for stop in blocks.stops() {
-        put_stop(page, stop);
+    if blocks.is_in_one_block() {
+        for stop in blocks.stops_of_one() {
+            put_stop(page, *stop);
+        }
+    } else {
+        for stop in blocks.stops() {
+            put_stop(page, stop);
+        }
     }
 }
 

@@ -15,7 +15,7 @@ pub(crate) struct Holders<'a> {
     held: Held,
     // the number of the kind's first unit among all units
     base: u32,
-    // from which number within the kind on it goes on, and the bound of these numbers
+    // the number within the kind from which it goes on, and the bound of these numbers
     from: u32,
     end: u32,
 }

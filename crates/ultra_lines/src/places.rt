@@ -1,4 +1,4 @@
-//! The lines of the places of a machine. An empty place has no line.
+//! The lines of what waits in a machine: in interfaces, queues, wait buffers and the registers of modules. What is empty has no line.
 
 ghost use Rattle.std.specs.Prelude.{◌++◌, codes};
 ghost use Rattle.ultra_lines.specs.Text.{separator};
@@ -94,7 +94,8 @@ pub(crate) fn put_rep<S: Sink>(page: &mut Page<'_, S>, stage: u32, position: u32
     }
 }
 
-/// Writes the start of the line of a place of a module or a processing element.
+/// Writes the start of a line that belongs to a module or a processing element, as `inp 0: `.
+#[inline(always)]
 fn put_unit<S: Sink>(page: &mut Page<'_, S>, word: &[u8], unit: u32)
     ensures { Writes S.taken S.failures (unit_name word.now unit ++ codes ": ") page.old page.new }
 {
@@ -104,7 +105,8 @@ fn put_unit<S: Sink>(page: &mut Page<'_, S>, word: &[u8], unit: u32)
     page.put(b": ");
 }
 
-/// Writes the start of the line of a place of a stage.
+/// Writes the start of a line that belongs to a position of a stage, as `req 0 1: `.
+#[inline(always)]
 fn put_place<S: Sink>(page: &mut Page<'_, S>, word: &[u8], stage: u32, position: u32)
     ensures { Writes S.taken S.failures (stage_name word.now stage position ++ codes ": ") page.old page.new }
 {
@@ -116,7 +118,8 @@ fn put_place<S: Sink>(page: &mut Page<'_, S>, word: &[u8], stage: u32, position:
     page.put(b": ");
 }
 
-/// Writes what stands before the one at an index of several.
+/// Writes what stands before the entry at an index of a line: nothing before the first, and a comma before the others.
+#[inline(always)]
 fn put_separator<S: Sink>(page: &mut Page<'_, S>, index: usize)
     ensures { Writes S.taken S.failures (separator index) page.old page.new }
 {

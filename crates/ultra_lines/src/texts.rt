@@ -1,4 +1,4 @@
-//! The texts of messages, and of what places hold.
+//! The texts of messages, of records, of faults and of what processing elements are doing.
 
 ghost use Rattle.std.specs.Prelude.{◌++◌, decimal};
 ghost use Rattle.ultra_lines.specs.Text.{op_text, identity_text, request_text, mark_text, entry_text, reply_text, message_text, give_text, record_text, fault_text, activity_text};
@@ -22,6 +22,7 @@ pub(crate) fn put_op<S: Sink>(page: &mut Page<'_, S>, op: Op)
 }
 
 /// Writes the identity of a message, as `0@5`.
+#[inline(always)]
 pub(crate) fn put_identity<S: Sink>(page: &mut Page<'_, S>, pe: Pe, cell: Cell)
     ensures { Writes S.taken S.failures (identity_text pe cell) page.old page.new }
 {
@@ -48,6 +49,7 @@ pub(crate) fn put_entry<S: Sink>(page: &mut Page<'_, S>, entry: Entry)
 }
 
 /// Writes what marks an entry that has combined.
+#[inline(always)]
 fn put_mark<S: Sink>(page: &mut Page<'_, S>, combined: bool)
     ensures { Writes S.taken S.failures (mark_text combined) page.old page.new }
 {
@@ -122,6 +124,7 @@ pub(crate) fn put_activity<S: Sink>(page: &mut Page<'_, S>, activity: Activity)
 }
 
 /// Writes bytes, then a word.
+#[inline(always)]
 pub(crate) fn put_with_word<S: Sink>(page: &mut Page<'_, S>, bytes: &[u8], word: u32)
     ensures { Writes S.taken S.failures (bytes.now ++ decimal word) page.old page.new }
 {

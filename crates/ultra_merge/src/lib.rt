@@ -1,4 +1,4 @@
-//! Lists of entries merged to one by rank, with no memory from the allocator.
+//! Lists of entries merged into one by rank. No memory is asked for.
 #![tactic(auto)]
 
 mod merge;

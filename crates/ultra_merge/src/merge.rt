@@ -11,9 +11,9 @@ use std::marker::Model;
 /// How many lists a merge has room for.
 pub const MOST_LISTS: usize = 64;
 
-/// The entries of several lists by rank, and those of one rank list by list. Each list stands in the order of its ranks.
+/// Gives the entries of several lists by rank, and those of one rank list by list. Each list has to be in the order of its ranks.
 ///
-/// The lists are borrowed, and nothing is taken from memory.
+/// The lists are borrowed, and no memory is asked for.
 #[derive(Drop)]
 pub struct Merge<'a, T, R: Ranking<T>> {
     ranking: R,

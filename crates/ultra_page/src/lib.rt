@@ -1,11 +1,11 @@
 //! Pages, on which text goes to a sink in large pieces.
 #![tactic(auto)]
 
-ghost use Rattle.std.specs.Prelude.{◌≡◌, [], true, OnOk, OnErr};
+ghost use Rattle.std.specs.Prelude.{◌≡◌, [], true, OnOk, OnErr, decimal};
 ghost use Rattle.ultra_page.specs.Page.{IsBlank, Writes, has_failed, sink_of};
 
 use arrayvec::ArrayVec;
-use itoa::{Buffer, Integer};
+use itoa::Buffer;
 use ultra_msg::{Sink, SinkFault, write_all};
 
 /// How many bytes a page holds.
@@ -36,7 +36,7 @@ impl<'s, S: Sink> Page<'s, S> {
     }
 
     /// Writes bytes. Those that are longer than a page go to the sink in one piece.
-    #[inline]
+    #[inline(always)]
     pub fn put(&mut self, bytes: &[u8])
         ensures { Writes S.taken S.failures bytes.now self.old self.new }
     {
@@ -46,12 +46,27 @@ impl<'s, S: Sink> Page<'s, S> {
     }
 
     /// Writes a number in decimal digits.
-    #[inline]
-    pub fn put_number<I: Integer>(&mut self, number: I)
-        ensures { Writes S.taken S.failures (I.text number) self.old self.new }
+    #[inline(always)]
+    pub fn put_number(&mut self, number: u32)
+        ensures { Writes S.taken S.failures (decimal number) self.old self.new }
+    {
+        // most numbers have one digit or two, which go onto the page without a call
+        if number < 10 {
+            self.put(&[b'0' + number as u8]);
+        } else if number < 100 {
+            self.put(&[b'0' + (number / 10) as u8, b'0' + (number % 10) as u8]);
+        } else {
+            self.put_count(number as usize);
+        }
+    }
+
+    /// Writes a count or a place in decimal digits.
+    #[inline(never)]
+    pub fn put_count(&mut self, count: usize)
+        ensures { Writes S.taken S.failures (decimal count) self.old self.new }
     {
         let mut digits = Buffer::new();
-        self.put(digits.format(number).as_bytes());
+        self.put(digits.format(count).as_bytes());
     }
 
     /// Whether the sink has failed.
@@ -72,6 +87,7 @@ impl<'s, S: Sink> Page<'s, S> {
     }
 
     /// Writes bytes for which there is no room behind those that wait.
+    #[inline(never)]
     fn put_beyond(&mut self, bytes: &[u8])
         ensures { Writes S.taken S.failures bytes.now self.old self.new }
     {

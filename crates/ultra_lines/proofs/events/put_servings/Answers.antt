@@ -1,14 +1,22 @@
 use Rattle.ultra_lines.specs.Trace.{act_line}
-use Rattle.ultra_lines.proofs.Yielded.{one_came, all_came, writes_one}
+use Rattle.ultra_lines.proofs.Yielded.{one_came, all_came, writes_one, writes_next, writes_all}
 use Rattle.ultra_lines.proofs.events.put_servings.Goals as goal
 
 pub loop-event-preserved : goal.loop-event-preserved
-loop-event-preserved g c = record {
-  written = writes_one act_line c.loop-event.yielded c.in-Some.event c.loop-event.invariant.written c.put_act.ensures;
-  parts = one_came c.loop-event.yielded _ _ _ c.in-Some.event c.loop-event.invariant.parts (rw c.in-Some.is at c.next.ensures.steps);
-}
+loop-event-preserved g c = writes_next act_line _ _ _ c.loop-event-test.true c.loop-event.invariant c.put_act.ensures
 
-pub returns : goal.returns
-returns g c =
+pub returns-after-loop-event : goal.returns-after-loop-event
+returns-after-loop-event g c = writes_all act_line _ _ _ c.loop-event-test.false c.events_of_one-event-items.ensures c.loop-event.invariant
+
+pub loop-event-else-is_in_one_block-preserved : goal.loop-event-else-is_in_one_block-preserved
+loop-event-else-is_in_one_block-preserved g c =
+    let loop = c.loop-event-else-is_in_one_block in record {
+      written = writes_one act_line loop.yielded c.in-Some.event loop.invariant.written c.put_act-in-loop-event-else-is_in_one_block.ensures;
+      parts = one_came loop.yielded _ _ _ c.in-Some.event loop.invariant.parts (rw c.in-Some.is at c.next.ensures.steps);
+    }
+
+pub returns-in-None : goal.returns-in-None
+returns-in-None g c =
+    let loop = c.loop-event-else-is_in_one_block in
     let none = rw c.in-None.is at c.next.ensures.steps in
-    rw (all_came c.loop-event.yielded _ _ c.loop-event.invariant.parts none.0) at c.loop-event.invariant.written
+    rw (all_came loop.yielded _ _ loop.invariant.parts none.0) at loop.invariant.written

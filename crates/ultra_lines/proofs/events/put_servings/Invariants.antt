@@ -1,4 +1,4 @@
-use Rattle.std.proofs.Common.{◌≡◌, ◌++◌}
+use Rattle.std.proofs.Common.{◌≡◌, ◌++◌, take}
 use Rattle.std.specs.List.{flat_map}
 use Rattle.ultra_block.specs.State.{events_left}
 use Rattle.ultra_page.specs.Page.{Writes}
@@ -6,7 +6,11 @@ use Rattle.ultra_lines.specs.Trace.{act_line}
 use Rattle.ultra_lines.proofs.events.put_servings.Given as goal
 
 abbrev pub invariant-loop-event : goal.invariant-loop-event
-invariant-loop-event g l = record {
+invariant-loop-event g l =
+    Writes g.S.Sink.taken g.S.Sink.failures (flat_map act_line (take l.event-index l.event-items)) l.initial.page l.page
+
+abbrev pub invariant-loop-event-else-is_in_one_block : goal.invariant-loop-event-else-is_in_one_block
+invariant-loop-event-else-is_in_one_block g l = record {
   written : Writes g.S.Sink.taken g.S.Sink.failures (flat_map act_line l.yielded) l.initial.page l.page;
   parts : l.yielded ++ events_left l.event-iterator ≡ l.blocks.machine.events;
 }

@@ -1,14 +1,22 @@
 use Rattle.ultra_lines.specs.Trace.{fault_line}
-use Rattle.ultra_lines.proofs.Yielded.{one_came, all_came, writes_one}
+use Rattle.ultra_lines.proofs.Yielded.{one_came, all_came, writes_one, writes_next, writes_all}
 use Rattle.ultra_lines.proofs.events.put_stops.Goals as goal
 
 pub loop-stop-preserved : goal.loop-stop-preserved
-loop-stop-preserved g c = record {
-  written = writes_one fault_line c.loop-stop.yielded c.in-Some.stop c.loop-stop.invariant.written c.put_stop.ensures;
-  parts = one_came c.loop-stop.yielded _ _ _ c.in-Some.stop c.loop-stop.invariant.parts (rw c.in-Some.is at c.next.ensures.steps);
-}
+loop-stop-preserved g c = writes_next fault_line _ _ _ c.loop-stop-test.true c.loop-stop.invariant c.put_stop.ensures
 
-pub returns : goal.returns
-returns g c =
+pub returns-after-loop-stop : goal.returns-after-loop-stop
+returns-after-loop-stop g c = writes_all fault_line _ _ _ c.loop-stop-test.false c.stops_of_one-stop-items.ensures c.loop-stop.invariant
+
+pub loop-stop-else-is_in_one_block-preserved : goal.loop-stop-else-is_in_one_block-preserved
+loop-stop-else-is_in_one_block-preserved g c =
+    let loop = c.loop-stop-else-is_in_one_block in record {
+      written = writes_one fault_line loop.yielded c.in-Some.stop loop.invariant.written c.put_stop-in-loop-stop-else-is_in_one_block.ensures;
+      parts = one_came loop.yielded _ _ _ c.in-Some.stop loop.invariant.parts (rw c.in-Some.is at c.next.ensures.steps);
+    }
+
+pub returns-in-None : goal.returns-in-None
+returns-in-None g c =
+    let loop = c.loop-stop-else-is_in_one_block in
     let none = rw c.in-None.is at c.next.ensures.steps in
-    rw (all_came c.loop-stop.yielded _ _ c.loop-stop.invariant.parts none.0) at c.loop-stop.invariant.written
+    rw (all_came loop.yielded _ _ loop.invariant.parts none.0) at loop.invariant.written
