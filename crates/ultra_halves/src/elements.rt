@@ -36,7 +36,7 @@ pub enum Outcome {
 impl ProcessingElement {
     ghost use Rattle.ultra_halves.specs.Elements.{delivered_to, element_of, element_without, executed, holds_request, is_at_rest, issue_in, quiet_element, step_at, stop_in};
 
-    /// A reply is delivered: its register is set, if it has one, and its cell is no longer open. Some request has left whose reply hadn't come.
+    /// A reply is delivered: its register is set, if it has one, and its cell is no longer open. Fewer requests have to wait than cells are open: some request has left that isn't answered.
     pub fn deliver(&mut self, reply: ReplyMessage)
         requires { length self.old.interface.interface.pending < length self.old.interface.interface.opened }
         ensures { self.new ≡ delivered_to self.old (Some reply) }
@@ -86,7 +86,7 @@ impl ProcessingElement {
         requires few { self.old.issued < 2 ^ 32 - 1 }
         requires some { IsSome (slice_get self.old.interface.interface.pending (length self.old.interface.interface.pending - 1)) }
         ensures counted { self.new ≡ record self.old { issued = self.old.issued + 1 } }
-        ensures told { Some result ≡ issue_event (element_of self.old) (slice_get self.old.interface.interface.pending (length self.old.interface.interface.pending - 1)) }
+        ensures event { Some result ≡ issue_event (element_of self.old) (slice_get self.old.interface.interface.pending (length self.old.interface.interface.pending - 1)) }
     {
         let number = self.issued;
         self.issued += 1;

@@ -1,4 +1,4 @@
--- After the half in which processing elements make a step: each has made one, and issues and stops are listed in the order of the elements.
+-- After the half in which processing elements make a step: each has made one, and issues and stops are listed by processing element.
 use Rattle.std.proofs.Common.{◌≡◌, ◌≢◌, ℕ, ◌^◌, ◌<◌, List, [], ◌∷◌, ◌++◌, Option, Some, None, length, get_or-set_same, get_or-set_other, refl, sym, ◌∙◌, ap, subst, arith}
 use Rattle.std.proofs.lemmas.List.{length-set, append-nil}
 use Rattle.ultra_msg.specs.declared.Event.{Event}
@@ -20,7 +20,7 @@ use Rattle.ultra_section.specs.Shape.{IsShaped}
 use Rattle.ultra_section.specs.Execution.{stepped_by, element_executes, executes}
 use Rattle.ultra_section.proofs.Standing.{unit_is}
 use Rattle.ultra_section.proofs.ByKind.{visit, visit_as, not_changed, same_visits, keeps, leaves, own_element, or_same}
-use Rattle.ultra_section.proofs.Once.{all_keep, never_changed, not_yet_changed, changed_once, told_before, all_told}
+use Rattle.ultra_section.proofs.Once.{all_keep, never_changed, not_yet_changed, changed_once, entries_before, all_entries}
 
 abbrev no_switch : ℕ → ℕ → ℕ → BlockState → Switch → BlockState
 no_switch n s k t w = t
@@ -92,67 +92,67 @@ module _ (program : List Instr) where
           (λ j t q. leaves no_switch no_module (stepped_by program) d get j t q.stages (λ s k is w. refl) (λ m is b. refl) (λ p is e. same p t e)) 320 b shape
 
     -- ---- events and stops
-    abbrev pub issue_told : Option ProcessingElement → List Event
-    issue_told None = []
-    issue_told (Some e) = present (issue_event (element_of e) (step_at program e).sent ∷ [])
+    abbrev pub issue_entries : Option ProcessingElement → List Event
+    issue_entries None = []
+    issue_entries (Some e) = present (issue_event (element_of e) (step_at program e).sent ∷ [])
 
-    abbrev pub stop_told : ℕ → Option ProcessingElement → List Stop
-    stop_told p None = []
-    stop_told p (Some e) = present (stop_of p (step_at program e).was ∷ [])
+    abbrev pub stop_entries : ℕ → Option ProcessingElement → List Stop
+    stop_entries p None = []
+    stop_entries p (Some e) = present (stop_of p (step_at program e).was ∷ [])
 
-    -- the list of one unit, where `tell` gives that of a processing element
-    abbrev pub told_of : {E : Type 0} → (ℕ → Option ProcessingElement → List E) → BlockState → Unit → List E
-    told_of tell t (unit.Switch s k) = []
-    told_of tell t (unit.Module m) = []
-    told_of tell t (unit.Element p) = tell p (element_at t.elements p)
-    told_of tell t unit.Nothing = []
+    -- the list of one unit, where `list` gives that of a processing element
+    abbrev pub entries_of : {E : Type 0} → (ℕ → Option ProcessingElement → List E) → BlockState → Unit → List E
+    entries_of list t (unit.Switch s k) = []
+    entries_of list t (unit.Module m) = []
+    entries_of list t (unit.Element p) = list p (element_at t.elements p)
+    entries_of list t unit.Nothing = []
 
-    tells_element : (p : ℕ) (t : BlockState) (o : Option ProcessingElement)
-        → BlockState.events (elim o [ None ↦ t | Some e ↦ stepped_by program p t e ]) ≡ t.events ++ issue_told o
-    tells_element p t None = sym (append-nil t.events)
-    tells_element p t (Some e) = refl
+    element_events : (p : ℕ) (t : BlockState) (o : Option ProcessingElement)
+        → BlockState.events (elim o [ None ↦ t | Some e ↦ stepped_by program p t e ]) ≡ t.events ++ issue_entries o
+    element_events p t None = sym (append-nil t.events)
+    element_events p t (Some e) = refl
 
-    tells_stop : (p : ℕ) (t : BlockState) (o : Option ProcessingElement)
-        → BlockState.stops (elim o [ None ↦ t | Some e ↦ stepped_by program p t e ]) ≡ t.stops ++ stop_told p o
-    tells_stop p t None = sym (append-nil t.stops)
-    tells_stop p t (Some e) = refl
+    element_stops : (p : ℕ) (t : BlockState) (o : Option ProcessingElement)
+        → BlockState.stops (elim o [ None ↦ t | Some e ↦ stepped_by program p t e ]) ≡ t.stops ++ stop_entries p o
+    element_stops p t None = sym (append-nil t.stops)
+    element_stops p t (Some e) = refl
 
-    tells_as : (t : BlockState) (u : Unit)
-        → BlockState.events (elim u [ unit.Switch s k ↦ t | unit.Module m ↦ t | unit.Element p ↦ element_executes program p t | unit.Nothing ↦ t ]) ≡ t.events ++ told_of (λ p o. issue_told o) t u
-    tells_as t (unit.Switch s k) = sym (append-nil t.events)
-    tells_as t (unit.Module m) = sym (append-nil t.events)
-    tells_as t (unit.Element p) = tells_element p t (element_at t.elements p)
-    tells_as t unit.Nothing = sym (append-nil t.events)
+    events_as : (t : BlockState) (u : Unit)
+        → BlockState.events (elim u [ unit.Switch s k ↦ t | unit.Module m ↦ t | unit.Element p ↦ element_executes program p t | unit.Nothing ↦ t ]) ≡ t.events ++ entries_of (λ p o. issue_entries o) t u
+    events_as t (unit.Switch s k) = sym (append-nil t.events)
+    events_as t (unit.Module m) = sym (append-nil t.events)
+    events_as t (unit.Element p) = element_events p t (element_at t.elements p)
+    events_as t unit.Nothing = sym (append-nil t.events)
 
     stops_as : (t : BlockState) (u : Unit)
-        → BlockState.stops (elim u [ unit.Switch s k ↦ t | unit.Module m ↦ t | unit.Element p ↦ element_executes program p t | unit.Nothing ↦ t ]) ≡ t.stops ++ told_of stop_told t u
+        → BlockState.stops (elim u [ unit.Switch s k ↦ t | unit.Module m ↦ t | unit.Element p ↦ element_executes program p t | unit.Nothing ↦ t ]) ≡ t.stops ++ entries_of stop_entries t u
     stops_as t (unit.Switch s k) = sym (append-nil t.stops)
     stops_as t (unit.Module m) = sym (append-nil t.stops)
-    stops_as t (unit.Element p) = tells_stop p t (element_at t.elements p)
+    stops_as t (unit.Element p) = element_stops p t (element_at t.elements p)
     stops_as t unit.Nothing = sym (append-nil t.stops)
 
-    same_told : {E : Type 0} (tell : ℕ → Option ProcessingElement → List E) (n : ℕ) (t : BlockState) (u : Unit) → IsShaped d t → IsUnit d n u
-        → told_of tell (after_units executing_visit n t) u ≡ told_of tell t u
-    same_told tell n t (unit.Switch s k) shape is = refl
-    same_told tell n t (unit.Module m) shape is = refl
-    same_told tell n t (unit.Element p) shape is =
-        ap (tell p)
+    same_entries : {E : Type 0} (list : ℕ → Option ProcessingElement → List E) (n : ℕ) (t : BlockState) (u : Unit) → IsShaped d t → IsUnit d n u
+        → entries_of list (after_units executing_visit n t) u ≡ entries_of list t u
+    same_entries list n t (unit.Switch s k) shape is = refl
+    same_entries list n t (unit.Module m) shape is = refl
+    same_entries list n t (unit.Element p) shape is =
+        ap (list p)
         (not_yet_changed executing_visit (IsShaped d) shape_kept (λ t. element_at t.elements p) n
         (λ j t q other. others p j t q (λ same. other (same ∙ sym is.number))) n t shape (omega arith))
-    same_told tell n t unit.Nothing shape is = refl
+    same_entries list n t unit.Nothing shape is = refl
 
     pub events_after_executing : (b : BlockState) → IsShaped d b
-        → (after_units (executes program) 320 b).events ≡ b.events ++ told_before (λ n t. told_of (λ p o. issue_told o) t (unit_of d n)) 320 b
+        → (after_units (executes program) 320 b).events ≡ b.events ++ entries_before (λ n t. entries_of (λ p o. issue_entries o) t (unit_of d n)) 320 b
     events_after_executing b shape =
         ap (λ (t : BlockState). t.events) (all_visits b)
-        ∙ all_told executing_visit (IsShaped d) shape_kept (λ n t. told_of (λ p o. issue_told o) t (unit_of d n)) (λ t. t.events)
-        (λ j t q. ap (λ (t : BlockState). t.events) (sym (is_visit j t)) ∙ tells_as t (unit_of t.stages j) ∙ ap (λ e. t.events ++ told_of (λ p o. issue_told o) t (unit_of e j)) q.stages)
-        (λ n t q. same_told (λ p o. issue_told o) n t (unit_of d n) q (unit_is d n)) 320 b shape
+        ∙ all_entries executing_visit (IsShaped d) shape_kept (λ n t. entries_of (λ p o. issue_entries o) t (unit_of d n)) (λ t. t.events)
+        (λ j t q. ap (λ (t : BlockState). t.events) (sym (is_visit j t)) ∙ events_as t (unit_of t.stages j) ∙ ap (λ e. t.events ++ entries_of (λ p o. issue_entries o) t (unit_of e j)) q.stages)
+        (λ n t q. same_entries (λ p o. issue_entries o) n t (unit_of d n) q (unit_is d n)) 320 b shape
 
     pub stops_after_executing : (b : BlockState) → IsShaped d b
-        → (after_units (executes program) 320 b).stops ≡ b.stops ++ told_before (λ n t. told_of stop_told t (unit_of d n)) 320 b
+        → (after_units (executes program) 320 b).stops ≡ b.stops ++ entries_before (λ n t. entries_of stop_entries t (unit_of d n)) 320 b
     stops_after_executing b shape =
         ap (λ (t : BlockState). t.stops) (all_visits b)
-        ∙ all_told executing_visit (IsShaped d) shape_kept (λ n t. told_of stop_told t (unit_of d n)) (λ t. t.stops)
-        (λ j t q. ap (λ (t : BlockState). t.stops) (sym (is_visit j t)) ∙ stops_as t (unit_of t.stages j) ∙ ap (λ e. t.stops ++ told_of stop_told t (unit_of e j)) q.stages)
-        (λ n t q. same_told stop_told n t (unit_of d n) q (unit_is d n)) 320 b shape
+        ∙ all_entries executing_visit (IsShaped d) shape_kept (λ n t. entries_of stop_entries t (unit_of d n)) (λ t. t.stops)
+        (λ j t q. ap (λ (t : BlockState). t.stops) (sym (is_visit j t)) ∙ stops_as t (unit_of t.stages j) ∙ ap (λ e. t.stops ++ entries_of stop_entries t (unit_of e j)) q.stages)
+        (λ n t q. same_entries stop_entries n t (unit_of d n) q (unit_is d n)) 320 b shape

@@ -77,9 +77,9 @@ module _ (program : List Instr) (b : BlockState) where
   later_at_element n k p (Some e) order is events stops can = record {
     unit = later_unit k (stepped_by program p b e) (unit_of b.stages k)
         (λ q other. get_or-set_other b.elements p q _ None (λ same. absurd (let x = is.number in let y = other.number in omega arith))) (unit_is b.stages k) can.unit;
-    event_room = let told = one_issue (element_of e) (step_at program e).sent in
+    event_room = let entries = one_issue (element_of e) (step_at program e).sent in
         let all = length-append b.events (present (issue_event (element_of e) (step_at program e).sent ∷ [])) in omega arith;
-    stop_room = let told = one_stop p (step_at program e).was in
+    stop_room = let entries = one_stop p (step_at program e).was in
         let all = length-append b.stops (present (stop_of p (step_at program e).was ∷ [])) in omega arith;
   }
 

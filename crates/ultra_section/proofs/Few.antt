@@ -17,15 +17,15 @@ use Rattle.ultra_halves.specs.Halves.{in_order, first_of, second_of}
 use Rattle.ultra_halves.specs.Switches.{combinations_of}
 use Rattle.ultra_halves.proofs.Combinations.{combined}
 use Rattle.ultra_section.specs.BlockState.{BlockState, HasEventRoom, most_events}
-use Rattle.ultra_section.proofs.Once.{told_before}
+use Rattle.ultra_section.proofs.Once.{entries_before}
 
-pub few_told : {T E : Type 0} (told : ℕ → T → List E) (t : T) (most : ℕ) → ((n : ℕ) → length (told n t) ≤ most) → (m : ℕ) → length (told_before told m t) ≤ m * most
-unfolding told_before
-few_told told t most few zero = omega arith
-few_told told t most few (suc n) =
-    let before = few_told told t most few n in
+pub few_entries : {T E : Type 0} (entries : ℕ → T → List E) (t : T) (most : ℕ) → ((n : ℕ) → length (entries n t) ≤ most) → (m : ℕ) → length (entries_before entries m t) ≤ m * most
+unfolding entries_before
+few_entries entries t most few zero = omega arith
+few_entries entries t most few (suc n) =
+    let before = few_entries entries t most few n in
     let here = few n in
-    let all = length-append (told_before told n t) (told n t) in
+    let all = length-append (entries_before entries n t) (entries n t) in
     let next : suc n * most ≡ n * most + most = grind arith in
     omega arith
 

@@ -4,6 +4,7 @@ pub mod Marks
 pub mod ReplyMarks
 pub mod RequestMarks
 pub mod Known
+pub mod Entries
 pub mod Moved
 pub mod Standing
 pub mod OfKind

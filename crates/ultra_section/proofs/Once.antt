@@ -5,9 +5,9 @@ use Rattle.std.proofs.lemmas.List.{append-nil}
 use Rattle.ultra_units.specs.Visits.{after_units}
 
 -- the events of the units below a number, one after another
-unfoldable pub told_before : {T E : Type 0} → (ℕ → T → List E) → ℕ → T → List E
-told_before told zero t = []
-told_before told (suc n) t = told_before told n t ++ told n t
+unfoldable pub entries_before : {T E : Type 0} → (ℕ → T → List E) → ℕ → T → List E
+entries_before entries zero t = []
+entries_before entries (suc n) t = entries_before entries n t ++ entries n t
 
 -- visits keep what they rest on
 module _ {T : Type 0} (f : ℕ → T → T) (P : T → Type 0) (keeps : (j : ℕ) (t : T) → P t → P (f j t)) where
@@ -46,13 +46,13 @@ module _ {T : Type 0} (f : ℕ → T → T) (P : T → Type 0) (keeps : (j : ℕ
           ]
 
   -- the events of the units, one after another
-  module _ {E : Type 0} (told : ℕ → T → List E) where
-    pub all_told : (events : T → List E) → ((j : ℕ) (t : T) → P t → events (f j t) ≡ events t ++ told j t)
-        → ((n : ℕ) (t : T) → P t → told n (after_units f n t) ≡ told n t) → (m : ℕ) (t : T) → P t → events (after_units f m t) ≡ events t ++ told_before told m t
-    unfolding after_units told_before
-    all_told events tells same zero t p = sym (append-nil (events t))
-    all_told events tells same (suc n) t p =
-        tells n (after_units f n t) (all_keep n t p)
-        ∙ ap (λ es. es ++ told n (after_units f n t)) (all_told events tells same n t p)
-        ∙ ap (λ es. (events t ++ told_before told n t) ++ es) (same n t p)
-        ∙ append_assoc (events t) (told_before told n t) (told n t)
+  module _ {E : Type 0} (entries : ℕ → T → List E) where
+    pub all_entries : (events : T → List E) → ((j : ℕ) (t : T) → P t → events (f j t) ≡ events t ++ entries j t)
+        → ((n : ℕ) (t : T) → P t → entries n (after_units f n t) ≡ entries n t) → (m : ℕ) (t : T) → P t → events (after_units f m t) ≡ events t ++ entries_before entries m t
+    unfolding after_units entries_before
+    all_entries events adds same zero t p = sym (append-nil (events t))
+    all_entries events adds same (suc n) t p =
+        adds n (after_units f n t) (all_keep n t p)
+        ∙ ap (λ es. es ++ entries n (after_units f n t)) (all_entries events adds same n t p)
+        ∙ ap (λ es. (events t ++ entries_before entries n t) ++ es) (same n t p)
+        ∙ append_assoc (events t) (entries_before entries n t) (entries n t)

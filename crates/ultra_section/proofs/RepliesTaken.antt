@@ -114,9 +114,9 @@ module _ (b : BlockState) (k : ℕ) where
   pub later_switch : (n s i : ℕ) → n < k → CanTakeRepliesAt k b → CanTakeRepliesAt k (switch_takes_replies n s i b)
   later_switch n s i order can = later_at_switch n s i (switch_at b.switches n) order can
 
-  one_told : (o : Option ReplyMessage) → length (present (delivery o ∷ [])) ≤ 1
-  one_told None = omega arith
-  one_told (Some r) = omega arith
+  one_entry : (o : Option ReplyMessage) → length (present (delivery o ∷ [])) ≤ 1
+  one_entry None = omega arith
+  one_entry (Some r) = omega arith
 
   later_at_element : (n p : ℕ) (o : Option ProcessingElement) → n < k → IsElement b.stages n p → HasEventRoom n b → CanTakeRepliesAt k b
       → CanTakeRepliesAt k (elim o [ None ↦ b | Some e ↦ reply_taken_by p b e ])
@@ -124,7 +124,7 @@ module _ (b : BlockState) (k : ℕ) where
   later_at_element n p (Some e) order is room can = record {
     unit = later_unit (reply_taken_by p b e) (unit_of b.stages k) refl (fewer_set b.replies _) refl
         (λ q other. get_or-set_other b.elements p q _ None (λ same. absurd (let x = is.number in let y = other.number in omega arith))) (unit_is b.stages k) can.unit;
-    room = let told = one_told (reply_at_element p b) in
+    room = let entries = one_entry (reply_at_element p b) in
         let all = length-append b.events (present (delivery (reply_at_element p b) ∷ [])) in omega arith;
   }
 

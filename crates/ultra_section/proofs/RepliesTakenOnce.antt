@@ -27,7 +27,7 @@ use Rattle.ultra_section.proofs.ReplyMarks.{both_links}
 use Rattle.ultra_section.proofs.Marks.{emptied}
 use Rattle.ultra_section.proofs.Emptied.{pair, link_apart, link_apart_both, both_apart, both_apart_one, both_emptied}
 use Rattle.ultra_section.proofs.ByKind.{visit, visit_as, not_changed, same_visits, keeps, leaves, own_switch, own_element, or_same}
-use Rattle.ultra_section.proofs.Once.{all_keep, never_changed, not_yet_changed, changed_once, told_before, all_told}
+use Rattle.ultra_section.proofs.Once.{all_keep, never_changed, not_yet_changed, changed_once, entries_before, all_entries}
 
 abbrev no_module : ℕ → BlockState → Bank → BlockState
 no_module m t b = t
@@ -172,44 +172,44 @@ module _ (d : ℕ) (low : 1 ≤ d) (high : d ≤ 6) where
 
   -- ---- events
   -- the events of a processing element, given what is on its link
-  abbrev pub delivery_told : Option ProcessingElement × Option ReplyMessage → List Event
-  delivery_told (None, came) = []
-  delivery_told (Some e, came) = present (delivery came ∷ [])
+  abbrev pub delivery_entries : Option ProcessingElement × Option ReplyMessage → List Event
+  delivery_entries (None, came) = []
+  delivery_entries (Some e, came) = present (delivery came ∷ [])
 
-  abbrev pub told_of : BlockState → Unit → List Event
-  told_of t (unit.Switch s k) = []
-  told_of t (unit.Module m) = []
-  told_of t (unit.Element p) = delivery_told (at_element p t)
-  told_of t unit.Nothing = []
+  abbrev pub entries_of : BlockState → Unit → List Event
+  entries_of t (unit.Switch s k) = []
+  entries_of t (unit.Module m) = []
+  entries_of t (unit.Element p) = delivery_entries (at_element p t)
+  entries_of t unit.Nothing = []
 
-  tells_element : (p : ℕ) (t : BlockState) (o : Option ProcessingElement)
-      → BlockState.events (elim o [ None ↦ t | Some e ↦ reply_taken_by p t e ]) ≡ t.events ++ delivery_told (o, on_link t.replies (delivery_link t.stages p))
-  tells_element p t None = sym (append-nil t.events)
-  tells_element p t (Some e) = refl
+  element_events : (p : ℕ) (t : BlockState) (o : Option ProcessingElement)
+      → BlockState.events (elim o [ None ↦ t | Some e ↦ reply_taken_by p t e ]) ≡ t.events ++ delivery_entries (o, on_link t.replies (delivery_link t.stages p))
+  element_events p t None = sym (append-nil t.events)
+  element_events p t (Some e) = refl
 
-  tells_switch : (n s k : ℕ) (t : BlockState) (o : Option Switch) → BlockState.events (elim o [ None ↦ t | Some w ↦ replies_taken_by n s k t w ]) ≡ t.events
-  tells_switch n s k t None = refl
-  tells_switch n s k t (Some w) = refl
+  switch_events : (n s k : ℕ) (t : BlockState) (o : Option Switch) → BlockState.events (elim o [ None ↦ t | Some w ↦ replies_taken_by n s k t w ]) ≡ t.events
+  switch_events n s k t None = refl
+  switch_events n s k t (Some w) = refl
 
-  tells_as : (n : ℕ) (t : BlockState) (u : Unit) → t.stages ≡ d
-      → BlockState.events (elim u [ unit.Switch s k ↦ switch_takes_replies n s k t | unit.Module m ↦ t | unit.Element p ↦ element_takes_reply p t | unit.Nothing ↦ t ]) ≡ t.events ++ told_of t u
-  tells_as n t (unit.Switch s k) stages = tells_switch n s k t (switch_at t.switches n) ∙ sym (append-nil t.events)
-  tells_as n t (unit.Module m) stages = sym (append-nil t.events)
-  tells_as n t (unit.Element p) stages =
-      tells_element p t (element_at t.elements p) ∙ ap (λ e. t.events ++ delivery_told (element_at t.elements p, on_link t.replies (delivery_link e p))) stages
-  tells_as n t unit.Nothing stages = sym (append-nil t.events)
+  events_as : (n : ℕ) (t : BlockState) (u : Unit) → t.stages ≡ d
+      → BlockState.events (elim u [ unit.Switch s k ↦ switch_takes_replies n s k t | unit.Module m ↦ t | unit.Element p ↦ element_takes_reply p t | unit.Nothing ↦ t ]) ≡ t.events ++ entries_of t u
+  events_as n t (unit.Switch s k) stages = switch_events n s k t (switch_at t.switches n) ∙ sym (append-nil t.events)
+  events_as n t (unit.Module m) stages = sym (append-nil t.events)
+  events_as n t (unit.Element p) stages =
+      element_events p t (element_at t.elements p) ∙ ap (λ e. t.events ++ delivery_entries (element_at t.elements p, on_link t.replies (delivery_link e p))) stages
+  events_as n t unit.Nothing stages = sym (append-nil t.events)
 
-  same_told : (n : ℕ) (t : BlockState) (u : Unit) → IsShaped d t → IsUnit d n u → told_of (after_units taking_visit n t) u ≡ told_of t u
-  same_told n t (unit.Switch s k) shape is = refl
-  same_told n t (unit.Module m) shape is = refl
-  same_told n t (unit.Element p) shape is =
-      ap delivery_told
+  same_entries : (n : ℕ) (t : BlockState) (u : Unit) → IsShaped d t → IsUnit d n u → entries_of (after_units taking_visit n t) u ≡ entries_of t u
+  same_entries n t (unit.Switch s k) shape is = refl
+  same_entries n t (unit.Module m) shape is = refl
+  same_entries n t (unit.Element p) shape is =
+      ap delivery_entries
       (not_yet_changed taking_visit (IsShaped d) kept (at_element p) n (λ j t q other. element_others p is.small j t q (λ same. other (same ∙ sym is.number))) n t shape (omega arith))
-  same_told n t unit.Nothing shape is = refl
+  same_entries n t unit.Nothing shape is = refl
 
-  pub events_after_taking : (b : BlockState) → IsShaped d b → (after_units takes_replies 320 b).events ≡ b.events ++ told_before (λ n t. told_of t (unit_of d n)) 320 b
+  pub events_after_taking : (b : BlockState) → IsShaped d b → (after_units takes_replies 320 b).events ≡ b.events ++ entries_before (λ n t. entries_of t (unit_of d n)) 320 b
   events_after_taking b shape =
       ap (λ (t : BlockState). t.events) (all_visits b)
-      ∙ all_told taking_visit (IsShaped d) kept (λ n t. told_of t (unit_of d n)) (λ t. t.events)
-      (λ j t p. ap (λ (t : BlockState). t.events) (sym (is_visit j t)) ∙ tells_as j t (unit_of t.stages j) p.stages ∙ ap (λ e. t.events ++ told_of t (unit_of e j)) p.stages)
-      (λ n t p. same_told n t (unit_of d n) p (unit_is d n)) 320 b shape
+      ∙ all_entries taking_visit (IsShaped d) kept (λ n t. entries_of t (unit_of d n)) (λ t. t.events)
+      (λ j t p. ap (λ (t : BlockState). t.events) (sym (is_visit j t)) ∙ events_as j t (unit_of t.stages j) p.stages ∙ ap (λ e. t.events ++ entries_of t (unit_of e j)) p.stages)
+      (λ n t p. same_entries n t (unit_of d n) p (unit_is d n)) 320 b shape

@@ -52,11 +52,11 @@ module _ (b : BlockState) where
       let left : after_requests b.stages s b.done w (requests_at_switch s k b) ≡ w = ap (after_requests b.stages s b.done w) came ∙ after_none b.stages s b.done w in
       let put : set b.switches n (Some (after_requests b.stages s b.done w (requests_at_switch s k b))) ≡ b.switches =
       ap (λ x. set b.switches n (Some x)) left ∙ same_entry b.switches n (Some w) is in
-      let told : b.events ++ combinations_of b.stages s k b.done w (requests_at_switch s k b) ≡ b.events =
+      let entries : b.events ++ combinations_of b.stages s k b.done w (requests_at_switch s k b) ≡ b.events =
       ap (λ came. b.events ++ combinations_of b.stages s k b.done w came) came ∙ ap (λ es. b.events ++ es) (none_combine b.stages s k b.done w) ∙ append-nil b.events in
       ap (λ ws. record b { switches = ws; requests = without_both b.requests at; events = b.events ++ combinations_of b.stages s k b.done w (requests_at_switch s k b) }) put
       ∙ ap (λ t. record b { requests = t; events = b.events ++ combinations_of b.stages s k b.done w (requests_at_switch s k b) }) links
-      ∙ ap (λ es. record b { events = es }) told
+      ∙ ap (λ es. record b { events = es }) entries
 
   module_idle : (m : ℕ) (o : Option Bank) → module_at b.modules m ≡ o → ((bank : Bank) → o ≡ Some bank → request_at_module m b ≡ None)
       → elim o [ None ↦ b | Some bank ↦ request_taken_by m b bank ] ≡ b

@@ -25,7 +25,7 @@ use Rattle.ultra_section.proofs.RequestMarks.{both_links}
 use Rattle.ultra_section.proofs.Marks.{emptied}
 use Rattle.ultra_section.proofs.Emptied.{pair, link_apart, link_apart_both, both_apart, both_apart_one, both_emptied}
 use Rattle.ultra_section.proofs.ByKind.{visit, visit_as, not_changed, same_visits, keeps, leaves, own_switch, own_module, or_same}
-use Rattle.ultra_section.proofs.Once.{all_keep, never_changed, not_yet_changed, changed_once, told_before, all_told}
+use Rattle.ultra_section.proofs.Once.{all_keep, never_changed, not_yet_changed, changed_once, entries_before, all_entries}
 
 abbrev no_element : ℕ → BlockState → ProcessingElement → BlockState
 no_element p t e = t
@@ -178,44 +178,44 @@ module _ (d c : ℕ) (low : 1 ≤ d) (high : d ≤ 6) where
 
   -- ---- events
   -- the events of switch k of stage s, given what is on its two links
-  abbrev pub combinations_told : ℕ → ℕ → Option Switch × Ports (Option Request) → List Event
-  combinations_told s k (None, came) = []
-  combinations_told s k (Some w, came) = combinations_of d s k c w came
+  abbrev pub combination_entries : ℕ → ℕ → Option Switch × Ports (Option Request) → List Event
+  combination_entries s k (None, came) = []
+  combination_entries s k (Some w, came) = combinations_of d s k c w came
 
-  abbrev pub told_of : ℕ → BlockState → Unit → List Event
-  told_of n t (unit.Switch s k) = combinations_told s k (at_switch n s k t)
-  told_of n t (unit.Module m) = []
-  told_of n t (unit.Element p) = []
-  told_of n t unit.Nothing = []
+  abbrev pub entries_of : ℕ → BlockState → Unit → List Event
+  entries_of n t (unit.Switch s k) = combination_entries s k (at_switch n s k t)
+  entries_of n t (unit.Module m) = []
+  entries_of n t (unit.Element p) = []
+  entries_of n t unit.Nothing = []
 
-  tells_switch : (n s k : ℕ) (t : BlockState) (o : Option Switch) → InCycle d c t
-      → BlockState.events (elim o [ None ↦ t | Some w ↦ requests_taken_by n s k t w ]) ≡ t.events ++ combinations_told s k (o, on_both t.requests (request_links d s k))
-  tells_switch n s k t None p = sym (append-nil t.events)
-  tells_switch n s k t (Some w) p =
+  switch_events : (n s k : ℕ) (t : BlockState) (o : Option Switch) → InCycle d c t
+      → BlockState.events (elim o [ None ↦ t | Some w ↦ requests_taken_by n s k t w ]) ≡ t.events ++ combination_entries s k (o, on_both t.requests (request_links d s k))
+  switch_events n s k t None p = sym (append-nil t.events)
+  switch_events n s k t (Some w) p =
       ap (λ e. t.events ++ combinations_of e s k t.done w (on_both t.requests (request_links e s k))) p.shape.stages
       ∙ ap (λ m. t.events ++ combinations_of d s k m w (on_both t.requests (request_links d s k))) p.done
 
-  tells_module : (m : ℕ) (t : BlockState) (o : Option Bank) → BlockState.events (elim o [ None ↦ t | Some b ↦ request_taken_by m t b ]) ≡ t.events
-  tells_module m t None = refl
-  tells_module m t (Some b) = refl
+  module_events : (m : ℕ) (t : BlockState) (o : Option Bank) → BlockState.events (elim o [ None ↦ t | Some b ↦ request_taken_by m t b ]) ≡ t.events
+  module_events m t None = refl
+  module_events m t (Some b) = refl
 
-  tells_as : (n : ℕ) (t : BlockState) (u : Unit) → InCycle d c t
-      → BlockState.events (elim u [ unit.Switch s k ↦ switch_takes_requests n s k t | unit.Module m ↦ module_takes_request m t | unit.Element p ↦ t | unit.Nothing ↦ t ]) ≡ t.events ++ told_of n t u
-  tells_as n t (unit.Switch s k) p = tells_switch n s k t (switch_at t.switches n) p
-  tells_as n t (unit.Module m) p = tells_module m t (module_at t.modules m) ∙ sym (append-nil t.events)
-  tells_as n t (unit.Element q) p = sym (append-nil t.events)
-  tells_as n t unit.Nothing p = sym (append-nil t.events)
+  events_as : (n : ℕ) (t : BlockState) (u : Unit) → InCycle d c t
+      → BlockState.events (elim u [ unit.Switch s k ↦ switch_takes_requests n s k t | unit.Module m ↦ module_takes_request m t | unit.Element p ↦ t | unit.Nothing ↦ t ]) ≡ t.events ++ entries_of n t u
+  events_as n t (unit.Switch s k) p = switch_events n s k t (switch_at t.switches n) p
+  events_as n t (unit.Module m) p = module_events m t (module_at t.modules m) ∙ sym (append-nil t.events)
+  events_as n t (unit.Element q) p = sym (append-nil t.events)
+  events_as n t unit.Nothing p = sym (append-nil t.events)
 
-  same_told : (n : ℕ) (t : BlockState) (u : Unit) → InCycle d c t → IsUnit d n u → told_of n (after_units taking_visit n t) u ≡ told_of n t u
-  same_told n t (unit.Switch s k) p is =
-      ap (combinations_told s k) (not_yet_changed taking_visit (InCycle d c) kept (at_switch n s k) n (switch_others n s k is) n t p (omega arith))
-  same_told n t (unit.Module m) p is = refl
-  same_told n t (unit.Element q) p is = refl
-  same_told n t unit.Nothing p is = refl
+  same_entries : (n : ℕ) (t : BlockState) (u : Unit) → InCycle d c t → IsUnit d n u → entries_of n (after_units taking_visit n t) u ≡ entries_of n t u
+  same_entries n t (unit.Switch s k) p is =
+      ap (combination_entries s k) (not_yet_changed taking_visit (InCycle d c) kept (at_switch n s k) n (switch_others n s k is) n t p (omega arith))
+  same_entries n t (unit.Module m) p is = refl
+  same_entries n t (unit.Element q) p is = refl
+  same_entries n t unit.Nothing p is = refl
 
-  pub events_after_taking : (b : BlockState) → InCycle d c b → (after_units takes_requests 320 b).events ≡ b.events ++ told_before (λ n t. told_of n t (unit_of d n)) 320 b
+  pub events_after_taking : (b : BlockState) → InCycle d c b → (after_units takes_requests 320 b).events ≡ b.events ++ entries_before (λ n t. entries_of n t (unit_of d n)) 320 b
   events_after_taking b shape =
       ap (λ (t : BlockState). t.events) (all_visits b)
-      ∙ all_told taking_visit (InCycle d c) kept (λ n t. told_of n t (unit_of d n)) (λ t. t.events)
-      (λ j t p. ap (λ (t : BlockState). t.events) (sym (is_visit j t)) ∙ tells_as j t (unit_of t.stages j) p ∙ ap (λ e. t.events ++ told_of j t (unit_of e j)) p.shape.stages)
-      (λ n t p. same_told n t (unit_of d n) p (unit_is d n)) 320 b shape
+      ∙ all_entries taking_visit (InCycle d c) kept (λ n t. entries_of n t (unit_of d n)) (λ t. t.events)
+      (λ j t p. ap (λ (t : BlockState). t.events) (sym (is_visit j t)) ∙ events_as j t (unit_of t.stages j) p ∙ ap (λ e. t.events ++ entries_of j t (unit_of e j)) p.shape.stages)
+      (λ n t p. same_entries n t (unit_of d n) p (unit_is d n)) 320 b shape

@@ -17,7 +17,7 @@ use Rattle.ultra_section.specs.Shape.{IsShaped}
 use Rattle.ultra_section.specs.Serving.{served_by, module_serves, serves}
 use Rattle.ultra_section.proofs.Standing.{unit_is}
 use Rattle.ultra_section.proofs.ByKind.{visit, visit_as, not_changed, same_visits, keeps, leaves, own_module, or_same}
-use Rattle.ultra_section.proofs.Once.{all_keep, never_changed, not_yet_changed, changed_once, told_before, all_told}
+use Rattle.ultra_section.proofs.Once.{all_keep, never_changed, not_yet_changed, changed_once, entries_before, all_entries}
 
 abbrev no_switch : ℕ → ℕ → ℕ → BlockState → Switch → BlockState
 no_switch n s k t w = t
@@ -89,42 +89,42 @@ module _ (d : ℕ) where
 
   -- ---- events
   -- the events of the unit with number n
-  abbrev pub act_told : Option Bank → ℕ → List Event
-  act_told None m = []
-  act_told (Some bank) m = present (serving m (served bank) ∷ [])
+  abbrev pub act_entries : Option Bank → ℕ → List Event
+  act_entries None m = []
+  act_entries (Some bank) m = present (serving m (served bank) ∷ [])
 
-  abbrev pub told_of : BlockState → Unit → List Event
-  told_of t (unit.Switch s k) = []
-  told_of t (unit.Module m) = act_told (module_at t.modules m) m
-  told_of t (unit.Element p) = []
-  told_of t unit.Nothing = []
+  abbrev pub entries_of : BlockState → Unit → List Event
+  entries_of t (unit.Switch s k) = []
+  entries_of t (unit.Module m) = act_entries (module_at t.modules m) m
+  entries_of t (unit.Element p) = []
+  entries_of t unit.Nothing = []
 
-  abbrev pub told : ℕ → BlockState → List Event
-  told n t = told_of t (unit_of d n)
+  abbrev pub entries : ℕ → BlockState → List Event
+  entries n t = entries_of t (unit_of d n)
 
-  tells_module : (m : ℕ) (t : BlockState) (o : Option Bank) → BlockState.events (elim o [ None ↦ t | Some bank ↦ served_by m t bank ]) ≡ t.events ++ act_told o m
-  tells_module m t None = sym (append-nil t.events)
-  tells_module m t (Some bank) = refl
+  module_events : (m : ℕ) (t : BlockState) (o : Option Bank) → BlockState.events (elim o [ None ↦ t | Some bank ↦ served_by m t bank ]) ≡ t.events ++ act_entries o m
+  module_events m t None = sym (append-nil t.events)
+  module_events m t (Some bank) = refl
 
-  tells_as : (n : ℕ) (t : BlockState) (u : Unit)
-      → BlockState.events (elim u [ unit.Switch s k ↦ t | unit.Module m ↦ module_serves m t | unit.Element p ↦ t | unit.Nothing ↦ t ]) ≡ t.events ++ told_of t u
-  tells_as n t (unit.Switch s k) = sym (append-nil t.events)
-  tells_as n t (unit.Module m) = tells_module m t (module_at t.modules m)
-  tells_as n t (unit.Element p) = sym (append-nil t.events)
-  tells_as n t unit.Nothing = sym (append-nil t.events)
+  events_as : (n : ℕ) (t : BlockState) (u : Unit)
+      → BlockState.events (elim u [ unit.Switch s k ↦ t | unit.Module m ↦ module_serves m t | unit.Element p ↦ t | unit.Nothing ↦ t ]) ≡ t.events ++ entries_of t u
+  events_as n t (unit.Switch s k) = sym (append-nil t.events)
+  events_as n t (unit.Module m) = module_events m t (module_at t.modules m)
+  events_as n t (unit.Element p) = sym (append-nil t.events)
+  events_as n t unit.Nothing = sym (append-nil t.events)
 
-  same_told : (n : ℕ) (t : BlockState) (u : Unit) → IsShaped d t → IsUnit d n u → told_of (after_units serving_visit n t) u ≡ told_of t u
-  same_told n t (unit.Switch s k) shape is = refl
-  same_told n t (unit.Module m) shape is =
-      ap (λ o. act_told o m)
+  same_entries : (n : ℕ) (t : BlockState) (u : Unit) → IsShaped d t → IsUnit d n u → entries_of (after_units serving_visit n t) u ≡ entries_of t u
+  same_entries n t (unit.Switch s k) shape is = refl
+  same_entries n t (unit.Module m) shape is =
+      ap (λ o. act_entries o m)
       (not_yet_changed serving_visit (IsShaped d) shape_kept (λ t. module_at t.modules m) n
       (λ j t p other. others m j t p (λ same. other (same ∙ sym is.number))) n t shape (omega arith))
-  same_told n t (unit.Element p) shape is = refl
-  same_told n t unit.Nothing shape is = refl
+  same_entries n t (unit.Element p) shape is = refl
+  same_entries n t unit.Nothing shape is = refl
 
-  pub events_after_serving : (b : BlockState) → IsShaped d b → (after_units serves 320 b).events ≡ b.events ++ told_before told 320 b
+  pub events_after_serving : (b : BlockState) → IsShaped d b → (after_units serves 320 b).events ≡ b.events ++ entries_before entries 320 b
   events_after_serving b shape =
       ap (λ (t : BlockState). t.events) (all_visits b)
-      ∙ all_told serving_visit (IsShaped d) shape_kept told (λ t. t.events)
-      (λ j t p. ap (λ (t : BlockState). t.events) (sym (is_visit j t)) ∙ tells_as j t (unit_of t.stages j) ∙ ap (λ e. t.events ++ told_of t (unit_of e j)) p.stages)
-      (λ n t p. same_told n t (unit_of d n) p (unit_is d n)) 320 b shape
+      ∙ all_entries serving_visit (IsShaped d) shape_kept entries (λ t. t.events)
+      (λ j t p. ap (λ (t : BlockState). t.events) (sym (is_visit j t)) ∙ events_as j t (unit_of t.stages j) ∙ ap (λ e. t.events ++ entries_of t (unit_of e j)) p.stages)
+      (λ n t p. same_entries n t (unit_of d n) p (unit_is d n)) 320 b shape

@@ -47,14 +47,14 @@ module _ (b : BlockState) where
   pub serves_none : (s : Sets) → UnitsAreKnown b.stages s b.switches b.modules b.elements → (n : ℕ) → has_unit s.to_serve n ≡ false → serves n b ≡ b
   serves_none s known n h = idle_at s known n (unit_of b.stages n) (unit_is b.stages n) h
 
-  one_told : (m : ℕ) (o : Option Served) → length (present (serving m o ∷ [])) ≤ 1
-  one_told m None = omega arith
-  one_told m (Some a) = omega arith
+  one_entry : (m : ℕ) (o : Option Served) → length (present (serving m o ∷ [])) ≤ 1
+  one_entry m None = omega arith
+  one_entry m (Some a) = omega arith
 
   room_at : (n k m : ℕ) (o : Option Bank) → n < k → HasEventRoom n b → HasEventRoom k (elim o [ None ↦ b | Some bank ↦ served_by m b bank ])
   room_at n k m None order room = omega arith
   room_at n k m (Some bank) order room =
-      let told = one_told m (served bank) in
+      let entries = one_entry m (served bank) in
       let all = length-append b.events (present (serving m (served bank) ∷ [])) in omega arith
 
   pub later_module : (n k m : ℕ) → n < k → HasEventRoom n b → HasEventRoom k (module_serves m b)

@@ -42,7 +42,7 @@ UnitCanExecute b (unit.Module m) = Unit {0}
 UnitCanExecute b (unit.Element p) = ElementCanExecute p b
 UnitCanExecute b unit.Nothing = Unit {0}
 
--- what the unit with number n asks
+-- the conditions of the unit with number n
 pub record CanExecuteAt (n : ℕ) (b : BlockState) : Type 0 where
   pub unit : UnitCanExecute b (unit_of b.stages n)
   pub event_room : HasEventRoom n b

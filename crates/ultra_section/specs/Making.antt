@@ -22,7 +22,7 @@ pub record CanExecute (b : BlockState) : Type 0 where
   pub few : b.done < 2 ^ 32 - 1
   pub units : AtUnits CanExecuteAt b
 
--- what the half asks
+-- the conditions of the half
 abbrev pub CanMake : Half → BlockState → Type 0
 CanMake SendReplies b = Unit {0}
 CanMake TakeReplies b = AtUnits CanTakeRepliesAt b
@@ -31,7 +31,7 @@ CanMake SendRequests b = Unit {0}
 CanMake TakeRequests b = AtUnits CanTakeRequestsAt b
 CanMake Execute b = CanExecute b
 
--- what comes of it
+-- the block after it
 abbrev pub made : Half → Rooms → List Instr → BlockState → BlockState
 made SendReplies rooms program b = after_units (sends_replies rooms.no_reply_room) 320 (begun b)
 made TakeReplies rooms program b = after_units takes_replies 320 b

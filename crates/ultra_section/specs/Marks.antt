@@ -14,11 +14,11 @@ use Rattle.ultra_section.specs.declared.links.Links.{Links}
 abbrev pub on_link : {M : Type 0} → List (Option M) → ℕ → Option M
 on_link table link = slice_index_or table link None
 
--- something on the link would be known to lead to the unit
+-- where something is on the link, it is known to lead to the unit
 abbrev pub IsMarked : {M : Type 0} → List ℕ → Links M → ℕ → ℕ → Type 0
 IsMarked here l unit link = is_some (on_link l.table.items link) ≡ true → leads (has_unit here unit) (has_unit l.came unit) (has_unit l.away unit) ≡ true
 
--- there is a link for each place
+-- there is a link for each position of a stage, and one for each module or processing element
 abbrev pub HasAllLinks : {M : Type 0} → ℕ → Links M → Type 0
 HasAllLinks d l = length l.table.items ≡ (d + 1) * 2 ^ d
 

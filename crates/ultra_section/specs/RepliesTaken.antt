@@ -55,7 +55,7 @@ takes_replies n b = elim (unit_of b.stages n) [
 abbrev pub SwitchCanTakeReplies : ℕ → ℕ → ℕ → BlockState → Type 0
 SwitchCanTakeReplies n s k b = ForSome (switch_at b.switches n) (λ w. CanTakeReplies w (replies_at_switch s k b))
 
--- of a processing element to which a reply has come, some request has left whose reply hadn't come
+-- where a reply has come to a processing element, fewer of its requests wait than it has cells open
 abbrev pub ElementCanTakeReply : ℕ → BlockState → Type 0
 ElementCanTakeReply p b =
     ForSome (element_at b.elements p) (λ e. ForSome (reply_at_element p b) (λ _. length e.interface.interface.pending < length e.interface.interface.opened))
@@ -66,7 +66,7 @@ UnitCanTakeReplies n b (unit.Module m) = Unit {0}
 UnitCanTakeReplies n b (unit.Element p) = ElementCanTakeReply p b
 UnitCanTakeReplies n b unit.Nothing = Unit {0}
 
--- what the unit with number n asks
+-- the conditions of the unit with number n
 pub record CanTakeRepliesAt (n : ℕ) (b : BlockState) : Type 0 where
   pub unit : UnitCanTakeReplies n b (unit_of b.stages n)
   pub room : HasEventRoom n b

@@ -64,7 +64,7 @@ UnitCanTakeRequests n b (unit.Module m) = ModuleCanTakeRequest m b
 UnitCanTakeRequests n b (unit.Element p) = Unit {0}
 UnitCanTakeRequests n b unit.Nothing = Unit {0}
 
--- what the unit with number n asks
+-- the conditions of the unit with number n
 pub record CanTakeRequestsAt (n : ℕ) (b : BlockState) : Type 0 where
   pub unit : UnitCanTakeRequests n b (unit_of b.stages n)
   pub room : HasEventRoom n b

@@ -13,7 +13,7 @@ use ultra_msg::{Event, ReplyMessage, Request};
 use ultra_route::Net;
 use ultra_switch::Switch;
 
-/// Some of the units of a machine, by their numbers: any switches, modules and processing elements, or none. Links have the number of the place from which they lead; what a unit of this block sends is put on its link, and what leads to a unit of this block is taken there.
+/// Some of the units of a machine, by their numbers: any switches, modules and processing elements, or none. A link has the number of the position, module or processing element from which it leads. What a unit of this block sends is put on its link, and what comes to a unit of this block is taken from there.
 ///
 /// A cycle is made of six halves, each done to every block: `send_replies`, `take_replies`, `serve`, `send_requests`, `take_requests`, `execute`. No half takes memory.
 #[derive(Drop)]
@@ -60,10 +60,10 @@ impl Model for Block {
 
 /// Adds an entry at the end of a list that has memory for it.
 #[inline(always)]
-pub(crate) fn tell<T: Drop>(list: &mut Vec<T>, entry: T)
+pub(crate) fn append<T: Drop>(list: &mut Vec<T>, entry: T)
     requires { length list.old.items < vec_capacity list.old }
     ensures entries { list.new.items ≡ list.old.items ++ entry ∷ [] }
     ensures places { vec_capacity list.old ≤ vec_capacity list.new }
 {
-    let _told = list.push(entry);
+    let _pushed = list.push(entry);
 }

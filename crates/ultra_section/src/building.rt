@@ -205,7 +205,7 @@ impl Block {
         }
     }
 
-    /// Takes the events and stops of another block, which gets those that stood here.
+    /// Exchanges its events and stops for those of another block.
     pub fn take_story(&mut self, other: &mut Block)
         ensures here { self.new ≡ record self.old { events = other.old.events; stops = other.old.stops } }
         ensures there { other.new ≡ record other.old { events = self.old.events; stops = self.old.stops } }

@@ -6,7 +6,7 @@ ghost use Rattle.ultra_section.specs.BlockState.{most_events, most_stops};
 ghost use Rattle.ultra_section.specs.Execution.{CanExecuteAt, ElementCanExecute, counted, element_executes, executes};
 ghost use Rattle.ultra_section.specs.Units.{IsElement};
 
-use crate::block::{Block, tell};
+use crate::block::{Block, append};
 use crate::unit::Unit;
 use ultra_halves::Outcome;
 use ultra_isa::Program;
@@ -39,8 +39,8 @@ impl Block {
         }
         self.sets.note_element(number, element);
         match outcome {
-            Outcome::Issued(event) => tell(&mut self.events, event),
-            Outcome::Faulted(stop) => tell(&mut self.stops, stop),
+            Outcome::Issued(event) => append(&mut self.events, event),
+            Outcome::Faulted(stop) => append(&mut self.stops, stop),
             Outcome::Done | Outcome::AtRest => {}
         }
     }

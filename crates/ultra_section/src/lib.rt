@@ -5,7 +5,7 @@
 //!
 //! | Set | Its units | Who notes it | Who reads it |
 //! |---|---|---|---|
-//! | `here` | exactly those that stand here | `put_switch`, `take_switch` and the like | each half that sends: a message for a unit here has come |
+//! | `here` | exactly those that stand here | `put_switch`, `take_switch` and the like | each half that sends, which notes a message in `came` if its unit stands here, and else in `away` |
 //! | `holds_replies` | exactly the switches and modules that hold a reply | each half that moves replies, and `serve` | `send_replies` |
 //! | `no_reply_room` | exactly the switches without room for replies | each half that moves replies | `rooms` |
 //! | `holds_requests` | exactly the units that hold a request | each half that moves requests, `serve` and `execute` | `send_requests`, which skips modules |
@@ -14,7 +14,7 @@
 //! | `to_step` | exactly the processing elements that haven't stopped | `execute` | `execute` |
 //! | `keeps_records` | exactly the switches that keep a record of a combination | `take_requests` and `take_replies` | `next_holding` |
 //! | `came`, of each kind of message | at least the units here to which a message leads | a half that sends adds, the one that takes removes | the half that takes |
-//! | `away`, of each kind of message | at least the units elsewhere to which one leads | a half that sends adds | who moves messages to other blocks |
+//! | `away`, of each kind of message | at least the units elsewhere to which one leads | a half that sends adds, the exchange of messages removes | the exchange of messages between blocks |
 #![tactic(auto)]
 
 mod block;

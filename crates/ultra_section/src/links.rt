@@ -1,4 +1,4 @@
-//! The links of a kind of message that lead away from units, and to which units something has been put on its way.
+//! The links of one kind of message, and the units to which messages lead.
 
 ghost use Rattle.std.specs.Prelude.{◌≡◌, ◌≢◌, ℕ, ◌<◌, true, not, None, is_some, length, slice_index_or, slice_set};
 ghost use Rattle.ultra_units.specs.Set.{has_unit};
@@ -42,7 +42,7 @@ impl<M: Copy> Links<M> {
         }
     }
 
-    /// Something may lead to a unit, which has come here or gone: `stands` says which.
+    /// A unit has come to this block (`stands`), or has left it. As messages may lead to it, it is in `came` from now on, or else in `away`.
     pub(crate) fn renew(&mut self, unit: usize, stands: bool)
         requires { unit < 320 }
         ensures table { self.new.table ≡ self.old.table }

@@ -13,7 +13,7 @@ use ultra_msg::Event;
 use ultra_route::Net;
 
 impl Block {
-    /// Makes this half of a cycle, with the rooms that were noted before it and the machine's program. What it asks is what the half asks.
+    /// Makes this half of a cycle, with the rooms that were noted before it and the machine's program. The half's conditions have to be met.
     #[inline(always)]
     pub fn make(&mut self, half: Half, rooms: &Rooms, program: &Program)
         requires { CanMake half self.old }

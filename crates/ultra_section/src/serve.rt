@@ -6,7 +6,7 @@ ghost use Rattle.ultra_section.specs.BlockState.{HasEventRoom, most_events};
 ghost use Rattle.ultra_section.specs.Serving.{module_serves, serves};
 ghost use Rattle.ultra_section.specs.Units.{IsModule};
 
-use crate::block::{Block, tell};
+use crate::block::{Block, append};
 use crate::unit::Unit;
 use ultra_msg::Event;
 use ultra_units::{UnitSet, Visit, visit_all};
@@ -33,7 +33,7 @@ impl Block {
                 reply: served.reply,
                 now: served.now,
             };
-            tell(&mut self.events, event);
+            append(&mut self.events, event);
         }
     }
 }

@@ -6,7 +6,7 @@ ghost use Rattle.ultra_section.specs.BlockState.{most_events};
 ghost use Rattle.ultra_section.specs.RepliesTaken.{CanTakeRepliesAt, ElementCanTakeReply, SwitchCanTakeReplies, element_takes_reply, switch_takes_replies, takes_replies};
 ghost use Rattle.ultra_section.specs.Units.{IsElement, IsSwitch};
 
-use crate::block::{Block, tell};
+use crate::block::{Block, append};
 use crate::replies::{take_at_element, take_at_switch};
 use crate::unit::Unit;
 use ultra_halves::switches;
@@ -47,7 +47,7 @@ impl Block {
         let came = take_at_element(&mut self.replies, net, number, pe);
         if let Some(reply) = came {
             element.deliver(reply);
-            tell(&mut self.events, Event::Delivered(reply));
+            append(&mut self.events, Event::Delivered(reply));
         }
     }
 }

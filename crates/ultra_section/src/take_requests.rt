@@ -7,7 +7,7 @@ ghost use Rattle.ultra_section.specs.BlockState.{most_events};
 ghost use Rattle.ultra_section.specs.RequestsTaken.{CanTakeRequestsAt, ModuleCanTakeRequest, SwitchCanTakeRequests, module_takes_request, switch_takes_requests, takes_requests};
 ghost use Rattle.ultra_section.specs.Units.{IsModule, IsSwitch};
 
-use crate::block::{Block, tell};
+use crate::block::{Block, append};
 use crate::requests::{take_at_module, take_at_switch};
 use crate::unit::Unit;
 use ultra_halves::{modules, switches};
@@ -16,7 +16,7 @@ use ultra_switch::Ports;
 use ultra_units::{UnitSet, Visit, visit_all};
 
 /// Puts two events, if they are there, at the end of the list. Where there is only one, it is in `zero`.
-fn tell_both(list: &mut Vec<Event>, events: Ports<Option<Event>>)
+fn append_both(list: &mut Vec<Event>, events: Ports<Option<Event>>)
     requires front { events.zero ≡ None → events.one ≡ None }
     requires room { length list.old.items + 2 ≤ vec_capacity list.old }
     ensures entries { list.new.items ≡ list.old.items ++ present (events.zero ∷ events.one ∷ []) }
@@ -26,9 +26,9 @@ fn tell_both(list: &mut Vec<Event>, events: Ports<Option<Event>>)
     let Some(first) = events.zero else {
         return;
     };
-    tell(list, first);
+    append(list, first);
     if let Some(second) = events.one {
-        tell(list, second);
+        append(list, second);
     }
 }
 
@@ -52,7 +52,7 @@ impl Block {
         self.sets.note_requests(number, switch);
         let has_combined = combined.zero.is_some();
         self.sets.note_records(number, switch, has_combined);
-        tell_both(&mut self.events, combined);
+        append_both(&mut self.events, combined);
     }
 
     /// What comes to a module goes into its register.

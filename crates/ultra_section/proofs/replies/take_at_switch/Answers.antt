@@ -5,6 +5,21 @@ use Rattle.ultra_section.specs.Marks.{reply_links, on_link}
 use Rattle.ultra_section.proofs.ReplyMarks.{known_taken, both_links}
 use Rattle.ultra_section.proofs.replies.take_at_switch.Goals as goal
 
+pub overflow_mul-index : goal.overflow_mul-index
+overflow_mul-index c = let small = c.requires.switch.index_small in omega arith
+
+pub overflow_mul-index-2 : goal.overflow_mul-index-2
+overflow_mul-index-2 c = let small = c.requires.switch.index_small in omega arith
+
+pub overflow_add-index : goal.overflow_add-index
+overflow_add-index c = let small = c.requires.switch.index_small in omega arith
+
+pub reply_source-requires-clause-position : goal.reply_source-requires-clause-position
+reply_source-requires-clause-position c = let small = c.requires.switch.index_small in omega arith
+
+pub reply_source-requires-2-clause-position : goal.reply_source-requires-2-clause-position
+reply_source-requires-2-clause-position c = let small = c.requires.switch.index_small in omega arith
+
 pub take-zero-requires : goal.take-zero-requires
 take-zero-requires c =
     let both = both_links c.args.net (omega arith) (omega arith) c.args.number c.args.stage c.args.index c.requires.switch in
@@ -29,13 +44,17 @@ returns-clause-came c =
     ∙ get_or-set_other c.args.links.now.table.items at.zero at.one None None (λ same. both.apart (sym same)) in
     rw (first, second) refl
 
+pub returns-clause-table : goal.returns-clause-table
+returns-clause-table c =
+    c.take-one.ensures.table ∙ ap (λ t. set t c.reply_source-2.result None) c.take-zero.ensures.table
+    ∙ ap (λ x. set (set c.args.links.now.table.items x None) c.reply_source-2.result None) c.reply_source.ensures.value
+    ∙ ap (λ x. set (set c.args.links.now.table.items (reply_links c.args.net c.args.stage c.args.index).zero None) x None) c.reply_source-2.ensures.value
+
 pub returns-clause-known : goal.returns-clause-known
 returns-clause-known c =
     λ here known.
     known_taken c.args.net (omega arith) (omega arith) here c.args.links.now record { table = c.take-one.new.self.table; came = c.remove.new.self; away = c.take-one.new.self.away }
     c.args.number c.args.stage c.args.index c.requires.switch
-    (c.take-one.ensures.table ∙ ap (λ t. set t c.reply_source-2.result None) c.take-zero.ensures.table
-    ∙ ap (λ x. set (set c.args.links.now.table.items x None) c.reply_source-2.result None) c.reply_source.ensures.value
-    ∙ ap (λ x. set (set c.args.links.now.table.items (reply_links c.args.net c.args.stage c.args.index).zero None) x None) c.reply_source-2.ensures.value)
+    (returns-clause-table c)
     (λ j other. c.remove.ensures.others j other ∙ ap (λ s. has_unit s j) (c.take-one.ensures.came ∙ c.take-zero.ensures.came))
     (c.take-one.ensures.away ∙ c.take-zero.ensures.away) known

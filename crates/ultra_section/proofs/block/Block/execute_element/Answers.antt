@@ -1,13 +1,69 @@
-use Rattle.std.proofs.Common.{◌≡◌, sym, ◌∙◌, ap, subst, arith, inl, inr}
+use Rattle.std.proofs.Common.{◌≡◌, sym, ◌∙◌, ap, subst, arith, inl, inr, ℕ, List, [], ◌∷◌, ◌++◌, Some, set, refl}
 use Rattle.std.specs.Prelude.{None}
-use Rattle.std.proofs.lemmas.Grind.{common_steps}
-use Rattle.ultra_model.specs.Phases.{issue_event}
-use Rattle.ultra_halves.specs.Elements.{element_of, holds_request, issue_in, step_at}
+use Rattle.ultra_model.specs.Phases.{issue_event, stop_of}
+use Rattle.ultra_halves.specs.Elements.{element_of, holds_request, issue_in, step_at, executed, stop_in}
 use Rattle.ultra_halves.proofs.Rests.{holds_as_before, went_on}
 use Rattle.ultra_section.specs.BlockState.{BlockState}
 use Rattle.ultra_section.specs.Units.{IsElement}
 use Rattle.ultra_section.proofs.Known.{element_changed, element_same, units_changed}
+use Rattle.ultra_msg.specs.declared.Event.{Event}
+use Rattle.ultra_isa.specs.declared.Instr.{Instr}
+use Rattle.ultra_model.specs.declared.Stop.{Stop}
+use Rattle.ultra_model.specs.Places.{present}
+use Rattle.ultra_halves.specs.declared.elements.ProcessingElement.{ProcessingElement}
+use Rattle.ultra_halves.specs.declared.elements.Outcome.{Outcome}
+use Rattle.ultra_section.specs.Execution.{stepped_by}
+use Rattle.ultra_section.proofs.Entries.{put_back, put_back_some, elements_kept, element_passed, element_worked, none_more, one_more}
 use Rattle.ultra_section.proofs.block.Block.execute_element.Goals as goal
+
+step_done : (program : List Instr) (b : BlockState) (p : ℕ) (e : ProcessingElement) (outcome : Outcome) (v : ProcessingElement) (events : List Event) (stops : List Stop)
+    → v ≡ executed program e → issue_in outcome ≡ issue_event (element_of e) (step_at program e).sent → stop_in outcome ≡ stop_of p (step_at program e).was
+    → events ≡ b.events ++ present (issue_in outcome ∷ []) → stops ≡ b.stops ++ present (stop_in outcome ∷ [])
+    → record b { elements = set b.elements p (Some v); events = events; stops = stops } ≡ stepped_by program p b e
+step_done program b p e outcome v events stops left issue stop more more_stops =
+    let all_events = more ∙ ap (λ o. b.events ++ present (o ∷ [])) issue in
+    let all_stops = more_stops ∙ ap (λ o. b.stops ++ present (o ∷ [])) stop in
+    rw (left, all_events, all_stops) refl
+
+pub invariant_of-self : goal.invariant_of-self
+invariant_of-self c = elements_kept c.self.invariant _ (put_back c.self.inside.elements.items c.args.pe c.index_mut.result.now c.index_mut.ensures.value)
+
+pub returns-in_default : goal.returns-in_default
+returns-in_default c =
+    element_passed c.self.view_is (stepped_by c.args.program.now c.args.pe) c.args.pe c.index_mut.result.now c.index_mut.ensures.value c.in_default.is
+
+pub invariant_of-self-in-AtRest : goal.invariant_of-self-in-AtRest
+invariant_of-self-in-AtRest c =
+    elements_kept c.self.invariant _ (put_back_some c.self.inside.elements.items c.args.pe c.index_mut.result.now c.index_mut.ensures.value c.execute-outcome.new.self
+    (c.in-Some.is ∙ ap Some (sym (c.execute-outcome.ensures.same c.in-AtRest.is))))
+
+pub returns-in-AtRest : goal.returns-in-AtRest
+returns-in-AtRest c =
+    step_done c.args.program.now _ c.args.pe c.in-Some.element c.execute-outcome.result c.execute-outcome.new.self _ _ c.execute-outcome.ensures.element c.execute-outcome.ensures.issue c.execute-outcome.ensures.stop (none_more c.self.inside.events.items _ (ap issue_in c.in-AtRest.is)) (none_more c.self.inside.stops.items _ (ap stop_in c.in-AtRest.is))
+    ∙ element_worked c.self.view_is (stepped_by c.args.program.now c.args.pe) c.args.number c.args.pe c.index_mut.result.now c.in-Some.element c.requires.is c.self.invariant.units.element_entries c.index_mut.ensures.value c.in-Some.is
+
+pub returns : goal.returns
+returns c =
+    step_done c.args.program.now _ c.args.pe c.in-Some.element c.execute-outcome.result c.execute-outcome.new.self _ _ c.execute-outcome.ensures.element c.execute-outcome.ensures.issue c.execute-outcome.ensures.stop (none_more c.self.inside.events.items _ (ap issue_in c.in-Done.is)) (none_more c.self.inside.stops.items _ (ap stop_in c.in-Done.is))
+    ∙ element_worked c.self.view_is (stepped_by c.args.program.now c.args.pe) c.args.number c.args.pe c.index_mut.result.now c.in-Some.element c.requires.is c.self.invariant.units.element_entries c.index_mut.ensures.value c.in-Some.is
+
+pub returns-in-Issued : goal.returns-in-Issued
+returns-in-Issued c =
+    step_done c.args.program.now _ c.args.pe c.in-Some.element c.execute-outcome.result c.execute-outcome.new.self _ _ c.execute-outcome.ensures.element c.execute-outcome.ensures.issue c.execute-outcome.ensures.stop (c.append.ensures.entries ∙ one_more c.self.inside.events.items _ _ (ap issue_in c.in-Issued.is)) (none_more c.self.inside.stops.items _ (ap stop_in c.in-Issued.is))
+    ∙ element_worked c.self.view_is (stepped_by c.args.program.now c.args.pe) c.args.number c.args.pe c.index_mut.result.now c.in-Some.element c.requires.is c.self.invariant.units.element_entries c.index_mut.ensures.value c.in-Some.is
+
+pub returns-in-Faulted : goal.returns-in-Faulted
+returns-in-Faulted c =
+    step_done c.args.program.now _ c.args.pe c.in-Some.element c.execute-outcome.result c.execute-outcome.new.self _ _ c.execute-outcome.ensures.element c.execute-outcome.ensures.issue c.execute-outcome.ensures.stop (none_more c.self.inside.events.items _ (ap issue_in c.in-Faulted.is)) (c.append-in-Faulted.ensures.entries ∙ one_more c.self.inside.stops.items _ _ (ap stop_in c.in-Faulted.is))
+    ∙ element_worked c.self.view_is (stepped_by c.args.program.now c.args.pe) c.args.number c.args.pe c.index_mut.result.now c.in-Some.element c.requires.is c.self.invariant.units.element_entries c.index_mut.ensures.value c.in-Some.is
+
+pub returns-in-Done-outcome : goal.returns-in-Done-outcome
+returns-in-Done-outcome c =
+    let outcome = c.execute-outcome.result in
+    let no_issue : issue_in outcome ≡ None = elim c.in-Done-outcome.is [ inl done ↦ ap issue_in done | inr rest ↦ ap issue_in rest ] in
+    let no_stop : stop_in outcome ≡ None = elim c.in-Done-outcome.is [ inl done ↦ ap stop_in done | inr rest ↦ ap stop_in rest ] in
+    step_done c.args.program.now _ c.args.pe c.in-Some.element c.execute-outcome.result c.execute-outcome.new.self _ _ c.execute-outcome.ensures.element c.execute-outcome.ensures.issue c.execute-outcome.ensures.stop (none_more c.self.inside.events.items _ no_issue) (none_more c.self.inside.stops.items _ no_stop)
+    ∙ element_worked c.self.view_is (stepped_by c.args.program.now c.args.pe) c.args.number c.args.pe c.index_mut.result.now c.in-Some.element c.requires.is c.self.invariant.units.element_entries c.index_mut.ensures.value c.in-Some.is
 
 pub invariant_of-self-2 : goal.invariant_of-self-2
 invariant_of-self-2 c =
@@ -40,7 +96,7 @@ invariant_of-self-in-Issued c =
     (element_changed inside.net inside.sets c.note_element.new.self inside.switches.items inside.modules.items inside.elements.items known.units
     c.args.number c.args.pe c.index_mut.result.now c.in-Some.element c.execute-outcome.new.self is c.index_mut.ensures.value c.in-Some.is
     c.note_element.ensures.others c.note_element.ensures.there)
-    c.tell.ensures.places (omega arith)
+    c.append.ensures.places (omega arith)
 
 pub invariant_of-self-in-Faulted : goal.invariant_of-self-in-Faulted
 invariant_of-self-in-Faulted c =
@@ -52,7 +108,7 @@ invariant_of-self-in-Faulted c =
     (element_changed inside.net inside.sets c.note_element.new.self inside.switches.items inside.modules.items inside.elements.items known.units
     c.args.number c.args.pe c.index_mut.result.now c.in-Some.element c.execute-outcome.new.self is c.index_mut.ensures.value c.in-Some.is
     c.note_element.ensures.others c.note_element.ensures.there)
-    (omega arith) c.tell-in-Faulted.ensures.places
+    (omega arith) c.append-in-Faulted.ensures.places
 
 pub invariant_of-self-in-Done-outcome : goal.invariant_of-self-in-Done-outcome
 invariant_of-self-in-Done-outcome c =
@@ -65,6 +121,3 @@ invariant_of-self-in-Done-outcome c =
     c.args.number c.args.pe c.index_mut.result.now c.in-Some.element c.execute-outcome.new.self is c.index_mut.ensures.value c.in-Some.is
     c.note_element.ensures.others c.note_element.ensures.there)
     (omega arith) (omega arith)
-
-pub returns-in-Done-outcome : goal.returns-in-Done-outcome
-returns-in-Done-outcome c = elim c.in-Done-outcome.is [ inl done ↦ grind (arith, common_steps) | inr rest ↦ grind (arith, common_steps) ]

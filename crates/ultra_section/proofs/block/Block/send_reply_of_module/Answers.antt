@@ -1,9 +1,37 @@
-use Rattle.std.proofs.Common.{sym, subst}
+use Rattle.std.proofs.Common.{sym, subst, ◌≡◌, ℕ, ◌-◌, ◌/◌, List, Bool, Option, Some, set, refl, ◌∙◌}
 use Rattle.ultra_section.specs.BlockState.{BlockState}
 use Rattle.ultra_section.specs.Marks.{RequestsAreKnown}
 use Rattle.ultra_section.specs.Units.{IsModule}
 use Rattle.ultra_section.proofs.Known.{module_changed}
+use Rattle.std.specs.Prelude.{not}
+use Rattle.ultra_msg.specs.declared.ReplyMessage.{ReplyMessage}
+use Rattle.ultra_mem.specs.Serve.{Bank}
+use Rattle.ultra_model.specs.Phases.{without_reply}
+use Rattle.ultra_units.specs.Set.{has_unit}
+use Rattle.ultra_units.specs.Numbers.{place_number, switch_number}
+use Rattle.ultra_halves.specs.Halves.{where_room}
+use Rattle.ultra_section.specs.Links.{put_on}
+use Rattle.ultra_section.specs.RepliesSent.{reply_sent_by}
+use Rattle.ultra_section.proofs.Entries.{put_back, modules_kept, module_passed, module_worked}
 use Rattle.ultra_section.proofs.block.Block.send_reply_of_module.Goals as goal
+
+sending_done : (closed : List ℕ) (b : BlockState) (m : ℕ) (bank v : Bank) (stages target : ℕ) (full : Bool) (out : Option ReplyMessage) (replies : List (Option ReplyMessage))
+    → stages ≡ b.stages → target ≡ switch_number b.stages (stages - 1) (m / 2) → full ≡ has_unit closed target → out ≡ where_room (not full) bank.out → v ≡ without_reply bank out
+    → replies ≡ put_on b.replies (place_number b.stages b.stages m) out → record b { modules = set b.modules m (Some v); replies = replies } ≡ reply_sent_by closed m b bank
+sending_done closed b m bank v stages target full out replies all to is sent left put = rw (left, put, sent, is, to, all) refl
+
+pub invariant_of-self : goal.invariant_of-self
+invariant_of-self c = modules_kept c.self.invariant _ (put_back c.self.inside.modules.items c.args.module_number c.index_mut.result.now c.index_mut.ensures.value)
+
+pub returns-in_default : goal.returns-in_default
+returns-in_default c =
+    module_passed c.self.view_is (reply_sent_by c.args.closed.now c.args.module_number) c.args.module_number c.index_mut.result.now c.index_mut.ensures.value c.in_default.is
+
+pub returns : goal.returns
+returns c =
+    sending_done c.args.closed.now _ c.args.module_number c.in-Some.bank c.send_reply-out.new.bank c.stages.result c.switch_number-target.result c.has.result c.send_reply-out.result _
+    c.stages.ensures.value c.switch_number-target.ensures.value c.has.ensures c.send_reply-out.ensures.sent c.send_reply-out.ensures.left c.leave_module.ensures.table
+    ∙ module_worked c.self.view_is (reply_sent_by c.args.closed.now c.args.module_number) c.args.number c.args.module_number c.index_mut.result.now c.in-Some.bank c.requires c.self.invariant.units.module_entries c.index_mut.ensures.value c.in-Some.is
 
 pub invariant_of-self-2 : goal.invariant_of-self-2
 invariant_of-self-2 c =

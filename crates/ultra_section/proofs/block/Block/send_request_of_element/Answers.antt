@@ -1,9 +1,55 @@
-use Rattle.std.proofs.Common.{sym, subst}
+use Rattle.std.proofs.Common.{◌≡◌, ℕ, List, true, false, Option, Some, set, refl, sym, ◌∙◌, ap, subst}
+use Rattle.std.specs.Prelude.{slice_get}
+use Rattle.ultra_msg.specs.declared.Request.{Request}
+use Rattle.ultra_switch.specs.declared.Ports.{Ports}
+use Rattle.ultra_units.specs.Numbers.{place_number}
+use Rattle.ultra_halves.specs.declared.elements.ProcessingElement.{ProcessingElement}
+use Rattle.ultra_halves.specs.Elements.{element_without}
 use Rattle.ultra_section.specs.BlockState.{BlockState}
 use Rattle.ultra_section.specs.Marks.{RepliesAreKnown}
+use Rattle.ultra_section.specs.Links.{put_on}
+use Rattle.ultra_section.specs.RequestsSent.{has_way_from_element, request_sent_by}
 use Rattle.ultra_section.specs.Units.{IsElement}
+use Rattle.ultra_section.proofs.Entries.{put_back, put_back_some, elements_kept, element_passed, element_worked}
 use Rattle.ultra_section.proofs.Known.{element_changed}
 use Rattle.ultra_section.proofs.block.Block.send_request_of_element.Goals as goal
+
+-- what is left where the first request goes, and where none does
+module _ (closed : Ports (List ℕ)) (b : BlockState) (p : ℕ) (e : ProcessingElement) where
+  went : (head out : Option Request) (v : ProcessingElement) (requests : List (Option Request)) → head ≡ slice_get e.interface.interface.pending 0 → has_way_from_element closed b.stages p head ≡ true
+      → out ≡ slice_get e.interface.interface.pending 0 → v ≡ element_without e out → requests ≡ put_on b.requests (place_number b.stages b.stages p) out
+      → record b { elements = set b.elements p (Some v); requests = requests } ≡ request_sent_by closed p b e
+  went head out v requests is way sent left put =
+      let goes : has_way_from_element closed b.stages p (slice_get e.interface.interface.pending 0) ≡ true = ap (has_way_from_element closed b.stages p) (sym is) ∙ way in
+      rw (left, put, sent, goes) refl
+
+  stayed : (head : Option Request) → head ≡ slice_get e.interface.interface.pending 0 → has_way_from_element closed b.stages p head ≡ false
+      → record b { elements = set b.elements p (Some e) } ≡ request_sent_by closed p b e
+  stayed head is way =
+      let goes : has_way_from_element closed b.stages p (slice_get e.interface.interface.pending 0) ≡ false = ap (has_way_from_element closed b.stages p) (sym is) ∙ way in
+      rw goes refl
+
+pub invariant_of-self : goal.invariant_of-self
+invariant_of-self c = elements_kept c.self.invariant _ (put_back c.self.inside.elements.items c.args.pe c.index_mut.result.now c.index_mut.ensures.value)
+
+pub returns-in_default : goal.returns-in_default
+returns-in_default c =
+    element_passed c.self.view_is (request_sent_by c.args.closed.now c.args.pe) c.args.pe c.index_mut.result.now c.index_mut.ensures.value c.in_default.is
+
+pub invariant_of-self-then-not-has_way_from_element : goal.invariant_of-self-then-not-has_way_from_element
+invariant_of-self-then-not-has_way_from_element c =
+    elements_kept c.self.invariant _ (put_back_some c.self.inside.elements.items c.args.pe c.index_mut.result.now c.index_mut.ensures.value c.in-Some.element c.in-Some.is)
+
+pub returns-then-not-has_way_from_element : goal.returns-then-not-has_way_from_element
+returns-then-not-has_way_from_element c =
+    stayed c.args.closed.now _ c.args.pe c.in-Some.element c.request_head.result c.request_head.ensures (sym c.has_way_from_element.ensures ∙ c.if-not-has_way_from_element.true)
+    ∙ element_worked c.self.view_is (request_sent_by c.args.closed.now c.args.pe) c.args.number c.args.pe c.index_mut.result.now c.in-Some.element c.requires c.self.invariant.units.element_entries c.index_mut.ensures.value c.in-Some.is
+
+pub returns : goal.returns
+returns c =
+    went c.args.closed.now _ c.args.pe c.in-Some.element c.request_head.result c.send_request-out.result c.send_request-out.new.self _ c.request_head.ensures
+    (sym c.has_way_from_element.ensures ∙ c.if-not-has_way_from_element.false) c.send_request-out.ensures.sent c.send_request-out.ensures.left c.leave_element.ensures.table
+    ∙ element_worked c.self.view_is (request_sent_by c.args.closed.now c.args.pe) c.args.number c.args.pe c.index_mut.result.now c.in-Some.element c.requires c.self.invariant.units.element_entries c.index_mut.ensures.value c.in-Some.is
 
 pub invariant_of-self-2 : goal.invariant_of-self-2
 invariant_of-self-2 c =

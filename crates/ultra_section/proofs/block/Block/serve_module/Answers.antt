@@ -1,8 +1,37 @@
-use Rattle.std.proofs.Common.{sym, subst, arith}
+use Rattle.std.proofs.Common.{refl, sym, subst, arith, ◌≡◌, ℕ, List, [], ◌∷◌, ◌++◌, Some, set, ◌∙◌, ap}
 use Rattle.ultra_section.specs.BlockState.{BlockState}
 use Rattle.ultra_section.specs.Units.{IsModule}
 use Rattle.ultra_section.proofs.Known.{module_changed, units_changed}
+use Rattle.ultra_msg.specs.declared.Event.{Event}
+use Rattle.ultra_mem.specs.Serve.{Bank, serve, served}
+use Rattle.ultra_model.specs.Places.{present}
+use Rattle.ultra_model.specs.Phases.{serving}
+use Rattle.ultra_section.specs.Serving.{served_by}
+use Rattle.ultra_section.proofs.Entries.{put_back, modules_kept, module_passed, module_worked, none_more, one_more}
 use Rattle.ultra_section.proofs.block.Block.serve_module.Goals as goal
+
+serving_done : (b : BlockState) (m : ℕ) (bank v : Bank) (events : List Event) → v ≡ serve bank → events ≡ b.events ++ present (serving m (served bank) ∷ [])
+    → record b { modules = set b.modules m (Some v); events = events } ≡ served_by m b bank
+serving_done b m bank v events left more = rw (left, more) refl
+
+pub invariant_of-self : goal.invariant_of-self
+invariant_of-self c = modules_kept c.self.invariant _ (put_back c.self.inside.modules.items c.args.module_number c.index_mut.result.now c.index_mut.ensures.value)
+
+pub returns-in_default : goal.returns-in_default
+returns-in_default c =
+    module_passed c.self.view_is (served_by c.args.module_number) c.args.module_number c.index_mut.result.now c.index_mut.ensures.value c.in_default.is
+
+pub returns-in-Some-served : goal.returns-in-Some-served
+returns-in-Some-served c =
+    serving_done _ c.args.module_number c.in-Some.bank c.serve-served.new.self _ c.serve-served.ensures.state
+    (c.append.ensures.entries ∙ one_more c.self.inside.events.items _ _ (ap (serving c.args.module_number) (sym c.serve-served.ensures.act ∙ c.in-Some-served.is)))
+    ∙ module_worked c.self.view_is (served_by c.args.module_number) c.args.number c.args.module_number c.index_mut.result.now c.in-Some.bank c.requires.is c.self.invariant.units.module_entries c.index_mut.ensures.value c.in-Some.is
+
+pub returns-in_default-served : goal.returns-in_default-served
+returns-in_default-served c =
+    serving_done _ c.args.module_number c.in-Some.bank c.serve-served.new.self _ c.serve-served.ensures.state
+    (none_more c.self.inside.events.items _ (ap (serving c.args.module_number) (sym c.serve-served.ensures.act ∙ c.in_default-served.is)))
+    ∙ module_worked c.self.view_is (served_by c.args.module_number) c.args.number c.args.module_number c.index_mut.result.now c.in-Some.bank c.requires.is c.self.invariant.units.module_entries c.index_mut.ensures.value c.in-Some.is
 
 pub invariant_of-self-in-Some-served : goal.invariant_of-self-in-Some-served
 invariant_of-self-in-Some-served c =
@@ -14,7 +43,7 @@ invariant_of-self-in-Some-served c =
     (module_changed inside.net inside.sets c.note_module.new.self inside.switches.items inside.modules.items inside.elements.items known.units
     c.args.number c.args.module_number c.index_mut.result.now c.in-Some.bank c.serve-served.new.self is c.index_mut.ensures.value c.in-Some.is
     c.note_module.ensures.others c.note_module.ensures.there)
-    c.tell.ensures.places (omega arith)
+    c.append.ensures.places (omega arith)
 
 pub invariant_of-self-in_default-served : goal.invariant_of-self-in_default-served
 invariant_of-self-in_default-served c =

@@ -1,13 +1,34 @@
-use Rattle.std.proofs.Common.{◌∙◌, sym, ap, subst, arith}
-use Rattle.ultra_halves.specs.Switches.{has_request_room, holds_requests, keeps_records, CanTakeReplies}
+use Rattle.std.proofs.Common.{◌∙◌, sym, ap, subst, arith, ◌≡◌, ℕ, List, Option, Some, set, refl}
+use Rattle.ultra_halves.specs.Switches.{has_request_room, holds_requests, keeps_records, CanTakeReplies, after_replies}
 use Rattle.ultra_section.specs.BlockState.{BlockState}
-use Rattle.ultra_section.specs.Marks.{RepliesAreKnown, RequestsAreKnown}
-use Rattle.ultra_section.specs.RepliesTaken.{SwitchCanTakeReplies}
+use Rattle.ultra_section.specs.Marks.{RepliesAreKnown, RequestsAreKnown, on_both, reply_links, without_both}
+use Rattle.ultra_section.specs.RepliesTaken.{SwitchCanTakeReplies, replies_taken_by}
 use Rattle.ultra_section.specs.Units.{IsSwitch}
 use Rattle.ultra_section.specs.Sets.{UnitFacts}
 use Rattle.ultra_section.proofs.Known.{switch_replies_taken, switch_was, stands}
 use Rattle.ultra_section.proofs.Records.{keeps_none}
+use Rattle.ultra_msg.specs.declared.ReplyMessage.{ReplyMessage}
+use Rattle.ultra_switch.specs.declared.Ports.{Ports}
+use Rattle.ultra_switch.specs.declared.Switch.{Switch}
+use Rattle.ultra_section.proofs.Entries.{put_back, switches_kept, switch_passed, switch_worked}
 use Rattle.ultra_section.proofs.block.Block.take_replies_of_switch.Goals as goal
+
+taking_done : (b : BlockState) (n s k : ℕ) (w v : Switch) (came : Ports (Option ReplyMessage)) (replies : List (Option ReplyMessage))
+    → came ≡ on_both b.replies (reply_links b.stages s k) → replies ≡ without_both b.replies (reply_links b.stages s k) → v ≡ after_replies b.stages s w came
+    → record b { switches = set b.switches n (Some v); replies = replies } ≡ replies_taken_by n s k b w
+taking_done b n s k w v came replies is left taken = rw (taken, left, is) refl
+
+pub invariant_of-self : goal.invariant_of-self
+invariant_of-self c = switches_kept c.self.invariant _ (put_back c.self.inside.switches.items c.args.number c.index_mut.result.now c.index_mut.ensures.value)
+
+pub returns-in_default : goal.returns-in_default
+returns-in_default c =
+    switch_passed c.self.view_is (replies_taken_by c.args.number c.args.stage c.args.index) c.args.number c.index_mut.result.now c.index_mut.ensures.value c.in_default.is
+
+pub returns : goal.returns
+returns c =
+    taking_done _ c.args.number c.args.stage c.args.index c.in-Some.switch c.take_replies.new.switch c.take_at_switch-came.result _ c.take_at_switch-came.ensures.came c.take_at_switch-came.ensures.table c.take_replies.ensures
+    ∙ switch_worked c.self.view_is (replies_taken_by c.args.number c.args.stage c.args.index) c.args.number c.args.stage c.args.index c.index_mut.result.now c.in-Some.switch c.requires.is c.self.invariant.units.switch_entries c.index_mut.ensures.value c.in-Some.is
 
 pub take_replies-requires-clause-room : goal.take_replies-requires-clause-room
 take_replies-requires-clause-room c =

@@ -1,12 +1,42 @@
-use Rattle.std.proofs.Common.{refl, sym, ap, subst, ◌∙◌, arith}
+use Rattle.std.proofs.Common.{refl, sym, ap, subst, ◌∙◌, arith, ◌≡◌, ℕ, List, [], ◌∷◌, ◌++◌, Option, Some, None, set}
 use Rattle.ultra_isa.specs.Step.{has_stopped}
-use Rattle.ultra_halves.specs.Elements.{holds_request}
+use Rattle.ultra_halves.specs.Elements.{holds_request, delivered_to}
 use Rattle.ultra_halves.specs.declared.elements.ProcessingElement.{ProcessingElement}
 use Rattle.ultra_section.specs.BlockState.{BlockState}
-use Rattle.ultra_section.specs.RepliesTaken.{ElementCanTakeReply}
+use Rattle.ultra_section.specs.RepliesTaken.{ElementCanTakeReply, reply_taken_by}
 use Rattle.ultra_section.specs.Units.{IsElement}
 use Rattle.ultra_section.proofs.Known.{element_same, stands}
+use Rattle.ultra_msg.specs.declared.Event.{Event}
+use Rattle.ultra_msg.specs.declared.ReplyMessage.{ReplyMessage}
+use Rattle.ultra_model.specs.Places.{present}
+use Rattle.ultra_model.specs.Phases.{delivery}
+use Rattle.ultra_section.specs.Marks.{delivery_link, on_link}
+use Rattle.ultra_section.proofs.Entries.{put_back, elements_kept, element_passed, element_worked, none_more, one_more}
 use Rattle.ultra_section.proofs.block.Block.take_reply_of_element.Goals as goal
+
+delivery_done : (b : BlockState) (p : ℕ) (e v : ProcessingElement) (came : Option ReplyMessage) (replies : List (Option ReplyMessage)) (events : List Event)
+    → came ≡ on_link b.replies (delivery_link b.stages p) → replies ≡ set b.replies (delivery_link b.stages p) None → v ≡ delivered_to e came → events ≡ b.events ++ present (delivery came ∷ [])
+    → record b { elements = set b.elements p (Some v); replies = replies; events = events } ≡ reply_taken_by p b e
+delivery_done b p e v came replies events is left delivered more = rw (delivered, left, more, is) refl
+
+pub invariant_of-self : goal.invariant_of-self
+invariant_of-self c = elements_kept c.self.invariant _ (put_back c.self.inside.elements.items c.args.pe c.index_mut.result.now c.index_mut.ensures.value)
+
+pub returns-in_default : goal.returns-in_default
+returns-in_default c =
+    element_passed c.self.view_is (reply_taken_by c.args.pe) c.args.pe c.index_mut.result.now c.index_mut.ensures.value c.in_default.is
+
+pub returns-in-Some-came : goal.returns-in-Some-came
+returns-in-Some-came c =
+    delivery_done _ c.args.pe c.in-Some.element c.deliver.new.self c.take_at_element-came.result _ _ c.take_at_element-came.ensures.came c.take_at_element-came.ensures.table
+    (c.deliver.ensures ∙ ap (delivered_to c.in-Some.element) (sym c.in-Some-came.is)) (c.append.ensures.entries ∙ one_more c.self.inside.events.items _ _ (ap delivery c.in-Some-came.is))
+    ∙ element_worked c.self.view_is (reply_taken_by c.args.pe) c.args.number c.args.pe c.index_mut.result.now c.in-Some.element c.requires.is c.self.invariant.units.element_entries c.index_mut.ensures.value c.in-Some.is
+
+pub returns-in_default-came : goal.returns-in_default-came
+returns-in_default-came c =
+    delivery_done _ c.args.pe c.in-Some.element c.in-Some.element c.take_at_element-came.result _ _ c.take_at_element-came.ensures.came c.take_at_element-came.ensures.table
+    (ap (delivered_to c.in-Some.element) (sym c.in_default-came.is)) (none_more c.self.inside.events.items _ (ap delivery c.in_default-came.is))
+    ∙ element_worked c.self.view_is (reply_taken_by c.args.pe) c.args.number c.args.pe c.index_mut.result.now c.in-Some.element c.requires.is c.self.invariant.units.element_entries c.index_mut.ensures.value c.in-Some.is
 
 pub deliver-requires : goal.deliver-requires
 deliver-requires c =
@@ -28,7 +58,7 @@ invariant_of-self-in-Some-came c =
           (ap holds_request c.deliver.ensures) (ap (λ (e : ProcessingElement). has_stopped e.processor.core.activity) c.deliver.ensures);
       replies = c.take_at_element-came.ensures.known inside.sets.here known.replies;
       requests = known.requests;
-      events_fit = let more = c.tell.ensures.places in omega (arith, known.events_fit);
+      events_fit = let more = c.append.ensures.places in omega (arith, known.events_fit);
       stops_fit = known.stops_fit;
       numbers = known.numbers;
     }

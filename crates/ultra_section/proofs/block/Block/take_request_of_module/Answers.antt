@@ -1,10 +1,38 @@
-use Rattle.std.proofs.Common.{sym, subst, ◌∙◌, arith}
+use Rattle.std.proofs.Common.{sym, subst, ◌∙◌, arith, ◌≡◌, ℕ, ◌^◌, List, Option, Some, None, set, ap, refl}
 use Rattle.ultra_section.specs.BlockState.{BlockState}
-use Rattle.ultra_section.specs.Marks.{RepliesAreKnown, RequestsAreKnown}
-use Rattle.ultra_section.specs.RequestsTaken.{ModuleCanTakeRequest}
+use Rattle.ultra_section.specs.Marks.{RepliesAreKnown, RequestsAreKnown, memory_link, on_link}
+use Rattle.ultra_section.specs.RequestsTaken.{ModuleCanTakeRequest, request_taken_by}
 use Rattle.ultra_section.specs.Units.{IsModule}
 use Rattle.ultra_section.proofs.Known.{module_changed, stands}
+use Rattle.ultra_msg.specs.declared.Request.{Request}
+use Rattle.ultra_mem.specs.Serve.{Bank}
+use Rattle.ultra_halves.specs.Modules.{bank_with}
+use Rattle.ultra_section.proofs.Entries.{put_back, modules_kept, module_passed, module_worked}
+use Rattle.ultra_section.proofs.block.Block.take_request_of_module.Goals.{in-Some-came, in_default-came}
 use Rattle.ultra_section.proofs.block.Block.take_request_of_module.Goals as goal
+
+taking_done : (b : BlockState) (m : ℕ) (bank v : Bank) (came : Option Request) (requests : List (Option Request))
+    → came ≡ on_link b.requests (memory_link b.stages m) → requests ≡ set b.requests (memory_link b.stages m) None → v ≡ bank_with (2 ^ b.stages) bank came
+    → record b { modules = set b.modules m (Some v); requests = requests } ≡ request_taken_by m b bank
+taking_done b m bank v came requests is left taken = rw (taken, left, is) refl
+
+pub invariant_of-self : goal.invariant_of-self
+invariant_of-self c = modules_kept c.self.invariant _ (put_back c.self.inside.modules.items c.args.module_number c.index_mut.result.now c.index_mut.ensures.value)
+
+pub returns-in_default : goal.returns-in_default
+returns-in_default c =
+    module_passed c.self.view_is (request_taken_by c.args.module_number) c.args.module_number c.index_mut.result.now c.index_mut.ensures.value c.in_default.is
+
+pub returns : goal.returns
+returns c =
+    let inside = c.self.inside in
+    let taken : c.match-came.bank ≡ bank_with (2 ^ inside.net) c.in-Some.bank c.take_at_module-came.result =
+    elim c.match-came.branch [
+      | in-Some-came w ↦ w.bank-is ∙ w.take_request.ensures ∙ ap (bank_with (2 ^ inside.net) c.in-Some.bank) (sym w.in-Some-came.is)
+      | in_default-came w ↦ w.bank-is ∙ ap (bank_with (2 ^ inside.net) c.in-Some.bank) (sym w.in_default-came.is)
+    ] in
+    taking_done _ c.args.module_number c.in-Some.bank c.match-came.bank c.take_at_module-came.result _ c.take_at_module-came.ensures.came c.take_at_module-came.ensures.table taken
+    ∙ module_worked c.self.view_is (request_taken_by c.args.module_number) c.args.number c.args.module_number c.index_mut.result.now c.in-Some.bank c.requires.is c.self.invariant.units.module_entries c.index_mut.ensures.value c.in-Some.is
 
 pub take_request-requires-clause-empty : goal.take_request-requires-clause-empty
 take_request-requires-clause-empty c =

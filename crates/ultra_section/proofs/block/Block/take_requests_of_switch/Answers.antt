@@ -1,13 +1,36 @@
-use Rattle.std.proofs.Common.{◌∙◌, sym, ap, subst, arith}
-use Rattle.ultra_halves.specs.Switches.{has_reply_room, holds_replies, keeps_records, CanTakeRequests}
+use Rattle.std.proofs.Common.{◌∙◌, sym, ap, subst, arith, ◌≡◌, ℕ, List, ◌++◌, Option, Some, set, refl}
+use Rattle.ultra_halves.specs.Switches.{has_reply_room, holds_replies, keeps_records, CanTakeRequests, after_requests, combinations_of}
 use Rattle.ultra_section.specs.BlockState.{BlockState}
-use Rattle.ultra_section.specs.Marks.{RepliesAreKnown, RequestsAreKnown}
-use Rattle.ultra_section.specs.RequestsTaken.{SwitchCanTakeRequests}
+use Rattle.ultra_section.specs.Marks.{RepliesAreKnown, RequestsAreKnown, on_both, request_links, without_both}
+use Rattle.ultra_section.specs.RequestsTaken.{SwitchCanTakeRequests, requests_taken_by}
 use Rattle.ultra_section.specs.Units.{IsSwitch}
 use Rattle.ultra_section.specs.Sets.{UnitFacts}
 use Rattle.ultra_section.proofs.Known.{switch_requests_taken, switch_was, stands}
 use Rattle.ultra_section.proofs.Records.{keeps_as_before, none_present}
+use Rattle.ultra_msg.specs.declared.Event.{Event}
+use Rattle.ultra_msg.specs.declared.Request.{Request}
+use Rattle.ultra_switch.specs.declared.Ports.{Ports}
+use Rattle.ultra_switch.specs.declared.Switch.{Switch}
+use Rattle.ultra_section.proofs.Entries.{put_back, switches_kept, switch_passed, switch_worked}
 use Rattle.ultra_section.proofs.block.Block.take_requests_of_switch.Goals as goal
+
+taking_done : (b : BlockState) (n s k : ℕ) (w v : Switch) (came : Ports (Option Request)) (requests : List (Option Request)) (events : List Event)
+    → came ≡ on_both b.requests (request_links b.stages s k) → requests ≡ without_both b.requests (request_links b.stages s k) → v ≡ after_requests b.stages s b.done w came
+    → events ≡ b.events ++ combinations_of b.stages s k b.done w came → record b { switches = set b.switches n (Some v); requests = requests; events = events } ≡ requests_taken_by n s k b w
+taking_done b n s k w v came requests events is left taken more = rw (taken, left, more, is) refl
+
+pub invariant_of-self : goal.invariant_of-self
+invariant_of-self c = switches_kept c.self.invariant _ (put_back c.self.inside.switches.items c.args.number c.index_mut.result.now c.index_mut.ensures.value)
+
+pub returns-in_default-clause-value : goal.returns-in_default-clause-value
+returns-in_default-clause-value c =
+    switch_passed c.self.view_is (requests_taken_by c.args.number c.args.stage c.args.index) c.args.number c.index_mut.result.now c.index_mut.ensures.value c.in_default.is
+
+pub returns-clause-value : goal.returns-clause-value
+returns-clause-value c =
+    taking_done _ c.args.number c.args.stage c.args.index c.in-Some.switch c.take_requests-combined.new.switch c.take_at_switch-came.result _ _ c.take_at_switch-came.ensures.came c.take_at_switch-came.ensures.table
+    c.take_requests-combined.ensures.queues (c.append_both.ensures.entries ∙ ap (λ more. c.self.inside.events.items ++ more) c.take_requests-combined.ensures.combined)
+    ∙ switch_worked c.self.view_is (requests_taken_by c.args.number c.args.stage c.args.index) c.args.number c.args.stage c.args.index c.index_mut.result.now c.in-Some.switch c.requires.is c.self.invariant.units.switch_entries c.index_mut.ensures.value c.in-Some.is
 
 pub take_requests-combined-requires-clause-room : goal.take_requests-combined-requires-clause-room
 take_requests-combined-requires-clause-room c =
@@ -39,7 +62,7 @@ invariant_of-self-2 c =
           c.note_requests.ensures.others c.note_records.ensures.others c.note_requests.ensures.there c.note_records.ensures.there (ap holds_replies c.take_requests-combined.ensures.queues) (ap has_reply_room c.take_requests-combined.ensures.queues);
       replies = subst (λ h. RepliesAreKnown inside.net h inside.replies) (sym (c.note_records.ensures.here ∙ c.note_requests.ensures.here)) known.replies;
       requests = subst (λ h. RequestsAreKnown inside.net h c.take_at_switch-came.new.links) (sym (c.note_records.ensures.here ∙ c.note_requests.ensures.here)) (c.take_at_switch-came.ensures.known inside.sets.here known.requests);
-      events_fit = let more = c.tell_both.ensures.places in omega (arith, known.events_fit);
+      events_fit = let more = c.append_both.ensures.places in omega (arith, known.events_fit);
       stops_fit = known.stops_fit;
       numbers = known.numbers;
     }

@@ -1,0 +1,92 @@
+-- An entry of a block is read, and what stands there is put back, or changed.
+use Rattle.std.proofs.Common.{◌≡◌, ℕ, ◌^◌, ◌<◌, List, [], ◌∷◌, ◌++◌, Option, Some, None, length, get_or, set, sym, ◌∙◌, ap, subst, arith, append-nil}
+use Rattle.std.proofs.lemmas.List.{set-get_or, get_or_default}
+use Rattle.ultra_msg.specs.declared.Request.{Request}
+use Rattle.ultra_msg.specs.declared.ReplyMessage.{ReplyMessage}
+use Rattle.ultra_switch.specs.declared.Switch.{Switch}
+use Rattle.ultra_mem.specs.Serve.{Bank}
+use Rattle.ultra_model.specs.Places.{present}
+use Rattle.ultra_units.specs.Numbers.{switch_count}
+use Rattle.ultra_halves.specs.declared.elements.ProcessingElement.{ProcessingElement}
+use Rattle.ultra_section.specs.declared.sets.Sets.{Sets}
+use Rattle.ultra_section.specs.declared.links.Links.{Links}
+use Rattle.ultra_section.specs.Units.{IsSwitch, IsModule, IsElement}
+use Rattle.ultra_section.specs.BlockState.{BlockState, IsKept, switch_at, module_at, element_at}
+
+-- ---- `o` is what was read of entry i
+module _ {X : Type 0} (xs : List (Option X)) (i : ℕ) (o : Option X) (read : o ≡ get_or xs i o) where
+  pub put_back : set xs i o ≡ xs
+  put_back = ap (λ x. set xs i x) read ∙ set-get_or xs i o
+
+  pub put_back_some : (x : X) → o ≡ Some x → set xs i (Some x) ≡ xs
+  put_back_some x is = ap (λ x. set xs i x) (sym is) ∙ put_back
+
+  none_there : {B : Type 0} (b : B) (act : X → B) → o ≡ None → b ≡ elim (get_or xs i None) [ None ↦ b | Some x ↦ act x ]
+  none_there b act none = ap (λ p. elim p [ None ↦ b | Some x ↦ act x ]) (subst (λ p. p ≡ get_or xs i p) none read)
+
+  one_there : {B : Type 0} (b : B) (act : X → B) (x : X) → i < length xs → o ≡ Some x → act x ≡ elim (get_or xs i None) [ None ↦ b | Some x ↦ act x ]
+  one_there b act x within is = ap (λ p. elim p [ None ↦ b | Some x ↦ act x ]) (sym is ∙ read ∙ get_or_default xs i o None within)
+
+-- ---- what may have happened, at the end of what has
+pub none_more : {X : Type 0} (xs : List X) (o : Option X) → o ≡ None → xs ≡ xs ++ present (o ∷ [])
+none_more xs o is = sym (ap (λ p. xs ++ present (p ∷ [])) is ∙ append-nil xs)
+
+pub one_more : {X : Type 0} (xs : List X) (o : Option X) (x : X) → o ≡ Some x → xs ++ x ∷ [] ≡ xs ++ present (o ∷ [])
+one_more xs o x is = sym (ap (λ p. xs ++ present (p ∷ [])) is)
+
+-- ---- what is kept of a block stays so
+module _ {d numbering : ℕ} {s : Sets} {ws : List (Option Switch)} {bs : List (Option Bank)} {es : List (Option ProcessingElement)}
+    {for_replies : Links ReplyMessage} {for_requests : Links Request} {event_places stop_places : ℕ}
+    (kept : IsKept d numbering s ws bs es for_replies for_requests event_places stop_places) where
+  pub switches_kept : (vs : List (Option Switch)) → vs ≡ ws → IsKept d numbering s vs bs es for_replies for_requests event_places stop_places
+  switches_kept vs same = subst (λ ws. IsKept d numbering s ws bs es for_replies for_requests event_places stop_places) (sym same) kept
+
+  pub modules_kept : (cs : List (Option Bank)) → cs ≡ bs → IsKept d numbering s ws cs es for_replies for_requests event_places stop_places
+  modules_kept cs same = subst (λ bs. IsKept d numbering s ws bs es for_replies for_requests event_places stop_places) (sym same) kept
+
+  pub elements_kept : (fs : List (Option ProcessingElement)) → fs ≡ es → IsKept d numbering s ws bs fs for_replies for_requests event_places stop_places
+  elements_kept fs same = subst (λ es. IsKept d numbering s ws bs es for_replies for_requests event_places stop_places) (sym same) kept
+
+-- ---- a half at one unit of a block, which is `inside` before: `act` is what the half does to a unit that stands there
+module _ {inside b : BlockState} (same : inside ≡ b) where
+  pub switch_passed : (act : BlockState → Switch → BlockState) (n : ℕ) (o : Option Switch) → o ≡ get_or inside.switches n o → o ≡ None
+      → record inside { switches = set inside.switches n o } ≡ elim (switch_at b.switches n) [ None ↦ b | Some w ↦ act b w ]
+  switch_passed act n o read none =
+      ap (λ ws. record inside { switches = ws }) (put_back inside.switches n o read)
+      ∙ none_there inside.switches n o read inside (act inside) none
+      ∙ ap (λ (b : BlockState). elim (switch_at b.switches n) [ None ↦ b | Some w ↦ act b w ]) same
+
+  pub switch_worked : (act : BlockState → Switch → BlockState) (n s k : ℕ) (o : Option Switch) (w : Switch) → IsSwitch b.stages n s k → length inside.switches ≡ switch_count inside.stages
+      → o ≡ get_or inside.switches n o → o ≡ Some w → act inside w ≡ elim (switch_at b.switches n) [ None ↦ b | Some w ↦ act b w ]
+  switch_worked act n s k o w own entries read is =
+      let own_inside : IsSwitch inside.stages n s k = subst (λ (b : BlockState). IsSwitch b.stages n s k) (sym same) own in
+      one_there inside.switches n o read inside (act inside) w (omega (arith, own_inside.within)) is
+      ∙ ap (λ (b : BlockState). elim (switch_at b.switches n) [ None ↦ b | Some w ↦ act b w ]) same
+
+  pub module_passed : (act : BlockState → Bank → BlockState) (m : ℕ) (o : Option Bank) → o ≡ get_or inside.modules m o → o ≡ None
+      → record inside { modules = set inside.modules m o } ≡ elim (module_at b.modules m) [ None ↦ b | Some bank ↦ act b bank ]
+  module_passed act m o read none =
+      ap (λ bs. record inside { modules = bs }) (put_back inside.modules m o read)
+      ∙ none_there inside.modules m o read inside (act inside) none
+      ∙ ap (λ (b : BlockState). elim (module_at b.modules m) [ None ↦ b | Some bank ↦ act b bank ]) same
+
+  pub module_worked : (act : BlockState → Bank → BlockState) (n m : ℕ) (o : Option Bank) (bank : Bank) → IsModule b.stages n m → length inside.modules ≡ 2 ^ inside.stages
+      → o ≡ get_or inside.modules m o → o ≡ Some bank → act inside bank ≡ elim (module_at b.modules m) [ None ↦ b | Some bank ↦ act b bank ]
+  module_worked act n m o bank own entries read is =
+      let own_inside : IsModule inside.stages n m = subst (λ (b : BlockState). IsModule b.stages n m) (sym same) own in
+      one_there inside.modules m o read inside (act inside) bank (omega (arith, own_inside.small)) is
+      ∙ ap (λ (b : BlockState). elim (module_at b.modules m) [ None ↦ b | Some bank ↦ act b bank ]) same
+
+  pub element_passed : (act : BlockState → ProcessingElement → BlockState) (p : ℕ) (o : Option ProcessingElement) → o ≡ get_or inside.elements p o → o ≡ None
+      → record inside { elements = set inside.elements p o } ≡ elim (element_at b.elements p) [ None ↦ b | Some e ↦ act b e ]
+  element_passed act p o read none =
+      ap (λ es. record inside { elements = es }) (put_back inside.elements p o read)
+      ∙ none_there inside.elements p o read inside (act inside) none
+      ∙ ap (λ (b : BlockState). elim (element_at b.elements p) [ None ↦ b | Some e ↦ act b e ]) same
+
+  pub element_worked : (act : BlockState → ProcessingElement → BlockState) (n p : ℕ) (o : Option ProcessingElement) (e : ProcessingElement) → IsElement b.stages n p → length inside.elements ≡ 2 ^ inside.stages
+      → o ≡ get_or inside.elements p o → o ≡ Some e → act inside e ≡ elim (element_at b.elements p) [ None ↦ b | Some e ↦ act b e ]
+  element_worked act n p o e own entries read is =
+      let own_inside : IsElement inside.stages n p = subst (λ (b : BlockState). IsElement b.stages n p) (sym same) own in
+      one_there inside.elements p o read inside (act inside) e (omega (arith, own_inside.small)) is
+      ∙ ap (λ (b : BlockState). elim (element_at b.elements p) [ None ↦ b | Some e ↦ act b e ]) same
