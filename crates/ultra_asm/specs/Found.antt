@@ -7,7 +7,7 @@ use Rattle.ultra_asm.specs.Labels.{near_place}
 use Rattle.ultra_asm.specs.declared.labels.Definition.{Definition}
 use Rattle.ultra_asm.specs.declared.labels.Labels.{Labels}
 
--- where the first label of a name says that it is defined
+-- where a name is defined, by the first label of that name
 abbrev pub definition_in : Labels → List ℕ → Option Definition
 definition_in l name = option_map (λ d. record { line = d.line; place = place_at l.instructions.items d.line }) (find (has_name name) l.list.items)
 

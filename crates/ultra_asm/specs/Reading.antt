@@ -12,7 +12,7 @@ use Rattle.ultra_asm.specs.Labels.{statement, near_place}
 use Rattle.ultra_asm.specs.declared.labels.Definition.{Definition}
 use Rattle.ultra_asm.specs.Instruction.{mnemonic_named}
 
--- where each label is
+-- the place of each label
 abbrev pub Places : Type 0
 Places = List ℕ → Option ℕ
 

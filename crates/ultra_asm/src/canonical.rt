@@ -216,5 +216,5 @@ fn write_numbered<S: Sink>(page: &mut Page<'_, S>, letter: &[u8], number: usize)
     ensures { Writes S.taken S.failures (letter.now ++ decimal number) page.old page.new }
 {
     page.put(letter);
-    page.put_number(number);
+    page.put_count(number);
 }

@@ -16,7 +16,7 @@ use ultra_isa::MOST_INSTRUCTIONS;
 pub struct Definition {
     /// The line, by its index from 0.
     pub line: usize,
-    /// The place of the next instruction; 4096 for those above it too.
+    /// The place of the next instruction, from 0. It is 4096 also where that is above 4096.
     pub place: usize,
 }
 

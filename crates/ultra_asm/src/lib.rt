@@ -34,10 +34,10 @@ pub enum AsmFaultKind {
     /// An operand should be a number, and isn't, or is too large.
     #[error("bad number")]
     BadNumber,
-    /// A jump goes to a label that no line defines.
+    /// The target of a jump isn't a name, or is one that no line defines.
     #[error("unknown label")]
     UnknownLabel,
-    /// A label stood on an earlier line.
+    /// The line's label is also that of an earlier line.
     #[error("double label")]
     DoubleLabel,
     /// The instruction would be the 4097th.
@@ -87,7 +87,7 @@ impl<T: Drop> From<AllocFailed<T>> for AsmFault {
 
 /// The program that the text writes: in the grammar of this project's profile, each line may begin with a label and then may have an instruction.
 ///
-/// Else the least line that has a fault is named; or `NoMemory`, with line 0, where memory for the labels, the instructions or the words of a line was refused. It keeps nothing else of the text. Its time grows with the text's length, but for the logarithm of the number of labels.
+/// Else the fault names the first line that has one; or it is `NoMemory`, with line 0, where memory for the labels, the instructions or the words of a line was refused. No other memory is asked for. The time is at most proportional to the text's length times the logarithm of the number of labels.
 pub fn assemble(alloc: Global, text: &str) -> Result<Program, AsmFault>
     ensures ok { IfOk result (IsProgramText text.now) }
     ensures refused { IfErr result (ExplainsFault text.now) }

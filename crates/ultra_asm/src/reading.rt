@@ -17,7 +17,7 @@ pub trait Readable: Sized {
     ghost use Rattle.ultra_asm.specs.declared.AsmFaultKind.{AsmFaultKind};
     ghost use Rattle.ultra_asm.specs.Reading.{Places};
 
-    /// What a word is read as, where this is where each label is.
+    /// What a word is read as, given the place of each label.
     ghost reading: { Places → List ℕ → Result Self AsmFaultKind };
 
     /// Reads a word.

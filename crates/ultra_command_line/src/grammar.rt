@@ -1,7 +1,7 @@
 //! The commands and their words, as `clap` knows them.
 
 ghost use Rattle.std.specs.Prelude.{◌≡◌, codes, IfOk};
-ghost use Rattle.clap.specs.Words.{new_app};
+ghost use Rattle.clap.specs.Words.{App, new_app, with_subcommand};
 ghost use Rattle.ultra_command_line.specs.Grammar.{argument, option, flag, numbers, on_a_run};
 ghost use Rattle.ultra_command_line.specs.Grammar.{run_app, order_app, explain_app, list_app};
 ghost use Rattle.ultra_command_line.specs.Grammar.{sweep_app, lib_app, ultra_app, IsRead, IsApp};
@@ -18,28 +18,33 @@ pub fn ultra_command<'c>(alloc: Global) -> Result<Command<'c>, AllocError>
     let ultra = new_command(alloc, "ultra", help::ULTRA)
         .version(help::VERSION)
         .subcommand_required(true);
-    let run = run_command(alloc)?;
-    let ultra = ultra.subcommand(run)?;
-    let order = order_command(alloc)?;
-    let ultra = ultra.subcommand(order)?;
-    let explain = explain_command(alloc)?;
-    let ultra = ultra.subcommand(explain)?;
-    let list = list_command(alloc)?;
-    let ultra = ultra.subcommand(list)?;
-    let sweep = sweep_command(alloc)?;
-    let ultra = ultra.subcommand(sweep)?;
-    let lib = lib_command(alloc)?;
-    ultra.subcommand(lib)
+    let ultra = with_command(ultra, run_command(alloc))?;
+    let ultra = with_command(ultra, order_command(alloc))?;
+    let ultra = with_command(ultra, explain_command(alloc))?;
+    let ultra = with_command(ultra, list_command(alloc))?;
+    let ultra = with_command(ultra, sweep_command(alloc))?;
+    with_command(ultra, lib_command(alloc))
+}
+
+/// The command with one more command below it, unless memory was refused for that one.
+fn with_command<'c>(
+    command: Command<'c>,
+    below: Result<Command<'c>, AllocError>,
+) -> Result<Command<'c>, AllocError>
+    ensures { (app sub : App) → IsApp app command.entry → IfOk below.entry (IsApp sub)
+        → IfOk result (IsApp (with_subcommand app sub.top)) }
+{
+    command.subcommand(below?)
 }
 
 /// The command `run`.
 fn run_command<'c>(alloc: Global) -> Result<Command<'c>, AllocError>
     ensures { IfOk result (IsApp run_app) }
 {
+    let run = command_on_a_run(alloc, "run", help::RUN)?;
     let workers = option(alloc, "workers", "H", help::WORKERS, 1, 64)
         .long_help(help::WORKERS_IN_FULL)
         .default_value("1");
-    let run = command_on_a_run(alloc, "run", help::RUN)?;
     run.arg(workers)
 }
 
@@ -54,10 +59,10 @@ fn order_command<'c>(alloc: Global) -> Result<Command<'c>, AllocError>
 fn explain_command<'c>(alloc: Global) -> Result<Command<'c>, AllocError>
     ensures { IfOk result (IsApp explain_app) }
 {
+    let explain = command_on_a_run(alloc, "explain", help::EXPLAIN)?;
     let heap = option(alloc, "heap", "BYTES", help::HEAP, 256, 16_777_216)
         .long_help(help::HEAP_IN_FULL)
         .default_value("1048576");
-    let explain = command_on_a_run(alloc, "explain", help::EXPLAIN)?;
     explain.arg(heap)
 }
 

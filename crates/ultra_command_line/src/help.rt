@@ -14,19 +14,19 @@ pub struct Help<'c> {
 /// The version of the program, and of its trace.
 pub const VERSION: &str = "1.0 (trace 2)";
 
-/// The file of settings.
+/// The help of the file of settings.
 pub const SETTINGS: &str = "The settings of the machine, a TOML file";
 
-/// The file of the program.
+/// The help of the program's file.
 pub const PROGRAM: &str = "The program of the processing elements, an assembler text";
 
-/// The file of jobs.
+/// The help of the file of jobs.
 pub const JOBS: &str = "The settings and programs of the runs, a TOML file";
 
-/// The workers of a run.
+/// The short help of the workers of a run.
 pub const WORKERS: &str = "How many threads make the cycles, 1 to 64";
 
-/// The same, and what they gain and cost.
+/// The long help of the workers of a run: what they gain and cost.
 pub const WORKERS_IN_FULL: &str = "\
 How many threads make the cycles, 1 to 64
 
@@ -37,10 +37,10 @@ on machines of up to six stages. Measured at six stages, 2 workers
 took some 5 times as long as 1, and 8 workers some 67 times
 (bench/README.md).";
 
-/// The workers of a sweep.
+/// The short help of the workers of a sweep.
 pub const JOB_WORKERS: &str = "How many threads do the jobs, 1 to 64";
 
-/// The same, and what they gain.
+/// The long help of the workers of a sweep: what they gain.
 pub const JOB_WORKERS_IN_FULL: &str = "\
 How many threads do the jobs, 1 to 64
 
@@ -49,26 +49,26 @@ on four processors, jobs of a second were done 2 times as fast by 2
 threads as by 1, and 3.3 times by 4; jobs of some milliseconds 1.6 and
 2.2 times (bench/README.md).";
 
-/// The bound on jobs that run at once.
+/// The help of the bound on jobs that run at once.
 pub const AT_ONCE: &str = "How many jobs may run at once, 1 to 64";
 
-/// The progress of a sweep.
+/// The help of the progress of a sweep.
 pub const PROGRESS: &str = "Shows on standard error how many jobs are finished";
 
-/// The heap of the trees.
+/// The short help of the heap of the trees.
 pub const HEAP: &str = "Bytes for the trees, 256 to 16777216";
 
-/// The same, and what has to fit.
+/// The long help of the heap of the trees: what has to fit.
 pub const HEAP_IN_FULL: &str = "\
 Bytes for the trees, 256 to 16777216
 
 Only the trees of requests that are on their way have to fit, so a
 longer run needs no larger heap.";
 
-/// The name of a coordination program.
+/// The short help of the name of a coordination program.
 pub const NAME: &str = "gate (B T), queue (Z T), rw (G T) or barrier (T)";
 
-/// The same, and what each program is.
+/// The long help of the name of a coordination program: what each program is.
 pub const NAME_IN_FULL: &str = "\
 gate (B T), queue (Z T), rw (G T) or barrier (T)
 
@@ -77,10 +77,10 @@ queue Z T  a queue of 2^Z places, Z 0 to 6
 rw G T     PEs below G write and the others read, G 0 to 64
 barrier T  all PEs wait for one another";
 
-/// The numbers of a coordination program.
+/// The short help of the numbers of a coordination program.
 pub const NUMBERS: &str = "The size that the program is for, and the number T of rounds";
 
-/// The same, and their ranges.
+/// The long help of the numbers of a coordination program: their ranges.
 pub const NUMBERS_IN_FULL: &str = "\
 The size that the program is for (a barrier has none), and the number
 T of rounds, 1 to 1000. Each number is in decimal digits.";

@@ -1,4 +1,4 @@
--- how many trees are held: at most m for each of n elements, so at most n * m
+-- how many trees are held: at most m for each of n processing elements (PEs), so at most n * m
 use Rattle.std.proofs.Common.{◌≡◌, ◌≢◌, ℕ, zero, suc, ◌+◌, ◌*◌, ◌<◌, ◌≤◌, List, [], ◌∷◌, length, true, false, ◌==◌, refl, arith, sym, ap, subst, ⊎_elim}
 use Rattle.std.specs.Prelude.{IsSome}
 use Rattle.std.specs.List.{AllByRecursion}
@@ -22,7 +22,7 @@ equal_of a b e = grind (arith, nat_tests)
 pub apart_of : (a b : ℕ) → (a == b) ≡ false → a ≢ b
 apart_of a b e h = grind (arith, nat_tests)
 
--- ---- those of the elements below n
+-- ---- those of the PEs below n
 abbrev held_below : ℕ → List Kept → ℕ
 held_below zero ks = 0
 held_below (suc n) ks = held_by n ks + held_below n ks
@@ -62,7 +62,7 @@ fewer_below (suc n) m p ks h l f =
     (λ e. let ne = apart_of p n e in omega (arith, h n, fewer_below n m p ks h (omega (arith, ne, l)) f))
     (cases_Bool (p == n))
 
--- there is room for one tree more of an element that holds fewer than it can
+-- there is room for one tree more of a PE of which fewer than m are held
 pub room_for : (n m p : ℕ) (ks : List Kept) → AreWithin n m ks → p < n → held_by p ks < m → length ks < n * m
 room_for n m p ks w l f = omega (arith, all_below n ks w.elements, fewer_below n m p ks w.few l f)
 
@@ -114,7 +114,7 @@ one_fewer p a (k ∷ ks) s =
     omega (arith, e, one_fewer p a ks (subst (λ o. IsSome o) (tree_later p a k ks u) s)))
     (cases_Bool (is_under p a k))
 
--- who has a tree is one of the elements
+-- whose tree is held is one of the PEs below n
 pub element_of : (n p a : ℕ) (ks : List Kept) → AllByRecursion (λ (k : Kept). k.pe < n) ks → IsSome (tree_of p a ks) → p < n
 element_of n p a [] h s = absurd cc
 element_of n p a (k ∷ ks) h s =

@@ -45,7 +45,7 @@ module _ (p a : ℕ) (k : Kept) where
       (λ h. rest_later p a u (us ++ k ∷ []) h ∙ (ap (λ vs. u ∷ vs) (rest_same us t (sym (tree_later p a u us h) ∙ e)) ∙ ap (λ vs. vs ++ k ∷ []) (sym (rest_later p a u us h))))
       (cases_Bool (is_under p a u))
 
--- ---- the trees of other elements stay
+-- ---- the trees of other processing elements stay
 pub tree_other : (p q a b : ℕ) → p ≢ q → (ks : List Kept) → tree_of q b (without p a ks) ≡ tree_of q b ks
 tree_other p q a b ne [] = refl
 tree_other p q a b ne (k ∷ ks) =

@@ -1,10 +1,10 @@
 -- where the tree stands that was put last under an identity
 use Rattle.std.proofs.Common.{◌≡◌, ℕ, zero, suc, ◌+◌, ◌<◌, ◌≤◌, List, [], ◌∷◌, ◌++◌, length, get_or, ◌≢◌, ◌-◌, true, false, ◌==◌, ◌&&◌, refl, arith, sym, ap, subst, ◌∙◌, ⊎_elim, Some, None}
-use Rattle.std.specs.Prelude.{slice_get}
+use Rattle.std.specs.Prelude.{slice_get, Option, not, is_some, IfSome, IfNone, ◌↔◌}
 use Rattle.std.proofs.lemmas.List.{append-nil, length_push}
-use Rattle.std.proofs.lemmas.Option.{get_or_from_slice_get, slice_get-get_or}
+use Rattle.std.proofs.lemmas.Option.{get_or_from_slice_get, slice_get-get_or, slice_get_within}
 use Rattle.std.proofs.lemmas.Bool.Decides.{nat_tests}
-use Rattle.ultra_law.specs.Tree.{is_under, tree_of}
+use Rattle.ultra_law.specs.Tree.{is_under, tree_of, Kept}
 use Rattle.ultra_tree.specs.declared.held.Held.{Held}
 use Rattle.ultra_tree.specs.Seen.{seen, kept_as, trees_of, IsLatest}
 use Rattle.std.proofs.lemmas.Bool.{cases_Bool}
@@ -96,3 +96,15 @@ length_trees (h ∷ hs) = omega (arith, length_push (trees_of hs) (kept_as h), l
 pub trees_push : {A : Type 0} (hs : List (Held A)) (h : Held A) → trees_of (hs ++ h ∷ []) ≡ kept_as h ∷ trees_of hs
 trees_push [] h = refl
 trees_push (g ∷ hs) h = ap (λ us. us ++ kept_as g ∷ []) (trees_push hs h)
+
+-- ---- what the search says
+pub latest_within : {A : Type 0} (p a : ℕ) (hs : List (Held A)) (i : ℕ) → IsLatest p a hs i → i < length hs
+latest_within p a hs i l = slice_get_within hs i l.held l.at
+
+pub held_if_found : {A : Type 0} (p a : ℕ) (hs : List (Held A)) (ks : List Kept) (o : Option ℕ) → trees_of hs ≡ ks → IfSome o (λ i. IsLatest p a hs i) → IfNone o (tree_of p a (trees_of hs) ≡ None) → is_some o ≡ is_some (tree_of p a ks)
+held_if_found p a hs ks None t f n = ap is_some (sym n ∙ ap (tree_of p a) t)
+held_if_found p a hs ks (Some i) t f n = ap is_some (sym f.tree ∙ ap (tree_of p a) t)
+
+pub not_some : {T : Type 0} (o : Option T) → (not (is_some o) ≡ true) ↔ (o ≡ None)
+not_some None = (λ _. refl, λ _. refl)
+not_some (Some x) = (λ e. absurd cc, λ e. absurd cc)

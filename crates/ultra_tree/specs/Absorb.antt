@@ -8,7 +8,7 @@ use Rattle.ultra_law.specs.Explicable.{held_by}
 use Rattle.ultra_tree.specs.declared.explaining.ExplainFault.{ExplainFault}
 use Rattle.ultra_tree.specs.declared.explaining.ExplainFault.TheVariants.{Full, Spent}
 
--- the trees are those of requests of elements below n, at most m of each
+-- the trees are those of requests of processing elements below n, at most m of each
 pub record AreWithin (n m : ℕ) (ks : List Kept) : Type 0 where
   pub elements : AllByRecursion (λ (k : Kept). k.pe < n) ks
   pub few : (p : ℕ) → held_by p ks ≤ m

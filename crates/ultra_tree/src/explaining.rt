@@ -80,7 +80,7 @@ impl<A: Allocator + Clone> Explainer<A> {
         })
     }
 
-    /// The tree of the request of an element for a cell, if one is held.
+    /// The tree of the request of a processing element for a cell, if one is held.
     pub fn tree_of(&self, pe: Pe, cell: Cell) -> Option<&Tree<A>>
         ensures { option_map (λ t. seen cell t.now) result ≡ tree_in pe cell self.now.trees }
     {
@@ -89,8 +89,9 @@ impl<A: Allocator + Clone> Explainer<A> {
     }
 
     /// Whether `absorb` may be called with an event: at `Served` and `Combined` the requests are
-    /// held, at `Combined` those of two elements; at `Issued` the request isn't held yet, its
-    /// element is one of the machine's and has fewer requests on their way than it can have.
+    /// held, at `Combined` those of two processing elements (PEs); at `Issued` the request isn't held
+    /// yet, its PE is one of the machine's, and fewer of that PE's requests are held than it may have
+    /// cells open.
     pub fn accepts(&self, event: &Event) -> bool
         ensures { IsTrue result
             ↔ IsAbsorbable self.now.elements self.now.most_open self.now.trees event.now }
@@ -109,7 +110,7 @@ impl<A: Allocator + Clone> Explainer<A> {
         }
     }
 
-    /// Whether the request of an element for a cell is held.
+    /// Whether the request of a processing element for a cell is held.
     fn holds(&self, pe: Pe, cell: Cell) -> bool
         ensures held { IsTrue result ↔ IsSome (tree_in pe cell self.now.trees) }
         ensures free { IsTrue (not result) ↔ (tree_in pe cell self.now.trees ≡ None) }
@@ -117,7 +118,7 @@ impl<A: Allocator + Clone> Explainer<A> {
         place_of(self.held.as_slice(), pe, cell).is_some()
     }
 
-    /// Takes the tree of the request of an element for a cell.
+    /// Takes the tree of the request of a processing element for a cell.
     fn take(&mut self, pe: Pe, cell: Cell) -> Tree<A>
         requires { IsSome (tree_in pe cell self.old.trees) }
         ensures tree { Some (seen cell result) ≡ tree_in pe cell self.old.trees }
@@ -149,14 +150,14 @@ impl<A: Allocator + Clone> Explainer<A> {
         self.held.clear();
     }
 
-    /// An event of the machine. At `Served` it gives the tree of the request that was served, and
-    /// otherwise `None`.
+    /// Absorbs an event of the machine. At `Served` it gives the tree of the request that was served,
+    /// and otherwise `None`.
     ///
     /// `Full` comes at `Combined` alone, and says that memory of the allocator was refused; no
-    /// trees are held then, and every later call answers `Spent`. The condition: at `Served` and
-    /// `Combined` the requests are held, at `Combined` those of two elements; at `Issued` the
-    /// request isn't held yet, its element is one of the machine's and has fewer requests on their
-    /// way than it can have.
+    /// trees are held then, and every later call answers `Spent`. The condition, unless memory was
+    /// refused before: at `Served` and `Combined` the requests are held, at `Combined` those of two
+    /// processing elements (PEs); at `Issued` the request isn't held yet, its PE is one of the
+    /// machine's, and fewer of that PE's requests are held than it may have cells open.
     pub fn absorb(&mut self, event: &Event) -> Result<Option<Tree<A>>, ExplainFault>
         requires { self.old.is_spent ≡ false
             → IsAbsorbable self.old.elements self.old.most_open self.old.trees event.now }
@@ -192,8 +193,8 @@ impl<A: Allocator + Clone> Explainer<A> {
         }
     }
 
-    /// The requests of two elements for a cell have combined; what is sent for both is the old
-    /// one's.
+    /// The requests of two processing elements for a cell have combined; the request that is sent
+    /// for both keeps the identity of the old one.
     fn combine(
         &mut self,
         stage: u32,

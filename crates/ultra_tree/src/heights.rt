@@ -20,7 +20,7 @@ pub fn height<A: Allocator>(tree: &Tree<A>) -> u64
     highest
 }
 
-/// In how many pairs the leaf at a place of the text stands.
+/// The depth of a leaf: n where it stands in n pairs, each within another. Its place, from 0, is that in the text of the tree, where old comes before new.
 fn depth_of<A: Allocator>(tree: &Node<A>, place: u64) -> u64
     requires right_counts { HasRightCounts tree.now }
     requires within { place < leaf_count tree.now }

@@ -31,7 +31,7 @@ pub(crate) fn place_of<A: Allocator>(held: &[Held<A>], pe: Pe, cell: Cell) -> Op
     None
 }
 
-/// How many of the trees are those of requests of an element.
+/// How many of the trees are those of requests of a processing element.
 pub(crate) fn count_of<A: Allocator>(held: &[Held<A>], pe: Pe) -> usize
     ensures { result ≡ held_by pe (trees_of held.now) }
 {

@@ -10,12 +10,12 @@ use crate::trees::{Node, Tree};
 use std::alloc::{AllocError, AllocFailed, Allocator, Global};
 use ultra_msg::{Op, Pe};
 
-/// A request in a tree. Its name is the element with the number.
+/// A request in a tree. The processing element (PE) and the number are its name.
 #[derive(Clone, Copy, PartialEq, Eq, Debug, Drop)]
 pub struct Leaf {
-    /// The element that issued it.
+    /// The PE that issued it.
     pub pe: Pe,
-    /// How many requests that element had issued before.
+    /// How many requests that PE had issued before.
     pub number: u32,
     /// What it does to the cell.
     pub op: Op,

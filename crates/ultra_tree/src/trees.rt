@@ -27,15 +27,15 @@ pub struct Tree<A: Allocator> {
 /// A request as it was issued, or two that combined.
 pub(crate) enum Node<A: Allocator> {
     Leaf {
-        /// The element that issued it.
+        /// The processing element that issued it.
         pe: Pe,
-        /// How many requests that element had issued before.
+        /// How many requests that processing element had issued before.
         number: u32,
         /// What it does to the cell.
         op: Op,
     },
     Pair {
-        /// The stage, from 0 at the elements' side.
+        /// The stage, from 0 at the PEs' side.
         stage: u32,
         /// The queue's memory-side position in the stage, from 0.
         position: u32,
