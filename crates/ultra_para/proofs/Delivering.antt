@@ -60,8 +60,8 @@ pub record IsAnswer (is : List Issue) (list : List Done) (p : ℕ) (r : ReplyMes
 
 module _ (c : Settings) (program : List Instr) (is : List Issue) (list : List Done) (once : (p k : ℕ) → count (λ (d : Done). is_named p k (request_of d)) list ≤ 1) where
   module _ (p : ℕ) (now : Core) (os : List OpenCell) (k : ℕ) (q : Core) (r : ReplyMessage) (open_there : 1 ≤ count (λ (v : OpenCell). v.cell == r.cell) os) (a : IsAnswer is list p r) where
-    abbrev pub told : Core
-    told = record now { registers = received now.registers (target_of r.cell os) r.reply }
+    abbrev pub core_after : Core
+    core_after = record now { registers = received now.registers (target_of r.cell os) r.reply }
 
     -- it is the cell that p waits for
     waited : (w : IsWaiting c program is p now os k) → (w.request.cell ≡ r.cell) × (closed r.cell os ≡ []) × (a.entry.number ≡ w.number)
@@ -71,7 +71,7 @@ module _ (c : Settings) (program : List Instr) (is : List Issue) (list : List Do
         let same : w.request.cell ≡ r.cell = only_cell os record { cell = w.request.cell; target = o.target } r.cell os_are open_there in
         (same, closes os record { cell = w.request.cell; target = o.target } r.cell os_are same, a.number ∙ (ap (λ z. latest_number p z is 0) (sym same) ∙ w.latest))
 
-    pub state_delivered : State c program is list p now os k q → State c program is list p told (closed r.cell os) k q
+    pub state_delivered : State c program is list p now os k q → State c program is list p core_after (closed r.cell os) k q
     state_delivered (inl s) = absurd (none_counted os r.cell s.none open_there)
     state_delivered (inr (inl s)) =
         let w = waited s.waiting in

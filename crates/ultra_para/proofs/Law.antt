@@ -209,9 +209,9 @@ module _ (c : Settings) (range : AreInRange c) (program : List Instr) (careful :
         each_issued c program m3 (NewIssue (λ (u : Issue). u.pe ≡ p → IsNewOf (step_at c program m3 p).sent (element_at m3 p).issued u) n)
         (λ q r hq e own. new_is p q r (sym own ∙ sent_own c program m3 q r e) e)
 
-    told_as : (p : ℕ) (o : Option Request) → p < size c → (step_at c program m3 p).sent ≡ o → IfSome o (λ (r : Request). (r.pe ≡ p) × IsIn (Issued r (element_at m3 p).issued) es)
-    told_as p None hp e = tt
-    told_as p (Some r) hp e =
+    issue_listed_as : (p : ℕ) (o : Option Request) → p < size c → (step_at c program m3 p).sent ≡ o → IfSome o (λ (r : Request). (r.pe ≡ p) × IsIn (Issued r (element_at m3 p).issued) es)
+    issue_listed_as p None hp e = tt
+    issue_listed_as p (Some r) hp e =
         let f : ℕ → Option Event = λ q. issue_event (element_at m3 q) (step_at c program m3 q).sent in
         let here : f p ≡ Some (Issued r (element_at m3 p).issued) = ap (λ o. issue_event (element_at m3 p) o) e in
         (sent_own c program m3 p r e, in-present (Issued r (element_at m3 p).issued) (places (size c) f) (subst (λ o. IsIn o (places (size c) f)) here (in-places f (size c) p hp)))
@@ -219,7 +219,7 @@ module _ (c : Settings) (range : AreInRange c) (program : List Instr) (careful :
     -- ---- its turn
     turns : (p : ℕ) (q : Core) → p < size c → Before p q → Turns c program is (issues_noted n es is) list (cells_after initial order) (λ z. element_at m z) (λ z. element_at (processor_phase c program m3) z) p q
     turns p q hp s =
-        let one = turn c range.some_open program careful n es is list all_logged p (element_at m3 p).core (element_at m3 p).interface (element_at m3 p).issued q (all_new p) (told_as p (step_at c program m3 p).sent hp refl) (at_delivery p q hp s) in
+        let one = turn c range.some_open program careful n es is list all_logged p (element_at m3 p).core (element_at m3 p).interface (element_at m3 p).issued q (all_new p) (issue_listed_as p (step_at c program m3 p).sent hp refl) (at_delivery p q hp s) in
         rw (element-processor_phase c program m3 p hp) one
 
     -- ---- a cycle

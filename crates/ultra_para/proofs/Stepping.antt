@@ -164,7 +164,7 @@ module _ (c : Settings) (some_open : 1 ≤ c.most_open) (program : List Instr) (
     none_of None e h = h
     none_of (Some r) e h = absurd cc
 
-    module _ (new : AllByRecursion (NewIssue (λ (u : Issue). u.pe ≡ p → IsNewOf t.sent k u) n) es) (told : IfSome t.sent (λ (r : Request). (r.pe ≡ p) × IsIn (Issued r k) es)) where
+    module _ (new : AllByRecursion (NewIssue (λ (u : Issue). u.pe ≡ p → IsNewOf t.sent k u) n) es) (issue_listed : IfSome t.sent (λ (r : Request). (r.pe ≡ p) × IsIn (Issued r k) es)) where
       fence_turn : (w : IsWaiting c program is p now i.opened k) → ((none : AllByRecursion (NewIssue (λ (u : Issue). u.pe ≡ p → ⊥) n) es) → State c program later list p now i.opened k q) → Turned p q t.core t.interface.opened (count_after k t.sent)
       fence_turn w f =
           let none = none_of t.sent (ap (λ (u : Stepped). u.sent) (stalled w)) new in
@@ -196,8 +196,8 @@ module _ (c : Settings) (some_open : 1 ≤ c.most_open) (program : List Instr) (
       new_of : (r : Request) → t.sent ≡ Some r → AllByRecursion (NewIssue (λ (u : Issue). u.pe ≡ p → IsNewOf (Some r) k u) n) es
       new_of r e = subst (λ o. AllByRecursion (NewIssue (λ (u : Issue). u.pe ≡ p → IsNewOf o k u) n) es) e new
 
-      told_of : (r : Request) → t.sent ≡ Some r → (r.pe ≡ p) × IsIn (Issued r k) es
-      told_of r e = subst (λ o. IfSome o (λ (u : Request). (u.pe ≡ p) × IsIn (Issued u k) es)) e told
+      listed_of : (r : Request) → t.sent ≡ Some r → (r.pe ≡ p) × IsIn (Issued r k) es
+      listed_of r e = subst (λ o. IfSome o (λ (u : Request). (u.pe ≡ p) × IsIn (Issued u k) es)) e issue_listed
 
       asks : IsIdle c program is list p now i.opened k q → (r : Request) → t.sent ≡ Some r → Turned p q t.core t.interface.opened (count_after k t.sent)
       asks s r e =
@@ -206,7 +206,7 @@ module _ (c : Settings) (some_open : 1 ≤ c.most_open) (program : List Instr) (
           let is_one = reference_step (site c p) program now r sends in
           let next : t.core ≡ record now { place = now.place + 1 } = alike.core ∙ is_one.core in
           let news = new_of r e in
-          let there = told_of r e in
+          let there = listed_of r e in
           let waiting : IsWaiting c program later p t.core t.interface.opened (k + 1) = record {
             before = now;
             request = r;

@@ -41,7 +41,7 @@ pub enum SettingsFault {
     /// range.
     #[error("bad {0}")]
     BadField(Field),
-    /// All keys are accepted, but there is one more.
+    /// The values of all keys are accepted, but the text has a key that is no setting.
     #[error("unknown key")]
     UnknownKey,
 }
@@ -188,7 +188,7 @@ fn is_key(text: &str) -> bool
 
 /// The settings that a text gives, once they are accepted.
 ///
-/// `BadField` names the first key that isn't; `UnknownKey` comes only after all keys are accepted.
+/// `BadField` names the first key whose value isn't accepted; `UnknownKey` comes only where all are.
 pub fn settings_from(alloc: Global, bytes: &[u8]) -> Result<Config, SettingsFault>
     ensures ok { IfOk result (λ c. (r : RawSettings) × Gives bytes.now r false ×
         (first_bad r ≡ None) × (c ≡ settings_of r)) }
