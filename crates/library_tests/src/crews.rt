@@ -40,7 +40,7 @@ fn make_cycles<R: Threads + Wait + Sync + Abort, G: Gate + Sync>(
     Ok(blocks)
 }
 
-/// Two blocks with work and two workers: in every half each worker waits for the other at the gate. A crew that makes all blocks in one thread is proved all the same, and fails here, as was tried: the turns run out, or no flag is raised where it calls no gate.
+/// Two blocks with work and two workers: in every half each worker waits for the other at the gate. A crew that makes all blocks in one thread keeps the contracts too, but fails this test: the turns run out, or no flag is raised where it calls no gate.
 #[test]
 fn gate_meets(rt: HostRuntime) -> Result<(), Fail> {
     let config = config(rt.alloc(), 1)?;
@@ -55,7 +55,7 @@ fn gate_meets(rt: HostRuntime) -> Result<(), Fail> {
     Ok(())
 }
 
-/// The same by workers whose threads are kept over all cycles. With all blocks in one thread of those it fails too, as was tried: the turns run out.
+/// The same by workers whose threads are kept over all cycles. With all blocks in one of these threads it fails too: the turns run out.
 #[test]
 fn gate_meets_when_kept(rt: HostRuntime) -> Result<(), Fail> {
     let config = config(rt.alloc(), 1)?;
@@ -128,7 +128,7 @@ fn same_events(rt: &impl Abort, a: &Blocks, b: &Blocks) {
     assert!(rt; stops.next().is_none());
 }
 
-/// Two machines with as many stages have the same places, and the same happened in their last cycles.
+/// Two machines with as many stages hold the same everywhere, and the same happened in their last cycles.
 fn same_places(rt: &impl Abort, a: &Blocks, b: &Blocks) {
     assert_eq!(rt; a.done(), b.done());
     assert!(rt; a.config().stages() == b.config().stages());
@@ -156,7 +156,7 @@ fn cause(stop: Option<Stop>) -> Option<(Pe, MachineFault)> {
     Some((stop.pe, stop.fault))
 }
 
-/// Ten cycles by these workers, beside the same machine in one block and without them: after each cycle their places are the same.
+/// Ten cycles by these workers, beside the same machine in one block and without them: after each cycle both hold the same everywhere.
 fn goes_as_alone<R: Threads + Wait + Sync + Abort + AllocGlobal, G: Gate + Sync>(
     rt: &R,
     partition: &[u8],
@@ -199,7 +199,7 @@ fn one_worker_late(rt: HostRuntime) -> Result<(), Fail> {
     goes_as_alone(&rt, &[0, 1, 2, 0, 1, 2, 0, 1, 2, 0, 1, 2], 3, &gate)
 }
 
-/// Ten cycles by workers whose threads are kept, of which that of block 0 is late each time, beside the same machine in one block and without workers: then their places are the same.
+/// Ten cycles by workers whose threads are kept, of which that of block 0 is late each time, beside the same machine in one block and without workers: after them both hold the same everywhere.
 #[test]
 fn kept_workers(rt: HostRuntime) -> Result<(), Fail> {
     let config = config(rt.alloc(), 2)?;

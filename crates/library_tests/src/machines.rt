@@ -261,7 +261,7 @@ fn two_loads(alloc: Global) -> Result<Program, Fail> {
     ]?)
 }
 
-/// The reply to 0 for cell 0 passes the record of 2 for cell 0.
+/// The reply to 0 for cell 0 goes past the record of 2 for cell 0, and isn't split.
 #[test]
 fn identity_not_cell(rt: HostRuntime) -> Result<(), Fail> {
     let program = two_loads(rt.alloc())?;

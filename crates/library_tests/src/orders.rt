@@ -23,7 +23,7 @@ fn one_stage(alloc: Global, initial: Vec<(i64, i64)>) -> Result<Config, Fail> {
     Ok(Config::new(alloc, &raw)?)
 }
 
-/// Element 0 adds 3 to cell 0 and element 1 stores 10 in it, or the other way round.
+/// Processing element 0 adds 3 to cell 0 and processing element 1 stores 10 in it, or the other way round.
 fn add_and_store(alloc: Global, adds_first: bool) -> Result<Program, Fail> {
     let (zero, one, two) = (register(0), register(1), register(2));
     let (three, four) = (register(3), register(4));
@@ -42,7 +42,7 @@ fn add_and_store(alloc: Global, adds_first: bool) -> Result<Program, Fail> {
     program(list)
 }
 
-/// Element 0 loads cell 0, and element 1 stores 7 in it.
+/// Processing element 0 loads cell 0, and processing element 1 stores 7 in it.
 fn load_and_store(alloc: Global) -> Result<Program, Fail> {
     let (zero, one, two) = (register(0), register(1), register(2));
     let list = vec![in alloc;
@@ -57,7 +57,7 @@ fn load_and_store(alloc: Global) -> Result<Program, Fail> {
     program(list)
 }
 
-/// The first request of an element, for cell 0.
+/// The first request of a processing element, for cell 0.
 fn done(pe: Pe, op: Op, reply: Reply) -> Entry {
     Entry {
         pe,
@@ -68,7 +68,7 @@ fn done(pe: Pe, op: Op, reply: Reply) -> Entry {
     }
 }
 
-/// The two additions of 1: that of element 1, then that of element 0.
+/// The two additions of 1: that of processing element 1, then that of processing element 0.
 fn in_order() -> [Entry; 2] {
     [
         done(1, Op::Faa(1), Reply::Value(0)),
@@ -97,7 +97,7 @@ fn answer(pe: Pe, word: Word, cycle: u32) -> Answer {
     }
 }
 
-/// A log of the two additions: element 0 was answered this word in cycle 7, and element 1 issued and was answered in these cycles.
+/// A log of the two additions: processing element 0 was answered this word in cycle 7, and processing element 1 issued and was answered in these cycles.
 fn log_with(alloc: Global, word: Word, issued: u32, answered: u32) -> Result<Log, Fail> {
     Ok(Log {
         issues: vec![in alloc; issue(0, 2), issue(1, issued)]?,

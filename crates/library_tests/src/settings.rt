@@ -86,7 +86,7 @@ fn numbers_outside_their_range_are_refused(rt: HostRuntime) -> Result<(), Fail> 
 }
 
 #[test]
-fn the_first_bad_key_is_told(rt: HostRuntime) -> Result<(), Fail> {
+fn the_first_bad_key_is_reported(rt: HostRuntime) -> Result<(), Fail> {
     let raw = RawSettings {
         cells: Some(4097),
         most_open: None,

@@ -1,6 +1,6 @@
 //! Runs with their traces, by one worker and by several.
 
-ghost use Rattle.std.specs.Prelude.{◌≤◌};
+ghost use Rattle.std.specs.Prelude.{◌≤◌, ◌<◌};
 
 use crate::gates::{Counter, Holdup, Meeting};
 use crate::programs::{add_number, add_one};
@@ -158,7 +158,7 @@ fn any_workers_of_the_largest_machine(rt: HostRuntime) -> Result<(), Fail> {
     Ok(())
 }
 
-/// Two workers: in every half each waits for the other at the gate. A run that makes all blocks in one thread is proved all the same, and fails here: the turns run out, or no flag is raised where it calls no gate.
+/// Two workers: in every half each waits for the other at the gate. A run that makes all blocks in one thread keeps the contracts too, but fails this test: the turns run out, or no flag is raised where it calls no gate.
 #[test]
 fn gate_meets(rt: HostRuntime) -> Result<(), Fail> {
     let config = config(rt.alloc(), 1)?;
@@ -173,23 +173,28 @@ fn gate_meets(rt: HostRuntime) -> Result<(), Fail> {
     Ok(())
 }
 
-/// Asserts that a run by n workers, into a sink that takes n bytes, one a write, and then fails, answers `Write`, has written these bytes of the trace, and offers nothing after the fault.
+/// Asserts that a run by n workers, into a sink that takes `most` bytes a write and fails after `count` writes, answers `Write`, has written these bytes of the trace, and offers nothing after the fault.
 fn check_failing_sink<R: Threads + Wait + Sync + Abort + AllocGlobal>(
     rt: &R,
     config: &Config,
     program: &Program,
     workers: usize,
+    most: usize,
     count: usize,
 ) -> Result<(), Fail>
     requires some_worker { 1 ≤ workers }
     requires most_workers { workers ≤ 64 }
+    requires some_bytes { 0 < most }
 {
-    let mut out = Tray::failing_after(rt, count);
+    let mut out = Tray::failing_after(rt, most, count);
     let gate = Counter::new();
-    let result = run(rt, rt.alloc(), config, program, workers, &gate, &mut out);
-    assert_eq!(rt; result, Err(RunFault::Write), "after {count}");
+    match run(rt, rt.alloc(), config, program, workers, &gate, &mut out) {
+        Err(RunFault::Write) => {}
+        Err(fault) => return Err(Fail::from(fault)),
+        Ok(()) => return Err(Fail::from("no write failed")),
+    }
     assert!(rt; COMBINED_PAIR.starts_with(out.text()?), "after {count}");
-    assert_eq!(rt; out.bytes.len(), count);
+    assert_eq!(rt; out.bytes.len(), most.saturating_mul(count));
     assert_eq!(rt; out.failures, 1);
     Ok(())
 }
@@ -200,12 +205,20 @@ fn sink_fails_at_each_write(rt: HostRuntime) -> Result<(), Fail> {
     let config = config(rt.alloc(), 1)?;
     let program = add_one(rt.alloc())?;
     for count in 0..COMBINED_PAIR.len() {
-        check_failing_sink(&rt, &config, &program, 1, count)?;
+        check_failing_sink(&rt, &config, &program, 1, 1, count)?;
         if count % 30 == 0 {
-            check_failing_sink(&rt, &config, &program, 2, count)?;
+            check_failing_sink(&rt, &config, &program, 2, 1, count)?;
         }
     }
     Ok(())
+}
+
+/// A sink that takes four bytes a write, and fails at its third.
+#[test]
+fn short_failing_sink(rt: HostRuntime) -> Result<(), Fail> {
+    let config = config(rt.alloc(), 1)?;
+    let program = add_one(rt.alloc())?;
+    check_failing_sink(&rt, &config, &program, 1, 4, 2)
 }
 
 /// A run by n workers, short enough to refuse each of its allocations in turn: it ends with a fault then, and what went out is a prefix of the trace.

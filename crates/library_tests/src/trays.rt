@@ -52,13 +52,15 @@ impl<'r, R: Abort + AllocGlobal> Tray<'r, R> {
         })
     }
 
-    /// A tray that takes a byte a write, and fails after n.
-    pub(crate) fn failing_after(rt: &'r R, count: usize) -> Self {
+    /// A tray that takes at most `most` bytes a write, and fails after n writes.
+    pub(crate) fn failing_after(rt: &'r R, most: usize, count: usize) -> Self
+        requires { 0 < most }
+    {
         Tray {
             rt,
             bytes: Vec::new(rt.alloc()),
             failures: 0,
-            most: 1,
+            most,
             sound_writes: count,
         }
     }

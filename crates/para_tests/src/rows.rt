@@ -102,7 +102,7 @@ fn stores_and_loads(rt: HostRuntime) -> Result<(), Fail> {
     )
 }
 
-/// Element 0 refers to a cell that the memory doesn't have, and element 1 runs past the end of the program.
+/// Processing element 0 refers to a cell that the memory doesn't have, and processing element 1 runs past the end of the program.
 #[test]
 fn faults(rt: HostRuntime) -> Result<(), Fail> {
     let (zero, one) = (register(0), register(1));

@@ -1,7 +1,16 @@
 //! What the words of a command line ask for.
 
+use std::alloc::Global;
 use std::test::Fail;
 use ultra_command_line::{Command, HeapBytes, Parsed, Workers, parse};
+
+/// What the words ask for. Where memory was refused, that is the error here.
+fn parsed<'w>(alloc: Global, words: &'w [&'w str]) -> Result<Parsed<'w>, Fail> {
+    match parse(alloc, words) {
+        Parsed::NoMemory => Err("no memory".into()),
+        parsed => Ok(parsed),
+    }
+}
 
 #[test]
 fn a_run_is_asked_for(rt: HostRuntime) -> Result<(), Fail> {
@@ -13,7 +22,7 @@ fn a_run_is_asked_for(rt: HostRuntime) -> Result<(), Fail> {
         (&["ultra", "run", "c.toml", "--workers", "64", "p.s"], 64),
     ];
     for (words, count) in rows {
-        let Parsed::Command(command) = parse(rt.alloc(), words) else {
+        let Parsed::Command(command) = parsed(rt.alloc(), words)? else {
             return Err("no command".into());
         };
         let wanted = Command::Run {
@@ -29,7 +38,7 @@ fn a_run_is_asked_for(rt: HostRuntime) -> Result<(), Fail> {
 #[test]
 fn an_order_is_asked_for(rt: HostRuntime) -> Result<(), Fail> {
     let words = ["ultra", "order", "c.toml", "p.s"];
-    let Parsed::Command(command) = parse(rt.alloc(), &words) else {
+    let Parsed::Command(command) = parsed(rt.alloc(), &words)? else {
         return Err("no command".into());
     };
     let wanted = Command::Order {
@@ -51,7 +60,7 @@ fn an_explanation_is_asked_for(rt: HostRuntime) -> Result<(), Fail> {
         ),
     ];
     for (words, bytes) in rows {
-        let Parsed::Command(command) = parse(rt.alloc(), words) else {
+        let Parsed::Command(command) = parsed(rt.alloc(), words)? else {
             return Err("no command".into());
         };
         let wanted = Command::Explain {
@@ -76,7 +85,7 @@ fn wrong_words_are_usage_faults(rt: HostRuntime) -> Result<(), Fail> {
         &["ultra", "run", "--version"],
     ];
     for words in rows {
-        let Parsed::Usage(text) = parse(rt.alloc(), words) else {
+        let Parsed::Usage(text) = parsed(rt.alloc(), words)? else {
             return Err("no usage fault".into());
         };
         assert!(rt; text.as_str().contains("Usage: ultra"), "{text}");
@@ -93,7 +102,7 @@ fn help_is_shown(rt: HostRuntime) -> Result<(), Fail> {
         &["ultra", "help", "run"],
     ];
     for words in rows {
-        let Parsed::Help(text) = parse(rt.alloc(), words) else {
+        let Parsed::Help(text) = parsed(rt.alloc(), words)? else {
             return Err("no help".into());
         };
         assert!(rt; text.as_str().contains("Usage: ultra"), "{text}");
@@ -121,7 +130,7 @@ const EXAMPLES: [(&[&str], &str); 7] = [
 #[test]
 fn help_has_statuses_and_an_example(rt: HostRuntime) -> Result<(), Fail> {
     for (words, example) in EXAMPLES {
-        let Parsed::Help(text) = parse(rt.alloc(), words) else {
+        let Parsed::Help(text) = parsed(rt.alloc(), words)? else {
             return Err("no help".into());
         };
         for status in ["0", "2", "3", "4", "5"] {
@@ -145,7 +154,7 @@ fn the_version_is_shown(rt: HostRuntime) -> Result<(), Fail> {
         &["ultra", "-V", "run"],
     ];
     for words in rows {
-        let Parsed::Version(text) = parse(rt.alloc(), words) else {
+        let Parsed::Version(text) = parsed(rt.alloc(), words)? else {
             return Err("no version".into());
         };
         assert_eq!(rt; text.as_str(), "ultra 1.0 (trace 2)\n");

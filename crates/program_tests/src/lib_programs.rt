@@ -48,22 +48,22 @@ cell 10 1
 cell 11 1
 pe 0 ";
 
-/// Calls the program with these words over these files. Standard output takes at most `most` bytes a
-/// write, and fails after `sound_writes` writes. Gives the status, and what was written to standard
-/// output and standard error.
+/// Calls the program with these words over these files. Gives the status, and what was written to
+/// standard output and standard error. Where memory was refused, that is the error here.
 fn call<R: Host>(
     rt: &R,
     words: &[&str],
     files: &[(&str, &[u8])],
     mut out: Tray,
-) -> (u8, Tray, Tray) {
+) -> Result<(u8, Tray, Tray), Fail> {
     let mut shelf = Shelf {
         files,
         account: Account::Opened,
     };
-    let mut err = Tray::new(rt.alloc());
+    let mut err = Tray::with_room(rt.alloc())?;
     let status = main_with(rt, words, &mut shelf, &mut out, &mut err);
-    (status, out, err)
+    err.check_no_refusal()?;
+    Ok((status, out, err))
 }
 
 /// The words of `ultra lib` with these words after it.
@@ -77,7 +77,7 @@ fn lib_words<'w, R: Host>(rt: &R, after: &[&'w str]) -> Result<Vec<&'w str>, Fai
 /// anything; it gives what goes to standard error.
 fn check_lib<R: Host>(rt: &R, after: &[&str], wanted: u8) -> Result<Tray, Fail> {
     let words = lib_words(rt, after)?;
-    let (status, out, err) = call(rt, words.as_slice(), &[], Tray::new(rt.alloc()));
+    let (status, out, err) = call(rt, words.as_slice(), &[], Tray::with_room(rt.alloc())?)?;
     assert_eq!(rt; status, wanted, "{after:?}");
     assert_eq!(rt; out.bytes.is_empty(), wanted != 0, "{after:?}");
     Ok(err)
@@ -86,13 +86,13 @@ fn check_lib<R: Host>(rt: &R, after: &[&str], wanted: u8) -> Result<Tray, Fail> 
 #[test]
 fn barrier_is_written_and_runs(rt: HostRuntime) -> Result<(), Fail> {
     let words = ["ultra", "lib", "barrier", "1"];
-    let (status, out, err) = call(&rt, &words, &[], Tray::new(rt.alloc()));
+    let (status, out, err) = call(&rt, &words, &[], Tray::with_room(rt.alloc())?)?;
     assert_eq!(rt; err.text()?, "");
     assert_eq!(rt; out.text()?, BARRIER);
     assert_eq!(rt; status, 0);
     let files: [(&str, &[u8]); 2] = [("c.toml", b"stages = 1"), ("p.s", BARRIER.as_bytes())];
     let words = ["ultra", "run", "c.toml", "p.s"];
-    let (status, out, _) = call(&rt, &words, &files, Tray::new(rt.alloc()));
+    let (status, out, _) = call(&rt, &words, &files, Tray::with_room(rt.alloc())?)?;
     assert!(rt; out.text()?.contains(BARRIER_END));
     assert_eq!(rt; status, 0);
     Ok(())
@@ -175,7 +175,7 @@ fn a_prefix_is_written_where_standard_output_fails(rt: HostRuntime) -> Result<()
         most: 4,
         sound_writes: 2,
     };
-    let (status, out, err) = call(&rt, &["ultra", "lib", "barrier", "1"], &[], out);
+    let (status, out, err) = call(&rt, &["ultra", "lib", "barrier", "1"], &[], out)?;
     assert!(rt; BARRIER.starts_with(out.text()?));
     assert_eq!(rt; err.text()?, "ultra: write failed\n");
     assert_eq!(rt; status, 5);

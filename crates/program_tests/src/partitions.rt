@@ -43,7 +43,7 @@ fn check_lines<R: Host>(rt: &R, partition: &[u8], workers: Workers) -> Result<()
     let config = settings_from(rt.alloc(), b"stages = 2")?;
     let program = assemble(rt.alloc(), ADDS_NUMBER)?;
     let blocks = Blocks::new(rt.alloc(), &config, &program, partition)?;
-    let mut out = Tray::new(rt.alloc());
+    let mut out = Tray::with_room(rt.alloc())?;
     make_and_write_ten(rt, blocks, workers, &mut out)?;
     let trace = format!(in rt.alloc(); "ultra trace 2\n{}end quiet\n", out.text()?)?;
     assert!(rt;

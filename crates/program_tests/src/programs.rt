@@ -3,7 +3,7 @@
 use crate::examples::{self, ADDS_NUMBER, ADDS_ONE, Example};
 use crate::host::Host;
 use crate::shelf::Shelf;
-use crate::tray::Tray;
+use crate::tray::{ROOM, Tray};
 use crate::two_stage_traces;
 use std::str;
 use std::test::Fail;
@@ -18,16 +18,22 @@ struct Ended {
     err: Tray,
 }
 
-/// Calls the program over files in memory.
-fn call<'t, R: Host>(rt: &R, words: &'t [&'t str], files: &'t [(&'t str, &'t [u8])]) -> Ended {
+/// Calls the program over files in memory. Where memory or a thread was refused, that is the error
+/// here.
+fn call<'t, R: Host>(
+    rt: &R,
+    words: &'t [&'t str],
+    files: &'t [(&'t str, &'t [u8])],
+) -> Result<Ended, Fail> {
     let mut shelf = Shelf {
         files,
         account: Account::Opened,
     };
-    let mut out = Tray::new(rt.alloc());
-    let mut err = Tray::new(rt.alloc());
+    let mut out = Tray::with_room(rt.alloc())?;
+    let mut err = Tray::with_room(rt.alloc())?;
     let status = main_with(rt, words, &mut shelf, &mut out, &mut err);
-    Ended { status, out, err }
+    err.check_no_refusal()?;
+    Ok(Ended { status, out, err })
 }
 
 const RUN: [&str; 4] = ["ultra", "run", "c.toml", "p.s"];
@@ -49,7 +55,7 @@ pub(crate) fn check_command<R: Host>(
     wanted: (u8, &str, &str),
 ) -> Result<(), Fail> {
     let files = [("c.toml", settings), ("p.s", program)];
-    let ended = call(rt, words, &files);
+    let ended = call(rt, words, &files)?;
     assert_eq!(rt; ended.err.text()?, wanted.2);
     assert_eq!(rt; ended.out.text()?, wanted.1);
     assert_eq!(rt; ended.status, wanted.0);
@@ -129,7 +135,7 @@ fn all_numbers_of_stages_run(rt: HostRuntime) -> Result<(), Fail> {
 /// output and standard error.
 fn check_list<R: Host>(rt: &R, program: &[u8], wanted: (u8, &str, &str)) -> Result<(), Fail> {
     let files = [("p.s", program)];
-    let ended = call(rt, &["ultra", "list", "p.s"], &files);
+    let ended = call(rt, &["ultra", "list", "p.s"], &files)?;
     assert_eq!(rt; ended.err.text()?, wanted.2);
     assert_eq!(rt; ended.out.text()?, wanted.1);
     assert_eq!(rt; ended.status, wanted.0);
@@ -171,7 +177,7 @@ fn listings_are_refused(rt: HostRuntime) -> Result<(), Fail> {
     ] {
         check_list(&rt, program.as_bytes(), (3, "", line))?;
     }
-    let ended = call(&rt, &["ultra", "list", "p.s"], &[]);
+    let ended = call(&rt, &["ultra", "list", "p.s"], &[])?;
     assert_eq!(rt; ended.err.text()?, "ultra: cannot read p.s\n");
     assert_eq!(rt; ended.status, 3);
     let not_utf8 = [b';', 0xff];
@@ -305,8 +311,8 @@ fn orders_are_refused(rt: HostRuntime) -> Result<(), Fail> {
     Ok(())
 }
 
-/// The program of `long_orders_are_written_in_pieces`: one processing element loads cell 0 so
-/// often.
+/// The program of `long_orders_are_written_in_pieces`: one processing element loads cell 0
+/// `count` times.
 fn many_loads<R: AllocGlobal>(rt: &R, count: usize) -> Result<String, Fail> {
     let mut program = String::from_str(rt.alloc(), "pid r1\njnz r1 end\n")?;
     program.push_str("ld r3 r0\n".repeat(rt.alloc(), count)?.as_str())?;
@@ -332,13 +338,14 @@ fn long_orders_are_written_in_pieces(rt: HostRuntime) -> Result<(), Fail> {
         account: Account::Opened,
     };
     let mut out = Tray {
-        bytes: Vec::new(rt.alloc()),
+        bytes: Vec::with_capacity(rt.alloc(), ROOM)?,
         failures: Account::Opened,
         most: usize::MAX,
         sound_writes: 1,
     };
-    let mut err = Tray::new(rt.alloc());
+    let mut err = Tray::with_room(rt.alloc())?;
     let status = main_with(&rt, &ORDER, &mut shelf, &mut out, &mut err);
+    err.check_no_refusal()?;
     assert_eq!(rt; status, 5);
     assert_eq!(rt; err.text()?, "ultra: write failed\n");
     assert!(rt; order.as_str().starts_with(out.text()?));
@@ -358,7 +365,7 @@ fn files_are_read_in_order(rt: HostRuntime) -> Result<(), Fail> {
         (&[good], "ultra: cannot read p.s\n"),
     ];
     for (files, line) in rows {
-        let ended = call(&rt, &RUN, files);
+        let ended = call(&rt, &RUN, files)?;
         assert_eq!(rt; ended.err.text()?, line);
         assert!(rt; ended.out.bytes.is_empty(), "{line}");
         assert_eq!(rt; ended.status, 3);
@@ -368,10 +375,10 @@ fn files_are_read_in_order(rt: HostRuntime) -> Result<(), Fail> {
 
 /// Asserts that the words are a usage fault, though the files are there, and that its text says
 /// this.
-pub(crate) fn check_usage_fault<R: Host>(rt: &R, words: &[&str], told: &str) -> Result<(), Fail> {
+pub(crate) fn check_usage_fault<R: Host>(rt: &R, words: &[&str], text: &str) -> Result<(), Fail> {
     let files: [(&str, &[u8]); 2] = [("c.toml", b"stages = 1"), ("p.s", b"halt")];
-    let ended = call(rt, words, &files);
-    assert!(rt; ended.err.text()?.contains(told), "{words:?}");
+    let ended = call(rt, words, &files)?;
+    assert!(rt; ended.err.text()?.contains(text), "{words:?}");
     assert!(rt; ended.out.bytes.is_empty(), "{words:?}");
     assert_eq!(rt; ended.status, 2, "{words:?}");
     Ok(())
@@ -421,7 +428,7 @@ fn wrong_workers_are_usage_faults(rt: HostRuntime) -> Result<(), Fail> {
 
 #[test]
 fn help_goes_to_standard_output(rt: HostRuntime) -> Result<(), Fail> {
-    let ended = call(&rt, &["ultra", "--help"], &[]);
+    let ended = call(&rt, &["ultra", "--help"], &[])?;
     let text = ended.out.text()?;
     assert!(rt; text.contains("Usage: ultra"), "{text}");
     for command in ["run", "order", "explain", "list", "sweep", "lib"] {
@@ -430,7 +437,7 @@ fn help_goes_to_standard_output(rt: HostRuntime) -> Result<(), Fail> {
     }
     assert!(rt; ended.err.bytes.is_empty());
     assert_eq!(rt; ended.status, 0);
-    let ended = call(&rt, &["ultra", "run", "--help"], &[]);
+    let ended = call(&rt, &["ultra", "run", "--help"], &[])?;
     let text = ended.out.text()?;
     assert!(rt; text.contains("--workers <H>"), "{text}");
     assert_eq!(rt; ended.status, 0);
@@ -439,7 +446,7 @@ fn help_goes_to_standard_output(rt: HostRuntime) -> Result<(), Fail> {
 
 #[test]
 fn the_version_goes_to_standard_output(rt: HostRuntime) -> Result<(), Fail> {
-    let ended = call(&rt, &["ultra", "--version"], &[]);
+    let ended = call(&rt, &["ultra", "--version"], &[])?;
     assert_eq!(rt; ended.out.text()?, "ultra 1.0 (trace 2)\n");
     assert!(rt; ended.err.bytes.is_empty());
     assert_eq!(rt; ended.status, 0);
@@ -455,13 +462,14 @@ fn short_failing_sink<R: Host>(rt: &R, words: &[&str]) -> Result<String, Fail> {
         account: Account::Opened,
     };
     let mut out = Tray {
-        bytes: Vec::new(rt.alloc()),
+        bytes: Vec::with_capacity(rt.alloc(), ROOM)?,
         failures: Account::Opened,
         most: 4,
         sound_writes: 2,
     };
-    let mut err = Tray::new(rt.alloc());
+    let mut err = Tray::with_room(rt.alloc())?;
     let status = main_with(rt, words, &mut shelf, &mut out, &mut err);
+    err.check_no_refusal()?;
     assert_eq!(rt; err.text()?, "ultra: write failed\n");
     assert_eq!(rt; status, 5);
     Ok(String::from_str(rt.alloc(), out.text()?)?)
@@ -485,8 +493,13 @@ fn a_prefix_is_written_to_a_short_failing_sink(rt: HostRuntime) -> Result<(), Fa
 }
 
 #[test]
-fn a_file_that_is_not_there_is_not_read(rt: HostRuntime) {
+fn a_file_that_is_not_there_is_not_read(rt: HostRuntime) -> Result<(), Fail> {
     let mut files = FileSource::new(&rt);
-    let fault = files.read(rt.alloc(), "no-such-file").err();
-    assert_eq!(rt; fault, Some(SourceFault::NotRead));
+    match files.read(rt.alloc(), "no-such-file") {
+        Err(SourceFault::NoMemory) => Err("no memory".into()),
+        ended => {
+            assert_eq!(rt; ended.err(), Some(SourceFault::NotRead));
+            Ok(())
+        }
+    }
 }

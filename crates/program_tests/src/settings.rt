@@ -1,14 +1,22 @@
 //! Texts of settings.
 
-use std::alloc::Global;
+use std::process::Abort;
 use std::test::Fail;
 use ultra_model::Field;
 use ultra_settings::{SettingsFault, settings_from};
 
-fn fault(alloc: Global, text: &str) -> Option<SettingsFault> {
-    match settings_from(alloc, text.as_bytes()) {
-        Ok(_) => None,
-        Err(fault) => Some(fault),
+/// Asserts that a text is refused with this fault.
+fn check_refused<R: Abort + AllocGlobal>(
+    rt: &R,
+    text: &[u8],
+    wanted: SettingsFault,
+) -> Result<(), Fail> {
+    match settings_from(rt.alloc(), text) {
+        Err(SettingsFault::NoMemory) => Err(Fail::from(SettingsFault::NoMemory)),
+        ended => {
+            assert_eq!(rt; ended.err(), Some(wanted), "{text:?}");
+            Ok(())
+        }
     }
 }
 
@@ -84,12 +92,7 @@ static REFUSED: [(&str, SettingsFault); 14] = [
 #[test]
 fn refused_settings_are_reported(rt: HostRuntime) -> Result<(), Fail> {
     for (text, wanted) in REFUSED {
-        assert_eq!(rt; fault(rt.alloc(), text), Some(wanted), "{text}");
+        check_refused(&rt, text.as_bytes(), wanted)?;
     }
-    let not_utf8 = [b'#', 0xff];
-    let Err(fault) = settings_from(rt.alloc(), &not_utf8) else {
-        return Err("accepted".into());
-    };
-    assert_eq!(rt; fault, SettingsFault::NotToml);
-    Ok(())
+    check_refused(&rt, &[b'#', 0xff], SettingsFault::NotToml)
 }

@@ -190,9 +190,9 @@ fn wrong_words_of_a_sweep_are_usage_faults(rt: HostRuntime) -> Result<(), Fail> 
         (&words_of("65", "1"), "'--workers <H>'"),
         (&words_of("1", "0"), "'--at-once <B>'"),
     ];
-    for (words, told) in rows {
+    for (words, text) in rows {
         let ended = sweep(&rt, words, TWO_JOBS, Tray::with_room(rt.alloc())?)?;
-        assert!(rt; ended.err.text()?.contains(told), "{words:?}");
+        assert!(rt; ended.err.text()?.contains(text), "{words:?}");
         assert!(rt; ended.out.bytes.is_empty(), "{words:?}");
         assert_eq!(rt; ended.status, 2, "{words:?}");
     }

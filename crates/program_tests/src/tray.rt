@@ -9,6 +9,9 @@ use std::test::Fail;
 use ultra_io::Account;
 use ultra_msg::{Sink, SinkFault};
 
+/// More bytes than any text of these tests has.
+pub(crate) const ROOM: usize = 131_072;
+
 /// A sink in memory. It takes at most `most` bytes a write, and fails after `sound_writes` writes.
 #[derive(Drop)]
 pub(crate) struct Tray {
@@ -30,11 +33,20 @@ impl Tray {
         }
     }
 
-    /// A tray that takes 4096 bytes without asking for memory.
+    /// A tray that takes each text of these tests without asking for memory.
     pub(crate) fn with_room(alloc: Global) -> Result<Tray, AllocError> {
         let mut tray = Tray::new(alloc);
-        tray.bytes.reserve(4096)?;
+        tray.bytes.reserve(ROOM)?;
         Ok(tray)
+    }
+
+    /// What it has taken doesn't say that memory or a thread was refused; else that is the error here.
+    pub(crate) fn check_no_refusal(&self) -> Result<(), Fail> {
+        let text = self.text()?;
+        if text == "ultra: no memory\n" || text == "ultra: no thread\n" {
+            return Err("no memory, or no thread".into());
+        }
+        Ok(())
     }
 
     pub(crate) fn text(&self) -> Result<&str, Fail> {

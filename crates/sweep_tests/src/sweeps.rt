@@ -104,9 +104,10 @@ fn two_job_sweep(rt: HostRuntime) -> Result<(), Fail> {
 }
 
 /// Two threads. Where two jobs may run at once, each waits in its run for the other's; where one
-/// may, none ever runs beside another. A `work` that runs one job at a time, as one in which a job
-/// waits until as many jobs are finished as its number says, is refused here: the turns run out. So
-/// is one that goes past the passes: two runs are under way at once.
+/// may, none ever runs beside another. A `work` that runs one job at a time, for example one in
+/// which job n waits until n jobs are finished, fails this test: the turns run out, as they do where
+/// a thread can't be started, since `join` then makes one call after the other. So does one that
+/// goes past the passes: two runs are under way at once.
 #[test]
 fn jobs_meet(rt: HostRuntime) -> Result<(), Fail> {
     let jobs = two_jobs(rt.alloc())?;
@@ -114,7 +115,9 @@ fn jobs_meet(rt: HostRuntime) -> Result<(), Fail> {
     check_report(&rt, sweep_by_two(&rt, jobs.as_slice(), 2, &meeting)?)?;
     assert_eq!(rt; meeting.flags[0].load(Ordering::SeqCst), 1);
     assert_eq!(rt; meeting.flags[1].load(Ordering::SeqCst), 1);
-    assert_eq!(rt; meeting.missed.load(Ordering::SeqCst), 0);
+    if meeting.missed.load(Ordering::SeqCst) > 0 {
+        return Err("NoThread, or one job at a time".into());
+    }
     let counter = Counter::new();
     check_report(&rt, sweep_by_two(&rt, jobs.as_slice(), 1, &counter)?)?;
     assert_eq!(rt; counter.runs.load(Ordering::SeqCst), 2);

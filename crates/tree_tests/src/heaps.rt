@@ -7,7 +7,7 @@ use std::test::Fail;
 use ultra_tree::{ExplainFault, Explainer};
 
 /// How many bytes of a large heap are taken once this many events of the run are absorbed.
-fn bytes_after<R: AllocGlobal + Abort>(rt: &R, events: usize) -> usize {
+pub(crate) fn bytes_after<R: AllocGlobal + Abort>(rt: &R, events: usize) -> usize {
     let heap = LocalHeap::new(rt.alloc(), 16384).expect(rt, "no memory");
     let mut explainer = explainer(rt, &heap);
     let run = all_combined();

@@ -1,0 +1,127 @@
+//! An explainer beside a machine.
+
+use crate::events::{explainer, settings};
+use crate::heaps::bytes_after;
+use crate::trays::Tray;
+use linked_list_allocator::LocalHeap;
+use std::alloc::Allocator;
+use std::process::Abort;
+use std::test::Fail;
+use ultra_block::Blocks;
+use ultra_isa::{Instr, Program};
+use ultra_lines::write_cycle;
+use ultra_msg::{Event, Register};
+use ultra_tree::{ExplainFault, Explainer};
+
+/// The cycles in which each of four processing elements adds its number and 1 to cell 0.
+const TWO_LEVEL_TREE: &str = "\
+cycle 0
+cycle 1
+cycle 2
+pni 0: 0@0 faa 1
+pni 1: 1@0 faa 2
+pni 2: 2@0 faa 3
+pni 3: 3@0 faa 4
+cycle 3
+req 0 0: 2@0 faa 4 *
+req 0 2: 3@0 faa 6 *
+wait 0 0: 2@0 same 0 plus 3
+wait 0 2: 3@0 same 1 plus 4
+cycle 4
+req 1 0: 2@0 faa 10 *
+wait 0 0: 2@0 same 0 plus 3
+wait 0 2: 3@0 same 1 plus 4
+wait 1 0: 2@0 same 3 plus 4
+cycle 5
+wait 0 0: 2@0 same 0 plus 3
+wait 0 2: 3@0 same 1 plus 4
+wait 1 0: 2@0 same 3 plus 4
+inp 0: 2@0 faa 10
+cycle 6
+act 0 2@0 faa 10 = 0 now 10
+wait 0 0: 2@0 same 0 plus 3
+wait 0 2: 3@0 same 1 plus 4
+wait 1 0: 2@0 same 3 plus 4
+out 0: 2@0 = 0
+cycle 7
+wait 0 0: 2@0 same 0 plus 3
+wait 0 2: 3@0 same 1 plus 4
+rep 1 0: 2@0 = 0
+rep 1 1: 3@0 = 4
+cycle 8
+rep 0 0: 0@0 = 3
+rep 0 1: 2@0 = 0
+rep 0 2: 1@0 = 8
+rep 0 3: 3@0 = 4
+cycle 9
+got 0@0 = 3
+got 1@0 = 8
+got 2@0 = 0
+got 3@0 = 4
+";
+
+/// A register.
+fn register<R: Abort>(rt: &R, number: u8) -> Register {
+    Register::new(number).expect(rt, "no register")
+}
+
+/// Each processing element adds its number and 1 to cell 0.
+fn add_number<R: Abort + AllocGlobal>(rt: &R) -> Result<Program, Fail> {
+    let (zero, number, old) = (register(rt, 0), register(rt, 2), register(rt, 3));
+    let list = vec![in rt.alloc();
+        Instr::Number(number),
+        Instr::AddWord(number, number, 1),
+        Instr::Faa(old, zero, number),
+        Instr::Halt,
+    ]?;
+    match Program::new(list) {
+        Ok(program) => Ok(program),
+        Err(_) => Err(Fail::from("no program")),
+    }
+}
+
+/// Absorbs events up to the first that is refused. Gives how that one is answered, and whether the explainer is spent then.
+fn first_refusal<A: Allocator + Clone>(
+    rt: &impl Abort,
+    explainer: &mut Explainer<A>,
+    events: &[Event],
+) -> Option<(ExplainFault, bool)> {
+    for event in events {
+        assert!(rt; explainer.accepts(event));
+        if let Err(fault) = explainer.absorb(event) {
+            let next = explainer.absorb(event);
+            return Some((fault, matches!(next, Err(ExplainFault::Spent))));
+        }
+    }
+    None
+}
+
+/// Makes a cycle, and writes its lines.
+fn make_cycle<R: Abort>(rt: &R, blocks: &mut Blocks, out: &mut Tray<'_, R>) -> Result<(), Fail> {
+    assert!(rt; blocks.done() < 10);
+    blocks.cycle();
+    assert!(rt; blocks.done() > 0);
+    Ok(write_cycle(blocks, out)?)
+}
+
+/// In a heap with room for an explainer alone the first combination is refused, and so is what comes next. The machine beside it goes on.
+#[test]
+fn explainer_without_memory(rt: HostRuntime) -> Result<(), Fail> {
+    let program = add_number(&rt)?;
+    let mut blocks = Blocks::new(rt.alloc(), &settings(&rt, 2)?, &program, &[0; 12])?;
+    let heap = LocalHeap::new(rt.alloc(), bytes_after(&rt, 0))?;
+    let mut explainer = explainer(&rt, &heap);
+    let mut refusal = None;
+    let mut out = Tray::new(&rt, usize::MAX);
+    for cycle in 0..10 {
+        make_cycle(&rt, &mut blocks, &mut out)?;
+        assert!(&rt; blocks.is_in_one_block());
+        if refusal.is_none() {
+            refusal = first_refusal(&rt, &mut explainer, blocks.events_of_one());
+            assert_eq!(&rt; refusal.is_some(), cycle == 3);
+        }
+    }
+    assert!(&rt; matches!(refusal, Some((ExplainFault::Full, true))));
+    assert_eq!(&rt; out.bytes(), TWO_LEVEL_TREE.as_bytes());
+    Ok(())
+}
