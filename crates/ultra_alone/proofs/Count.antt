@@ -110,12 +110,6 @@ module _ (c : Settings) (program : List Instr) where
   count_beyond n h p = found_beyond (λ k. is_quiet (after c program k)) 1 c.cycles c.cycles (n + 1) (omega arith) (omega arith) (λ j r s. h j r (omega arith))
 
 -- ---- the first lines of all
-range_parts : (a n k m : ℕ) → n + k ≡ m → range_with_len a m ≡ range_with_len a n ++ range_with_len (a + n) k
-range_parts a zero k m e = let same : k ≡ m = omega arith in let start : a + 0 ≡ a = omega arith in rw (← same, start) refl
-range_parts a (suc n) k zero e = absurd (omega arith)
-range_parts a (suc n) k (suc m) e =
-    let on : a + 1 + n ≡ a + suc n = omega arith in ap (λ ks. a ∷ ks) (rw on at (range_parts (a + 1) n k m (omega arith)))
-
 pub first_lines : (line : ℕ → List ℕ) (n m : ℕ) → n ≤ m → (rest : List ℕ) × (by_number m line ≡ by_number n line ++ rest)
 first_lines line n m h =
     let k : ℕ = m - n in

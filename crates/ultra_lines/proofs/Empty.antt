@@ -1,37 +1,52 @@
 -- units that hold nothing have no line
-use Rattle.std.proofs.Common.{ℕ, ◌≡◌, ◌+◌, ◌-◌, ◌*◌, ◌^◌, ◌<◌, List, [], ◌++◌, false, ◌∙◌, ap, subst, arith}
+use Rattle.std.proofs.Common.{ℕ, ◌≡◌, ◌+◌, ◌-◌, ◌*◌, ◌/◌, ◌%◌, ◌^◌, ◌<◌, List, [], ◌++◌, false, ◌∙◌, ap, subst, sym, arith}
+use Rattle.std.proofs.Math.Nat.{mod-lt}
+use Rattle.std.proofs.lemmas.Nat.{div-add-mod', div_below, pow_pos}
 use Rattle.ultra_msg.specs.declared.Request.{Request as Message}
 use Rattle.ultra_msg.specs.declared.ReplyMessage.{ReplyMessage}
 use Rattle.ultra_switch.specs.declared.Entry.{Entry}
 use Rattle.ultra_switch.specs.declared.WaitRecord.{WaitRecord}
 use Rattle.ultra_model.specs.Machine.{Machine}
-use Rattle.ultra_units.specs.Numbers.{switch_number, module_number, element_number}
+use Rattle.ultra_units.specs.Numbers.{switch_count, switch_number, module_number, element_number}
 use Rattle.ultra_block.specs.Held.TheVariants.{Reply, Request, Record}
 use Rattle.ultra_block.specs.Holding.{holds}
 use Rattle.ultra_block.proofs.NothingHeld.{no_replies, no_requests, no_records, no_reply, no_request, none_pending}
 use Rattle.ultra_lines.specs.Trace.{pni_line, req_line, wait_line, inp_line, out_line, rep_line, pni_of, req_of, wait_of, inp_of, out_of, rep_of}
+use Rattle.ultra_lines.proofs.Rows.{lines_at}
 use Rattle.ultra_lines.proofs.Skipped.{two_lines}
 
 two_none : (line : ℕ → List ℕ) (k : ℕ) → line (2 * k) ≡ [] → line (2 * k + 1) ≡ [] → two_lines line k ≡ []
 two_none line k first second = ap (λ t. t ++ line (2 * k + 1)) first ∙ second
 
 module _ (d : ℕ) (m : Machine) where
-  -- ---- switch k of stage s
-  module _ (s : ℕ) (hs : s < d) (k : ℕ) (hk : k < 2 ^ (d - 1)) where
-    number_is : switch_number d s 0 + k ≡ switch_number d s k
-    number_is = omega arith
+  -- ---- switch n
+  module _ (n : ℕ) (hn : n < switch_count d) where
+    abbrev s : ℕ
+    s = n / 2 ^ (d - 1)
 
-    pub no_request_lines : holds d m Request (switch_number d s 0 + k) ≡ false → two_lines (req_of m s) k ≡ []
+    abbrev k : ℕ
+    k = n % 2 ^ (d - 1)
+
+    number_is : 0 + n ≡ switch_number d s k
+    number_is = let e : 0 + n ≡ n = omega arith in e ∙ sym (div-add-mod' n (2 ^ (d - 1)))
+
+    hs : s < d
+    hs = div_below n (2 ^ (d - 1)) d (pow_pos (d - 1)) hn
+
+    hk : k < 2 ^ (d - 1)
+    hk = mod-lt n (pow_pos (d - 1))
+
+    pub no_request_lines : holds d m Request (0 + n) ≡ false → lines_at (2 ^ (d - 1)) (req_of m) n ≡ []
     no_request_lines none =
         let empty = no_requests d m s k hs hk (subst (λ n. holds d m Request n ≡ false) number_is none) in
         two_none (req_of m s) k (ap (λ (es : List Entry). req_line s (2 * k) es) empty.0) (ap (λ (es : List Entry). req_line s (2 * k + 1) es) empty.1)
 
-    pub no_record_lines : holds d m Record (switch_number d s 0 + k) ≡ false → two_lines (wait_of m s) k ≡ []
+    pub no_record_lines : holds d m Record (0 + n) ≡ false → lines_at (2 ^ (d - 1)) (wait_of m) n ≡ []
     no_record_lines none =
         let empty = no_records d m s k hs hk (subst (λ n. holds d m Record n ≡ false) number_is none) in
         two_none (wait_of m s) k (ap (λ (ws : List WaitRecord). wait_line s (2 * k) ws) empty.0) (ap (λ (ws : List WaitRecord). wait_line s (2 * k + 1) ws) empty.1)
 
-    pub no_reply_lines : holds d m Reply (switch_number d s 0 + k) ≡ false → two_lines (rep_of m s) k ≡ []
+    pub no_reply_lines : holds d m Reply (0 + n) ≡ false → lines_at (2 ^ (d - 1)) (rep_of m) n ≡ []
     no_reply_lines none =
         let empty = no_replies d m s k hs hk (subst (λ n. holds d m Reply n ≡ false) number_is none) in
         two_none (rep_of m s) k (ap (λ (rs : List ReplyMessage). rep_line s (2 * k) rs) empty.0) (ap (λ (rs : List ReplyMessage). rep_line s (2 * k + 1) rs) empty.1)

@@ -1,12 +1,12 @@
 //! The units of a machine that hold something.
 
-ghost use Rattle.std.specs.Prelude.{◌≡◌, ◌-◌, ◌^◌, ◌<◌};
+ghost use Rattle.std.specs.Prelude.{◌≡◌, ◌^◌};
 ghost use Rattle.std.specs.Iterator.{YieldsFirst, item_count};
-ghost use Rattle.ultra_units.specs.Numbers.{switch_number as number_of_switch, module_number as number_of_module, element_number as number_of_element};
+ghost use Rattle.ultra_units.specs.Numbers.{switch_count as count_of_switches, module_number as number_of_module, element_number as number_of_element};
 ghost use Rattle.ultra_lines.specs.Holders.{holders_left, holding};
 
 use ultra_block::{Blocks, Held};
-use ultra_units::{element_number, module_number, switch_number};
+use ultra_units::{element_number, module_number, switch_count};
 
 /// The units of one kind that hold what is asked for, by their numbers within the kind.
 #[derive(Drop)]
@@ -27,7 +27,11 @@ impl Iterator for Holders<'_> {
 
     ghost remaining = { item_count holders_left };
 
+    #[inline(always)]
     fn next(&mut self) -> Option<u32> {
+        if self.from >= self.end {
+            return None;
+        }
         let base = self.base as usize;
         let unit = self
             .blocks
@@ -41,17 +45,15 @@ impl Iterator for Holders<'_> {
     }
 }
 
-/// The switches of a stage that hold what is asked for, by their numbers within the stage.
-pub(crate) fn switches_with(blocks: &Blocks, held: Held, stage: u32) -> Holders<'_>
-    requires { stage < blocks.now.config.stages }
-    ensures { holders_left result ≡ holding blocks.now held (number_of_switch blocks.now.config.stages stage 0) 0 (2 ^ (blocks.now.config.stages - 1)) }
+/// The switches that hold what is asked for, by their numbers.
+pub(crate) fn switches_with(blocks: &Blocks, held: Held) -> Holders<'_>
+    ensures { holders_left result ≡ holding blocks.now held 0 0 (count_of_switches blocks.now.config.stages) }
 {
-    let net = blocks.config().net();
-    let end = net.size() / 2;
+    let end = switch_count(blocks.config().net()) as u32;
     Holders {
         blocks,
         held,
-        base: switch_number(net, stage, 0) as u32,
+        base: 0,
         from: 0,
         end,
     }

@@ -1,7 +1,8 @@
 //! The lines of what stands where after a cycle.
 
-ghost use Rattle.std.specs.Prelude.{◌≡◌, ◌*◌, ◌-◌, ◌^◌, ◌<◌, ◌≤◌};
+ghost use Rattle.std.specs.Prelude.{◌≡◌, ◌+◌, ◌*◌, ◌-◌, ◌/◌, ◌%◌, ◌^◌, ◌<◌, ◌≤◌};
 ghost use Rattle.ultra_model.specs.Machine.{size};
+ghost use Rattle.ultra_units.specs.Numbers.{switch_count};
 ghost use Rattle.ultra_page.specs.Page.{Writes};
 ghost use Rattle.ultra_lines.specs.Trace.{by_number, by_stage, pni_of, req_of, wait_of, inp_of, out_of, rep_of, state_text};
 
@@ -36,19 +37,9 @@ fn put_interfaces<S: Sink>(page: &mut Page<'_, S>, blocks: &Blocks)
 fn put_request_queues<S: Sink>(page: &mut Page<'_, S>, blocks: &Blocks)
     ensures { Writes S.taken S.failures (by_stage blocks.now.config (req_of blocks.now.machine)) page.old page.new }
 {
-    for stage in 0..stages(blocks) {
-        put_requests_of_stage(page, blocks, stage);
-    }
-}
-
-/// Writes the lines of a stage's queues toward memory, by position.
-fn put_requests_of_stage<S: Sink>(page: &mut Page<'_, S>, blocks: &Blocks, stage: u32)
-    requires { stage < blocks.now.config.stages }
-    ensures { Writes S.taken S.failures (by_number (size blocks.now.config) (req_of blocks.now.machine stage)) page.old page.new }
-{
     let _even = positions(blocks);
-    for switch in switches_with(blocks, Held::Request, stage) {
-        let first = 2 * switch;
+    for switch in switches_with(blocks, Held::Request) {
+        let (stage, first) = place_of(blocks, switch);
         let second = first + 1;
         put_req(page, stage, first, blocks.lane(stage, first));
         put_req(page, stage, second, blocks.lane(stage, second));
@@ -59,19 +50,9 @@ fn put_requests_of_stage<S: Sink>(page: &mut Page<'_, S>, blocks: &Blocks, stage
 fn put_wait_buffers<S: Sink>(page: &mut Page<'_, S>, blocks: &Blocks)
     ensures { Writes S.taken S.failures (by_stage blocks.now.config (wait_of blocks.now.machine)) page.old page.new }
 {
-    for stage in 0..stages(blocks) {
-        put_records_of_stage(page, blocks, stage);
-    }
-}
-
-/// Writes the lines of a stage's wait buffers, by position.
-fn put_records_of_stage<S: Sink>(page: &mut Page<'_, S>, blocks: &Blocks, stage: u32)
-    requires { stage < blocks.now.config.stages }
-    ensures { Writes S.taken S.failures (by_number (size blocks.now.config) (wait_of blocks.now.machine stage)) page.old page.new }
-{
     let _even = positions(blocks);
-    for switch in switches_with(blocks, Held::Record, stage) {
-        let first = 2 * switch;
+    for switch in switches_with(blocks, Held::Record) {
+        let (stage, first) = place_of(blocks, switch);
         let second = first + 1;
         put_wait(page, stage, first, blocks.lane(stage, first));
         put_wait(page, stage, second, blocks.lane(stage, second));
@@ -100,30 +81,26 @@ fn put_replies_to_leave<S: Sink>(page: &mut Page<'_, S>, blocks: &Blocks)
 fn put_reply_queues<S: Sink>(page: &mut Page<'_, S>, blocks: &Blocks)
     ensures { Writes S.taken S.failures (by_stage blocks.now.config (rep_of blocks.now.machine)) page.old page.new }
 {
-    for stage in 0..stages(blocks) {
-        put_replies_of_stage(page, blocks, stage);
-    }
-}
-
-/// Writes the lines of a stage's queues toward the processing elements, by position.
-fn put_replies_of_stage<S: Sink>(page: &mut Page<'_, S>, blocks: &Blocks, stage: u32)
-    requires { stage < blocks.now.config.stages }
-    ensures { Writes S.taken S.failures (by_number (size blocks.now.config) (rep_of blocks.now.machine stage)) page.old page.new }
-{
     let _even = positions(blocks);
-    for switch in switches_with(blocks, Held::Reply, stage) {
-        let first = 2 * switch;
+    for switch in switches_with(blocks, Held::Reply) {
+        let (stage, first) = place_of(blocks, switch);
         let second = first + 1;
         put_rep(page, stage, first, blocks.reply_queue(stage, first));
         put_rep(page, stage, second, blocks.reply_queue(stage, second));
     }
 }
 
-/// How many stages the machine has.
-fn stages(blocks: &Blocks) -> u32
-    ensures { result ≡ blocks.now.config.stages }
+/// The stage of a switch, and the first of its two positions there.
+#[inline(always)]
+fn place_of(blocks: &Blocks, switch: u32) -> (u32, u32)
+    requires { switch < switch_count blocks.now.config.stages }
+    ensures stage { result.0 ≡ switch / 2 ^ (blocks.now.config.stages - 1) }
+    ensures first { result.1 ≡ 2 * (switch % 2 ^ (blocks.now.config.stages - 1)) }
+    ensures stage_small { result.0 < blocks.now.config.stages }
+    ensures first_small { result.1 + 1 < 2 ^ blocks.now.config.stages }
 {
-    blocks.config().stages()
+    let half = positions(blocks) / 2;
+    (switch / half, 2 * (switch % half))
 }
 
 /// How many positions each side of a stage has, which is the number of processing elements and of modules.

@@ -1,5 +1,5 @@
 -- text on its way to a sink, some of it waiting on a page; this project's profile
-use Rattle.std.specs.Prelude.{ℕ, ◌≡◌, ◌+◌, List, [], ◌++◌, Bool, true, false}
+use Rattle.std.specs.Prelude.{ℕ, ◌≡◌, ◌+◌, ◌/◌, ◌%◌, List, [], ◌∷◌, ◌++◌, Bool, true, false}
 use Rattle.std.specs.Borrow.{MutBor}
 use Rattle.ultra_msg.specs.Bytes.{AreTakenOrWait, IsPrefix, TakesPrefix}
 use Rattle.ultra_page.specs.declared.Page.{Page}
@@ -28,6 +28,10 @@ pub record Wrote (bytes : List ℕ) (old new : State) : Type 0 where
   pub prefix : old.failed ≡ false → new.failed ≡ true
       → TakesPrefix (old.waiting ++ bytes) old.taken new.taken
       × (new.failures ≡ old.failures + 1)
+
+-- the two decimal digits of a number below 100
+abbrev pub two_digits : ℕ → List ℕ
+two_digits n = (48 + n / 10) ∷ (48 + n % 10) ∷ []
 
 module _ {S : Type 0} where
   -- the sink that a page writes to

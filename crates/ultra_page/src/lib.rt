@@ -1,11 +1,10 @@
 //! Pages, on which text goes to a sink in large pieces.
 #![tactic(auto)]
 
-ghost use Rattle.std.specs.Prelude.{◌≡◌, [], true, OnOk, OnErr, decimal};
-ghost use Rattle.ultra_page.specs.Page.{IsBlank, Writes, has_failed, sink_of};
+ghost use Rattle.std.specs.Prelude.{◌≡◌, ◌+◌, ◌<◌, ◌∷◌, [], true, OnOk, OnErr, decimal};
+ghost use Rattle.ultra_page.specs.Page.{IsBlank, Writes, has_failed, sink_of, two_digits};
 
 use arrayvec::ArrayVec;
-use itoa::Buffer;
 use ultra_msg::{Sink, SinkFault, write_all};
 
 /// How many bytes a page holds.
@@ -52,9 +51,9 @@ impl<'s, S: Sink> Page<'s, S> {
     {
         // most numbers have one digit or two, which go onto the page without a call
         if number < 10 {
-            self.put(&[b'0' + number as u8]);
+            self.put_digit(number as u8);
         } else if number < 100 {
-            self.put(&[b'0' + (number / 10) as u8, b'0' + (number % 10) as u8]);
+            self.put_pair(number as u8);
         } else {
             self.put_count(number as usize);
         }
@@ -65,8 +64,32 @@ impl<'s, S: Sink> Page<'s, S> {
     pub fn put_count(&mut self, count: usize)
         ensures { Writes S.taken S.failures (decimal count) self.old self.new }
     {
-        let mut digits = Buffer::new();
-        self.put(digits.format(count).as_bytes());
+        if count < 10 {
+            self.put_digit(count as u8);
+        } else if count < 100 {
+            self.put_pair(count as u8);
+        } else {
+            self.put_count(count / 100);
+            self.put_pair((count % 100) as u8);
+        }
+    }
+
+    /// Writes a digit.
+    #[inline(always)]
+    fn put_digit(&mut self, digit: u8)
+        requires { digit < 10 }
+        ensures { Writes S.taken S.failures ((48 + digit) ∷ []) self.old self.new }
+    {
+        self.put(&[b'0' + digit]);
+    }
+
+    /// Writes the two digits of a number below 100.
+    #[inline(always)]
+    fn put_pair(&mut self, number: u8)
+        requires { number < 100 }
+        ensures { Writes S.taken S.failures (two_digits number) self.old self.new }
+    {
+        self.put(&[b'0' + number / 10, b'0' + number % 10]);
     }
 
     /// Whether the sink has failed.
