@@ -4,4 +4,5 @@ pub mod Yielded
 pub mod Skipped
 pub mod Rows
 pub mod Empty
+pub mod Walked
 pub mod WorkedTraces
