@@ -14,7 +14,7 @@ use Rattle.ultra_page.specs.Page.{Writes, WritesPrefix}
 use Rattle.ultra_alone.specs.BlocksAfter.{IsAfter}
 use Rattle.ultra_lines.specs.Trace.{by_number, cycle_text, cycles_text, cycle_count, all_cycles_text, last_state, end_text}
 use Rattle.ultra_page.proofs.Writing.{either, writes_failed, writes_spent}
-use Rattle.ultra_lines.proofs.Numbered.{writes_number}
+use Rattle.ultra_lines.proofs.Numbered.{range_parts, writes_number}
 
 -- ---- the first number of a range that passes a test
 module _ (test : ℕ → Bool) where
