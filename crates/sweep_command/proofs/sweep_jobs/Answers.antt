@@ -1,5 +1,5 @@
 -- how each end is one of those of a sweep
-use Rattle.std.proofs.Common.{◌≡◌, ◌∙◌, ◌++◌, ap, inl, inr, length, refl, subst, sym}
+use Rattle.std.proofs.Common.{◌≡◌, ◌∙◌, ap, inl, inr, length, refl, subst, sym}
 use Rattle.std.proofs.lemmas.Result.{err_from_is_err_and}
 use Rattle.ultra_msg.specs.Bytes.{TakesPrefix}
 use Rattle.ultra_sweep.specs.Report.{report_text}
