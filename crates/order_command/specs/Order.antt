@@ -5,7 +5,7 @@ use Rattle.ultra_msg.specs.declared.Op.{Op}
 use Rattle.ultra_msg.specs.declared.Op.TheVariants.{Load, Store, Faa, Swap}
 use Rattle.ultra_isa.specs.declared.Instr.{Instr}
 use Rattle.ultra_model.specs.Machine.{Settings}
-use Rattle.ultra_lines.specs.Text.{newline, reply_text}
+use Rattle.ultra_model.specs.Text.{newline, reply_text}
 use Rattle.ultra_law.specs.declared.records.Entry.{Entry}
 use Rattle.ultra_law.specs.SerialList.{serial_list}
 

@@ -4,7 +4,7 @@
 ghost use Rattle.std.specs.Prelude.{◌≡◌, ◌+◌, ◌++◌, false, codes, decimal, IfErr, OnErr, OnOk};
 ghost use Rattle.ultra_msg.specs.Bytes.{TakesPrefix};
 ghost use Rattle.ultra_page.specs.Page.{Writes, WritesPrefix, has_failed};
-ghost use Rattle.ultra_lines.specs.Text.{reply_text};
+ghost use Rattle.ultra_model.specs.Text.{reply_text};
 ghost use Rattle.ultra_serial.specs.Ordered.{whole};
 ghost use Rattle.ultra_inputs.specs.Failure.{read_failures, write_failures};
 ghost use Rattle.order_command.specs.Order.{operation_text, order_line, order_of, order_text};

@@ -14,8 +14,9 @@ use std::alloc::{AllocError, Global};
 use std::sync::Wait;
 use std::thread::{self, PromisedHandle, Scope, Threads};
 use ultra_board::{Board, Seat};
+use ultra_job_gate::RunAlone;
 use ultra_msg::Sink;
-use ultra_sweep::{RunAlone, work};
+use ultra_sweep::work;
 
 /// A thread that was started, and brings back a share.
 type Thread<'a> = PromisedHandle<Share, Task<'a>>;

@@ -9,7 +9,8 @@ use std::alloc::Global;
 use std::sync::Wait;
 use std::thread::Promise;
 use ultra_board::{Board, Seat};
-use ultra_sweep::{Job, JobGate, JobResult, RunAlone, work};
+use ultra_job_gate::RunAlone;
+use ultra_sweep::{Job, JobGate, JobResult, work};
 
 /// The task of all threads. Each promises its share of it, with a seat of one place.
 #[derive(Clone, Copy, Drop)]

@@ -5,7 +5,8 @@ use std::sync::Wait;
 use std::sync::atomic::{AtomicU64, Ordering};
 use std::thread;
 use ultra_board::Seat;
-use ultra_sweep::{Job, JobGate, JobResult, RunAlone};
+use ultra_job_gate::RunAlone;
+use ultra_sweep::{Job, JobGate, JobResult};
 
 /// A gate at which the runs of jobs 0 and 1 meet: each raises a flag and waits for the other's,
 /// 10,000,000 turns at most.

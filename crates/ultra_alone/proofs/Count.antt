@@ -12,7 +12,7 @@ use Rattle.ultra_model.specs.Phases.{after, cycle, reply_phase, memory_phase, re
 use Rattle.ultra_page.specs.declared.Page.{Page}
 use Rattle.ultra_page.specs.Page.{Writes, WritesPrefix}
 use Rattle.ultra_alone.specs.BlocksAfter.{IsAfter}
-use Rattle.ultra_lines.specs.Trace.{by_number, cycle_text, cycles_text, cycle_count, all_cycles_text, last_state, end_text}
+use Rattle.ultra_model.specs.Trace.{by_number, cycle_text, cycles_text, cycle_count, all_cycles_text, last_state, end_text}
 use Rattle.ultra_page.proofs.Writing.{either, writes_failed, writes_spent}
 use Rattle.ultra_lines.proofs.Numbered.{range_parts, writes_number}
 

@@ -13,7 +13,7 @@ use Rattle.ultra_law.specs.Replies.{deliveries_in, deliveries}
 use Rattle.ultra_law.proofs.Law.{are_chained}
 use Rattle.ultra_law.proofs.Replies.{answers_after}
 use Rattle.ultra_block.specs.State.{BlocksState}
-use Rattle.ultra_lines.specs.Trace.{got_line, trace}
+use Rattle.ultra_model.specs.Trace.{got_line, trace}
 use Rattle.ultra_alone.specs.BlocksAfter.{IsAfter}
 use Rattle.ultra_alone.specs.Headline.{got_lines, delivery_line, Headline}
 

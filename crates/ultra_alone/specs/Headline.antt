@@ -6,8 +6,8 @@ use Rattle.ultra_model.specs.Machine.{Settings}
 use Rattle.ultra_model.specs.Phases.{after}
 use Rattle.ultra_law.specs.Chain.{AreChained}
 use Rattle.ultra_law.specs.Replies.{Delivery, deliveries, AreAllAnswers}
-use Rattle.ultra_lines.specs.Text.{newline, message_text}
-use Rattle.ultra_lines.specs.Trace.{got_line, trace as trace_of}
+use Rattle.ultra_model.specs.Text.{newline, message_text}
+use Rattle.ultra_model.specs.Trace.{got_line, trace as trace_of}
 
 -- the `got` lines of the first n cycles
 unfoldable pub got_lines : Settings → List Instr → ℕ → List ℕ

@@ -4,8 +4,8 @@ ghost use Rattle.std.specs.Prelude.{◌≡◌, ◌+◌, ◌<◌, ◌≤◌, ◌+
 ghost use Rattle.ultra_msg.specs.Bytes.{TakesPrefix};
 ghost use Rattle.ultra_model.specs.Machine.{is_quiet};
 ghost use Rattle.ultra_page.specs.Page.{Writes, has_failed};
-ghost use Rattle.ultra_lines.specs.Text.{newline};
-ghost use Rattle.ultra_lines.specs.Trace.{all_cycles_text, cycle_count, cycle_text, trace};
+ghost use Rattle.ultra_model.specs.Text.{newline};
+ghost use Rattle.ultra_model.specs.Trace.{all_cycles_text, cycle_count, cycle_text, trace};
 ghost use Rattle.ultra_alone.specs.BlocksAfter.{IsAfter};
 
 use ultra_block::Blocks;

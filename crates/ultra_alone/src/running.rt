@@ -2,7 +2,7 @@
 
 ghost use Rattle.std.specs.Prelude.{◌≡◌, ◌≢◌, ◌+◌, List, ℕ, ◌++◌, OnOk, OnErr, IfErr};
 ghost use Rattle.ultra_msg.specs.Bytes.{TakesPrefix};
-ghost use Rattle.ultra_lines.specs.Trace.{trace};
+ghost use Rattle.ultra_model.specs.Trace.{trace};
 ghost use Rattle.ultra_alone.specs.declared.fault.RunFault.TheVariants.{NoMemory, NoThread};
 ghost use Rattle.ultra_alone.specs.Faults.{sink_faults};
 ghost use Rattle.ultra_alone.specs.Headline.{Headline};

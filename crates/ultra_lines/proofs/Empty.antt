@@ -11,7 +11,7 @@ use Rattle.ultra_units.specs.Numbers.{switch_count, switch_number, module_number
 use Rattle.ultra_block.specs.Held.TheVariants.{Reply, Request, Record}
 use Rattle.ultra_block.specs.Holding.{holds}
 use Rattle.ultra_block.proofs.NothingHeld.{no_replies, no_requests, no_records, no_reply, no_request, none_pending}
-use Rattle.ultra_lines.specs.Trace.{pni_line, req_line, wait_line, inp_line, out_line, rep_line, pni_of, req_of, wait_of, inp_of, out_of, rep_of}
+use Rattle.ultra_model.specs.Trace.{pni_line, req_line, wait_line, inp_line, out_line, rep_line, pni_of, req_of, wait_of, inp_of, out_of, rep_of}
 use Rattle.ultra_lines.proofs.Rows.{lines_at}
 use Rattle.ultra_lines.proofs.Skipped.{two_lines}
 

@@ -5,8 +5,8 @@ use Rattle.std.specs.Option.{option_map}
 use Rattle.ultra_msg.specs.declared.Request.{Request}
 use Rattle.ultra_msg.specs.declared.ReplyMessage.{ReplyMessage}
 use Rattle.ultra_mem.specs.declared.Placed.{Placed}
-use Rattle.ultra_lines.specs.Text.{newline, listed, separator, request_text, message_text}
-use Rattle.ultra_lines.specs.Trace.{place_line, unit_name, inp_line, out_line, unless_zero}
+use Rattle.ultra_model.specs.Text.{newline, listed, separator, request_text, message_text}
+use Rattle.ultra_model.specs.Trace.{place_line, unit_name, inp_line, out_line, unless_zero}
 
 module _ {X : Type 0} (text : X → List ℕ) where
   others : List X → List ℕ

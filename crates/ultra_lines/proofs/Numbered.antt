@@ -6,7 +6,7 @@ use Rattle.std.proofs.lemmas.List.{take_more, take_all}
 use Rattle.std.proofs.lemmas.List.Concat.{flat_map-append}
 use Rattle.ultra_page.specs.declared.Page.{Page}
 use Rattle.ultra_page.specs.Page.{Writes}
-use Rattle.ultra_lines.specs.Trace.{by_number}
+use Rattle.ultra_model.specs.Trace.{by_number}
 use Rattle.ultra_page.proofs.Writing.{◌then◌}
 
 one_more : (a n b : ℕ) → a + n ≡ b → range_with_len a (suc n) ≡ range_with_len a n ++ b ∷ []

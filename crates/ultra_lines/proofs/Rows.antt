@@ -3,7 +3,7 @@ use Rattle.std.proofs.Common.{ℕ, zero, suc, ◌≡◌, ◌+◌, ◌*◌, ◌/�
 use Rattle.std.specs.List.{range_with_len, flat_map}
 use Rattle.std.proofs.lemmas.List.Concat.{flat_map-append}
 use Rattle.std.proofs.lemmas.Nat.{div-mul-add, mod-mul-add}
-use Rattle.ultra_lines.specs.Trace.{by_number}
+use Rattle.ultra_model.specs.Trace.{by_number}
 use Rattle.ultra_lines.proofs.Numbered.{by_number_more, range_parts}
 use Rattle.ultra_lines.proofs.Skipped.{two_lines, by_twos}
 

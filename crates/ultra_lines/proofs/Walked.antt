@@ -8,7 +8,7 @@ use Rattle.ultra_block.specs.State.{BlocksState}
 use Rattle.ultra_page.specs.declared.Page.{Page}
 use Rattle.ultra_page.specs.Page.{Writes}
 use Rattle.ultra_lines.specs.Holders.{holding}
-use Rattle.ultra_lines.specs.Trace.{by_stage}
+use Rattle.ultra_model.specs.Trace.{by_stage}
 use Rattle.ultra_lines.proofs.Rows.{by_rows, lines_at}
 use Rattle.ultra_lines.proofs.Skipped.{next_small, skipped}
 use Rattle.ultra_lines.proofs.Yielded.{all_came}

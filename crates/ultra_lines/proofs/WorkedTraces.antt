@@ -6,7 +6,7 @@ use Rattle.ultra_isa.specs.declared.Instr.TheVariants as instr
 use Rattle.ultra_model.specs.Places.{places}
 use Rattle.ultra_model.specs.Machine.{Settings, start}
 use Rattle.ultra_model.specs.Phases.{after, cycle, reply_phase, memory_phase, request_phase, processor_phase, arriving_reply, arriving_request}
-use Rattle.ultra_lines.specs.Trace.{trace, cycle_text, end_text, cycle_count, registers_text, all_cycles_text, last_state}
+use Rattle.ultra_model.specs.Trace.{trace, cycle_text, end_text, cycle_count, registers_text, all_cycles_text, last_state}
 
 abbrev one_stage : Settings
 one_stage = record { stages = 1; request_places = 4; reply_places = 8; wait_places = 4; most_open = 2; cells = 16; cycles = 1000; initial = [] }

@@ -1,3 +1,1 @@
-pub mod Text
-pub mod Trace
 pub mod Holders

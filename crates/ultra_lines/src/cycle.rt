@@ -3,7 +3,7 @@
 ghost use Rattle.std.specs.Prelude.{◌≡◌, ◌+◌, ◌<◌, ◌++◌, OnOk, OnErr};
 ghost use Rattle.ultra_msg.specs.Bytes.{TakesPrefix};
 ghost use Rattle.ultra_page.specs.Page.{Writes};
-ghost use Rattle.ultra_lines.specs.Trace.{cycle_text};
+ghost use Rattle.ultra_model.specs.Trace.{cycle_text};
 
 use crate::events::put_events;
 use crate::state::put_state;

@@ -2,7 +2,7 @@
 
 ghost use Rattle.std.specs.Prelude.{◌≡◌, ◌*◌, ◌<◌};
 ghost use Rattle.ultra_model.specs.Machine.{size};
-ghost use Rattle.ultra_lines.specs.Trace.{by_number, ending_text, cell_line, cell_of, cell_value, register_text, registers_text, pe_line, pe_of, end_text};
+ghost use Rattle.ultra_model.specs.Trace.{by_number, ending_text, cell_line, cell_of, cell_value, register_text, registers_text, pe_line, pe_of, end_text};
 ghost use Rattle.ultra_page.specs.Page.{Writes};
 
 use crate::state::positions;

@@ -2,7 +2,7 @@
 
 ghost use Rattle.std.specs.List.{flat_map};
 ghost use Rattle.ultra_page.specs.Page.{Writes};
-ghost use Rattle.ultra_lines.specs.Trace.{got_line, act_line, fault_line, events_text};
+ghost use Rattle.ultra_model.specs.Trace.{got_line, act_line, fault_line, events_text};
 
 use crate::texts::{put_fault, put_message, put_reply, put_request, put_with_word};
 use ultra_block::Blocks;

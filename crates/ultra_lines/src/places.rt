@@ -1,8 +1,8 @@
 //! The lines of what waits in a machine: in interfaces, queues, wait buffers and the registers of modules. What is empty has no line.
 
 ghost use Rattle.std.specs.Prelude.{◌++◌, codes};
-ghost use Rattle.ultra_lines.specs.Text.{separator};
-ghost use Rattle.ultra_lines.specs.Trace.{unit_name, stage_name, pni_line, req_line, wait_line, inp_line, out_line, rep_line};
+ghost use Rattle.ultra_model.specs.Text.{separator};
+ghost use Rattle.ultra_model.specs.Trace.{unit_name, stage_name, pni_line, req_line, wait_line, inp_line, out_line, rep_line};
 ghost use Rattle.ultra_page.specs.Page.{Writes};
 
 use crate::texts::{put_entry, put_message, put_record, put_request};

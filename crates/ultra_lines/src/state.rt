@@ -4,7 +4,7 @@ ghost use Rattle.std.specs.Prelude.{◌≡◌, ◌+◌, ◌*◌, ◌-◌, ◌/�
 ghost use Rattle.ultra_model.specs.Machine.{size};
 ghost use Rattle.ultra_units.specs.Numbers.{switch_count};
 ghost use Rattle.ultra_page.specs.Page.{Writes};
-ghost use Rattle.ultra_lines.specs.Trace.{by_number, by_stage, pni_of, req_of, wait_of, inp_of, out_of, rep_of, state_text};
+ghost use Rattle.ultra_model.specs.Trace.{by_number, by_stage, pni_of, req_of, wait_of, inp_of, out_of, rep_of, state_text};
 
 use crate::holders::{elements_with, modules_with, switches_with};
 use crate::places::{put_inp, put_out, put_pni, put_rep, put_req, put_wait};

@@ -1,7 +1,7 @@
 //! The texts of messages, of records, of faults and of what processing elements are doing.
 
 ghost use Rattle.std.specs.Prelude.{◌++◌, decimal};
-ghost use Rattle.ultra_lines.specs.Text.{op_text, identity_text, request_text, mark_text, entry_text, reply_text, message_text, give_text, record_text, fault_text, activity_text};
+ghost use Rattle.ultra_model.specs.Text.{op_text, identity_text, request_text, mark_text, entry_text, reply_text, message_text, give_text, record_text, fault_text, activity_text};
 ghost use Rattle.ultra_page.specs.Page.{Writes};
 
 use ultra_isa::{Activity, MachineFault};

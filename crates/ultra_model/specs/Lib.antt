@@ -10,3 +10,5 @@ pub mod Routed
 pub mod Balance
 pub mod Sound
 pub mod Words
+pub mod Text
+pub mod Trace

@@ -1,6 +1,6 @@
 -- jobs and their results; this project's profile
 use Rattle.std.specs.Prelude.{◌≡◌, ◌<◌, ℕ, List, map, length, Option, Some, None, IfSome, slice_get, ⊤}
-use Rattle.ultra_alone.specs.Trace.{trace}
+use Rattle.ultra_model.specs.Trace.{trace}
 use Rattle.ultra_sweep.specs.declared.job.Job.{Job}
 use Rattle.ultra_sweep.specs.declared.job.JobResult.{JobResult}
 use Rattle.ultra_sweep.specs.declared.job.Outcome.{Outcome}

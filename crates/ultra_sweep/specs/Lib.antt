@@ -3,5 +3,4 @@ pub mod Work
 pub mod Places
 pub mod Gather
 pub mod Report
-pub mod Text
 pub mod Law

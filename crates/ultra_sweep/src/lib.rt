@@ -11,15 +11,12 @@ mod gathering;
 mod job;
 mod law;
 mod reporting;
-mod single;
-mod text;
 mod working;
 
 pub use gathering::{GatherFault, Gathered, close_and_gather, gather};
 pub use job::{Job, JobGate, JobResult, Outcome};
 pub use law::sweep_law;
 pub use reporting::report;
-pub use single::RunAlone;
 pub use ultra_jobs::{JobsFault, jobs_from};
 pub use ultra_settings::{SettingsFault, settings_from};
 pub use working::{WorkFault, work};

@@ -1,4 +1,4 @@
 pub mod Faults
 pub use Rattle.ultra_alone.specs.declared.fault.RunFault
 pub use Rattle.ultra_alone.specs.Headline
-pub use Rattle.ultra_lines.specs.Trace
+pub use Rattle.ultra_model.specs.Trace

@@ -3,7 +3,7 @@
 ghost use Rattle.std.specs.Prelude.{◌≡◌, ◌+◌, ◌≤◌, ◌++◌, [], false, OnOk, OnErr, IfOk, IfErr};
 ghost use Rattle.ultra_msg.specs.Bytes.{TakesPrefix};
 ghost use Rattle.ultra_page.specs.Page.{Writes, WritesPrefix, has_failed};
-ghost use Rattle.ultra_lines.specs.Trace.{all_cycles_text, cycle_count, trace};
+ghost use Rattle.ultra_model.specs.Trace.{all_cycles_text, cycle_count, trace};
 ghost use Rattle.ultra_crew.specs.Course.{IsCourse};
 ghost use Rattle.ultra_alone.specs.Faults.{sink_faults};
 ghost use Rattle.ultra_alone.specs.BlocksAfter.{IsAfter};

@@ -1,6 +1,6 @@
 use Rattle.ultra_page.specs.Page.{Writes}
 use Rattle.ultra_alone.specs.BlocksAfter.{IsAfter}
-use Rattle.ultra_lines.specs.Trace.{cycles_text}
+use Rattle.ultra_model.specs.Trace.{cycles_text}
 use Rattle.ultra_alone.proofs.Count.{IsBusy}
 use Rattle.ultra_alone.proofs.alone.put_cycles.Given as goal
 

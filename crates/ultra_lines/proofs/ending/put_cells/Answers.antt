@@ -1,5 +1,5 @@
 use Rattle.std.proofs.Common.{arith}
-use Rattle.ultra_lines.specs.Trace.{cell_of}
+use Rattle.ultra_model.specs.Trace.{cell_of}
 use Rattle.ultra_lines.proofs.Numbered.{writes_number, writes_numbers}
 use Rattle.ultra_lines.proofs.ending.put_cells.Goals as goal
 

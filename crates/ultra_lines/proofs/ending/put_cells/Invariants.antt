@@ -1,5 +1,5 @@
 use Rattle.ultra_page.specs.Page.{Writes}
-use Rattle.ultra_lines.specs.Trace.{by_number, cell_of}
+use Rattle.ultra_model.specs.Trace.{by_number, cell_of}
 use Rattle.ultra_lines.proofs.ending.put_cells.Given as goal
 
 abbrev pub invariant-loop-address : goal.invariant-loop-address

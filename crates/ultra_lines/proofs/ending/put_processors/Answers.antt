@@ -1,6 +1,6 @@
 use Rattle.std.proofs.Common.{arith, ap}
 use Rattle.ultra_model.specs.Machine.{Element}
-use Rattle.ultra_lines.specs.Trace.{pe_of}
+use Rattle.ultra_model.specs.Trace.{pe_of}
 use Rattle.ultra_lines.proofs.Numbered.{writes_number, writes_numbers}
 use Rattle.ultra_lines.proofs.ending.put_processors.Goals as goal
 

@@ -1,5 +1,5 @@
 use Rattle.ultra_page.specs.Page.{Writes}
-use Rattle.ultra_lines.specs.Trace.{by_number, pe_of}
+use Rattle.ultra_model.specs.Trace.{by_number, pe_of}
 use Rattle.ultra_lines.proofs.ending.put_processors.Given as goal
 
 abbrev pub invariant-loop-pe : goal.invariant-loop-pe

@@ -1,6 +1,6 @@
 use Rattle.std.specs.Prelude.{slice_index}
 use Rattle.ultra_page.specs.Page.{Writes}
-use Rattle.ultra_lines.specs.Trace.{by_number, register_text}
+use Rattle.ultra_model.specs.Trace.{by_number, register_text}
 use Rattle.ultra_lines.proofs.ending.put_registers.Given as goal
 
 abbrev pub invariant-loop-index : goal.invariant-loop-index

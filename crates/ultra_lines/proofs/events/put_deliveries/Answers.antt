@@ -1,4 +1,4 @@
-use Rattle.ultra_lines.specs.Trace.{got_line}
+use Rattle.ultra_model.specs.Trace.{got_line}
 use Rattle.ultra_lines.proofs.Yielded.{one_came, all_came, writes_one, writes_next, writes_all}
 use Rattle.ultra_lines.proofs.events.put_deliveries.Goals as goal
 

@@ -1,4 +1,4 @@
-use Rattle.ultra_lines.specs.Trace.{act_line}
+use Rattle.ultra_model.specs.Trace.{act_line}
 use Rattle.ultra_lines.proofs.Yielded.{one_came, all_came, writes_one, writes_next, writes_all}
 use Rattle.ultra_lines.proofs.events.put_servings.Goals as goal
 

@@ -2,7 +2,7 @@ use Rattle.std.proofs.Common.{◌≡◌, ◌++◌, take}
 use Rattle.std.specs.List.{flat_map}
 use Rattle.ultra_block.specs.State.{stops_left}
 use Rattle.ultra_page.specs.Page.{Writes}
-use Rattle.ultra_lines.specs.Trace.{fault_line}
+use Rattle.ultra_model.specs.Trace.{fault_line}
 use Rattle.ultra_lines.proofs.events.put_stops.Given as goal
 
 abbrev pub invariant-loop-stop : goal.invariant-loop-stop

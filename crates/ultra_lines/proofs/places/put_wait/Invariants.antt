@@ -1,6 +1,6 @@
 use Rattle.std.proofs.Common.{take}
 use Rattle.ultra_page.specs.Page.{Writes}
-use Rattle.ultra_lines.specs.Text.{listed, record_text}
+use Rattle.ultra_model.specs.Text.{listed, record_text}
 use Rattle.ultra_lines.proofs.places.put_wait.Given as goal
 
 abbrev pub invariant-loop-index : goal.invariant-loop-index

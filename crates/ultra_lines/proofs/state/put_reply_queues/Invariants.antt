@@ -3,7 +3,7 @@ use Rattle.std.specs.List.{flat_map}
 use Rattle.ultra_block.specs.Held.TheVariants.{Reply}
 use Rattle.ultra_page.specs.Page.{Writes}
 use Rattle.ultra_lines.specs.Holders.{holders_left}
-use Rattle.ultra_lines.specs.Trace.{rep_of}
+use Rattle.ultra_model.specs.Trace.{rep_of}
 use Rattle.ultra_lines.proofs.Walked.{lines_of, switches_holding}
 use Rattle.ultra_lines.proofs.state.put_reply_queues.Given as goal
 

@@ -1,7 +1,7 @@
 use Rattle.std.proofs.Common.{arith}
 use Rattle.ultra_block.specs.Held.TheVariants.{Request}
 use Rattle.ultra_page.proofs.Writing.{◌then◌}
-use Rattle.ultra_lines.specs.Trace.{req_of}
+use Rattle.ultra_model.specs.Trace.{req_of}
 use Rattle.ultra_lines.proofs.Empty.{no_request_lines}
 use Rattle.ultra_lines.proofs.Walked.{is_switch, lines_of, walked}
 use Rattle.ultra_lines.proofs.Yielded.{one_came, writes_one}

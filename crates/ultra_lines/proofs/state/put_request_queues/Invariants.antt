@@ -3,7 +3,7 @@ use Rattle.std.specs.List.{flat_map}
 use Rattle.ultra_block.specs.Held.TheVariants.{Request}
 use Rattle.ultra_page.specs.Page.{Writes}
 use Rattle.ultra_lines.specs.Holders.{holders_left}
-use Rattle.ultra_lines.specs.Trace.{req_of}
+use Rattle.ultra_model.specs.Trace.{req_of}
 use Rattle.ultra_lines.proofs.Walked.{lines_of, switches_holding}
 use Rattle.ultra_lines.proofs.state.put_request_queues.Given as goal
 

@@ -3,7 +3,7 @@ use Rattle.ultra_units.specs.Numbers.{module_number}
 use Rattle.ultra_block.specs.Held.TheVariants.{Request}
 use Rattle.ultra_block.specs.Holding.{holds}
 use Rattle.ultra_block.specs.State.{BlocksState}
-use Rattle.ultra_lines.specs.Trace.{inp_of}
+use Rattle.ultra_model.specs.Trace.{inp_of}
 use Rattle.ultra_lines.proofs.Yielded.{one_came, all_came, writes_one}
 use Rattle.ultra_lines.proofs.Skipped.{next_small, skipped}
 use Rattle.ultra_lines.proofs.Empty.{no_inp_line_of}

@@ -1,7 +1,7 @@
 use Rattle.std.proofs.Common.{arith}
 use Rattle.ultra_block.specs.Held.TheVariants.{Record}
 use Rattle.ultra_page.proofs.Writing.{◌then◌}
-use Rattle.ultra_lines.specs.Trace.{wait_of}
+use Rattle.ultra_model.specs.Trace.{wait_of}
 use Rattle.ultra_lines.proofs.Empty.{no_record_lines}
 use Rattle.ultra_lines.proofs.Walked.{is_switch, lines_of, walked}
 use Rattle.ultra_lines.proofs.Yielded.{one_came, writes_one}

@@ -3,7 +3,7 @@ use Rattle.std.specs.List.{flat_map}
 use Rattle.ultra_block.specs.Held.TheVariants.{Record}
 use Rattle.ultra_page.specs.Page.{Writes}
 use Rattle.ultra_lines.specs.Holders.{holders_left}
-use Rattle.ultra_lines.specs.Trace.{wait_of}
+use Rattle.ultra_model.specs.Trace.{wait_of}
 use Rattle.ultra_lines.proofs.Walked.{lines_of, switches_holding}
 use Rattle.ultra_lines.proofs.state.put_wait_buffers.Given as goal
 

@@ -1,5 +1,5 @@
 use Rattle.std.proofs.Common.{rules}
-use Rattle.ultra_lines.specs.Trace.{trace}
+use Rattle.ultra_model.specs.Trace.{trace}
 use Rattle.ultra_page.proofs.Writing.{finished, part_taken}
 use Rattle.ultra_trace.proofs.together.write_by_shift.Goals as goal
 

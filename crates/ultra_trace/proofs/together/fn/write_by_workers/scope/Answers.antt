@@ -1,7 +1,7 @@
 use Rattle.std.proofs.Common.{rules}
 use Rattle.ultra_msg.specs.Bytes.{TakesPrefix}
 use Rattle.ultra_msg.proofs.Prefixes.{takes_none}
-use Rattle.ultra_lines.specs.Trace.{trace}
+use Rattle.ultra_model.specs.Trace.{trace}
 use Rattle.ultra_trace.proofs.together.fn.write_by_workers.scope.Goals as goal
 
 pub returns : goal.returns

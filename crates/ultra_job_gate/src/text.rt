@@ -1,7 +1,7 @@
 //! A text in memory, as a sink.
 
 ghost use Rattle.std.specs.Prelude.{◌≡◌, []};
-ghost use Rattle.ultra_sweep.specs.Text.{count_of};
+ghost use Rattle.ultra_job_gate.specs.Text.{count_of};
 
 use std::alloc::Global;
 use std::snapshot::Snapshot;

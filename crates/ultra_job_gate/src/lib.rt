@@ -1,11 +1,14 @@
-//! The program's way to run a job.
+//! The program's way to run a job of a sweep: in the thread that drew it, into a text in memory.
+#![tactic(auto)]
 
-use crate::job::{Job, JobGate, JobResult, Outcome};
-use crate::text::Text;
+mod text;
+
 use std::alloc::Global;
 use std::sync::Wait;
+use text::Text;
 use ultra_alone::run_alone;
 use ultra_board::Seat;
+use ultra_sweep::{Job, JobGate, JobResult, Outcome};
 
 /// Runs each job in the thread that drew it, into a text.
 pub struct RunAlone;

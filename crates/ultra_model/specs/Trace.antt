@@ -14,7 +14,7 @@ use Rattle.ultra_isa.specs.Step.{Core}
 use Rattle.ultra_model.specs.declared.Stop.{Stop}
 use Rattle.ultra_model.specs.Machine.{Settings, Machine, size, lane_at, replies_at, bank_at, element_at, is_quiet}
 use Rattle.ultra_model.specs.Phases.{after}
-use Rattle.ultra_lines.specs.Text.{newline, request_text, entry_text, reply_text, message_text, record_text, fault_text, activity_text, listed}
+use Rattle.ultra_model.specs.Text.{newline, request_text, entry_text, reply_text, message_text, record_text, fault_text, activity_text, listed}
 
 -- ---- what happened in the cycle
 -- a reply was delivered
