@@ -1,7 +1,15 @@
--- seats that stay fresh
-use Rattle.std.proofs.Common.{◌≡◌, ◌∙◌, ℕ, ap}
+-- seats that stay fresh, and shares that become one
+use Rattle.std.proofs.Common.{◌≡◌, ◌∙◌, ◌+◌, ◌-◌, ℕ, List, ◌++◌, refl, ap, subst, sym, arith}
+use Rattle.std.proofs.lemmas.List.{map-append}
+use Rattle.std.proofs.lemmas.List.Elements.{All-append}
+use Rattle.std.specs.List.{All}
 use Rattle.ultra_board.specs.Seat.{Seated, Opened}
-use Rattle.sweep_command.specs.Share.{IsFresh, HasRead}
+use Rattle.ultra_board.specs.View.{joined_view, second_view}
+use Rattle.ultra_sweep.specs.declared.job.Job.{Job}
+use Rattle.ultra_sweep.specs.declared.job.JobResult.{JobResult}
+use Rattle.ultra_sweep.specs.Job.{numbers, IsResultAmong}
+use Rattle.sweep_command.specs.declared.share.Share.{Share}
+use Rattle.sweep_command.specs.Share.{IsFresh, IsShare, IsWhole, HasRead}
 
 -- a seat stays fresh when it reads how many jobs are finished
 pub fresh-read : (board : Opened) (n : ℕ) (old new : Seated) → new.board ≡ old.board → HasRead old.view new.view → IsFresh board n old → IsFresh board n new
@@ -12,3 +20,46 @@ fresh-read board n old new same read fresh = record {
   undrawn = ap (λ v. v.drawn) read ∙ fresh.undrawn;
   no_pass = ap (λ v. v.held) read ∙ fresh.no_pass;
 }
+
+-- a seat is split: the rest, with one place fewer, and the one
+module _ (board : Opened) (n : ℕ) (seat : Seated) where
+  pub fresh-rest : (rest : Seated) → rest ≡ record seat { view = record seat.view { places = seat.view.places - 1 } } → IsFresh board (n + 1) seat → IsFresh board n rest
+  fresh-rest rest is fresh =
+      let places : rest.view.places ≡ seat.view.places - 1 = ap (λ s. s.view.places) is in
+      let all = fresh.same_places in record {
+        same_board = ap (λ s. s.board) is ∙ fresh.same_board;
+        same_places = omega arith;
+        same_limit = ap (λ s. s.view.limit) is ∙ fresh.same_limit;
+        undrawn = ap (λ s. s.view.drawn) is ∙ fresh.undrawn;
+        no_pass = ap (λ s. s.view.held) is ∙ fresh.no_pass;
+      }
+
+  pub fresh-one : (one : Seated) → one ≡ record seat { view = second_view seat.view } → IsFresh board n seat → IsFresh board 1 one
+  fresh-one one is fresh = record {
+    same_board = ap (λ s. s.board) is ∙ fresh.same_board;
+    same_places = ap (λ s. s.view.places) is;
+    same_limit = ap (λ s. s.view.limit) is ∙ fresh.same_limit;
+    undrawn = ap (λ s. s.view.drawn) is;
+    no_pass = ap (λ s. s.view.held) is;
+  }
+
+-- the share of a seat that is spent, and that of a seat of one place, become one
+module _ (board : Opened) (jobs : List Job) (n : ℕ) (share other all : Share) where
+  drawn-joined : all.seat.view ≡ joined_view share.seat.view other.seat.view → all.results.items ≡ share.results.items ++ other.results.items → share.seat.view.drawn ≡ numbers share.results.items → other.seat.view.drawn ≡ numbers other.results.items → all.seat.view.drawn ≡ numbers all.results.items
+  drawn-joined view results first second =
+      let both : share.seat.view.drawn ++ other.seat.view.drawn ≡ numbers share.results.items ++ numbers other.results.items =
+      ap (λ ks. ks ++ other.seat.view.drawn) first ∙ ap (λ ks. numbers share.results.items ++ ks) second in
+      ap (λ v. v.drawn) view ∙ (both ∙ (sym (map-append (λ (r : JobResult). r.number) share.results.items other.results.items) ∙ ap numbers (sym results)))
+
+  pub whole-joined : all.seat ≡ record share.seat { view = joined_view share.seat.view other.seat.view } → all.results.items ≡ share.results.items ++ other.results.items → IsWhole board jobs n share → IsShare board jobs 1 other → IsWhole board jobs (n + 1) all
+  whole-joined seat results whole part =
+      let view = ap (λ s. s.view) seat in record {
+        part = record {
+          same_board = ap (λ s. s.board) seat ∙ whole.part.same_board;
+          same_places = ap (λ v. v.places) view ∙ (ap (λ k. k + other.seat.view.places) whole.part.same_places ∙ ap (λ k. n + k) part.same_places);
+          same_limit = ap (λ v. v.limit) view ∙ whole.part.same_limit;
+          drawn = drawn-joined view results whole.part.drawn part.drawn;
+          results = subst (All (IsResultAmong jobs)) (sym results) (All-append (IsResultAmong jobs) share.results.items other.results.items whole.part.results part.results);
+        };
+        spent = rw (ap (λ v. v.spent) view, whole.spent) refl;
+      }
