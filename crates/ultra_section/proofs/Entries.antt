@@ -49,6 +49,25 @@ module _ {d numbering : ℕ} {s : Sets} {ws : List (Option Switch)} {bs : List (
 
 -- ---- a half at one unit of a block, which is `inside` before: `act` is what the half does to a unit that stands there
 module _ {inside b : BlockState} (same : inside ≡ b) where
+  -- the number of a unit, and that there is an entry for it
+  pub switch_inside : (n s k : ℕ) → IsSwitch b.stages n s k → IsSwitch inside.stages n s k
+  switch_inside n s k own = subst (λ (b : BlockState). IsSwitch b.stages n s k) (sym same) own
+
+  pub module_inside : (n m : ℕ) → IsModule b.stages n m → IsModule inside.stages n m
+  module_inside n m own = subst (λ (b : BlockState). IsModule b.stages n m) (sym same) own
+
+  pub element_inside : (n p : ℕ) → IsElement b.stages n p → IsElement inside.stages n p
+  element_inside n p own = subst (λ (b : BlockState). IsElement b.stages n p) (sym same) own
+
+  pub switch_entry : (n s k len : ℕ) → IsSwitch b.stages n s k → len ≡ length inside.switches → length inside.switches ≡ switch_count inside.stages → n < len
+  switch_entry n s k len own places entries = subst (λ count. n < count) (sym (places ∙ entries)) (switch_inside n s k own).within
+
+  pub module_entry : (n m len : ℕ) → IsModule b.stages n m → len ≡ length inside.modules → length inside.modules ≡ 2 ^ inside.stages → m < len
+  module_entry n m len own places entries = subst (λ count. m < count) (sym (places ∙ entries)) (module_inside n m own).small
+
+  pub element_entry : (n p len : ℕ) → IsElement b.stages n p → len ≡ length inside.elements → length inside.elements ≡ 2 ^ inside.stages → p < len
+  element_entry n p len own places entries = subst (λ count. p < count) (sym (places ∙ entries)) (element_inside n p own).small
+
   pub switch_passed : (act : BlockState → Switch → BlockState) (n : ℕ) (o : Option Switch) → o ≡ get_or inside.switches n o → o ≡ None
       → record inside { switches = set inside.switches n o } ≡ elim (switch_at b.switches n) [ None ↦ b | Some w ↦ act b w ]
   switch_passed act n o read none =

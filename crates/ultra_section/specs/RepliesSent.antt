@@ -1,8 +1,9 @@
 -- the half of a cycle in which replies leave switches and modules
-use Rattle.std.specs.Prelude.{ℕ, ◌+◌, ◌-◌, ◌*◌, ◌/◌, List, [], Bool, true, false, not, ◌==◌, Some, None, slice_set}
+use Rattle.std.specs.Prelude.{ℕ, ◌+◌, ◌-◌, ◌*◌, ◌/◌, Option, List, [], Bool, true, false, not, ◌==◌, Some, None, slice_set}
 use Rattle.ultra_switch.specs.declared.Ports.{Ports}
 use Rattle.ultra_switch.specs.declared.Switch.{Switch}
 use Rattle.ultra_mem.specs.Serve.{Bank}
+use Rattle.ultra_msg.specs.declared.ReplyMessage.{ReplyMessage}
 use Rattle.ultra_model.specs.Phases.{without_reply}
 use Rattle.ultra_units.specs.Set.{has_unit}
 use Rattle.ultra_units.specs.Numbers.{place_number, reply_target, switch_number}
@@ -16,6 +17,10 @@ use Rattle.ultra_section.specs.BlockState.{BlockState, switch_at, module_at}
 -- the units to which replies go from switch k of stage s, by the PE-side port
 abbrev pub reply_targets : ℕ → ℕ → ℕ → Ports ℕ
 reply_targets d s k = ports (reply_target d s (2 * k)) (reply_target d s (2 * k + 1))
+
+-- what is on the links once what leaves switch k of stage s has been put there
+abbrev pub replies_put : ℕ → ℕ → ℕ → Ports (Option ReplyMessage) → List (Option ReplyMessage) → List (Option ReplyMessage)
+replies_put d s k out table = put_on (put_on table (place_number d s (2 * k)) out.zero) (place_number d s (2 * k + 1)) out.one
 
 -- `closed` are the switches without room for replies
 module _ (closed : List ℕ) where
@@ -36,7 +41,7 @@ module _ (closed : List ℕ) where
       let out = replies_leaving (reply_ways b.stages s k) w in
       record b {
         switches = slice_set b.switches n (Some (without_replies w out));
-        replies = put_on (put_on b.replies (place_number b.stages s (2 * k)) out.zero) (place_number b.stages s (2 * k + 1)) out.one;
+        replies = replies_put b.stages s k out b.replies;
       }
 
   abbrev pub switch_sends_replies : ℕ → ℕ → ℕ → BlockState → BlockState

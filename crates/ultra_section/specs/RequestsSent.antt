@@ -19,6 +19,10 @@ use Rattle.ultra_section.specs.BlockState.{BlockState, switch_at, element_at}
 abbrev pub request_targets : ℕ → ℕ → ℕ → Ports ℕ
 request_targets d s k = ports (request_target d s (2 * k)) (request_target d s (2 * k + 1))
 
+-- what is on the links once what leaves switch k of stage s has been put there
+abbrev pub requests_put : ℕ → ℕ → ℕ → Ports (Option Request) → List (Option Request) → List (Option Request)
+requests_put d s k out table = put_on (put_on table (place_number d s (2 * k)) out.zero) (place_number d s (2 * k + 1)) out.one
+
 -- `closed` are, by the memory-side port, the switches whose queue there has no room for requests; in `zero` also the modules whose register holds one
 module _ (closed : Ports (List ℕ)) where
   -- whether the queue that a request goes to at a switch of stage s has room
@@ -50,7 +54,7 @@ module _ (closed : Ports (List ℕ)) where
       let out = requests_leaving (request_ways b.stages s k (request_heads w)) w in
       record b {
         switches = slice_set b.switches n (Some (without_requests w out));
-        requests = put_on (put_on b.requests (place_number b.stages s (2 * k)) out.zero) (place_number b.stages s (2 * k + 1)) out.one;
+        requests = requests_put b.stages s k out b.requests;
       }
 
   abbrev pub switch_sends_requests : ℕ → ℕ → ℕ → BlockState → BlockState

@@ -22,8 +22,6 @@ impl Block {
         requires small { number < 320 }
         ensures { self.new ≡ element_executes program.now pe self.old }
     {
-        let net = self.net;
-        let _even = net.size();
         let Some(element) = &mut self.elements[pe as usize] else {
             return;
         };

@@ -1,17 +1,21 @@
 //! The half of a cycle in which replies leave switches and modules.
 
 ghost use Rattle.std.specs.Prelude.{◌≡◌, ℕ, ◌-◌, ◌^◌, ◌<◌};
-ghost use Rattle.ultra_section.specs.RepliesSent.{begun, module_sends_reply, reply_targets as targets_of_replies, reply_ways, sends_replies, switch_sends_replies};
+ghost use Rattle.ultra_halves.specs.Switches.{replies_leaving, without_replies};
+ghost use Rattle.ultra_section.specs.Marks.{RepliesAreKnown};
+ghost use Rattle.ultra_section.specs.RepliesSent.{begun, module_sends_reply, replies_put, reply_targets as targets_of_replies, reply_ways, sends_replies, switch_sends_replies};
 ghost use Rattle.ultra_units.specs.Visits.{after_units};
 ghost use Rattle.ultra_section.specs.Units.{IsModule, IsSwitch};
 
 use crate::block::Block;
+use crate::links::Links;
 use crate::replies::{leave_module, leave_stage};
 use crate::rooms::Rooms;
 use crate::unit::Unit;
 use ultra_halves::{modules, switches};
+use ultra_msg::ReplyMessage;
 use ultra_route::Net;
-use ultra_switch::Ports;
+use ultra_switch::{Ports, Switch};
 use ultra_units::{UnitSet, Visit, reply_target, switch_number, visit_all};
 
 /// The units to which replies go from a switch, by the PE-side port.
@@ -41,30 +45,52 @@ fn find_reply_ways(closed: &UnitSet, stage: u32, targets: Ports<usize>) -> Ports
     }
 }
 
+/// The first reply of each queue of a switch goes onto its link, where there is a way. `here` are the units that stand here, and `closed` the switches without room for replies.
+#[inline(always)]
+fn send_from_switch(
+    switch: &mut Switch,
+    links: &mut Links<ReplyMessage>,
+    here: &UnitSet,
+    closed: &UnitSet,
+    net: Net,
+    stage: u32,
+    index: u32,
+)
+    requires stage { stage < net }
+    requires index { index < 2 ^ (net - 1) }
+    requires known { RepliesAreKnown net here.now links.old }
+    ensures switch { switch.new ≡ without_replies switch.old (replies_leaving (reply_ways closed.now net stage index) switch.old) }
+    ensures table { links.new.table.items ≡ replies_put net stage index (replies_leaving (reply_ways closed.now net stage index) switch.old) links.old.table.items }
+    ensures known { RepliesAreKnown net here.now links.new }
+{
+    let _even = net.size();
+    let targets = reply_targets(net, stage, index);
+    let out = switches::send_replies(switch, find_reply_ways(closed, stage, targets));
+    let (zero, one) = (2 * index, 2 * index + 1);
+    leave_stage(links, here, net, stage, zero, targets.zero, out.zero);
+    leave_stage(links, here, net, stage, one, targets.one, out.one);
+}
+
 impl Block {
     /// The first reply of each queue of a switch goes onto its link, where there is a way.
     fn send_replies_of_switch(&mut self, closed: &UnitSet, number: usize, stage: u32, index: u32)
-        requires { IsSwitch self.old.stages number stage index }
+        requires is { IsSwitch self.old.stages number stage index }
+        requires small { number < 320 }
         ensures { self.new ≡ switch_sends_replies closed.now number stage index self.old }
     {
         let net = self.net;
-        let _even = net.size();
         let Some(switch) = &mut self.switches[number] else {
             return;
         };
-        let targets = reply_targets(net, stage, index);
-        let out = switches::send_replies(switch, find_reply_ways(closed, stage, targets));
+        let (links, here) = (&mut self.replies, &self.sets.here);
+        send_from_switch(switch, links, here, closed, net, stage, index);
         self.sets.note_replies(number, switch);
-        let here = &self.sets.here;
-        let (zero, one) = (2 * index, 2 * index + 1);
-        let links = &mut self.replies;
-        leave_stage(links, here, net, stage, zero, targets.zero, out.zero);
-        leave_stage(links, here, net, stage, one, targets.one, out.one);
     }
 
     /// The reply of a module goes onto its link, if there is a way.
     fn send_reply_of_module(&mut self, closed: &UnitSet, number: usize, module_number: u32)
-        requires { IsModule self.old.stages number module_number }
+        requires is { IsModule self.old.stages number module_number }
+        requires small { number < 320 }
         ensures { self.new ≡ module_sends_reply closed.now module_number self.old }
     {
         let net = self.net;

@@ -3,17 +3,20 @@
 ghost use Rattle.std.specs.Prelude.{◌≡◌, ℕ, ◌-◌, ◌^◌, ◌<◌};
 ghost use Rattle.ultra_units.specs.Numbers.{request_target as target_of_request};
 ghost use Rattle.ultra_units.specs.Visits.{after_units};
-ghost use Rattle.ultra_section.specs.RequestsSent.{element_sends_request, has_request_way as way_of_request, has_room_at as room_at, has_way_from_element as way_from_element, request_targets as targets_of_requests, request_ways, sends_requests, switch_sends_requests};
+ghost use Rattle.ultra_halves.specs.Switches.{request_heads, requests_leaving, without_requests};
+ghost use Rattle.ultra_section.specs.Marks.{RequestsAreKnown};
+ghost use Rattle.ultra_section.specs.RequestsSent.{element_sends_request, has_request_way as way_of_request, has_room_at as room_at, has_way_from_element as way_from_element, request_targets as targets_of_requests, request_ways, requests_put, sends_requests, switch_sends_requests};
 ghost use Rattle.ultra_section.specs.Units.{IsElement, IsSwitch};
 
 use crate::block::Block;
+use crate::links::Links;
 use crate::requests::{leave_element, leave_stage};
 use crate::rooms::Rooms;
 use crate::unit::Unit;
 use ultra_halves::switches;
 use ultra_msg::Request;
 use ultra_route::Net;
-use ultra_switch::Ports;
+use ultra_switch::{Ports, Switch};
 use ultra_units::{UnitSet, Visit, request_target, switch_number, visit_all};
 
 /// Whether the queue that a request goes to has room, at the switch of a stage with this number. `closed` are, by the memory-side port, the switches whose queue there has no room for requests.
@@ -112,6 +115,33 @@ fn has_way_from_element(net: Net, closed: &Ports<UnitSet>, pe: u32, head: Option
     has_room_at(net, closed, 0, switch, request)
 }
 
+/// The first request of each queue of a switch goes onto its link, where there is a way. `here` are the units that stand here.
+#[inline(always)]
+fn send_from_switch(
+    switch: &mut Switch,
+    links: &mut Links<Request>,
+    here: &UnitSet,
+    closed: &Ports<UnitSet>,
+    net: Net,
+    stage: u32,
+    index: u32,
+)
+    requires stage { stage < net }
+    requires index { index < 2 ^ (net - 1) }
+    requires known { RequestsAreKnown net here.now links.old }
+    ensures switch { switch.new ≡ without_requests switch.old (requests_leaving (request_ways closed.now net stage index (request_heads switch.old)) switch.old) }
+    ensures table { links.new.table.items ≡ requests_put net stage index (requests_leaving (request_ways closed.now net stage index (request_heads switch.old)) switch.old) links.old.table.items }
+    ensures known { RequestsAreKnown net here.now links.new }
+{
+    let _even = net.size();
+    let heads = switches::request_heads(switch);
+    let (targets, ways) = find_request_ways(net, closed, stage, index, heads);
+    let out = switches::send_requests(switch, ways);
+    let (zero, one) = (2 * index, 2 * index + 1);
+    leave_stage(links, here, net, stage, zero, targets.zero, out.zero);
+    leave_stage(links, here, net, stage, one, targets.one, out.one);
+}
+
 impl Block {
     /// The first request of each queue of a switch goes onto its link, where there is a way.
     fn send_requests_of_switch(
@@ -121,28 +151,23 @@ impl Block {
         stage: u32,
         index: u32,
     )
-        requires { IsSwitch self.old.stages number stage index }
+        requires is { IsSwitch self.old.stages number stage index }
+        requires small { number < 320 }
         ensures { self.new ≡ switch_sends_requests closed.now number stage index self.old }
     {
         let net = self.net;
-        let _even = net.size();
         let Some(switch) = &mut self.switches[number] else {
             return;
         };
-        let heads = switches::request_heads(switch);
-        let (targets, ways) = find_request_ways(net, closed, stage, index, heads);
-        let out = switches::send_requests(switch, ways);
+        let (links, here) = (&mut self.requests, &self.sets.here);
+        send_from_switch(switch, links, here, closed, net, stage, index);
         self.sets.note_requests(number, switch);
-        let here = &self.sets.here;
-        let (zero, one) = (2 * index, 2 * index + 1);
-        let links = &mut self.requests;
-        leave_stage(links, here, net, stage, zero, targets.zero, out.zero);
-        leave_stage(links, here, net, stage, one, targets.one, out.one);
     }
 
     /// The first request of a processing element goes onto its link, if there is a way.
     fn send_request_of_element(&mut self, closed: &Ports<UnitSet>, number: usize, pe: u32)
-        requires { IsElement self.old.stages number pe }
+        requires is { IsElement self.old.stages number pe }
+        requires small { number < 320 }
         ensures { self.new ≡ element_sends_request closed.now pe self.old }
     {
         let net = self.net;

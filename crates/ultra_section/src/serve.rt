@@ -19,8 +19,6 @@ impl Block {
         requires small { number < 320 }
         ensures { self.new ≡ module_serves module_number self.old }
     {
-        let net = self.net;
-        let _even = net.size();
         let Some(bank) = &mut self.modules[module_number as usize] else {
             return;
         };

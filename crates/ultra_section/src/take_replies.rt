@@ -18,10 +18,10 @@ impl Block {
     fn take_replies_of_switch(&mut self, number: usize, stage: u32, index: u32)
         requires is { IsSwitch self.old.stages number stage index }
         requires room { SwitchCanTakeReplies number stage index self.old }
+        requires small { number < 320 }
         ensures { self.new ≡ switch_takes_replies number stage index self.old }
     {
         let net = self.net;
-        let _even = net.size();
         let Some(switch) = &mut self.switches[number] else {
             return;
         };
@@ -40,7 +40,6 @@ impl Block {
         ensures { self.new ≡ element_takes_reply pe self.old }
     {
         let net = self.net;
-        let _even = net.size();
         let Some(element) = &mut self.elements[pe as usize] else {
             return;
         };

@@ -13,7 +13,7 @@ use Rattle.ultra_model.specs.Places.{present}
 use Rattle.ultra_halves.specs.declared.elements.ProcessingElement.{ProcessingElement}
 use Rattle.ultra_halves.specs.declared.elements.Outcome.{Outcome}
 use Rattle.ultra_section.specs.Execution.{stepped_by}
-use Rattle.ultra_section.proofs.Entries.{put_back, put_back_some, elements_kept, element_passed, element_worked, none_more, one_more}
+use Rattle.ultra_section.proofs.Entries.{element_entry, element_passed, element_worked, elements_kept, none_more, one_more, put_back, put_back_some}
 use Rattle.ultra_section.proofs.block.Block.execute_element.Goals as goal
 
 step_done : (program : List Instr) (b : BlockState) (p : ℕ) (e : ProcessingElement) (outcome : Outcome) (v : ProcessingElement) (events : List Event) (stops : List Stop)
@@ -121,3 +121,9 @@ invariant_of-self-in-Done-outcome c =
     c.args.number c.args.pe c.index_mut.result.now c.in-Some.element c.execute-outcome.new.self is c.index_mut.ensures.value c.in-Some.is
     c.note_element.ensures.others c.note_element.ensures.there)
     (omega arith) (omega arith)
+
+pub index_mut-requires : goal.index_mut-requires
+index_mut-requires c = element_entry c.self.view_is c.args.number c.args.pe c.self.inside.elements.len c.requires.is c.self.inside.elements.ok.0 c.self.invariant.units.element_entries
+
+pub note_element-requires : goal.note_element-requires
+note_element-requires c = c.requires.small

@@ -1,6 +1,6 @@
 use Rattle.std.proofs.Common.{sym, subst, ◌≡◌, ℕ, ◌-◌, ◌/◌, List, Bool, Option, Some, set, refl, ◌∙◌}
 use Rattle.ultra_section.specs.BlockState.{BlockState}
-use Rattle.ultra_section.specs.Marks.{RequestsAreKnown}
+use Rattle.ultra_section.specs.Marks.{RepliesAreKnown, RequestsAreKnown}
 use Rattle.ultra_section.specs.Units.{IsModule}
 use Rattle.ultra_section.proofs.Known.{module_changed}
 use Rattle.std.specs.Prelude.{not}
@@ -12,7 +12,7 @@ use Rattle.ultra_units.specs.Numbers.{place_number, switch_number}
 use Rattle.ultra_halves.specs.Halves.{where_room}
 use Rattle.ultra_section.specs.Links.{put_on}
 use Rattle.ultra_section.specs.RepliesSent.{reply_sent_by}
-use Rattle.ultra_section.proofs.Entries.{put_back, modules_kept, module_passed, module_worked}
+use Rattle.ultra_section.proofs.Entries.{module_entry, module_inside, module_passed, module_worked, modules_kept, put_back}
 use Rattle.ultra_section.proofs.block.Block.send_reply_of_module.Goals as goal
 
 sending_done : (closed : List ℕ) (b : BlockState) (m : ℕ) (bank v : Bank) (stages target : ℕ) (full : Bool) (out : Option ReplyMessage) (replies : List (Option ReplyMessage))
@@ -31,13 +31,13 @@ pub returns : goal.returns
 returns c =
     sending_done c.args.closed.now _ c.args.module_number c.in-Some.bank c.send_reply-out.new.bank c.stages.result c.switch_number-target.result c.has.result c.send_reply-out.result _
     c.stages.ensures.value c.switch_number-target.ensures.value c.has.ensures c.send_reply-out.ensures.sent c.send_reply-out.ensures.left c.leave_module.ensures.table
-    ∙ module_worked c.self.view_is (reply_sent_by c.args.closed.now c.args.module_number) c.args.number c.args.module_number c.index_mut.result.now c.in-Some.bank c.requires c.self.invariant.units.module_entries c.index_mut.ensures.value c.in-Some.is
+    ∙ module_worked c.self.view_is (reply_sent_by c.args.closed.now c.args.module_number) c.args.number c.args.module_number c.index_mut.result.now c.in-Some.bank c.requires.is c.self.invariant.units.module_entries c.index_mut.ensures.value c.in-Some.is
 
 pub invariant_of-self-2 : goal.invariant_of-self-2
 invariant_of-self-2 c =
     let inside = c.self.inside in
     let known = c.self.invariant in
-    let is : IsModule inside.net c.args.number c.args.module_number = subst (λ (b : BlockState). IsModule b.stages c.args.number c.args.module_number) (sym c.self.view_is) c.requires in
+    let is : IsModule inside.net c.args.number c.args.module_number = subst (λ (b : BlockState). IsModule b.stages c.args.number c.args.module_number) (sym c.self.view_is) c.requires.is in
     record {
       units =
           module_changed inside.net inside.sets c.note_module.new.self inside.switches.items inside.modules.items inside.elements.items known.units
@@ -49,3 +49,15 @@ invariant_of-self-2 c =
       stops_fit = known.stops_fit;
       numbers = known.numbers;
     }
+
+pub index_mut-requires : goal.index_mut-requires
+index_mut-requires c = module_entry c.self.view_is c.args.number c.args.module_number c.self.inside.modules.len c.requires.is c.self.inside.modules.ok.0 c.self.invariant.units.module_entries
+
+pub note_module-requires : goal.note_module-requires
+note_module-requires c = c.requires.small
+
+pub leave_module-requires : goal.leave_module-requires
+leave_module-requires c = record {
+  number = (module_inside c.self.view_is c.args.number c.args.module_number c.requires.is).small;
+  known = subst (λ h. RepliesAreKnown c.self.inside.net h c.self.inside.replies) (sym c.note_module.ensures.here) c.self.invariant.replies;
+}

@@ -6,11 +6,11 @@ use Rattle.ultra_units.specs.Numbers.{place_number}
 use Rattle.ultra_halves.specs.declared.elements.ProcessingElement.{ProcessingElement}
 use Rattle.ultra_halves.specs.Elements.{element_without}
 use Rattle.ultra_section.specs.BlockState.{BlockState}
-use Rattle.ultra_section.specs.Marks.{RepliesAreKnown}
+use Rattle.ultra_section.specs.Marks.{RepliesAreKnown, RequestsAreKnown}
 use Rattle.ultra_section.specs.Links.{put_on}
 use Rattle.ultra_section.specs.RequestsSent.{has_way_from_element, request_sent_by}
 use Rattle.ultra_section.specs.Units.{IsElement}
-use Rattle.ultra_section.proofs.Entries.{put_back, put_back_some, elements_kept, element_passed, element_worked}
+use Rattle.ultra_section.proofs.Entries.{element_entry, element_inside, element_passed, element_worked, elements_kept, put_back, put_back_some}
 use Rattle.ultra_section.proofs.Known.{element_changed}
 use Rattle.ultra_section.proofs.block.Block.send_request_of_element.Goals as goal
 
@@ -43,19 +43,19 @@ invariant_of-self-then-not-has_way_from_element c =
 pub returns-then-not-has_way_from_element : goal.returns-then-not-has_way_from_element
 returns-then-not-has_way_from_element c =
     stayed c.args.closed.now _ c.args.pe c.in-Some.element c.request_head.result c.request_head.ensures (sym c.has_way_from_element.ensures ∙ c.if-not-has_way_from_element.true)
-    ∙ element_worked c.self.view_is (request_sent_by c.args.closed.now c.args.pe) c.args.number c.args.pe c.index_mut.result.now c.in-Some.element c.requires c.self.invariant.units.element_entries c.index_mut.ensures.value c.in-Some.is
+    ∙ element_worked c.self.view_is (request_sent_by c.args.closed.now c.args.pe) c.args.number c.args.pe c.index_mut.result.now c.in-Some.element c.requires.is c.self.invariant.units.element_entries c.index_mut.ensures.value c.in-Some.is
 
 pub returns : goal.returns
 returns c =
     went c.args.closed.now _ c.args.pe c.in-Some.element c.request_head.result c.send_request-out.result c.send_request-out.new.self _ c.request_head.ensures
     (sym c.has_way_from_element.ensures ∙ c.if-not-has_way_from_element.false) c.send_request-out.ensures.sent c.send_request-out.ensures.left c.leave_element.ensures.table
-    ∙ element_worked c.self.view_is (request_sent_by c.args.closed.now c.args.pe) c.args.number c.args.pe c.index_mut.result.now c.in-Some.element c.requires c.self.invariant.units.element_entries c.index_mut.ensures.value c.in-Some.is
+    ∙ element_worked c.self.view_is (request_sent_by c.args.closed.now c.args.pe) c.args.number c.args.pe c.index_mut.result.now c.in-Some.element c.requires.is c.self.invariant.units.element_entries c.index_mut.ensures.value c.in-Some.is
 
 pub invariant_of-self-2 : goal.invariant_of-self-2
 invariant_of-self-2 c =
     let inside = c.self.inside in
     let known = c.self.invariant in
-    let is : IsElement inside.net c.args.number c.args.pe = subst (λ (b : BlockState). IsElement b.stages c.args.number c.args.pe) (sym c.self.view_is) c.requires in
+    let is : IsElement inside.net c.args.number c.args.pe = subst (λ (b : BlockState). IsElement b.stages c.args.number c.args.pe) (sym c.self.view_is) c.requires.is in
     record {
       units =
           element_changed inside.net inside.sets c.note_element.new.self inside.switches.items inside.modules.items inside.elements.items known.units
@@ -67,3 +67,18 @@ invariant_of-self-2 c =
       stops_fit = known.stops_fit;
       numbers = known.numbers;
     }
+
+pub index_mut-requires : goal.index_mut-requires
+index_mut-requires c = element_entry c.self.view_is c.args.number c.args.pe c.self.inside.elements.len c.requires.is c.self.inside.elements.ok.0 c.self.invariant.units.element_entries
+
+pub has_way_from_element-requires : goal.has_way_from_element-requires
+has_way_from_element-requires c = (element_inside c.self.view_is c.args.number c.args.pe c.requires.is).small
+
+pub note_element-requires : goal.note_element-requires
+note_element-requires c = c.requires.small
+
+pub leave_element-requires : goal.leave_element-requires
+leave_element-requires c = record {
+  pe = (element_inside c.self.view_is c.args.number c.args.pe c.requires.is).small;
+  known = subst (λ h. RequestsAreKnown c.self.inside.net h c.self.inside.requests) (sym c.note_element.ensures.here) c.self.invariant.requests;
+}

@@ -7,7 +7,7 @@ use Rattle.ultra_mem.specs.Serve.{Bank, serve, served}
 use Rattle.ultra_model.specs.Places.{present}
 use Rattle.ultra_model.specs.Phases.{serving}
 use Rattle.ultra_section.specs.Serving.{served_by}
-use Rattle.ultra_section.proofs.Entries.{put_back, modules_kept, module_passed, module_worked, none_more, one_more}
+use Rattle.ultra_section.proofs.Entries.{module_entry, module_passed, module_worked, modules_kept, none_more, one_more, put_back}
 use Rattle.ultra_section.proofs.block.Block.serve_module.Goals as goal
 
 serving_done : (b : BlockState) (m : ℕ) (bank v : Bank) (events : List Event) → v ≡ serve bank → events ≡ b.events ++ present (serving m (served bank) ∷ [])
@@ -56,3 +56,9 @@ invariant_of-self-in_default-served c =
     c.args.number c.args.module_number c.index_mut.result.now c.in-Some.bank c.serve-served.new.self is c.index_mut.ensures.value c.in-Some.is
     c.note_module.ensures.others c.note_module.ensures.there)
     (omega arith) (omega arith)
+
+pub index_mut-requires : goal.index_mut-requires
+index_mut-requires c = module_entry c.self.view_is c.args.number c.args.module_number c.self.inside.modules.len c.requires.is c.self.inside.modules.ok.0 c.self.invariant.units.module_entries
+
+pub note_module-requires : goal.note_module-requires
+note_module-requires c = c.requires.small

@@ -10,7 +10,7 @@ use Rattle.ultra_section.proofs.Records.{keeps_none}
 use Rattle.ultra_msg.specs.declared.ReplyMessage.{ReplyMessage}
 use Rattle.ultra_switch.specs.declared.Ports.{Ports}
 use Rattle.ultra_switch.specs.declared.Switch.{Switch}
-use Rattle.ultra_section.proofs.Entries.{put_back, switches_kept, switch_passed, switch_worked}
+use Rattle.ultra_section.proofs.Entries.{put_back, switch_entry, switch_inside, switch_passed, switch_worked, switches_kept}
 use Rattle.ultra_section.proofs.block.Block.take_replies_of_switch.Goals as goal
 
 taking_done : (b : BlockState) (n s k : ℕ) (w v : Switch) (came : Ports (Option ReplyMessage)) (replies : List (Option ReplyMessage))
@@ -63,3 +63,18 @@ invariant_of-self-2 c =
       stops_fit = known.stops_fit;
       numbers = known.numbers;
     }
+
+pub index_mut-requires : goal.index_mut-requires
+index_mut-requires c = switch_entry c.self.view_is c.args.number c.args.stage c.args.index c.self.inside.switches.len c.requires.is c.self.inside.switches.ok.0 c.self.invariant.units.switch_entries
+
+pub take_at_switch-came-requires : goal.take_at_switch-came-requires
+take_at_switch-came-requires c = record { switch = switch_inside c.self.view_is c.args.number c.args.stage c.args.index c.requires.is; all = c.self.invariant.replies.all }
+
+pub take_replies-requires-clause-stage : goal.take_replies-requires-clause-stage
+take_replies-requires-clause-stage c = (switch_inside c.self.view_is c.args.number c.args.stage c.args.index c.requires.is).stage_small
+
+pub note_replies-requires : goal.note_replies-requires
+note_replies-requires c = c.requires.small
+
+pub note_records-requires-clause-small : goal.note_records-requires-clause-small
+note_records-requires-clause-small c = c.requires.small

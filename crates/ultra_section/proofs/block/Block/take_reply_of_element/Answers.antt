@@ -11,7 +11,7 @@ use Rattle.ultra_msg.specs.declared.ReplyMessage.{ReplyMessage}
 use Rattle.ultra_model.specs.Places.{present}
 use Rattle.ultra_model.specs.Phases.{delivery}
 use Rattle.ultra_section.specs.Marks.{delivery_link, on_link}
-use Rattle.ultra_section.proofs.Entries.{put_back, elements_kept, element_passed, element_worked, none_more, one_more}
+use Rattle.ultra_section.proofs.Entries.{element_entry, element_inside, element_passed, element_worked, elements_kept, none_more, one_more, put_back}
 use Rattle.ultra_section.proofs.block.Block.take_reply_of_element.Goals as goal
 
 delivery_done : (b : BlockState) (p : ℕ) (e v : ProcessingElement) (came : Option ReplyMessage) (replies : List (Option ReplyMessage)) (events : List Event)
@@ -78,3 +78,9 @@ invariant_of-self-in_default-came c =
       stops_fit = known.stops_fit;
       numbers = known.numbers;
     }
+
+pub index_mut-requires : goal.index_mut-requires
+index_mut-requires c = element_entry c.self.view_is c.args.number c.args.pe c.self.inside.elements.len c.requires.is c.self.inside.elements.ok.0 c.self.invariant.units.element_entries
+
+pub take_at_element-came-requires : goal.take_at_element-came-requires
+take_at_element-came-requires c = record { element = element_inside c.self.view_is c.args.number c.args.pe c.requires.is; all = c.self.invariant.replies.all }

@@ -7,7 +7,7 @@ use Rattle.ultra_section.proofs.Known.{module_changed, stands}
 use Rattle.ultra_msg.specs.declared.Request.{Request}
 use Rattle.ultra_mem.specs.Serve.{Bank}
 use Rattle.ultra_halves.specs.Modules.{bank_with}
-use Rattle.ultra_section.proofs.Entries.{put_back, modules_kept, module_passed, module_worked}
+use Rattle.ultra_section.proofs.Entries.{module_entry, module_inside, module_passed, module_worked, modules_kept, put_back}
 use Rattle.ultra_section.proofs.block.Block.take_request_of_module.Goals.{in-Some-came, in_default-came}
 use Rattle.ultra_section.proofs.block.Block.take_request_of_module.Goals as goal
 
@@ -58,3 +58,12 @@ invariant_of-self-2 c =
       stops_fit = known.stops_fit;
       numbers = known.numbers;
     }
+
+pub index_mut-requires : goal.index_mut-requires
+index_mut-requires c = module_entry c.self.view_is c.args.number c.args.module_number c.self.inside.modules.len c.requires.is c.self.inside.modules.ok.0 c.self.invariant.units.module_entries
+
+pub take_at_module-came-requires : goal.take_at_module-came-requires
+take_at_module-came-requires c = record { target = module_inside c.self.view_is c.args.number c.args.module_number c.requires.is; all = c.self.invariant.requests.all }
+
+pub note_module-requires : goal.note_module-requires
+note_module-requires c = c.requires.small

@@ -11,7 +11,7 @@ use Rattle.ultra_msg.specs.declared.Event.{Event}
 use Rattle.ultra_msg.specs.declared.Request.{Request}
 use Rattle.ultra_switch.specs.declared.Ports.{Ports}
 use Rattle.ultra_switch.specs.declared.Switch.{Switch}
-use Rattle.ultra_section.proofs.Entries.{put_back, switches_kept, switch_passed, switch_worked}
+use Rattle.ultra_section.proofs.Entries.{put_back, switch_entry, switch_inside, switch_passed, switch_worked, switches_kept}
 use Rattle.ultra_section.proofs.block.Block.take_requests_of_switch.Goals as goal
 
 taking_done : (b : BlockState) (n s k : ℕ) (w v : Switch) (came : Ports (Option Request)) (requests : List (Option Request)) (events : List Event)
@@ -66,3 +66,24 @@ invariant_of-self-2 c =
       stops_fit = known.stops_fit;
       numbers = known.numbers;
     }
+
+pub index_mut-requires : goal.index_mut-requires
+index_mut-requires c = switch_entry c.self.view_is c.args.number c.args.stage c.args.index c.self.inside.switches.len c.requires.is c.self.inside.switches.ok.0 c.self.invariant.units.switch_entries
+
+pub take_at_switch-came-requires : goal.take_at_switch-came-requires
+take_at_switch-came-requires c = record { switch = switch_inside c.self.view_is c.args.number c.args.stage c.args.index c.requires.is; all = c.self.invariant.requests.all }
+
+pub take_requests-combined-requires-clause-stage : goal.take_requests-combined-requires-clause-stage
+take_requests-combined-requires-clause-stage c = (switch_inside c.self.view_is c.args.number c.args.stage c.args.index c.requires.is).stage_small
+
+pub take_requests-combined-requires-clause-index : goal.take_requests-combined-requires-clause-index
+take_requests-combined-requires-clause-index c = (switch_inside c.self.view_is c.args.number c.args.stage c.args.index c.requires.is).index_small
+
+pub note_requests-requires : goal.note_requests-requires
+note_requests-requires c = c.requires.small
+
+pub note_records-requires-clause-small : goal.note_records-requires-clause-small
+note_records-requires-clause-small c = c.requires.small
+
+pub append_both-requires-clause-front : goal.append_both-requires-clause-front
+append_both-requires-clause-front c = c.take_requests-combined.ensures.front
