@@ -1,6 +1,9 @@
 -- An entry of a block is read, and what stands there is put back, or changed.
-use Rattle.std.proofs.Common.{◌≡◌, ℕ, ◌^◌, ◌<◌, List, [], ◌∷◌, ◌++◌, Option, Some, None, length, get_or, set, sym, ◌∙◌, ap, subst, arith, append-nil}
-use Rattle.std.proofs.lemmas.List.{set-get_or, get_or_default}
+use Rattle.std.proofs.Common.{◌≡◌, ℕ, ◌^◌, ◌<◌, List, [], ◌∷◌, ◌++◌, Option, Some, None, length, get_or, set, sym, ◌∙◌, ap, subst, arith, append-nil, true, false, inl, inr}
+use Rattle.std.specs.Prelude.{is_some}
+use Rattle.std.proofs.lemmas.List.{set-get_or, get_or_default, get_or_past}
+use Rattle.std.proofs.lemmas.Bool.{true≢false}
+use Rattle.std.proofs.lemmas.Bool.{cases_lt}
 use Rattle.ultra_msg.specs.declared.Request.{Request}
 use Rattle.ultra_msg.specs.declared.ReplyMessage.{ReplyMessage}
 use Rattle.ultra_switch.specs.declared.Switch.{Switch}
@@ -26,6 +29,13 @@ module _ {X : Type 0} (xs : List (Option X)) (i : ℕ) (o : Option X) (read : o 
 
   one_there : {B : Type 0} (b : B) (act : X → B) (x : X) → i < length xs → o ≡ Some x → act x ≡ elim (get_or xs i None) [ None ↦ b | Some x ↦ act x ]
   one_there b act x within is = ap (λ p. elim p [ None ↦ b | Some x ↦ act x ]) (sym is ∙ read ∙ get_or_default xs i o None within)
+
+-- ---- an entry that something stands at
+pub here_within : {X : Type 0} (xs : List (Option X)) (i : ℕ) → is_some (get_or xs i None) ≡ true → i < length xs
+here_within xs i here = elim (cases_lt i (length xs)) [ inl below ↦ below | inr past ↦ absurd (true≢false (sym here ∙ ap is_some (get_or_past xs i None past))) ]
+
+pub not_empty : {X : Type 0} (xs : List (Option X)) (i : ℕ) (o : Option X) → o ≡ get_or xs i o → o ≡ None → is_some (get_or xs i None) ≡ true → ⊥
+not_empty xs i o read none here = true≢false (sym here ∙ ap is_some (sym (subst (λ p. p ≡ get_or xs i p) none read)))
 
 -- ---- what may have happened, at the end of what has
 pub none_more : {X : Type 0} (xs : List X) (o : Option X) → o ≡ None → xs ≡ xs ++ present (o ∷ [])
