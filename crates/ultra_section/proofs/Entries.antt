@@ -69,6 +69,9 @@ module _ {inside b : BlockState} (same : inside ≡ b) where
   pub element_inside : (n p : ℕ) → IsElement b.stages n p → IsElement inside.stages n p
   element_inside n p own = subst (λ (b : BlockState). IsElement b.stages n p) (sym same) own
 
+  pub switch_within : (n s k : ℕ) → IsSwitch b.stages n s k → length inside.switches ≡ switch_count inside.stages → n < length inside.switches
+  switch_within n s k own entries = subst (λ count. n < count) (sym entries) (switch_inside n s k own).within
+
   pub switch_entry : (n s k len : ℕ) → IsSwitch b.stages n s k → len ≡ length inside.switches → length inside.switches ≡ switch_count inside.stages → n < len
   switch_entry n s k len own places entries = subst (λ count. n < count) (sym (places ∙ entries)) (switch_inside n s k own).within
 

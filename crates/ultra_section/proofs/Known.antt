@@ -140,16 +140,13 @@ module _ (d : ℕ) (old now : Sets) (ws : List (Option Switch)) (bs : List (Opti
       switch_known d old now ws bs es known n (Some v) within agree
       (replies_noted (facts_at old n) (facts_at now n) w v (facts_at old n).keeps_records was noted held room (was.keeps_records ∙ sym records))
 
-  -- and it is noted whether it keeps records: `between` is after the one note and before the other
-  pub switch_replies_taken : (between : Sets) (n : ℕ) (o : Option Switch) (w v : Switch) → n < switch_count d → o ≡ get_or ws n o → o ≡ Some w
-      → AgreeBut n old between → AgreeBut n between now
-      → facts_at between n ≡ record (facts_at old n) { holds_replies = holds_replies v; no_reply_room = not (has_reply_room v) }
-      → facts_at now n ≡ record (facts_at between n) { keeps_records = keeps_records v }
+  -- and it is noted whether it keeps records
+  pub switch_replies_taken : (n : ℕ) (o : Option Switch) (w v : Switch) → n < switch_count d → o ≡ get_or ws n o → o ≡ Some w → AgreeBut n old now
+      → facts_at now n ≡ record (facts_at old n) { holds_replies = holds_replies v; no_reply_room = not (has_reply_room v); keeps_records = keeps_records v }
       → holds_requests v ≡ holds_requests w → has_request_room v ≡ has_request_room w → UnitsAreKnown d now (set ws n (Some v)) bs es
-  switch_replies_taken between n o w v within read is first second noted then held room =
-      switch_known d old now ws bs es known n (Some v) within (λ k other. second k other ∙ first k other)
-      (replies_noted (facts_at old n) (facts_at now n) w v (keeps_records v) (switch_was n o w within read is)
-      (then ∙ ap (λ (f : UnitFacts). record f { keeps_records = keeps_records v }) noted) held room refl)
+  switch_replies_taken n o w v within read is agree noted held room =
+      switch_known d old now ws bs es known n (Some v) within agree
+      (replies_noted (facts_at old n) (facts_at now n) w v (keeps_records v) (switch_was n o w within read is) noted held room refl)
 
   pub switch_requests_changed : (n : ℕ) (o : Option Switch) (w v : Switch) → n < switch_count d → o ≡ get_or ws n o → o ≡ Some w → AgreeBut n old now
       → facts_at now n ≡ record (facts_at old n) { holds_requests = holds_requests v; no_room_zero = not (has_request_room v).zero; no_room_one = not (has_request_room v).one }
@@ -159,15 +156,12 @@ module _ (d : ℕ) (old now : Sets) (ws : List (Option Switch)) (bs : List (Opti
       switch_known d old now ws bs es known n (Some v) within agree
       (requests_noted (facts_at old n) (facts_at now n) w v (facts_at old n).keeps_records was noted held room (was.keeps_records ∙ sym records))
 
-  pub switch_requests_taken : (between : Sets) (n : ℕ) (o : Option Switch) (w v : Switch) → n < switch_count d → o ≡ get_or ws n o → o ≡ Some w
-      → AgreeBut n old between → AgreeBut n between now
-      → facts_at between n ≡ record (facts_at old n) { holds_requests = holds_requests v; no_room_zero = not (has_request_room v).zero; no_room_one = not (has_request_room v).one }
-      → facts_at now n ≡ record (facts_at between n) { keeps_records = keeps_records v }
+  pub switch_requests_taken : (n : ℕ) (o : Option Switch) (w v : Switch) → n < switch_count d → o ≡ get_or ws n o → o ≡ Some w → AgreeBut n old now
+      → facts_at now n ≡ record (facts_at old n) { holds_requests = holds_requests v; no_room_zero = not (has_request_room v).zero; no_room_one = not (has_request_room v).one; keeps_records = keeps_records v }
       → holds_replies v ≡ holds_replies w → has_reply_room v ≡ has_reply_room w → UnitsAreKnown d now (set ws n (Some v)) bs es
-  switch_requests_taken between n o w v within read is first second noted then held room =
-      switch_known d old now ws bs es known n (Some v) within (λ k other. second k other ∙ first k other)
-      (requests_noted (facts_at old n) (facts_at now n) w v (keeps_records v) (switch_was n o w within read is)
-      (then ∙ ap (λ (f : UnitFacts). record f { keeps_records = keeps_records v }) noted) held room refl)
+  switch_requests_taken n o w v within read is agree noted held room =
+      switch_known d old now ws bs es known n (Some v) within agree
+      (requests_noted (facts_at old n) (facts_at now n) w v (keeps_records v) (switch_was n o w within read is) noted held room refl)
 
   pub module_changed : (n m : ℕ) (o : Option Bank) (b c : Bank) → IsModule d n m → o ≡ get_or bs m o → o ≡ Some b → AgreeBut n old now
       → facts_at now n ≡ record (facts_at old n) { holds_replies = is_some c.out; holds_requests = is_some c.inp; no_room_zero = is_some c.inp; to_serve = would_serve c }

@@ -1,6 +1,6 @@
 //! Blocks without units, units that are put into a block or taken out of it, and what goes from one block to another.
 
-ghost use Rattle.std.specs.Prelude.{◌≡◌, ℕ, ◌<◌, ◌^◌, IfOk, None, Some, length, replicate, slice_set, vec_capacity};
+ghost use Rattle.std.specs.Prelude.{◌≡◌, ℕ, ◌+◌, ◌*◌, ◌<◌, ◌≤◌, ◌^◌, [], IfOk, None, Some, length, replicate, slice_set, vec_capacity};
 ghost use Rattle.ultra_units.specs.Numbers.{switch_count as count_of_switches};
 ghost use Rattle.ultra_section.specs.BlockState.{element_at, module_at, most_events, most_stops, switch_at};
 ghost use Rattle.ultra_section.specs.Building.{empty_block, with_unit, without_unit};
@@ -15,6 +15,8 @@ use std::alloc::{AllocError, Global};
 use std::mem::swap;
 use ultra_halves::ProcessingElement;
 use ultra_mem::Module;
+use ultra_model::Stop;
+use ultra_msg::{Event, ReplyMessage, Request};
 use ultra_route::Net;
 use ultra_switch::Switch;
 use ultra_units::{UnitSet, element_number, module_number, switch_count};
@@ -48,25 +50,62 @@ fn no_links<M: Drop>(alloc: Global, count: usize) -> Result<Links<M>, AllocError
     })
 }
 
+/// The entries of the units of a machine with this network, where none stands. An error says that memory was refused.
+fn no_units(
+    alloc: Global,
+    net: Net,
+) -> Result<
+    (
+        Vec<Option<Switch>>,
+        Vec<Option<Module>>,
+        Vec<Option<ProcessingElement>>,
+    ),
+    AllocError,
+>
+    ensures { IfOk result (λ all. (all.0.items ≡ replicate (count_of_switches net) None) × (all.1.items ≡ replicate (2 ^ net) None) × (all.2.items ≡ replicate (2 ^ net) None)) }
+{
+    let size = net.size() as usize;
+    let switches = no_entries(alloc, switch_count(net))?;
+    Ok((switches, no_entries(alloc, size)?, no_entries(alloc, size)?))
+}
+
+/// The links of a machine with this network, with no replies and no requests on them. An error says that memory was refused.
+fn no_messages(alloc: Global, net: Net) -> Result<(Links<ReplyMessage>, Links<Request>), AllocError>
+    ensures { IfOk result (λ both. (both.0.table.items ≡ replicate ((net + 1) * 2 ^ net) None) × (both.1.table.items ≡ replicate ((net + 1) * 2 ^ net) None)) }
+{
+    let size = net.size() as usize;
+    let links = (net.stages() as usize + 1) * size;
+    Ok((no_links(alloc, links)?, no_links(alloc, links)?))
+}
+
+/// Memory for the events and the stops of a cycle, none of which has happened. An error says that memory was refused.
+fn no_story(alloc: Global) -> Result<(Vec<Event>, Vec<Stop>), AllocError>
+    ensures { IfOk result (λ both. (both.0.items ≡ []) × (both.1.items ≡ []) × (most_events ≤ vec_capacity both.0) × (most_stops ≤ vec_capacity both.1)) }
+{
+    let events = Vec::with_capacity(alloc, MOST_EVENTS)?;
+    Ok((events, Vec::with_capacity(alloc, MOST_STOPS)?))
+}
+
 impl Block {
     /// A block without units, of a machine with this network, before its first cycle. An error says that memory was refused.
     pub fn empty(alloc: Global, net: Net) -> Result<Block, AllocError>
         ensures { IfOk result (λ b. b ≡ empty_block net) }
     {
-        let size = net.size() as usize;
-        let links = (net.stages() as usize + 1) * size;
+        let (switches, modules, elements) = no_units(alloc, net)?;
+        let (replies, requests) = no_messages(alloc, net)?;
+        let (events, stops) = no_story(alloc)?;
         Ok(Block {
             net,
             numbering: Numbering::of(net),
             done: 0,
-            switches: no_entries(alloc, switch_count(net))?,
-            modules: no_entries(alloc, size)?,
-            elements: no_entries(alloc, size)?,
+            switches,
+            modules,
+            elements,
             sets: Sets::empty(),
-            replies: no_links(alloc, links)?,
-            requests: no_links(alloc, links)?,
-            events: Vec::with_capacity(alloc, MOST_EVENTS)?,
-            stops: Vec::with_capacity(alloc, MOST_STOPS)?,
+            replies,
+            requests,
+            events,
+            stops,
         })
     }
 

@@ -136,6 +136,33 @@ impl Sets {
         }
     }
 
+    /// Notes what is true of a switch that stands here, once replies have come to it. It keeps no record that it didn't keep before.
+    #[inline(always)]
+    pub(crate) fn note_replies_taken(&mut self, number: usize, switch: &Switch)
+        requires small { number < 320 }
+        requires fewer { (facts_at self.old number).keeps_records ≡ false → keeps_records switch.now ≡ false }
+        ensures there { facts_at self.new number ≡ record (facts_at self.old number) { holds_replies = holds_replies switch.now; no_reply_room = not (has_reply_room switch.now); keeps_records = keeps_records switch.now } }
+        ensures others { (k : ℕ) → k ≢ number → facts_at self.new k ≡ facts_at self.old k }
+        ensures here { self.new.here ≡ self.old.here }
+    {
+        let kept_records = self.keeps_records.has(number);
+        self.note_replies(number, switch);
+        self.note_records(number, switch, kept_records);
+    }
+
+    /// Notes what is true of a switch that stands here, once requests have come to it. Unless its records `may_differ`, they are noted already.
+    #[inline(always)]
+    pub(crate) fn note_requests_taken(&mut self, number: usize, switch: &Switch, may_differ: bool)
+        requires small { number < 320 }
+        requires noted { may_differ ≡ false → (facts_at self.old number).keeps_records ≡ keeps_records switch.now }
+        ensures there { facts_at self.new number ≡ record (facts_at self.old number) { holds_requests = holds_requests switch.now; no_room_zero = not (has_request_room switch.now).zero; no_room_one = not (has_request_room switch.now).one; keeps_records = keeps_records switch.now } }
+        ensures others { (k : ℕ) → k ≢ number → facts_at self.new k ≡ facts_at self.old k }
+        ensures here { self.new.here ≡ self.old.here }
+    {
+        self.note_requests(number, switch);
+        self.note_records(number, switch, may_differ);
+    }
+
     /// Notes what is true of a module that stands here.
     #[inline(always)]
     pub(crate) fn note_module(&mut self, number: usize, bank: &Module)

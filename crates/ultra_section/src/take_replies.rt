@@ -1,17 +1,43 @@
 //! The half of a cycle in which replies come to switches and processing elements.
 
-ghost use Rattle.std.specs.Prelude.{◌≡◌, ℕ, ◌*◌, ◌+◌, ◌<◌, ◌≤◌, length};
+ghost use Rattle.std.specs.Prelude.{◌≡◌, ℕ, ◌*◌, ◌+◌, ◌<◌, ◌≤◌, List, length};
+ghost use Rattle.ultra_halves.specs.Switches.{CanTakeReplies, after_replies};
 ghost use Rattle.ultra_units.specs.Visits.{after_units};
 ghost use Rattle.ultra_section.specs.BlockState.{most_events};
+ghost use Rattle.ultra_section.specs.Marks.{HasAllLinks, RepliesAreKnown, on_both, reply_links, without_both};
 ghost use Rattle.ultra_section.specs.RepliesTaken.{CanTakeRepliesAt, ElementCanTakeReply, SwitchCanTakeReplies, element_takes_reply, switch_takes_replies, takes_replies};
 ghost use Rattle.ultra_section.specs.Units.{IsElement, IsSwitch};
 
 use crate::block::{Block, append};
+use crate::links::Links;
 use crate::replies::{take_at_element, take_at_switch};
 use crate::unit::Unit;
 use ultra_halves::switches;
-use ultra_msg::Event;
+use ultra_msg::{Event, ReplyMessage};
+use ultra_route::Net;
+use ultra_switch::Switch;
 use ultra_units::{UnitSet, Visit, visit_all};
+
+/// What comes to a switch goes through its wait buffers into its queues. `number` is the number of the unit.
+#[inline(always)]
+fn take_into_switch(
+    switch: &mut Switch,
+    links: &mut Links<ReplyMessage>,
+    net: Net,
+    number: usize,
+    stage: u32,
+    index: u32,
+)
+    requires is { IsSwitch net number stage index }
+    requires all { HasAllLinks net links.old }
+    requires room { CanTakeReplies switch.old (on_both links.old.table.items (reply_links net stage index)) }
+    ensures switch { switch.new ≡ after_replies net stage switch.old (on_both links.old.table.items (reply_links net stage index)) }
+    ensures table { links.new.table.items ≡ without_both links.old.table.items (reply_links net stage index) }
+    ensures known { (here : List ℕ) → RepliesAreKnown net here links.old → RepliesAreKnown net here links.new }
+{
+    let came = take_at_switch(links, net, number, stage, index);
+    switches::take_replies(switch, net, stage, came);
+}
 
 impl Block {
     /// What comes to a switch goes through its wait buffers into its queues.
@@ -25,11 +51,8 @@ impl Block {
         let Some(switch) = &mut self.switches[number] else {
             return;
         };
-        let came = take_at_switch(&mut self.replies, net, number, stage, index);
-        switches::take_replies(switch, net, stage, came);
-        self.sets.note_replies(number, switch);
-        let kept_records = self.sets.keeps_records.has(number);
-        self.sets.note_records(number, switch, kept_records);
+        take_into_switch(switch, &mut self.replies, net, number, stage, index);
+        self.sets.note_replies_taken(number, switch);
     }
 
     /// What comes to a processing element is delivered.

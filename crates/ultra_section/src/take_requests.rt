@@ -1,18 +1,22 @@
 //! The half of a cycle in which requests come to switches and modules.
 
-ghost use Rattle.std.specs.Prelude.{◌≡◌, ℕ, ◌+◌, ◌<◌, ◌≤◌, ◌++◌, ◌∷◌, [], None, length, vec_capacity};
+ghost use Rattle.std.specs.Prelude.{◌≡◌, ℕ, ◌+◌, ◌<◌, ◌≤◌, ◌++◌, ◌∷◌, [], List, None, length, vec_capacity};
+ghost use Rattle.ultra_halves.specs.Switches.{CanTakeRequests, after_requests, combinations_of};
 ghost use Rattle.ultra_model.specs.Places.{present};
 ghost use Rattle.ultra_units.specs.Visits.{after_units};
 ghost use Rattle.ultra_section.specs.BlockState.{most_events};
+ghost use Rattle.ultra_section.specs.Marks.{HasAllLinks, RequestsAreKnown, on_both, request_links, without_both};
 ghost use Rattle.ultra_section.specs.RequestsTaken.{CanTakeRequestsAt, ModuleCanTakeRequest, SwitchCanTakeRequests, module_takes_request, switch_takes_requests, takes_requests};
 ghost use Rattle.ultra_section.specs.Units.{IsModule, IsSwitch};
 
 use crate::block::{Block, append};
+use crate::links::Links;
 use crate::requests::{take_at_module, take_at_switch};
 use crate::unit::Unit;
 use ultra_halves::{modules, switches};
-use ultra_msg::Event;
-use ultra_switch::Ports;
+use ultra_msg::{Event, Request};
+use ultra_route::Net;
+use ultra_switch::{Ports, Switch};
 use ultra_units::{UnitSet, Visit, visit_all};
 
 /// Puts two events, if they are there, at the end of the list. Where there is only one, it is in `zero`.
@@ -32,6 +36,30 @@ fn append_both(list: &mut Vec<Event>, events: Ports<Option<Event>>)
     }
 }
 
+/// What comes to a switch goes into its queues, where it may combine. `number` is the number of the unit.
+#[inline(always)]
+fn take_into_switch(
+    switch: &mut Switch,
+    links: &mut Links<Request>,
+    net: Net,
+    number: usize,
+    stage: u32,
+    index: u32,
+    cycle: u32,
+) -> Ports<Option<Event>>
+    requires is { IsSwitch net number stage index }
+    requires all { HasAllLinks net links.old }
+    requires room { CanTakeRequests net stage switch.old (on_both links.old.table.items (request_links net stage index)) }
+    ensures switch { switch.new ≡ after_requests net stage cycle switch.old (on_both links.old.table.items (request_links net stage index)) }
+    ensures combined { present (result.zero ∷ result.one ∷ []) ≡ combinations_of net stage index cycle switch.old (on_both links.old.table.items (request_links net stage index)) }
+    ensures front { result.zero ≡ None → result.one ≡ None }
+    ensures table { links.new.table.items ≡ without_both links.old.table.items (request_links net stage index) }
+    ensures known { (here : List ℕ) → RequestsAreKnown net here links.old → RequestsAreKnown net here links.new }
+{
+    let came = take_at_switch(links, net, number, stage, index);
+    switches::take_requests(switch, net, stage, index, cycle, came)
+}
+
 impl Block {
     /// What comes to a switch goes into its queues.
     fn take_requests_of_switch(&mut self, number: usize, stage: u32, index: u32)
@@ -47,11 +75,10 @@ impl Block {
         let Some(switch) = &mut self.switches[number] else {
             return;
         };
-        let came = take_at_switch(&mut self.requests, net, number, stage, index);
-        let combined = switches::take_requests(switch, net, stage, index, cycle, came);
-        self.sets.note_requests(number, switch);
+        let links = &mut self.requests;
+        let combined = take_into_switch(switch, links, net, number, stage, index, cycle);
         let has_combined = combined.zero.is_some();
-        self.sets.note_records(number, switch, has_combined);
+        self.sets.note_requests_taken(number, switch, has_combined);
         append_both(&mut self.events, combined);
     }
 

@@ -34,13 +34,15 @@ returns c =
     taking_done _ c.args.module_number c.in-Some.bank c.match-came.bank c.take_at_module-came.result _ c.take_at_module-came.ensures.came c.take_at_module-came.ensures.table taken
     ∙ module_worked c.self.view_is (request_taken_by c.args.module_number) c.args.number c.args.module_number c.index_mut.result.now c.in-Some.bank c.requires.is c.self.invariant.units.module_entries c.index_mut.ensures.value c.in-Some.is
 
-pub take_request-requires-clause-empty : goal.take_request-requires-clause-empty
-take_request-requires-clause-empty c =
+pub take_request-requires : goal.take_request-requires
+take_request-requires c =
     let inside = c.self.inside in
-    let is : IsModule inside.net c.args.number c.args.module_number = subst (λ (b : BlockState). IsModule b.stages c.args.number c.args.module_number) (sym c.self.view_is) c.requires.is in
+    let is = module_inside c.self.view_is c.args.number c.args.module_number c.requires.is in
     let can = subst (λ (b : BlockState). ModuleCanTakeRequest c.args.module_number b) (sym c.self.view_is) c.requires.can in
-    (can c.in-Some.bank (stands inside.modules.items c.args.module_number c.index_mut.result.now c.in-Some.bank (omega (arith, c.self.invariant.units.module_entries, is.small)) c.index_mut.ensures.value c.in-Some.is)
-    c.in-Some-came.request (sym c.take_at_module-came.ensures.came ∙ c.in-Some-came.is)).1
+    let both =
+    can c.in-Some.bank (stands inside.modules.items c.args.module_number c.index_mut.result.now c.in-Some.bank (omega (arith, c.self.invariant.units.module_entries, is.small)) c.index_mut.ensures.value c.in-Some.is)
+    c.in-Some-came.request (sym c.take_at_module-came.ensures.came ∙ c.in-Some-came.is) in
+    record { within = both.0; empty = both.1 }
 
 pub invariant_of-self-2 : goal.invariant_of-self-2
 invariant_of-self-2 c =

@@ -1,0 +1,22 @@
+use Rattle.std.proofs.Common.{sym, ap, subst, ◌∙◌}
+use Rattle.ultra_halves.specs.Switches.{CanTakeRequests, after_requests, combinations_of}
+use Rattle.ultra_section.proofs.take_requests.take_into_switch.Goals as goal
+
+pub take_at_switch-came-requires : goal.take_at_switch-came-requires
+take_at_switch-came-requires c = record { switch = c.requires.is; all = c.requires.all }
+
+pub take_requests-requires : goal.take_requests-requires
+take_requests-requires c = record {
+  stage = c.requires.is.stage_small;
+  index = c.requires.is.index_small;
+  room = subst (λ came. CanTakeRequests c.args.net c.args.stage c.args.switch.now came) (sym c.take_at_switch-came.ensures.came) c.requires.room;
+}
+
+pub returns : goal.returns
+returns c = record {
+  switch = c.take_requests.ensures.queues ∙ ap (after_requests c.args.net c.args.stage c.args.cycle c.args.switch.now) c.take_at_switch-came.ensures.came;
+  combined = c.take_requests.ensures.combined ∙ ap (combinations_of c.args.net c.args.stage c.args.index c.args.cycle c.args.switch.now) c.take_at_switch-came.ensures.came;
+  front = c.take_requests.ensures.front;
+  table = c.take_at_switch-came.ensures.table;
+  known = c.take_at_switch-came.ensures.known;
+}
