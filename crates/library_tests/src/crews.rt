@@ -1,10 +1,8 @@
 //! Machines whose cycles are made by several workers.
 
-ghost use Rattle.std.specs.Prelude.{◌≤◌};
-
-use crate::blocks::tree_is_answered;
-use crate::gates::{Counter, Holdup, Meeting};
-use crate::programs::add_number;
+use crate::blocks::{bank, element, event_is, lane, replies, tree_is_answered};
+use crate::gates::{Counter, Holdup, Meeting, all_met};
+use crate::programs::{add_number, register};
 use crate::settings::config;
 use std::alloc::Global;
 use std::process::Abort;
@@ -13,61 +11,88 @@ use std::sync::atomic::Ordering;
 use std::test::Fail;
 use std::thread::Threads;
 use ultra_crew::{Crew, CrewFault, Gate, cycle_alone};
-use ultra_isa::MachineFault;
+use ultra_isa::{Activity, MachineFault, Processor};
 use ultra_machine::{Blocks, ProcessingElement};
 use ultra_mem::Module;
 use ultra_model::Stop;
-use ultra_msg::{Pe, Register};
+use ultra_msg::{Pe, Request};
 use ultra_switch::{ToMm, ToPe};
 
-/// Makes n cycles, each by these workers.
-fn make_cycles<R: Threads + Wait + Sync + Abort, G: Gate + Sync>(
+/// The machine in which each processing element adds its number and 1 to cell 0, before its first cycle, in this partition.
+fn additions(alloc: Global, stages: i64, partition: &[u8]) -> Result<Blocks, Fail> {
+    let config = config(alloc, stages)?;
+    let program = add_number(alloc)?;
+    Ok(Blocks::new(alloc, &config, &program, partition)?)
+}
+
+/// Makes a cycle by these workers.
+fn make_cycle<R: Threads + Wait + Sync + Abort, G: Gate + Sync>(
+    rt: &R,
+    alloc: Global,
+    blocks: Blocks,
+    workers: usize,
+    gate: &G,
+) -> Result<Blocks, CrewFault> {
+    assert!(rt; 1 <= workers);
+    assert!(rt; workers <= 64);
+    assert!(rt; blocks.done() < 1000);
+    Crew::cycle(rt, alloc, blocks, workers, gate)
+}
+
+/// Makes n cycles of the machine of one stage in two blocks, each by two workers.
+fn cycles_by_two<R: Threads + Wait + Sync + Abort + AllocGlobal, G: Gate + Sync>(
+    rt: &R,
+    gate: &G,
+    count: u32,
+) -> Result<(), Fail> {
+    let mut blocks = additions(rt.alloc(), 1, &[0, 1, 0, 1, 0])?;
+    for _ in 0..count {
+        blocks = make_cycle(rt, rt.alloc(), blocks, 2, gate)?;
+    }
+    Ok(())
+}
+
+/// The machine after n cycles, made by these workers, whose threads are kept.
+fn by_kept<R: Threads + Wait + Sync + Abort, G: Gate + Sync>(
     rt: &R,
     alloc: Global,
     blocks: Blocks,
     workers: usize,
     gate: &G,
     count: u32,
-) -> Result<Blocks, CrewFault>
-    requires some_worker { 1 ≤ workers }
-    requires most_workers { workers ≤ 64 }
-{
-    let mut blocks = blocks;
-    for _ in 0..count {
-        assert!(rt; blocks.done() < 1000);
-        blocks = Crew::cycle(rt, alloc, blocks, workers, gate)?;
-    }
-    Ok(blocks)
+) -> Result<Blocks, CrewFault> {
+    assert!(rt; 1 <= workers);
+    assert!(rt; workers <= 64);
+    assert!(rt; blocks.done() == 0);
+    Crew::cycles(rt, alloc, blocks, workers, gate, count)
+}
+
+/// Makes n cycles of the machine of one stage in two blocks, by two workers whose threads are kept.
+fn cycles_by_kept_two<R: Threads + Wait + Sync + Abort + AllocGlobal, G: Gate + Sync>(
+    rt: &R,
+    gate: &G,
+    count: u32,
+) -> Result<(), Fail> {
+    let blocks = additions(rt.alloc(), 1, &[0, 1, 0, 1, 0])?;
+    let _ = by_kept(rt, rt.alloc(), blocks, 2, gate, count)?;
+    Ok(())
 }
 
 /// Two blocks with work and two workers: in every half each worker waits for the other at the gate. A crew that makes all blocks in one thread keeps the contracts too, but fails this test: the turns run out, or no flag is raised where it calls no gate.
 #[test]
 fn gate_meets(rt: HostRuntime) -> Result<(), Fail> {
-    let config = config(rt.alloc(), 1)?;
-    let program = add_number(rt.alloc())?;
-    let blocks = Blocks::new(rt.alloc(), &config, &program, &[0, 1, 0, 1, 0])?;
     let meeting = Meeting::new();
-    let _ = make_cycles(&rt, rt.alloc(), blocks, 2, &meeting, 8)?;
-    let [first, second] = &meeting.flags;
-    assert_eq!(rt; first.load(Ordering::SeqCst), 48);
-    assert_eq!(rt; second.load(Ordering::SeqCst), 48);
-    assert_eq!(rt; meeting.missed.load(Ordering::SeqCst), 0);
+    cycles_by_two(&rt, &meeting, 8)?;
+    all_met(&rt, &meeting);
     Ok(())
 }
 
 /// The same by workers whose threads are kept over all cycles. With all blocks in one of these threads it fails too: the turns run out.
 #[test]
 fn gate_meets_when_kept(rt: HostRuntime) -> Result<(), Fail> {
-    let config = config(rt.alloc(), 1)?;
-    let program = add_number(rt.alloc())?;
-    let blocks = Blocks::new(rt.alloc(), &config, &program, &[0, 1, 0, 1, 0])?;
     let meeting = Meeting::new();
-    assert!(rt; blocks.done() == 0);
-    let _ = Crew::cycles(&rt, rt.alloc(), blocks, 2, &meeting, 8)?;
-    let [first, second] = &meeting.flags;
-    assert_eq!(rt; first.load(Ordering::SeqCst), 48);
-    assert_eq!(rt; second.load(Ordering::SeqCst), 48);
-    assert_eq!(rt; meeting.missed.load(Ordering::SeqCst), 0);
+    cycles_by_kept_two(&rt, &meeting, 8)?;
+    all_met(&rt, &meeting);
     Ok(())
 }
 
@@ -97,30 +122,43 @@ fn same_module(rt: &impl Abort, a: &Module, b: &Module) {
     }
 }
 
+fn same_registers(rt: &impl Abort, a: &Processor, b: &Processor) {
+    for number in 0..16 {
+        let register = register(number);
+        assert_eq!(rt; a.register(register), b.register(register));
+    }
+}
+
+/// Where a processing element is in its program, and what it is doing.
+fn doing(element: &ProcessingElement) -> (usize, Activity) {
+    let processor = &element.processor;
+    (processor.place(), processor.activity())
+}
+
+/// How many cells a processing element has open, and which of its requests is sent next.
+fn waiting(element: &ProcessingElement) -> (usize, Option<Request>) {
+    let interface = &element.interface;
+    (interface.open_count(), interface.head())
+}
+
 fn same_element(rt: &impl Abort, a: &ProcessingElement, b: &ProcessingElement) {
     assert_eq!(rt; a.issued, b.issued);
-    assert_eq!(rt; a.processor.place(), b.processor.place());
-    assert_eq!(rt; a.processor.activity(), b.processor.activity());
-    assert_eq!(rt; a.interface.open_count(), b.interface.open_count());
-    assert_eq!(rt; a.interface.head(), b.interface.head());
-    for number in 0..16 {
-        let Some(register) = Register::new(number) else {
-            panic!(rt; "no register")
-        };
-        assert_eq!(rt;
-            a.processor.register(register),
-            b.processor.register(register)
-        );
-    }
+    assert_eq!(rt; doing(a), doing(b));
+    assert_eq!(rt; waiting(a), waiting(b));
+    same_registers(rt, &a.processor, &b.processor);
 }
 
 /// The same happened in the last cycles of two machines.
 fn same_events(rt: &impl Abort, a: &Blocks, b: &Blocks) {
     let mut events = b.events();
     for event in a.events() {
-        assert_eq!(rt; events.next(), Some(event));
+        event_is(rt, events.next(), Some(event));
     }
-    assert!(rt; events.next().is_none());
+    event_is(rt, events.next(), None);
+}
+
+/// The same processing elements stopped in the last cycles of two machines.
+fn same_stops(rt: &impl Abort, a: &Blocks, b: &Blocks) {
     let mut stops = b.stops();
     for stop in a.stops() {
         assert_eq!(rt; cause(stops.next()), cause(Some(stop)));
@@ -128,26 +166,41 @@ fn same_events(rt: &impl Abort, a: &Blocks, b: &Blocks) {
     assert!(rt; stops.next().is_none());
 }
 
+/// Two machines hold the same in the queues at a position of a stage.
+fn same_queues(rt: &impl Abort, a: &Blocks, b: &Blocks, stage: u32, position: u32) {
+    same_requests(
+        rt,
+        lane(rt, a, stage, position),
+        lane(rt, b, stage, position),
+    );
+    same_replies(
+        rt,
+        replies(rt, a, stage, position),
+        replies(rt, b, stage, position),
+    );
+}
+
+/// Two machines hold the same in the memory module and the processing element of a number.
+fn same_ends(rt: &impl Abort, a: &Blocks, b: &Blocks, number: u32) {
+    same_module(rt, bank(rt, a, number), bank(rt, b, number));
+    same_element(rt, element(rt, a, number), element(rt, b, number));
+}
+
 /// Two machines with as many stages hold the same everywhere, and the same happened in their last cycles.
 fn same_places(rt: &impl Abort, a: &Blocks, b: &Blocks) {
     assert_eq!(rt; a.done(), b.done());
-    assert!(rt; a.config().stages() == b.config().stages());
+    assert_eq!(rt; a.config().stages(), b.config().stages());
     let net = a.config().net();
     for stage in 0..net.stages() {
         for position in 0..net.size() {
-            same_requests(rt, a.lane(stage, position), b.lane(stage, position));
-            same_replies(
-                rt,
-                a.reply_queue(stage, position),
-                b.reply_queue(stage, position),
-            );
+            same_queues(rt, a, b, stage, position);
         }
     }
     for number in 0..net.size() {
-        same_module(rt, a.bank(number), b.bank(number));
-        same_element(rt, a.element(number), b.element(number));
+        same_ends(rt, a, b, number);
     }
     same_events(rt, a, b);
+    same_stops(rt, a, b);
 }
 
 /// Which processing element stopped, and why.
@@ -162,19 +215,13 @@ fn goes_as_alone<R: Threads + Wait + Sync + Abort + AllocGlobal, G: Gate + Sync>
     partition: &[u8],
     workers: usize,
     gate: &G,
-) -> Result<(), Fail>
-    requires some_worker { 1 ≤ workers }
-    requires most_workers { workers ≤ 64 }
-{
-    let config = config(rt.alloc(), 2)?;
-    let program = add_number(rt.alloc())?;
-    let mut alone = Blocks::new(rt.alloc(), &config, &program, &[0; 12])?;
-    let mut blocks = Blocks::new(rt.alloc(), &config, &program, partition)?;
+) -> Result<(), Fail> {
+    let mut alone = additions(rt.alloc(), 2, &[0; 12])?;
+    let mut blocks = additions(rt.alloc(), 2, partition)?;
     for _ in 0..10u32 {
         assert!(rt; alone.done() < 1000);
-        assert!(rt; blocks.done() < 1000);
         cycle_alone(&mut alone);
-        blocks = Crew::cycle(rt, rt.alloc(), blocks, workers, gate)?;
+        blocks = make_cycle(rt, rt.alloc(), blocks, workers, gate)?;
         same_places(rt, &alone, &blocks);
     }
     tree_is_answered(rt, &blocks);
@@ -199,22 +246,28 @@ fn one_worker_late(rt: HostRuntime) -> Result<(), Fail> {
     goes_as_alone(&rt, &[0, 1, 2, 0, 1, 2, 0, 1, 2, 0, 1, 2], 3, &gate)
 }
 
-/// Ten cycles by workers whose threads are kept, of which that of block 0 is late each time, beside the same machine in one block and without workers: after them both hold the same everywhere.
+/// Ten cycles by these workers, whose threads are kept, beside the same machine in one block and without workers: after them both hold the same everywhere.
+fn kept_go_as_alone<R: Threads + Wait + Sync + Abort + AllocGlobal, G: Gate + Sync>(
+    rt: &R,
+    workers: usize,
+    gate: &G,
+) -> Result<(), Fail> {
+    let alloc = rt.alloc();
+    let alone = additions(alloc, 2, &[0; 12])?;
+    let alone = by_kept(rt, alloc, alone, 1, gate, 10)?;
+    let blocks = additions(alloc, 2, &[0, 1, 2, 0, 1, 2, 0, 1, 2, 0, 1, 2])?;
+    let blocks = by_kept(rt, alloc, blocks, workers, gate, 10)?;
+    same_places(rt, &alone, &blocks);
+    tree_is_answered(rt, &blocks);
+    Ok(())
+}
+
+/// The worker of block 0 is late each time.
 #[test]
 fn kept_workers(rt: HostRuntime) -> Result<(), Fail> {
-    let config = config(rt.alloc(), 2)?;
-    let program = add_number(rt.alloc())?;
-    let partition = [0, 1, 2, 0, 1, 2, 0, 1, 2, 0, 1, 2];
     let gate = Holdup { block: 0 };
     for workers in [1, 2, 3, 64] {
-        let alone = Blocks::new(rt.alloc(), &config, &program, &[0; 12])?;
-        assert!(rt; alone.done() == 0);
-        let alone = Crew::cycles(&rt, rt.alloc(), alone, 1, &gate, 10)?;
-        let blocks = Blocks::new(rt.alloc(), &config, &program, &partition)?;
-        assert!(rt; blocks.done() == 0);
-        let blocks = Crew::cycles(&rt, rt.alloc(), blocks, workers, &gate, 10)?;
-        same_places(&rt, &alone, &blocks);
-        tree_is_answered(&rt, &blocks);
+        kept_go_as_alone(&rt, workers, &gate)?;
     }
     Ok(())
 }
@@ -222,11 +275,8 @@ fn kept_workers(rt: HostRuntime) -> Result<(), Fail> {
 /// A single cycle, short enough to refuse each of its allocations in turn: the gate is called for each block in each half.
 #[test]
 fn one_cycle_by_two(rt: HostRuntime) -> Result<(), Fail> {
-    let config = config(rt.alloc(), 1)?;
-    let program = add_number(rt.alloc())?;
-    let blocks = Blocks::new(rt.alloc(), &config, &program, &[0, 1, 0, 1, 0])?;
     let gate = Counter::new();
-    let _ = make_cycles(&rt, rt.alloc(), blocks, 2, &gate, 1)?;
+    cycles_by_two(&rt, &gate, 1)?;
     assert_eq!(rt; gate.calls.load(Ordering::SeqCst), 2 * 6);
     Ok(())
 }
@@ -234,12 +284,8 @@ fn one_cycle_by_two(rt: HostRuntime) -> Result<(), Fail> {
 /// Two cycles by workers whose threads are kept.
 #[test]
 fn two_cycles_by_two(rt: HostRuntime) -> Result<(), Fail> {
-    let config = config(rt.alloc(), 1)?;
-    let program = add_number(rt.alloc())?;
-    let blocks = Blocks::new(rt.alloc(), &config, &program, &[0, 1, 0, 1, 0])?;
     let gate = Counter::new();
-    assert!(rt; blocks.done() == 0);
-    let _ = Crew::cycles(&rt, rt.alloc(), blocks, 2, &gate, 2)?;
+    cycles_by_kept_two(&rt, &gate, 2)?;
     assert_eq!(rt; gate.calls.load(Ordering::SeqCst), 2 * 2 * 6);
     Ok(())
 }

@@ -1,12 +1,12 @@
 //! Machines that are cut on their way: in the worked run of a tree of two levels, after five of its ten cycles.
 
 use crate::blocks::{run_blocks, tree_is_answered};
-use crate::machines::{combine, ends_with, four_become_one, machine, one_becomes_four};
+use crate::machines::{combined, ends_with, four_become_one, machine, one_becomes_four, run_to};
 use crate::programs::add_number;
 use crate::settings::defaults;
 use std::process::Abort;
 use std::test::Fail;
-use ultra_machine::{Machine, PartitionFault};
+use ultra_machine::{Blocks, Machine, PartitionFault};
 
 /// The machine before its sixth cycle, with the four requests on their way as one.
 fn on_its_way(rt: &(impl Abort + AllocGlobal)) -> Result<Machine, Fail> {
@@ -31,6 +31,21 @@ fn given_back(
     }
 }
 
+/// The machine goes on where it stood.
+fn goes_on(rt: &impl Abort, machine: &mut Machine) {
+    assert!(rt; machine.done() == 5);
+    run_to(rt, machine, 0, &[combined(1, 0, 2, 3)]);
+    one_becomes_four(rt, machine);
+    ends_with(rt, machine, 10);
+}
+
+/// Its blocks make the cycles that it would have made.
+fn go_on(rt: &impl Abort, blocks: &mut Blocks) {
+    assert!(rt; blocks.done() == 5);
+    run_blocks(rt, blocks, 5);
+    tree_is_answered(rt, blocks);
+}
+
 /// A machine goes on where it stood when a partition has a unit too few, or names block 64.
 #[test]
 fn bad_partitions(rt: HostRuntime) -> Result<(), Fail> {
@@ -38,42 +53,29 @@ fn bad_partitions(rt: HostRuntime) -> Result<(), Fail> {
     let machine = given_back(&rt, machine, &[0; 11])?;
     let above = [0, 0, 0, 0, 0, 0, 0, 0, 0, 0, 0, 64];
     let mut machine = given_back(&rt, machine, &above)?;
-    assert!(rt; machine.done() == 5);
-    combine(&rt, &mut machine, 0, &[(1, 0, 2, 3)]);
-    one_becomes_four(&rt, &mut machine);
-    ends_with(&rt, &machine, 10);
+    goes_on(&rt, &mut machine);
     Ok(())
 }
 
 /// The blocks make the cycles that the machine would have made.
 fn goes_on_in(rt: &(impl Abort + AllocGlobal), partition: &[u8]) -> Result<(), Fail> {
-    let machine = on_its_way(rt)?;
-    let mut blocks = match machine.into_blocks(rt.alloc(), partition) {
-        Ok(blocks) => blocks,
-        Err((_, fault)) => return Err(Fail::from(fault)),
-    };
-    assert!(rt; blocks.done() == 5);
-    run_blocks(rt, &mut blocks, 5);
-    tree_is_answered(rt, &blocks);
-    Ok(())
+    match on_its_way(rt)?.into_blocks(rt.alloc(), partition) {
+        Ok(mut blocks) => {
+            go_on(rt, &mut blocks);
+            Ok(())
+        }
+        Err((_, fault)) => Err(Fail::from(fault)),
+    }
 }
 
 /// With each allocation refused in turn, the machine goes on in blocks, or is given back and goes on where it stood.
 #[test]
 fn a_machine_is_cut_or_given_back(rt: HostRuntime) -> Result<(), Fail> {
-    let machine = on_its_way(&rt)?;
-    match machine.into_blocks(rt.alloc(), &[0, 0, 1, 1, 2, 2, 2, 2, 3, 3, 3, 3]) {
-        Ok(mut blocks) => {
-            assert!(rt; blocks.done() == 5);
-            run_blocks(&rt, &mut blocks, 5);
-            tree_is_answered(&rt, &blocks);
-        }
+    match on_its_way(&rt)?.into_blocks(rt.alloc(), &[0, 0, 1, 1, 2, 2, 2, 2, 3, 3, 3, 3]) {
+        Ok(mut blocks) => go_on(&rt, &mut blocks),
         Err((mut machine, fault)) => {
             assert_eq!(rt; fault, PartitionFault::NoMemory);
-            assert!(rt; machine.done() == 5);
-            combine(&rt, &mut machine, 0, &[(1, 0, 2, 3)]);
-            one_becomes_four(&rt, &mut machine);
-            ends_with(&rt, &machine, 10);
+            goes_on(&rt, &mut machine);
         }
     }
     Ok(())

@@ -1,5 +1,6 @@
 //! Gates that the workers of a crew call before each half of a block.
 
+use std::process::Abort;
 use std::sync::Wait;
 use std::sync::atomic::{AtomicU64, Ordering};
 use std::thread;
@@ -69,6 +70,14 @@ impl Meeting {
         }
         self.missed.fetch_add(1, Ordering::SeqCst);
     }
+}
+
+/// In eight cycles of six halves the workers of blocks 0 and 1 have met in every half.
+pub(crate) fn all_met(rt: &impl Abort, meeting: &Meeting) {
+    let [first, second] = &meeting.flags;
+    assert_eq!(rt; first.load(Ordering::SeqCst), 48);
+    assert_eq!(rt; second.load(Ordering::SeqCst), 48);
+    assert_eq!(rt; meeting.missed.load(Ordering::SeqCst), 0);
 }
 
 impl Gate for Meeting {

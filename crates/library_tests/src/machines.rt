@@ -8,7 +8,7 @@ use std::test::Fail;
 use ultra_isa::{Instr, Program};
 use ultra_machine::{Config, Machine, RawSettings};
 use ultra_msg::{Event, Give, Op, Pe, Reply, ReplyMessage, Request, Word};
-use ultra_switch::{Entry, WaitRecord};
+use ultra_switch::{Entry, ToMm, WaitRecord};
 
 /// The machine before its first cycle.
 pub(crate) fn machine(
@@ -46,80 +46,56 @@ pub(crate) fn answer(pe: Pe, word: Word) -> ReplyMessage {
     }
 }
 
-/// Makes n cycles. In the last of them the processing elements issue their first requests: each adds this word.
-fn issue(rt: &impl Abort, machine: &mut Machine, cycles: u32, wanted: &[(Pe, Word)]) {
-    run(rt, machine, cycles);
-    let mut events = machine.events().iter();
-    for &(pe, word) in wanted {
-        let event = Event::Issued {
-            request: faa(pe, word),
-            number: 0,
-        };
-        assert_eq!(rt; events.next(), Some(&event));
+/// A processing element issues its first request, which adds this word.
+fn issued(pe: Pe, word: Word) -> Event {
+    Event::Issued {
+        request: faa(pe, word),
+        number: 0,
     }
-    assert!(rt; events.next().is_none());
 }
 
-/// Makes n cycles. In the last of them requests combine: at this stage and position, that of the first processing element with that of the second.
-pub(crate) fn combine(
-    rt: &impl Abort,
-    machine: &mut Machine,
-    cycles: u32,
-    wanted: &[(u32, u32, Pe, Pe)],
-) {
-    run(rt, machine, cycles);
-    let mut events = machine.events().iter();
-    for &(stage, position, old, new) in wanted {
-        let event = Event::Combined {
-            stage,
-            position,
-            cell: 0,
-            old,
-            new,
-            old_first: true,
-        };
-        assert_eq!(rt; events.next(), Some(&event));
+/// Two requests combine at this stage and position: that of the first processing element with that of the second.
+pub(crate) fn combined(stage: u32, position: u32, old: Pe, new: Pe) -> Event {
+    Event::Combined {
+        stage,
+        position,
+        cell: 0,
+        old,
+        new,
+        old_first: true,
     }
-    assert!(rt; events.next().is_none());
 }
 
-/// Makes n cycles. In the last of them processing elements get these values, and module 0 serves requests: that of a processing element which adds a word, with the value before and after.
-fn answer_and_serve(
-    rt: &impl Abort,
-    machine: &mut Machine,
-    cycles: u32,
-    answers: &[(Pe, Word)],
-    acts: &[(Pe, Word, Word, Word)],
-) {
-    run(rt, machine, cycles);
-    let mut events = machine.events().iter();
-    for &(pe, word) in answers {
-        let event = Event::Delivered(answer(pe, word));
-        assert_eq!(rt; events.next(), Some(&event));
+/// Module 0 serves the request of a processing element that adds a word, with the value before and after.
+fn served(pe: Pe, word: Word, old: Word, now: Word) -> Event {
+    Event::Served {
+        module: 0,
+        request: faa(pe, word),
+        reply: Reply::Value(old),
+        now,
     }
-    for &(pe, word, old, now) in acts {
-        let event = Event::Served {
-            module: 0,
-            request: faa(pe, word),
-            reply: Reply::Value(old),
-            now,
-        };
-        assert_eq!(rt; events.next(), Some(&event));
-    }
-    assert!(rt; events.next().is_none());
 }
 
-/// What stands in the queue toward memory at a position of a stage: requests of processing elements for a cell, and whether each has combined there.
-fn queue_is(
-    rt: &impl Abort,
-    machine: &Machine,
-    stage: u32,
-    position: u32,
-    wanted: &[(Pe, u32, Op, bool)],
-) {
+/// A processing element gets this value.
+pub(crate) fn answered(pe: Pe, word: Word) -> Event {
+    Event::Delivered(answer(pe, word))
+}
+
+/// Makes n cycles. In the last of them just this happens.
+pub(crate) fn run_to(rt: &impl Abort, machine: &mut Machine, cycles: u32, wanted: &[Event]) {
+    run(rt, machine, cycles);
+    assert_eq!(rt; machine.events(), wanted);
+}
+
+/// The queue toward memory at a position of a stage.
+fn lane<'m>(rt: &impl Abort, machine: &'m Machine, stage: u32, position: u32) -> &'m ToMm {
     assert!(rt; stage < machine.config().stages());
     assert!(rt; position < machine.config().net().size());
-    let lane = machine.lane(stage, position);
+    machine.lane(stage, position)
+}
+
+/// What stands in a queue toward memory: requests of processing elements for a cell, and whether each has combined there.
+pub(crate) fn queue_is(rt: &impl Abort, lane: &ToMm, wanted: &[(Pe, u32, Op, bool)]) {
     assert_eq!(rt; lane.len(), wanted.len());
     for (index, &(pe, cell, op, combined)) in wanted.iter().enumerate() {
         assert!(rt; index < lane.len());
@@ -128,11 +104,8 @@ fn queue_is(
     }
 }
 
-/// The only record in the wait buffer at a position of a stage.
-fn record_is(rt: &impl Abort, machine: &Machine, stage: u32, position: u32, wanted: WaitRecord) {
-    assert!(rt; stage < machine.config().stages());
-    assert!(rt; position < machine.config().net().size());
-    let lane = machine.lane(stage, position);
+/// The only record in the wait buffer of a queue toward memory.
+pub(crate) fn record_is(rt: &impl Abort, lane: &ToMm, wanted: WaitRecord) {
     assert!(rt; lane.record_count() == 1);
     assert_eq!(rt; lane.record(0), wanted);
 }
@@ -175,17 +148,23 @@ fn two_level_tree(rt: HostRuntime) -> Result<(), Fail> {
 }
 
 pub(crate) fn four_become_one(rt: &impl Abort, machine: &mut Machine) {
-    issue(rt, machine, 3, &[(0, 1), (1, 2), (2, 3), (3, 4)]);
-    combine(rt, machine, 1, &[(0, 0, 2, 0), (0, 2, 3, 1)]);
-    combine(rt, machine, 1, &[(1, 0, 2, 3)]);
-    queue_is(rt, machine, 1, 0, &[(2, 0, Op::Faa(10), true)]);
-    record_is(rt, machine, 0, 0, kept(2, 0, 3));
-    record_is(rt, machine, 0, 2, kept(3, 1, 4));
-    record_is(rt, machine, 1, 0, kept(2, 3, 4));
+    let requests = [issued(0, 1), issued(1, 2), issued(2, 3), issued(3, 4)];
+    run_to(rt, machine, 3, &requests);
+    run_to(
+        rt,
+        machine,
+        1,
+        &[combined(0, 0, 2, 0), combined(0, 2, 3, 1)],
+    );
+    run_to(rt, machine, 1, &[combined(1, 0, 2, 3)]);
+    queue_is(rt, lane(rt, machine, 1, 0), &[(2, 0, Op::Faa(10), true)]);
+    record_is(rt, lane(rt, machine, 0, 0), kept(2, 0, 3));
+    record_is(rt, lane(rt, machine, 0, 2), kept(3, 1, 4));
+    record_is(rt, lane(rt, machine, 1, 0), kept(2, 3, 4));
 }
 
 pub(crate) fn one_becomes_four(rt: &impl Abort, machine: &mut Machine) {
-    answer_and_serve(rt, machine, 2, &[], &[(2, 10, 0, 10)]);
+    run_to(rt, machine, 2, &[served(2, 10, 0, 10)]);
     run(rt, machine, 1);
     reply_is(rt, machine, 1, 0, (2, 0));
     reply_is(rt, machine, 1, 1, (3, 4));
@@ -194,7 +173,17 @@ pub(crate) fn one_becomes_four(rt: &impl Abort, machine: &mut Machine) {
     reply_is(rt, machine, 0, 1, (2, 0));
     reply_is(rt, machine, 0, 2, (1, 8));
     reply_is(rt, machine, 0, 3, (3, 4));
-    answer_and_serve(rt, machine, 1, &[(0, 3), (1, 8), (2, 0), (3, 4)], &[]);
+    run_to(
+        rt,
+        machine,
+        1,
+        &[
+            answered(0, 3),
+            answered(1, 8),
+            answered(2, 0),
+            answered(3, 4),
+        ],
+    );
 }
 
 /// A queue takes a request only when it is empty.
@@ -207,12 +196,12 @@ fn narrow_request_queues(rt: HostRuntime) -> Result<(), Fail> {
     };
     let program = add_one(rt.alloc())?;
     let mut machine = machine(rt.alloc(), &raw, &program)?;
-    answer_and_serve(&rt, &mut machine, 7, &[], &[(2, 1, 0, 1)]);
-    answer_and_serve(&rt, &mut machine, 1, &[], &[(3, 1, 1, 2)]);
-    answer_and_serve(&rt, &mut machine, 2, &[(2, 0)], &[(1, 1, 2, 3)]);
-    answer_and_serve(&rt, &mut machine, 1, &[(3, 1)], &[(0, 1, 3, 4)]);
-    answer_and_serve(&rt, &mut machine, 2, &[(1, 2)], &[]);
-    answer_and_serve(&rt, &mut machine, 1, &[(0, 3)], &[]);
+    run_to(&rt, &mut machine, 7, &[served(2, 1, 0, 1)]);
+    run_to(&rt, &mut machine, 1, &[served(3, 1, 1, 2)]);
+    run_to(&rt, &mut machine, 2, &[answered(2, 0), served(1, 1, 2, 3)]);
+    run_to(&rt, &mut machine, 1, &[answered(3, 1), served(0, 1, 3, 4)]);
+    run_to(&rt, &mut machine, 2, &[answered(1, 2)]);
+    run_to(&rt, &mut machine, 1, &[answered(0, 3)]);
     ends_with(&rt, &machine, 4);
     Ok(())
 }
@@ -238,15 +227,18 @@ fn marked_once(rt: HostRuntime) -> Result<(), Fail> {
     run(&rt, &mut machine, 7);
     queue_is(
         &rt,
-        &machine,
-        1,
-        0,
+        lane(&rt, &machine, 1, 0),
         &[(0, 0, Op::Faa(4), true), (3, 0, Op::Faa(6), false)],
     );
-    answer_and_serve(&rt, &mut machine, 2, &[], &[(0, 4, 0, 4)]);
-    answer_and_serve(&rt, &mut machine, 1, &[], &[(3, 6, 4, 10)]);
-    answer_and_serve(&rt, &mut machine, 2, &[(0, 0)], &[]);
-    answer_and_serve(&rt, &mut machine, 1, &[(1, 8), (2, 1), (3, 4)], &[]);
+    run_to(&rt, &mut machine, 2, &[served(0, 4, 0, 4)]);
+    run_to(&rt, &mut machine, 1, &[served(3, 6, 4, 10)]);
+    run_to(&rt, &mut machine, 2, &[answered(0, 0)]);
+    run_to(
+        &rt,
+        &mut machine,
+        1,
+        &[answered(1, 8), answered(2, 1), answered(3, 4)],
+    );
     Ok(())
 }
 
@@ -275,7 +267,7 @@ fn identity_not_cell(rt: HostRuntime) -> Result<(), Fail> {
         partner: 3,
         give_new: Give::Same,
     };
-    record_is(&rt, &machine, 1, 0, record);
+    record_is(&rt, lane(&rt, &machine, 1, 0), record);
     Ok(())
 }
 
@@ -305,11 +297,10 @@ fn frontmost(rt: HostRuntime) -> Result<(), Fail> {
     let mut machine = machine(rt.alloc(), &raw, &program)?;
     run(&rt, &mut machine, 9);
     let store = Op::Store(0);
+    let lane = lane(&rt, &machine, 1, 1);
     queue_is(
         &rt,
-        &machine,
-        1,
-        1,
+        lane,
         &[
             (3, 5, store, true),
             (2, 5, store, false),
@@ -323,6 +314,6 @@ fn frontmost(rt: HostRuntime) -> Result<(), Fail> {
         partner: 0,
         give_new: Give::Ack,
     };
-    record_is(&rt, &machine, 1, 1, record);
+    record_is(&rt, lane, record);
     Ok(())
 }

@@ -1,7 +1,5 @@
 //! Orders and logs of worked runs, and lists that are refused.
 
-ghost use Rattle.std.specs.Prelude.{◌≤◌};
-
 use crate::programs::{add_one, program, register};
 use crate::settings::defaults;
 use std::alloc::Global;
@@ -11,7 +9,7 @@ use ultra_isa::{Instr, Program};
 use ultra_machine::{Config, RawSettings};
 use ultra_msg::{Cell, Op, Pe, Reply, Word};
 use ultra_serial::{
-    Answer, BreachKind, CheckFault, Entry, Issue, Log, SerialList, SerialMemory, check, log, order,
+    Answer, BreachKind, CheckFault, Entry, Issue, Log, SerialMemory, check, log, order,
 };
 
 /// The default settings with one stage, and these initial cells.
@@ -105,24 +103,15 @@ fn log_with(alloc: Global, word: Word, issued: u32, answered: u32) -> Result<Log
     })
 }
 
-/// The order of a run with initial cells that are all 0.
-fn order_of(alloc: Global, program: &Program, cycles: u32) -> Result<SerialList, Fail>
-    requires { cycles ≤ 1000000 }
-{
-    let config = one_stage(alloc, Vec::new(alloc))?;
-    Ok(order(alloc, &config, program, cycles)?)
-}
-
 /// Asserts what is wrong with a list of the two additions, where cell 0 ends with this value.
 fn check_breach(
-    rt: &impl Abort,
-    alloc: Global,
+    rt: &(impl Abort + AllocGlobal),
     log: &Log,
     cell: Word,
     list: &[Entry],
     expected: (BreachKind, usize),
 ) -> Result<(), Fail> {
-    match check(alloc, &[], log, &[(0, cell)], list) {
+    match check(rt.alloc(), &[], log, &[(0, cell)], list) {
         Err(CheckFault::Breach(kind, index)) => {
             assert_eq!(rt; (kind, index), expected);
             Ok(())
@@ -132,28 +121,55 @@ fn check_breach(
     }
 }
 
+/// Asserts how a memory answers one operation after another.
+fn check_acts(
+    rt: &impl Abort,
+    memory: &mut SerialMemory,
+    acts: &[(Cell, Op, Reply)],
+) -> Result<(), Fail> {
+    for &(cell, op, reply) in acts {
+        assert_eq!(rt; memory.act(cell, op)?, reply, "{op:?} at {cell}");
+    }
+    Ok(())
+}
+
 #[test]
 fn serial_memory(rt: HostRuntime) -> Result<(), Fail> {
     let mut memory = SerialMemory::new(rt.alloc(), &[(3, 5), (4, 1), (3, 6)])?;
     assert_eq!(rt; memory.value(3), 6);
-    assert_eq!(rt; memory.act(3, Op::Faa(4294967295))?, Reply::Value(6));
-    assert_eq!(rt; memory.act(3, Op::Swap(9))?, Reply::Value(5));
-    assert_eq!(rt; memory.act(3, Op::Store(2))?, Reply::Ack);
-    assert_eq!(rt; memory.act(3, Op::Load)?, Reply::Value(2));
-    assert_eq!(rt; memory.value(4), 1);
-    assert_eq!(rt; memory.act(7, Op::Faa(2))?, Reply::Value(0));
-    assert_eq!(rt; memory.value(7), 2);
+    let acts = [
+        (3, Op::Faa(4294967295), Reply::Value(6)),
+        (3, Op::Swap(9), Reply::Value(5)),
+        (3, Op::Store(2), Reply::Ack),
+        (3, Op::Load, Reply::Value(2)),
+        (7, Op::Faa(2), Reply::Value(0)),
+    ];
+    check_acts(&rt, &mut memory, &acts)?;
+    for (cell, word) in [(3, 2), (4, 1), (7, 2)] {
+        assert_eq!(rt; memory.value(cell), word, "at {cell}");
+    }
+    Ok(())
+}
+
+/// Asserts the order of a run with initial cells that are all 0.
+fn check_order(
+    rt: &(impl Abort + AllocGlobal),
+    program: &Program,
+    cycles: u32,
+    expected: &[Entry],
+) -> Result<(), Fail> {
+    assert!(rt; cycles <= 1000);
+    let config = one_stage(rt.alloc(), Vec::new(rt.alloc()))?;
+    let list = order(rt.alloc(), &config, program, cycles)?;
+    assert_eq!(rt; list.as_slice(), expected, "after {cycles}");
     Ok(())
 }
 
 #[test]
 fn combined_pair(rt: HostRuntime) -> Result<(), Fail> {
     let program = add_one(rt.alloc())?;
-    let list = order_of(rt.alloc(), &program, 8)?;
-    assert_eq!(rt; list.as_slice(), in_order().as_slice());
-    let longer = order_of(rt.alloc(), &program, 100)?;
-    assert_eq!(rt; longer.as_slice(), in_order().as_slice());
-    Ok(())
+    check_order(&rt, &program, 8, &in_order())?;
+    check_order(&rt, &program, 100, &in_order())
 }
 
 #[test]
@@ -170,41 +186,42 @@ fn load_then_store(rt: HostRuntime) -> Result<(), Fail> {
 
 #[test]
 fn store_then_faa(rt: HostRuntime) -> Result<(), Fail> {
-    let list = order_of(rt.alloc(), &add_and_store(rt.alloc(), true)?, 10)?;
+    let program = add_and_store(rt.alloc(), true)?;
     let expected = [
         done(1, Op::Store(10), Reply::Ack),
         done(0, Op::Faa(3), Reply::Value(10)),
     ];
-    assert_eq!(rt; list.as_slice(), expected.as_slice());
-    Ok(())
+    check_order(&rt, &program, 10, &expected)
 }
 
 #[test]
 fn faa_then_store(rt: HostRuntime) -> Result<(), Fail> {
-    let list = order_of(rt.alloc(), &add_and_store(rt.alloc(), false)?, 10)?;
+    let program = add_and_store(rt.alloc(), false)?;
     let expected = [
         done(0, Op::Store(10), Reply::Ack),
         done(1, Op::Faa(3), Reply::Value(10)),
     ];
-    assert_eq!(rt; list.as_slice(), expected.as_slice());
-    Ok(())
+    check_order(&rt, &program, 10, &expected)
 }
 
 #[test]
 fn nothing_served_yet(rt: HostRuntime) -> Result<(), Fail> {
     let program = add_one(rt.alloc())?;
-    assert_eq!(rt; order_of(rt.alloc(), &program, 4)?.len(), 0);
-    assert_eq!(rt; order_of(rt.alloc(), &program, 0)?.len(), 0);
-    Ok(())
+    check_order(&rt, &program, 4, &[])?;
+    check_order(&rt, &program, 0, &[])
+}
+
+/// Asserts that two logs are the same.
+fn same_logs(rt: &impl Abort, a: &Log, b: &Log) {
+    assert_eq!(rt; a.issues.as_slice(), b.issues.as_slice());
+    assert_eq!(rt; a.answers.as_slice(), b.answers.as_slice());
 }
 
 #[test]
 fn log_of_a_pair(rt: HostRuntime) -> Result<(), Fail> {
     let config = one_stage(rt.alloc(), Vec::new(rt.alloc()))?;
     let found = log(rt.alloc(), &config, &add_one(rt.alloc())?, 8)?;
-    let expected = log_with(rt.alloc(), 1, 2, 7)?;
-    assert_eq!(rt; found.issues.as_slice(), expected.issues.as_slice());
-    assert_eq!(rt; found.answers.as_slice(), expected.answers.as_slice());
+    same_logs(&rt, &found, &log_with(rt.alloc(), 1, 2, 7)?);
     check(rt.alloc(), &[], &found, &[(0, 2)], &in_order())?;
     Ok(())
 }
@@ -212,32 +229,35 @@ fn log_of_a_pair(rt: HostRuntime) -> Result<(), Fail> {
 /// The two entries the other way round, and the second left out.
 #[test]
 fn broken_lists(rt: HostRuntime) -> Result<(), Fail> {
-    let alloc = rt.alloc();
-    let log = log_with(alloc, 1, 2, 7)?;
+    let log = log_with(rt.alloc(), 1, 2, 7)?;
     let [first, second] = in_order();
     let turned = (BreachKind::WrongReplay, 0);
-    check_breach(&rt, alloc, &log, 2, &[second, first], turned)?;
+    check_breach(&rt, &log, 2, &[second, first], turned)?;
     let left_out = (BreachKind::Missing, 0);
-    check_breach(&rt, alloc, &log, 2, &[first], left_out)
+    check_breach(&rt, &log, 2, &[first], left_out)
 }
 
-/// The list of the two additions, or its log, with one change.
+/// The list of the two additions with one change: another operation, an entry repeated, another end.
 #[test]
-fn changes_are_found(rt: HostRuntime) -> Result<(), Fail> {
-    let alloc = rt.alloc();
-    let log = log_with(alloc, 1, 2, 7)?;
+fn changed_lists_are_found(rt: HostRuntime) -> Result<(), Fail> {
+    let log = log_with(rt.alloc(), 1, 2, 7)?;
     let [first, second] = in_order();
     let loads = done(1, Op::Load, Reply::Value(0));
     let not_issued = (BreachKind::NotIssued, 0);
-    check_breach(&rt, alloc, &log, 2, &[loads, second], not_issued)?;
+    check_breach(&rt, &log, 2, &[loads, second], not_issued)?;
     let repeated = (BreachKind::Repeated, 2);
-    check_breach(&rt, alloc, &log, 2, &[first, second, first], repeated)?;
-    let other_answer = log_with(alloc, 5, 2, 7)?;
-    let wrong_answer = (BreachKind::WrongAnswer, 1);
-    check_breach(&rt, alloc, &other_answer, 2, &in_order(), wrong_answer)?;
+    check_breach(&rt, &log, 2, &[first, second, first], repeated)?;
     let wrong_cell = (BreachKind::WrongCell, 0);
-    check_breach(&rt, alloc, &log, 3, &in_order(), wrong_cell)?;
-    let later = log_with(alloc, 1, 7, 9)?;
+    check_breach(&rt, &log, 3, &in_order(), wrong_cell)
+}
+
+/// Its log with one change.
+#[test]
+fn changed_logs_are_found(rt: HostRuntime) -> Result<(), Fail> {
+    let other_answer = log_with(rt.alloc(), 5, 2, 7)?;
+    let wrong_answer = (BreachKind::WrongAnswer, 1);
+    check_breach(&rt, &other_answer, 2, &in_order(), wrong_answer)?;
+    let later = log_with(rt.alloc(), 1, 7, 9)?;
     let too_late = (BreachKind::TooLate, 1);
-    check_breach(&rt, alloc, &later, 2, &in_order(), too_late)
+    check_breach(&rt, &later, 2, &in_order(), too_late)
 }

@@ -1,5 +1,6 @@
 //! The pairs of the runs written out in the documents, and the greatest numbers.
 
+use std::process::Abort;
 use ultra_msg::{Give, Op, Paired, Register, Reply, Shift, pair};
 
 /// A pair of the runs written out in the documents: what each was answered there, from the reply to what was sent.
@@ -87,28 +88,30 @@ const MEETINGS: [Meeting; 7] = [
     },
 ];
 
+/// Asserts what a pair is answered from the reply to what is sent for it.
+fn check_answers(rt: &impl Abort, meeting: &Meeting, paired: Paired) {
+    let run = meeting.run;
+    let to_old = paired.give_old.of(meeting.reply);
+    assert_eq!(rt; to_old, meeting.to_old, "to old in {run}");
+    let to_new = paired.give_new.of(meeting.reply);
+    assert_eq!(rt; to_new, meeting.to_new, "to new in {run}");
+}
+
+/// Asserts what is sent for a pair, and which of the two goes first.
+fn check_meeting(rt: &impl Abort, meeting: &Meeting) {
+    let run = meeting.run;
+    let paired = pair(meeting.old, meeting.new);
+    assert_eq!(rt; paired.sent, meeting.sent, "sent in {run}");
+    assert_eq!(rt; paired.old_first, meeting.old_first, "first in {run}");
+    let old_first = paired.give_old.old_goes_first();
+    assert_eq!(rt; old_first, meeting.old_first, "first in {run}");
+    check_answers(rt, meeting, paired);
+}
+
 #[test]
 fn pairs_of_the_runs(rt: HostRuntime) {
     for meeting in &MEETINGS {
-        let run = meeting.run;
-        let paired = pair(meeting.old, meeting.new);
-        assert_eq!(rt; paired.sent, meeting.sent, "sent in {run}");
-        assert_eq!(rt;
-            paired.give_old.of(meeting.reply),
-            meeting.to_old,
-            "to old in {run}"
-        );
-        assert_eq!(rt;
-            paired.give_new.of(meeting.reply),
-            meeting.to_new,
-            "to new in {run}"
-        );
-        assert_eq!(rt; paired.old_first, meeting.old_first, "first in {run}");
-        assert_eq!(rt;
-            paired.give_old.old_goes_first(),
-            meeting.old_first,
-            "first in {run}"
-        );
+        check_meeting(&rt, meeting);
     }
 }
 

@@ -1,51 +1,43 @@
 //! Machines of two stages in several partitions, before their first cycle.
 
-use crate::blocks::{answers_are, first_cell_is, run_blocks};
-use crate::machines::kept;
+use crate::blocks::{events_are, first_cell_is, lane, run_blocks};
+use crate::machines::{answered, kept, queue_is, record_is};
 use crate::programs::add_one;
 use crate::settings::config;
 use std::process::Abort;
 use std::test::Fail;
 use ultra_machine::{Blocks, PartitionFault};
-use ultra_msg::{Op, Request};
-use ultra_switch::Entry;
+use ultra_msg::Op;
 
 /// After cycle 4 the four requests have combined into one.
 fn four_are_one(rt: &impl Abort, blocks: &Blocks) {
-    assert!(rt; blocks.config().stages() == 2);
-    let lane = blocks.lane(1, 0);
-    assert!(rt; lane.len() == 1);
-    let request = Request {
-        pe: 2,
-        cell: 0,
-        op: Op::Faa(4),
-    };
-    assert_eq!(rt;
-        lane.entry(0),
-        Entry {
-            request,
-            combined: true
-        }
-    );
-    assert!(rt; lane.record_count() == 1);
-    assert_eq!(rt; lane.record(0), kept(2, 3, 2));
-    let lane = blocks.lane(0, 0);
-    assert!(rt; lane.record_count() == 1);
-    assert_eq!(rt; lane.record(0), kept(2, 0, 1));
-    let lane = blocks.lane(0, 2);
-    assert!(rt; lane.record_count() == 1);
-    assert_eq!(rt; lane.record(0), kept(3, 1, 1));
+    queue_is(rt, lane(rt, blocks, 1, 0), &[(2, 0, Op::Faa(4), true)]);
+    record_is(rt, lane(rt, blocks, 1, 0), kept(2, 3, 2));
+    record_is(rt, lane(rt, blocks, 0, 0), kept(2, 0, 1));
+    record_is(rt, lane(rt, blocks, 0, 2), kept(3, 1, 1));
 }
 
+/// All ten cycles of the run.
+fn runs(rt: &impl Abort, blocks: &mut Blocks) {
+    run_blocks(rt, blocks, 5);
+    four_are_one(rt, blocks);
+    run_blocks(rt, blocks, 5);
+    let answers = [
+        answered(0, 1),
+        answered(1, 3),
+        answered(2, 0),
+        answered(3, 2),
+    ];
+    events_are(rt, blocks, &answers);
+    first_cell_is(rt, blocks, 4);
+}
+
+/// The machine in which each processing element adds 1 to cell 0, in this partition.
 fn runs_in(rt: &(impl Abort + AllocGlobal), partition: &[u8]) -> Result<(), Fail> {
     let config = config(rt.alloc(), 2)?;
     let program = add_one(rt.alloc())?;
     let mut blocks = Blocks::new(rt.alloc(), &config, &program, partition)?;
-    run_blocks(rt, &mut blocks, 5);
-    four_are_one(rt, &blocks);
-    run_blocks(rt, &mut blocks, 5);
-    answers_are(rt, &blocks, &[(0, 1), (1, 3), (2, 0), (3, 2)]);
-    first_cell_is(rt, &blocks, 4);
+    runs(rt, &mut blocks);
     Ok(())
 }
 

@@ -1,8 +1,8 @@
 //! Runs with their traces, by one worker and by several.
 
-ghost use Rattle.std.specs.Prelude.{◌≤◌, ◌<◌};
+ghost use Rattle.std.specs.Prelude.{◌<◌};
 
-use crate::gates::{Counter, Holdup, Meeting};
+use crate::gates::{Counter, Holdup, Meeting, all_met};
 use crate::programs::{add_number, add_one};
 use crate::settings::config;
 use crate::trays::Tray;
@@ -100,6 +100,20 @@ pe 2 halted 3 r2=3
 pe 3 halted 3 r2=4 r3=4
 ";
 
+/// A run by n workers into a sink.
+fn run_by<R: Threads + Wait + Sync + Abort + AllocGlobal, G: Gate + Sync>(
+    rt: &R,
+    config: &Config,
+    program: &Program,
+    workers: usize,
+    gate: &G,
+    out: &mut Tray<'_, R>,
+) -> Result<(), RunFault> {
+    assert!(rt; 1 <= workers);
+    assert!(rt; workers <= 64);
+    run(rt, rt.alloc(), config, program, workers, gate, out)
+}
+
 /// Asserts that a run by n workers writes this trace.
 fn check_run<R: Threads + Wait + Sync + Abort + AllocGlobal, G: Gate + Sync>(
     rt: &R,
@@ -108,26 +122,10 @@ fn check_run<R: Threads + Wait + Sync + Abort + AllocGlobal, G: Gate + Sync>(
     workers: usize,
     gate: &G,
     wanted: &str,
-) -> Result<(), Fail>
-    requires some_worker { 1 ≤ workers }
-    requires most_workers { workers ≤ 64 }
-{
+) -> Result<(), RunFault> {
     let mut out = Tray::new(rt);
-    run(rt, rt.alloc(), config, program, workers, gate, &mut out)?;
-    assert_eq!(rt; out.text()?, wanted, "by {workers}");
-    Ok(())
-}
-
-#[test]
-fn any_workers(rt: HostRuntime) -> Result<(), Fail> {
-    let config = config(rt.alloc(), 2)?;
-    let program = add_number(rt.alloc())?;
-    let gate = Counter::new();
-    for workers in [1, 2, 3, 64] {
-        check_run(&rt, &config, &program, workers, &gate, TWO_LEVEL_TREE)?;
-    }
-    // 2, 3 and 12 blocks, as many as units at most, 6 halves and 10 cycles
-    assert_eq!(rt; gate.calls.load(Ordering::SeqCst), (2 + 3 + 12) * 6 * 10);
+    run_by(rt, config, program, workers, gate, &mut out)?;
+    assert_eq!(rt; out.text(), wanted, "by {workers}");
     Ok(())
 }
 
@@ -142,6 +140,31 @@ fn one_worker_late(rt: HostRuntime) -> Result<(), Fail> {
     Ok(())
 }
 
+/// Runs by these numbers of workers write this trace. Gives how often they called the gate.
+fn check_runs<R: Threads + Wait + Sync + Abort + AllocGlobal>(
+    rt: &R,
+    config: &Config,
+    program: &Program,
+    crews: &[usize],
+    wanted: &str,
+) -> Result<u64, RunFault> {
+    let gate = Counter::new();
+    for workers in crews {
+        check_run(rt, config, program, *workers, &gate, wanted)?;
+    }
+    Ok(gate.calls.load(Ordering::SeqCst))
+}
+
+#[test]
+fn any_workers(rt: HostRuntime) -> Result<(), Fail> {
+    let config = config(rt.alloc(), 2)?;
+    let program = add_number(rt.alloc())?;
+    let calls = check_runs(&rt, &config, &program, &[1, 2, 3, 64], TWO_LEVEL_TREE)?;
+    // 2, 3 and 12 blocks, as many as units at most, 6 halves and 10 cycles
+    assert_eq!(rt; calls, (2 + 3 + 12) * 6 * 10);
+    Ok(())
+}
+
 /// The largest machine: by several workers it has the trace of a run by one.
 #[test]
 fn any_workers_of_the_largest_machine(rt: HostRuntime) -> Result<(), Fail> {
@@ -149,12 +172,9 @@ fn any_workers_of_the_largest_machine(rt: HostRuntime) -> Result<(), Fail> {
     let program = add_one(rt.alloc())?;
     let mut alone = Tray::new(&rt);
     run_alone(rt.alloc(), &config, &program, &mut alone)?;
-    let trace = alone.text()?;
+    let trace = alone.text();
     assert!(rt; trace.contains(" faa 64 = 0 now 64\n"), "{trace}");
-    let gate = Counter::new();
-    for workers in [1, 2, 63, 64] {
-        check_run(&rt, &config, &program, workers, &gate, trace)?;
-    }
+    let _ = check_runs(&rt, &config, &program, &[1, 2, 63, 64], trace)?;
     Ok(())
 }
 
@@ -165,12 +185,15 @@ fn gate_meets(rt: HostRuntime) -> Result<(), Fail> {
     let program = add_one(rt.alloc())?;
     let meeting = Meeting::new();
     check_run(&rt, &config, &program, 2, &meeting, COMBINED_PAIR)?;
-    let [first, second] = &meeting.flags;
-    // 6 halves and 8 cycles
-    assert_eq!(rt; first.load(Ordering::SeqCst), 48);
-    assert_eq!(rt; second.load(Ordering::SeqCst), 48);
-    assert_eq!(rt; meeting.missed.load(Ordering::SeqCst), 0);
+    all_met(&rt, &meeting);
     Ok(())
+}
+
+/// A failing sink took this many bytes of the trace, and after the fault nothing was offered.
+fn ends_in_a_fault<R: Abort>(rt: &R, out: &Tray<'_, R>, taken: usize) {
+    assert!(rt; COMBINED_PAIR.starts_with(out.text()), "after {taken}");
+    assert_eq!(rt; out.bytes.len(), taken);
+    assert_eq!(rt; out.failures, 1);
 }
 
 /// Asserts that a run by n workers, into a sink that takes `most` bytes a write and fails after `count` writes, answers `Write`, has written these bytes of the trace, and offers nothing after the fault.
@@ -182,33 +205,40 @@ fn check_failing_sink<R: Threads + Wait + Sync + Abort + AllocGlobal>(
     most: usize,
     count: usize,
 ) -> Result<(), Fail>
-    requires some_worker { 1 ≤ workers }
-    requires most_workers { workers ≤ 64 }
     requires some_bytes { 0 < most }
 {
     let mut out = Tray::failing_after(rt, most, count);
-    let gate = Counter::new();
-    match run(rt, rt.alloc(), config, program, workers, &gate, &mut out) {
-        Err(RunFault::Write) => {}
-        Err(fault) => return Err(Fail::from(fault)),
-        Ok(()) => return Err(Fail::from("no write failed")),
+    match run_by(rt, config, program, workers, &Counter::new(), &mut out) {
+        Err(RunFault::Write) => {
+            ends_in_a_fault(rt, &out, most.saturating_mul(count));
+            Ok(())
+        }
+        Err(fault) => Err(Fail::from(fault)),
+        Ok(()) => Err(Fail::from("no write failed")),
     }
-    assert!(rt; COMBINED_PAIR.starts_with(out.text()?), "after {count}");
-    assert_eq!(rt; out.bytes.len(), most.saturating_mul(count));
-    assert_eq!(rt; out.failures, 1);
+}
+
+/// Asserts how runs end whose sink takes a byte a write and fails after n writes; of two workers, which are slower, at every thirtieth number.
+fn check_write<R: Threads + Wait + Sync + Abort + AllocGlobal>(
+    rt: &R,
+    config: &Config,
+    program: &Program,
+    count: usize,
+) -> Result<(), Fail> {
+    check_failing_sink(rt, config, program, 1, 1, count)?;
+    if count % 30 == 0 {
+        check_failing_sink(rt, config, program, 2, 1, count)?;
+    }
     Ok(())
 }
 
-/// A sink that fails at each of its writes in turn; with two workers, which are slower, at every thirtieth.
+/// A sink that fails at each of its writes in turn.
 #[test]
 fn sink_fails_at_each_write(rt: HostRuntime) -> Result<(), Fail> {
     let config = config(rt.alloc(), 1)?;
     let program = add_one(rt.alloc())?;
     for count in 0..COMBINED_PAIR.len() {
-        check_failing_sink(&rt, &config, &program, 1, 1, count)?;
-        if count % 30 == 0 {
-            check_failing_sink(&rt, &config, &program, 2, 1, count)?;
-        }
+        check_write(&rt, &config, &program, count)?;
     }
     Ok(())
 }
@@ -221,20 +251,25 @@ fn short_failing_sink(rt: HostRuntime) -> Result<(), Fail> {
     check_failing_sink(&rt, &config, &program, 1, 4, 2)
 }
 
+/// The run of one stage by n workers, into a sink.
+fn short_run<R: Threads + Wait + Sync + Abort + AllocGlobal>(
+    rt: &R,
+    workers: usize,
+    out: &mut Tray<'_, R>,
+) -> Result<(), Fail> {
+    let config = config(rt.alloc(), 1)?;
+    let program = add_one(rt.alloc())?;
+    Ok(run_by(rt, &config, &program, workers, &Counter::new(), out)?)
+}
+
 /// A run by n workers, short enough to refuse each of its allocations in turn: it ends with a fault then, and what went out is a prefix of the trace.
 fn check_short_run<R: Threads + Wait + Sync + Abort + AllocGlobal>(
     rt: &R,
     workers: usize,
-) -> Result<(), Fail>
-    requires some_worker { 1 ≤ workers }
-    requires most_workers { workers ≤ 64 }
-{
-    let config = config(rt.alloc(), 1)?;
-    let program = add_one(rt.alloc())?;
+) -> Result<(), Fail> {
     let mut out = Tray::with_room(rt, 4096)?;
-    let gate = Counter::new();
-    let ended = run(rt, rt.alloc(), &config, &program, workers, &gate, &mut out);
-    let text = out.text()?;
+    let ended = short_run(rt, workers, &mut out);
+    let text = out.text();
     assert!(rt; COMBINED_PAIR.starts_with(text), "{text}");
     ended?;
     assert_eq!(rt; text, COMBINED_PAIR);

@@ -30,17 +30,6 @@ impl<'r, R: Abort + AllocGlobal> Tray<'r, R> {
         }
     }
 
-    /// A tray that takes three bytes a write.
-    pub(crate) fn in_threes(rt: &'r R) -> Self {
-        Tray {
-            rt,
-            bytes: Vec::new(rt.alloc()),
-            failures: 0,
-            most: 3,
-            sound_writes: usize::MAX,
-        }
-    }
-
     /// A tray that takes all that it is offered, and has memory for n bytes. An error says that memory was refused.
     pub(crate) fn with_room(rt: &'r R, count: usize) -> Result<Self, Fail> {
         Ok(Tray {
@@ -67,8 +56,9 @@ impl<'r, R: Abort + AllocGlobal> Tray<'r, R> {
 }
 
 impl<R: Abort> Tray<'_, R> {
-    pub(crate) fn text(&self) -> Result<&str, Fail> {
-        Ok(str::from_utf8(self.bytes.as_slice())?)
+    /// What it has taken, which has to be text.
+    pub(crate) fn text(&self) -> &str {
+        str::from_utf8(self.bytes.as_slice()).expect(self.rt, "no text")
     }
 }
 
