@@ -41,10 +41,24 @@ pub fn order<'p, F: Source, O: Sink>(
     ensures write_counted { IfErr result
         (λ f. O.failures out.new ≡ O.failures out.old + write_failures f) }
 {
-    let Inputs { config, program } = read_inputs(alloc, settings_path, program_path, source)?;
-    let mut run = OrderedRun::new(alloc, &config, &program, config.cycles())?;
-    write_order(&mut run, out)?;
-    Ok(())
+    let inputs = read_inputs(alloc, settings_path, program_path, source)?;
+    order_run(alloc, &inputs, out)
+}
+
+/// Writes the lines of the serial order of a run.
+fn order_run<'p, O: Sink>(alloc: Global, inputs: &Inputs, out: &mut O) -> Result<(), Failure<'p>>
+    ensures ok { OnOk result
+        (O.taken out.new ≡ O.taken out.old ++ order_of inputs.now.config inputs.now.program) }
+    ensures err { OnErr result (TakesPrefix (order_of inputs.now.config inputs.now.program)
+        (O.taken out.old) (O.taken out.new)) }
+    ensures stopped { IfErr result IsStopped }
+    ensures still { OnOk result (O.failures out.new ≡ O.failures out.old) }
+    ensures counted { IfErr result
+        (λ f. O.failures out.new ≡ O.failures out.old + write_failures f) }
+{
+    let Inputs { config, program } = inputs;
+    let mut run = OrderedRun::new(alloc, config, program, config.cycles())?;
+    write_order(&mut run, out)
 }
 
 /// Makes a run from its start to its end, and writes the lines of its serial order.

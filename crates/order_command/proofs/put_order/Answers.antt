@@ -1,6 +1,7 @@
-use Rattle.std.proofs.Common.{◌≡◌, ◌∙◌, ◌++◌, ap, refl, sym}
+use Rattle.std.proofs.Common.{◌≡◌, ◌∙◌, ◌++◌, ap, arith, refl, sym}
+use Rattle.std.proofs.lemmas.Result.{err_from_is_err_and}
 use Rattle.ultra_msg.proofs.Parts.{at_error}
-use Rattle.ultra_page.proofs.Writing.{◌then◌, writes_nothing}
+use Rattle.ultra_page.proofs.Writing.{◌then◌, writes_failed, writes_nothing}
 use Rattle.ultra_serial.specs.Ordered.{Ordered, listed, whole}
 use Rattle.ultra_serial.proofs.Advancing.{nothing_listed}
 use Rattle.order_command.specs.Order.{order_text}
@@ -35,3 +36,28 @@ pub returns-in_err-advance-clause-err : goal.returns-in_err-advance-clause-err
 returns-in_err-advance-clause-err g c =
     let prefix = prefix_of_text (listed c.loop-run.run) (whole c.args.run.now) c.loop-run.invariant.prefix in
     at_error c.from_residual.result (order_text (listed c.loop-run.run), prefix, c.loop-run.invariant.written)
+
+pub loop-run-smaller : goal.loop-run-smaller
+loop-run-smaller g c =
+    let made = c.if-branch.true in
+    let cycle = c.in_ok-advance.ensures.cycle made in
+    omega (arith, c.in_ok-advance.ensures.limit made, ap (λ (r : Ordered). r.cycles) cycle, ap (λ (r : Ordered). r.limit) cycle)
+
+pub returns-in_err-advance-clause-ok : goal.returns-in_err-advance-clause-ok
+returns-in_err-advance-clause-ok g c =
+    let p = err_from_is_err_and c.from_residual.result c.from_residual.ensures.1 in
+    rw p.1 tt
+
+pub returns-in_err-advance-clause-sound : goal.returns-in_err-advance-clause-sound
+returns-in_err-advance-clause-sound g c = at_error c.from_residual.result (sym c.has_failed.ensures ∙ c.loop-run-test.true)
+
+pub returns-else-branch-clause-ok : goal.returns-else-branch-clause-ok
+returns-else-branch-clause-ok g c =
+    let all = c.in_ok-advance.ensures.over c.if-branch.false ∙ c.loop-run.invariant.same in
+    rw (ap order_text all) at c.loop-run.invariant.written
+
+pub returns-after-loop-run-clause-ok : goal.returns-after-loop-run-clause-ok
+returns-after-loop-run-clause-ok g c =
+    let (rest, all) = prefix_of_text (listed c.loop-run.run) (whole c.args.run.now) c.loop-run.invariant.prefix in
+    let written = writes_failed rest (sym c.has_failed.ensures ∙ c.loop-run-test.false) c.loop-run.invariant.written in
+    rw all at written
