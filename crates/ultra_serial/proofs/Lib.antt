@@ -6,4 +6,5 @@ pub mod Cycles
 pub mod Numbers
 pub mod Explaining
 pub mod ByName
+pub mod Searching
 pub mod Advancing

@@ -1,6 +1,6 @@
 //! Whether a serial list explains a log.
 
-ghost use Rattle.std.specs.Prelude.{◌≡◌, ◌<◌, ℕ, List, true, false, Some, None, IfOk, OnOk, IfErr, IfSome, slice_get};
+ghost use Rattle.std.specs.Prelude.{◌≡◌, ◌<◌, ℕ, List, [], true, false, Some, None, IfOk, OnOk, IfErr, IfSome, slice_get};
 ghost use Rattle.ultra_law.specs.declared.records.Answer.{Answer as AnswerOf};
 ghost use Rattle.ultra_law.specs.declared.records.Entry.{Entry as EntryOf};
 ghost use Rattle.ultra_law.specs.Log.{Log as LogOf, log_of};
@@ -68,10 +68,8 @@ pub fn check(
     ensures legal { OnOk result (IsLegal (given initial.now) (log_of log.now) (given cells.now) list.now) }
     ensures breach { IfErr result (ExplainsFault (given initial.now) (log_of log.now) (given cells.now) list.now) }
 {
-    let (memory, names) = replay(alloc, initial, log, list)?;
-    if let Some(index) = first_missing(log.answers.as_slice(), &names) {
-        return Err(CheckFault::Breach(BreachKind::Missing, index));
-    }
+    let mut memory = SerialMemory::new(alloc, initial)?;
+    examine(alloc, log, list, &mut memory)?;
     let wanted = SerialMemory::new(alloc, cells)?;
     let of_initial = lowest_given(&memory, &wanted, initial, None);
     let of_cells = lowest_given(&memory, &wanted, cells, of_initial);
@@ -81,30 +79,43 @@ pub fn check(
     Ok(())
 }
 
-/// The memory after all entries have acted, and all by name, if none of the entries has a fault.
-fn replay(
+/// Whether all entries and answers are without fault. Then the entries have acted on the memory.
+fn examine(
     alloc: Global,
-    initial: &[(Cell, Word)],
     log: &Log,
     list: &[Entry],
-) -> Result<(SerialMemory, ByName), CheckFault>
-    ensures cells { IfOk result (λ r. cell_in r.0 ≡ cells_past (given initial.now) list.now) }
-    ensures names { IfOk result (λ r. Holds r.1 (log_of log.now) list.now) }
-    ensures explained { OnOk result (AreExplained (given initial.now) (log_of log.now) list.now) }
-    ensures breach { (final : Cells) → IfErr result (ExplainsFault (given initial.now) (log_of log.now) final list.now) }
+    memory: &mut SerialMemory,
+) -> Result<(), CheckFault>
+    ensures cells { OnOk result (cell_in memory.new ≡ cells_past (cell_in memory.old) list.now) }
+    ensures explained { OnOk result (AreExplained (cell_in memory.old) (log_of log.now) list.now) }
+    ensures answered { OnOk result ((a : AnswerOf) → Has (log_of log.now).answers a → IsListed list.now a) }
+    ensures breach { (final : Cells) → IfErr result (ExplainsFault (cell_in memory.old) (log_of log.now) final list.now) }
 {
-    let mut memory = SerialMemory::new(alloc, initial)?;
     let mut names = ByName::new(alloc, log)?;
+    replay(list, &mut names, memory)?;
+    if let Some(index) = first_missing(log.answers.as_slice(), &names) {
+        return Err(CheckFault::Breach(BreachKind::Missing, index));
+    }
+    Ok(())
+}
+
+/// Has the entries act on the memory one after the other, as far as none of them has a fault. `names` has the log and no entries yet.
+fn replay(list: &[Entry], names: &mut ByName, memory: &mut SerialMemory) -> Result<(), CheckFault>
+    ensures cells { OnOk result (cell_in memory.new ≡ cells_past (cell_in memory.old) list.now) }
+    ensures names { OnOk result ((log : LogOf) → Holds names.old log [] → Holds names.new log list.now) }
+    ensures explained { OnOk result ((log : LogOf) → Holds names.old log [] → AreExplained (cell_in memory.old) log list.now) }
+    ensures breach { (log : LogOf) (final : Cells) → Holds names.old log [] → IfErr result (ExplainsFault (cell_in memory.old) log final list.now) }
+{
     let mut from = 0;
     for (index, entry) in list.iter().enumerate() {
-        if let Some(kind) = fault_of(&names, from, &mut memory, entry)? {
+        if let Some(kind) = fault_of(names, from, memory, entry)? {
             return Err(CheckFault::Breach(kind, index));
         }
         let issues = names.issues.get((entry.pe, entry.number));
         from = after_issues(issues, entry, from);
         names.add(*entry)?;
     }
-    Ok((memory, names))
+    Ok(())
 }
 
 /// The first answer whose name stands nowhere among the entries.

@@ -1,14 +1,11 @@
 use Rattle.std.proofs.Common.{arith, take, get_or, subst, sym}
 use Rattle.std.proofs.lemmas.List.{take_more}
-use Rattle.ultra_msg.specs.declared.Reply.TheVariants.{Value}
 use Rattle.ultra_serial.specs.ByPair.{list_of}
 use Rattle.ultra_law.specs.declared.records.Answer.{Answer}
 use Rattle.ultra_serial.specs.ByName.{AreAnswersByName}
 use Rattle.ultra_serial.proofs.ByName.{none_by_name, more_by_name}
+use Rattle.ultra_serial.proofs.Searching.{some_answer}
 use Rattle.ultra_serial.proofs.by_name.answers_by_name.Goals as goal
-
-abbrev some_answer : Answer
-some_answer = record { pe = 0; number = 0; reply = Value 0; cycle = 0 }
 
 pub loop-answer-init : goal.loop-answer-init
 loop-answer-init c = none_by_name (λ (a : Answer). a.pe) (λ (a : Answer). a.number) (list_of c.new-named.result.lists) c.new-named.ensures

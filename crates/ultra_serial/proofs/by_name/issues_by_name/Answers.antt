@@ -1,14 +1,11 @@
 use Rattle.std.proofs.Common.{arith, take, get_or, subst, sym}
 use Rattle.std.proofs.lemmas.List.{take_more}
-use Rattle.ultra_msg.specs.declared.Op.TheVariants.{Load}
 use Rattle.ultra_serial.specs.ByPair.{list_of}
 use Rattle.ultra_law.specs.declared.records.Issue.{Issue}
 use Rattle.ultra_serial.specs.ByName.{AreIssuesByName}
 use Rattle.ultra_serial.proofs.ByName.{none_by_name, more_by_name}
+use Rattle.ultra_serial.proofs.Searching.{some_issue}
 use Rattle.ultra_serial.proofs.by_name.issues_by_name.Goals as goal
-
-abbrev some_issue : Issue
-some_issue = record { pe = 0; number = 0; cell = 0; op = Load; cycle = 0 }
 
 pub loop-issue-init : goal.loop-issue-init
 loop-issue-init c = none_by_name (λ (i : Issue). i.pe) (λ (i : Issue). i.number) (list_of c.new-named.result.lists) c.new-named.ensures

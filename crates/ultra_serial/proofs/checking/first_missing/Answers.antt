@@ -2,15 +2,12 @@ use Rattle.std.proofs.Common.{refl, get_or, arith, rules, subst, ap, sym, ◌∙
 use Rattle.std.specs.Prelude.{slice_get}
 use Rattle.std.proofs.lemmas.Bool.{cases_eq}
 use Rattle.std.proofs.lemmas.Option.{slice_get-get_or, get_or_from_slice_get, slice_get_within}
-use Rattle.ultra_msg.specs.declared.Reply.TheVariants.{Value}
 use Rattle.ultra_serial.specs.ByPair.{list_of}
 use Rattle.ultra_law.specs.declared.records.Answer.{Answer}
 use Rattle.ultra_serial.specs.Examined.{IsListed}
 use Rattle.ultra_serial.proofs.ByName.{listed, not_listed}
+use Rattle.ultra_serial.proofs.Searching.{some_answer}
 use Rattle.ultra_serial.proofs.checking.first_missing.Goals as goal
-
-abbrev some_answer : Answer
-some_answer = record { pe = 0; number = 0; reply = Value 0; cycle = 0 }
 
 pub returns-then-not-is_listed-clause-some : goal.returns-then-not-is_listed-clause-some
 returns-then-not-is_listed-clause-some c = λ log list h.

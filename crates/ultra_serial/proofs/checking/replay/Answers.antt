@@ -1,41 +1,58 @@
-use Rattle.std.proofs.Common.{take, get_or, arith, ap, sym, ◌∙◌, subst, Some, None}
-use Rattle.std.proofs.lemmas.List.{take_more}
+use Rattle.std.proofs.Common.{take, get_or, arith, refl, ap, sym, ◌∙◌, subst, Some, None}
+use Rattle.std.proofs.lemmas.List.{take_more, take_all}
 use Rattle.std.proofs.lemmas.Option.{slice_get-get_or}
-use Rattle.ultra_msg.specs.declared.Op.TheVariants.{Load}
-use Rattle.ultra_msg.specs.declared.Reply.TheVariants.{Value}
+use Rattle.std.proofs.lemmas.Result.{err_from_is_err_and}
 use Rattle.ultra_msg.specs.Act.{act}
-use Rattle.ultra_law.specs.Log.{log_of}
-use Rattle.ultra_law.specs.declared.records.Entry.{Entry}
-use Rattle.ultra_law.specs.Legal.{Cells, with_cell, given}
+use Rattle.ultra_law.specs.Log.{Log, empty_log}
+use Rattle.ultra_law.specs.Legal.{Cells, with_cell}
 use Rattle.ultra_serial.specs.Memory.{cell_in}
 use Rattle.ultra_serial.specs.Breach.{cells_past}
 use Rattle.ultra_serial.specs.Examined.{Finds, IsFirstAfter, AreExplained}
-use Rattle.ultra_serial.proofs.Explaining.{past_more, explained_more, first_more, first_fault, breach_explained}
+use Rattle.ultra_serial.proofs.Explaining.{past_more, explained_none, explained_more, first_none, first_more, first_fault, breach_explained}
 use Rattle.ultra_serial.specs.ByName.{Holds}
 use Rattle.ultra_serial.proofs.ByName.{all_above, one_reached}
+use Rattle.ultra_serial.proofs.Searching.{some_entry}
 use Rattle.ultra_serial.proofs.checking.replay.Goals as goal
 
-abbrev some_entry : Entry
-some_entry = record { pe = 0; number = 0; cell = 0; op = Load; reply = Value 0 }
+abbrev no_log : Log
+no_log = empty_log
+
+pub loop-index-init : goal.loop-index-init
+loop-index-init c = record {
+  explained = λ log h. explained_none (cell_in c.args.memory.now) log;
+  cells = refl;
+  first = λ log h. first_none log;
+  names = λ log h. h;
+  small = omega arith;
+}
+
+pub returns-in_err-kind-clause-breach : goal.returns-in_err-kind-clause-breach
+returns-in_err-kind-clause-breach c = λ log final h.
+    let p = err_from_is_err_and c.from_residual.result c.from_residual.ensures.1 in
+    rw (p.1, p.2) tt
+
+pub returns-in_err-add-clause-breach : goal.returns-in_err-add-clause-breach
+returns-in_err-add-clause-breach c = λ log final h.
+    let p = err_from_is_err_and c.from_residual-in_err-add.result c.from_residual-in_err-add.ensures.1 in
+    rw (p.1, p.2) tt
 
 pub returns-in-Some-clause-breach : goal.returns-in-Some-clause-breach
-returns-in-Some-clause-breach c = λ final.
-    let initial = given c.args.initial.now in
-    let log = log_of c.args.log.now in
+returns-in-Some-clause-breach c = λ log final h.
+    let initial = cell_in c.args.memory.now in
     let xs = c.args.list.now in
     let n = c.loop-index.index in
     let e = get_or xs n some_entry in
     let before = take n xs in
     let from = c.loop-index.from in
     let kind = c.in-Some.kind in
-    let found : Finds log before from (cell_in c.loop-index.memory) e (Some kind) = rw c.in-Some.is at c.in_ok-kind.ensures.finds log before c.loop-index.invariant.names in
-    breach_explained initial log final xs kind n (first_fault initial log final xs n from e (slice_get-get_or xs n some_entry (omega arith)) c.loop-index.invariant.explained c.loop-index.invariant.first kind
+    let names = c.loop-index.invariant.names log h in
+    let found : Finds log before from (cell_in c.loop-index.memory) e (Some kind) = rw c.in-Some.is at c.in_ok-kind.ensures.finds log before names in
+    breach_explained initial log final xs kind n (first_fault initial log final xs n from e (slice_get-get_or xs n some_entry (omega arith)) (c.loop-index.invariant.explained log h) (c.loop-index.invariant.first log h) kind
     (subst (λ (m : Cells). Finds log before from m e (Some kind)) c.loop-index.invariant.cells found))
 
 pub loop-index-preserved : goal.loop-index-preserved
 loop-index-preserved c =
-    let initial = given c.args.initial.now in
-    let log = log_of c.args.log.now in
+    let initial = cell_in c.args.memory.now in
     let xs = c.args.list.now in
     let n = c.loop-index.index in
     let e = get_or xs n some_entry in
@@ -45,18 +62,32 @@ loop-index-preserved c =
     let b = c.loop-index.names in
     let is = c.get-issues.result.now in
     let grown = take_more xs n some_entry (omega arith) in
-    let found : Finds log before from (cell_in c.loop-index.memory) e None = rw c.in_default.is at c.in_ok-kind.ensures.finds log before c.loop-index.invariant.names in
-    let finds = subst (λ (m : Cells). Finds log before from m e None) c.loop-index.invariant.cells found in
+    let i = c.loop-index.invariant in
     record {
-      explained = subst (λ us. AreExplained initial log us) (sym grown) (explained_more initial log before from e c.loop-index.invariant.explained finds c.loop-index.invariant.first);
+      explained = λ log h.
+          let found : Finds log before from (cell_in c.loop-index.memory) e None = rw c.in_default.is at c.in_ok-kind.ensures.finds log before (i.names log h) in
+          let finds = subst (λ (m : Cells). Finds log before from m e None) i.cells found in
+          subst (λ us. AreExplained initial log us) (sym grown) (explained_more initial log before from e (i.explained log h) finds (i.first log h));
       cells =
           c.in_ok-kind.ensures.acted c.in_default.is
-          ∙ (ap (λ (m : Cells). with_cell m e.cell (act e.op (m e.cell)).0) c.loop-index.invariant.cells
-          ∙ (sym (past_more initial log before from e) ∙ ap (λ us. cells_past initial us) (sym grown)));
-      first = subst (λ us. IsFirstAfter log us now) (sym grown)
-          (first_more initial log before from e c.loop-index.invariant.first now c.after_issues-from.ensures.no_less
-          (all_above b log before c.loop-index.invariant.names e is c.get-issues.ensures now c.after_issues-from.ensures.above)
-          (one_reached b log before c.loop-index.invariant.names e is c.get-issues.ensures from now c.after_issues-from.ensures.reached));
-      names = subst (λ us. Holds c.add.new.self log us) (sym grown) (c.in_ok-add.ensures log before c.loop-index.invariant.names);
+          ∙ (ap (λ (m : Cells). with_cell m e.cell (act e.op (m e.cell)).0) i.cells
+          ∙ (sym (past_more initial no_log before from e) ∙ ap (λ us. cells_past initial us) (sym grown)));
+      first = λ log h. subst (λ us. IsFirstAfter log us now) (sym grown)
+          (first_more initial log before from e (i.first log h) now c.after_issues-from.ensures.no_less
+          (all_above b log before (i.names log h) e is c.get-issues.ensures now c.after_issues-from.ensures.above)
+          (one_reached b log before (i.names log h) e is c.get-issues.ensures from now c.after_issues-from.ensures.reached));
+      names = λ log h. subst (λ us. Holds c.add.new.self log us) (sym grown) (c.in_ok-add.ensures log before (i.names log h));
       small = c.after_issues-from.ensures.small;
+    }
+
+pub returns : goal.returns
+returns c =
+    let all = take_all c.loop-index.index c.args.list.now (omega arith) in
+    let initial = cell_in c.args.memory.now in
+    let i = c.loop-index.invariant in
+    record {
+      cells = i.cells ∙ ap (λ us. cells_past initial us) all;
+      names = λ log h. subst (λ us. Holds c.loop-index.names log us) all (i.names log h);
+      explained = λ log h. subst (λ us. AreExplained initial log us) all (i.explained log h);
+      breach = λ log final h. tt;
     }

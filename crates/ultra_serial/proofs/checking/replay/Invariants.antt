@@ -1,6 +1,5 @@
-use Rattle.std.proofs.Common.{◌≡◌, ◌≤◌, take}
-use Rattle.ultra_law.specs.Log.{log_of}
-use Rattle.ultra_law.specs.Legal.{given}
+use Rattle.std.proofs.Common.{◌≡◌, ◌≤◌, [], take}
+use Rattle.ultra_law.specs.Log.{Log}
 use Rattle.ultra_serial.specs.Memory.{cell_in}
 use Rattle.ultra_serial.specs.Breach.{cells_past}
 use Rattle.ultra_serial.specs.Examined.{IsFirstAfter, AreExplained}
@@ -8,10 +7,12 @@ use Rattle.ultra_serial.specs.ByName.{Holds}
 use Rattle.ultra_serial.proofs.checking.replay.Given as goal
 
 abbrev pub invariant-loop-index : goal.invariant-loop-index
-invariant-loop-index l = record {
-  explained : AreExplained (given l.initial') (log_of l.log) (take l.index l.list);
-  cells : cell_in l.memory ≡ cells_past (given l.initial') (take l.index l.list);
-  first : IsFirstAfter (log_of l.log) (take l.index l.list) l.from;
-  names : Holds l.names (log_of l.log) (take l.index l.list);
-  small : l.from ≤ 4294967296;
-}
+invariant-loop-index l = let initial = cell_in l.initial.memory in
+    let before = take l.index l.list in
+    record {
+      explained : (log : Log) → Holds l.initial.names log [] → AreExplained initial log before;
+      cells : cell_in l.memory ≡ cells_past initial before;
+      first : (log : Log) → Holds l.initial.names log [] → IsFirstAfter log before l.from;
+      names : (log : Log) → Holds l.initial.names log [] → Holds l.names log before;
+      small : l.from ≤ 4294967296;
+    }

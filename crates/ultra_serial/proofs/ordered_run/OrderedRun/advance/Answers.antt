@@ -1,4 +1,4 @@
-use Rattle.std.proofs.Common.{◌≡◌, ◌+◌, ◌<◌, ◌++◌, true, false, rules, arith, ap, sym, subst, ◌∙◌}
+use Rattle.std.proofs.Common.{◌≡◌, ◌+◌, ◌++◌, true, false, rules, arith, ap, sym, subst, ◌∙◌}
 use Rattle.ultra_msg.specs.Bytes.{IsPrefix}
 use Rattle.ultra_law.proofs.Prefixes.{prefix_of_later}
 use Rattle.ultra_law.specs.SerialList.{serial_list}
