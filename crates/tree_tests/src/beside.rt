@@ -80,20 +80,41 @@ fn add_number<R: Abort + AllocGlobal>(rt: &R) -> Result<Program, Fail> {
     }
 }
 
-/// Absorbs events up to the first that is refused. Gives how that one is answered, and whether the explainer is spent then.
-fn first_refusal<A: Allocator + Clone>(
+/// The machine in which each of four processing elements adds its number and 1 to cell 0, before its first cycle.
+fn machine<R: Abort + AllocGlobal>(rt: &R) -> Result<Blocks, Fail> {
+    let program = add_number(rt)?;
+    let settings = settings(rt, 2)?;
+    Ok(Blocks::new(rt.alloc(), &settings, &program, &[0; 12])?)
+}
+
+/// Absorbs an event, and says whether memory was refused. Then the next is refused too.
+fn is_refused<A: Allocator + Clone>(
+    rt: &impl Abort,
+    explainer: &mut Explainer<A>,
+    event: &Event,
+) -> bool {
+    assert!(rt; explainer.accepts(event));
+    let Err(fault) = explainer.absorb(event) else {
+        return false;
+    };
+    assert_eq!(rt; fault, ExplainFault::Full);
+    let next = explainer.absorb(event);
+    assert!(rt; matches!(next, Err(ExplainFault::Spent)));
+    true
+}
+
+/// Absorbs events up to the first that is refused, and says whether one is.
+fn has_refused<A: Allocator + Clone>(
     rt: &impl Abort,
     explainer: &mut Explainer<A>,
     events: &[Event],
-) -> Option<(ExplainFault, bool)> {
+) -> bool {
     for event in events {
-        assert!(rt; explainer.accepts(event));
-        if let Err(fault) = explainer.absorb(event) {
-            let next = explainer.absorb(event);
-            return Some((fault, matches!(next, Err(ExplainFault::Spent))));
+        if is_refused(rt, explainer, event) {
+            return true;
         }
     }
-    None
+    false
 }
 
 /// Makes a cycle, and writes its lines.
@@ -104,24 +125,32 @@ fn make_cycle<R: Abort>(rt: &R, blocks: &mut Blocks, out: &mut Tray<'_, R>) -> R
     Ok(write_cycle(blocks, out)?)
 }
 
+/// Makes the ten cycles of the machine. The explainer beside it absorbs their events up to that of cycle 3 which is refused.
+fn run_beside<R: Abort, A: Allocator + Clone>(
+    rt: &R,
+    blocks: &mut Blocks,
+    explainer: &mut Explainer<A>,
+    out: &mut Tray<'_, R>,
+) -> Result<(), Fail> {
+    for cycle in 0..10 {
+        make_cycle(rt, blocks, out)?;
+        assert!(rt; blocks.is_in_one_block());
+        if cycle <= 3 {
+            let refused = has_refused(rt, explainer, blocks.events_of_one());
+            assert_eq!(rt; refused, cycle == 3, "in cycle {cycle}");
+        }
+    }
+    Ok(())
+}
+
 /// In a heap with room for an explainer alone the first combination is refused, and so is what comes next. The machine beside it goes on.
 #[test]
 fn explainer_without_memory(rt: HostRuntime) -> Result<(), Fail> {
-    let program = add_number(&rt)?;
-    let mut blocks = Blocks::new(rt.alloc(), &settings(&rt, 2)?, &program, &[0; 12])?;
+    let mut blocks = machine(&rt)?;
     let heap = LocalHeap::new(rt.alloc(), bytes_after(&rt, 0))?;
     let mut explainer = explainer(&rt, &heap);
-    let mut refusal = None;
     let mut out = Tray::new(&rt, usize::MAX);
-    for cycle in 0..10 {
-        make_cycle(&rt, &mut blocks, &mut out)?;
-        assert!(&rt; blocks.is_in_one_block());
-        if refusal.is_none() {
-            refusal = first_refusal(&rt, &mut explainer, blocks.events_of_one());
-            assert_eq!(&rt; refusal.is_some(), cycle == 3);
-        }
-    }
-    assert!(&rt; matches!(refusal, Some((ExplainFault::Full, true))));
+    run_beside(&rt, &mut blocks, &mut explainer, &mut out)?;
     assert_eq!(&rt; out.bytes(), TWO_LEVEL_TREE.as_bytes());
     Ok(())
 }

@@ -80,6 +80,17 @@ pub(crate) fn serving(pe: Pe, word: Word) -> Event {
     }
 }
 
+/// The tree of a request that adds a word to cell 0, which holds 0: the request is served.
+pub(crate) fn serve<A: Allocator + Clone>(
+    rt: &impl Abort,
+    explainer: &mut Explainer<A>,
+    pe: Pe,
+    word: Word,
+) -> Tree<A> {
+    let served = absorb(rt, explainer, &serving(pe, word));
+    served.ok().flatten().expect(rt, "no tree")
+}
+
 /// What happens before the act where each of four processing elements adds its number and 1 to cell 0.
 pub(crate) fn all_combined() -> [Event; 7] {
     [

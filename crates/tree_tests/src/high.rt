@@ -1,6 +1,6 @@
 //! Trees that are higher than those of any machine.
 
-use crate::events::{absorb, absorb_all, issue, meeting, serving, settings};
+use crate::events::{absorb, absorb_all, issue, meeting, serve, settings};
 use linked_list_allocator::LocalHeap;
 use std::alloc::Allocator;
 use std::process::Abort;
@@ -9,7 +9,16 @@ use ultra_model::Config;
 use ultra_msg::{Op, Pe};
 use ultra_tree::{Explainer, Leaf, Tree, height, leaves};
 
-/// A tree of this height: processing element 1 issues anew as soon as its request has combined. Its memory has to be there.
+/// Absorbs the first request of processing element 0, and this many of processing element 1, which issues anew as soon as its request has combined.
+fn grow<A: Allocator + Clone>(rt: &impl Abort, explainer: &mut Explainer<A>, levels: u32) {
+    assert!(rt; absorb(rt, explainer, &issue(0, 0, 1)).is_ok());
+    for number in 0..levels {
+        let level = [issue(1, number, 1), meeting(0, 0, 0, 1)];
+        assert_eq!(rt; absorb_all(rt, explainer, &level), 2);
+    }
+}
+
+/// A tree of this height. Its memory has to be there.
 fn high_tree<A: Allocator + Clone>(
     rt: &impl Abort,
     settings: &Config,
@@ -17,13 +26,8 @@ fn high_tree<A: Allocator + Clone>(
     levels: u32,
 ) -> Tree<A> {
     let mut explainer = Explainer::new(settings, alloc).expect(rt, "no memory");
-    assert!(rt; absorb(rt, &mut explainer, &issue(0, 0, 1)).is_ok());
-    for number in 0..levels {
-        let level = [issue(1, number, 1), meeting(0, 0, 0, 1)];
-        assert_eq!(rt; absorb_all(rt, &mut explainer, &level), 2);
-    }
-    let served = absorb(rt, &mut explainer, &serving(0, 1));
-    served.ok().flatten().expect(rt, "no tree")
+    grow(rt, &mut explainer, levels);
+    serve(rt, &mut explainer, 0, 1)
 }
 
 #[test]

@@ -1,12 +1,13 @@
 //! The tree of a worked run, and which events an explainer accepts.
 
-use crate::events::{absorb, absorb_all, all_combined, explainer, issue, meeting, serving};
+use crate::events::{absorb, absorb_all, all_combined, explainer, issue, meeting, serve, serving};
 use crate::trays::Tray;
 use linked_list_allocator::LocalHeap;
+use std::alloc::Allocator;
 use std::process::Abort;
 use std::test::Fail;
-use ultra_msg::{Op, Pe, SinkFault, Word};
-use ultra_tree::{Leaf, height, leaves, write_tree};
+use ultra_msg::{Cell, Event, Op, Pe, SinkFault, Word};
+use ultra_tree::{Explainer, Leaf, Tree, height, leaves, write_tree};
 
 /// The first request of a processing element, which adds a word.
 fn leaf(pe: Pe, word: Word) -> Leaf {
@@ -17,6 +18,50 @@ fn leaf(pe: Pe, word: Word) -> Leaf {
     }
 }
 
+/// Asserts whether trees are held: each under its processing element and cell.
+fn check_held<A: Allocator + Clone>(
+    rt: &impl Abort,
+    explainer: &Explainer<A>,
+    wanted: &[(Pe, Cell, bool)],
+) {
+    for &(pe, cell, is_held) in wanted {
+        let tree = explainer.tree_of(pe, cell);
+        assert_eq!(rt; tree.is_some(), is_held, "of {pe} for {cell}");
+    }
+}
+
+/// Asserts that a tree has these leaves, in serial order, and this height.
+fn check_leaves<R: Abort + AllocGlobal, A: Allocator>(
+    rt: &R,
+    tree: &Tree<A>,
+    wanted: &[Leaf],
+    levels: u64,
+) {
+    assert_eq!(rt; height(tree), levels);
+    let all = leaves(rt.alloc(), tree).expect(rt, "no memory");
+    assert_eq!(rt; all.as_slice(), wanted);
+}
+
+/// Asserts that a tree is written as this text, into a sink that takes all.
+fn check_text<R: Abort + AllocGlobal, A: Allocator>(rt: &R, tree: &Tree<A>, wanted: &[u8]) {
+    let mut tray = Tray::new(rt, usize::MAX);
+    assert!(rt; write_tree(tree, &mut tray).is_ok());
+    assert_eq!(rt; tray.bytes(), wanted);
+}
+
+/// Asserts that of a tree this beginning is written into a sink that fails after this many writes.
+fn check_beginning<R: Abort + AllocGlobal, A: Allocator>(
+    rt: &R,
+    tree: &Tree<A>,
+    sound_writes: usize,
+    wanted: &[u8],
+) {
+    let mut tray = Tray::new(rt, sound_writes);
+    assert_eq!(rt; write_tree(tree, &mut tray), Err(SinkFault));
+    assert_eq!(rt; tray.bytes(), wanted);
+    assert_eq!(rt; tray.failures, 1);
+}
+
 /// The tree is held under its first request alone, and its act gives it away with its memory.
 #[test]
 fn two_level_tree(rt: HostRuntime) -> Result<(), Fail> {
@@ -24,43 +69,55 @@ fn two_level_tree(rt: HostRuntime) -> Result<(), Fail> {
     let mut explainer = explainer(&rt, &heap);
     let of_none = heap.used();
     assert_eq!(&rt; absorb_all(&rt, &mut explainer, &all_combined()), 7);
-    assert!(&rt; explainer.tree_of(3, 0).is_none());
-    assert!(&rt; explainer.tree_of(2, 1).is_none());
-    assert!(&rt; explainer.tree_of(2, 0).is_some());
-    let served = absorb(&rt, &mut explainer, &serving(2, 10));
-    let tree = served.ok().flatten().expect(&rt, "no tree");
-    assert!(&rt; explainer.tree_of(2, 0).is_none());
-    assert_eq!(&rt; height(&tree), 2);
-    let in_order = [leaf(2, 3), leaf(0, 1), leaf(3, 4), leaf(1, 2)];
-    let all = leaves(rt.alloc(), &tree).expect(&rt, "no memory");
-    assert_eq!(&rt; all.as_slice(), in_order.as_slice());
-    let mut tray = Tray::new(&rt, usize::MAX);
-    assert!(&rt; write_tree(&tree, &mut tray).is_ok());
-    assert_eq!(&rt;
-        tray.bytes(),
-        b"[s1x0 [s0x0 2.0 < 0.0] < [s0x2 3.0 < 1.0]]".as_slice()
+    check_held(
+        &rt,
+        &explainer,
+        &[(3, 0, false), (2, 1, false), (2, 0, true)],
     );
-    let mut short = Tray::new(&rt, 16);
-    assert_eq!(&rt; write_tree(&tree, &mut short), Err(SinkFault));
-    assert_eq!(&rt; short.bytes(), b"[s1x0 [s0x0 2.0 < 0.".as_slice());
-    assert_eq!(&rt; short.failures, 1);
+    let tree = serve(&rt, &mut explainer, 2, 10);
+    check_held(&rt, &explainer, &[(2, 0, false)]);
+    check_leaves(
+        &rt,
+        &tree,
+        &[leaf(2, 3), leaf(0, 1), leaf(3, 4), leaf(1, 2)],
+        2,
+    );
+    check_text(&rt, &tree, b"[s1x0 [s0x0 2.0 < 0.0] < [s0x2 3.0 < 1.0]]");
+    check_beginning(&rt, &tree, 16, b"[s1x0 [s0x0 2.0 < 0.");
     drop(tree);
     assert_eq!(&rt; heap.used(), of_none);
     Ok(())
+}
+
+/// Asserts whether an explainer accepts each of these events.
+fn check_accepts<A: Allocator + Clone>(
+    rt: &impl Abort,
+    explainer: &Explainer<A>,
+    wanted: &[(Event, bool)],
+) {
+    for (number, (event, is_accepted)) in wanted.iter().enumerate() {
+        assert_eq!(rt; explainer.accepts(event), *is_accepted, "event {number}");
+    }
 }
 
 #[test]
 fn what_is_accepted(rt: HostRuntime) -> Result<(), Fail> {
     let heap = LocalHeap::new(rt.alloc(), 4096)?;
     let mut explainer = explainer(&rt, &heap);
-    assert!(&rt; !explainer.accepts(&serving(0, 1)));
-    assert!(&rt; !explainer.accepts(&meeting(0, 0, 0, 1)));
-    assert!(&rt; explainer.accepts(&issue(3, 0, 1)));
-    assert!(&rt; !explainer.accepts(&issue(4, 0, 1)));
+    let at_first = [
+        (serving(0, 1), false),
+        (meeting(0, 0, 0, 1), false),
+        (issue(3, 0, 1), true),
+        (issue(4, 0, 1), false),
+    ];
+    check_accepts(&rt, &explainer, &at_first);
     assert!(&rt; absorb(&rt, &mut explainer, &issue(0, 0, 1)).is_ok());
-    assert!(&rt; !explainer.accepts(&issue(0, 1, 1)));
-    assert!(&rt; !explainer.accepts(&meeting(0, 0, 0, 0)));
-    assert!(&rt; !explainer.accepts(&meeting(0, 0, 0, 1)));
-    assert!(&rt; explainer.accepts(&serving(0, 1)));
+    let with_one = [
+        (issue(0, 1, 1), false),
+        (meeting(0, 0, 0, 0), false),
+        (meeting(0, 0, 0, 1), false),
+        (serving(0, 1), true),
+    ];
+    check_accepts(&rt, &explainer, &with_one);
     Ok(())
 }
