@@ -58,9 +58,9 @@ pub fn explain<'p, F: Source, O: Sink>(
     ensures write_counted { IfErr result
         (λ f. O.failures out.new ≡ O.failures out.old + write_failures f) }
 {
-    let Inputs { config, program } = read_inputs(alloc, settings_path, program_path, source)?;
-    explain_run(alloc, &config, &program, heap_bytes, out)?;
-    Ok(())
+    let inputs = read_inputs(alloc, settings_path, program_path, source)?;
+    let Inputs { config, program } = &inputs;
+    explain_run(alloc, config, program, heap_bytes, out)
 }
 
 /// Writes the lines of a run, with the trees in a heap of their own.
@@ -85,11 +85,61 @@ fn explain_run<'p, O: Sink>(
 {
     let heap = LocalHeap::new(alloc, heap_bytes)?;
     let mut explainer = new_explainer(config, &heap)?;
+    explain_program(alloc, config, program, &mut explainer, out)
+}
+
+/// Writes the lines of a run by an explainer that holds no trees yet.
+fn explain_program<'p, A: Allocator + Clone, O: Sink>(
+    alloc: Global,
+    config: &Config,
+    program: &Program,
+    explainer: &mut Explainer<A>,
+    out: &mut O,
+) -> Result<(), Failure<'p>>
+    requires in_range { AreInRange config.now }
+    requires none_held { explainer.old
+        ≡ nothing_absorbed (size config.now) config.now.most_open }
+    ensures ok { OnOk result
+        (O.taken out.new ≡ O.taken out.old ++ explanation_of config.now program.now) }
+    ensures err { OnErr result (TakesPrefix (explanation_of config.now program.now)
+        (O.taken out.old) (O.taken out.new)) }
+    ensures fault { IfErr result IsCutShort }
+    ensures full { IfErr result (λ f. f ≡ HeapFull
+        → StopsFull config.now program.now (O.taken out.old) (O.taken out.new)) }
+    ensures still { OnOk result (O.failures out.new ≡ O.failures out.old) }
+    ensures counted { IfErr result
+        (λ f. O.failures out.new ≡ O.failures out.old + write_failures f) }
+{
     let mut machine = Machine::new(alloc, config, program)?;
+    explain_machine(alloc, &mut machine, explainer, out)
+}
+
+/// Follows a machine from its start to the end of its run, and writes all its lines.
+fn explain_machine<'p, A: Allocator + Clone, O: Sink>(
+    alloc: Global,
+    machine: &mut Machine,
+    explainer: &mut Explainer<A>,
+    out: &mut O,
+) -> Result<(), Failure<'p>>
+    requires in_range { AreInRange machine.old.settings }
+    requires start { machine.old.state ≡ start machine.old.settings }
+    requires none_held { explainer.old
+        ≡ nothing_absorbed (size machine.old.settings) machine.old.settings.most_open }
+    ensures ok { OnOk result (O.taken out.new
+        ≡ O.taken out.old ++ explanation_of machine.old.settings machine.old.program) }
+    ensures err { OnErr result
+        (TakesPrefix (explanation_of machine.old.settings machine.old.program)
+        (O.taken out.old) (O.taken out.new)) }
+    ensures fault { IfErr result IsCutShort }
+    ensures full { IfErr result (λ f. f ≡ HeapFull → StopsFull machine.old.settings
+        machine.old.program (O.taken out.old) (O.taken out.new)) }
+    ensures still { OnOk result (O.failures out.new ≡ O.failures out.old) }
+    ensures counted { IfErr result
+        (λ f. O.failures out.new ≡ O.failures out.old + write_failures f) }
+{
     let mut lines = Lines::new(alloc);
-    explain_cycles(&mut machine, &mut explainer, &mut lines, out)?;
-    lines.hand_on(out)?;
-    Ok(())
+    explain_cycles(machine, explainer, &mut lines, out)?;
+    lines.hand_on(out)
 }
 
 /// An explainer of a machine with these settings, which holds no trees. `HeapFull` says that the heap

@@ -1,37 +1,70 @@
-use Rattle.std.proofs.Common.{◌∙◌, ◌++◌, ap, append-nil}
+use Rattle.std.proofs.Common.{inl, inr, refl}
 use Rattle.std.proofs.lemmas.Result.{err_from_is_err_and}
 use Rattle.ultra_msg.proofs.Parts.{at_error}
-use Rattle.ultra_msg.proofs.Prefixes.{rest_cut, rest_handed_on, takes_none}
+use Rattle.ultra_msg.proofs.Prefixes.{takes_none}
+use Rattle.explain_command.specs.Explanation.{at_start}
 use Rattle.explain_command.proofs.explain_run.Goals as goal
+
+pub returns-in_err-heap-clause-ok : goal.returns-in_err-heap-clause-ok
+returns-in_err-heap-clause-ok g c =
+    let p = err_from_is_err_and c.from_residual.result c.from_residual.ensures.1 in
+    rw p.1 tt
 
 pub returns-in_err-heap-clause-err : goal.returns-in_err-heap-clause-err
 returns-in_err-heap-clause-err g c = at_error c.from_residual.result (takes_none _ _)
 
+pub returns-in_err-heap-clause-fault : goal.returns-in_err-heap-clause-fault
+returns-in_err-heap-clause-fault g c =
+    let p = err_from_is_err_and c.from_residual.result c.from_residual.ensures.1 in
+    rw (p.1, p.2) (inr (inl refl))
+
+pub returns-in_err-heap-clause-full : goal.returns-in_err-heap-clause-full
+returns-in_err-heap-clause-full g c =
+    let p = err_from_is_err_and c.from_residual.result c.from_residual.ensures.1 in
+    rw (p.1, p.2) (λ full. absurd cc)
+
+pub returns-in_err-heap-clause-still : goal.returns-in_err-heap-clause-still
+returns-in_err-heap-clause-still g c =
+    let p = err_from_is_err_and c.from_residual.result c.from_residual.ensures.1 in
+    rw p.1 tt
+
+pub returns-in_err-explainer-clause-ok : goal.returns-in_err-explainer-clause-ok
+returns-in_err-explainer-clause-ok g c =
+    let p = err_from_is_err_and c.from_residual-in_err-explainer.result c.from_residual-in_err-explainer.ensures.1 in
+    rw p.1 tt
+
 pub returns-in_err-explainer-clause-err : goal.returns-in_err-explainer-clause-err
 returns-in_err-explainer-clause-err g c = at_error c.from_residual-in_err-explainer.result (takes_none _ _)
 
-pub returns-in_err-machine-clause-err : goal.returns-in_err-machine-clause-err
-returns-in_err-machine-clause-err g c = at_error c.from_residual-in_err-machine.result (takes_none _ _)
+pub returns-in_err-explainer-clause-fault : goal.returns-in_err-explainer-clause-fault
+returns-in_err-explainer-clause-fault g c =
+    let p = err_from_is_err_and c.from_residual-in_err-explainer.result c.from_residual-in_err-explainer.ensures.1 in
+    rw (p.1, p.2) (inl c.in_err-explainer.ensures.no_room)
 
-pub returns-in_err-explain_cycles-clause-err : goal.returns-in_err-explain_cycles-clause-err
-returns-in_err-explain_cycles-clause-err g c =
-    let p = err_from_is_err_and c.from_residual-in_err-explain_cycles.result c.from_residual-in_err-explain_cycles.ensures.1 in
-    rw p.1 (rw (c.in_ok-machine.ensures, c.new-lines.ensures) at c.in_err-explain_cycles.ensures.err)
+pub returns-in_err-explainer-clause-full : goal.returns-in_err-explainer-clause-full
+returns-in_err-explainer-clause-full g c =
+    let p = err_from_is_err_and c.from_residual-in_err-explainer.result c.from_residual-in_err-explainer.ensures.1 in
+    rw (p.1, p.2) (λ full. at_start refl)
 
-pub returns-in_err-hand_on-clause-err : goal.returns-in_err-hand_on-clause-err
-returns-in_err-hand_on-clause-err g c =
-    let p = err_from_is_err_and c.from_residual-in_err-hand_on.result c.from_residual-in_err-hand_on.ensures.1 in
-    let all = rest_cut c.in_ok-explain_cycles.ensures.ok c.in_err-hand_on.ensures.err in
-    rw p.1 (rw (c.in_ok-machine.ensures, c.new-lines.ensures) at all)
+pub returns-in_err-explainer-clause-still : goal.returns-in_err-explainer-clause-still
+returns-in_err-explainer-clause-still g c =
+    let p = err_from_is_err_and c.from_residual-in_err-explainer.result c.from_residual-in_err-explainer.ensures.1 in
+    rw p.1 tt
 
 pub returns-clause-ok : goal.returns-clause-ok
-returns-clause-ok g c =
-    let all = rest_handed_on c.in_ok-explain_cycles.ensures.ok c.in_ok-hand_on.ensures.ok in
-    rw (c.in_ok-machine.ensures, c.new-lines.ensures) at all
+returns-clause-ok g c = c.explain_program.ensures.ok
 
-pub returns-in_err-explain_cycles-clause-full : goal.returns-in_err-explain_cycles-clause-full
-returns-in_err-explain_cycles-clause-full g c =
-    let p = err_from_is_err_and c.from_residual-in_err-explain_cycles.result c.from_residual-in_err-explain_cycles.ensures.1 in
-    let before = g.O.Sink.taken c.args.out.now in
-    let nothing_waits = ap (λ t. before ++ t) c.new-lines.ensures ∙ append-nil before in
-    rw (p.1, p.2) (λ full. rw (c.in_ok-machine.ensures, nothing_waits) at (c.in_err-explain_cycles.ensures.full full))
+pub returns-clause-err : goal.returns-clause-err
+returns-clause-err g c = c.explain_program.ensures.err
+
+pub returns-clause-fault : goal.returns-clause-fault
+returns-clause-fault g c = c.explain_program.ensures.fault
+
+pub returns-clause-full : goal.returns-clause-full
+returns-clause-full g c = c.explain_program.ensures.full
+
+pub returns-clause-still : goal.returns-clause-still
+returns-clause-still g c = c.explain_program.ensures.still
+
+pub returns-clause-counted : goal.returns-clause-counted
+returns-clause-counted g c = c.explain_program.ensures.counted
