@@ -79,7 +79,7 @@ pub fn check(
     Ok(())
 }
 
-/// Whether all entries and answers are without fault. Then the entries have acted on the memory.
+/// Finds the first fault of an entry, or of an answer that no entry has. If there is none, the entries have acted on the memory, one after the other.
 fn examine(
     alloc: Global,
     log: &Log,
@@ -99,7 +99,7 @@ fn examine(
     Ok(())
 }
 
-/// Has the entries act on the memory one after the other, as far as none of them has a fault. `names` has the log and no entries yet.
+/// Finds the first fault of an entry. The entries before it have acted on the memory, and stand in `names`, which has the log and no entries yet.
 fn replay(list: &[Entry], names: &mut ByName, memory: &mut SerialMemory) -> Result<(), CheckFault>
     ensures cells { OnOk result (cell_in memory.new ≡ cells_past (cell_in memory.old) list.now) }
     ensures names { OnOk result ((log : LogOf) → Holds names.old log [] → Holds names.new log list.now) }
