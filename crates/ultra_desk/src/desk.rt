@@ -26,11 +26,12 @@ pub struct Desk<J: Course> {
     thread: JoinHandle<()>,
 }
 
-/// What a worker's thread holds as long as its desk is open: the program that the machine runs.
+/// What a worker's thread holds as long as its desk is open: the program that the machine runs, and the ways by which orders come and results go.
 #[derive(Drop)]
 struct Hand<J: Course> {
     program: Arc<Program, Global>,
-    course: PhantomData<J>,
+    orders: Receiver<Order<J>>,
+    results: Sender<Results<J>>,
     ghost settled: { arc_value program ≡ J.program },
 }
 
@@ -49,22 +50,41 @@ fn next<T: Drop, R: Wait>(rt: &R, from: &Receiver<T>) -> Option<T> {
     from.recv(rt).ok()
 }
 
-/// What a worker does until no more orders come.
-fn work<J: Course, R: Wait, G: Gate>(
-    rt: &R,
-    gate: &G,
-    hand: Hand<J>,
-    orders: Receiver<Order<J>>,
-    results: Sender<Results<J>>,
-) {
-    for _ in rt.forever() {
-        let Some(order) = next(rt, &orders) else {
-            return;
-        };
-        let made = order.make(rt, gate, &hand.program);
-        if results.send(rt, made).is_err() {
-            return;
+impl<J: Course> Hand<J> {
+    /// What a worker does until no more orders come.
+    fn work<R: Wait, G: Gate>(self, rt: &R, gate: &G) {
+        for _ in rt.forever() {
+            if !self.answers(rt, gate) {
+                return;
+            }
         }
+    }
+
+    /// Makes the next order and gives its results back. `false` says that no more can come, or that nobody takes results any more.
+    fn answers<R: Wait, G: Gate>(&self, rt: &R, gate: &G) -> bool {
+        match next(rt, &self.orders) {
+            Some(order) => {
+                let made = order.make(rt, gate, &self.program);
+                self.results.send(rt, made).is_ok()
+            }
+            None => false,
+        }
+    }
+
+    /// Starts the worker's thread. `NoThread` says that it could not be started.
+    fn start<'s, E, R: Threads + Wait + Sync, G: Gate + Sync>(
+        self,
+        scope: &Scope<'s, E>,
+        rt: &'s R,
+        gate: &'s G,
+    ) -> Result<JoinHandle<()>, CrewFault>
+    where
+        J: Send + 's,
+    {
+        scope
+            .spawn(move || self.work(rt, gate))
+            .ok()
+            .ok_or(CrewFault::NoThread)
     }
 }
 
@@ -85,16 +105,15 @@ impl<J: Course> Desk<J> {
         let (made, results) = bounded(alloc, 1)?;
         let hand = Hand {
             program,
-            course: PhantomData,
+            orders: to_make,
+            results: made,
         };
-        match scope.spawn(move || work(rt, gate, hand, to_make, made)) {
-            Ok(thread) => Ok(Desk {
-                orders,
-                results,
-                thread,
-            }),
-            Err(_) => Err(CrewFault::NoThread),
-        }
+        let thread = hand.start(scope, rt, gate)?;
+        Ok(Desk {
+            orders,
+            results,
+            thread,
+        })
     }
 
     /// Gives the worker its team for the half of this name, and the rooms that were noted before it. They have to be those of the machine's course. `NoMemory` says that memory was refused, `NoThread` that the thread is gone; the team is then given up.

@@ -19,3 +19,22 @@ loop-block-preserved c =
           ∙ ap (λ n. team workers w (ts ++ task n c.in-Some.block ∷ [])) (let h = so_far.number in omega (arith, h))
           ∙ ap (λ us. team workers w us) (sym (tasks_more 0 c.loop-block.yielded c.in-Some.block));
     }
+
+pub nonzero_rem-number : goal.nonzero_rem-number
+nonzero_rem-number c = let many = c.len-workers.ensures in let some = c.requires.some_worker in let all = c.args.teams.now.ok in omega (arith, many, some, all.0)
+
+pub index_mut-requires : goal.index_mut-requires
+index_mut-requires c =
+    let some = c.requires.some_worker in let many = c.len-workers.ensures in let len = c.loop-block.invariant.len in
+    let all = c.args.teams.now.ok in let now = c.loop-block.teams.ok in
+    omega (arith, some, many, len, all.0, now.0)
+
+pub returns-in_err-push-clause-count : goal.returns-in_err-push-clause-count
+returns-in_err-push-clause-count c =
+    let many = c.len-workers.ensures in let all = c.args.teams.now.ok in
+    length-set c.loop-block.teams.items (c.loop-block.number % c.len-workers.result) c.push.new.self ∙ c.loop-block.invariant.len ∙ omega (arith, many, all.0)
+
+pub returns-clause-count : goal.returns-clause-count
+returns-clause-count c =
+    let many = c.len-workers.ensures in let all = c.args.teams.now.ok in let len = c.loop-block.invariant.len in
+    omega (arith, many, len, all.0)

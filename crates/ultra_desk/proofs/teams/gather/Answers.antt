@@ -1,5 +1,5 @@
 use Rattle.std.proofs.Common.{rules, ◌≡◌, ◌<◌, ◌-◌, ◌+◌, ◌%◌, ℕ, List, length, take, drop, reverse, arith, ap, ◌∙◌, sym, Vec, Global, slice_index_or}
-use Rattle.std.proofs.lemmas.List.{length-set}
+use Rattle.std.proofs.lemmas.List.{drop_all, length-set, take_all}
 use Rattle.ultra_section.specs.BlockState.{BlockState}
 use Rattle.ultra_desk.specs.declared.task.Task.{Task}
 use Rattle.ultra_desk.specs.Tasks.{AreTeams, tasks_from, team}
@@ -55,3 +55,36 @@ returns-clause-teams c = λ bs e dealt. record {
       c.loop-number.invariant.left bs e dealt w d (search rules)
       ∙ ap (λ xs. team c.len-workers.result w (tasks_from 0 xs)) (none_left bs c.loop-number.number none);
 }
+
+pub loop-number-init : goal.loop-number-init
+loop-number-init c =
+    let teams = c.args.teams.now.items in
+    let workers = c.len-workers.result in
+    let all : length teams ≡ workers = let many = c.len-workers.ensures in let ok = c.args.teams.now.ok in omega (arith, many, ok.0) in
+    record {
+      many = all;
+      gathered = λ bs e dealt. c.requires.empty ∙ sym (ap (λ (xs : List BlockState). reverse xs) (drop_all c.args.count bs (omega (arith, e))));
+      left = λ bs e dealt w d l.
+          dealt w d (omega (arith, l, all))
+          ∙ ap (λ n. team n w (tasks_from 0 bs)) all
+          ∙ ap (λ xs. team workers w (tasks_from 0 xs)) (sym (take_all c.args.count bs (omega (arith, e))));
+    }
+
+pub nonzero_rem-number : goal.nonzero_rem-number
+nonzero_rem-number c = let many = c.len-workers.ensures in let some = c.requires.some_worker in let all = c.args.teams.now.ok in omega (arith, many, some, all.0)
+
+pub index_mut-requires : goal.index_mut-requires
+index_mut-requires c =
+    let some = c.requires.some_worker in let many = c.len-workers.ensures in let len = c.loop-number.invariant.many in
+    let all = c.args.teams.now.ok in let now = c.loop-number.teams.ok in
+    omega (arith, some, many, len, all.0, now.0)
+
+pub returns-in_err-push-clause-count : goal.returns-in_err-push-clause-count
+returns-in_err-push-clause-count c =
+    let many = c.len-workers.ensures in let all = c.args.teams.now.ok in
+    length-set c.loop-number.teams.items ((c.loop-number.number - 1) % c.len-workers.result) c.pop.new.self ∙ c.loop-number.invariant.many ∙ omega (arith, many, all.0)
+
+pub returns-clause-count : goal.returns-clause-count
+returns-clause-count c =
+    let many = c.len-workers.ensures in let all = c.args.teams.now.ok in let len = c.loop-number.invariant.many in
+    omega (arith, many, len, all.0)
