@@ -1,7 +1,9 @@
-use Rattle.std.proofs.Common.{◌∙◌, ap, refl, sym, append-nil}
+use Rattle.std.proofs.Common.{◌∙◌, ap, refl, sym, append-nil, ◌++◌}
+use Rattle.std.proofs.lemmas.List.{take_all}
 use Rattle.std.proofs.lemmas.Option.{slice_get-get_or}
 use Rattle.std.proofs.lemmas.Result.{err_from_is_err_and}
 use Rattle.ultra_tree.specs.Absorb.{Explained}
+use Rattle.explain_command.specs.Explanation.{event_lines, trees_after_all}
 use Rattle.explain_command.proofs.Firsts.{absorbed_next, begun_there, left_come, put_next}
 use Rattle.explain_command.proofs.acts.put_lines.Goals as goal
 
@@ -47,3 +49,43 @@ returns-in_err-put_event-clause-whole_lines g c =
       combines = c.in_err-put_event.ensures.combines full;
       lines = c.in_err-put_event.ensures.no_line full ∙ s.invariant.put;
     })
+
+pub put_event-requires-clause-working : goal.put_event-requires-clause-working
+put_event-requires-clause-working g c = ap (λ (x : Explained). x.is_spent) c.loop-event.invariant.same ∙ c.requires.working
+
+pub returns-in_err-put_event-clause-trees : goal.returns-in_err-put_event-clause-trees
+returns-in_err-put_event-clause-trees g c =
+    let p = err_from_is_err_and c.from_residual.result c.from_residual.ensures.1 in
+    rw p.1 tt
+
+pub returns-in_err-put_event-clause-ok : goal.returns-in_err-put_event-clause-ok
+returns-in_err-put_event-clause-ok g c =
+    let p = err_from_is_err_and c.from_residual.result c.from_residual.ensures.1 in
+    rw p.1 tt
+
+pub returns-in_err-put_event-clause-fault : goal.returns-in_err-put_event-clause-fault
+returns-in_err-put_event-clause-fault g c =
+    let p = err_from_is_err_and c.from_residual.result c.from_residual.ensures.1 in
+    rw (p.1, p.2) c.in_err-put_event.ensures.fault
+
+pub returns-in_err-put_event-clause-heap_full : goal.returns-in_err-put_event-clause-heap_full
+returns-in_err-put_event-clause-heap_full g c =
+    let p = err_from_is_err_and c.from_residual.result c.from_residual.ensures.1 in
+    rw (p.1, p.2) c.in_err-put_event.ensures.heap_full
+
+pub returns-in_err-put_event-clause-no_memory : goal.returns-in_err-put_event-clause-no_memory
+returns-in_err-put_event-clause-no_memory g c =
+    let p = err_from_is_err_and c.from_residual.result c.from_residual.ensures.1 in
+    rw (p.1, p.2) c.in_err-put_event.ensures.no_memory
+
+pub returns-clause-trees : goal.returns-clause-trees
+returns-clause-trees g c =
+    let old = c.args.explainer.now in
+    let all = take_all c.loop-event.event-index c.args.events.now c.loop-event-test.false in
+    c.loop-event.invariant.same ∙ ap (λ es. record old { trees = trees_after_all old.trees es }) all
+
+pub returns-clause-ok : goal.returns-clause-ok
+returns-clause-ok g c =
+    let waited = c.args.lines.now.bytes.items in
+    let all = take_all c.loop-event.event-index c.args.events.now c.loop-event-test.false in
+    c.loop-event.invariant.put ∙ ap (λ es. waited ++ event_lines c.args.cycle c.args.explainer.now.trees es) all
