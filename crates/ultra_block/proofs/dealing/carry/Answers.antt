@@ -33,3 +33,9 @@ loop-unit-preserved c =
     let carried = unit_carried d partition b blocks n (omega arith) left now within known in
     subst (λ y. AreCarriedBelow d partition b blocks (n + 1) c.move_unit.new.self (set now h y)) (sym (come ∙ ap (with_unit n left) at_home))
     (subst (λ l. AreCarriedBelow d partition b blocks (n + 1) l (set now h (with_unit n left (block_at now h)))) (sym gone) carried)
+
+pub returns-clause-count : goal.returns-clause-count
+returns-clause-count c = c.loop-unit.invariant.count
+
+pub returns-clause-story : goal.returns-clause-story
+returns-clause-story c = (c.loop-unit.invariant.story.events, c.loop-unit.invariant.story.stops)

@@ -1,6 +1,11 @@
-use Rattle.std.proofs.Common.{◌^◌, ◌<◌, arith, ap, sym, subst, ◌∙◌}
+use Rattle.std.proofs.Common.{◌≡◌, ◌^◌, ◌+◌, ◌<◌, ◌≤◌, ◌++◌, List, length, take, drop, arith, ap, sym, subst, refl, ◌∙◌}
 use Rattle.std.specs.Prelude.{◌-◌}
-use Rattle.ultra_block.specs.State.{BlocksState}
+use Rattle.std.proofs.lemmas.List.{take_at}
+use Rattle.ultra_model.specs.Phases.{cycle}
+use Rattle.ultra_section.specs.BlockState.{BlockState}
+use Rattle.ultra_cut.specs.Moments.{AreWhole, machine_in}
+use Rattle.ultra_block.specs.State.{BlocksState, put_together}
+use Rattle.ultra_block.specs.declared.parts.Parts.{Parts}
 use Rattle.ultra_block.proofs.Seen.{cycles_are}
 use Rattle.ultra_block.proofs.blocks.Blocks.cycle.Goals as goal
 
@@ -15,3 +20,41 @@ overflow_add-self c =
     let early : b.done < 2 ^ 32 - 1 =
     subst (λ k. k < 2 ^ 32 - 1) (sym (sym (cycles_are b.config b.partition.items b.done b.blocks.items) ∙ ap (λ (s : BlocksState). s.machine.cycles) c.self.view_is)) c.requires in
     omega (arith, early)
+
+made : (p : Parts) (s : BlocksState) (now bs : List BlockState) → put_together p ≡ s → now ≡ bs → length bs ≡ length p.blocks.items
+    → machine_in p.config p.partition.items (p.done + 1) bs ≡ cycle p.config p.program (machine_in p.config p.partition.items p.done p.blocks.items)
+    → record (put_together p) { count = length now; machine = machine_in p.config p.partition.items (p.done + 1) now } ≡ record s { machine = cycle s.config s.program s.machine }
+made p s now bs same held long state =
+    subst (λ (s : BlocksState). record (put_together p) { count = length now; machine = machine_in p.config p.partition.items (p.done + 1) now } ≡ record s { machine = cycle s.config s.program s.machine }) same
+    (rw (held, long, state) refl)
+
+pub make_cycle-requires-clause-whole : goal.make_cycle-requires-clause-whole
+make_cycle-requires-clause-whole c =
+    let b = c.self.inside.parts in
+    subst (λ homes. AreWhole b.config homes b.done c.as_mut_slice.result.now) (sym c.as_slice.ensures.value)
+    (subst (λ bs. AreWhole b.config b.partition.items b.done bs) (sym c.as_mut_slice.ensures.value) c.self.invariant.whole)
+
+pub invariant_of-self : goal.invariant_of-self
+invariant_of-self c =
+    let b = c.self.inside.parts in
+    let bs = c.make_cycle.new.blocks in
+    let long : length bs ≡ b.blocks.len = c.make_cycle.auto.blocks ∙ c.as_mut_slice.ensures.len in
+    let held : take b.blocks.len (bs ++ drop (length bs) b.blocks.items) ≡ bs = take_at bs (drop (length bs) b.blocks.items) b.blocks.len long in
+    record {
+      whole =
+          subst (λ ws. AreWhole b.config b.partition.items (b.done + 1) ws) (sym held)
+          (subst (λ homes. AreWhole b.config homes (b.done + 1) bs) c.as_slice.ensures.value c.make_cycle.ensures.whole);
+      few = subst (λ (ws : List BlockState). length ws ≤ 64) (sym held) (subst (λ n. n ≤ 64) (sym (long ∙ b.blocks.ok.0)) c.self.invariant.few);
+    }
+
+pub returns : goal.returns
+returns c =
+    let b = c.self.inside.parts in
+    let bs = c.make_cycle.new.blocks in
+    let long : length bs ≡ b.blocks.len = c.make_cycle.auto.blocks ∙ c.as_mut_slice.ensures.len in
+    let held : take b.blocks.len (bs ++ drop (length bs) b.blocks.items) ≡ bs = take_at bs (drop (length bs) b.blocks.items) b.blocks.len long in
+    made b c.args.self.now _ bs c.self.view_is held (long ∙ b.blocks.ok.0)
+    (ap (λ homes. machine_in b.config homes (b.done + 1) bs) (sym c.as_slice.ensures.value)
+    ∙ c.make_cycle.ensures.state
+    ∙ ap (λ homes. cycle b.config b.program (machine_in b.config homes b.done c.as_mut_slice.result.now)) c.as_slice.ensures.value
+    ∙ ap (λ ws. cycle b.config b.program (machine_in b.config b.partition.items b.done ws)) c.as_mut_slice.ensures.value)
