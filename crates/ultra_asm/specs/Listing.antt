@@ -6,6 +6,8 @@ use Rattle.ultra_isa.specs.declared.Instr.TheVariants.{Set, Add, AddWord, Subtra
 use Rattle.ultra_asm.specs.declared.instruction.Mnemonic.{Mnemonic}
 use Rattle.ultra_asm.specs.declared.instruction.Operand.{Operand}
 use Rattle.ultra_asm.specs.declared.instruction.Operand.TheVariants as operand
+use Rattle.ultra_asm.specs.declared.canonical.Operands.{Operands}
+use Rattle.ultra_asm.specs.declared.canonical.Operands.TheVariants as operands
 use Rattle.ultra_asm.specs.Instruction.{word_of, mnemonic_of, operands_of}
 
 abbrev pub newline : List ℕ
@@ -14,6 +16,13 @@ newline = 10 ∷ []
 -- the label of a place
 abbrev pub label_text : ℕ → List ℕ
 label_text k = codes "L" ++ decimal k
+
+-- the operands as a list
+abbrev pub listed : Operands → List Operand
+listed operands.None = []
+listed (operands.One one) = one
+listed (operands.Two two) = two
+listed (operands.Three three) = three
 
 abbrev pub operand_text : Operand → List ℕ
 operand_text (operand.Register r) = codes "r" ++ decimal r

@@ -1,16 +1,15 @@
 //! The canonical text of a program.
 
 ghost use Rattle.std.specs.Prelude.{◌≡◌, ℕ, ◌+◌, ◌++◌, ◌≤◌, slice_index_or, [], ◌∷◌, false, codes, decimal, OnOk, OnErr};
-ghost use Rattle.ultra_asm.specs.Instruction.{operands_of};
+ghost use Rattle.ultra_asm.specs.Instruction.{mnemonic_of, operands_of};
 ghost use Rattle.ultra_asm.specs.ProgramText.{IsProgramText};
-ghost use Rattle.ultra_asm.specs.declared.instruction.Operand.TheVariants as operand;
-ghost use Rattle.ultra_asm.specs.Listing.{label_text, label_line, label_if, operand_text, operands_text, line_text, instruction_line, target_of, is_target, listing_text, AreWritable, IsListable};
+ghost use Rattle.ultra_asm.specs.Listing.{label_text, label_line, label_if, listed, operand_text, operands_text, line_text, instruction_line, target_of, is_target, listing_text, AreWritable, IsListable};
 ghost use Rattle.ultra_msg.specs.Bytes.{TakesPrefix};
 ghost use Rattle.ultra_page.specs.Page.{Writes};
 
 use crate::instruction::{Mnemonic, Operand};
 use ultra_isa::{Instr, MOST_INSTRUCTIONS, Program};
-use ultra_msg::{Register, Sink, SinkFault};
+use ultra_msg::{Sink, SinkFault};
 use ultra_page::Page;
 
 /// How many places a jump can go to.
@@ -104,66 +103,88 @@ fn write_label_line<S: Sink>(page: &mut Page<'_, S>, targets: &Targets, place: u
 fn write_instruction<S: Sink>(page: &mut Page<'_, S>, instruction: Instr)
     ensures { Writes S.taken S.failures (instruction_line instruction) page.old page.new }
 {
-    use Operand::{Bits, Label, Number, Register};
+    let (mnemonic, operands) = words_of(instruction);
+    write_line(page, mnemonic, operands.as_slice());
+}
 
-    match instruction {
-        Instr::Set(d, n) => write_line(page, Mnemonic::Set, &[Register(d), Number(n)]),
-        Instr::Add(d, a, b) => write_registers(page, Mnemonic::Add, d, a, b),
-        Instr::AddWord(d, a, n) => {
-            write_line(
-                page,
-                Mnemonic::AddWord,
-                &[Register(d), Register(a), Number(n)],
-            )
+/// The operands of an instruction, in the order in which they are written.
+#[derive(Clone, Copy, Drop)]
+enum Operands {
+    None,
+    One([Operand; 1]),
+    Two([Operand; 2]),
+    Three([Operand; 3]),
+}
+
+impl Operands {
+    /// The operands as a list.
+    fn as_slice(&self) -> &[Operand]
+        ensures { result.now ≡ listed self.now }
+    {
+        match self {
+            Operands::None => &[],
+            Operands::One(one) => one,
+            Operands::Two(two) => two,
+            Operands::Three(three) => three,
         }
-        Instr::Subtract(d, a, b) => write_registers(page, Mnemonic::Subtract, d, a, b),
-        Instr::And(d, a, b) => write_registers(page, Mnemonic::And, d, a, b),
-        Instr::ShiftRight(d, a, n) => {
-            write_line(
-                page,
-                Mnemonic::ShiftRight,
-                &[Register(d), Register(a), Bits(n)],
-            )
-        }
-        Instr::IsBelow(d, a, b) => write_registers(page, Mnemonic::IsBelow, d, a, b),
-        Instr::IsEqual(d, a, b) => write_registers(page, Mnemonic::IsEqual, d, a, b),
-        Instr::JumpIfZero(a, to) => {
-            write_line(page, Mnemonic::JumpIfZero, &[Register(a), Label(to)])
-        }
-        Instr::JumpIfNotZero(a, to) => {
-            write_line(page, Mnemonic::JumpIfNotZero, &[Register(a), Label(to)])
-        }
-        Instr::Jump(to) => write_line(page, Mnemonic::Jump, &[Label(to)]),
-        Instr::Number(d) => write_line(page, Mnemonic::Number, &[Register(d)]),
-        Instr::Size(d) => write_line(page, Mnemonic::Size, &[Register(d)]),
-        Instr::Load(d, a) => write_line(page, Mnemonic::Load, &[Register(d), Register(a)]),
-        Instr::Store(a, b) => write_line(page, Mnemonic::Store, &[Register(a), Register(b)]),
-        Instr::Faa(d, a, b) => write_registers(page, Mnemonic::Faa, d, a, b),
-        Instr::Swap(d, a, b) => write_registers(page, Mnemonic::Swap, d, a, b),
-        Instr::Fence => write_line(page, Mnemonic::Fence, &[]),
-        Instr::Halt => write_line(page, Mnemonic::Halt, &[]),
     }
 }
 
-/// Writes the line of an instruction with three registers.
-fn write_registers<S: Sink>(
-    page: &mut Page<'_, S>,
-    mnemonic: Mnemonic,
-    first: Register,
-    second: Register,
-    third: Register,
-)
-    ensures { Writes S.taken S.failures (line_text mnemonic (operand.Register first ∷ operand.Register second ∷ operand.Register third ∷ [])) page.old page.new }
+/// The mnemonic and the operands of an instruction.
+fn words_of(instruction: Instr) -> (Mnemonic, Operands)
+    ensures { (result.0 ≡ mnemonic_of instruction) × (listed result.1 ≡ operands_of instruction) }
 {
-    write_line(
-        page,
-        mnemonic,
-        &[
-            Operand::Register(first),
-            Operand::Register(second),
-            Operand::Register(third),
-        ],
-    )
+    use Operand::{Bits, Label, Number, Register};
+    use Operands::{None, One, Three, Two};
+
+    match instruction {
+        Instr::Set(d, n) => (Mnemonic::Set, Two([Register(d), Number(n)])),
+        Instr::Add(d, a, b) => (
+            Mnemonic::Add,
+            Three([Register(d), Register(a), Register(b)]),
+        ),
+        Instr::AddWord(d, a, n) => (
+            Mnemonic::AddWord,
+            Three([Register(d), Register(a), Number(n)]),
+        ),
+        Instr::Subtract(d, a, b) => (
+            Mnemonic::Subtract,
+            Three([Register(d), Register(a), Register(b)]),
+        ),
+        Instr::And(d, a, b) => (
+            Mnemonic::And,
+            Three([Register(d), Register(a), Register(b)]),
+        ),
+        Instr::ShiftRight(d, a, n) => (
+            Mnemonic::ShiftRight,
+            Three([Register(d), Register(a), Bits(n)]),
+        ),
+        Instr::IsBelow(d, a, b) => (
+            Mnemonic::IsBelow,
+            Three([Register(d), Register(a), Register(b)]),
+        ),
+        Instr::IsEqual(d, a, b) => (
+            Mnemonic::IsEqual,
+            Three([Register(d), Register(a), Register(b)]),
+        ),
+        Instr::JumpIfZero(a, to) => (Mnemonic::JumpIfZero, Two([Register(a), Label(to)])),
+        Instr::JumpIfNotZero(a, to) => (Mnemonic::JumpIfNotZero, Two([Register(a), Label(to)])),
+        Instr::Jump(to) => (Mnemonic::Jump, One([Label(to)])),
+        Instr::Number(d) => (Mnemonic::Number, One([Register(d)])),
+        Instr::Size(d) => (Mnemonic::Size, One([Register(d)])),
+        Instr::Load(d, a) => (Mnemonic::Load, Two([Register(d), Register(a)])),
+        Instr::Store(a, b) => (Mnemonic::Store, Two([Register(a), Register(b)])),
+        Instr::Faa(d, a, b) => (
+            Mnemonic::Faa,
+            Three([Register(d), Register(a), Register(b)]),
+        ),
+        Instr::Swap(d, a, b) => (
+            Mnemonic::Swap,
+            Three([Register(d), Register(a), Register(b)]),
+        ),
+        Instr::Fence => (Mnemonic::Fence, None),
+        Instr::Halt => (Mnemonic::Halt, None),
+    }
 }
 
 /// Writes the line of an instruction with these operands.
