@@ -7,8 +7,10 @@ use crate::random::{Random, random_program, random_settings};
 use std::alloc::Global;
 use std::process::Abort;
 use std::test::Fail;
+use ultra_isa::{Processor, Program};
 use ultra_machine::Machine;
-use ultra_msg::{Cell, Event, Pe};
+use ultra_model::Config;
+use ultra_msg::{Cell, Event, Pe, Request};
 use ultra_para::{Para, is_careful, paracomputer_law};
 
 /// The processing elements whose requests for a cell have combined into one, in serial order.
@@ -30,6 +32,14 @@ fn leaves(trees: &mut Vec<Tree>, pe: Pe, cell: Cell) -> Result<Vec<Pe>, Fail> {
     }
 }
 
+/// The leaves of two trees, those of `first` before those of `then`; the trees are taken away.
+fn leaves_of_both(trees: &mut Vec<Tree>, first: Pe, then: Pe, cell: Cell) -> Result<Vec<Pe>, Fail> {
+    let mut leaves_of_first = leaves(trees, first, cell)?;
+    let leaves_of_then = leaves(trees, then, cell)?;
+    leaves_of_first.extend_from_slice(leaves_of_then.as_slice())?;
+    Ok(leaves_of_first)
+}
+
 /// Puts the processing elements whose requests have acted into the schedule, in serial order.
 fn note(
     alloc: Global,
@@ -38,11 +48,11 @@ fn note(
     schedule: &mut Vec<Pe>,
 ) -> Result<(), Fail> {
     match event {
-        Event::Issued { request, .. } => trees.push(Tree {
-            pe: request.pe,
-            cell: request.cell,
-            leaves: vec![in alloc; request.pe]?,
-        })?,
+        Event::Issued { request, .. } => {
+            let Request { pe, cell, .. } = request;
+            let leaves = vec![in alloc; pe]?;
+            trees.push(Tree { pe, cell, leaves })?;
+        }
         Event::Combined {
             cell,
             old,
@@ -50,19 +60,10 @@ fn note(
             old_first,
             ..
         } => {
-            let of_old = leaves(trees, old, cell)?;
-            let of_new = leaves(trees, new, cell)?;
-            let (mut first, then) = if old_first {
-                (of_old, of_new)
-            } else {
-                (of_new, of_old)
-            };
-            first.extend_from_slice(then.as_slice())?;
-            trees.push(Tree {
-                pe: old,
-                cell,
-                leaves: first,
-            })?;
+            let (first, then) = if old_first { (old, new) } else { (new, old) };
+            let leaves = leaves_of_both(trees, first, then, cell)?;
+            let pe = old;
+            trees.push(Tree { pe, cell, leaves })?;
         }
         Event::Served { request, .. } => {
             let served = leaves(trees, request.pe, request.cell)?;
@@ -73,7 +74,33 @@ fn note(
     Ok(())
 }
 
-/// Makes cycles of the machine, and gives the schedule of the paracomputer that goes with them: in each cycle first the processing elements whose requests acted, in serial order, then those that have no cell open, by number.
+/// Puts the processing elements that have no cell open into the schedule, by number.
+fn note_free(machine: &Machine, schedule: &mut Vec<Pe>) -> Result<(), Fail> {
+    for pe in 0..machine.config().net().size() {
+        if machine.element(pe).interface.open_count() == 0 {
+            schedule.push(pe)?;
+        }
+    }
+    Ok(())
+}
+
+/// Makes a cycle of the machine, and puts into the schedule what goes with it: first the processing elements whose requests acted, in serial order, then those that have no cell open, by number.
+fn make_cycle(
+    rt: &impl Abort,
+    alloc: Global,
+    machine: &mut Machine,
+    trees: &mut Vec<Tree>,
+    schedule: &mut Vec<Pe>,
+) -> Result<(), Fail> {
+    assert!(rt; machine.done() < 1000);
+    machine.cycle();
+    for event in machine.events() {
+        note(alloc, *event, trees, schedule)?;
+    }
+    note_free(machine, schedule)
+}
+
+/// Makes cycles of the machine, and gives the schedule of the paracomputer that goes with them.
 fn run(
     rt: &impl Abort,
     alloc: Global,
@@ -83,62 +110,79 @@ fn run(
     let mut trees = Vec::new(alloc);
     let mut schedule = Vec::new(alloc);
     for _ in 0..cycles {
-        assert!(rt; machine.done() < 1000);
-        machine.cycle();
-        for event in machine.events() {
-            note(alloc, *event, &mut trees, &mut schedule)?;
-        }
-        for pe in 0..machine.config().net().size() {
-            if machine.element(pe).interface.open_count() == 0 {
-                schedule.push(pe)?;
-            }
-        }
+        make_cycle(rt, alloc, machine, &mut trees, &mut schedule)?;
     }
     Ok(schedule)
 }
 
 /// Whether each number of a schedule is a processing element's.
-pub(crate) fn is_schedule(schedule: &[Pe], size: u32) -> bool
+fn is_schedule(schedule: &[Pe], size: u32) -> bool
     ensures { IsTrue result ↔ All (λ p. p < size) schedule.now }
 {
     schedule.iter().all(|&pe| pe < size)
 }
 
+/// The paracomputer has the value of the machine's cell.
+fn cell_looks_like(rt: &impl Abort, machine: &Machine, para: &Para, cell: Cell) {
+    let size = machine.config().net().size();
+    assert!(rt; size > 0);
+    let word = machine.bank(cell % size).peek(cell / size);
+    assert_eq!(rt; para.peek(cell), word, "in cell {cell}");
+}
+
+/// The paracomputer has the registers of a processing element.
+fn registers_look_like(rt: &impl Abort, processor: &Processor, para: &Para, pe: Pe) {
+    for number in 0..16 {
+        let word = processor.register(register(number));
+        assert_eq!(rt; para.register(pe, number), Some(word), "r{number} of {pe}");
+    }
+}
+
 /// The paracomputer has the machine's cells, and of each processing element without an open cell its registers.
 fn looks_like(rt: &impl Abort, machine: &Machine, para: &Para) {
-    let size = machine.config().net().size();
     for cell in 0..machine.config().all_cells() {
-        assert_eq!(rt;
-            para.peek(cell),
-            machine.bank(cell % size).peek(cell / size)
-        );
+        cell_looks_like(rt, machine, para, cell);
     }
-    for pe in 0..size {
+    for pe in 0..machine.config().net().size() {
         let element = machine.element(pe);
         if element.interface.open_count() == 0 {
-            for number in 0..16 {
-                let word = element.processor.register(register(number));
-                assert_eq!(rt; para.register(pe, number), Some(word));
-            }
+            registers_look_like(rt, &element.processor, para, pe);
         }
     }
+}
+
+/// The paracomputer after a schedule.
+pub(crate) fn after(
+    rt: &(impl Abort + AllocGlobal),
+    config: &Config,
+    program: &Program,
+    schedule: &[Pe],
+) -> Result<Para, Fail> {
+    let mut para = Para::new(rt.alloc(), config, program)?;
+    assert!(rt; is_schedule(schedule, config.net().size()));
+    para.run(schedule);
+    Ok(para)
+}
+
+/// Runs a random careful program on a machine and on the paracomputer beside it.
+fn run_both(rt: &(impl Abort + AllocGlobal), random: &mut Random) -> Result<(), Fail> {
+    let alloc = rt.alloc();
+    let config = random_settings(random, alloc)?;
+    let program = random_program(random, alloc)?;
+    assert!(rt; is_careful(&program));
+    let mut machine = Machine::new(alloc, &config, &program)?;
+    let schedule = run(rt, alloc, &mut machine, 20 + random.below(100))?;
+    let para = after(rt, &config, &program, schedule.as_slice())?;
+    looks_like(rt, &machine, &para);
+    Ok(())
 }
 
 #[test]
 fn random_careful_programs(rt: HostRuntime) -> Result<(), Fail> {
     paracomputer_law();
-    let alloc = rt.alloc();
     for seed in 0..300 {
         let mut random = Random::new(seed);
-        let config = random_settings(&mut random, alloc)?;
-        let program = random_program(&mut random, alloc)?;
-        assert!(rt; is_careful(&program));
-        let mut machine = Machine::new(alloc, &config, &program)?;
-        let mut para = Para::new(alloc, &config, &program)?;
-        let schedule = run(&rt, alloc, &mut machine, 20 + random.below(100))?;
-        assert!(rt; is_schedule(schedule.as_slice(), config.net().size()));
-        para.run(schedule.as_slice());
-        looks_like(&rt, &machine, &para);
+        run_both(&rt, &mut random)?;
     }
     Ok(())
 }

@@ -1,6 +1,6 @@
 //! Worked runs of the paracomputer with two processing elements, and programs that are careful or not.
 
-use crate::beside::is_schedule;
+use crate::beside::after;
 use crate::making::{program, register, settings};
 use std::alloc::Global;
 use std::process::Abort;
@@ -9,6 +9,20 @@ use ultra_isa::Instr;
 use ultra_model::Config;
 use ultra_msg::{Cell, Pe, Word};
 use ultra_para::{Para, is_careful};
+
+/// Asserts what registers hold.
+fn check_registers(rt: &impl Abort, para: &Para, wanted: &[(Pe, u8, Option<Word>)]) {
+    for &(pe, number, expected) in wanted {
+        assert_eq!(rt; para.register(pe, number), expected, "r{number} of {pe}");
+    }
+}
+
+/// Asserts what cells hold.
+fn check_cells(rt: &impl Abort, para: &Para, wanted: &[(Cell, Option<Word>)]) {
+    for &(cell, expected) in wanted {
+        assert_eq!(rt; para.peek(cell), expected, "in cell {cell}");
+    }
+}
 
 /// Runs a program over a schedule, and looks into these registers and cells. Cell 1 holds 9 at first.
 fn run(
@@ -21,15 +35,9 @@ fn run(
     let alloc = rt.alloc();
     let config = Config::new(alloc, &settings(1, Vec::from_array(alloc, [(1, 9)])?))?;
     let program = program(list.to_vec(alloc)?)?;
-    let mut para = Para::new(alloc, &config, &program)?;
-    assert!(rt; is_schedule(schedule, config.net().size()));
-    para.run(schedule);
-    for &(pe, number, expected) in registers {
-        assert_eq!(rt; para.register(pe, number), expected);
-    }
-    for &(cell, expected) in cells {
-        assert_eq!(rt; para.peek(cell), expected);
-    }
+    let para = after(rt, &config, &program, schedule)?;
+    check_registers(rt, &para, registers);
+    check_cells(rt, &para, cells);
     Ok(())
 }
 
@@ -123,6 +131,11 @@ fn faults(rt: HostRuntime) -> Result<(), Fail> {
     )
 }
 
+/// Sets r1 to 0.
+fn set() -> Instr {
+    Instr::Set(register(1), 0)
+}
+
 /// Adds r2 to the cell whose address is in r1.
 fn add() -> Instr {
     Instr::Faa(register(3), register(1), register(2))
@@ -139,17 +152,13 @@ fn store() -> Instr {
 }
 
 #[test]
+fn additions_are_careful_or_not(rt: HostRuntime) -> Result<(), Fail> {
+    judge(&rt, &[set(), add(), Instr::Halt], false)?;
+    judge(&rt, &[set(), add(), Instr::Fence, Instr::Halt], true)
+}
+
+#[test]
 fn careful_or_not(rt: HostRuntime) -> Result<(), Fail> {
-    judge(
-        &rt,
-        &[Instr::Set(register(1), 0), add(), Instr::Halt],
-        false,
-    )?;
-    judge(
-        &rt,
-        &[Instr::Set(register(1), 0), add(), Instr::Fence, Instr::Halt],
-        true,
-    )?;
     judge(&rt, &[swap(), Instr::Halt], false)?;
     judge(&rt, &[swap(), Instr::Fence, Instr::Halt], true)?;
     judge(&rt, &[swap(), Instr::Halt, Instr::Fence], false)?;
