@@ -1,6 +1,8 @@
 //! The coordination programs with parameters.
 
 use std::alloc::Global;
+use std::process::Abort;
+use std::test::Fail;
 use ultra_colib::{
     ColibFault, barrier_program, gate_program, queue_program, run_barrier, run_gate, run_queue,
     run_rw, rw_program,
@@ -38,6 +40,20 @@ impl Case {
                 run_rw(alloc, config, writers, rounds, &[])
             }
             Case::Barrier { rounds } => run_barrier(alloc, config, rounds, &[]),
+        }
+    }
+}
+
+/// Asserts that what was asked for is refused.
+pub(crate) fn check_refused<T: Drop>(
+    rt: &impl Abort,
+    answer: Result<T, ColibFault>,
+) -> Result<(), Fail> {
+    match answer {
+        Ok(_) => Err("accepted".into()),
+        Err(fault) => {
+            assert_eq!(rt; fault, ColibFault::BadParameter);
+            Ok(())
         }
     }
 }

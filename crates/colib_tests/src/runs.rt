@@ -2,12 +2,14 @@
 
 ghost use Rattle.std.specs.Prelude.{◌<◌, ◌↔◌, All, IsTrue};
 
-use crate::cases::{OUT_OF_RANGE, SMALL};
+use crate::cases::{OUT_OF_RANGE, SMALL, check_refused};
 use std::alloc::Global;
+use std::process::Abort;
 use std::test::Fail;
-use ultra_colib::{ColibFault, run_barrier};
+use ultra_colib::run_barrier;
 use ultra_model::{Config, RawSettings};
-use ultra_msg::Pe;
+use ultra_msg::{Cell, Pe, Word};
+use ultra_para::Para;
 
 /// The default settings with one stage and these initial values.
 pub(crate) fn config(alloc: Global, initial: &[(i64, i64)]) -> Result<Config, Fail> {
@@ -24,12 +26,19 @@ pub(crate) fn config(alloc: Global, initial: &[(i64, i64)]) -> Result<Config, Fa
     Ok(Config::new(alloc, &raw)?)
 }
 
+/// Asserts what these cells of a paracomputer hold.
+pub(crate) fn check_cells(rt: &impl Abort, para: &Para, wanted: &[(Cell, Word)]) {
+    for &(cell, word) in wanted {
+        assert_eq!(rt; para.peek(cell), Some(word), "in cell {cell}");
+    }
+}
+
 #[test]
 fn cells_are_zero_before_the_first_step(rt: HostRuntime) -> Result<(), Fail> {
     let config = config(rt.alloc(), &[])?;
     for case in SMALL {
         let para = case.start(rt.alloc(), &config)?;
-        assert_eq!(rt; para.peek(0), Some(0));
+        check_cells(&rt, &para, &[(0, 0)]);
     }
     Ok(())
 }
@@ -48,9 +57,8 @@ fn one_alone_waits_at_the_barrier(rt: HostRuntime) -> Result<(), Fail> {
     let schedule = [0; 40];
     assert!(rt; is_schedule(&schedule, config.net().size()));
     let para = run_barrier(rt.alloc(), &config, 1, &schedule)?;
-    for (cell, word) in [(0, 1), (8, 1), (9, 0), (10, 0), (11, 0)] {
-        assert_eq!(rt; para.peek(cell), Some(word));
-    }
+    let cells = [(0, 1), (8, 1), (9, 0), (10, 0), (11, 0)];
+    check_cells(&rt, &para, &cells);
     Ok(())
 }
 
@@ -58,10 +66,7 @@ fn one_alone_waits_at_the_barrier(rt: HostRuntime) -> Result<(), Fail> {
 fn initial_values_are_refused(rt: HostRuntime) -> Result<(), Fail> {
     let config = config(rt.alloc(), &[(1, 0)])?;
     for case in SMALL {
-        match case.start(rt.alloc(), &config) {
-            Ok(_) => return Err("accepted".into()),
-            Err(fault) => assert_eq!(rt; fault, ColibFault::BadParameter),
-        }
+        check_refused(&rt, case.start(rt.alloc(), &config))?;
     }
     Ok(())
 }
@@ -70,10 +75,7 @@ fn initial_values_are_refused(rt: HostRuntime) -> Result<(), Fail> {
 fn runs_refuse_parameters_out_of_range(rt: HostRuntime) -> Result<(), Fail> {
     let config = config(rt.alloc(), &[])?;
     for case in OUT_OF_RANGE {
-        match case.start(rt.alloc(), &config) {
-            Ok(_) => return Err("accepted".into()),
-            Err(fault) => assert_eq!(rt; fault, ColibFault::BadParameter),
-        }
+        check_refused(&rt, case.start(rt.alloc(), &config))?;
     }
     Ok(())
 }

@@ -1,10 +1,7 @@
 //! A sink in memory.
 
-ghost use Rattle.std.specs.Prelude.{◌≡◌};
-
 use std::process::Abort;
 use std::str;
-use std::test::Fail;
 use ultra_msg::{Sink, SinkFault};
 
 /// A sink in memory, which takes three bytes a write at most and fails after `sound_writes` writes.
@@ -29,9 +26,9 @@ impl<'r, R: Abort + AllocGlobal> Tray<'r, R> {
 }
 
 impl<R: Abort> Tray<'_, R> {
-    /// What it has taken.
-    pub(crate) fn text(&self) -> Result<&str, Fail> {
-        Ok(str::from_utf8(self.bytes.as_slice())?)
+    /// What it has taken, which has to be text.
+    pub(crate) fn text(&self) -> &str {
+        str::from_utf8(self.bytes.as_slice()).expect(self.rt, "no text")
     }
 }
 
