@@ -17,3 +17,6 @@ returns-clause-yes c = λ e. absurd cc
 
 pub returns-then-is_answer_to-clause-yes : goal.returns-then-is_answer_to-clause-yes
 returns-then-is_answer_to-clause-yes c = λ _. (_, has_this c.args.list.now c.loop-entry.entry-index _ c.loop-entry-test.true, c.is_answer_to.ensures.yes c.if-is_answer_to.true)
+
+pub returns-then-is_answer_to-clause-no : goal.returns-then-is_answer_to-clause-no
+returns-then-is_answer_to-clause-no c = λ e. absurd cc

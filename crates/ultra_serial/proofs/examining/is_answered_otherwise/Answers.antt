@@ -2,7 +2,7 @@ use Rattle.std.proofs.Common.{rules}
 use Rattle.std.specs.Prelude.{◌≡◌}
 use Rattle.ultra_law.specs.declared.records.Answer.{Answer}
 use Rattle.ultra_law.specs.Legal.{IsAnswerTo}
-use Rattle.ultra_serial.proofs.Searching.{some_answer, none_below, more_below, all_below}
+use Rattle.ultra_serial.proofs.Searching.{some_answer, has_this, none_below, more_below, all_below}
 use Rattle.ultra_serial.proofs.examining.is_answered_otherwise.Goals as goal
 use Rattle.ultra_serial.proofs.examining.is_answered_otherwise.Goals.{else-is_answer_to-via-then-is_answer_to+else-ne, else-is_answer_to-via-else-is_answer_to}
 
@@ -20,3 +20,9 @@ returns-clause-no c = λ _. all_below c.args.answers.now (λ (x : Answer). IsAns
 
 pub returns-clause-yes : goal.returns-clause-yes
 returns-clause-yes c = λ e. absurd cc
+
+pub returns-then-ne-clause-yes : goal.returns-then-ne-clause-yes
+returns-then-ne-clause-yes c = λ _. (_, has_this c.args.answers.now c.loop-answer.answer-index some_answer c.loop-answer-test.true, c.is_answer_to.ensures.yes c.if-is_answer_to.true, search rules)
+
+pub returns-then-ne-clause-no : goal.returns-then-ne-clause-no
+returns-then-ne-clause-no c = λ e. absurd cc

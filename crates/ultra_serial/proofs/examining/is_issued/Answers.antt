@@ -17,3 +17,6 @@ returns-clause-yes c = λ e. absurd cc
 
 pub returns-then-is_issue_of-clause-yes : goal.returns-then-is_issue_of-clause-yes
 returns-then-is_issue_of-clause-yes c = λ _. (_, has_this c.args.issues.now c.loop-issue.issue-index _ c.loop-issue-test.true, c.is_issue_of.ensures.yes c.if-is_issue_of.true)
+
+pub returns-then-is_issue_of-clause-no : goal.returns-then-is_issue_of-clause-no
+returns-then-is_issue_of-clause-no c = λ e. absurd cc
