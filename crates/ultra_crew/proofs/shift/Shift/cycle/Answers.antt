@@ -1,6 +1,7 @@
 use Rattle.std.proofs.Common.{rules, ◌≡◌, ◌^◌, ◌<◌, arith, ap, ◌∙◌, sym, subst}
 use Rattle.std.specs.Prelude.{◌-◌}
 use Rattle.ultra_model.specs.Phases.{cycle}
+use Rattle.ultra_cut.specs.Moments.{AreWhole}
 use Rattle.ultra_block.specs.State.{BlocksState}
 use Rattle.ultra_block.proofs.Seen.{cycles_are}
 use Rattle.ultra_crew.specs.Start.{state_of}
@@ -13,6 +14,11 @@ make_cycle-requires-clause-counted g c =
     let p = c.into_parts-config.result in
     let done : p.done ≡ c.args.blocks.machine.cycles = sym (cycles_are p.config p.partition.items p.done p.blocks.items) ∙ ap (λ (b : BlocksState). b.machine.cycles) c.into_parts-config.ensures.value in
     subst (λ n. n < 2 ^ 32 - 1) (sym done) c.requires.counted
+
+pub make_cycle-requires-clause-whole : goal.make_cycle-requires-clause-whole
+make_cycle-requires-clause-whole g c =
+    let p = c.into_parts-config.result in
+    subst (λ part. AreWhole p.config part p.done p.blocks.items) (sym c.as_slice.ensures.value) c.into_parts-config.ensures.whole.whole
 
 pub make_cycle-requires-clause-settled : goal.make_cycle-requires-clause-settled
 make_cycle-requires-clause-settled g c h w =
