@@ -1,7 +1,9 @@
-use Rattle.std.proofs.Common.{rules, ◌≡◌, ◌^◌, ◌<◌, arith, ap, ◌∙◌, sym, subst}
+use Rattle.std.proofs.Common.{◌≡◌, ℕ, ◌+◌, ◌^◌, ◌<◌, List, length, arith, ap, ◌∙◌, sym, subst}
 use Rattle.std.specs.Prelude.{◌-◌}
+use Rattle.ultra_isa.specs.declared.Instr.{Instr}
+use Rattle.ultra_model.specs.Machine.{Machine, Settings}
 use Rattle.ultra_model.specs.Phases.{cycle}
-use Rattle.ultra_cut.specs.Moments.{AreWhole}
+use Rattle.ultra_cut.specs.Moments.{AreWhole, machine_in}
 use Rattle.ultra_block.specs.State.{BlocksState}
 use Rattle.ultra_block.proofs.Seen.{cycles_are}
 use Rattle.ultra_crew.specs.Start.{state_of}
@@ -40,8 +42,28 @@ overflow_add-done g c =
     let early : p.done < 2 ^ 32 - 1 = subst (λ n. n < 2 ^ 32 - 1) (sym done) c.requires.counted in
     omega (arith, early)
 
+-- a machine that is put together after a cycle is the machine before it, one cycle later
+one_later : (c : Settings) (program run : List Instr) (partition : List ℕ) (n k : ℕ) (m now : Machine) (b : BlocksState) → record { config = c; program = program; partition = partition; count = n; machine = m } ≡ b
+    → k ≡ n → run ≡ program → now ≡ cycle c run m
+    → record { config = c; program = program; partition = partition; count = k; machine = now } ≡ record b { machine = cycle b.config b.program b.machine }
+one_later c program run partition n k m now b e count same step =
+    ap (λ j. record { config = c; program = program; partition = partition; count = j; machine = now }) count
+    ∙ ap (λ x. record { config = c; program = program; partition = partition; count = n; machine = x }) (step ∙ ap (λ q. cycle c q m) same)
+    ∙ ap (λ (s : BlocksState). record s { machine = cycle s.config s.program s.machine }) e
+
+pub returns-clause-state : goal.returns-clause-state
+returns-clause-state g c =
+    let p = c.into_parts-config.result in
+    let b = c.args.blocks in
+    let made = c.in_ok-blocks.blocks.items in
+    let run = g.J.Course.program in
+    let e : state_of p.config p.program p.partition.items p.done p.blocks.items ≡ b = c.into_parts-config.ensures.value in
+    let step : machine_in p.config p.partition.items (p.done + 1) made ≡ cycle p.config run (machine_in p.config p.partition.items p.done p.blocks.items) =
+    subst (λ part. machine_in p.config part (p.done + 1) made ≡ cycle p.config run (machine_in p.config part p.done p.blocks.items)) c.as_slice.ensures.value c.in_ok-blocks.ensures.state in
+    c.of_parts.ensures
+    ∙ one_later p.config p.program run p.partition.items (length p.blocks.items) (length made) (machine_in p.config p.partition.items p.done p.blocks.items) (machine_in p.config p.partition.items (p.done + 1) made) b
+    e c.in_ok-blocks.ensures.count (c.requires.course.program_is ∙ sym (ap (λ (s : BlocksState). s.program) e)) step
+
 pub returns-clause-course : goal.returns-clause-course
 returns-clause-course g c =
-    let b = c.args.blocks in
-    let is : c.of_parts.result ≡ record b { machine = cycle b.config b.program b.machine } = search rules in
-    course_goes_on g.J.Course.results g.J.Course.program c.args.self.now b c.requires.course c.of_parts.result is
+    course_goes_on g.J.Course.results g.J.Course.program c.args.self.now c.args.blocks c.requires.course c.of_parts.result (returns-clause-state g c)
