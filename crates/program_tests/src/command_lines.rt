@@ -1,6 +1,7 @@
 //! What the words of a command line ask for.
 
 use std::alloc::Global;
+use std::process::Abort;
 use std::test::Fail;
 use ultra_command_line::{Command, HeapBytes, Parsed, Workers, parse};
 
@@ -12,106 +13,152 @@ fn parsed<'w>(alloc: Global, words: &'w [&'w str]) -> Result<Parsed<'w>, Fail> {
     }
 }
 
+/// The command that the words ask for.
+fn command_of<'w>(alloc: Global, words: &'w [&'w str]) -> Result<Command<'w>, Fail> {
+    match parsed(alloc, words)? {
+        Parsed::Command(command) => Ok(command),
+        _ => Err("no command".into()),
+    }
+}
+
+/// Asserts which command the words ask for.
+fn check_command<'w, R: Abort + AllocGlobal>(
+    rt: &R,
+    words: &'w [&'w str],
+    wanted: Command<'w>,
+) -> Result<(), Fail> {
+    let command = command_of(rt.alloc(), words)?;
+    assert!(rt; command == wanted, "{words:?}");
+    Ok(())
+}
+
+/// The help that the words ask for.
+fn help_for(alloc: Global, words: &[&str]) -> Result<String, Fail> {
+    match parsed(alloc, words)? {
+        Parsed::Help(text) => Ok(text),
+        _ => Err("no help".into()),
+    }
+}
+
+/// What is said of words that are wrong.
+fn usage_fault_of(alloc: Global, words: &[&str]) -> Result<String, Fail> {
+    match parsed(alloc, words)? {
+        Parsed::Usage(text) => Ok(text),
+        _ => Err("no usage fault".into()),
+    }
+}
+
+/// The version that the words ask for.
+fn version_for(alloc: Global, words: &[&str]) -> Result<String, Fail> {
+    match parsed(alloc, words)? {
+        Parsed::Version(text) => Ok(text),
+        _ => Err("no version".into()),
+    }
+}
+
+/// Words that ask for a run, with its number of workers.
+static RUNS: [(&[&str], usize); 5] = [
+    (&["ultra", "run", "c.toml", "p.s"], 1),
+    (&["ultra", "run", "c.toml", "p.s", "--workers", "1"], 1),
+    (&["ultra", "run", "c.toml", "p.s", "--workers=2"], 2),
+    (&["ultra", "run", "--workers", "007", "c.toml", "p.s"], 7),
+    (&["ultra", "run", "c.toml", "--workers", "64", "p.s"], 64),
+];
+
 #[test]
 fn a_run_is_asked_for(rt: HostRuntime) -> Result<(), Fail> {
-    let rows: [(&[&str], usize); 5] = [
-        (&["ultra", "run", "c.toml", "p.s"], 1),
-        (&["ultra", "run", "c.toml", "p.s", "--workers", "1"], 1),
-        (&["ultra", "run", "c.toml", "p.s", "--workers=2"], 2),
-        (&["ultra", "run", "--workers", "007", "c.toml", "p.s"], 7),
-        (&["ultra", "run", "c.toml", "--workers", "64", "p.s"], 64),
-    ];
-    for (words, count) in rows {
-        let Parsed::Command(command) = parsed(rt.alloc(), words)? else {
-            return Err("no command".into());
-        };
-        let wanted = Command::Run {
-            settings: "c.toml",
-            program: "p.s",
-            workers: Workers::new(count).ok_or("no workers")?,
-        };
-        assert!(rt; command == wanted);
+    for (words, count) in &RUNS {
+        check_command(&rt, words, run_by(*count)?)?;
     }
     Ok(())
+}
+
+/// The run of `p.s` with the settings `c.toml` by so many workers.
+fn run_by(count: usize) -> Result<Command<'static>, Fail> {
+    let workers = Workers::new(count).ok_or("no workers")?;
+    Ok(Command::Run {
+        settings: "c.toml",
+        program: "p.s",
+        workers,
+    })
 }
 
 #[test]
 fn an_order_is_asked_for(rt: HostRuntime) -> Result<(), Fail> {
-    let words = ["ultra", "order", "c.toml", "p.s"];
-    let Parsed::Command(command) = parsed(rt.alloc(), &words)? else {
-        return Err("no command".into());
-    };
-    let wanted = Command::Order {
+    let order = Command::Order {
         settings: "c.toml",
         program: "p.s",
     };
-    assert!(rt; command == wanted);
-    Ok(())
+    check_command(&rt, &["ultra", "order", "c.toml", "p.s"], order)
 }
+
+/// Words that ask for an explanation, with the bytes of its heap.
+static EXPLANATIONS: [(&[&str], usize); 3] = [
+    (&["ultra", "explain", "c.toml", "p.s"], 1_048_576),
+    (&["ultra", "explain", "c.toml", "p.s", "--heap", "256"], 256),
+    (
+        &["ultra", "explain", "--heap=16777216", "c.toml", "p.s"],
+        16_777_216,
+    ),
+];
 
 #[test]
 fn an_explanation_is_asked_for(rt: HostRuntime) -> Result<(), Fail> {
-    let rows: [(&[&str], usize); 3] = [
-        (&["ultra", "explain", "c.toml", "p.s"], 1_048_576),
-        (&["ultra", "explain", "c.toml", "p.s", "--heap", "256"], 256),
-        (
-            &["ultra", "explain", "--heap=16777216", "c.toml", "p.s"],
-            16_777_216,
-        ),
-    ];
-    for (words, bytes) in rows {
-        let Parsed::Command(command) = parsed(rt.alloc(), words)? else {
-            return Err("no command".into());
-        };
-        let wanted = Command::Explain {
-            settings: "c.toml",
-            program: "p.s",
-            heap: HeapBytes::new(bytes).ok_or("no heap")?,
-        };
-        assert!(rt; command == wanted);
+    for (words, bytes) in &EXPLANATIONS {
+        check_command(&rt, words, explanation_within(*bytes)?)?;
     }
     Ok(())
 }
 
+/// The explanation of that run, with the trees in a heap of so many bytes.
+fn explanation_within(bytes: usize) -> Result<Command<'static>, Fail> {
+    let heap = HeapBytes::new(bytes).ok_or("no heap")?;
+    Ok(Command::Explain {
+        settings: "c.toml",
+        program: "p.s",
+        heap,
+    })
+}
+
+/// Words that are no command.
+static WRONG_WORDS: [&[&str]; 7] = [
+    &["ultra"],
+    &["ultra", "run"],
+    &["ultra", "run", "c.toml"],
+    &["ultra", "run", "c.toml", "p.s", "x"],
+    &["ultra", "order", "c.toml"],
+    &["ultra", "explain", "c.toml"],
+    &["ultra", "run", "--version"],
+];
+
 #[test]
 fn wrong_words_are_usage_faults(rt: HostRuntime) -> Result<(), Fail> {
-    let rows: [&[&str]; 7] = [
-        &["ultra"],
-        &["ultra", "run"],
-        &["ultra", "run", "c.toml"],
-        &["ultra", "run", "c.toml", "p.s", "x"],
-        &["ultra", "order", "c.toml"],
-        &["ultra", "explain", "c.toml"],
-        &["ultra", "run", "--version"],
-    ];
-    for words in rows {
-        let Parsed::Usage(text) = parsed(rt.alloc(), words)? else {
-            return Err("no usage fault".into());
-        };
+    for words in &WRONG_WORDS {
+        let text = usage_fault_of(rt.alloc(), words)?;
         assert!(rt; text.as_str().contains("Usage: ultra"), "{text}");
     }
     Ok(())
 }
 
+/// Words that ask for help.
+static HELPS: [&[&str]; 4] = [
+    &["ultra", "--help"],
+    &["ultra", "-h"],
+    &["ultra", "run", "-h"],
+    &["ultra", "help", "run"],
+];
+
 #[test]
 fn help_is_shown(rt: HostRuntime) -> Result<(), Fail> {
-    let rows: [&[&str]; 4] = [
-        &["ultra", "--help"],
-        &["ultra", "-h"],
-        &["ultra", "run", "-h"],
-        &["ultra", "help", "run"],
-    ];
-    for words in rows {
-        let Parsed::Help(text) = parsed(rt.alloc(), words)? else {
-            return Err("no help".into());
-        };
+    for words in &HELPS {
+        let text = help_for(rt.alloc(), words)?;
         assert!(rt; text.as_str().contains("Usage: ultra"), "{text}");
     }
     Ok(())
 }
 
 /// The last lines of the example in the help of each command, or of the program.
-const EXAMPLES: [(&[&str], &str); 7] = [
+static EXAMPLES: [(&[&str], &str); 7] = [
     (&["ultra", "--help"], "act 0 1@0 faa 2 = 0 now 2\n"),
     (&["ultra", "run", "--help"], "pe 1 halted 3 r2=1\n"),
     (
@@ -127,36 +174,52 @@ const EXAMPLES: [(&[&str], &str); 7] = [
     (&["ultra", "lib", "--help"], "pid r1\n    addi r2 r1 8\n"),
 ];
 
+/// What each help text has besides: a line for each status, and the documents.
+static COMMON_PARTS: [&str; 6] = [
+    "\n  0  ",
+    "\n  2  ",
+    "\n  3  ",
+    "\n  4  ",
+    "\n  5  ",
+    "\n\ndocs/",
+];
+
+/// Asserts that a text has these parts.
+fn check_parts<R: Abort>(rt: &R, text: &str, parts: &[&str]) {
+    for part in parts {
+        assert!(rt; text.contains(part), "{part}: {text}");
+    }
+}
+
+/// Asserts that no line of a text has more than 80 bytes.
+fn check_widths<R: Abort>(rt: &R, text: &str) {
+    for line in text.lines() {
+        assert!(rt; line.len() <= 80, "{line}");
+    }
+}
+
 #[test]
 fn help_has_statuses_and_an_example(rt: HostRuntime) -> Result<(), Fail> {
-    for (words, example) in EXAMPLES {
-        let Parsed::Help(text) = parsed(rt.alloc(), words)? else {
-            return Err("no help".into());
-        };
-        for status in ["0", "2", "3", "4", "5"] {
-            let line = format!(in rt.alloc(); "\n  {status}  ")?;
-            assert!(rt; text.as_str().contains(line.as_str()), "{text}");
-        }
-        assert!(rt; text.as_str().contains(example), "{text}");
-        assert!(rt; text.as_str().contains("\n\ndocs/"), "{text}");
-        for line in text.as_str().lines() {
-            assert!(rt; line.len() <= 80, "{line}");
-        }
+    for (words, example) in &EXAMPLES {
+        let text = help_for(rt.alloc(), words)?;
+        check_parts(&rt, text.as_str(), &COMMON_PARTS);
+        check_parts(&rt, text.as_str(), &[example]);
+        check_widths(&rt, text.as_str());
     }
     Ok(())
 }
 
+/// Words that ask for the version.
+static VERSIONS: [&[&str]; 3] = [
+    &["ultra", "--version"],
+    &["ultra", "-V"],
+    &["ultra", "-V", "run"],
+];
+
 #[test]
 fn the_version_is_shown(rt: HostRuntime) -> Result<(), Fail> {
-    let rows: [&[&str]; 3] = [
-        &["ultra", "--version"],
-        &["ultra", "-V"],
-        &["ultra", "-V", "run"],
-    ];
-    for words in rows {
-        let Parsed::Version(text) = parsed(rt.alloc(), words)? else {
-            return Err("no version".into());
-        };
+    for words in &VERSIONS {
+        let text = version_for(rt.alloc(), words)?;
         assert_eq!(rt; text.as_str(), "ultra 1.0 (trace 2)\n");
     }
     Ok(())

@@ -6,20 +6,20 @@ use crate::{explanations, orders, traces, two_stage_traces};
 /// A run, with what `ultra run`, `ultra order` and `ultra explain` write.
 pub(crate) struct Example {
     pub(crate) settings: &'static str,
-    pub(crate) program: &'static str,
+    pub(crate) program: &'static [u8],
     pub(crate) trace: &'static str,
     pub(crate) order: &'static str,
     pub(crate) explanation: &'static str,
 }
 
 /// A fetch-and-add of 1 to cell 0.
-pub(crate) const ADDS_ONE: &str = "li r1 0\nli r2 1\nfaa r3 r1 r2\nhalt\n";
+pub(crate) const ADDS_ONE: &[u8] = b"li r1 0\nli r2 1\nfaa r3 r1 r2\nhalt\n";
 
 /// Two fetch-and-adds: of 1 to cell 0, then of 1 to cell 1.
-const ADDS_TWICE: &str = "li r1 1\nli r2 1\nfaa r3 r0 r2\nfaa r4 r1 r2\nhalt\n";
+const ADDS_TWICE: &[u8] = b"li r1 1\nli r2 1\nfaa r3 r0 r2\nfaa r4 r1 r2\nhalt\n";
 
 /// A fetch-and-add to cell 0 of a number that is one more than that of the processing element.
-pub(crate) const ADDS_NUMBER: &str = "pid r2\naddi r2 r2 1\nfaa r3 r0 r2\nhalt\n";
+pub(crate) const ADDS_NUMBER: &[u8] = b"pid r2\naddi r2 r2 1\nfaa r3 r0 r2\nhalt\n";
 
 /// Runs of machines of one stage, with fetch-and-adds alone.
 pub(crate) static ONE_STAGE: [Example; 9] = [
@@ -39,14 +39,14 @@ pub(crate) static ONE_STAGE: [Example; 9] = [
     },
     Example {
         settings: "stages = 1\ninitial = [[0, 1]]",
-        program: "li r1 0\nli r2 4294967295\nfaa r3 r1 r2\nhalt\n",
+        program: b"li r1 0\nli r2 4294967295\nfaa r3 r1 r2\nhalt\n",
         trace: traces::WRAPAROUND,
         order: orders::WRAPAROUND,
         explanation: explanations::WRAPAROUND,
     },
     Example {
         settings: "stages = 1\nwait_places = 1",
-        program: "li r1 2\nli r2 1\nfaa r3 r0 r2\nfaa r4 r1 r2\nhalt\n",
+        program: b"li r1 2\nli r2 1\nfaa r3 r0 r2\nfaa r4 r1 r2\nhalt\n",
         trace: traces::WAIT_BUFFER_FULL,
         order: orders::WAIT_BUFFER_FULL,
         explanation: explanations::WAIT_BUFFER_FULL,
@@ -60,14 +60,14 @@ pub(crate) static ONE_STAGE: [Example; 9] = [
     },
     Example {
         settings: "stages = 1",
-        program: "halt\n",
+        program: b"halt\n",
         trace: traces::HALT,
         order: orders::HALT,
         explanation: explanations::HALT,
     },
     Example {
         settings: "stages = 1",
-        program: "",
+        program: b"",
         trace: traces::EMPTY,
         order: orders::EMPTY,
         explanation: explanations::EMPTY,
@@ -92,49 +92,49 @@ pub(crate) static ONE_STAGE: [Example; 9] = [
 pub(crate) static ALL_OPERATIONS: [Example; 7] = [
     Example {
         settings: "stages = 1\ninitial = [[0, 5]]",
-        program: "li r2 7\npid r1\njnz r1 w\nld r3 r0\nhalt\nw:\nst r0 r2\nhalt\n",
+        program: b"li r2 7\npid r1\njnz r1 w\nld r3 r0\nhalt\nw:\nst r0 r2\nhalt\n",
         trace: traces::LOAD_THEN_STORE,
         order: orders::LOAD_THEN_STORE,
         explanation: explanations::LOAD_THEN_STORE,
     },
     Example {
         settings: "stages = 1",
-        program: "li r2 3\nli r4 10\npid r1\njnz r1 w\nfaa r3 r0 r2\nhalt\nw:\nst r0 r4\nhalt\n",
+        program: b"li r2 3\nli r4 10\npid r1\njnz r1 w\nfaa r3 r0 r2\nhalt\nw:\nst r0 r4\nhalt\n",
         trace: traces::STORE_THEN_FAA,
         order: orders::STORE_THEN_FAA,
         explanation: explanations::STORE_THEN_FAA,
     },
     Example {
         settings: "stages = 1",
-        program: "pid r1\njnz r1 end\nli r2 1\nfaa r3 r0 r2\nfaa r4 r0 r2\nend:\nhalt\n",
+        program: b"pid r1\njnz r1 end\nli r2 1\nfaa r3 r0 r2\nfaa r4 r0 r2\nend:\nhalt\n",
         trace: traces::OPEN_CELL_STALL,
         order: orders::OPEN_CELL_STALL,
         explanation: explanations::OPEN_CELL_STALL,
     },
     Example {
         settings: "stages = 1\ncells = 1",
-        program: "pid r1\nadd r1 r1 r1\nli r2 1\nfaa r3 r1 r2\nhalt\n",
+        program: b"pid r1\nadd r1 r1 r1\nli r2 1\nfaa r3 r1 r2\nhalt\n",
         trace: traces::ADDRESS_FAULT,
         order: orders::ADDRESS_FAULT,
         explanation: explanations::ADDRESS_FAULT,
     },
     Example {
         settings: "stages = 1",
-        program: "li r2 3\nli r4 10\npid r1\njnz r1 w\nst r0 r4\nhalt\nw:\nfaa r3 r0 r2\nhalt\n",
+        program: b"li r2 3\nli r4 10\npid r1\njnz r1 w\nst r0 r4\nhalt\nw:\nfaa r3 r0 r2\nhalt\n",
         trace: traces::FAA_THEN_STORE,
         order: orders::FAA_THEN_STORE,
         explanation: explanations::FAA_THEN_STORE,
     },
     Example {
         settings: "stages = 1",
-        program: "pid r1\naddi r2 r1 7\nswap r3 r0 r2\nhalt\n",
+        program: b"pid r1\naddi r2 r1 7\nswap r3 r0 r2\nhalt\n",
         trace: traces::TWO_SWAPS,
         order: orders::TWO_SWAPS,
         explanation: explanations::TWO_SWAPS,
     },
     Example {
         settings: "stages = 1\ninitial = [[0, 5]]",
-        program: "li r2 3\nli r4 10\npid r1\njnz r1 w\nfaa r3 r0 r2\nhalt\nw:\nswap r3 r0 r4\nhalt\n",
+        program: b"li r2 3\nli r4 10\npid r1\njnz r1 w\nfaa r3 r0 r2\nhalt\nw:\nswap r3 r0 r4\nhalt\n",
         trace: traces::SWAP_THEN_FAA,
         order: orders::SWAP_THEN_FAA,
         explanation: explanations::SWAP_THEN_FAA,
@@ -166,21 +166,21 @@ pub(crate) static TWO_STAGES: [Example; 6] = [
     },
     Example {
         settings: "stages = 2",
-        program: "pid r1\naddi r5 r1 1\njz r1 a\nld r6 r5\na:\nfaa r7 r3 r5\nhalt\n",
+        program: b"pid r1\naddi r5 r1 1\njz r1 a\nld r6 r5\na:\nfaa r7 r3 r5\nhalt\n",
         trace: two_stage_traces::MARKED_ONCE,
         order: orders::MARKED_ONCE,
         explanation: explanations::MARKED_ONCE,
     },
     Example {
         settings: "stages = 2",
-        program: "pid r1\nld r13 r1\nld r8 r0\nhalt\n",
+        program: b"pid r1\nld r13 r1\nld r8 r0\nhalt\n",
         trace: two_stage_traces::IDENTITY_NOT_CELL,
         order: orders::IDENTITY_NOT_CELL,
         explanation: explanations::IDENTITY_NOT_CELL,
     },
     Example {
         settings: "stages = 2\nrequest_places = 5\nwait_places = 1\nopen = 3",
-        program: "li r5 5\nli r8 25\nst r7 r6\nfaa r13 r8 r8\nst r5 r6\nhalt\n",
+        program: b"li r5 5\nli r8 25\nst r7 r6\nfaa r13 r8 r8\nst r5 r6\nhalt\n",
         trace: two_stage_traces::FRONTMOST,
         order: orders::FRONTMOST,
         explanation: explanations::FRONTMOST,

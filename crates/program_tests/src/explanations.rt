@@ -1,12 +1,10 @@
 //! The explanations of the examples, and what small heaps and refused memory do.
 
+use crate::calls::{call_within, check_command, check_usage_fault};
 use crate::examples::ADDS_ONE;
-use crate::programs::{check_command, check_usage_fault};
-use crate::shelf::Shelf;
-use crate::tray::Tray;
+use crate::host::Host;
+use crate::tray::Limits;
 use std::test::Fail;
-use ultra_cli::main_with;
-use ultra_io::Account;
 
 pub(crate) const COMBINED_PAIR: &str = "cycle 5 module 0 cell 0 [s0x0 1.0 < 0.0]\n";
 
@@ -109,7 +107,7 @@ cycle 7 module 0 cell 0 [s2x0 [s1x4 [s0x2 5.0 < 1.0] < [s0x6 7.0 < 3.0]] < [s1x0
 ";
 
 /// Processing element 0 adds 1 to cell 1, and when that is done all add 1 to cell 0.
-const ONE_THEN_ALL: &str = "\
+const ONE_THEN_ALL: &[u8] = b"\
 li r2 1
 pid r1
 jnz r1 all
@@ -124,45 +122,64 @@ faa r3 r0 r2
 halt
 ";
 
+/// What standard error says of a heap that is full.
+const FULL: &str = "ultra: heap full\n";
+
+/// Runs that are explained with a heap of so many bytes: settings, program, bytes, and what the command
+/// does.
+static HEAPS: [(&str, &[u8], &str, (u8, &str, &str)); 3] = [
+    ("stages = 3", ADDS_ONE, "4096", (0, THREE_LEVELS, "")),
+    ("stages = 6", ADDS_ONE, "256", (4, "", FULL)),
+    (
+        "stages = 2\nopen = 1",
+        ONE_THEN_ALL,
+        "448",
+        (4, "cycle 7 module 1 cell 1 0.0\n", FULL),
+    ),
+];
+
+/// Asserts what the explanation of a run does, with a heap of so many bytes.
+fn check_heap<R: Host>(
+    rt: &R,
+    settings: &str,
+    program: &[u8],
+    bytes: &str,
+    wanted: (u8, &str, &str),
+) -> Result<(), Fail> {
+    let words = with_heap(bytes);
+    check_command(rt, &words, settings.as_bytes(), program, wanted)
+}
+
 /// A heap has room for the trees, or is full: from the start, or after some lines.
 #[test]
 fn heaps_hold_the_trees_or_are_full(rt: HostRuntime) -> Result<(), Fail> {
-    let full = "ultra: heap full\n";
-    let one_act = "cycle 7 module 1 cell 1 0.0\n";
-    for (settings, program, bytes, wanted) in [
-        ("stages = 3", ADDS_ONE, "4096", (0, THREE_LEVELS, "")),
-        ("stages = 6", ADDS_ONE, "256", (4, "", full)),
-        (
-            "stages = 2\nopen = 1",
-            ONE_THEN_ALL,
-            "448",
-            (4, one_act, full),
-        ),
-    ] {
-        let words = with_heap(bytes);
-        check_command(&rt, &words, settings.as_bytes(), program.as_bytes(), wanted)?;
+    for (settings, program, bytes, wanted) in &HEAPS {
+        check_heap(&rt, settings, program, bytes, *wanted)?;
     }
+    Ok(())
+}
+
+#[test]
+fn sizes_of_heaps_have_limits(rt: HostRuntime) -> Result<(), Fail> {
     check_usage_fault(&rt, &with_heap("255"), "'--heap <BYTES>'")?;
     check_usage_fault(&rt, &with_heap("16777217"), "'--heap <BYTES>'")
 }
 
+/// Settings of three stages, and a program.
+static THREE_STAGES: [(&str, &[u8]); 2] = [("c.toml", b"stages = 3"), ("p.s", ADDS_ONE)];
+
 /// With each allocation refused in turn, an explanation is refused after a prefix of its text, or whole.
 #[test]
 fn an_explanation_is_refused_or_whole(rt: HostRuntime) -> Result<(), Fail> {
-    let files: [(&str, &[u8]); 2] = [("c.toml", b"stages = 3"), ("p.s", ADDS_ONE.as_bytes())];
-    let mut shelf = Shelf {
-        files: &files,
-        account: Account::Opened,
-    };
-    let mut out = Tray::with_room(rt.alloc())?;
-    let mut err = Tray::with_room(rt.alloc())?;
-    let status = main_with(&rt, &with_heap("4096"), &mut shelf, &mut out, &mut err);
-    if err.text()? == "ultra: no memory\n" {
-        assert!(rt; THREE_LEVELS.as_bytes().starts_with(out.bytes.as_slice()));
-        assert_eq!(rt; status, 4);
+    let words = with_heap("4096");
+    let no_limits = Limits::none();
+    let ended = call_within(&rt, &words, &THREE_STAGES, no_limits, no_limits)?;
+    if ended.err.as_str() == "ultra: no memory\n" {
+        assert!(rt; THREE_LEVELS.starts_with(ended.out.as_str()));
+        assert_eq!(rt; ended.status, 4);
         return Err("no memory".into());
     }
-    assert_eq!(rt; out.text()?, THREE_LEVELS);
-    assert_eq!(rt; status, 0);
+    assert_eq!(rt; ended.out.as_str(), THREE_LEVELS);
+    assert_eq!(rt; ended.status, 0);
     Ok(())
 }

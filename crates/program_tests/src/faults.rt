@@ -1,56 +1,16 @@
 //! Each write and each read fails in turn.
 
-ghost use Rattle.std.specs.Prelude.{◌<◌};
 ghost use Rattle.ultra_io.specs.Account.{files_in, failures_in};
 
+use crate::calls::{Ended, call_over, call_within, is_refusal};
 use crate::examples::ADDS_ONE;
 use crate::host::Host;
 use crate::shelf::Shelf;
-use crate::tray::Tray;
-use std::alloc::{AllocError, Global};
-use std::str;
+use crate::tray::Limits;
+use std::alloc::Global;
+use std::process::Abort;
 use std::test::Fail;
-use ultra_cli::main_with;
 use ultra_io::{Account, Source, SourceFault};
-use ultra_msg::{Sink, SinkFault};
-
-/// A sink that takes one byte a write. After `sound_writes` writes it fails once, and would then take
-/// more.
-#[derive(Drop)]
-struct Dropper {
-    bytes: Vec<u8>,
-    failures: Account,
-    sound_writes: usize,
-}
-
-impl Dropper {
-    fn new(alloc: Global, sound_writes: usize) -> Result<Dropper, AllocError> {
-        let mut bytes = Vec::new(alloc);
-        bytes.reserve(8192)?;
-        Ok(Dropper {
-            bytes,
-            failures: Account::Opened,
-            sound_writes,
-        })
-    }
-}
-
-impl Sink for Dropper {
-    ghost taken = { λ d. d.bytes.items };
-
-    ghost failures = { λ d. failures_in d.failures };
-
-    fn write(&mut self, bytes: &[u8]) -> Result<usize, SinkFault> {
-        let count = bytes.len().min(1);
-        if self.sound_writes == 0 || self.bytes.extend_from_slice(&bytes[..count]).is_err() {
-            self.sound_writes = usize::MAX;
-            self.failures.note_failure();
-            return Err(SinkFault);
-        }
-        self.sound_writes -= 1;
-        Ok(count)
-    }
-}
 
 /// Files in memory, where one read fails: the one after `sound_reads` reads.
 #[derive(Drop)]
@@ -80,7 +40,7 @@ impl Source for FaultyShelf<'_> {
 }
 
 /// Two jobs, of two files each.
-const JOBS: &str = "\
+const JOBS: &[u8] = b"\
 [[job]]
 conf = \"c.toml\"
 prog = \"p.s\"
@@ -89,15 +49,14 @@ conf = \"d.toml\"
 prog = \"q.s\"
 ";
 
-fn files() -> [(&'static str, &'static [u8]); 5] {
-    [
-        ("c.toml", b"stages = 1"),
-        ("p.s", ADDS_ONE.as_bytes()),
-        ("jobs.toml", JOBS.as_bytes()),
-        ("d.toml", b"stages = 1\ncycles = 2"),
-        ("q.s", b"halt\n"),
-    ]
-}
+/// The files that the commands read.
+static FILES: [(&str, &[u8]); 5] = [
+    ("c.toml", b"stages = 1"),
+    ("p.s", ADDS_ONE),
+    ("jobs.toml", JOBS),
+    ("d.toml", b"stages = 1\ncycles = 2"),
+    ("q.s", b"halt\n"),
+];
 
 /// The words of each command, with the paths that it reads, in their order.
 static COMMANDS: [(&[&str], &[&str]); 7] = [
@@ -123,58 +82,69 @@ const SWEEP: [&str; 7] = [
     "2",
 ];
 
-/// Calls the program over the files, and gives its status. Where memory or a thread was refused,
-/// that is the error here.
-fn status_of<'w, R: Host, O: Sink, E: Sink>(
-    rt: &R,
-    words: &'w [&'w str],
-    out: &mut O,
-    err: &mut E,
-) -> Result<u8, Fail> {
-    let files = files();
-    let mut shelf = Shelf {
-        files: &files,
-        account: Account::Opened,
-    };
-    let status = main_with(rt, words, &mut shelf, out, err);
-    if status == 4 {
+/// Calls the program over the files, with streams of these limits. Where memory or a thread was
+/// refused, that is the error here.
+fn call<R: Host>(rt: &R, words: &[&str], out: Limits, err: Limits) -> Result<Ended, Fail> {
+    let ended = call_within(rt, words, &FILES, out, err)?;
+    if ended.status == 4 {
         return Err("no memory".into());
     }
-    Ok(status)
+    Ok(ended)
 }
 
 /// What the words write to standard output.
-fn text_of<'w, R: Host>(rt: &R, words: &'w [&'w str]) -> Result<Tray, Fail> {
-    let mut out = Tray::with_room(rt.alloc())?;
-    let mut err = Tray::with_room(rt.alloc())?;
-    assert_eq!(rt; status_of(rt, words, &mut out, &mut err)?, 0);
-    assert!(rt; err.bytes.is_empty());
+fn text_of<R: Host>(rt: &R, words: &[&str]) -> Result<String, Fail> {
+    let Ended { status, out, err } = call(rt, words, Limits::none(), Limits::none())?;
+    assert_eq!(rt; status, 0, "{words:?}");
+    assert!(rt; err.is_empty());
     Ok(out)
 }
 
-/// Asserts that each write of a text may be the one that fails: what stands before it was written,
-/// and nothing is written after it.
-fn check_writes<'w, R: Host>(rt: &R, words: &'w [&'w str]) -> Result<(), Fail> {
-    let text = text_of(rt, words)?;
-    for count in 0..text.bytes.len() {
-        let mut out = Dropper::new(rt.alloc(), count)?;
-        let mut err = Tray::with_room(rt.alloc())?;
-        let status = status_of(rt, words, &mut out, &mut err)?;
-        assert_eq!(rt; status, 5, "{words:?} {count}");
-        assert_eq!(rt; err.text()?, "ultra: write failed\n");
-        assert_eq!(rt; out.bytes.len(), count, "{words:?}");
-        assert!(rt; text.bytes.as_slice().starts_with(out.bytes.as_slice()));
-    }
-    let mut out = Dropper::new(rt.alloc(), text.bytes.len())?;
-    let mut err = Tray::with_room(rt.alloc())?;
-    assert_eq!(rt; status_of(rt, words, &mut out, &mut err)?, 0);
-    assert_eq!(rt; str::from_utf8(out.bytes.as_slice())?, text.text()?);
+/// What the words write to standard error, where they aren't done and have this status.
+fn fault_of<R: Host>(rt: &R, words: &[&str], wanted: u8) -> Result<String, Fail> {
+    let Ended { status, out, err } = call(rt, words, Limits::none(), Limits::none())?;
+    assert_eq!(rt; status, wanted, "{words:?}");
+    assert!(rt; out.is_empty());
+    Ok(err)
+}
+
+/// Asserts that a sink took the first `count` bytes of a text.
+fn check_cut<R: Abort>(rt: &R, taken: &str, text: &str, count: usize) {
+    assert_eq!(rt; taken.len(), count);
+    assert!(rt; text.starts_with(taken), "{count}");
+}
+
+/// Asserts that the write after the first `count` writes of a text may be the one that fails: what
+/// stands before it was written, and nothing is written after it.
+fn check_write<R: Host>(rt: &R, words: &[&str], text: &str, count: usize) -> Result<(), Fail> {
+    let ended = call(rt, words, Limits::failing_once_after(count), Limits::none())?;
+    assert_eq!(rt; ended.status, 5, "{words:?} {count}");
+    assert_eq!(rt; ended.err.as_str(), "ultra: write failed\n");
+    check_cut(rt, ended.out.as_str(), text, count);
     Ok(())
+}
+
+/// Asserts that words write this whole text, a byte at a time, where no write fails.
+fn check_whole<R: Host>(rt: &R, words: &[&str], text: &str) -> Result<(), Fail> {
+    let out = Limits::failing_once_after(text.len());
+    let ended = call(rt, words, out, Limits::none())?;
+    assert_eq!(rt; ended.status, 0, "{words:?}");
+    assert_eq!(rt; ended.out.as_str(), text);
+    Ok(())
+}
+
+/// Asserts that each write of a text may be the one that fails.
+fn check_writes<R: Host>(rt: &R, words: &[&str]) -> Result<(), Fail> {
+    let text = text_of(rt, words)?;
+    for count in 0..text.len() {
+        check_write(rt, words, text.as_str(), count)?;
+    }
+    check_whole(rt, words, text.as_str())
 }
 
 #[test]
 fn each_write_fails_in_turn(rt: HostRuntime) -> Result<(), Fail> {
-    for (words, _) in COMMANDS {
+    for (words, _) in &COMMANDS {
         check_writes(&rt, words)?;
     }
     Ok(())
@@ -187,53 +157,96 @@ fn each_write_of_a_help_text_fails_in_turn(rt: HostRuntime) -> Result<(), Fail> 
     check_writes(&rt, &["ultra", "--version"])
 }
 
+/// Asserts that the write to standard error after the first `count` writes may be the one that fails:
+/// the status is the same, and nothing is written after it, nor to standard output.
+fn check_fault<R: Host>(
+    rt: &R,
+    words: &[&str],
+    wanted: u8,
+    (text, count): (&str, usize),
+) -> Result<(), Fail> {
+    let ended = call(rt, words, Limits::none(), Limits::failing_once_after(count))?;
+    assert_eq!(rt; ended.status, wanted, "{words:?} {count}");
+    check_cut(rt, ended.err.as_str(), text, count);
+    assert!(rt; ended.out.is_empty());
+    Ok(())
+}
+
+/// Words that aren't done, with their status.
+static FAULTS: [(&[&str], u8); 3] = [
+    (&["ultra", "run", "c.toml"], 2),
+    (&["ultra", "run", "p.s", "c.toml"], 3),
+    (&["ultra", "order", "c.toml", "no-such-file"], 3),
+];
+
 /// Standard error that fails changes no status, and gets nothing more.
 #[test]
 fn each_write_to_standard_error_fails_in_turn(rt: HostRuntime) -> Result<(), Fail> {
-    let rows: [(&[&str], u8); 3] = [
-        (&["ultra", "run", "c.toml"], 2),
-        (&["ultra", "run", "p.s", "c.toml"], 3),
-        (&["ultra", "order", "c.toml", "no-such-file"], 3),
-    ];
-    for (words, wanted) in rows {
-        let mut out = Tray::with_room(rt.alloc())?;
-        let mut text = Tray::with_room(rt.alloc())?;
-        assert_eq!(rt; status_of(&rt, words, &mut out, &mut text)?, wanted);
-        for count in 0..text.bytes.len() {
-            let mut err = Dropper::new(rt.alloc(), count)?;
-            let status = status_of(&rt, words, &mut out, &mut err)?;
-            assert_eq!(rt; status, wanted, "{words:?} {count}");
-            assert_eq!(rt; err.bytes.len(), count, "{words:?}");
-            assert!(rt; text.bytes.as_slice().starts_with(err.bytes.as_slice()));
+    for (words, status) in &FAULTS {
+        let text = fault_of(&rt, words, *status)?;
+        for count in 0..text.len() {
+            check_fault(&rt, words, *status, (text.as_str(), count))?;
         }
-        assert!(rt; out.bytes.is_empty());
     }
+    Ok(())
+}
+
+/// Asserts that the status is that of standard output, where both streams fail at their first write.
+fn check_both_fail<R: Host>(rt: &R, words: &[&str]) -> Result<(), Fail> {
+    let failing = Limits::failing_once_after(0);
+    let ended = call(rt, words, failing, failing)?;
+    assert_eq!(rt; ended.status, 5, "{words:?}");
+    assert!(rt; ended.out.is_empty() && ended.err.is_empty(), "{words:?}");
+    Ok(())
+}
+
+/// A sweep that shows its progress.
+static SHOWN_SWEEP: [&str; 6] = [
+    "ultra",
+    "sweep",
+    "jobs.toml",
+    "--progress",
+    "--workers=2",
+    "--at-once=2",
+];
+
+/// Asserts that a sweep is done whose lines of progress fail after `count` writes.
+fn check_progress_fails<R: Host>(rt: &R, report: &str, count: usize) -> Result<(), Fail> {
+    let err = Limits::failing_once_after(count);
+    let ended = call(rt, &SHOWN_SWEEP, Limits::none(), err)?;
+    assert_eq!(rt; ended.status, 0, "{count}");
+    assert_eq!(rt; ended.out.as_str(), report);
     Ok(())
 }
 
 /// Both streams fail at their first write, and so do the lines of progress.
 #[test]
 fn a_status_is_that_of_standard_output(rt: HostRuntime) -> Result<(), Fail> {
-    for (words, _) in COMMANDS {
-        let mut out = Dropper::new(rt.alloc(), 0)?;
-        let mut err = Dropper::new(rt.alloc(), 0)?;
-        assert_eq!(rt; status_of(&rt, words, &mut out, &mut err)?, 5);
-        assert!(rt; out.bytes.is_empty() && err.bytes.is_empty());
+    for (words, _) in &COMMANDS {
+        check_both_fail(&rt, words)?;
     }
-    let words = [
-        "ultra",
-        "sweep",
-        "jobs.toml",
-        "--progress",
-        "--workers=2",
-        "--at-once=2",
-    ];
     let report = text_of(&rt, &SWEEP)?;
     for count in 0..60 {
-        let mut out = Tray::with_room(rt.alloc())?;
-        let mut err = Dropper::new(rt.alloc(), count)?;
-        assert_eq!(rt; status_of(&rt, &words, &mut out, &mut err)?, 0);
-        assert_eq!(rt; out.text()?, report.text()?);
+        check_progress_fails(&rt, report.as_str(), count)?;
+    }
+    Ok(())
+}
+
+/// Asserts that words write the whole text, or a prefix of it and a line that says that memory or a
+/// thread was refused.
+fn check_refused_or_whole<'w, R: Host>(
+    rt: &R,
+    words: &'w [&'w str],
+    text: &str,
+) -> Result<(), Fail> {
+    let ended = call_within(rt, words, &FILES, Limits::none(), Limits::none())?;
+    assert!(rt; text.starts_with(ended.out.as_str()), "{words:?}");
+    if ended.err.is_empty() {
+        assert_eq!(rt; ended.status, 0, "{words:?}");
+        assert_eq!(rt; ended.out.len(), text.len(), "{words:?}");
+    } else {
+        assert_eq!(rt; ended.status, 4, "{words:?}");
+        assert!(rt; is_refusal(ended.err.as_str()), "{words:?}: {}", ended.err);
     }
     Ok(())
 }
@@ -242,69 +255,76 @@ fn a_status_is_that_of_standard_output(rt: HostRuntime) -> Result<(), Fail> {
 /// prefix of it and a line that says what was refused.
 #[test]
 fn a_command_is_refused_or_whole(rt: HostRuntime) -> Result<(), Fail> {
-    for (words, _) in COMMANDS {
+    for (words, _) in &COMMANDS {
         let text = text_of(&rt, words)?;
-        let files = files();
-        let mut shelf = Shelf {
-            files: &files,
-            account: Account::Opened,
-        };
-        let mut out = Tray::with_room(rt.alloc())?;
-        let mut err = Tray::with_room(rt.alloc())?;
-        let status = main_with(&rt, words, &mut shelf, &mut out, &mut err);
-        assert!(rt; text.text()?.starts_with(out.text()?), "{words:?}");
-        match err.text()? {
-            "" => {
-                assert_eq!(rt; status, 0, "{words:?}");
-                assert_eq!(rt; out.bytes.len(), text.bytes.len(), "{words:?}");
-            }
-            line => {
-                assert_eq!(rt; status, 4, "{words:?}");
-                let is_stated = line == "ultra: no memory\n" || line == "ultra: no thread\n";
-                assert!(rt; is_stated, "{words:?}: {line}");
-            }
-        }
+        check_refused_or_whole(&rt, words, text.as_str())?;
     }
     Ok(())
 }
 
-/// Asserts what a command does whose read after `sound_reads` reads fails.
-fn check_read<'w, R: Host>(
+/// Calls the program, whose read after `sound_reads` reads fails. It writes nothing to standard
+/// output.
+fn call_faulty<'w, R: Host>(
     rt: &R,
     words: &'w [&'w str],
-    (sound_reads, wants_memory): (usize, bool),
-    wanted: (u8, &str),
-) -> Result<(), Fail> {
-    let files = files();
-    let shelf = Shelf {
-        files: &files,
-        account: Account::Opened,
-    };
+    sound_reads: usize,
+    wants_memory: bool,
+) -> Result<Ended, Fail> {
     let mut source = FaultyShelf {
-        shelf,
+        shelf: Shelf {
+            files: &FILES,
+            account: Account::Opened,
+        },
         sound_reads,
         wants_memory,
     };
-    let mut out = Tray::with_room(rt.alloc())?;
-    let mut err = Tray::with_room(rt.alloc())?;
-    let status = main_with(rt, words, &mut source, &mut out, &mut err);
-    assert!(rt; out.bytes.is_empty(), "{words:?}");
-    if status == 4 && wanted.0 != 4 {
+    let ended = call_over(rt, words, &mut source, Limits::none(), Limits::none())?;
+    assert!(rt; ended.out.is_empty(), "{words:?}");
+    Ok(ended)
+}
+
+/// Asserts what a command does that can't read a file, after `sound_reads` reads: it reports this line.
+fn check_unread<'w, R: Host>(
+    rt: &R,
+    words: &'w [&'w str],
+    sound_reads: usize,
+    line: &str,
+) -> Result<(), Fail> {
+    let ended = call_faulty(rt, words, sound_reads, false)?;
+    if ended.status == 4 {
         return Err("no memory".into());
     }
-    assert_eq!(rt; err.text()?, wanted.1);
-    assert_eq!(rt; status, wanted.0, "{words:?}");
+    assert_eq!(rt; ended.err.as_str(), line);
+    assert_eq!(rt; ended.status, 3, "{words:?}");
+    Ok(())
+}
+
+/// Asserts what a command does to which the memory for a file is refused, after `sound_reads` reads.
+fn check_no_memory<'w, R: Host>(
+    rt: &R,
+    words: &'w [&'w str],
+    sound_reads: usize,
+) -> Result<(), Fail> {
+    let ended = call_faulty(rt, words, sound_reads, true)?;
+    assert_eq!(rt; ended.err.as_str(), "ultra: no memory\n");
+    assert_eq!(rt; ended.status, 4, "{words:?}");
+    Ok(())
+}
+
+/// Asserts what a command does that reads these files, where each read fails in turn.
+fn check_reads<'w, R: Host>(rt: &R, words: &'w [&'w str], paths: &[&str]) -> Result<(), Fail> {
+    for (index, path) in paths.iter().enumerate() {
+        let line = format!(in rt.alloc(); "ultra: cannot read {path}\n")?;
+        check_unread(rt, words, index, line.as_str())?;
+        check_no_memory(rt, words, index)?;
+    }
     Ok(())
 }
 
 #[test]
 fn each_read_fails_in_turn(rt: HostRuntime) -> Result<(), Fail> {
-    for (words, paths) in COMMANDS {
-        for (index, path) in paths.iter().enumerate() {
-            let line = format!(in rt.alloc(); "ultra: cannot read {path}\n")?;
-            check_read(&rt, words, (index, false), (3, line.as_str()))?;
-            check_read(&rt, words, (index, true), (4, "ultra: no memory\n"))?;
-        }
+    for (words, paths) in &COMMANDS {
+        check_reads(&rt, words, paths)?;
     }
     Ok(())
 }

@@ -1,11 +1,9 @@
 //! The texts of the coordination programs, as `ultra lib` writes them.
 
+use crate::calls::{Ended, call, call_into};
 use crate::host::Host;
-use crate::shelf::Shelf;
-use crate::tray::Tray;
+use crate::tray::Limits;
 use std::test::Fail;
-use ultra_cli::main_with;
-use ultra_io::Account;
 
 /// What `ultra lib barrier 1` writes.
 const BARRIER: &str = "\
@@ -48,136 +46,106 @@ cell 10 1
 cell 11 1
 pe 0 ";
 
-/// Calls the program with these words over these files. Gives the status, and what was written to
-/// standard output and standard error. Where memory was refused, that is the error here.
-fn call<R: Host>(
-    rt: &R,
-    words: &[&str],
-    files: &[(&str, &[u8])],
-    mut out: Tray,
-) -> Result<(u8, Tray, Tray), Fail> {
-    let mut shelf = Shelf {
-        files,
-        account: Account::Opened,
-    };
-    let mut err = Tray::with_room(rt.alloc())?;
-    let status = main_with(rt, words, &mut shelf, &mut out, &mut err);
-    err.check_no_refusal()?;
-    Ok((status, out, err))
-}
-
-/// The words of `ultra lib` with these words after it.
-fn lib_words<'w, R: Host>(rt: &R, after: &[&'w str]) -> Result<Vec<&'w str>, Fail> {
-    let mut words = vec![in rt.alloc(); "ultra", "lib"]?;
-    words.extend_from_slice(after)?;
-    Ok(words)
-}
-
-/// Asserts what `ultra lib` with these words after it does: its status, and whether it writes
-/// anything; it gives what goes to standard error.
-fn check_lib<R: Host>(rt: &R, after: &[&str], wanted: u8) -> Result<Tray, Fail> {
-    let words = lib_words(rt, after)?;
-    let (status, out, err) = call(rt, words.as_slice(), &[], Tray::with_room(rt.alloc())?)?;
-    assert_eq!(rt; status, wanted, "{after:?}");
-    assert_eq!(rt; out.bytes.is_empty(), wanted != 0, "{after:?}");
-    Ok(err)
-}
+static LIB_BARRIER: [&str; 4] = ["ultra", "lib", "barrier", "1"];
 
 #[test]
 fn barrier_is_written_and_runs(rt: HostRuntime) -> Result<(), Fail> {
-    let words = ["ultra", "lib", "barrier", "1"];
-    let (status, out, err) = call(&rt, &words, &[], Tray::with_room(rt.alloc())?)?;
-    assert_eq!(rt; err.text()?, "");
-    assert_eq!(rt; out.text()?, BARRIER);
-    assert_eq!(rt; status, 0);
+    call(&rt, &LIB_BARRIER, &[])?.check(&rt, (0, BARRIER, ""));
     let files: [(&str, &[u8]); 2] = [("c.toml", b"stages = 1"), ("p.s", BARRIER.as_bytes())];
-    let words = ["ultra", "run", "c.toml", "p.s"];
-    let (status, out, _) = call(&rt, &words, &files, Tray::with_room(rt.alloc())?)?;
-    assert!(rt; out.text()?.contains(BARRIER_END));
-    assert_eq!(rt; status, 0);
+    let ended = call(&rt, &["ultra", "run", "c.toml", "p.s"], &files)?;
+    assert!(rt; ended.out.as_str().contains(BARRIER_END));
+    assert_eq!(rt; ended.status, 0);
     Ok(())
 }
 
+/// Asserts the status of words, and that they write to standard output where it is 0, and only there.
+/// Gives what goes to standard error.
+fn check_lib<'w, R: Host>(rt: &R, words: &'w [&'w str], wanted: u8) -> Result<String, Fail> {
+    let Ended { status, out, err } = call(rt, words, &[])?;
+    assert_eq!(rt; status, wanted, "{words:?}");
+    assert_eq!(rt; out.is_empty(), wanted != 0, "{words:?}");
+    Ok(err)
+}
+
+/// Parameters within their ranges.
+static WITHIN: [&[&str]; 8] = [
+    &["ultra", "lib", "gate", "1", "1"],
+    &["ultra", "lib", "gate", "64", "1000"],
+    &["ultra", "lib", "queue", "0", "1"],
+    &["ultra", "lib", "queue", "6", "1000"],
+    &["ultra", "lib", "rw", "1", "1"],
+    &["ultra", "lib", "rw", "0", "1000"],
+    &["ultra", "lib", "rw", "64", "1"],
+    &["ultra", "lib", "barrier", "0001000"],
+];
+
 #[test]
 fn parameters_within_their_ranges_are_taken(rt: HostRuntime) -> Result<(), Fail> {
-    let rows: [&[&str]; 8] = [
-        &["gate", "1", "1"],
-        &["gate", "64", "1000"],
-        &["queue", "0", "1"],
-        &["queue", "6", "1000"],
-        &["rw", "1", "1"],
-        &["rw", "0", "1000"],
-        &["rw", "64", "1"],
-        &["barrier", "0001000"],
-    ];
-    for words in rows {
+    for words in &WITHIN {
         let err = check_lib(&rt, words, 0)?;
-        assert!(rt; err.bytes.is_empty(), "{words:?}");
+        assert!(rt; err.is_empty(), "{words:?}");
     }
     Ok(())
 }
 
+/// Parameters out of their ranges.
+static OUT_OF_RANGE: [&[&str]; 10] = [
+    &["ultra", "lib", "gate", "65", "1"],
+    &["ultra", "lib", "gate", "0", "1"],
+    &["ultra", "lib", "gate", "1", "1001"],
+    &["ultra", "lib", "gate", "4294967295", "1"],
+    &["ultra", "lib", "queue", "7", "1"],
+    &["ultra", "lib", "queue", "6", "0"],
+    &["ultra", "lib", "rw", "65", "1"],
+    &["ultra", "lib", "rw", "0", "0"],
+    &["ultra", "lib", "barrier", "0"],
+    &["ultra", "lib", "barrier", "1001"],
+];
+
 #[test]
 fn parameters_out_of_their_ranges_are_refused(rt: HostRuntime) -> Result<(), Fail> {
-    let rows: [&[&str]; 10] = [
-        &["gate", "65", "1"],
-        &["gate", "0", "1"],
-        &["gate", "1", "1001"],
-        &["gate", "4294967295", "1"],
-        &["queue", "7", "1"],
-        &["queue", "6", "0"],
-        &["rw", "65", "1"],
-        &["rw", "0", "0"],
-        &["barrier", "0"],
-        &["barrier", "1001"],
-    ];
-    for words in rows {
+    for words in &OUT_OF_RANGE {
         let err = check_lib(&rt, words, 3)?;
-        assert_eq!(rt; err.text()?, "ultra: bad parameter\n");
+        assert_eq!(rt; err.as_str(), "ultra: bad parameter\n", "{words:?}");
     }
     Ok(())
 }
 
 /// Unknown names, wrong counts of numbers, and words that aren't decimal numbers below 2^32.
+static WRONG_WORDS: [&[&str]; 17] = [
+    &["ultra", "lib"],
+    &["ultra", "lib", "ring", "1", "1"],
+    &["ultra", "lib", "Gate", "1", "1"],
+    &["ultra", "lib", "gate"],
+    &["ultra", "lib", "gate", "1"],
+    &["ultra", "lib", "gate", "1", "1", "1"],
+    &["ultra", "lib", "rw", "1"],
+    &["ultra", "lib", "queue", "1"],
+    &["ultra", "lib", "barrier"],
+    &["ultra", "lib", "barrier", "1", "1"],
+    &["ultra", "lib", "barrier", "+1"],
+    &["ultra", "lib", "barrier", "-1"],
+    &["ultra", "lib", "barrier", "0x1"],
+    &["ultra", "lib", "barrier", "1.0"],
+    &["ultra", "lib", "barrier", " 1"],
+    &["ultra", "lib", "barrier", ""],
+    &["ultra", "lib", "barrier", "4294967296"],
+];
+
 #[test]
 fn wrong_words_are_usage_faults(rt: HostRuntime) -> Result<(), Fail> {
-    let rows: [&[&str]; 17] = [
-        &[],
-        &["ring", "1", "1"],
-        &["Gate", "1", "1"],
-        &["gate"],
-        &["gate", "1"],
-        &["gate", "1", "1", "1"],
-        &["rw", "1"],
-        &["queue", "1"],
-        &["barrier"],
-        &["barrier", "1", "1"],
-        &["barrier", "+1"],
-        &["barrier", "-1"],
-        &["barrier", "0x1"],
-        &["barrier", "1.0"],
-        &["barrier", " 1"],
-        &["barrier", ""],
-        &["barrier", "4294967296"],
-    ];
-    for words in rows {
+    for words in &WRONG_WORDS {
         let err = check_lib(&rt, words, 2)?;
-        assert!(rt; err.text()?.starts_with("error: "), "{words:?}");
+        assert!(rt; err.as_str().starts_with("error: "), "{words:?}");
     }
     Ok(())
 }
 
 #[test]
 fn a_prefix_is_written_where_standard_output_fails(rt: HostRuntime) -> Result<(), Fail> {
-    let out = Tray {
-        bytes: Vec::new(rt.alloc()),
-        failures: Account::Opened,
-        most: 4,
-        sound_writes: 2,
-    };
-    let (status, out, err) = call(&rt, &["ultra", "lib", "barrier", "1"], &[], out)?;
-    assert!(rt; BARRIER.starts_with(out.text()?));
-    assert_eq!(rt; err.text()?, "ultra: write failed\n");
-    assert_eq!(rt; status, 5);
+    let ended = call_into(&rt, &LIB_BARRIER, &[], Limits::failing_after(4, 2))?;
+    assert!(rt; BARRIER.starts_with(ended.out.as_str()));
+    assert_eq!(rt; ended.err.as_str(), "ultra: write failed\n");
+    assert_eq!(rt; ended.status, 5);
     Ok(())
 }

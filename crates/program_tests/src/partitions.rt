@@ -2,8 +2,9 @@
 
 use crate::examples::ADDS_NUMBER;
 use crate::host::Host;
-use crate::tray::Tray;
+use crate::tray::{Limits, Tray};
 use crate::two_stage_traces;
+use std::str;
 use std::sync::Wait;
 use std::test::Fail;
 use ultra_asm::assemble;
@@ -41,11 +42,12 @@ fn make_and_write_ten<R: Host>(
 /// have that trace's lines.
 fn check_lines<R: Host>(rt: &R, partition: &[u8], workers: Workers) -> Result<(), Fail> {
     let config = settings_from(rt.alloc(), b"stages = 2")?;
-    let program = assemble(rt.alloc(), ADDS_NUMBER)?;
+    let program = assemble(rt.alloc(), str::from_utf8(ADDS_NUMBER)?)?;
     let blocks = Blocks::new(rt.alloc(), &config, &program, partition)?;
-    let mut out = Tray::with_room(rt.alloc())?;
+    let mut out = Tray::new(rt.alloc(), Limits::none())?;
     make_and_write_ten(rt, blocks, workers, &mut out)?;
-    let trace = format!(in rt.alloc(); "ultra trace 2\n{}end quiet\n", out.text()?)?;
+    let cycles = out.into_text()?;
+    let trace = format!(in rt.alloc(); "ultra trace 2\n{cycles}end quiet\n")?;
     assert!(rt;
         two_stage_traces::TWO_LEVEL_TREE.starts_with(trace.as_str()),
         "{trace}"

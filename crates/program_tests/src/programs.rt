@@ -1,66 +1,20 @@
 //! The program over files in memory.
 
+use crate::calls::{call, call_into, check_command, check_usage_fault};
 use crate::examples::{self, ADDS_NUMBER, ADDS_ONE, Example};
 use crate::host::Host;
-use crate::shelf::Shelf;
-use crate::tray::{ROOM, Tray};
+use crate::tray::Limits;
 use crate::two_stage_traces;
+use std::alloc::{AllocError, Global};
 use std::str;
 use std::test::Fail;
-use ultra_cli::main_with;
-use ultra_io::{Account, FileSource, Source, SourceFault};
+use ultra_io::{FileSource, Source, SourceFault};
 
-/// What a call of the program did.
-#[derive(Drop)]
-struct Ended {
-    status: u8,
-    out: Tray,
-    err: Tray,
-}
+static RUN: [&str; 4] = ["ultra", "run", "c.toml", "p.s"];
 
-/// Calls the program over files in memory. Where memory or a thread was refused, that is the error
-/// here.
-fn call<'t, R: Host>(
-    rt: &R,
-    words: &'t [&'t str],
-    files: &'t [(&'t str, &'t [u8])],
-) -> Result<Ended, Fail> {
-    let mut shelf = Shelf {
-        files,
-        account: Account::Opened,
-    };
-    let mut out = Tray::with_room(rt.alloc())?;
-    let mut err = Tray::with_room(rt.alloc())?;
-    let status = main_with(rt, words, &mut shelf, &mut out, &mut err);
-    err.check_no_refusal()?;
-    Ok(Ended { status, out, err })
-}
+static ORDER: [&str; 4] = ["ultra", "order", "c.toml", "p.s"];
 
-const RUN: [&str; 4] = ["ultra", "run", "c.toml", "p.s"];
-
-const ORDER: [&str; 4] = ["ultra", "order", "c.toml", "p.s"];
-
-const EXPLAIN: [&str; 4] = ["ultra", "explain", "c.toml", "p.s"];
-
-/// A run by three workers.
-const RUN_BY_THREE: [&str; 6] = ["ultra", "run", "c.toml", "p.s", "--workers", "3"];
-
-/// Asserts what a command does with settings and a program: its status, and what it writes to
-/// standard output and standard error.
-pub(crate) fn check_command<R: Host>(
-    rt: &R,
-    words: &[&str],
-    settings: &[u8],
-    program: &[u8],
-    wanted: (u8, &str, &str),
-) -> Result<(), Fail> {
-    let files = [("c.toml", settings), ("p.s", program)];
-    let ended = call(rt, words, &files)?;
-    assert_eq!(rt; ended.err.text()?, wanted.2);
-    assert_eq!(rt; ended.out.text()?, wanted.1);
-    assert_eq!(rt; ended.status, wanted.0);
-    Ok(())
-}
+static EXPLAIN: [&str; 4] = ["ultra", "explain", "c.toml", "p.s"];
 
 /// Asserts what `ultra run c.toml p.s` does with settings and a program.
 fn check_run<R: Host>(
@@ -72,11 +26,25 @@ fn check_run<R: Host>(
     check_command(rt, &RUN, settings, program, wanted)
 }
 
+/// Asserts that a command refuses each of these settings and programs, and which lines say why.
+fn check_refused<R: Host>(rt: &R, words: &[&str], rows: &[(&str, &str, &str)]) -> Result<(), Fail> {
+    for (settings, program, line) in rows {
+        check_command(
+            rt,
+            words,
+            settings.as_bytes(),
+            program.as_bytes(),
+            (3, "", line),
+        )?;
+    }
+    Ok(())
+}
+
 /// Asserts which traces, serial orders and explanations these runs have.
 fn check_examples<R: Host>(rt: &R, examples: &[Example]) -> Result<(), Fail> {
     for example in examples {
         let settings = example.settings.as_bytes();
-        let program = example.program.as_bytes();
+        let program = example.program;
         check_command(rt, &RUN, settings, program, (0, example.trace, ""))?;
         check_command(rt, &ORDER, settings, program, (0, example.order, ""))?;
         check_command(
@@ -108,13 +76,21 @@ fn traces_and_orders_of_two_stages_are_written(rt: HostRuntime) -> Result<(), Fa
 /// The trace is the same for every number of workers.
 #[test]
 fn traces_do_not_depend_on_workers(rt: HostRuntime) -> Result<(), Fail> {
-    let program = ADDS_NUMBER.as_bytes();
     for workers in ["1", "2", "3", "64"] {
         let words = ["ultra", "run", "c.toml", "p.s", "--workers", workers];
         let wanted = (0, two_stage_traces::TWO_LEVEL_TREE, "");
-        check_command(&rt, &words, b"stages = 2", program, wanted)?;
+        check_command(&rt, &words, b"stages = 2", ADDS_NUMBER, wanted)?;
     }
     Ok(())
+}
+
+/// The trace of `halt` on a machine of `size` processing elements.
+fn trace_of_halt(alloc: Global, size: u32) -> Result<String, AllocError> {
+    let mut trace = String::from_str(alloc, "ultra trace 2\ncycle 0\nend quiet\n")?;
+    for pe in 0..size {
+        trace.push_str(format!(in alloc; "pe {pe} halted 0\n")?.as_str())?;
+    }
+    Ok(trace)
 }
 
 /// A machine of any number of stages is quiet after one cycle of `halt`.
@@ -122,66 +98,64 @@ fn traces_do_not_depend_on_workers(rt: HostRuntime) -> Result<(), Fail> {
 fn all_numbers_of_stages_run(rt: HostRuntime) -> Result<(), Fail> {
     for (stages, size) in [(1, 2), (2, 4), (3, 8), (4, 16), (5, 32), (6, 64)] {
         let settings = format!(in rt.alloc(); "stages = {stages}")?;
-        let mut trace = String::from_str(rt.alloc(), "ultra trace 2\ncycle 0\nend quiet\n")?;
-        for pe in 0..size {
-            trace.push_str(format!(in rt.alloc(); "pe {pe} halted 0\n")?.as_str())?;
-        }
+        let trace = trace_of_halt(rt.alloc(), size)?;
         check_run(&rt, settings.as_bytes(), b"halt", (0, trace.as_str(), ""))?;
     }
     Ok(())
 }
 
+static LIST: [&str; 3] = ["ultra", "list", "p.s"];
+
 /// Asserts what `ultra list p.s` does with a program: its status, and what it writes to standard
 /// output and standard error.
 fn check_list<R: Host>(rt: &R, program: &[u8], wanted: (u8, &str, &str)) -> Result<(), Fail> {
-    let files = [("p.s", program)];
-    let ended = call(rt, &["ultra", "list", "p.s"], &files)?;
-    assert_eq!(rt; ended.err.text()?, wanted.2);
-    assert_eq!(rt; ended.out.text()?, wanted.1);
-    assert_eq!(rt; ended.status, wanted.0);
+    call(rt, &LIST, &[("p.s", program)])?.check(rt, wanted);
     Ok(())
 }
 
+/// Programs, with their listings.
+static LISTINGS: [(&str, &str); 5] = [
+    ("li r1 007 # seven", "li r1 7\n"),
+    ("x: jmp x", "L0:\njmp L0\n"),
+    ("jmp end\nend:", "jmp L1\nL1:\n"),
+    (
+        "pid r1\njnz r1 end\nli r2 1\nfaa r3 r0 r2\nfaa r4 r0 r2\nend:\nhalt\n",
+        "pid r1\njnz r1 L5\nli r2 1\nfaa r3 r0 r2\nfaa r4 r0 r2\nL5:\nhalt\n",
+    ),
+    ("", ""),
+];
+
 #[test]
 fn listings_are_written(rt: HostRuntime) -> Result<(), Fail> {
-    for (program, listing) in [
-        ("li r1 007 # seven", "li r1 7\n"),
-        ("x: jmp x", "L0:\njmp L0\n"),
-        ("jmp end\nend:", "jmp L1\nL1:\n"),
-        (
-            "pid r1\njnz r1 end\nli r2 1\nfaa r3 r0 r2\nfaa r4 r0 r2\nend:\nhalt\n",
-            "pid r1\njnz r1 L5\nli r2 1\nfaa r3 r0 r2\nfaa r4 r0 r2\nL5:\nhalt\n",
-        ),
-        ("", ""),
-    ] {
+    for (program, listing) in &LISTINGS {
         check_list(&rt, program.as_bytes(), (0, listing, ""))?;
     }
     Ok(())
 }
 
+/// Programs that can't be listed, with the lines that say why.
+static REFUSED_LISTINGS: [(&str, &str); 12] = [
+    ("x: x: halt", "ultra: p.s: line 1: unknown word\n"),
+    ("9x:", "ultra: p.s: line 1: unknown word\n"),
+    ("jmp q\nfoo", "ultra: p.s: line 1: unknown label\n"),
+    ("jmp q\nq: foo", "ultra: p.s: line 2: unknown word\n"),
+    ("jmp 5", "ultra: p.s: line 1: unknown label\n"),
+    ("li r00 1", "ultra: p.s: line 1: bad register\n"),
+    ("li r16 1", "ultra: p.s: line 1: bad register\n"),
+    ("jnz 5 a", "ultra: p.s: line 1: bad register\n"),
+    ("li r1 4294967296", "ultra: p.s: line 1: bad number\n"),
+    ("shr r1 r1 32", "ultra: p.s: line 1: bad number\n"),
+    ("add r1 r2", "ultra: p.s: line 1: wrong operands\n"),
+    ("a:\nhalt\na:\nhalt\n", "ultra: p.s: line 3: double label\n"),
+];
+
 #[test]
 fn listings_are_refused(rt: HostRuntime) -> Result<(), Fail> {
-    for (program, line) in [
-        ("x: x: halt", "ultra: p.s: line 1: unknown word\n"),
-        ("9x:", "ultra: p.s: line 1: unknown word\n"),
-        ("jmp q\nfoo", "ultra: p.s: line 1: unknown label\n"),
-        ("jmp q\nq: foo", "ultra: p.s: line 2: unknown word\n"),
-        ("jmp 5", "ultra: p.s: line 1: unknown label\n"),
-        ("li r00 1", "ultra: p.s: line 1: bad register\n"),
-        ("li r16 1", "ultra: p.s: line 1: bad register\n"),
-        ("jnz 5 a", "ultra: p.s: line 1: bad register\n"),
-        ("li r1 4294967296", "ultra: p.s: line 1: bad number\n"),
-        ("shr r1 r1 32", "ultra: p.s: line 1: bad number\n"),
-        ("add r1 r2", "ultra: p.s: line 1: wrong operands\n"),
-        ("a:\nhalt\na:\nhalt\n", "ultra: p.s: line 3: double label\n"),
-    ] {
+    for (program, line) in &REFUSED_LISTINGS {
         check_list(&rt, program.as_bytes(), (3, "", line))?;
     }
-    let ended = call(&rt, &["ultra", "list", "p.s"], &[])?;
-    assert_eq!(rt; ended.err.text()?, "ultra: cannot read p.s\n");
-    assert_eq!(rt; ended.status, 3);
-    let not_utf8 = [b';', 0xff];
-    check_list(&rt, &not_utf8, (3, "", "ultra: p.s: not utf-8\n"))
+    call(&rt, &LIST, &[])?.check(&rt, (3, "", "ultra: cannot read p.s\n"));
+    check_list(&rt, &[b';', 0xff], (3, "", "ultra: p.s: not utf-8\n"))
 }
 
 #[test]
@@ -244,251 +218,266 @@ static REFUSED_SETTINGS: [(&str, &str); 20] = [
 
 #[test]
 fn settings_are_refused(rt: HostRuntime) -> Result<(), Fail> {
-    for (settings, line) in REFUSED_SETTINGS {
+    for (settings, line) in &REFUSED_SETTINGS {
         check_run(&rt, settings.as_bytes(), b"halt", (3, "", line))?;
     }
-    let not_utf8 = [b'#', 0xff];
-    check_run(
-        &rt,
-        &not_utf8,
-        b"halt",
-        (3, "", "ultra: c.toml: not toml\n"),
-    )
+    let not_toml = (3, "", "ultra: c.toml: not toml\n");
+    check_run(&rt, &[b'#', 0xff], b"halt", not_toml)
 }
+
+/// Programs that `ultra run c.toml p.s` refuses.
+static REFUSED_RUNS: [(&str, &str, &str); 5] = [
+    (
+        "stages = 1",
+        "halt\nfoo\n",
+        "ultra: p.s: line 2: unknown word\n",
+    ),
+    (
+        "stages = 1",
+        "li r16 0",
+        "ultra: p.s: line 1: bad register\n",
+    ),
+    (
+        "stages = 1",
+        "li r1 4294967296",
+        "ultra: p.s: line 1: bad number\n",
+    ),
+    (
+        "stages = 1",
+        "halt r1",
+        "ultra: p.s: line 1: wrong operands\n",
+    ),
+    (
+        "stages = 1",
+        "a:\nhalt\na:\nhalt\n",
+        "ultra: p.s: line 3: double label\n",
+    ),
+];
 
 #[test]
 fn programs_are_refused(rt: HostRuntime) -> Result<(), Fail> {
-    for (program, line) in [
-        ("halt\nfoo\n", "ultra: p.s: line 2: unknown word\n"),
-        ("li r16 0", "ultra: p.s: line 1: bad register\n"),
-        ("li r1 4294967296", "ultra: p.s: line 1: bad number\n"),
-        ("halt r1", "ultra: p.s: line 1: wrong operands\n"),
-        ("a:\nhalt\na:\nhalt\n", "ultra: p.s: line 3: double label\n"),
-    ] {
-        check_run(&rt, b"stages = 1", program.as_bytes(), (3, "", line))?;
-    }
-    let not_utf8 = [b';', 0xff];
-    check_run(
-        &rt,
-        b"stages = 1",
-        &not_utf8,
-        (3, "", "ultra: p.s: not utf-8\n"),
-    )?;
+    check_refused(&rt, &RUN, &REFUSED_RUNS)?;
+    let not_utf8 = (3, "", "ultra: p.s: not utf-8\n");
+    check_run(&rt, b"stages = 1", &[b';', 0xff], not_utf8)
+}
+
+#[test]
+fn a_program_that_is_too_long_is_refused(rt: HostRuntime) -> Result<(), Fail> {
     let halts = b"halt\n".repeat(rt.alloc(), 4097)?;
-    check_run(
-        &rt,
-        b"stages = 1",
-        halts.as_slice(),
-        (3, "", "ultra: p.s: line 4097: too long\n"),
-    )
+    let too_long = (3, "", "ultra: p.s: line 4097: too long\n");
+    check_run(&rt, b"stages = 1", halts.as_slice(), too_long)
 }
 
 /// Inputs that `ultra order c.toml p.s` refuses.
+static REFUSED_ORDERS: [(&str, &str, &str); 4] = [
+    ("stages = 0", "halt", "ultra: c.toml: bad stages\n"),
+    ("stages", "halt", "ultra: c.toml: not toml\n"),
+    (
+        "stages = 1\nworkers = 2",
+        "halt",
+        "ultra: c.toml: unknown key\n",
+    ),
+    (
+        "stages = 1",
+        "halt\nfoo\n",
+        "ultra: p.s: line 2: unknown word\n",
+    ),
+];
+
 #[test]
 fn orders_are_refused(rt: HostRuntime) -> Result<(), Fail> {
-    for (settings, program, line) in [
-        ("stages = 0", "halt", "ultra: c.toml: bad stages\n"),
-        ("stages", "halt", "ultra: c.toml: not toml\n"),
-        (
-            "stages = 1\nworkers = 2",
-            "halt",
-            "ultra: c.toml: unknown key\n",
-        ),
-        (
-            "stages = 1",
-            "halt\nfoo\n",
-            "ultra: p.s: line 2: unknown word\n",
-        ),
-    ] {
-        check_command(
-            &rt,
-            &ORDER,
-            settings.as_bytes(),
-            program.as_bytes(),
-            (3, "", line),
-        )?;
-    }
-    Ok(())
+    check_refused(&rt, &ORDER, &REFUSED_ORDERS)
 }
 
-/// The program of `long_orders_are_written_in_pieces`: one processing element loads cell 0
-/// `count` times.
-fn many_loads<R: AllocGlobal>(rt: &R, count: usize) -> Result<String, Fail> {
-    let mut program = String::from_str(rt.alloc(), "pid r1\njnz r1 end\n")?;
-    program.push_str("ld r3 r0\n".repeat(rt.alloc(), count)?.as_str())?;
+/// A program by which one processing element loads cell 0 `count` times.
+fn many_loads(alloc: Global, count: usize) -> Result<String, Fail> {
+    let mut program = String::from_str(alloc, "pid r1\njnz r1 end\n")?;
+    program.push_str("ld r3 r0\n".repeat(alloc, count)?.as_str())?;
     program.push_str("end:\nhalt\n")?;
     Ok(program)
 }
 
-/// An order of more bytes than are written at once; then where standard output fails at its second
-/// write.
+/// The order of that program's run.
+fn order_of_loads(alloc: Global, count: u32) -> Result<String, AllocError> {
+    let mut order = String::new(alloc);
+    for number in 0..count {
+        order.push_str(format!(in alloc; "0.{number} load 0 = 0\n")?.as_str())?;
+    }
+    Ok(order)
+}
+
+/// Settings of a machine on which that program halts.
+const MANY_CYCLES: &[u8] = b"stages = 1\ncycles = 40000";
+
+/// An order of more bytes than are written at once.
 #[test]
 fn long_orders_are_written_in_pieces(rt: HostRuntime) -> Result<(), Fail> {
-    let settings = b"stages = 1\ncycles = 40000";
-    let program = many_loads(&rt, 4000)?;
-    let mut order = String::new(rt.alloc());
-    for number in 0..4000 {
-        order.push_str(format!(in rt.alloc(); "0.{number} load 0 = 0\n")?.as_str())?;
-    }
+    let program = many_loads(rt.alloc(), 4000)?;
+    let order = order_of_loads(rt.alloc(), 4000)?;
     let wanted = (0, order.as_str(), "");
-    check_command(&rt, &ORDER, settings, program.as_bytes(), wanted)?;
-    let files: [(&str, &[u8]); 2] = [("c.toml", settings), ("p.s", program.as_bytes())];
-    let mut shelf = Shelf {
-        files: &files,
-        account: Account::Opened,
-    };
-    let mut out = Tray {
-        bytes: Vec::with_capacity(rt.alloc(), ROOM)?,
-        failures: Account::Opened,
-        most: usize::MAX,
-        sound_writes: 1,
-    };
-    let mut err = Tray::with_room(rt.alloc())?;
-    let status = main_with(&rt, &ORDER, &mut shelf, &mut out, &mut err);
-    err.check_no_refusal()?;
-    assert_eq!(rt; status, 5);
-    assert_eq!(rt; err.text()?, "ultra: write failed\n");
-    assert!(rt; order.as_str().starts_with(out.text()?));
-    assert!(rt; out.bytes.len() >= 60000);
+    check_command(&rt, &ORDER, MANY_CYCLES, program.as_bytes(), wanted)
+}
+
+/// Standard output fails at the second write of such an order.
+#[test]
+fn a_prefix_of_a_long_order_is_written(rt: HostRuntime) -> Result<(), Fail> {
+    let program = many_loads(rt.alloc(), 4000)?;
+    let files = [("c.toml", MANY_CYCLES), ("p.s", program.as_bytes())];
+    let ended = call_into(&rt, &ORDER, &files, Limits::failing_after(usize::MAX, 1))?;
+    assert_eq!(rt; ended.status, 5);
+    assert_eq!(rt; ended.err.as_str(), "ultra: write failed\n");
+    assert!(rt; ended.out.len() >= 60000);
+    let order = order_of_loads(rt.alloc(), 4000)?;
+    assert!(rt; order.as_str().starts_with(ended.out.as_str()));
     Ok(())
 }
+
+/// Files of which one is missing or refused, with the line that names the first of these.
+static INCOMPLETE: [(&[(&str, &[u8])], &str); 3] = [
+    (&[("p.s", b"foo")], "ultra: cannot read c.toml\n"),
+    (&[("c.toml", b"stages = 0")], "ultra: c.toml: bad stages\n"),
+    (&[("c.toml", b"stages = 1")], "ultra: cannot read p.s\n"),
+];
 
 /// Files are read in the order of the words, and each is accepted before the next is read.
 #[test]
 fn files_are_read_in_order(rt: HostRuntime) -> Result<(), Fail> {
-    let program: (&str, &[u8]) = ("p.s", b"foo");
-    let good: (&str, &[u8]) = ("c.toml", b"stages = 1");
-    let bad: (&str, &[u8]) = ("c.toml", b"stages = 0");
-    let rows: [(&[(&str, &[u8])], &str); 3] = [
-        (&[program], "ultra: cannot read c.toml\n"),
-        (&[bad], "ultra: c.toml: bad stages\n"),
-        (&[good], "ultra: cannot read p.s\n"),
-    ];
-    for (files, line) in rows {
-        let ended = call(&rt, &RUN, files)?;
-        assert_eq!(rt; ended.err.text()?, line);
-        assert!(rt; ended.out.bytes.is_empty(), "{line}");
-        assert_eq!(rt; ended.status, 3);
+    for (files, line) in &INCOMPLETE {
+        call(&rt, &RUN, files)?.check(&rt, (3, "", line));
     }
     Ok(())
 }
 
-/// Asserts that the words are a usage fault, though the files are there, and that its text says
-/// this.
-pub(crate) fn check_usage_fault<R: Host>(rt: &R, words: &[&str], text: &str) -> Result<(), Fail> {
-    let files: [(&str, &[u8]); 2] = [("c.toml", b"stages = 1"), ("p.s", b"halt")];
-    let ended = call(rt, words, &files)?;
-    assert!(rt; ended.err.text()?.contains(text), "{words:?}");
-    assert!(rt; ended.out.bytes.is_empty(), "{words:?}");
-    assert_eq!(rt; ended.status, 2, "{words:?}");
-    Ok(())
-}
+/// Words that are no command.
+static WRONG_WORDS: [&[&str]; 8] = [
+    &[],
+    &["ultra"],
+    &["ultra", "walk", "c.toml", "p.s"],
+    &["ultra", "run", "c.toml"],
+    &["ultra", "run", "c.toml", "p.s", "q.s"],
+    &["ultra", "order", "c.toml"],
+    &["ultra", "explain", "c.toml"],
+    &["ultra", "list"],
+];
 
 #[test]
 fn wrong_words_are_usage_faults(rt: HostRuntime) -> Result<(), Fail> {
-    let rows: [&[&str]; 8] = [
-        &[],
-        &["ultra"],
-        &["ultra", "walk", "c.toml", "p.s"],
-        &["ultra", "run", "c.toml"],
-        &["ultra", "run", "c.toml", "p.s", "q.s"],
-        &["ultra", "order", "c.toml"],
-        &["ultra", "explain", "c.toml"],
-        &["ultra", "list"],
-    ];
-    for words in rows {
+    for words in &WRONG_WORDS {
         check_usage_fault(&rt, words, "Usage: ultra")?;
     }
     Ok(())
 }
 
-/// Numbers of workers that are no number from 1 to 64, and the option where it doesn't belong.
+/// Numbers of workers that are no number from 1 to 64.
 #[test]
 fn wrong_workers_are_usage_faults(rt: HostRuntime) -> Result<(), Fail> {
     for workers in ["0", "65", "18446744073709551617", "x", "1.5", ""] {
         let words = ["ultra", "run", "c.toml", "p.s", "--workers", workers];
         check_usage_fault(&rt, &words, "'--workers <H>'")?;
     }
-    let twice = [
-        "ultra",
-        "run",
-        "c.toml",
-        "p.s",
-        "--workers=2",
-        "--workers=2",
-    ];
-    check_usage_fault(&rt, &twice, "cannot be used multiple times")?;
-    let missing = ["ultra", "run", "c.toml", "p.s", "--workers"];
-    check_usage_fault(&rt, &missing, "a value is required for '--workers <H>'")?;
-    let order = ["ultra", "order", "c.toml", "p.s", "--workers", "2"];
-    check_usage_fault(&rt, &order, "unexpected argument '--workers'")?;
-    let list = ["ultra", "list", "p.s", "--workers", "2"];
-    check_usage_fault(&rt, &list, "unexpected argument '--workers'")
+    Ok(())
 }
+
+/// The option twice, without its number, and where it doesn't belong, with what the text says.
+static MISPLACED_WORKERS: [(&[&str], &str); 4] = [
+    (
+        &[
+            "ultra",
+            "run",
+            "c.toml",
+            "p.s",
+            "--workers=2",
+            "--workers=2",
+        ],
+        "cannot be used multiple times",
+    ),
+    (
+        &["ultra", "run", "c.toml", "p.s", "--workers"],
+        "a value is required for '--workers <H>'",
+    ),
+    (
+        &["ultra", "order", "c.toml", "p.s", "--workers", "2"],
+        "unexpected argument '--workers'",
+    ),
+    (
+        &["ultra", "list", "p.s", "--workers", "2"],
+        "unexpected argument '--workers'",
+    ),
+];
+
+#[test]
+fn misplaced_workers_are_usage_faults(rt: HostRuntime) -> Result<(), Fail> {
+    for (words, text) in &MISPLACED_WORKERS {
+        check_usage_fault(&rt, words, text)?;
+    }
+    Ok(())
+}
+
+/// Asserts that the answer to the words has these parts, and that it goes to standard output.
+fn check_answer<R: Host>(rt: &R, words: &[&str], parts: &[&str]) -> Result<(), Fail> {
+    let ended = call(rt, words, &[])?;
+    for part in parts {
+        assert!(rt; ended.out.as_str().contains(part), "{part}: {}", ended.out);
+    }
+    assert!(rt; ended.err.is_empty());
+    assert_eq!(rt; ended.status, 0);
+    Ok(())
+}
+
+/// Parts of the help for the program.
+static HELP_PARTS: [&str; 7] = [
+    "Usage: ultra",
+    "\n  run ",
+    "\n  order ",
+    "\n  explain ",
+    "\n  list ",
+    "\n  sweep ",
+    "\n  lib ",
+];
 
 #[test]
 fn help_goes_to_standard_output(rt: HostRuntime) -> Result<(), Fail> {
-    let ended = call(&rt, &["ultra", "--help"], &[])?;
-    let text = ended.out.text()?;
-    assert!(rt; text.contains("Usage: ultra"), "{text}");
-    for command in ["run", "order", "explain", "list", "sweep", "lib"] {
-        let line = format!(in rt.alloc(); "\n  {command} ")?;
-        assert!(rt; text.contains(line.as_str()), "{text}");
-    }
-    assert!(rt; ended.err.bytes.is_empty());
-    assert_eq!(rt; ended.status, 0);
-    let ended = call(&rt, &["ultra", "run", "--help"], &[])?;
-    let text = ended.out.text()?;
-    assert!(rt; text.contains("--workers <H>"), "{text}");
-    assert_eq!(rt; ended.status, 0);
-    Ok(())
+    check_answer(&rt, &["ultra", "--help"], &HELP_PARTS)?;
+    check_answer(&rt, &["ultra", "run", "--help"], &["--workers <H>"])
 }
 
 #[test]
 fn the_version_goes_to_standard_output(rt: HostRuntime) -> Result<(), Fail> {
     let ended = call(&rt, &["ultra", "--version"], &[])?;
-    assert_eq!(rt; ended.out.text()?, "ultra 1.0 (trace 2)\n");
-    assert!(rt; ended.err.bytes.is_empty());
-    assert_eq!(rt; ended.status, 0);
+    ended.check(&rt, (0, "ultra 1.0 (trace 2)\n", ""));
     Ok(())
 }
 
-/// The text of the words' command where standard output takes at most 4 bytes a write, and fails at
-/// its third write.
-fn short_failing_sink<R: Host>(rt: &R, words: &[&str]) -> Result<String, Fail> {
-    let files: [(&str, &[u8]); 2] = [("c.toml", b"stages = 1"), ("p.s", ADDS_ONE.as_bytes())];
-    let mut shelf = Shelf {
-        files: &files,
-        account: Account::Opened,
-    };
-    let mut out = Tray {
-        bytes: Vec::with_capacity(rt.alloc(), ROOM)?,
-        failures: Account::Opened,
-        most: 4,
-        sound_writes: 2,
-    };
-    let mut err = Tray::with_room(rt.alloc())?;
-    let status = main_with(rt, words, &mut shelf, &mut out, &mut err);
-    err.check_no_refusal()?;
-    assert_eq!(rt; err.text()?, "ultra: write failed\n");
-    assert_eq!(rt; status, 5);
-    Ok(String::from_str(rt.alloc(), out.text()?)?)
-}
+/// Settings of one stage, and a program.
+static ONE_STAGE: [(&str, &[u8]); 2] = [("c.toml", b"stages = 1"), ("p.s", ADDS_ONE)];
 
+/// Words, each with what their text begins with.
+static BEGINNINGS: [(&[&str], &str); 6] = [
+    (&["ultra", "run", "c.toml", "p.s"], "ultra tr"),
+    (
+        &["ultra", "run", "c.toml", "p.s", "--workers", "3"],
+        "ultra tr",
+    ),
+    (&["ultra", "order", "c.toml", "p.s"], "1.0 faa "),
+    (&["ultra", "explain", "c.toml", "p.s"], "cycle 5 "),
+    (&["ultra", "--help"], ""),
+    (&["ultra", "--version"], "ultra 1."),
+];
+
+/// Standard output takes at most 4 bytes a write, and fails at its third write.
 #[test]
 fn a_prefix_is_written_to_a_short_failing_sink(rt: HostRuntime) -> Result<(), Fail> {
-    let trace = short_failing_sink(&rt, &RUN)?;
-    assert_eq!(rt; trace.as_str(), "ultra tr");
-    let trace = short_failing_sink(&rt, &RUN_BY_THREE)?;
-    assert_eq!(rt; trace.as_str(), "ultra tr");
-    let order = short_failing_sink(&rt, &ORDER)?;
-    assert_eq!(rt; order.as_str(), "1.0 faa ");
-    let explanation = short_failing_sink(&rt, &EXPLAIN)?;
-    assert_eq!(rt; explanation.as_str(), "cycle 5 ");
-    let help = short_failing_sink(&rt, &["ultra", "--help"])?;
-    assert_eq!(rt; help.len(), 8);
-    let version = short_failing_sink(&rt, &["ultra", "--version"])?;
-    assert_eq!(rt; version.as_str(), "ultra 1.");
+    for (words, beginning) in &BEGINNINGS {
+        let ended = call_into(&rt, words, &ONE_STAGE, Limits::failing_after(4, 2))?;
+        assert_eq!(rt; ended.err.as_str(), "ultra: write failed\n", "{words:?}");
+        assert!(rt;
+            ended.out.as_str().starts_with(beginning),
+            "{words:?}: {}",
+            ended.out
+        );
+        assert_eq!(rt; ended.out.len(), 8, "{words:?}");
+        assert_eq!(rt; ended.status, 5, "{words:?}");
+    }
     Ok(())
 }
 

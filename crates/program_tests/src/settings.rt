@@ -2,7 +2,7 @@
 
 use std::process::Abort;
 use std::test::Fail;
-use ultra_model::Field;
+use ultra_model::{Config, Field};
 use ultra_settings::{SettingsFault, settings_from};
 
 /// Asserts that a text is refused with this fault.
@@ -20,32 +20,45 @@ fn check_refused<R: Abort + AllocGlobal>(
     }
 }
 
-#[test]
-fn absent_keys_have_defaults(rt: HostRuntime) -> Result<(), Fail> {
-    let config = settings_from(rt.alloc(), b"stages = 3")?;
-    assert_eq!(rt; config.stages(), 3);
-    assert_eq!(rt; config.request_places(), 4);
-    assert_eq!(rt; config.reply_places(), 8);
-    assert_eq!(rt; config.wait_places(), 4);
-    assert_eq!(rt; config.most_open(), 2);
-    assert_eq!(rt; config.cells(), 16);
-    assert_eq!(rt; config.cycles(), 1000);
-    assert_eq!(rt; config.initial().len(), 0);
-    Ok(())
+/// The numbers of settings: stages, places for requests and replies and in wait buffers, most open
+/// requests, cells of a module, and cycles.
+fn numbers_of(config: &Config) -> [u32; 7] {
+    [
+        config.stages(),
+        config.request_places(),
+        config.reply_places(),
+        config.wait_places(),
+        config.most_open(),
+        config.cells(),
+        config.cycles(),
+    ]
 }
 
 #[test]
+fn absent_keys_have_defaults(rt: HostRuntime) -> Result<(), Fail> {
+    let config = settings_from(rt.alloc(), b"stages = 3")?;
+    assert_eq!(rt; numbers_of(&config), [3, 4, 8, 4, 2, 16, 1000]);
+    assert!(rt; config.initial().is_empty());
+    Ok(())
+}
+
+/// Settings with all keys.
+const ALL_KEYS: &str = "\
+# all
+stages = 0x1
+request_places = 5
+reply_places = 9
+wait_places = 1
+open = 3
+cells = 0b100
+cycles = 1_0
+initial = [[0, 7], [3, 0xff]]
+";
+
+#[test]
 fn settings_are_read(rt: HostRuntime) -> Result<(), Fail> {
-    let text =
-        "# all\nstages = 0x1\nrequest_places = 5\nreply_places = 9\nwait_places = 1\nopen = 3\ncells = 0b100\ncycles = 1_0\ninitial = [[0, 7], [3, 0xff]]\n";
-    let config = settings_from(rt.alloc(), text.as_bytes())?;
-    assert_eq!(rt; config.stages(), 1);
-    assert_eq!(rt; config.request_places(), 5);
-    assert_eq!(rt; config.reply_places(), 9);
-    assert_eq!(rt; config.wait_places(), 1);
-    assert_eq!(rt; config.most_open(), 3);
-    assert_eq!(rt; config.cells(), 4);
-    assert_eq!(rt; config.cycles(), 10);
+    let config = settings_from(rt.alloc(), ALL_KEYS.as_bytes())?;
+    assert_eq!(rt; numbers_of(&config), [1, 5, 9, 1, 3, 4, 10]);
     assert_eq!(rt; config.initial(), [(0, 7), (3, 255)].as_slice());
     Ok(())
 }
@@ -91,8 +104,8 @@ static REFUSED: [(&str, SettingsFault); 14] = [
 
 #[test]
 fn refused_settings_are_reported(rt: HostRuntime) -> Result<(), Fail> {
-    for (text, wanted) in REFUSED {
-        check_refused(&rt, text.as_bytes(), wanted)?;
+    for (text, wanted) in &REFUSED {
+        check_refused(&rt, text.as_bytes(), *wanted)?;
     }
     check_refused(&rt, &[b'#', 0xff], SettingsFault::NotToml)
 }

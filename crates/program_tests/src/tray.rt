@@ -4,53 +4,74 @@ ghost use Rattle.std.specs.Prelude.{◌<◌};
 ghost use Rattle.ultra_io.specs.Account.{failures_in};
 
 use std::alloc::{AllocError, Global};
-use std::str;
 use std::test::Fail;
 use ultra_io::Account;
 use ultra_msg::{Sink, SinkFault};
 
 /// More bytes than any text of these tests has.
-pub(crate) const ROOM: usize = 131_072;
+const ROOM: usize = 131_072;
 
-/// A sink in memory. It takes at most `most` bytes a write, and fails after `sound_writes` writes.
-#[derive(Drop)]
-pub(crate) struct Tray {
-    pub(crate) bytes: Vec<u8>,
-    pub(crate) failures: Account,
-    pub(crate) most: usize,
-    pub(crate) sound_writes: usize,
+/// What a sink takes.
+#[derive(Clone, Copy, Drop)]
+pub(crate) struct Limits {
+    /// The most bytes that it takes at a write.
+    most: usize,
+    /// The writes after which it fails.
+    sound_writes: usize,
+    /// The writes after that failure, after which it fails again.
+    later_writes: usize,
     ghost takes_some: { 0 < most },
 }
 
+impl Limits {
+    /// A sink that takes all that it is offered.
+    pub(crate) fn none() -> Limits {
+        Limits::failing_after(usize::MAX, usize::MAX)
+    }
+
+    /// A sink that takes at most `most` bytes a write, and fails after `sound_writes` writes, for good.
+    pub(crate) fn failing_after(most: usize, sound_writes: usize) -> Limits
+        requires { 0 < most }
+    {
+        Limits {
+            most,
+            sound_writes,
+            later_writes: 0,
+        }
+    }
+
+    /// A sink that takes one byte a write. After `sound_writes` writes it fails once, and would then
+    /// take more.
+    pub(crate) fn failing_once_after(sound_writes: usize) -> Limits {
+        Limits {
+            most: 1,
+            sound_writes,
+            later_writes: usize::MAX,
+        }
+    }
+}
+
+/// A sink in memory.
+#[derive(Drop)]
+pub(crate) struct Tray {
+    bytes: Vec<u8>,
+    failures: Account,
+    limits: Limits,
+}
+
 impl Tray {
-    /// A tray that takes all that it is offered.
-    pub(crate) fn new(alloc: Global) -> Tray {
-        Tray {
-            bytes: Vec::new(alloc),
-            failures: Account::Opened,
-            most: usize::MAX,
-            sound_writes: usize::MAX,
-        }
-    }
-
     /// A tray that takes each text of these tests without asking for memory.
-    pub(crate) fn with_room(alloc: Global) -> Result<Tray, AllocError> {
-        let mut tray = Tray::new(alloc);
-        tray.bytes.reserve(ROOM)?;
-        Ok(tray)
+    pub(crate) fn new(alloc: Global, limits: Limits) -> Result<Tray, AllocError> {
+        Ok(Tray {
+            bytes: Vec::with_capacity(alloc, ROOM)?,
+            failures: Account::Opened,
+            limits,
+        })
     }
 
-    /// What it has taken doesn't say that memory or a thread was refused; else that is the error here.
-    pub(crate) fn check_no_refusal(&self) -> Result<(), Fail> {
-        let text = self.text()?;
-        if text == "ultra: no memory\n" || text == "ultra: no thread\n" {
-            return Err("no memory, or no thread".into());
-        }
-        Ok(())
-    }
-
-    pub(crate) fn text(&self) -> Result<&str, Fail> {
-        Ok(str::from_utf8(self.bytes.as_slice())?)
+    /// What it has taken.
+    pub(crate) fn into_text(self) -> Result<String, Fail> {
+        Ok(String::from_utf8(self.bytes)?)
     }
 }
 
@@ -60,12 +81,13 @@ impl Sink for Tray {
     ghost failures = { λ t. failures_in t.failures };
 
     fn write(&mut self, bytes: &[u8]) -> Result<usize, SinkFault> {
-        let count = bytes.len().min(self.most);
-        if self.sound_writes == 0 || self.bytes.extend_from_slice(&bytes[..count]).is_err() {
+        let count = bytes.len().min(self.limits.most);
+        if self.limits.sound_writes == 0 || self.bytes.extend_from_slice(&bytes[..count]).is_err() {
+            self.limits.sound_writes = self.limits.later_writes;
             self.failures.note_failure();
             return Err(SinkFault);
         }
-        self.sound_writes -= 1;
+        self.limits.sound_writes -= 1;
         Ok(count)
     }
 }

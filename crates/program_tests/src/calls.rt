@@ -1,0 +1,138 @@
+//! Calls of the program over files and streams in memory.
+
+use crate::host::Host;
+use crate::shelf::Shelf;
+use crate::tray::{Limits, Tray};
+use std::process::Abort;
+use std::test::Fail;
+use ultra_cli::main_with;
+use ultra_io::{Account, Source};
+
+/// What a call of the program did: its status, and what it wrote to standard output and to standard
+/// error.
+#[derive(Drop)]
+pub(crate) struct Ended {
+    pub(crate) status: u8,
+    pub(crate) out: String,
+    pub(crate) err: String,
+}
+
+impl Ended {
+    /// What a call did that answered this status and wrote to these streams.
+    fn new(status: u8, out: Tray, err: Tray) -> Result<Ended, Fail> {
+        let err = err.into_text()?;
+        let out = out.into_text()?;
+        Ok(Ended { status, out, err })
+    }
+
+    /// Asserts the status, and what was written to standard output and to standard error.
+    pub(crate) fn check<R: Abort>(&self, rt: &R, wanted: (u8, &str, &str)) {
+        assert_eq!(rt; self.err.as_str(), wanted.2);
+        assert_eq!(rt; self.out.as_str(), wanted.1);
+        assert_eq!(rt; self.status, wanted.0);
+    }
+}
+
+/// Calls the program, and gives its status. No test rests on what the contract of `main_with` says.
+fn status_of<'w, R: Host, F: Source>(
+    rt: &R,
+    words: &'w [&'w str],
+    source: &mut F,
+    out: &mut Tray,
+    err: &mut Tray,
+) -> u8 {
+    main_with(rt, words, source, out, err)
+}
+
+/// Calls the program over these files, with streams of these limits.
+pub(crate) fn call_over<'w, R: Host, F: Source>(
+    rt: &R,
+    words: &'w [&'w str],
+    source: &mut F,
+    out: Limits,
+    err: Limits,
+) -> Result<Ended, Fail> {
+    let mut out = Tray::new(rt.alloc(), out)?;
+    let mut err = Tray::new(rt.alloc(), err)?;
+    let status = status_of(rt, words, source, &mut out, &mut err);
+    Ended::new(status, out, err)
+}
+
+/// Calls the program over files in memory, with streams of these limits.
+pub(crate) fn call_within<'t, R: Host>(
+    rt: &R,
+    words: &'t [&'t str],
+    files: &'t [(&'t str, &'t [u8])],
+    out: Limits,
+    err: Limits,
+) -> Result<Ended, Fail> {
+    let mut shelf = Shelf {
+        files,
+        account: Account::Opened,
+    };
+    call_over(rt, words, &mut shelf, out, err)
+}
+
+/// Calls the program over files in memory. Where memory or a thread was refused, that is the error
+/// here.
+pub(crate) fn call<'t, R: Host>(
+    rt: &R,
+    words: &'t [&'t str],
+    files: &'t [(&'t str, &'t [u8])],
+) -> Result<Ended, Fail> {
+    call_into(rt, words, files, Limits::none())
+}
+
+/// The same where standard output has these limits.
+pub(crate) fn call_into<'t, R: Host>(
+    rt: &R,
+    words: &'t [&'t str],
+    files: &'t [(&'t str, &'t [u8])],
+    out: Limits,
+) -> Result<Ended, Fail> {
+    unless_refused(call_within(rt, words, files, out, Limits::none())?)
+}
+
+/// Standard error doesn't say that memory or a thread was refused; else that is the error here.
+fn unless_refused(ended: Ended) -> Result<Ended, Fail> {
+    if is_refusal(ended.err.as_str()) {
+        return Err("no memory, or no thread".into());
+    }
+    Ok(ended)
+}
+
+/// Whether a text says that memory or a thread was refused, and nothing else.
+pub(crate) fn is_refusal(text: &str) -> bool {
+    text == "ultra: no memory\n" || text == "ultra: no thread\n"
+}
+
+/// Asserts what a command does with settings and a program: its status, and what it writes to
+/// standard output and standard error.
+pub(crate) fn check_command<R: Host>(
+    rt: &R,
+    words: &[&str],
+    settings: &[u8],
+    program: &[u8],
+    wanted: (u8, &str, &str),
+) -> Result<(), Fail> {
+    let files = [("c.toml", settings), ("p.s", program)];
+    call(rt, words, &files)?.check(rt, wanted);
+    Ok(())
+}
+
+/// Settings and a program, both sound.
+static SOUND_FILES: [(&str, &[u8]); 2] = [("c.toml", b"stages = 1"), ("p.s", b"halt")];
+
+/// Asserts that the words are a usage fault, though the files are there, and that its text says
+/// this.
+pub(crate) fn check_usage_fault<'w, R: Host>(
+    rt: &R,
+    words: &'w [&'w str],
+    text: &str,
+) -> Result<(), Fail> {
+    let ended = call(rt, words, &SOUND_FILES)?;
+    assert!(rt; ended.err.as_str().contains(text), "{words:?}");
+    assert!(rt; ended.out.is_empty(), "{words:?}");
+    assert_eq!(rt; ended.status, 2, "{words:?}");
+    Ok(())
+}
