@@ -1,6 +1,6 @@
 //! The texts of the coordination programs, as `ultra lib` writes them.
 
-use crate::calls::{Ended, call, call_into};
+use crate::calls::{call, call_into};
 use crate::host::Host;
 use crate::tray::Limits;
 use std::test::Fail;
@@ -58,13 +58,16 @@ fn barrier_is_written_and_runs(rt: HostRuntime) -> Result<(), Fail> {
     Ok(())
 }
 
+/// No files: the command reads none.
+static NO_FILES: [(&str, &[u8]); 0] = [];
+
 /// Asserts the status of words, and that they write to standard output where it is 0, and only there.
 /// Gives what goes to standard error.
 fn check_lib<'w, R: Host>(rt: &R, words: &'w [&'w str], wanted: u8) -> Result<String, Fail> {
-    let Ended { status, out, err } = call(rt, words, &[])?;
-    assert_eq!(rt; status, wanted, "{words:?}");
-    assert_eq!(rt; out.is_empty(), wanted != 0, "{words:?}");
-    Ok(err)
+    let ended = call(rt, words, &NO_FILES)?;
+    assert_eq!(rt; ended.status, wanted, "{words:?}");
+    assert!(rt; ended.out.is_empty() != (wanted == 0), "{words:?}");
+    Ok(ended.err)
 }
 
 /// Parameters within their ranges.

@@ -20,36 +20,43 @@ fn check_refused<R: Abort + AllocGlobal>(
     }
 }
 
-#[test]
-fn jobs_in_their_order(rt: HostRuntime) -> Result<(), Fail> {
-    let text = b"[[job]]\nprog = \"a.s\"\nconf = \"a.toml\"\n\
-        [[job]]\nconf = \"b/c.toml\"\nprog = \"b/../a.s\"\n";
-    let jobs = jobs_from(rt.alloc(), text)?;
-    assert_eq!(rt; jobs.len(), 2);
-    for ((conf, prog), wanted) in jobs
-        .iter()
-        .zip([("a.toml", "a.s"), ("b/c.toml", "b/../a.s")])
-    {
-        assert_eq!(rt; (conf.as_str(), prog.as_str()), wanted);
-    }
-    Ok(())
+/// Two jobs, with their keys in either order.
+const TWO_JOBS: &[u8] = b"[[job]]\nprog = \"a.s\"\nconf = \"a.toml\"\n\
+    [[job]]\nconf = \"b/c.toml\"\nprog = \"b/../a.s\"\n";
+
+/// Asserts which settings and which program a job names.
+fn check_job<R: Abort>(rt: &R, (conf, prog): &(String, String), wanted: (&str, &str)) {
+    assert_eq!(rt; (conf.as_str(), prog.as_str()), wanted);
 }
 
 #[test]
+fn jobs_in_their_order(rt: HostRuntime) -> Result<(), Fail> {
+    let jobs = jobs_from(rt.alloc(), TWO_JOBS)?;
+    let [first, second] = jobs.as_slice() else {
+        panic!(rt; "not two jobs")
+    };
+    check_job(&rt, first, ("a.toml", "a.s"));
+    check_job(&rt, second, ("b/c.toml", "b/../a.s"));
+    Ok(())
+}
+
+/// Files that aren't jobs.
+static BAD: [&[u8]; 10] = [
+    b"",
+    b"job = []",
+    b"job = 1",
+    b"job = [1]",
+    b"[job]\nconf = \"a\"\nprog = \"b\"\n",
+    b"jobs = 1\n[[job]]\nconf = \"a\"\nprog = \"b\"\n",
+    b"[[job]]\nconf = \"a\"\nprog = \"b\"\nname = \"c\"\n",
+    b"[[job]]\nconf = \"a\"\n",
+    b"[[job]]\nconf = \"a\"\nprog = 1\n",
+    b"[[job]]\nconf = \"a\"\nprog = \"b\"\n[[job]]\n",
+];
+
+#[test]
 fn refused_files(rt: HostRuntime) -> Result<(), Fail> {
-    let bad: [&[u8]; 10] = [
-        b"",
-        b"job = []",
-        b"job = 1",
-        b"job = [1]",
-        b"[job]\nconf = \"a\"\nprog = \"b\"\n",
-        b"jobs = 1\n[[job]]\nconf = \"a\"\nprog = \"b\"\n",
-        b"[[job]]\nconf = \"a\"\nprog = \"b\"\nname = \"c\"\n",
-        b"[[job]]\nconf = \"a\"\n",
-        b"[[job]]\nconf = \"a\"\nprog = 1\n",
-        b"[[job]]\nconf = \"a\"\nprog = \"b\"\n[[job]]\n",
-    ];
-    for text in bad {
+    for text in &BAD {
         check_refused(&rt, text, JobsFault::BadJob)?;
     }
     check_refused(&rt, b"[[job", JobsFault::NotToml)?;

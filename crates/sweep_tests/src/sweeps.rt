@@ -2,6 +2,7 @@
 
 ghost use Rattle.std.specs.Prelude.{◌≡◌};
 
+use crate::boards::split;
 use crate::gates::{Counter, Meeting};
 use crate::jobs::two_jobs;
 use crate::trays::Tray;
@@ -12,7 +13,7 @@ use std::test::Fail;
 use std::thread::{self, Threads};
 use ultra_board::Board;
 use ultra_job_gate::RunAlone;
-use ultra_sweep::{Job, JobGate, JobResult, gather, report, work};
+use ultra_sweep::{Job, JobGate, JobResult, WorkFault, gather, report, work};
 
 /// The report of a job that halts at once, and of one in which two processing elements add 1 each
 /// to cell 0.
@@ -72,16 +73,22 @@ fn sweep_by_two<R: Threads + Wait + Sync + Abort + AllocGlobal, G: JobGate + Syn
 ) -> Result<Vec<JobResult>, Fail> {
     let alloc = rt.alloc();
     let (board, seat) = Board::open(alloc, jobs.len() as u64, at_once, 2)?;
-    let Ok((first, second)) = board.split(seat) else {
-        panic!(rt; "a seat of two places was not split")
-    };
+    let (first, second) = split(rt, &board, seat);
     let (first, second) = thread::join(
         rt,
         || work(rt, alloc, &board, first, jobs, gate),
         || work(rt, alloc, &board, second, jobs, gate),
     );
-    let mut results = first.1?;
-    results.append(&mut second.1?)?;
+    together(first.1, second.1)
+}
+
+/// The results of two threads, one after the other.
+fn together(
+    first: Result<Vec<JobResult>, WorkFault>,
+    second: Result<Vec<JobResult>, WorkFault>,
+) -> Result<Vec<JobResult>, Fail> {
+    let mut results = first?;
+    results.append(&mut second?)?;
     Ok(results)
 }
 
