@@ -73,7 +73,7 @@ fn a_run_is_asked_for(rt: HostRuntime) -> Result<(), Fail> {
     Ok(())
 }
 
-/// The run of `p.s` with the settings `c.toml` by so many workers.
+/// The run of `p.s` with the settings `c.toml` by n workers.
 fn run_by(count: usize) -> Result<Command<'static>, Fail> {
     let workers = Workers::new(count).ok_or("no workers")?;
     Ok(Command::Run {
@@ -110,7 +110,7 @@ fn an_explanation_is_asked_for(rt: HostRuntime) -> Result<(), Fail> {
     Ok(())
 }
 
-/// The explanation of that run, with the trees in a heap of so many bytes.
+/// The explanation of that run, with the trees in a heap of n bytes.
 fn explanation_within(bytes: usize) -> Result<Command<'static>, Fail> {
     let heap = HeapBytes::new(bytes).ok_or("no heap")?;
     Ok(Command::Explain {

@@ -125,7 +125,7 @@ halt
 /// What standard error says of a heap that is full.
 const FULL: &str = "ultra: heap full\n";
 
-/// Runs that are explained with a heap of so many bytes: settings, program, bytes, and what the command
+/// Runs that are explained with a heap of n bytes: settings, program, bytes, and what the command
 /// does.
 static HEAPS: [(&str, &[u8], &str, (u8, &str, &str)); 3] = [
     ("stages = 3", ADDS_ONE, "4096", (0, THREE_LEVELS, "")),
@@ -138,7 +138,7 @@ static HEAPS: [(&str, &[u8], &str, (u8, &str, &str)); 3] = [
     ),
 ];
 
-/// Asserts what the explanation of a run does, with a heap of so many bytes.
+/// Asserts what the explanation of a run does, with a heap of n bytes.
 fn check_heap<R: Host>(
     rt: &R,
     settings: &str,

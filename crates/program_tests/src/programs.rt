@@ -332,7 +332,7 @@ fn a_prefix_of_a_long_order_is_written(rt: HostRuntime) -> Result<(), Fail> {
     Ok(())
 }
 
-/// Files of which one is missing or refused, with the line that names the first of these.
+/// Files, one or more of them missing or refused, with the line that names the first of these.
 static INCOMPLETE: [(&[(&str, &[u8])], &str); 3] = [
     (&[("p.s", b"foo")], "ultra: cannot read c.toml\n"),
     (&[("c.toml", b"stages = 0")], "ultra: c.toml: bad stages\n"),
