@@ -156,7 +156,7 @@ fn files_of_jobs_are_refused(rt: HostRuntime) -> Result<(), Fail> {
     check_refused(&rt, many.as_str(), "ultra: jobs.toml: bad job\n")
 }
 
-/// Jobs of which a file isn't accepted, each with the line that names the first such file.
+/// Jobs with a file that isn't accepted, each with the line that names the first such file.
 static REFUSED_FILES: [(&str, &str, &str); 4] = [
     ("x.toml", "x.s", "ultra: cannot read x.toml\n"),
     ("halt.s", "x.s", "ultra: halt.s: not toml\n"),

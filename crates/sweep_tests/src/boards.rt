@@ -179,7 +179,7 @@ fn passes_in_turn(rt: HostRuntime) -> Result<(), Fail> {
     Ok(())
 }
 
-/// Draws a number, of which some are left, and asserts which it is.
+/// Draws a number where some are left, and asserts which it is.
 fn draw_number<R: Abort>(rt: &R, board: &Board, seat: &mut Seat, wanted: u64) -> u64
     requires { seat.old.board ≡ board.now.id }
     ensures board { seat.new.board ≡ seat.old.board }

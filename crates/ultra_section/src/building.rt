@@ -78,7 +78,7 @@ fn no_messages(alloc: Global, net: Net) -> Result<(Links<ReplyMessage>, Links<Re
     Ok((no_links(alloc, links)?, no_links(alloc, links)?))
 }
 
-/// Memory for the events and the stops of a cycle, none of which has happened. An error says that memory was refused.
+/// Memory for the events and the stops of a cycle in which nothing has happened. An error says that memory was refused.
 fn no_story(alloc: Global) -> Result<(Vec<Event>, Vec<Stop>), AllocError>
     ensures { IfOk result (λ both. (both.0.items ≡ []) × (both.1.items ≡ []) × (most_events ≤ vec_capacity both.0) × (most_stops ≤ vec_capacity both.1)) }
 {
