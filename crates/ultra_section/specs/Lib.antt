@@ -1,7 +1,7 @@
+pub use Rattle.ultra_links.specs.Links
+pub use Rattle.ultra_links.specs.Units
+pub use Rattle.ultra_links.specs.Marks
 pub mod Sets
-pub mod Links
-pub mod Units
-pub mod Marks
 pub mod BlockState
 pub mod RepliesSent
 pub mod Serving

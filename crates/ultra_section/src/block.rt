@@ -1,12 +1,12 @@
 //! Blocks: some of the units of a machine.
 
-ghost use Rattle.std.specs.Prelude.{◌≡◌, ℕ, ◌<◌, ◌≤◌, ◌++◌, ◌∷◌, [], length, vec_capacity};
+ghost use Rattle.std.specs.Prelude.{◌≡◌, ◌<◌, ◌≤◌, ◌++◌, ◌∷◌, [], length, vec_capacity};
+ghost use Rattle.ultra_links.specs.Units.{IsUnit, unit_of};
 
-use crate::links::Links;
 use crate::sets::Sets;
-use crate::unit::Numbering;
 use std::marker::Model;
 use ultra_halves::ProcessingElement;
+use ultra_links::{Links, Numbering, Unit};
 use ultra_mem::Module;
 use ultra_model::Stop;
 use ultra_msg::{Event, ReplyMessage, Request};
@@ -56,6 +56,17 @@ impl Model for Block {
     } };
 
     ghost invariant = { λ b. IsKept b.net b.numbering b.sets b.switches.items b.modules.items b.elements.items b.replies b.requests (vec_capacity b.events) (vec_capacity b.stops) };
+}
+
+impl Block {
+    /// The unit with this number, wherever it stands.
+    #[inline(always)]
+    pub(crate) fn unit(&self, number: usize) -> Unit
+        ensures value { result ≡ unit_of self.now.stages number }
+        ensures is { IsUnit self.now.stages number result }
+    {
+        self.numbering.unit(number)
+    }
 }
 
 /// Adds an entry at the end of a list that has memory for it.

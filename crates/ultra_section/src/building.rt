@@ -1,54 +1,29 @@
 //! Blocks without units, units that are put into a block or taken out of it, and what goes from one block to another.
 
-ghost use Rattle.std.specs.Prelude.{◌≡◌, ℕ, ◌+◌, ◌*◌, ◌<◌, ◌≤◌, ◌^◌, [], IfOk, None, Some, length, replicate, slice_set, vec_capacity};
+ghost use Rattle.std.specs.Prelude.{◌≡◌, ◌+◌, ◌*◌, ◌<◌, ◌≤◌, ◌^◌, [], IfOk, None, Some, replicate, slice_set, vec_capacity};
 ghost use Rattle.ultra_units.specs.Numbers.{switch_count as count_of_switches};
 ghost use Rattle.ultra_section.specs.BlockState.{element_at, module_at, most_events, most_stops, switch_at};
 ghost use Rattle.ultra_section.specs.Building.{empty_block, with_unit, without_unit};
-ghost use Rattle.ultra_section.specs.Links.{put_on};
-ghost use Rattle.ultra_section.specs.Marks.{HasAllLinks};
+ghost use Rattle.ultra_links.specs.Links.{put_on};
 
 use crate::block::Block;
-use crate::links::Links;
 use crate::sets::Sets;
-use crate::unit::{Numbering, Unit};
 use std::alloc::{AllocError, Global};
 use std::mem::swap;
 use ultra_halves::ProcessingElement;
+use ultra_links::{Links, Numbering, Unit, no_entries};
 use ultra_mem::Module;
 use ultra_model::Stop;
 use ultra_msg::{Event, ReplyMessage, Request};
 use ultra_route::Net;
 use ultra_switch::Switch;
-use ultra_units::{UnitSet, element_number, module_number, switch_count};
+use ultra_units::{element_number, module_number, switch_count};
 
 /// For how many events a block has memory: at most two of each of 320 units in each of four halves.
 const MOST_EVENTS: usize = 2560;
 
 /// For how many stops a block has memory.
 const MOST_STOPS: usize = 320;
-
-/// As many empty entries. An error says that memory was refused.
-fn no_entries<T: Drop>(alloc: Global, count: usize) -> Result<Vec<Option<T>>, AllocError>
-    ensures { IfOk result (λ v. v.items ≡ replicate count None) }
-{
-    let mut entries = Vec::with_capacity(alloc, count)?;
-    for entry in 0..count {
-        let _ = entry;
-        entries.push(None)?;
-    }
-    Ok(entries)
-}
-
-/// Links with nothing on them. An error says that memory was refused.
-fn no_links<M: Drop>(alloc: Global, count: usize) -> Result<Links<M>, AllocError>
-    ensures { IfOk result (λ l. l.table.items ≡ replicate count None) }
-{
-    Ok(Links {
-        table: no_entries(alloc, count)?,
-        came: UnitSet::empty(),
-        away: UnitSet::empty(),
-    })
-}
 
 /// The entries of the units of a machine with this network, where none stands. An error says that memory was refused.
 fn no_units(
@@ -75,7 +50,7 @@ fn no_messages(alloc: Global, net: Net) -> Result<(Links<ReplyMessage>, Links<Re
 {
     let size = net.size() as usize;
     let links = (net.stages() as usize + 1) * size;
-    Ok((no_links(alloc, links)?, no_links(alloc, links)?))
+    Ok((Links::empty(alloc, links)?, Links::empty(alloc, links)?))
 }
 
 /// Memory for the events and the stops of a cycle in which nothing has happened. An error says that memory was refused.

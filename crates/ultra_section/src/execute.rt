@@ -1,15 +1,15 @@
 //! The half of a cycle in which processing elements make a step of the program.
 
-ghost use Rattle.std.specs.Prelude.{◌≡◌, ℕ, ◌+◌, ◌-◌, ◌^◌, ◌<◌, ◌≤◌, length};
+ghost use Rattle.std.specs.Prelude.{◌≡◌, ℕ, ◌+◌, ◌-◌, ◌^◌, ◌<◌, length};
 ghost use Rattle.ultra_units.specs.Visits.{after_units};
 ghost use Rattle.ultra_section.specs.BlockState.{most_events, most_stops};
 ghost use Rattle.ultra_section.specs.Execution.{CanExecuteAt, ElementCanExecute, counted, element_executes, executes};
-ghost use Rattle.ultra_section.specs.Units.{IsElement};
+ghost use Rattle.ultra_links.specs.Units.{IsElement};
 
 use crate::block::{Block, append};
-use crate::unit::Unit;
 use ultra_halves::Outcome;
 use ultra_isa::Program;
+use ultra_links::Unit;
 use ultra_units::{UnitSet, Visit, visit_all};
 
 impl Block {

@@ -8,8 +8,8 @@ ghost use Rattle.ultra_halves.specs.Switches.{quiet_switch};
 ghost use Rattle.ultra_section.specs.Quiet.{or_elsewhere, quiet_block};
 
 use crate::block::Block;
-use crate::unit::Unit;
 use ultra_halves::{ProcessingElement, modules, switches};
+use ultra_links::Unit;
 use ultra_mem::Module;
 use ultra_switch::Switch;
 

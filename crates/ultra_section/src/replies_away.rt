@@ -1,35 +1,12 @@
 //! Replies that lead from one block to another.
 
-ghost use Rattle.std.specs.Prelude.{◌≡◌, ℕ, ◌+◌, ◌*◌, ◌^◌, ◌≤◌, ◌<◌, Some, IfNone, IfSome, length};
-ghost use Rattle.ultra_section.specs.Away.{IsNextForReplies, NoReplyLeavesWithin, replies_handed_over, replies_received, reply_inlets as inlets_of, taken_by_turns};
+ghost use Rattle.std.specs.Prelude.{◌≡◌, ◌+◌, ◌*◌, ◌^◌, ◌<◌, Some, IfNone, IfSome, length};
+ghost use Rattle.ultra_section.specs.Away.{IsNextForReplies, NoReplyLeavesWithin, replies_handed_over, replies_received};
+ghost use Rattle.ultra_links.specs.Inlets.{reply_inlets as inlets_of, taken_by_turns};
 
 use crate::block::Block;
-use crate::unit::{Unit, unit_of};
 use ultra_msg::ReplyMessage;
-use ultra_route::Net;
 use ultra_switch::Ports;
-use ultra_units::{place_number, reply_source};
-
-/// The links by which replies come to a unit, by its number: a processing element has one, which stands at both ports. None come to a memory module.
-pub fn reply_inlets(net: Net, unit: usize) -> Option<Ports<usize>>
-    ensures { result ≡ inlets_of net unit }
-{
-    let _even = net.size();
-    match unit_of(net, unit) {
-        Unit::Switch { stage, index } => Some(Ports {
-            zero: reply_source(net, stage, 2 * index),
-            one: reply_source(net, stage, 2 * index + 1),
-        }),
-        Unit::Element(pe) => {
-            let link = place_number(net, 0, net.shuffle(pe));
-            Some(Ports {
-                zero: link,
-                one: link,
-            })
-        }
-        Unit::Module(_) | Unit::Nothing => None,
-    }
-}
 
 impl Block {
     /// The first unit from `from` on to which replies may lead from this block, if it stands elsewhere.

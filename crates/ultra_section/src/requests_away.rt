@@ -1,35 +1,12 @@
 //! Requests that lead from one block to another.
 
-ghost use Rattle.std.specs.Prelude.{◌≡◌, ℕ, ◌+◌, ◌*◌, ◌^◌, ◌≤◌, ◌<◌, Some, IfNone, IfSome, length};
-ghost use Rattle.ultra_section.specs.Away.{IsNextForRequests, NoRequestLeavesWithin, requests_handed_over, requests_received, request_inlets as inlets_of, taken_by_turns};
+ghost use Rattle.std.specs.Prelude.{◌≡◌, ◌+◌, ◌*◌, ◌^◌, ◌<◌, Some, IfNone, IfSome, length};
+ghost use Rattle.ultra_section.specs.Away.{IsNextForRequests, NoRequestLeavesWithin, requests_handed_over, requests_received};
+ghost use Rattle.ultra_links.specs.Inlets.{request_inlets as inlets_of, taken_by_turns};
 
 use crate::block::Block;
-use crate::unit::{Unit, unit_of};
 use ultra_msg::Request;
-use ultra_route::Net;
 use ultra_switch::Ports;
-use ultra_units::{place_number, request_source};
-
-/// The links by which requests come to a unit, by its number: a memory module has one, which stands at both ports. None come to a processing element.
-pub fn request_inlets(net: Net, unit: usize) -> Option<Ports<usize>>
-    ensures { result ≡ inlets_of net unit }
-{
-    let _even = net.size();
-    match unit_of(net, unit) {
-        Unit::Switch { stage, index } => Some(Ports {
-            zero: request_source(net, stage, 2 * index),
-            one: request_source(net, stage, 2 * index + 1),
-        }),
-        Unit::Module(number) => {
-            let link = place_number(net, net.stages() - 1, number);
-            Some(Ports {
-                zero: link,
-                one: link,
-            })
-        }
-        Unit::Element(_) | Unit::Nothing => None,
-    }
-}
 
 impl Block {
     /// The first unit from `from` on to which requests may lead from this block, if it stands elsewhere.

@@ -1,49 +1,22 @@
 //! The half of a cycle in which replies leave switches and modules.
 
-ghost use Rattle.std.specs.Prelude.{◌≡◌, ℕ, ◌-◌, ◌^◌, ◌<◌};
+ghost use Rattle.std.specs.Prelude.{◌≡◌, ◌-◌, ◌^◌, ◌<◌};
 ghost use Rattle.ultra_halves.specs.Switches.{replies_leaving, without_replies};
-ghost use Rattle.ultra_section.specs.Marks.{RepliesAreKnown};
-ghost use Rattle.ultra_section.specs.RepliesSent.{begun, module_sends_reply, replies_put, reply_targets as targets_of_replies, reply_ways, sends_replies, switch_sends_replies};
+ghost use Rattle.ultra_links.specs.Marks.{RepliesAreKnown};
+ghost use Rattle.ultra_section.specs.RepliesSent.{begun, module_sends_reply, sends_replies, switch_sends_replies};
+ghost use Rattle.ultra_links.specs.Ways.{replies_put, reply_ways};
 ghost use Rattle.ultra_units.specs.Visits.{after_units};
-ghost use Rattle.ultra_section.specs.Units.{IsModule, IsSwitch};
+ghost use Rattle.ultra_links.specs.Units.{IsModule, IsSwitch};
 
 use crate::block::Block;
-use crate::links::Links;
-use crate::replies::{leave_module, leave_stage};
 use crate::rooms::Rooms;
-use crate::unit::Unit;
 use ultra_halves::{modules, switches};
+use ultra_links::replies::{leave_module, leave_stage};
+use ultra_links::{Links, Unit, find_reply_ways, reply_targets};
 use ultra_msg::ReplyMessage;
 use ultra_route::Net;
-use ultra_switch::{Ports, Switch};
-use ultra_units::{UnitSet, Visit, reply_target, switch_number, visit_all};
-
-/// The units to which replies go from a switch, by the PE-side port.
-#[inline(always)]
-fn reply_targets(net: Net, stage: u32, index: u32) -> Ports<usize>
-    requires stage { stage < net }
-    requires index { index < 2 ^ (net - 1) }
-    ensures value { result ≡ targets_of_replies net stage index }
-    ensures zero { result.zero < 320 }
-    ensures one { result.one < 320 }
-{
-    let _even = net.size();
-    Ports {
-        zero: reply_target(net, stage, 2 * index),
-        one: reply_target(net, stage, 2 * index + 1),
-    }
-}
-
-/// Whether replies may go on from a switch, by the PE-side port, to the units `targets`. `closed` are the switches without room for replies.
-#[inline(always)]
-fn find_reply_ways(closed: &UnitSet, stage: u32, targets: Ports<usize>) -> Ports<bool>
-    ensures { (net index : ℕ) → targets ≡ targets_of_replies net stage index → result ≡ reply_ways closed.now net stage index }
-{
-    Ports {
-        zero: stage == 0 || !closed.has(targets.zero),
-        one: stage == 0 || !closed.has(targets.one),
-    }
-}
+use ultra_switch::Switch;
+use ultra_units::{UnitSet, Visit, switch_number, visit_all};
 
 /// The first reply of each queue of a switch goes onto its link, where there is a way. `here` are the units that stand here, and `closed` the switches without room for replies.
 #[inline(always)]

@@ -1,13 +1,13 @@
 //! The half of a cycle in which modules serve.
 
-ghost use Rattle.std.specs.Prelude.{◌≡◌, ℕ, ◌*◌, ◌+◌, ◌<◌, ◌≤◌, length};
+ghost use Rattle.std.specs.Prelude.{◌≡◌, ℕ, ◌<◌, length};
 ghost use Rattle.ultra_units.specs.Visits.{after_units};
 ghost use Rattle.ultra_section.specs.BlockState.{HasEventRoom, most_events};
 ghost use Rattle.ultra_section.specs.Serving.{module_serves, serves};
-ghost use Rattle.ultra_section.specs.Units.{IsModule};
+ghost use Rattle.ultra_links.specs.Units.{IsModule};
 
 use crate::block::{Block, append};
-use crate::unit::Unit;
+use ultra_links::Unit;
 use ultra_msg::Event;
 use ultra_units::{UnitSet, Visit, visit_all};
 

@@ -1,18 +1,17 @@
 //! The half of a cycle in which replies come to switches and processing elements.
 
-ghost use Rattle.std.specs.Prelude.{◌≡◌, ℕ, ◌*◌, ◌+◌, ◌<◌, ◌≤◌, List, length};
+ghost use Rattle.std.specs.Prelude.{◌≡◌, ℕ, ◌<◌, List, length};
 ghost use Rattle.ultra_halves.specs.Switches.{CanTakeReplies, after_replies};
 ghost use Rattle.ultra_units.specs.Visits.{after_units};
 ghost use Rattle.ultra_section.specs.BlockState.{most_events};
-ghost use Rattle.ultra_section.specs.Marks.{HasAllLinks, RepliesAreKnown, on_both, reply_links, without_both};
+ghost use Rattle.ultra_links.specs.Marks.{HasAllLinks, RepliesAreKnown, on_both, reply_links, without_both};
 ghost use Rattle.ultra_section.specs.RepliesTaken.{CanTakeRepliesAt, ElementCanTakeReply, SwitchCanTakeReplies, element_takes_reply, switch_takes_replies, takes_replies};
-ghost use Rattle.ultra_section.specs.Units.{IsElement, IsSwitch};
+ghost use Rattle.ultra_links.specs.Units.{IsElement, IsSwitch};
 
 use crate::block::{Block, append};
-use crate::links::Links;
-use crate::replies::{take_at_element, take_at_switch};
-use crate::unit::Unit;
 use ultra_halves::switches;
+use ultra_links::replies::{take_at_element, take_at_switch};
+use ultra_links::{Links, Unit};
 use ultra_msg::{Event, ReplyMessage};
 use ultra_route::Net;
 use ultra_switch::Switch;

@@ -5,15 +5,14 @@ ghost use Rattle.ultra_halves.specs.Switches.{CanTakeRequests, after_requests, c
 ghost use Rattle.ultra_model.specs.Places.{present};
 ghost use Rattle.ultra_units.specs.Visits.{after_units};
 ghost use Rattle.ultra_section.specs.BlockState.{most_events};
-ghost use Rattle.ultra_section.specs.Marks.{HasAllLinks, RequestsAreKnown, on_both, request_links, without_both};
+ghost use Rattle.ultra_links.specs.Marks.{HasAllLinks, RequestsAreKnown, on_both, request_links, without_both};
 ghost use Rattle.ultra_section.specs.RequestsTaken.{CanTakeRequestsAt, ModuleCanTakeRequest, SwitchCanTakeRequests, module_takes_request, switch_takes_requests, takes_requests};
-ghost use Rattle.ultra_section.specs.Units.{IsModule, IsSwitch};
+ghost use Rattle.ultra_links.specs.Units.{IsModule, IsSwitch};
 
 use crate::block::{Block, append};
-use crate::links::Links;
-use crate::requests::{take_at_module, take_at_switch};
-use crate::unit::Unit;
 use ultra_halves::{modules, switches};
+use ultra_links::requests::{take_at_module, take_at_switch};
+use ultra_links::{Links, Unit};
 use ultra_msg::{Event, Request};
 use ultra_route::Net;
 use ultra_switch::{Ports, Switch};

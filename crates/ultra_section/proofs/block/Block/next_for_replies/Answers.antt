@@ -2,7 +2,8 @@ use Rattle.std.proofs.Common.{◌≡◌, ℕ, List, false, Option, Some, None, r
 use Rattle.std.specs.Prelude.{IfSome, IfNone}
 use Rattle.ultra_units.specs.Set.{has_unit, HasNoneFrom, IsFirstFrom}
 use Rattle.ultra_section.specs.BlockState.{BlockState}
-use Rattle.ultra_section.specs.Away.{AreEmpty, IsNextForReplies, NoReplyLeavesWithin, stands, reply_inlets}
+use Rattle.ultra_section.specs.Away.{IsNextForReplies, NoReplyLeavesWithin, stands}
+use Rattle.ultra_links.specs.Inlets.{AreEmpty, reply_inlets}
 use Rattle.ultra_section.proofs.RepliesAway.{none_away}
 use Rattle.ultra_section.proofs.block.Block.next_for_replies.Goals as goal
 

@@ -1,0 +1,5 @@
+pub mod Links
+pub mod Units
+pub mod Marks
+pub mod Inlets
+pub mod Ways
