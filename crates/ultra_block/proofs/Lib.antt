@@ -2,6 +2,8 @@ pub mod Alone
 pub mod Dealt
 pub mod Firsts
 pub mod Mapped
+pub mod Homes
+pub mod Recut
 pub mod Seen
 pub mod Turn
 pub mod Filled

@@ -25,7 +25,7 @@ pub stops_are : (c : Settings) (partition : List ℕ) (n : ℕ) (bs : List Block
 unfolding whole
 stops_are c partition n bs = refl
 
-abbrev state : Settings → List Instr → List ℕ → ℕ → Machine → BlocksState
+abbrev pub state : Settings → List Instr → List ℕ → ℕ → Machine → BlocksState
 state c program p count m = record { config = c; program = program; partition = p; count = count; machine = m }
 
 -- a machine cut anew

@@ -8,9 +8,7 @@ ghost use Rattle.ultra_block.specs.Dealt.{IsLastNamed};
 ghost use Rattle.ultra_section.specs.Holding.{IsNextWhere};
 ghost use Rattle.ultra_cut.specs.Holding.{holds};
 
-use crate::building::fresh_block;
 use crate::cycle::make_cycle;
-use crate::dealing::deal;
 use crate::events::{events_in, stops_in};
 use crate::lent::{at, element_in, module_in, switch_in};
 use crate::partition::{PartitionFault, names_all_units};
@@ -71,20 +69,8 @@ impl Blocks {
         if !names_all_units(config, partition) {
             return Err(PartitionFault::BadPartition);
         }
-        let settings = config.try_clone()?;
-        let program = program.try_clone(alloc)?;
-        let homes = Vec::from_slice(alloc, partition)?;
-        let mut block = fresh_block(alloc, config)?;
-        let blocks = deal(alloc, config.net(), partition, &mut block)?;
-        Ok(Blocks {
-            parts: Parts {
-                config: settings,
-                program,
-                partition: homes,
-                done: 0,
-                blocks,
-            },
-        })
+        let parts = Parts::fresh(alloc, config, program, partition)?;
+        Ok(Blocks { parts })
     }
 
     /// The same machine cut by a partition: its units move to other blocks, and nothing else changes. All of them have to stand in one block before. The partition names the block of each unit as for `new`.

@@ -1,7 +1,39 @@
-use Rattle.std.proofs.Common.{◌≡◌, ◌^◌, arith, ap, ◌∙◌, subst}
+use Rattle.std.proofs.Common.{◌≡◌, ◌+◌, ◌^◌, ◌<◌, Some, refl, arith, ap, ◌∙◌, sym, subst, set}
+use Rattle.ultra_section.specs.BlockState.{BlockState}
 use Rattle.ultra_block.specs.Fresh.{first_element}
-use Rattle.ultra_block.proofs.Placed.{ArePut, all_put}
+use Rattle.ultra_block.proofs.Placed.{ArePut, all_put, none_put, one_put}
 use Rattle.ultra_block.proofs.building.add_elements.Goals as goal
+
+pub loop-pe-init : goal.loop-pe-init
+loop-pe-init c =
+    let s = c.args.config.now in
+    let long = c.net-net.ensures.shape.elements ∙ ap (λ d. 2 ^ d) (c.net-net.ensures.value ∙ c.requires) in
+    record { put = none_put (first_element s) (2 ^ s.stages) c.args.block.now.elements long; rest = refl }
+
+pub new_element-requires : goal.new_element-requires
+new_element-requires c =
+    subst (λ k. c.loop-pe.pe < k) (c.size-pe-end.ensures.value ∙ ap (λ d. 2 ^ d) (c.net-net.ensures.value ∙ c.requires)) c.loop-pe-test.true
+
+pub put_element-requires : goal.put_element-requires
+put_element-requires c =
+    let same = c.net-net.ensures.value ∙ sym (ap (λ (b : BlockState). b.stages) c.loop-pe.invariant.rest) in
+    subst (λ k. c.loop-pe.pe < k) (c.size-pe-end.ensures.value ∙ ap (λ d. 2 ^ d) same) c.loop-pe-test.true
+
+pub loop-pe-preserved : goal.loop-pe-preserved
+loop-pe-preserved c =
+    let s = c.args.config.now in
+    let b = c.loop-pe.block in
+    let n = c.loop-pe.pe in
+    let more = set b.elements n (Some (first_element s n)) in
+    let count = c.size-pe-end.ensures.value ∙ ap (λ d. 2 ^ d) (c.net-net.ensures.value ∙ c.requires) in
+    let within : n < 2 ^ s.stages = subst (λ k. n < k) count c.loop-pe-test.true in
+    let now : c.put_element.new.self ≡ record b { elements = more } = c.put_element.ensures ∙ ap (λ x. record b { elements = set b.elements n (Some x) }) c.new_element.ensures in
+    let all : c.put_element.new.self.elements ≡ more = ap (λ (x : BlockState). x.elements) now in
+    record {
+      put = subst (λ xs. ArePut (first_element s) (2 ^ s.stages) (n + 1) xs) (sym all) (one_put (first_element s) (2 ^ s.stages) n b.elements within c.loop-pe.invariant.put);
+      rest =
+          now ∙ ap (λ (x : BlockState). record x { elements = more }) c.loop-pe.invariant.rest ∙ ap (λ xs. record c.args.block.now { elements = xs }) (sym all);
+    }
 
 pub returns : goal.returns
 returns c =

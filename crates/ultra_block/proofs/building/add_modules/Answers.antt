@@ -1,7 +1,39 @@
-use Rattle.std.proofs.Common.{◌≡◌, ◌^◌, arith, ap, ◌∙◌, subst}
+use Rattle.std.proofs.Common.{◌≡◌, ◌+◌, ◌^◌, ◌<◌, Some, refl, arith, ap, ◌∙◌, sym, subst, set}
+use Rattle.ultra_section.specs.BlockState.{BlockState}
 use Rattle.ultra_block.specs.Fresh.{first_bank}
-use Rattle.ultra_block.proofs.Placed.{ArePut, all_put}
+use Rattle.ultra_block.proofs.Placed.{ArePut, all_put, none_put, one_put}
 use Rattle.ultra_block.proofs.building.add_modules.Goals as goal
+
+pub loop-number-init : goal.loop-number-init
+loop-number-init c =
+    let s = c.args.config.now in
+    let long = c.net-net.ensures.shape.modules ∙ ap (λ d. 2 ^ d) (c.net-net.ensures.value ∙ c.requires) in
+    record { put = none_put (first_bank s) (2 ^ s.stages) c.args.block.now.modules long; rest = refl }
+
+pub new_module-requires : goal.new_module-requires
+new_module-requires c =
+    subst (λ k. c.loop-number.number < k) (c.size-number-end.ensures.value ∙ ap (λ d. 2 ^ d) (c.net-net.ensures.value ∙ c.requires)) c.loop-number-test.true
+
+pub put_module-requires : goal.put_module-requires
+put_module-requires c =
+    let same = c.net-net.ensures.value ∙ sym (ap (λ (b : BlockState). b.stages) c.loop-number.invariant.rest) in
+    subst (λ k. c.loop-number.number < k) (c.size-number-end.ensures.value ∙ ap (λ d. 2 ^ d) same) c.loop-number-test.true
+
+pub loop-number-preserved : goal.loop-number-preserved
+loop-number-preserved c =
+    let s = c.args.config.now in
+    let b = c.loop-number.block in
+    let n = c.loop-number.number in
+    let more = set b.modules n (Some (first_bank s n)) in
+    let count = c.size-number-end.ensures.value ∙ ap (λ d. 2 ^ d) (c.net-net.ensures.value ∙ c.requires) in
+    let within : n < 2 ^ s.stages = subst (λ k. n < k) count c.loop-number-test.true in
+    let now : c.put_module.new.self ≡ record b { modules = more } = c.put_module.ensures ∙ ap (λ x. record b { modules = set b.modules n (Some x) }) c.in_ok-new_module.ensures in
+    let all : c.put_module.new.self.modules ≡ more = ap (λ (x : BlockState). x.modules) now in
+    record {
+      put = subst (λ xs. ArePut (first_bank s) (2 ^ s.stages) (n + 1) xs) (sym all) (one_put (first_bank s) (2 ^ s.stages) n b.modules within c.loop-number.invariant.put);
+      rest =
+          now ∙ ap (λ (x : BlockState). record x { modules = more }) c.loop-number.invariant.rest ∙ ap (λ xs. record c.args.block.now { modules = xs }) (sym all);
+    }
 
 pub returns : goal.returns
 returns c =

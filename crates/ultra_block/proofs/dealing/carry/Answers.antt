@@ -1,9 +1,10 @@
 use Rattle.std.proofs.Common.{◌≡◌, ◌+◌, ◌<◌, arith, ap, ◌∙◌, sym, subst, length, get_or, set}
 use Rattle.std.proofs.lemmas.List.{get_or_default}
+use Rattle.ultra_section.specs.BlockState.{BlockState}
 use Rattle.ultra_section.specs.Building.{with_unit, without_unit}
 use Rattle.ultra_section.specs.Shape.{IsShaped}
 use Rattle.ultra_cut.specs.Cut.{block_at, home, no_block}
-use Rattle.ultra_block.proofs.Carried.{AreCarriedBelow, none_carried, unit_carried}
+use Rattle.ultra_block.proofs.Carried.{AreCarriedBelow, all_carried, none_carried, unit_carried}
 use Rattle.ultra_block.proofs.dealing.carry.Goals as goal
 
 pub loop-unit-init : goal.loop-unit-init
@@ -39,3 +40,27 @@ returns-clause-count c = c.loop-unit.invariant.count
 
 pub returns-clause-story : goal.returns-clause-story
 returns-clause-story c = (c.loop-unit.invariant.story.events, c.loop-unit.invariant.story.stops)
+
+pub bounds-blocks-home : goal.bounds-blocks-home
+bounds-blocks-home c = subst (λ k. home c.args.partition.now c.loop-unit.unit < k) (sym c.loop-unit.invariant.count) (c.requires.named c.loop-unit.unit 0 c.loop-unit-test.true)
+
+pub offset_bounds-blocks-home : goal.offset_bounds-blocks-home
+offset_bounds-blocks-home c = let small = c.type_inv.partition c.loop-unit.unit in omega (arith, small)
+
+pub move_unit-requires : goal.move_unit-requires
+move_unit-requires c =
+    let h = home c.args.partition.now c.loop-unit.unit in
+    let known = c.loop-unit.invariant in
+    let there : h < length c.loop-unit.blocks = subst (λ k. h < k) (sym known.count) (c.requires.named c.loop-unit.unit 0 c.loop-unit-test.true) in
+    ap (λ (b : BlockState). b.stages) (get_or_default c.loop-unit.blocks h c.index-blocks-home.result no_block there) ∙ (known.bare h there).stages ∙ sym known.stages
+
+pub returns-clause-carried : goal.returns-clause-carried
+returns-clause-carried c =
+    let b = c.args.block.now in
+    let partition = c.args.partition.now in
+    let blocks = length c.args.blocks.now in
+    let left = c.loop-unit.block in
+    let now = c.loop-unit.blocks in
+    let all : c.loop-unit.unit ≡ length partition = omega (arith, c.loop-unit.auto.unit-end, c.loop-unit-test.false) in
+    all_carried b.stages partition b blocks left now
+    (subst (λ n. AreCarriedBelow b.stages partition b blocks n left now) (all ∙ c.requires.count) c.loop-unit.invariant)

@@ -23,6 +23,12 @@ carry-requires-clause-empty c =
     let long : length c.as_mut_slice.result.now ≡ count = ap (λ (bs : List BlockState). length bs) all ∙ length-replicate count (empty_after b.stages b.done) in
     all ∙ ap (λ n. replicate n (empty_after b.stages b.done)) (sym long)
 
+pub carry-requires-clause-named : goal.carry-requires-clause-named
+carry-requires-clause-named c =
+    let count = c.as_mut_slice.ensures.value ∙ c.in_ok-blocks.ensures in
+    let long = ap (λ (bs : List BlockState). length bs) count ∙ length-replicate c.count_blocks-count.result (empty_after c.args.net c.done.result) in
+    λ k d within. subst (λ n. get_or c.args.partition.now k d < n) (sym long) (c.count_blocks-count.ensures.named k d within)
+
 pub returns-clause-dealt : goal.returns-clause-dealt
 returns-clause-dealt c =
     let d = c.args.net in

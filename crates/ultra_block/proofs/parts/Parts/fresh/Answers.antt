@@ -1,0 +1,21 @@
+use Rattle.std.proofs.Common.{◌∙◌, ap, subst, sym}
+use Rattle.ultra_cut.specs.Moments.{AreWhole, machine_in}
+use Rattle.ultra_block.proofs.parts.Parts.fresh.Goals as goal
+
+pub returns-clause-whole : goal.returns-clause-whole
+returns-clause-whole c =
+    let s = c.args.config.now in
+    let bs = c.in_ok-blocks.blocks.items in
+    record {
+      whole =
+          subst (λ k. AreWhole k c.in_ok-homes.homes.items 0 bs) (sym c.in_ok-settings.ensures)
+          (subst (λ q. AreWhole s q 0 bs) (sym c.in_ok-homes.ensures.items) c.in_ok-blocks.ensures.whole);
+      few = c.in_ok-blocks.ensures.few;
+    }
+
+pub returns-clause-state : goal.returns-clause-state
+returns-clause-state c =
+    let bs = c.in_ok-blocks.blocks.items in
+    ap (λ k. machine_in k c.in_ok-homes.homes.items 0 bs) c.in_ok-settings.ensures
+    ∙ ap (λ q. machine_in c.args.config.now q 0 bs) c.in_ok-homes.ensures.items
+    ∙ c.in_ok-blocks.ensures.state

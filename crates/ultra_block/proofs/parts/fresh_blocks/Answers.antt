@@ -1,0 +1,55 @@
+use Rattle.std.proofs.Common.{[], ◌∷◌, ap, ◌∙◌, sym, subst}
+use Rattle.std.proofs.lemmas.Result.{IfOk-weaker}
+use Rattle.ultra_course.specs.Frame.{IsClear}
+use Rattle.ultra_units.specs.Numbers.{unit_count}
+use Rattle.ultra_cut.specs.Halves.{AreBlocks}
+use Rattle.ultra_cut.specs.Moments.{AreWhole}
+use Rattle.ultra_block.specs.Fresh.{frame_of_one, one_block}
+use Rattle.ultra_block.specs.Dealt.{IsDealt}
+use Rattle.ultra_block.proofs.Dealt.{dealt_machine, dealt_whole, fresh_machine, fresh_whole}
+use Rattle.ultra_block.proofs.Homes.{all_units, are_blocks}
+use Rattle.ultra_block.proofs.parts.fresh_blocks.Goals as goal
+
+pub deal-requires-clause-blocks : goal.deal-requires-clause-blocks
+deal-requires-clause-blocks c =
+    let b = c.in_ok-block.block in
+    subst (λ d. AreBlocks d (one_block d) (b ∷ [])) (sym c.net.ensures) c.in_ok-block.ensures.blocks
+
+pub deal-requires-clause-clear : goal.deal-requires-clause-clear
+deal-requires-clause-clear c =
+    let b = c.in_ok-block.block in
+    subst (λ d. IsClear d (frame_of_one d b)) (sym c.net.ensures) c.in_ok-block.ensures.clear
+
+pub deal-requires-clause-partition : goal.deal-requires-clause-partition
+deal-requires-clause-partition c = all_units c.args.config.now c.args.partition.now c.requires ∙ ap unit_count (sym c.net.ensures)
+
+pub deal-requires-clause-named : goal.deal-requires-clause-named
+deal-requires-clause-named c = are_blocks c.args.config.now c.args.partition.now c.requires
+
+pub returns-clause-whole : goal.returns-clause-whole
+returns-clause-whole c =
+    let s = c.args.config.now in
+    let b = c.in_ok-block.block in
+    let partition = c.args.partition.now in
+    IfOk-weaker c.deal.result (λ bs. IsDealt c.net.result partition b bs.items) (λ bs. AreWhole s partition 0 bs.items)
+    (λ bs dealt. dealt_whole s 0 b (fresh_whole s b c.in_ok-block.ensures) partition bs.items (subst (λ d. IsDealt d partition b bs.items) c.net.ensures dealt))
+    c.deal.ensures.dealt
+
+pub returns-clause-few : goal.returns-clause-few
+returns-clause-few c =
+    IfOk-weaker c.deal.result (λ bs. IsDealt c.net.result c.args.partition.now c.in_ok-block.block bs.items) _ (λ bs dealt. dealt.few) c.deal.ensures.dealt
+
+pub returns-clause-count : goal.returns-clause-count
+returns-clause-count c =
+    IfOk-weaker c.deal.result (λ bs. IsDealt c.net.result c.args.partition.now c.in_ok-block.block bs.items) _ (λ bs dealt. dealt.last) c.deal.ensures.dealt
+
+pub returns-clause-state : goal.returns-clause-state
+returns-clause-state c =
+    let s = c.args.config.now in
+    let b = c.in_ok-block.block in
+    let partition = c.args.partition.now in
+    IfOk-weaker c.deal.result (λ bs. IsDealt c.net.result partition b bs.items) _
+    (λ bs dealt.
+    dealt_machine s 0 b (fresh_whole s b c.in_ok-block.ensures) partition bs.items (subst (λ d. IsDealt d partition b bs.items) c.net.ensures dealt)
+    ∙ fresh_machine s b c.in_ok-block.ensures)
+    c.deal.ensures.dealt
