@@ -69,8 +69,9 @@ impl Blocks {
         if !names_all_units(config, partition) {
             return Err(PartitionFault::BadPartition);
         }
-        let parts = Parts::fresh(alloc, config, program, partition)?;
-        Ok(Blocks { parts })
+        Ok(Blocks {
+            parts: Parts::fresh(alloc, config, program, partition)?,
+        })
     }
 
     /// The same machine cut by a partition: its units move to other blocks, and nothing else changes. All of them have to stand in one block before. The partition names the block of each unit as for `new`.
