@@ -8,10 +8,12 @@ use Rattle.ultra_switch.specs.declared.Entry.{Entry}
 use Rattle.ultra_switch.specs.declared.WaitRecord.{WaitRecord}
 use Rattle.ultra_model.specs.Machine.{Machine}
 use Rattle.ultra_units.specs.Numbers.{switch_count, switch_number, module_number, element_number}
+use Rattle.ultra_block.specs.Held.{Held}
 use Rattle.ultra_block.specs.Held.TheVariants.{Reply, Request, Record}
 use Rattle.ultra_block.specs.Holding.{holds}
 use Rattle.ultra_block.proofs.NothingHeld.{no_replies, no_requests, no_records, no_reply, no_request, none_pending}
 use Rattle.ultra_model.specs.Trace.{pni_line, req_line, wait_line, inp_line, out_line, rep_line, pni_of, req_of, wait_of, inp_of, out_of, rep_of}
+use Rattle.ultra_lines.specs.Ports.{port_line}
 use Rattle.ultra_lines.proofs.Rows.{lines_at}
 use Rattle.ultra_lines.proofs.Skipped.{two_lines}
 
@@ -36,20 +38,26 @@ module _ (d : ℕ) (m : Machine) where
     hk : k < 2 ^ (d - 1)
     hk = mod-lt n (pow_pos (d - 1))
 
-    pub no_request_lines : holds d m Request (0 + n) ≡ false → lines_at (2 ^ (d - 1)) (req_of m) n ≡ []
+    no_request_lines : holds d m Request (0 + n) ≡ false → lines_at (2 ^ (d - 1)) (req_of m) n ≡ []
     no_request_lines none =
         let empty = no_requests d m s k hs hk (subst (λ n. holds d m Request n ≡ false) number_is none) in
         two_none (req_of m s) k (ap (λ (es : List Entry). req_line s (2 * k) es) empty.0) (ap (λ (es : List Entry). req_line s (2 * k + 1) es) empty.1)
 
-    pub no_record_lines : holds d m Record (0 + n) ≡ false → lines_at (2 ^ (d - 1)) (wait_of m) n ≡ []
+    no_record_lines : holds d m Record (0 + n) ≡ false → lines_at (2 ^ (d - 1)) (wait_of m) n ≡ []
     no_record_lines none =
         let empty = no_records d m s k hs hk (subst (λ n. holds d m Record n ≡ false) number_is none) in
         two_none (wait_of m s) k (ap (λ (ws : List WaitRecord). wait_line s (2 * k) ws) empty.0) (ap (λ (ws : List WaitRecord). wait_line s (2 * k + 1) ws) empty.1)
 
-    pub no_reply_lines : holds d m Reply (0 + n) ≡ false → lines_at (2 ^ (d - 1)) (rep_of m) n ≡ []
+    no_reply_lines : holds d m Reply (0 + n) ≡ false → lines_at (2 ^ (d - 1)) (rep_of m) n ≡ []
     no_reply_lines none =
         let empty = no_replies d m s k hs hk (subst (λ n. holds d m Reply n ≡ false) number_is none) in
         two_none (rep_of m s) k (ap (λ (rs : List ReplyMessage). rep_line s (2 * k) rs) empty.0) (ap (λ (rs : List ReplyMessage). rep_line s (2 * k + 1) rs) empty.1)
+
+    -- of any kind
+    pub no_port_lines : (held : Held) → holds d m held (0 + n) ≡ false → lines_at (2 ^ (d - 1)) (port_line held m) n ≡ []
+    no_port_lines Reply none = no_reply_lines none
+    no_port_lines Request none = no_request_lines none
+    no_port_lines Record none = no_record_lines none
 
   -- ---- module k
   module _ (k : ℕ) (hk : k < 2 ^ d) where

@@ -4,7 +4,8 @@ ghost use Rattle.std.specs.Prelude.{◌≡◌, ◌+◌, ◌*◌, ◌-◌, ◌/�
 ghost use Rattle.ultra_model.specs.Machine.{size};
 ghost use Rattle.ultra_units.specs.Numbers.{switch_count};
 ghost use Rattle.ultra_page.specs.Page.{Writes};
-ghost use Rattle.ultra_model.specs.Trace.{by_number, by_stage, pni_of, req_of, wait_of, inp_of, out_of, rep_of, state_text};
+ghost use Rattle.ultra_lines.specs.Ports.{port_line};
+ghost use Rattle.ultra_model.specs.Trace.{by_number, by_stage, pni_of, inp_of, out_of, state_text};
 
 use crate::holders::{elements_with, modules_with, switches_with};
 use crate::places::{put_inp, put_out, put_pni, put_rep, put_req, put_wait};
@@ -17,11 +18,11 @@ pub(crate) fn put_state<S: Sink>(page: &mut Page<'_, S>, blocks: &Blocks)
     ensures { Writes S.taken S.failures (state_text blocks.now.config blocks.now.machine) page.old page.new }
 {
     put_interfaces(page, blocks);
-    put_request_queues(page, blocks);
-    put_wait_buffers(page, blocks);
+    put_switches(page, blocks, Held::Request);
+    put_switches(page, blocks, Held::Record);
     put_requests_to_serve(page, blocks);
     put_replies_to_leave(page, blocks);
-    put_reply_queues(page, blocks);
+    put_switches(page, blocks, Held::Reply);
 }
 
 /// Writes the lines of the requests that are not yet in the network, by processing element.
@@ -33,29 +34,30 @@ fn put_interfaces<S: Sink>(page: &mut Page<'_, S>, blocks: &Blocks)
     }
 }
 
-/// Writes the lines of the queues toward memory, by stage, then position.
-fn put_request_queues<S: Sink>(page: &mut Page<'_, S>, blocks: &Blocks)
-    ensures { Writes S.taken S.failures (by_stage blocks.now.config (req_of blocks.now.machine)) page.old page.new }
+/// Writes the lines of what switches hold of one kind, by stage, then position: the queues of requests or of replies, or the wait buffers.
+#[inline(always)]
+fn put_switches<S: Sink>(page: &mut Page<'_, S>, blocks: &Blocks, held: Held)
+    ensures { Writes S.taken S.failures (by_stage blocks.now.config (port_line held blocks.now.machine)) page.old page.new }
 {
     let _even = positions(blocks);
-    for switch in switches_with(blocks, Held::Request) {
+    for switch in switches_with(blocks, held) {
         let (stage, first) = place_of(blocks, switch);
-        let second = first + 1;
-        put_req(page, stage, first, blocks.lane(stage, first));
-        put_req(page, stage, second, blocks.lane(stage, second));
+        put_port(page, blocks, held, stage, first);
+        put_port(page, blocks, held, stage, first + 1);
     }
 }
 
-/// Writes the lines of the wait buffers, by stage, then position.
-fn put_wait_buffers<S: Sink>(page: &mut Page<'_, S>, blocks: &Blocks)
-    ensures { Writes S.taken S.failures (by_stage blocks.now.config (wait_of blocks.now.machine)) page.old page.new }
+/// Writes the line of what a switch holds of one kind, at a position of a stage.
+#[inline(always)]
+fn put_port<S: Sink>(page: &mut Page<'_, S>, blocks: &Blocks, held: Held, stage: u32, position: u32)
+    requires stage { stage < blocks.now.config.stages }
+    requires position { position < 2 ^ blocks.now.config.stages }
+    ensures { Writes S.taken S.failures (port_line held blocks.now.machine stage position) page.old page.new }
 {
-    let _even = positions(blocks);
-    for switch in switches_with(blocks, Held::Record) {
-        let (stage, first) = place_of(blocks, switch);
-        let second = first + 1;
-        put_wait(page, stage, first, blocks.lane(stage, first));
-        put_wait(page, stage, second, blocks.lane(stage, second));
+    match held {
+        Held::Reply => put_rep(page, stage, position, blocks.reply_queue(stage, position)),
+        Held::Request => put_req(page, stage, position, blocks.lane(stage, position)),
+        Held::Record => put_wait(page, stage, position, blocks.lane(stage, position)),
     }
 }
 
@@ -74,19 +76,6 @@ fn put_replies_to_leave<S: Sink>(page: &mut Page<'_, S>, blocks: &Blocks)
 {
     for number in modules_with(blocks, Held::Reply) {
         put_out(page, number, blocks.bank(number));
-    }
-}
-
-/// Writes the lines of the queues toward the processing elements, by stage, then position.
-fn put_reply_queues<S: Sink>(page: &mut Page<'_, S>, blocks: &Blocks)
-    ensures { Writes S.taken S.failures (by_stage blocks.now.config (rep_of blocks.now.machine)) page.old page.new }
-{
-    let _even = positions(blocks);
-    for switch in switches_with(blocks, Held::Reply) {
-        let (stage, first) = place_of(blocks, switch);
-        let second = first + 1;
-        put_rep(page, stage, first, blocks.reply_queue(stage, first));
-        put_rep(page, stage, second, blocks.reply_queue(stage, second));
     }
 }
 

@@ -3,4 +3,4 @@ use Rattle.ultra_lines.proofs.state.put_state.Goals as goal
 
 pub returns : goal.returns
 returns g c =
-    c.put_interfaces.ensures then c.put_request_queues.ensures then c.put_wait_buffers.ensures then c.put_requests_to_serve.ensures then c.put_replies_to_leave.ensures then c.put_reply_queues.ensures
+    c.put_interfaces.ensures then c.put_switches.ensures then c.put_switches-2.ensures then c.put_requests_to_serve.ensures then c.put_replies_to_leave.ensures then c.put_switches-3.ensures
