@@ -37,8 +37,7 @@ impl ByName {
     pub fn add(&mut self, entry: Entry) -> Result<(), AllocError>
         ensures { OnOk result ((log : LogOf) (before : List EntryOf) → Holds self.old log before → Holds self.new log (before ++ entry ∷ [])) }
     {
-        self.entries.push((entry.pe, entry.number), entry)?;
-        Ok(())
+        self.entries.push((entry.pe, entry.number), entry)
     }
 }
 

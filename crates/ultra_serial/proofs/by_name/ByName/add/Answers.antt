@@ -1,11 +1,12 @@
+use Rattle.std.proofs.lemmas.Result.{on_ok_weaker}
 use Rattle.ultra_serial.specs.ByPair.{list_of}
 use Rattle.ultra_law.specs.declared.records.Entry.{Entry}
 use Rattle.ultra_serial.proofs.ByName.{more_by_name}
 use Rattle.ultra_serial.proofs.by_name.ByName.add.Goals as goal
 
 pub returns : goal.returns
-returns c = λ log before h. record {
+returns c = on_ok_weaker c.push.result (λ more log before h. record {
   issues = h.issues;
   answers = h.answers;
-  entries = more_by_name (λ (e : Entry). e.pe) (λ (e : Entry). e.number) (list_of c.args.self.now.entries.lists) before h.entries (list_of c.push.new.self.lists) c.args.entry c.in_ok-push.ensures;
-}
+  entries = more_by_name (λ (e : Entry). e.pe) (λ (e : Entry). e.number) (list_of c.args.self.now.entries.lists) before h.entries (list_of c.push.new.self.lists) c.args.entry more;
+}) c.push.ensures
