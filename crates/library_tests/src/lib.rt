@@ -2,16 +2,6 @@
 #![tactic(auto)]
 
 #[cfg(test)]
-mod blocks;
-#[cfg(test)]
-mod crews;
-#[cfg(test)]
-mod cuts;
-#[cfg(test)]
-mod gates;
-#[cfg(test)]
-mod machines;
-#[cfg(test)]
 mod modules;
 #[cfg(test)]
 mod orders;
@@ -31,5 +21,3 @@ mod switches;
 mod traces;
 #[cfg(test)]
 mod trays;
-#[cfg(test)]
-mod waves;

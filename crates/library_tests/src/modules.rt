@@ -1,8 +1,8 @@
 //! One memory module.
 
-use crate::machines::{answer, faa};
 use std::process::Abort;
 use std::test::Fail;
+use tests_base::{answer, faa};
 use ultra_mem::{Module, ModuleFault, Served};
 use ultra_msg::{Reply, ReplyMessage, Request, Word};
 

@@ -1,10 +1,9 @@
 //! Orders and logs of worked runs, and lists that are refused.
 
-use crate::programs::{add_one, program, register};
-use crate::settings::defaults;
 use std::alloc::Global;
 use std::process::Abort;
 use std::test::Fail;
+use tests_base::{add_one, defaults, program, register};
 use ultra_isa::{Instr, Program};
 use ultra_machine::{Config, RawSettings};
 use ultra_msg::{Cell, Op, Pe, Reply, Word};

@@ -1,78 +1,74 @@
-//! Machines of two stages in several partitions, before their first cycle.
+//! The lines of a machine's cycles are the same in every partition, by every number of workers.
 
-use crate::blocks::{events_are, first_cell_is, lane, run_blocks};
-use crate::machines::{answered, kept, queue_is, record_is};
-use crate::programs::add_one;
-use crate::settings::config;
+use crate::trays::Tray;
 use std::process::Abort;
+use std::sync::Wait;
 use std::test::Fail;
-use ultra_machine::{Blocks, PartitionFault};
-use ultra_msg::Op;
+use std::thread::Threads;
+use tests_base::{Counter, TWO_LEVEL_TREE, add_number, config};
+use ultra_crew::{Blocks, Crew};
+use ultra_trace::write_cycle;
 
-/// After cycle 4 the four requests have combined into one.
-fn four_are_one(rt: &impl Abort, blocks: &Blocks) {
-    queue_is(rt, lane(rt, blocks, 1, 0), &[(2, 0, Op::Faa(4), true)]);
-    record_is(rt, lane(rt, blocks, 1, 0), kept(2, 3, 2));
-    record_is(rt, lane(rt, blocks, 0, 0), kept(2, 0, 1));
-    record_is(rt, lane(rt, blocks, 0, 2), kept(3, 1, 1));
+/// Makes the first ten cycles by these workers, and writes their lines.
+fn make_and_write_ten<R: Threads + Wait + Sync + Abort + AllocGlobal>(
+    rt: &R,
+    mut blocks: Blocks,
+    workers: usize,
+    out: &mut Tray<'_, R>,
+) -> Result<(), Fail> {
+    assert!(rt; 1 <= workers);
+    assert!(rt; workers <= 64);
+    for _ in 0..10_u32 {
+        assert!(rt; blocks.done() < 1000);
+        blocks = Crew::cycle(rt, rt.alloc(), blocks, workers, &Counter::new())?;
+        assert!(rt; blocks.done() > 0);
+        if write_cycle(&blocks, out).is_err() {
+            return Err(Fail::from("not written"));
+        }
+    }
+    Ok(())
 }
 
-/// All ten cycles of the run.
-fn runs(rt: &impl Abort, blocks: &mut Blocks) {
-    run_blocks(rt, blocks, 5);
-    four_are_one(rt, blocks);
-    run_blocks(rt, blocks, 5);
-    let answers = [
-        answered(0, 1),
-        answered(1, 3),
-        answered(2, 0),
-        answered(3, 2),
-    ];
-    events_are(rt, blocks, &answers);
-    first_cell_is(rt, blocks, 4);
-}
-
-/// The machine in which each processing element adds 1 to cell 0, in this partition.
-fn runs_in(rt: &(impl Abort + AllocGlobal), partition: &[u8]) -> Result<(), Fail> {
+/// Asserts that ten cycles of the machine of `two_level_tree`, cut so and made by these workers, have that trace's lines.
+fn check_lines<R: Threads + Wait + Sync + Abort + AllocGlobal>(
+    rt: &R,
+    partition: &[u8],
+    workers: usize,
+) -> Result<(), Fail> {
     let config = config(rt.alloc(), 2)?;
-    let program = add_one(rt.alloc())?;
-    let mut blocks = Blocks::new(rt.alloc(), &config, &program, partition)?;
-    runs(rt, &mut blocks);
+    let program = add_number(rt.alloc())?;
+    let blocks = Blocks::new(rt.alloc(), &config, &program, partition)?;
+    let mut out = Tray::new(rt);
+    make_and_write_ten(rt, blocks, workers, &mut out)?;
+    let cycles = out.text();
+    let trace = format!(in rt.alloc(); "ultra trace 2\n{cycles}end quiet\n")?;
+    assert!(rt; TWO_LEVEL_TREE.starts_with(trace.as_str()), "{trace}");
+    Ok(())
+}
+
+/// Asserts the same by 1, 2, 3 and 64 workers.
+fn check_partition<R: Threads + Wait + Sync + Abort + AllocGlobal>(
+    rt: &R,
+    partition: &[u8],
+) -> Result<(), Fail> {
+    for workers in [1, 2, 3, 64] {
+        check_lines(rt, partition, workers)?;
+    }
     Ok(())
 }
 
 #[test]
 fn one_block(rt: HostRuntime) -> Result<(), Fail> {
-    runs_in(&rt, &[0; 12])
+    check_partition(&rt, &[0; 12])
 }
 
 #[test]
 fn one_unit_a_block(rt: HostRuntime) -> Result<(), Fail> {
-    runs_in(&rt, &[0, 1, 2, 3, 4, 5, 6, 7, 8, 9, 10, 11])
+    check_partition(&rt, &[0, 1, 2, 3, 4, 5, 6, 7, 8, 9, 10, 11])
 }
 
-#[test]
-fn empty_blocks(rt: HostRuntime) -> Result<(), Fail> {
-    runs_in(&rt, &[0, 63, 63, 0, 0, 0, 63, 63, 0, 63, 0, 63])
-}
-
+/// All switches in block 5, and all else in block 0.
 #[test]
 fn switches_apart(rt: HostRuntime) -> Result<(), Fail> {
-    runs_in(&rt, &[5, 5, 5, 5, 0, 0, 0, 0, 0, 0, 0, 0])
-}
-
-#[test]
-fn bad_partitions(rt: HostRuntime) -> Result<(), Fail> {
-    let config = config(rt.alloc(), 2)?;
-    let program = add_one(rt.alloc())?;
-    let short = Blocks::new(rt.alloc(), &config, &program, &[0; 11]).err();
-    assert_eq!(rt; short, Some(PartitionFault::BadPartition));
-    let above = Blocks::new(
-        rt.alloc(),
-        &config,
-        &program,
-        &[0, 0, 0, 0, 0, 0, 0, 0, 0, 0, 0, 64],
-    );
-    assert_eq!(rt; above.err(), Some(PartitionFault::BadPartition));
-    Ok(())
+    check_partition(&rt, &[5, 5, 5, 5, 0, 0, 0, 0, 0, 0, 0, 0])
 }

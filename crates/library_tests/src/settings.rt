@@ -3,26 +3,8 @@
 use std::alloc::Global;
 use std::process::Abort;
 use std::test::Fail;
+use tests_base::defaults;
 use ultra_machine::{Config, ConfigFault, Field, RawSettings};
-
-/// The default settings with n stages.
-pub(crate) fn defaults(alloc: Global, stages: i64) -> RawSettings {
-    RawSettings {
-        stages: Some(stages),
-        request_places: Some(4),
-        reply_places: Some(8),
-        wait_places: Some(4),
-        most_open: Some(2),
-        cells: Some(16),
-        cycles: Some(1000),
-        initial: Some(Vec::new(alloc)),
-    }
-}
-
-/// The same, accepted.
-pub(crate) fn config(alloc: Global, stages: i64) -> Result<Config, Fail> {
-    Ok(Config::new(alloc, &defaults(alloc, stages))?)
-}
 
 /// The field for which these settings are refused, if they are.
 fn refusal(alloc: Global, raw: &RawSettings) -> Result<Option<Field>, Fail> {

@@ -1,8 +1,8 @@
 //! One switch: a pair that combines and splits, and a reply that waits.
 
-use crate::machines::{answer, faa};
 use std::process::Abort;
 use std::test::Fail;
+use tests_base::{answer, faa};
 use ultra_msg::{Op, ReplyMessage};
 use ultra_switch::{Arrived, Split, Switch, ToMm, ToPe};
 

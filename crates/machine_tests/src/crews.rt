@@ -1,15 +1,13 @@
 //! Machines whose cycles are made by several workers.
 
 use crate::blocks::{bank, element, event_is, lane, replies, tree_is_answered};
-use crate::gates::{Counter, Holdup, Meeting, all_met};
-use crate::programs::{add_number, register};
-use crate::settings::config;
 use std::alloc::Global;
 use std::process::Abort;
 use std::sync::Wait;
 use std::sync::atomic::Ordering;
 use std::test::Fail;
 use std::thread::Threads;
+use tests_base::{Counter, Holdup, Meeting, add_number, config, register};
 use ultra_crew::{Crew, CrewFault, Gate, cycle_alone};
 use ultra_isa::{Activity, MachineFault, Processor};
 use ultra_machine::{Blocks, ProcessingElement};
@@ -83,7 +81,7 @@ fn cycles_by_kept_two<R: Threads + Wait + Sync + Abort + AllocGlobal, G: Gate + 
 fn gate_meets(rt: HostRuntime) -> Result<(), Fail> {
     let meeting = Meeting::new();
     cycles_by_two(&rt, &meeting, 8)?;
-    all_met(&rt, &meeting);
+    assert_eq!(rt; meeting.halves_met(), Some(8 * 6));
     Ok(())
 }
 
@@ -92,7 +90,7 @@ fn gate_meets(rt: HostRuntime) -> Result<(), Fail> {
 fn gate_meets_when_kept(rt: HostRuntime) -> Result<(), Fail> {
     let meeting = Meeting::new();
     cycles_by_kept_two(&rt, &meeting, 8)?;
-    all_met(&rt, &meeting);
+    assert_eq!(rt; meeting.halves_met(), Some(8 * 6));
     Ok(())
 }
 

@@ -1,11 +1,10 @@
 //! Machines that are cut on their way: in the worked run of a tree of two levels, after five of its ten cycles.
 
 use crate::blocks::{run_blocks, tree_is_answered};
-use crate::machines::{combined, ends_with, four_become_one, machine, one_becomes_four, run_to};
-use crate::programs::add_number;
-use crate::settings::defaults;
+use crate::machines::{ends_with, four_become_one, machine, one_becomes_four, run_to};
 use std::process::Abort;
 use std::test::Fail;
+use tests_base::{add_number, combined, defaults};
 use ultra_machine::{Blocks, Machine, PartitionFault};
 
 /// The machine before its sixth cycle, with the four requests on their way as one.

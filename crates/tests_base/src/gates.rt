@@ -1,6 +1,5 @@
 //! Gates that the workers of a crew call before each half of a block.
 
-use std::process::Abort;
 use std::sync::Wait;
 use std::sync::atomic::{AtomicU64, Ordering};
 use std::thread;
@@ -8,12 +7,14 @@ use ultra_crew::{Gate, Half};
 
 /// A gate that counts its calls.
 #[derive(Drop)]
-pub(crate) struct Counter {
-    pub(crate) calls: AtomicU64,
+pub struct Counter {
+    /// How often it was called.
+    pub calls: AtomicU64,
 }
 
 impl Counter {
-    pub(crate) fn new() -> Counter {
+    /// A gate that nobody has called yet.
+    pub fn new() -> Counter {
         Counter {
             calls: AtomicU64::new(0),
         }
@@ -28,8 +29,9 @@ impl Gate for Counter {
 
 /// A gate that holds the worker of one block up, 1,000 turns each time.
 #[derive(Drop)]
-pub(crate) struct Holdup {
-    pub(crate) block: usize,
+pub struct Holdup {
+    /// The number of that block.
+    pub block: usize,
 }
 
 impl Gate for Holdup {
@@ -44,13 +46,14 @@ impl Gate for Holdup {
 
 /// A gate at which the workers of blocks 0 and 1 meet: each raises a flag, by the number of the half, and waits for the other's, 10,000,000 turns at most.
 #[derive(Drop)]
-pub(crate) struct Meeting {
-    pub(crate) flags: [AtomicU64; 2],
-    pub(crate) missed: AtomicU64,
+pub struct Meeting {
+    flags: [AtomicU64; 2],
+    missed: AtomicU64,
 }
 
 impl Meeting {
-    pub(crate) fn new() -> Meeting {
+    /// A gate to which nobody has come yet.
+    pub fn new() -> Meeting {
         Meeting {
             flags: [AtomicU64::new(0), AtomicU64::new(0)],
             missed: AtomicU64::new(0),
@@ -70,14 +73,14 @@ impl Meeting {
         }
         self.missed.fetch_add(1, Ordering::SeqCst);
     }
-}
 
-/// In eight cycles of six halves the workers of blocks 0 and 1 have met in every half.
-pub(crate) fn all_met(rt: &impl Abort, meeting: &Meeting) {
-    let [first, second] = &meeting.flags;
-    assert_eq!(rt; first.load(Ordering::SeqCst), 48);
-    assert_eq!(rt; second.load(Ordering::SeqCst), 48);
-    assert_eq!(rt; meeting.missed.load(Ordering::SeqCst), 0);
+    /// In how many halves both have met, unless one of them missed the other.
+    pub fn halves_met(&self) -> Option<u64> {
+        let [first, second] = &self.flags;
+        let halves = first.load(Ordering::SeqCst);
+        let is_met = second.load(Ordering::SeqCst) == halves;
+        (is_met && self.missed.load(Ordering::SeqCst) == 0).then_some(halves)
+    }
 }
 
 impl Gate for Meeting {

@@ -2,10 +2,9 @@
 //! one act.
 
 use crate::machines::{machine, run};
-use crate::programs::add_one;
-use crate::settings::defaults;
 use std::process::Abort;
 use std::test::Fail;
+use tests_base::{add_one, defaults};
 use ultra_machine::Machine;
 use ultra_msg::Event;
 

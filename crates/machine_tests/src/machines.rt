@@ -1,13 +1,15 @@
 //! Worked runs of two stages. All requests are for cell 0, but in the last.
 
-use crate::programs::{add_number, add_one, program, register};
-use crate::settings::defaults;
 use std::alloc::Global;
 use std::process::Abort;
 use std::test::Fail;
+use tests_base::{
+    add_number, add_one, answer, answered, combined, defaults, issued, kept, program, register,
+    served,
+};
 use ultra_isa::{Instr, Program};
 use ultra_machine::{Config, Machine, RawSettings};
-use ultra_msg::{Event, Give, Op, Pe, Reply, ReplyMessage, Request, Word};
+use ultra_msg::{Event, Give, Op, Pe, Request, Word};
 use ultra_switch::{Entry, ToMm, WaitRecord};
 
 /// The machine before its first cycle.
@@ -26,59 +28,6 @@ pub(crate) fn run(rt: &impl Abort, machine: &mut Machine, cycles: u32) {
         assert!(rt; machine.done() < 1000);
         machine.cycle();
     }
-}
-
-/// A processing element adds this word.
-pub(crate) fn faa(pe: Pe, word: Word) -> Request {
-    Request {
-        pe,
-        cell: 0,
-        op: Op::Faa(word),
-    }
-}
-
-/// A processing element is answered this word.
-pub(crate) fn answer(pe: Pe, word: Word) -> ReplyMessage {
-    ReplyMessage {
-        pe,
-        cell: 0,
-        reply: Reply::Value(word),
-    }
-}
-
-/// A processing element issues its first request, which adds this word.
-fn issued(pe: Pe, word: Word) -> Event {
-    Event::Issued {
-        request: faa(pe, word),
-        number: 0,
-    }
-}
-
-/// Two requests combine at this stage and position: that of the first processing element with that of the second.
-pub(crate) fn combined(stage: u32, position: u32, old: Pe, new: Pe) -> Event {
-    Event::Combined {
-        stage,
-        position,
-        cell: 0,
-        old,
-        new,
-        old_first: true,
-    }
-}
-
-/// Module 0 serves the request of a processing element that adds a word, with the value before and after.
-fn served(pe: Pe, word: Word, old: Word, now: Word) -> Event {
-    Event::Served {
-        module: 0,
-        request: faa(pe, word),
-        reply: Reply::Value(old),
-        now,
-    }
-}
-
-/// A processing element gets this value.
-pub(crate) fn answered(pe: Pe, word: Word) -> Event {
-    Event::Delivered(answer(pe, word))
 }
 
 /// Makes n cycles. In the last of them just this happens.
@@ -124,17 +73,6 @@ pub(crate) fn ends_with(rt: &impl Abort, machine: &Machine, word: Word) {
     assert!(rt; machine.is_quiet());
     assert!(rt; machine.config().net().size() > 0);
     assert_eq!(rt; machine.bank(0).peek(0), Some(word));
-}
-
-/// A record of two requests for cell 0: the second gets `more` more than the first.
-pub(crate) fn kept(pe: Pe, partner: Pe, more: Word) -> WaitRecord {
-    WaitRecord {
-        pe,
-        cell: 0,
-        give_old: Give::Same,
-        partner,
-        give_new: Give::Plus(more),
-    }
 }
 
 #[test]

@@ -1,7 +1,7 @@
 //! Machines cut into blocks: some cycles of them, and what happened in the last one.
 
-use crate::machines::answered;
 use std::process::Abort;
+use tests_base::answered;
 use ultra_machine::{Blocks, ProcessingElement};
 use ultra_mem::Module;
 use ultra_msg::{Event, Pe, Word};

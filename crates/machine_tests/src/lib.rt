@@ -1,0 +1,16 @@
+//! Tests of whole machines, in one block and in several, by one worker and by several. They use public calls alone, and
+//! stand in a crate of their own, so that no library is proved a second time with its tests.
+#![tactic(auto)]
+
+#[cfg(test)]
+mod blocks;
+#[cfg(test)]
+mod crews;
+#[cfg(test)]
+mod cuts;
+#[cfg(test)]
+mod machines;
+#[cfg(test)]
+mod partitions;
+#[cfg(test)]
+mod waves;
