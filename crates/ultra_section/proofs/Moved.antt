@@ -38,10 +38,10 @@ unit_moved d numbering old now ws vs bs cs es fs rl rm ql qm e s kept units repl
 }
 
 -- ---- what is noted of a unit that has come, and of one that has gone
-pub switch_put : (f g h k l : UnitFacts) (w : Switch) → g ≡ record f { here = true } → h ≡ record g { holds_replies = holds_replies w; no_reply_room = not (has_reply_room w) }
-    → k ≡ record h { holds_requests = holds_requests w; no_room_zero = not (has_request_room w).zero; no_room_one = not (has_request_room w).one }
-    → l ≡ record k { keeps_records = keeps_records w } → KnowsSwitch l (Some w)
-switch_put f g h k l w stands replies requests records = rw (records, requests, replies, stands) record {
+pub switch_put : (f g h k : UnitFacts) (w : Switch) → g ≡ record f { here = true } → h ≡ record g { holds_replies = holds_replies w; no_reply_room = not (has_reply_room w) }
+    → k ≡ record h { holds_requests = holds_requests w; no_room_zero = not (has_request_room w).zero; no_room_one = not (has_request_room w).one; keeps_records = keeps_records w }
+    → KnowsSwitch k (Some w)
+switch_put f g h k w stands replies requests = rw (requests, replies, stands) record {
   here = refl;
   holds_replies = refl;
   no_reply_room = refl;

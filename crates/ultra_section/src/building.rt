@@ -99,10 +99,7 @@ impl Block {
         ensures { self.new ≡ record self.old { switches = slice_set self.old.switches number (Some switch) } }
     {
         let _count = switch_count(self.net);
-        self.sets.stand(number);
-        self.sets.note_replies(number, &switch);
-        self.sets.note_requests(number, &switch);
-        self.sets.note_records(number, &switch, true);
+        self.sets.stand_switch(number, &switch);
         self.replies.renew(number, true);
         self.requests.renew(number, true);
         self.switches[number] = Some(switch);

@@ -1,7 +1,7 @@
 //! The halves of a cycle.
 
 /// A half of a cycle. A cycle makes all six, in this order.
-#[derive(Clone, Copy, PartialEq, Eq, Debug, Drop)]
+#[derive(Clone, Copy, PartialEq, Eq, Drop)]
 pub enum Half {
     /// Replies leave the switches and modules.
     SendReplies,

@@ -5,7 +5,7 @@ ghost use Rattle.ultra_section.specs.Holding.{IsNextWhere, holds_at};
 use crate::block::Block;
 
 /// What a unit may hold.
-#[derive(Clone, Copy, PartialEq, Eq, Debug, Drop)]
+#[derive(Clone, Copy, Drop)]
 pub enum Held {
     /// A reply to send: in a queue of a switch, or in a module.
     Reply,

@@ -55,8 +55,8 @@ impl Block {
         let Some(switch) = &mut self.switches[number] else {
             return;
         };
-        let (links, here) = (&mut self.replies, &self.sets.here);
-        send_from_switch(switch, links, here, closed, net, stage, index);
+        let here = &self.sets.here;
+        send_from_switch(switch, &mut self.replies, here, closed, net, stage, index);
         self.sets.note_replies(number, switch);
     }
 

@@ -62,8 +62,8 @@ impl Block {
         let Some(switch) = &mut self.switches[number] else {
             return;
         };
-        let (links, here) = (&mut self.requests, &self.sets.here);
-        send_from_switch(switch, links, here, closed, net, stage, index);
+        let here = &self.sets.here;
+        send_from_switch(switch, &mut self.requests, here, closed, net, stage, index);
         self.sets.note_requests(number, switch);
     }
 

@@ -1,10 +1,10 @@
 //! What is known of the units that stand in a block, as sets of their numbers.
 
-ghost use Rattle.std.specs.Prelude.{◌≡◌, ◌≢◌, ℕ, ◌<◌, true, false, not, is_some};
+ghost use Rattle.std.specs.Prelude.{◌≡◌, ◌≢◌, ℕ, ◌<◌, true, false, not, Some, is_some};
 ghost use Rattle.ultra_isa.specs.Step.{has_stopped};
 ghost use Rattle.ultra_halves.specs.Elements.{holds_request};
 ghost use Rattle.ultra_halves.specs.Switches.{has_reply_room, has_request_room, holds_replies, holds_requests, keeps_records};
-ghost use Rattle.ultra_section.specs.Sets.{fact_of, facts_at, no_facts, would_serve};
+ghost use Rattle.ultra_section.specs.Sets.{KnowsSwitch, fact_of, facts_at, no_facts, would_serve};
 ghost use Rattle.ultra_units.specs.Set.{has_unit};
 
 use crate::held::Held;
@@ -62,6 +62,17 @@ impl Sets {
         ensures others { (k : ℕ) → k ≢ number → facts_at self.new k ≡ facts_at self.old k }
     {
         self.here.insert(number);
+    }
+
+    /// A switch stands here from now on, and what is true of it is noted.
+    pub(crate) fn stand_switch(&mut self, number: usize, switch: &Switch)
+        requires { number < 320 }
+        ensures there { KnowsSwitch (facts_at self.new number) (Some switch.now) }
+        ensures others { (k : ℕ) → k ≢ number → facts_at self.new k ≡ facts_at self.old k }
+    {
+        self.stand(number);
+        self.note_replies(number, switch);
+        self.note_requests_taken(number, switch, true);
     }
 
     /// A unit doesn't stand here any more.
