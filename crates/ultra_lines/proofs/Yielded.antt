@@ -1,5 +1,5 @@
 -- lines of the items of an iterator or a list, one after another
-use Rattle.std.proofs.Common.{ℕ, ◌≡◌, ◌+◌, ◌<◌, ◌≤◌, List, [], ◌∷◌, ◌++◌, length, take, get_or, sym, ◌∙◌, ap, append_assoc, append-nil}
+use Rattle.std.proofs.Common.{ℕ, ◌≡◌, ◌+◌, ◌<◌, ◌≤◌, List, [], ◌∷◌, ◌++◌, length, take, get_or, arith, sym, ◌∙◌, ap, append_assoc, append-nil}
 use Rattle.std.proofs.lemmas.List.{take_more, take_all}
 use Rattle.std.specs.List.{flat_map}
 use Rattle.ultra_page.specs.declared.Page.{Page}
@@ -13,6 +13,10 @@ one_came came left rest all x parts next = append_assoc came (x ∷ []) rest ∙
 
 pub all_came : {X : Type 0} (came left all : List X) → came ++ left ≡ all → left ≡ [] → came ≡ all
 all_came came left all parts none = sym (append-nil came) ∙ ap (λ xs. came ++ xs) (sym none) ∙ parts
+
+-- one fewer is left
+pub one_fewer : {X : Type 0} (left rest : List X) (x : X) → left ≡ x ∷ rest → length rest < length left
+one_fewer left rest x next = let e = ap length next in omega arith
 
 module _ {S : Type 0} {taken : S → List ℕ} {failures : S → ℕ} {X : Type 0} (line : X → List ℕ) (came : List X) where
   pub writes_one : {s t u : Page S} (x : X) → Writes taken failures (flat_map line came) s t → Writes taken failures (line x) t u → Writes taken failures (flat_map line (came ++ x ∷ [])) s u

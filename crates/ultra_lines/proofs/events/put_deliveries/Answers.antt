@@ -1,5 +1,8 @@
 use Rattle.ultra_model.specs.Trace.{got_line}
-use Rattle.ultra_lines.proofs.Yielded.{one_came, all_came, writes_one, writes_next, writes_all}
+use Rattle.std.proofs.Common.{◌∙◌, ap}
+use Rattle.ultra_page.proofs.Writing.{writes_nothing}
+use Rattle.ultra_block.specs.State.{events_left}
+use Rattle.ultra_lines.proofs.Yielded.{one_came, one_fewer, all_came, writes_one, writes_next, writes_all}
 use Rattle.ultra_lines.proofs.events.put_deliveries.Goals as goal
 
 pub loop-event-preserved : goal.loop-event-preserved
@@ -20,3 +23,9 @@ returns-in-None g c =
     let loop = c.loop-event-else-is_in_one_block in
     let none = rw c.in-None.is at c.next.ensures.steps in
     rw (all_came loop.yielded _ _ loop.invariant.parts none.0) at loop.invariant.written
+
+pub loop-event-else-is_in_one_block-init : goal.loop-event-else-is_in_one_block-init
+loop-event-else-is_in_one_block-init g c = record { written = writes_nothing _; parts = ap events_left c.into_iter-event-iterator.ensures.into_iter_gives ∙ c.events-event-items.ensures }
+
+pub loop-event-else-is_in_one_block-smaller : goal.loop-event-else-is_in_one_block-smaller
+loop-event-else-is_in_one_block-smaller g c = one_fewer _ _ c.in-Some.event (rw c.in-Some.is at c.next.ensures.steps)

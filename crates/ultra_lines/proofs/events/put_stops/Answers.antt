@@ -1,5 +1,8 @@
 use Rattle.ultra_model.specs.Trace.{fault_line}
-use Rattle.ultra_lines.proofs.Yielded.{one_came, all_came, writes_one, writes_next, writes_all}
+use Rattle.std.proofs.Common.{◌∙◌, ap}
+use Rattle.ultra_page.proofs.Writing.{writes_nothing}
+use Rattle.ultra_block.specs.State.{stops_left}
+use Rattle.ultra_lines.proofs.Yielded.{one_came, one_fewer, all_came, writes_one, writes_next, writes_all}
 use Rattle.ultra_lines.proofs.events.put_stops.Goals as goal
 
 pub loop-stop-preserved : goal.loop-stop-preserved
@@ -20,3 +23,9 @@ returns-in-None g c =
     let loop = c.loop-stop-else-is_in_one_block in
     let none = rw c.in-None.is at c.next.ensures.steps in
     rw (all_came loop.yielded _ _ loop.invariant.parts none.0) at loop.invariant.written
+
+pub loop-stop-else-is_in_one_block-init : goal.loop-stop-else-is_in_one_block-init
+loop-stop-else-is_in_one_block-init g c = record { written = writes_nothing _; parts = ap stops_left c.into_iter-stop-iterator.ensures.into_iter_gives ∙ c.stops-stop-items.ensures }
+
+pub loop-stop-else-is_in_one_block-smaller : goal.loop-stop-else-is_in_one_block-smaller
+loop-stop-else-is_in_one_block-smaller g c = one_fewer _ _ c.in-Some.stop (rw c.in-Some.is at c.next.ensures.steps)

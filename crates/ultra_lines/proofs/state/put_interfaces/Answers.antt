@@ -1,11 +1,13 @@
-use Rattle.std.proofs.Common.{ℕ, ◌+◌, ◌^◌, Bool, arith, ap}
+use Rattle.std.proofs.Common.{ℕ, ◌+◌, ◌^◌, Bool, arith, ap, ◌∙◌}
 use Rattle.ultra_model.specs.Machine.{Element}
 use Rattle.ultra_units.specs.Numbers.{element_number}
 use Rattle.ultra_block.specs.Held.TheVariants.{Request}
 use Rattle.ultra_block.specs.Holding.{holds}
 use Rattle.ultra_block.specs.State.{BlocksState}
 use Rattle.ultra_model.specs.Trace.{pni_of}
-use Rattle.ultra_lines.proofs.Yielded.{one_came, all_came, writes_one}
+use Rattle.ultra_page.proofs.Writing.{writes_nothing}
+use Rattle.ultra_lines.specs.Holders.{holders_left}
+use Rattle.ultra_lines.proofs.Yielded.{one_came, one_fewer, all_came, writes_one}
 use Rattle.ultra_lines.proofs.Skipped.{next_small, skipped}
 use Rattle.ultra_lines.proofs.Empty.{no_pni_line_of}
 use Rattle.ultra_lines.proofs.state.put_interfaces.Goals as goal
@@ -35,3 +37,9 @@ returns g c =
     let written = rw (all_came c.loop-pe.yielded _ _ c.loop-pe.invariant.parts none.0) at c.loop-pe.invariant.written in
     let lines = skipped (there b) (pni_of m) 0 (2 ^ b.config.stages) (λ k within holds_none. no_pni_line_of b.config.stages m k (omega arith) holds_none) in
     rw lines at written
+
+pub loop-pe-init : goal.loop-pe-init
+loop-pe-init g c = record { written = writes_nothing _; parts = ap holders_left c.into_iter-pe-iterator.ensures.into_iter_gives ∙ c.elements_with-pe-items.ensures }
+
+pub loop-pe-smaller : goal.loop-pe-smaller
+loop-pe-smaller g c = one_fewer _ _ c.in-Some.pe (rw c.in-Some.is at c.next.ensures.steps)

@@ -1,10 +1,12 @@
-use Rattle.std.proofs.Common.{ℕ, ◌+◌, ◌^◌, Bool, arith}
+use Rattle.std.proofs.Common.{ℕ, ◌+◌, ◌^◌, Bool, arith, ◌∙◌, ap}
 use Rattle.ultra_units.specs.Numbers.{module_number}
 use Rattle.ultra_block.specs.Held.TheVariants.{Request}
 use Rattle.ultra_block.specs.Holding.{holds}
 use Rattle.ultra_block.specs.State.{BlocksState}
 use Rattle.ultra_model.specs.Trace.{inp_of}
-use Rattle.ultra_lines.proofs.Yielded.{one_came, all_came, writes_one}
+use Rattle.ultra_page.proofs.Writing.{writes_nothing}
+use Rattle.ultra_lines.specs.Holders.{holders_left}
+use Rattle.ultra_lines.proofs.Yielded.{one_came, one_fewer, all_came, writes_one}
 use Rattle.ultra_lines.proofs.Skipped.{next_small, skipped}
 use Rattle.ultra_lines.proofs.Empty.{no_inp_line_of}
 use Rattle.ultra_lines.proofs.state.put_requests_to_serve.Goals as goal
@@ -34,3 +36,9 @@ returns g c =
     let written = rw (all_came c.loop-number.yielded _ _ c.loop-number.invariant.parts none.0) at c.loop-number.invariant.written in
     let lines = skipped (there b) (inp_of m) 0 (2 ^ b.config.stages) (λ k within holds_none. no_inp_line_of b.config.stages m k (omega arith) holds_none) in
     rw lines at written
+
+pub loop-number-init : goal.loop-number-init
+loop-number-init g c = record { written = writes_nothing _; parts = ap holders_left c.into_iter-number-iterator.ensures.into_iter_gives ∙ c.modules_with-number-items.ensures }
+
+pub loop-number-smaller : goal.loop-number-smaller
+loop-number-smaller g c = one_fewer _ _ c.in-Some.number (rw c.in-Some.is at c.next.ensures.steps)
