@@ -1,5 +1,5 @@
 -- the texts of the entries of one line
-use Rattle.std.proofs.Common.{ℕ, zero, suc, ◌≡◌, ◌+◌, ◌<◌, List, [], ◌∷◌, ◌++◌, length, take, Option, Some, None, refl, sym, ◌∙◌, ap, arith, append_assoc, append-nil, add-one, codes, slice_get}
+use Rattle.std.proofs.Common.{ℕ, zero, suc, ◌≡◌, ◌+◌, ◌<◌, ◌≤◌, List, [], ◌∷◌, ◌++◌, length, take, Option, Some, None, refl, sym, ◌∙◌, ap, arith, append_assoc, append-nil, add-one, codes, slice_get}
 use Rattle.std.specs.List.{flat_map}
 use Rattle.std.specs.Option.{option_map}
 use Rattle.ultra_msg.specs.declared.Request.{Request}
@@ -37,6 +37,15 @@ module _ {X : Type 0} (text : X → List ℕ) where
   pub no_line : (name : List ℕ) (xs : List X) → length xs ≡ 0 → place_line name text xs ≡ []
   no_line name [] h = refl
   no_line name (x ∷ xs) h = absurd (omega arith)
+
+-- what stands before an entry
+pub separates : (i : ℕ) → 0 < i → separator i ≡ codes ", "
+separates zero h = absurd (omega arith)
+separates (suc i) h = refl
+
+pub begins : (i : ℕ) → i ≤ 0 → separator i ≡ []
+begins zero h = refl
+begins (suc i) h = absurd (omega arith)
 
 -- of a register that holds one
 pub inp_line_is : (k : ℕ) (o : Option Placed) (r : Request) → Some r ≡ option_map (λ (p : Placed). p.request) o → inp_line k o ≡ unit_name (codes "inp") k ++ codes ": " ++ request_text r ++ newline
