@@ -51,12 +51,16 @@ sweep_app = with_rule (with_rule (with_rule (with_rule (new_app (codes "sweep"))
     (argument (codes "JOBS"))) (required_option (codes "workers") 1 64))
     (required_option (codes "at-once") 1 64)) (flag (codes "progress"))
 
--- the numbers of a coordination program are those of a register
-abbrev pub numbers : Rule
-numbers = record (argument (codes "NUMBER")) {
+-- numbers of a register, of which one at least has to be there
+abbrev pub numbers_named : Text → Rule
+numbers_named name = record (argument name) {
   parser = Some (vp.Unsigned 0 4294967295);
   action = Some Append;
 }
+
+-- the numbers of a coordination program
+abbrev pub numbers : Rule
+numbers = numbers_named (codes "NUMBER")
 
 abbrev pub lib_app : App
 lib_app = with_rule (with_rule (new_app (codes "lib")) (argument (codes "NAME"))) numbers

@@ -1,12 +1,12 @@
 //! The commands and their words, as `clap` knows them.
 
-ghost use Rattle.std.specs.Prelude.{◌≡◌, codes, IfOk};
-ghost use Rattle.clap.specs.Words.{App, new_app, with_subcommand};
-ghost use Rattle.ultra_command_line.specs.Grammar.{argument, option, flag, numbers, on_a_run};
-ghost use Rattle.ultra_command_line.specs.Grammar.{run_app, order_app, explain_app, list_app};
-ghost use Rattle.ultra_command_line.specs.Grammar.{sweep_app, lib_app, ultra_app, IsRead, IsApp};
+ghost use Rattle.std.specs.Prelude.{◌≡◌, IfOk};
+ghost use Rattle.clap.specs.Words.{new_app, new_rule};
+ghost use Rattle.ultra_command_line.specs.Grammar.{option, ultra_app, IsRead, IsApp};
+ghost use Rattle.ultra_command_line.specs.Table.{app_in, program_in, rule_in};
 
 use crate::help::{self, Help};
+use crate::table::{Argument, Naming, VERBS, Verb, Words, words_of};
 use clap::builder::ValueParser;
 use clap::{Arg, ArgAction, Command};
 use std::alloc::{AllocError, Global};
@@ -15,109 +15,31 @@ use std::alloc::{AllocError, Global};
 pub fn ultra_command<'c>(alloc: Global) -> Result<Command<'c>, AllocError>
     ensures { IfOk result (IsApp ultra_app) }
 {
-    let ultra = new_command(alloc, "ultra", help::ULTRA)
+    program_with(alloc, &VERBS)
+}
+
+/// The command line of the program with these commands.
+fn program_with<'c>(alloc: Global, verbs: &[Verb]) -> Result<Command<'c>, AllocError>
+    ensures { IfOk result (IsApp (program_in verbs.now)) }
+{
+    let mut program = new_command(alloc, "ultra", help::ULTRA)
         .version(help::VERSION)
         .subcommand_required(true);
-    let ultra = with_command(ultra, run_command(alloc))?;
-    let ultra = with_command(ultra, order_command(alloc))?;
-    let ultra = with_command(ultra, explain_command(alloc))?;
-    let ultra = with_command(ultra, list_command(alloc))?;
-    let ultra = with_command(ultra, sweep_command(alloc))?;
-    with_command(ultra, lib_command(alloc))
+    for verb in verbs {
+        program = program.subcommand(command_of(alloc, words_of(*verb))?)?;
+    }
+    Ok(program)
 }
 
-/// The command with one more command below it, unless memory was refused for that one.
-fn with_command<'c>(
-    command: Command<'c>,
-    below: Result<Command<'c>, AllocError>,
-) -> Result<Command<'c>, AllocError>
-    ensures { (app sub : App) → IsApp app command.entry → IfOk below.entry (IsApp sub)
-        → IfOk result (IsApp (with_subcommand app sub.top)) }
+/// The command of these words.
+fn command_of<'c>(alloc: Global, words: &Words) -> Result<Command<'c>, AllocError>
+    ensures { IfOk result (IsApp (app_in words.now)) }
 {
-    command.subcommand(below?)
-}
-
-/// The command `run`.
-fn run_command<'c>(alloc: Global) -> Result<Command<'c>, AllocError>
-    ensures { IfOk result (IsApp run_app) }
-{
-    let run = command_on_a_run(alloc, "run", help::RUN)?;
-    let workers = option(alloc, "workers", "H", help::WORKERS, 1, 64)
-        .long_help(help::WORKERS_IN_FULL)
-        .default_value("1");
-    run.arg(workers)
-}
-
-/// The command `order`.
-fn order_command<'c>(alloc: Global) -> Result<Command<'c>, AllocError>
-    ensures { IfOk result (IsApp order_app) }
-{
-    command_on_a_run(alloc, "order", help::ORDER)
-}
-
-/// The command `explain`.
-fn explain_command<'c>(alloc: Global) -> Result<Command<'c>, AllocError>
-    ensures { IfOk result (IsApp explain_app) }
-{
-    let explain = command_on_a_run(alloc, "explain", help::EXPLAIN)?;
-    let heap = option(alloc, "heap", "BYTES", help::HEAP, 256, 16_777_216)
-        .long_help(help::HEAP_IN_FULL)
-        .default_value("1048576");
-    explain.arg(heap)
-}
-
-/// The command `list`.
-fn list_command<'c>(alloc: Global) -> Result<Command<'c>, AllocError>
-    ensures { IfOk result (IsApp list_app) }
-{
-    new_command(alloc, "list", help::LIST).arg(program_argument(alloc))
-}
-
-/// The command `sweep`.
-fn sweep_command<'c>(alloc: Global) -> Result<Command<'c>, AllocError>
-    ensures { IfOk result (IsApp sweep_app) }
-{
-    let sweep = new_command(alloc, "sweep", help::SWEEP);
-    let sweep = sweep.arg(argument(alloc, "JOBS", help::JOBS))?;
-    let workers = option(alloc, "workers", "H", help::JOB_WORKERS, 1, 64)
-        .long_help(help::JOB_WORKERS_IN_FULL)
-        .required(true);
-    let sweep = sweep.arg(workers)?;
-    let at_once = option(alloc, "at-once", "B", help::AT_ONCE, 1, 64).required(true);
-    let sweep = sweep.arg(at_once)?;
-    sweep.arg(progress_flag(alloc))
-}
-
-/// The command `lib`.
-fn lib_command<'c>(alloc: Global) -> Result<Command<'c>, AllocError>
-    ensures { IfOk result (IsApp lib_app) }
-{
-    let name = argument(alloc, "NAME", help::NAME).long_help(help::NAME_IN_FULL);
-    let lib = new_command(alloc, "lib", help::LIB).arg(name)?;
-    lib.arg(numbers_argument(alloc))
-}
-
-/// The argument for the numbers of a coordination program, each below `2^32`.
-fn numbers_argument<'c>(alloc: Global) -> Arg<'c>
-    ensures { IsRead numbers result }
-{
-    argument(alloc, "NUMBER", help::NUMBERS)
-        .long_help(help::NUMBERS_IN_FULL)
-        .value_parser(ValueParser::unsigned(0, u64::from(u32::MAX)))
-        .action(ArgAction::Append)
-}
-
-/// A command of this name with the files of a run: its settings, and its program.
-fn command_on_a_run<'c>(
-    alloc: Global,
-    name: &'c str,
-    help: Help<'c>,
-) -> Result<Command<'c>, AllocError>
-    ensures { IfOk result (IsApp (on_a_run name.entry.now)) }
-{
-    let settings = argument(alloc, "CONF", help::SETTINGS);
-    let command = new_command(alloc, name, help).arg(settings)?;
-    command.arg(program_argument(alloc))
+    let mut command = new_command(alloc, words.name, words.help);
+    for argument in words.arguments {
+        command = command.arg(argument_of(alloc, argument))?;
+    }
+    Ok(command)
 }
 
 /// A command of this name without arguments, and its help.
@@ -130,44 +52,52 @@ fn new_command<'c>(alloc: Global, name: &'c str, help: Help<'c>) -> Command<'c>
         .after_long_help(help.more)
 }
 
-/// The argument that names the program's text.
-fn program_argument<'c>(alloc: Global) -> Arg<'c>
-    ensures { IsRead (argument (codes "PROG")) result }
+/// The argument as `clap` knows it.
+fn argument_of<'c>(alloc: Global, argument: &Argument) -> Arg<'c>
+    ensures { IsRead (rule_in argument.now) result }
 {
-    argument(alloc, "PROG", help::PROGRAM)
-}
-
-/// An argument that has to be given.
-fn argument<'c>(alloc: Global, name: &'c str, help: &'c str) -> Arg<'c>
-    ensures { IsRead (argument name.entry.now) result }
-{
-    Arg::new(alloc, name).help(help).required(true)
+    match argument {
+        Argument::Text(naming) => named(alloc, *naming).required(true),
+        Argument::Numbers(naming) => named(alloc, *naming)
+            .required(true)
+            .value_parser(ValueParser::unsigned(0, u64::from(u32::MAX)))
+            .action(ArgAction::Append),
+        Argument::Number {
+            naming,
+            number,
+            least,
+            most,
+            default,
+        } => {
+            let option = option(alloc, *naming, number, *least, *most);
+            match default {
+                Some(text) => option.default_value(text),
+                None => option.required(true),
+            }
+        }
+        Argument::Flag(naming) => named(alloc, *naming)
+            .long(naming.name)
+            .action(ArgAction::SetTrue),
+    }
 }
 
 /// The option `--NAME NUMBER` with a number from `least` to `most`.
-fn option<'c>(
-    alloc: Global,
-    name: &'c str,
-    number: &'c str,
-    help: &'c str,
-    least: u64,
-    most: u64,
-) -> Arg<'c>
-    ensures { IsRead (option name.entry.now least most) result }
+fn option<'c>(alloc: Global, naming: Naming, number: &'c str, least: u64, most: u64) -> Arg<'c>
+    ensures { IsRead (option naming.name.now least most) result }
 {
-    Arg::new(alloc, name)
-        .long(name)
+    named(alloc, naming)
+        .long(naming.name)
         .value_name(number)
-        .help(help)
         .value_parser(ValueParser::unsigned(least, most))
 }
 
-/// The option that asks to see how many jobs are finished.
-fn progress_flag<'c>(alloc: Global) -> Arg<'c>
-    ensures { IsRead (flag (codes "progress")) result }
+/// An argument of this name, and its help.
+fn named<'c>(alloc: Global, naming: Naming) -> Arg<'c>
+    ensures { IsRead (new_rule naming.name.now) result }
 {
-    Arg::new(alloc, "progress")
-        .long("progress")
-        .help(help::PROGRESS)
-        .action(ArgAction::SetTrue)
+    let argument = Arg::new(alloc, naming.name).help(naming.help);
+    match naming.in_full {
+        Some(text) => argument.long_help(text),
+        None => argument,
+    }
 }

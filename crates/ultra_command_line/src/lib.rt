@@ -5,6 +5,7 @@ mod grammar;
 mod heap;
 mod help;
 mod reading;
+mod table;
 mod workers;
 
 ghost use Rattle.std.specs.Prelude.{◌≡◌, ◌≢◌, [], codes, map, option_map, IfOk, MatchResult};

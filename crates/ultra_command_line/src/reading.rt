@@ -32,7 +32,7 @@ fn command_in<'w>(name: &str, words: &ArgMatches<'w>) -> Option<Command<'w>>
     } else if name == "sweep" {
         sweep_in(words)
     } else if name == "lib" {
-        Some(Command::Lib(lib_in(words)?))
+        lib_in(words)
     } else {
         None
     }
@@ -91,13 +91,14 @@ fn sweep_in<'w>(words: &ArgMatches<'w>) -> Option<Command<'w>>
     })
 }
 
-/// The coordination program that the words after `lib` name.
-fn lib_in(words: &ArgMatches<'_>) -> Option<Coordination>
-    ensures { result ≡ asked.lib_in (rows_of (found_of words.now)) }
+/// The command `lib` with the words that follow it.
+fn lib_in<'w>(words: &ArgMatches<'w>) -> Option<Command<'w>>
+    ensures { option_map asked_of result
+        ≡ option_map asked.lib (asked.lib_in (rows_of (found_of words.now))) }
 {
     let name = text(words, "NAME")?;
     let numbers = texts(words, "NUMBER")?;
-    coordination(name, numbers)
+    Some(Command::Lib(coordination(name, numbers)?))
 }
 
 /// The coordination program of this name and these numbers.
