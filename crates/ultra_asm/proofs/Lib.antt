@@ -1,5 +1,6 @@
 pub mod Assembly
 pub mod Comments
+pub mod Counted
 pub mod Cutting
 pub mod Definitions
 pub mod InOrder

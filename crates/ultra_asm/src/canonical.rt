@@ -103,7 +103,8 @@ fn write_label_line<S: Sink>(page: &mut Page<'_, S>, targets: &Targets, place: u
 fn write_instruction<S: Sink>(page: &mut Page<'_, S>, instruction: Instr)
     ensures { Writes S.taken S.failures (instruction_line instruction) page.old page.new }
 {
-    let (mnemonic, operands) = words_of(instruction);
+    let mnemonic = mnemonic_of(&instruction);
+    let operands = operands_of(instruction);
     write_line(page, mnemonic, operands.as_slice());
 }
 
@@ -130,60 +131,56 @@ impl Operands {
     }
 }
 
-/// The mnemonic and the operands of an instruction.
-fn words_of(instruction: Instr) -> (Mnemonic, Operands)
-    ensures { (result.0 ≡ mnemonic_of instruction) × (listed result.1 ≡ operands_of instruction) }
+/// The mnemonic of an instruction.
+fn mnemonic_of(instruction: &Instr) -> Mnemonic
+    ensures { result ≡ mnemonic_of instruction.now }
+{
+    match instruction {
+        Instr::Set(..) => Mnemonic::Set,
+        Instr::Add(..) => Mnemonic::Add,
+        Instr::AddWord(..) => Mnemonic::AddWord,
+        Instr::Subtract(..) => Mnemonic::Subtract,
+        Instr::And(..) => Mnemonic::And,
+        Instr::ShiftRight(..) => Mnemonic::ShiftRight,
+        Instr::IsBelow(..) => Mnemonic::IsBelow,
+        Instr::IsEqual(..) => Mnemonic::IsEqual,
+        Instr::JumpIfZero(..) => Mnemonic::JumpIfZero,
+        Instr::JumpIfNotZero(..) => Mnemonic::JumpIfNotZero,
+        Instr::Jump(..) => Mnemonic::Jump,
+        Instr::Number(..) => Mnemonic::Number,
+        Instr::Size(..) => Mnemonic::Size,
+        Instr::Load(..) => Mnemonic::Load,
+        Instr::Store(..) => Mnemonic::Store,
+        Instr::Faa(..) => Mnemonic::Faa,
+        Instr::Swap(..) => Mnemonic::Swap,
+        Instr::Fence => Mnemonic::Fence,
+        Instr::Halt => Mnemonic::Halt,
+    }
+}
+
+/// The operands of an instruction.
+fn operands_of(instruction: Instr) -> Operands
+    ensures { listed result ≡ operands_of instruction }
 {
     use Operand::{Bits, Label, Number, Register};
     use Operands::{None, One, Three, Two};
 
     match instruction {
-        Instr::Set(d, n) => (Mnemonic::Set, Two([Register(d), Number(n)])),
-        Instr::Add(d, a, b) => (
-            Mnemonic::Add,
-            Three([Register(d), Register(a), Register(b)]),
-        ),
-        Instr::AddWord(d, a, n) => (
-            Mnemonic::AddWord,
-            Three([Register(d), Register(a), Number(n)]),
-        ),
-        Instr::Subtract(d, a, b) => (
-            Mnemonic::Subtract,
-            Three([Register(d), Register(a), Register(b)]),
-        ),
-        Instr::And(d, a, b) => (
-            Mnemonic::And,
-            Three([Register(d), Register(a), Register(b)]),
-        ),
-        Instr::ShiftRight(d, a, n) => (
-            Mnemonic::ShiftRight,
-            Three([Register(d), Register(a), Bits(n)]),
-        ),
-        Instr::IsBelow(d, a, b) => (
-            Mnemonic::IsBelow,
-            Three([Register(d), Register(a), Register(b)]),
-        ),
-        Instr::IsEqual(d, a, b) => (
-            Mnemonic::IsEqual,
-            Three([Register(d), Register(a), Register(b)]),
-        ),
-        Instr::JumpIfZero(a, to) => (Mnemonic::JumpIfZero, Two([Register(a), Label(to)])),
-        Instr::JumpIfNotZero(a, to) => (Mnemonic::JumpIfNotZero, Two([Register(a), Label(to)])),
-        Instr::Jump(to) => (Mnemonic::Jump, One([Label(to)])),
-        Instr::Number(d) => (Mnemonic::Number, One([Register(d)])),
-        Instr::Size(d) => (Mnemonic::Size, One([Register(d)])),
-        Instr::Load(d, a) => (Mnemonic::Load, Two([Register(d), Register(a)])),
-        Instr::Store(a, b) => (Mnemonic::Store, Two([Register(a), Register(b)])),
-        Instr::Faa(d, a, b) => (
-            Mnemonic::Faa,
-            Three([Register(d), Register(a), Register(b)]),
-        ),
-        Instr::Swap(d, a, b) => (
-            Mnemonic::Swap,
-            Three([Register(d), Register(a), Register(b)]),
-        ),
-        Instr::Fence => (Mnemonic::Fence, None),
-        Instr::Halt => (Mnemonic::Halt, None),
+        Instr::Set(d, n) => Two([Register(d), Number(n)]),
+        Instr::AddWord(d, a, n) => Three([Register(d), Register(a), Number(n)]),
+        Instr::ShiftRight(d, a, n) => Three([Register(d), Register(a), Bits(n)]),
+        Instr::Add(d, a, b)
+        | Instr::Subtract(d, a, b)
+        | Instr::And(d, a, b)
+        | Instr::IsBelow(d, a, b)
+        | Instr::IsEqual(d, a, b)
+        | Instr::Faa(d, a, b)
+        | Instr::Swap(d, a, b) => Three([Register(d), Register(a), Register(b)]),
+        Instr::JumpIfZero(a, to) | Instr::JumpIfNotZero(a, to) => Two([Register(a), Label(to)]),
+        Instr::Jump(to) => One([Label(to)]),
+        Instr::Number(d) | Instr::Size(d) => One([Register(d)]),
+        Instr::Load(a, b) | Instr::Store(a, b) => Two([Register(a), Register(b)]),
+        Instr::Fence | Instr::Halt => None,
     }
 }
 

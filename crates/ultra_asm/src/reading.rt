@@ -2,7 +2,7 @@
 
 ghost use Rattle.std.specs.Prelude.{◌≡◌, map};
 ghost use Rattle.ultra_asm.specs.Found.{definition_in, places_in};
-ghost use Rattle.ultra_asm.specs.Reading.{none_in, one_in, two_in, three_in, read_instruction, read_statement, check_label, read_line};
+ghost use Rattle.ultra_asm.specs.Reading.{none_in, one_in, two_in, three_in, read_instruction, read_statement, check_name, check_label, read_line};
 
 use crate::AsmFaultKind;
 use crate::instruction::Mnemonic;
@@ -172,13 +172,20 @@ fn check_label(words: &[&[u8]], index: usize, labels: &Labels) -> Result<(), Asm
     let Some(word) = words.first() else {
         return Ok(());
     };
-    let Some(name) = before_colon(word) else {
-        return Ok(());
-    };
-    if !is_name(name) {
+    match before_colon(word) {
+        Some(name) => check_name(name, index, labels),
+        None => Ok(()),
+    }
+}
+
+/// Whether the line of this index, from 0, may begin with the word and a `:`: it must be a name, and a label of no earlier line.
+fn check_name(word: &[u8], index: usize, labels: &Labels) -> Result<(), AsmFaultKind>
+    ensures { result ≡ check_name (definition_in labels.now) index word.now }
+{
+    if !is_name(word) {
         return Err(AsmFaultKind::UnknownWord);
     }
-    match labels.definition(name) {
+    match labels.definition(word) {
         Some(definition) if definition.line < index => Err(AsmFaultKind::DoubleLabel),
         _ => Ok(()),
     }

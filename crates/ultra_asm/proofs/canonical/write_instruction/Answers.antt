@@ -5,5 +5,5 @@ use Rattle.ultra_asm.proofs.canonical.write_instruction.Goals as goal
 
 pub returns : goal.returns
 returns g c =
-    let same = ap₂ line_text c.words_of-mnemonic.ensures.0 (c.as_slice.ensures ∙ c.words_of-mnemonic.ensures.1) in
+    let same = ap₂ line_text c.mnemonic_of-mnemonic.ensures (c.as_slice.ensures ∙ c.operands_of-operands.ensures) in
     rw (← same) c.write_line.ensures
