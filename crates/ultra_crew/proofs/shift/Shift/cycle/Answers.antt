@@ -1,4 +1,4 @@
-use Rattle.std.proofs.Common.{◌≡◌, ℕ, ◌+◌, ◌^◌, ◌<◌, List, length, arith, ap, ◌∙◌, sym, subst}
+use Rattle.std.proofs.Common.{◌≡◌, ℕ, ◌+◌, ◌^◌, ◌<◌, ◌≤◌, List, length, arith, ap, ◌∙◌, sym, subst}
 use Rattle.std.specs.Prelude.{◌-◌}
 use Rattle.ultra_isa.specs.declared.Instr.{Instr}
 use Rattle.ultra_model.specs.Machine.{Machine, Settings}
@@ -41,6 +41,14 @@ overflow_add-done g c =
     let done : p.done ≡ c.args.blocks.machine.cycles = sym (cycles_are p.config p.partition.items p.done p.blocks.items) ∙ ap (λ (b : BlocksState). b.machine.cycles) c.into_parts-config.ensures.value in
     let early : p.done < 2 ^ 32 - 1 = subst (λ n. n < 2 ^ 32 - 1) (sym done) c.requires.counted in
     omega (arith, early)
+
+pub of_parts-requires : goal.of_parts-requires
+of_parts-requires g c =
+    let p = c.into_parts-config.result in
+    record {
+      whole = subst (λ part. AreWhole p.config part (p.done + 1) c.in_ok-blocks.blocks.items) c.as_slice.ensures.value c.in_ok-blocks.ensures.whole;
+      few = subst (λ n. n ≤ 64) (sym c.in_ok-blocks.ensures.count) c.into_parts-config.ensures.whole.few;
+    }
 
 -- a machine that is put together after a cycle is the machine before it, one cycle later
 one_later : (c : Settings) (program run : List Instr) (partition : List ℕ) (n k : ℕ) (m now : Machine) (b : BlocksState) → record { config = c; program = program; partition = partition; count = n; machine = m } ≡ b
