@@ -31,6 +31,23 @@ impl Ended {
         assert_eq!(rt; self.out.as_str(), wanted.1);
         assert_eq!(rt; self.status, wanted.0);
     }
+
+    /// Asserts that standard output failed, and that a prefix of this text was written to it.
+    pub(crate) fn check_cut<R: Abort>(&self, rt: &R, text: &str) {
+        assert_eq!(rt; self.err.as_str(), "ultra: write failed\n");
+        assert!(rt; text.starts_with(self.out.as_str()), "{}", self.out);
+        assert_eq!(rt; self.status, 5);
+    }
+
+    /// Asserts that this whole text was written, or a prefix of it and a line that says that memory
+    /// or a thread was refused.
+    pub(crate) fn check_refused_or_whole<R: Abort>(&self, rt: &R, text: &str) {
+        if !is_refusal(self.err.as_str()) {
+            return self.check(rt, (0, text, ""));
+        }
+        assert!(rt; text.starts_with(self.out.as_str()), "{}", self.out);
+        assert_eq!(rt; self.status, 4);
+    }
 }
 
 /// Calls the program, and gives its status. No test rests on what the contract of `main_with` says.
@@ -102,7 +119,7 @@ fn unless_refused(ended: Ended) -> Result<Ended, Fail> {
 }
 
 /// Whether a text says that memory or a thread was refused, and nothing else.
-pub(crate) fn is_refusal(text: &str) -> bool {
+fn is_refusal(text: &str) -> bool {
     text == "ultra: no memory\n" || text == "ultra: no thread\n"
 }
 

@@ -174,12 +174,6 @@ fn an_explanation_is_refused_or_whole(rt: HostRuntime) -> Result<(), Fail> {
     let words = with_heap("4096");
     let no_limits = Limits::none();
     let ended = call_within(&rt, &words, &THREE_STAGES, no_limits, no_limits)?;
-    if ended.err.as_str() == "ultra: no memory\n" {
-        assert!(rt; THREE_LEVELS.starts_with(ended.out.as_str()));
-        assert_eq!(rt; ended.status, 4);
-        return Err("no memory".into());
-    }
-    assert_eq!(rt; ended.out.as_str(), THREE_LEVELS);
-    assert_eq!(rt; ended.status, 0);
+    ended.check_refused_or_whole(&rt, THREE_LEVELS);
     Ok(())
 }

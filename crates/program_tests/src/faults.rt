@@ -2,7 +2,7 @@
 
 ghost use Rattle.ultra_io.specs.Account.{files_in, failures_in};
 
-use crate::calls::{Ended, call_over, call_within, is_refusal};
+use crate::calls::{Ended, call_over, call_within};
 use crate::examples::ADDS_ONE;
 use crate::host::Host;
 use crate::shelf::Shelf;
@@ -108,28 +108,19 @@ fn fault_of<R: Host>(rt: &R, words: &[&str], wanted: u8) -> Result<String, Fail>
     Ok(err)
 }
 
-/// Asserts that a sink took the first `count` bytes of a text.
-fn check_cut<R: Abort>(rt: &R, taken: &str, text: &str, count: usize) {
-    assert_eq!(rt; taken.len(), count);
-    assert!(rt; text.starts_with(taken), "{count}");
-}
-
 /// Asserts that the write after the first `count` writes of a text may be the one that fails: what
 /// stands before it was written, and nothing is written after it.
 fn check_write<R: Host>(rt: &R, words: &[&str], text: &str, count: usize) -> Result<(), Fail> {
     let ended = call(rt, words, Limits::failing_once_after(count), Limits::none())?;
-    assert_eq!(rt; ended.status, 5, "{words:?} {count}");
-    assert_eq!(rt; ended.err.as_str(), "ultra: write failed\n");
-    check_cut(rt, ended.out.as_str(), text, count);
+    ended.check_cut(rt, text);
+    assert_eq!(rt; ended.out.len(), count, "{words:?}");
     Ok(())
 }
 
 /// Asserts that words write this whole text, a byte at a time, where no write fails.
 fn check_whole<R: Host>(rt: &R, words: &[&str], text: &str) -> Result<(), Fail> {
     let out = Limits::failing_once_after(text.len());
-    let ended = call(rt, words, out, Limits::none())?;
-    assert_eq!(rt; ended.status, 0, "{words:?}");
-    assert_eq!(rt; ended.out.as_str(), text);
+    call(rt, words, out, Limits::none())?.check(rt, (0, text, ""));
     Ok(())
 }
 
@@ -166,9 +157,8 @@ fn check_fault<R: Host>(
     (text, count): (&str, usize),
 ) -> Result<(), Fail> {
     let ended = call(rt, words, Limits::none(), Limits::failing_once_after(count))?;
-    assert_eq!(rt; ended.status, wanted, "{words:?} {count}");
-    check_cut(rt, ended.err.as_str(), text, count);
-    assert!(rt; ended.out.is_empty());
+    let (cut, _) = text.split_at_checked(count).expect(rt, "no text");
+    ended.check(rt, (wanted, "", cut));
     Ok(())
 }
 
@@ -194,9 +184,7 @@ fn each_write_to_standard_error_fails_in_turn(rt: HostRuntime) -> Result<(), Fai
 /// Asserts that the status is that of standard output, where both streams fail at their first write.
 fn check_both_fail<R: Host>(rt: &R, words: &[&str]) -> Result<(), Fail> {
     let failing = Limits::failing_once_after(0);
-    let ended = call(rt, words, failing, failing)?;
-    assert_eq!(rt; ended.status, 5, "{words:?}");
-    assert!(rt; ended.out.is_empty() && ended.err.is_empty(), "{words:?}");
+    call(rt, words, failing, failing)?.check(rt, (5, "", ""));
     Ok(())
 }
 
@@ -232,32 +220,14 @@ fn a_status_is_that_of_standard_output(rt: HostRuntime) -> Result<(), Fail> {
     Ok(())
 }
 
-/// Asserts that words write the whole text, or a prefix of it and a line that says that memory or a
-/// thread was refused.
-fn check_refused_or_whole<'w, R: Host>(
-    rt: &R,
-    words: &'w [&'w str],
-    text: &str,
-) -> Result<(), Fail> {
-    let ended = call_within(rt, words, &FILES, Limits::none(), Limits::none())?;
-    assert!(rt; text.starts_with(ended.out.as_str()), "{words:?}");
-    if ended.err.is_empty() {
-        assert_eq!(rt; ended.status, 0, "{words:?}");
-        assert_eq!(rt; ended.out.len(), text.len(), "{words:?}");
-    } else {
-        assert_eq!(rt; ended.status, 4, "{words:?}");
-        assert!(rt; is_refusal(ended.err.as_str()), "{words:?}: {}", ended.err);
-    }
-    Ok(())
-}
-
 /// With each call for memory or for a thread refused in turn, a command gives its full answer, or a
 /// prefix of it and a line that says what was refused.
 #[test]
 fn a_command_is_refused_or_whole(rt: HostRuntime) -> Result<(), Fail> {
     for (words, _) in &COMMANDS {
         let text = text_of(&rt, words)?;
-        check_refused_or_whole(&rt, words, text.as_str())?;
+        let ended = call_within(&rt, words, &FILES, Limits::none(), Limits::none())?;
+        ended.check_refused_or_whole(&rt, text.as_str());
     }
     Ok(())
 }
@@ -294,8 +264,7 @@ fn check_unread<'w, R: Host>(
     if ended.status == 4 {
         return Err("no memory".into());
     }
-    assert_eq!(rt; ended.err.as_str(), line);
-    assert_eq!(rt; ended.status, 3, "{words:?}");
+    ended.check(rt, (3, "", line));
     Ok(())
 }
 
@@ -306,8 +275,7 @@ fn check_no_memory<'w, R: Host>(
     sound_reads: usize,
 ) -> Result<(), Fail> {
     let ended = call_faulty(rt, words, sound_reads, true)?;
-    assert_eq!(rt; ended.err.as_str(), "ultra: no memory\n");
-    assert_eq!(rt; ended.status, 4, "{words:?}");
+    ended.check(rt, (4, "", "ultra: no memory\n"));
     Ok(())
 }
 

@@ -5,8 +5,6 @@
 #[cfg(test)]
 mod calls;
 #[cfg(test)]
-mod command_lines;
-#[cfg(test)]
 mod examples;
 #[cfg(test)]
 mod explanations;
@@ -19,11 +17,7 @@ mod lib_programs;
 #[cfg(test)]
 mod orders;
 #[cfg(test)]
-mod partitions;
-#[cfg(test)]
 mod programs;
-#[cfg(test)]
-mod settings;
 #[cfg(test)]
 mod shelf;
 #[cfg(test)]

@@ -1,12 +1,13 @@
 //! Sweeps over files in memory.
 
-use crate::calls::{Ended, call_within};
+use crate::calls::{Ended, call_within, check_usage_fault};
 use crate::examples::ADDS_ONE;
 use crate::host::Host;
-use crate::traces::{COMBINED_PAIR, HALT};
+use crate::traces::HALT;
 use crate::tray::Limits;
 use std::alloc::{AllocError, Global};
 use std::test::Fail;
+use tests_base::COMBINED_PAIR;
 
 /// A job that halts at once, and one in which two processing elements add 1 each to cell 0.
 const TWO_JOBS: &str = "\
@@ -71,18 +72,21 @@ fn check_sweep<R: Host>(
     Ok(())
 }
 
+/// Numbers of workers and of jobs at once.
+static NUMBERS: [(&str, &str); 6] = [
+    ("1", "1"),
+    ("1", "2"),
+    ("2", "1"),
+    ("2", "2"),
+    ("8", "1"),
+    ("8", "2"),
+];
+
 /// The report doesn't depend on the number of workers, nor on how many jobs run at once.
 #[test]
 fn two_job_sweep(rt: HostRuntime) -> Result<(), Fail> {
     let report = report_of_two(rt.alloc())?;
-    for (workers, at_once) in [
-        ("1", "1"),
-        ("1", "2"),
-        ("2", "1"),
-        ("2", "2"),
-        ("8", "1"),
-        ("8", "2"),
-    ] {
+    for (workers, at_once) in &NUMBERS {
         let words = words_of(workers, at_once);
         check_sweep(&rt, &words, TWO_JOBS, (0, report.as_str(), ""))?;
     }
@@ -103,11 +107,14 @@ fn check_progress<R: Host>(rt: &R, workers: &str, report: &str) -> Result<(), Fa
         "2",
     ];
     let ended = sweep(rt, &words, TWO_JOBS, Limits::none())?;
-    assert_eq!(rt; ended.out.as_str(), report);
-    assert_eq!(rt; ended.status, 0);
-    let shown = ended.err.as_str();
     let last = "ultra: 2 of 2 jobs\n";
-    assert!(rt; shown == last || shown == "ultra: 1 of 2 jobs\nultra: 2 of 2 jobs\n");
+    let both = "ultra: 1 of 2 jobs\nultra: 2 of 2 jobs\n";
+    let shown = if ended.err.as_str() == last {
+        last
+    } else {
+        both
+    };
+    ended.check(rt, (0, report, shown));
     Ok(())
 }
 
@@ -234,10 +241,7 @@ static WRONG_WORDS: [(&[&str], &str); 6] = [
 #[test]
 fn wrong_words_of_a_sweep_are_usage_faults(rt: HostRuntime) -> Result<(), Fail> {
     for (words, text) in &WRONG_WORDS {
-        let ended = sweep(&rt, words, TWO_JOBS, Limits::none())?;
-        assert!(rt; ended.err.as_str().contains(text), "{words:?}");
-        assert!(rt; ended.out.is_empty(), "{words:?}");
-        assert_eq!(rt; ended.status, 2, "{words:?}");
+        check_usage_fault(&rt, words, text)?;
     }
     Ok(())
 }
@@ -249,12 +253,7 @@ fn a_prefix_of_a_report_is_written(rt: HostRuntime) -> Result<(), Fail> {
     for sound_writes in 0..8 {
         let out = Limits::failing_after(30, sound_writes);
         let ended = sweep(&rt, &words_of("2", "1"), TWO_JOBS, out)?;
-        assert!(rt;
-            report.as_str().starts_with(ended.out.as_str()),
-            "{sound_writes}"
-        );
-        assert_eq!(rt; ended.err.as_str(), "ultra: write failed\n");
-        assert_eq!(rt; ended.status, 5);
+        ended.check_cut(&rt, report.as_str());
     }
     Ok(())
 }

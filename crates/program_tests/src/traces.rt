@@ -1,33 +1,4 @@
-//! The traces of the examples.
-
-pub(crate) const COMBINED_PAIR: &str = "\
-ultra trace 2
-cycle 0
-cycle 1
-cycle 2
-pni 0: 0@0 faa 1
-pni 1: 1@0 faa 1
-cycle 3
-req 0 0: 1@0 faa 2 *
-wait 0 0: 1@0 same 0 plus 1
-cycle 4
-wait 0 0: 1@0 same 0 plus 1
-inp 0: 1@0 faa 2
-cycle 5
-act 0 1@0 faa 2 = 0 now 2
-wait 0 0: 1@0 same 0 plus 1
-out 0: 1@0 = 0
-cycle 6
-rep 0 0: 0@0 = 1
-rep 0 1: 1@0 = 0
-cycle 7
-got 0@0 = 1
-got 1@0 = 0
-end quiet
-cell 0 2
-pe 0 halted 3 r2=1 r3=1
-pe 1 halted 3 r2=1
-";
+//! The traces of the examples with machines of one stage. That of `combined_pair` is in `tests_base`.
 
 pub(crate) const UNCOMBINED_PAIR: &str = "\
 ultra trace 2

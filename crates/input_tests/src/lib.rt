@@ -1,0 +1,10 @@
+//! Tests of what the program is given: command lines, texts of settings and files. They stand in a crate of their own, so
+//! that no library is proved a second time with its tests.
+#![tactic(auto)]
+
+#[cfg(test)]
+mod command_lines;
+#[cfg(test)]
+mod files;
+#[cfg(test)]
+mod settings;
