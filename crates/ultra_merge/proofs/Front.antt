@@ -1,11 +1,12 @@
 -- The search for the list whose first entry comes next, list by list.
-use Rattle.std.proofs.Common.{◌≡◌, ℕ, ◌+◌, ◌<◌, ◌≤◌, List, [], ◌∷◌, length, get_or, drop, Option, Some, None, refl, sym, ◌∙◌, ap, subst, inl, inr, arith, map, Bor}
-use Rattle.std.proofs.lemmas.Bool.{cases_lt}
+use Rattle.std.proofs.Common.{◌≡◌, ℕ, ◌+◌, ◌<◌, ◌≤◌, List, [], ◌∷◌, length, get_or, drop, Option, Some, None, Bool, true, false, cond, leb, refl, sym, ◌∙◌, ap, subst, inl, inr, arith, map, Bor}
+use Rattle.std.proofs.lemmas.Bool.{cases_lt, leb-true, leb-false}
 use Rattle.std.proofs.lemmas.List.Elements.{All-nil, All-head, All-weaker}
 use Rattle.std.proofs.lemmas.List.{get_or-map}
 use Rattle.std.specs.Prelude.{All, slice_get, MatchOption}
 use Rattle.std.specs.List.Sorted.{IsNonDecreasingBy}
 use Rattle.ultra_merge.specs.declared.merge.Front.{Front}
+use Rattle.ultra_merge.specs.Front.{sooner}
 use Rattle.ultra_merge.specs.Merging.{AreEmpty, IsNextPlace, IsRanked}
 use Rattle.ultra_merge.proofs.Ranked.{first_is_least}
 
@@ -100,10 +101,15 @@ module _ {T : Type 0} (rank : T → ℕ) (count : ℕ) (items : List (Bor (List 
     ascends : IsNonDecreasingBy rank (get_or lists n [])
     ascends = subst (IsNonDecreasingBy rank) (sym here) ranked.ascends
 
-    pub past_later : (f : Front) → IsFront (Some f) n → f.rank ≤ rank x → IsFront (Some f) (n + 1)
+    past_later : (f : Front) → IsFront (Some f) n → f.rank ≤ rank x → IsFront (Some f) (n + 1)
     past_later f next later = front_before rank lists n x (drop 1 list.now) (here ∙ from_first list.now x first) ascends f.place f.rank next later
 
-    pub at_first : (front : Option Front) → IsFront front n → ((f : Front) → front ≡ Some f → rank x < f.rank) → IsNextPlace rank lists (n + 1) n (rank x)
-    at_first None empty sooner = first_front rank lists n x (drop 1 list.now) (here ∙ from_first list.now x first) ascends empty
-    at_first (Some f) next sooner =
-        sooner_front rank lists n x (drop 1 list.now) (here ∙ from_first list.now x first) ascends f.place f.rank next (sooner f refl)
+    chosen : (f : Front) (b : Bool) → leb f.rank (rank x) ≡ b → IsFront (Some f) n → IsFront (Some (cond b f record { place = n; rank = rank x })) (n + 1)
+    chosen f true is next = past_later f next (leb-true _ _ is)
+    chosen f false is next =
+        sooner_front rank lists n x (drop 1 list.now) (here ∙ from_first list.now x first) ascends f.place f.rank next (leb-false _ _ is)
+
+    -- the search goes on from the one that comes first
+    pub sooner_is_front : (front : Option Front) → IsFront front n → IsFront (Some (sooner front record { place = n; rank = rank x })) (n + 1)
+    sooner_is_front None empty = first_front rank lists n x (drop 1 list.now) (here ∙ from_first list.now x first) ascends empty
+    sooner_is_front (Some f) next = chosen f (leb f.rank (rank x)) refl next

@@ -2,6 +2,7 @@
 
 ghost use Rattle.std.specs.Prelude.{◌≡◌, ℕ, ◌<◌, [], ◌∷◌, ◌++◌, length, IfNone, IfSome};
 ghost use Rattle.std.specs.Iterator.{YieldsFirst, item_count};
+ghost use Rattle.ultra_merge.specs.Front.{sooner};
 ghost use Rattle.ultra_merge.specs.Merging.{IsRanked, IsNextPlace, AreEmpty, entries_left};
 
 use crate::Ranking;
@@ -74,16 +75,20 @@ impl<'a, T, R: Ranking<T>> Merge<'a, T, R> {
                 continue;
             };
             let rank = self.ranking.rank(entry);
-            let is_later = match front {
-                Some(least) => least.rank <= rank,
-                None => false,
-            };
-            if is_later {
-                continue;
-            }
-            front = Some(Front { place, rank });
+            front = Some(sooner(front, Front { place, rank }));
         }
         front
+    }
+}
+
+/// The one of these that comes first: of one rank the one that was found before.
+#[inline(always)]
+fn sooner(found: Option<Front>, next: Front) -> Front
+    ensures { result ≡ sooner found next }
+{
+    match found {
+        Some(least) if least.rank <= next.rank => least,
+        _ => next,
     }
 }
 
