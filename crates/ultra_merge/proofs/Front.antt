@@ -2,8 +2,8 @@
 use Rattle.std.proofs.Common.{◌≡◌, ℕ, ◌+◌, ◌<◌, ◌≤◌, List, [], ◌∷◌, length, get_or, drop, Option, Some, None, Bool, true, false, cond, leb, refl, sym, ◌∙◌, ap, subst, inl, inr, arith, map, Bor}
 use Rattle.std.proofs.lemmas.Bool.{cases_lt, leb-true, leb-false}
 use Rattle.std.proofs.lemmas.List.Elements.{All-nil, All-head, All-weaker}
-use Rattle.std.proofs.lemmas.List.{get_or-map}
-use Rattle.std.specs.Prelude.{All, slice_get, MatchOption}
+use Rattle.std.proofs.lemmas.List.{get_or-map, length-map}
+use Rattle.std.specs.Prelude.{All, slice_get, IfNone, IfSome, MatchOption}
 use Rattle.std.specs.List.Sorted.{IsNonDecreasingBy}
 use Rattle.ultra_merge.specs.declared.merge.Front.{Front}
 use Rattle.ultra_merge.specs.Front.{sooner}
@@ -113,3 +113,24 @@ module _ {T : Type 0} (rank : T → ℕ) (count : ℕ) (items : List (Bor (List 
     pub sooner_is_front : (front : Option Front) → IsFront front n → IsFront (Some (sooner front record { place = n; rank = rank x })) (n + 1)
     sooner_is_front None empty = first_front rank lists n x (drop 1 list.now) (here ∙ from_first list.now x first) ascends empty
     sooner_is_front (Some f) next = chosen f (leb f.rank (rank x)) refl next
+
+-- ---- the search has seen all lists
+module _ {T : Type 0} (rank : T → ℕ) (lists : List (List T)) (n : ℕ) (all : n ≡ length lists) where
+  pub none_found : (front : Option Front) → MatchOption front (AreEmpty lists n) (λ f. IsNextPlace rank lists n f.place f.rank) → IfNone front (AreEmpty lists (length lists))
+  none_found None empty = subst (AreEmpty lists) all empty
+  none_found (Some f) next = tt
+
+  pub one_found : (front : Option Front) → MatchOption front (AreEmpty lists n) (λ f. IsNextPlace rank lists n f.place f.rank)
+      → IfSome front (λ f. IsNextPlace rank lists (length lists) f.place f.rank)
+  one_found None empty = tt
+  one_found (Some f) next = subst (λ k. IsNextPlace rank lists k f.place f.rank) all next
+
+-- the list of the front has an entry
+module _ {T : Type 0} (rank : T → ℕ) (items : List (Bor (List T))) (k r : ℕ) (next : IsNextPlace rank (map (λ l. l.now) items) (length (map (λ l. l.now) items)) k r) where
+  pub place_within : k < length items
+  place_within = omega (arith, next.within, length-map items (λ (l : Bor (List T)). l.now))
+
+  pub has_entry : (d : Bor (List T)) → 0 < length (get_or items k d).now
+  has_entry d =
+      let is : (get_or items k d).now ≡ next.entry ∷ next.rest = sym (get_or-map (λ l. l.now) items k d [] place_within) ∙ next.is in
+      subst (λ xs. 0 < length xs) (sym is) (omega arith)

@@ -1,4 +1,5 @@
 use Rattle.std.proofs.Common.{length, ap, arith}
+use Rattle.ultra_merge.proofs.Front.{has_entry, place_within}
 use Rattle.ultra_merge.proofs.Merged.{merged_none}
 use Rattle.ultra_merge.proofs.Taken.{left_ranked, left_merged}
 use Rattle.ultra_merge.proofs.merge.MergeIterator.next.Goals as goal
@@ -31,3 +32,15 @@ pub returns-clause-goes : goal.returns-clause-goes
 returns-clause-goes g c =
     let lengths = ap length (returns-clause-steps g c) in
     record { on = λ _. (tt, tt, omega arith); keeps = tt; rests = λ _. tt }
+
+pub bounds-deref_mut-front : goal.bounds-deref_mut-front
+bounds-deref_mut-front g c =
+    let next = rw (← c.self.view_is) at c.in_ok-front.ensures.some in
+    rw c.deref_mut.ensures.value
+    (place_within (g.R.Ranking.rank_of c.self.inside.ranking) c.self.inside.lists.items c.in_ok-front.front.place c.in_ok-front.front.rank next)
+
+pub take_first-requires : goal.take_first-requires
+take_first-requires g c =
+    let next = rw (← c.self.view_is) at c.in_ok-front.ensures.some in
+    rw c.deref_mut.ensures.value
+    (has_entry (g.R.Ranking.rank_of c.self.inside.ranking) c.self.inside.lists.items c.in_ok-front.front.place c.in_ok-front.front.rank next c.index-deref_mut-front.result)
