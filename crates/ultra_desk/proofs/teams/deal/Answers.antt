@@ -1,6 +1,8 @@
-use Rattle.std.proofs.Common.{refl, ◌%◌, [], ◌∷◌, ◌++◌, arith, ap, ◌∙◌, sym, length-append}
-use Rattle.std.proofs.lemmas.List.{length-set}
-use Rattle.ultra_desk.specs.Tasks.{task, tasks_from, team}
+use Rattle.std.proofs.Common.{refl, ◌≡◌, ◌%◌, length, subst, [], ◌∷◌, ◌++◌, arith, ap, ◌∙◌, sym, length-append}
+use Rattle.std.proofs.lemmas.List.{length-set, map-id, take_all}
+use Rattle.std.specs.Vec.Iter.{drain_items, drain_steps}
+use Rattle.std.proofs.lemmas.Iterator.Consumers.{YieldsList-from_shown, YieldsList-end}
+use Rattle.ultra_desk.specs.Tasks.{AreTeams, task, tasks_from, team}
 use Rattle.ultra_desk.proofs.Dealt.{dealt_next, tasks_more}
 use Rattle.ultra_desk.proofs.teams.deal.Goals as goal
 
@@ -38,3 +40,20 @@ pub returns-clause-count : goal.returns-clause-count
 returns-clause-count c =
     let many = c.len-workers.ensures in let all = c.args.teams.now.ok in let len = c.loop-block.invariant.len in
     omega (arith, many, len, all.0)
+
+pub loop-block-init : goal.loop-block-init
+loop-block-init c =
+    let many = c.len-workers.ensures in let ok = c.args.teams.now.ok in
+    let all : length c.args.teams.now.items ≡ c.len-workers.result = omega (arith, many, ok.0) in
+    record { len = all; number = refl; each = λ w d below. c.requires.empty.tasks w d (omega (arith, all, below)) }
+
+pub returns-clause-teams : goal.returns-clause-teams
+returns-clause-teams c =
+    let teams = c.args.teams.now.items in
+    let blocks = c.args.blocks.now.items in
+    let s = c.into_iter-block-iterator.result in
+    let many = c.len-workers.ensures in let ok = c.args.teams.now.ok in
+    let all : length teams ≡ c.len-workers.result = omega (arith, many, ok.0) in
+    let whole : drain_items s ≡ blocks = ap drain_items c.into_iter-block-iterator.ensures.into_iter_gives ∙ c.drain-block-items.ensures.rest ∙ take_all _ blocks (omega (arith, c.args.blocks.now.ok.0)) in
+    let end = YieldsList-end (YieldsList-from_shown drain_steps (λ x. x) drain_items (λ _ _ h. ap length h.0) (λ _ _ _ h. h.0) s) c.loop-block.yielded _ c.loop-block.yielded_by _ _ c.in-None.is c.next.ensures.steps in
+    subst (λ bs. AreTeams (length teams) c.loop-block.teams.items bs) (sym (map-id c.loop-block.yielded) ∙ end.0 ∙ whole) (subst (λ n. AreTeams n c.loop-block.teams.items c.loop-block.yielded) (sym all) c.loop-block.invariant.each)

@@ -1,5 +1,5 @@
 use Rattle.std.proofs.Common.{rules, ◌≡◌, ◌<◌, ◌-◌, ◌+◌, ◌%◌, ℕ, List, length, take, drop, reverse, arith, ap, ◌∙◌, sym, Vec, Global, slice_index_or}
-use Rattle.std.proofs.lemmas.List.{drop_all, length-set, take_all}
+use Rattle.std.proofs.lemmas.List.{drop_all, length-set, reverse-reverse, take_all, take_at}
 use Rattle.ultra_section.specs.BlockState.{BlockState}
 use Rattle.ultra_desk.specs.declared.task.Task.{Task}
 use Rattle.ultra_desk.specs.Tasks.{AreTeams, tasks_from, team}
@@ -88,3 +88,14 @@ pub returns-clause-count : goal.returns-clause-count
 returns-clause-count c =
     let many = c.len-workers.ensures in let all = c.args.teams.now.ok in let len = c.loop-number.invariant.many in
     omega (arith, many, len, all.0)
+
+pub overflow_step-number : goal.overflow_step-number
+overflow_step-number c = let some = c.loop-number-test.true in omega (arith, some)
+
+pub returns-clause-blocks : goal.returns-clause-blocks
+returns-clause-blocks c = λ bs e dealt.
+    let none : c.loop-number.number ≡ 0 = let over = c.loop-number-test.false in omega (arith, over) in
+    take_at c.reverse.new.self (drop (length c.reverse.new.self) c.loop-number.blocks.items) c.loop-number.blocks.len (c.reverse.ensures.len ∙ c.as_mut_slice.ensures.len)
+    ∙ c.reverse.ensures.after
+    ∙ ap (λ (xs : List BlockState). reverse xs) (c.as_mut_slice.ensures.value ∙ c.loop-number.invariant.gathered bs e dealt ∙ ap (λ n. reverse (drop n bs)) none)
+    ∙ reverse-reverse bs
