@@ -1,4 +1,5 @@
-use Rattle.std.proofs.Common.{◌≡◌, ◌+◌, ◌∷◌, [], ◌++◌, take, arith, ap, sym, ◌∙◌, add-one}
+use Rattle.std.proofs.Common.{◌≡◌, ◌+◌, ◌∷◌, [], ◌++◌, take, arith, refl, ap, sym, ◌∙◌, add-one}
+use Rattle.std.proofs.lemmas.List.{take_all}
 use Rattle.std.proofs.Math.Seq.{take-suc}
 use Rattle.ultra_law.specs.Explicable.{held_by, one_if}
 use Rattle.ultra_tree.specs.Seen.{trees_of}
@@ -24,3 +25,12 @@ loop-one-preserved g c =
           let here = ap one_if (other_test one.pe c.args.pe w.if-one-pe.false) in
           record { counted = omega (arith, more, here, counted, w.count-is); few = omega (arith, few, w.count-is) }
     ]
+
+pub loop-one-init : goal.loop-one-init
+loop-one-init g c = record { counted = refl; few = omega arith }
+
+pub overflow_add-count : goal.overflow_add-count
+overflow_add-count g c = let some = c.loop-one-test.true in let few = c.loop-one.invariant.few in omega (arith, some, few)
+
+pub returns : goal.returns
+returns g c = c.loop-one.invariant.counted ∙ ap (λ us. held_by c.args.pe (trees_of us)) (take_all c.loop-one.one-index c.args.held.now c.loop-one-test.false)
