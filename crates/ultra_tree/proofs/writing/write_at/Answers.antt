@@ -1,6 +1,7 @@
-use Rattle.std.proofs.Common.{◌+◌, ◌<◌, ◌≤◌, subst, arith}
-use Rattle.ultra_msg.proofs.Writing.{so_far_more, so_far_failed}
+use Rattle.std.proofs.Common.{◌+◌, ◌<◌, ◌≤◌, None, subst, arith}
+use Rattle.ultra_msg.proofs.Writing.{so_far_none, so_far_more, so_far_failed, so_far_last}
 use Rattle.ultra_tree.specs.Counts.{leaf_count, HasRightCounts}
+use Rattle.ultra_tree.specs.Places.{piece}
 use Rattle.ultra_tree.specs.Text.{opening}
 use Rattle.ultra_tree.proofs.Places.{right_parts}
 use Rattle.ultra_tree.proofs.Texts.{text_in_old, text_in_new}
@@ -48,3 +49,24 @@ down-preserved g c =
       depth = omega (arith, depth, some_old);
       so_far = rw text at after;
     }
+
+pub down-init : goal.down-init
+down-init g c = record {
+  right_counts = c.requires.right_counts;
+  within = c.requires.within;
+  depth = omega arith;
+  so_far = so_far_none (piece c.args.tree.now c.args.place 0 None) (g.S.Sink.taken c.args.sink.now) (g.S.Sink.failures c.args.sink.now);
+}
+
+pub overflow_sub-place : goal.overflow_sub-place
+overflow_sub-place g c = c.if-place-old_leaves.false
+
+pub overflow_add-closing : goal.overflow_add-closing
+overflow_add-closing g c =
+    let depth = c.down.invariant.depth in let within = c.down.invariant.within in let fits = c.requires.fits in
+    omega (arith, depth, within, fits)
+
+pub returns-in-Leaf : goal.returns-in-Leaf
+returns-in-Leaf g c =
+    let before = rw c.in-Leaf.is at c.down.invariant.so_far in
+    so_far_last _ c.write_leaf.result before c.write_leaf.ensures
