@@ -1,9 +1,9 @@
--- a failure that isn't one of standard output
-use Rattle.std.proofs.Common.{◌≡◌, ℕ, List, refl}
+-- a failure that isn't one of standard output, and that none has the status 0
+use Rattle.std.proofs.Common.{◌≡◌, ℕ, List, refl, arith}
 use Rattle.ultra_io.specs.Source.{File}
 use Rattle.ultra_inputs.specs.declared.failure.Failure.{Failure}
 use Rattle.ultra_inputs.specs.declared.failure.Failure.TheVariants.{Usage, NotWords, NotRead, NotToml, BadField, UnknownKey, NotUtf8, BadLine, BadJob, BadParameter, NoMemory, NoThread, HeapFull, NotWritten}
-use Rattle.ultra_inputs.specs.Failure.{write_failures}
+use Rattle.ultra_inputs.specs.Failure.{status_of, write_failures}
 use Rattle.ultra_inputs.specs.Inputs.{IsUnread, FileGaveNothing, not_had, not_accepted}
 use Rattle.sweep_command.specs.Jobs.{ExplainsJobs}
 
@@ -28,3 +28,19 @@ none P never NotWritten e = absurd (never e)
 pub unlisted_none : (path : List ℕ) (old new : List File) (f : Failure) → FileGaveNothing ExplainsJobs path old new f → write_failures f ≡ 0
 unlisted_none path old new f (not_had why same) = none (λ g. IsUnread path g) (λ e. e) f why
 unlisted_none path old new f (not_accepted text why files) = none (λ g. ExplainsJobs path text g) (λ e. e) f why
+
+pub never_done : (f : Failure) → ¬ status_of f ≡ 0
+never_done (Usage t) e = absurd (omega arith)
+never_done NotWords e = absurd (omega arith)
+never_done (NotRead p) e = absurd (omega arith)
+never_done (NotToml p) e = absurd (omega arith)
+never_done (BadField p f) e = absurd (omega arith)
+never_done (UnknownKey p) e = absurd (omega arith)
+never_done (NotUtf8 p) e = absurd (omega arith)
+never_done (BadLine p l k) e = absurd (omega arith)
+never_done (BadJob p) e = absurd (omega arith)
+never_done BadParameter e = absurd (omega arith)
+never_done NoMemory e = absurd (omega arith)
+never_done NoThread e = absurd (omega arith)
+never_done HeapFull e = absurd (omega arith)
+never_done NotWritten e = absurd (omega arith)

@@ -1,9 +1,9 @@
 -- how a sweep that fails is reported
-use Rattle.std.proofs.Common.{arith, refl, sym}
+use Rattle.std.proofs.Common.{arith, ◌∙◌, refl, sym}
 use Rattle.ultra_jobs.specs.JobsText.{all_paths}
 use Rattle.sweep_command.specs.Shown.{stream}
 use Rattle.sweep_command.specs.Sweep.{unlisted, listed}
-use Rattle.sweep_command.proofs.Counted.{unlisted_none}
+use Rattle.sweep_command.proofs.Counted.{unlisted_none, never_done}
 use Rattle.sweep_command.proofs.sweep.Goals as goal
 
 pub returns-in-Err-clause-failed : goal.returns-in-Err-clause-failed
@@ -41,3 +41,45 @@ returns-in-Err-clause-counted g c ne =
 pub returns-clause-counted : goal.returns-clause-counted
 returns-clause-counted g c ne =
     (c.in-Err-sweep_jobs.failure, sym c.give_up-in-Err-sweep_jobs.ensures.status, c.in-Err-sweep_jobs.ensures.write_counted)
+
+pub returns-in-Err-clause-done : goal.returns-in-Err-clause-done
+returns-in-Err-clause-done g c z = absurd (never_done c.in-Err.failure (sym c.give_up.ensures.status ∙ z))
+
+pub returns-in-Err-clause-read_still : goal.returns-in-Err-clause-read_still
+returns-in-Err-clause-read_still g c z = absurd (never_done c.in-Err.failure (sym c.give_up.ensures.status ∙ z))
+
+pub returns-in-Err-clause-still : goal.returns-in-Err-clause-still
+returns-in-Err-clause-still g c z = refl
+
+pub returns-clause-done : goal.returns-clause-done
+returns-clause-done g c z = absurd (never_done c.in-Err-sweep_jobs.failure (sym c.give_up-in-Err-sweep_jobs.ensures.status ∙ z))
+
+pub returns-clause-read_still : goal.returns-clause-read_still
+returns-clause-read_still g c z = absurd (never_done c.in-Err-sweep_jobs.failure (sym c.give_up-in-Err-sweep_jobs.ensures.status ∙ z))
+
+pub returns-clause-still : goal.returns-clause-still
+returns-clause-still g c z = absurd (never_done c.in-Err-sweep_jobs.failure (sym c.give_up-in-Err-sweep_jobs.ensures.status ∙ z))
+
+-- a sweep that succeeds
+pub returns-in-Ok-sweep_jobs-clause-done : goal.returns-in-Ok-sweep_jobs-clause-done
+returns-in-Ok-sweep_jobs-clause-done g c z =
+    let gave = c.in-Ok.ensures.ok in
+    let swept = c.in-Ok-sweep_jobs.ensures.ok in
+    record {
+      text = gave.text;
+      paths = all_paths c.in-Ok.list.items;
+      listed = gave.given;
+      swept = rw gave.files at (rw c.as_slice.ensures.value at swept);
+    }
+
+pub returns-in-Ok-sweep_jobs-clause-failed : goal.returns-in-Ok-sweep_jobs-clause-failed
+returns-in-Ok-sweep_jobs-clause-failed g c ne = absurd (ne refl)
+
+pub returns-in-Ok-sweep_jobs-clause-read_still : goal.returns-in-Ok-sweep_jobs-clause-read_still
+returns-in-Ok-sweep_jobs-clause-read_still g c z = c.in-Ok-sweep_jobs.ensures.read_still ∙ c.in-Ok.ensures.still
+
+pub returns-in-Ok-sweep_jobs-clause-still : goal.returns-in-Ok-sweep_jobs-clause-still
+returns-in-Ok-sweep_jobs-clause-still g c z = c.in-Ok-sweep_jobs.ensures.write_still
+
+pub returns-in-Ok-sweep_jobs-clause-counted : goal.returns-in-Ok-sweep_jobs-clause-counted
+returns-in-Ok-sweep_jobs-clause-counted g c ne = absurd (ne refl)
