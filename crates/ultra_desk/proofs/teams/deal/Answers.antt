@@ -1,7 +1,7 @@
 use Rattle.std.proofs.Common.{refl, ◌≡◌, ◌%◌, length, subst, [], ◌∷◌, ◌++◌, arith, ap, ◌∙◌, sym, length-append}
 use Rattle.std.proofs.lemmas.List.{length-set, map-id, take_all}
 use Rattle.std.specs.Vec.Iter.{drain_items, drain_steps}
-use Rattle.std.proofs.lemmas.Iterator.Consumers.{YieldsList-from_shown, YieldsList-end}
+use Rattle.std.proofs.lemmas.Iterator.Consumers.{YieldsList-from_shown, YieldsList-turn, YieldsList-end}
 use Rattle.ultra_desk.specs.Tasks.{AreTeams, task, tasks_from, team}
 use Rattle.ultra_desk.proofs.Dealt.{dealt_next, tasks_more}
 use Rattle.ultra_desk.proofs.teams.deal.Goals as goal
@@ -57,3 +57,13 @@ returns-clause-teams c =
     let whole : drain_items s ≡ blocks = ap drain_items c.into_iter-block-iterator.ensures.into_iter_gives ∙ c.drain-block-items.ensures.rest ∙ take_all _ blocks (omega (arith, c.args.blocks.now.ok.0)) in
     let end = YieldsList-end (YieldsList-from_shown drain_steps (λ x. x) drain_items (λ _ _ h. ap length h.0) (λ _ _ _ h. h.0) s) c.loop-block.yielded _ c.loop-block.yielded_by _ _ c.in-None.is c.next.ensures.steps in
     subst (λ bs. AreTeams (length teams) c.loop-block.teams.items bs) (sym (map-id c.loop-block.yielded) ∙ end.0 ∙ whole) (subst (λ n. AreTeams n c.loop-block.teams.items c.loop-block.yielded) (sym all) c.loop-block.invariant.each)
+
+pub overflow_add-number : goal.overflow_add-number
+overflow_add-number c =
+    let blocks = c.args.blocks.now.items in
+    let s = c.into_iter-block-iterator.result in
+    let whole : drain_items s ≡ blocks = ap drain_items c.into_iter-block-iterator.ensures.into_iter_gives ∙ c.drain-block-items.ensures.rest ∙ take_all _ blocks (omega (arith, c.args.blocks.now.ok.0)) in
+    let turn = YieldsList-turn (YieldsList-from_shown drain_steps (λ x. x) drain_items (λ _ _ h. ap length h.0) (λ _ _ _ h. h.0) s) c.loop-block.yielded _ c.loop-block.yielded_by _ _ c.in-Some.block c.in-Some.is c.next.ensures.steps in
+    let some = turn.0 in let all = ap length whole in let number = c.loop-block.invariant.number in
+    let ok = c.args.blocks.now.ok in let small = c.args.blocks.now.small in
+    omega (arith, some, all, number, ok.0)
