@@ -240,10 +240,8 @@ impl<J: Course> Shift<J> {
         requires settled { (w : ℕ) (d : _) → w < length teams.old.items → map (task_made half rooms.now J.program) (slice_index_or teams.old.items w d).items ≡ J.results cycle half w }
         ensures { OnOk result (teams.new.items ≡ []) }
     {
-        // the last team is taken first: it has to be that of the first worker
-        teams.as_mut_slice().reverse();
         let mut worker = 0;
-        while let Some(team) = teams.pop() {
+        for team in teams.drain(..) {
             let name = Name {
                 cycle,
                 half,

@@ -1,72 +1,42 @@
-use Rattle.std.proofs.Common.{◌≡◌, ℕ, ◌+◌, ◌<◌, ◌≤◌, List, [], ◌∷◌, ◌++◌, length, get_or, reverse, arith, ap, ◌∙◌, sym, subst, refl, zero-add, Vec, Global}
+use Rattle.std.proofs.Common.{◌≡◌, ℕ, ◌<◌, List, length, get_or, arith, ap, ◌∙◌, sym, subst, Vec, Global}
 use Rattle.std.specs.Prelude.{map, All}
-use Rattle.std.proofs.lemmas.List.{get_or-reverse, get_or_at, get_or_append_left, nil_from_length, length-reverse, length_push}
+use Rattle.std.specs.Vec.Iter.{drain_items, drain_steps}
+use Rattle.std.proofs.lemmas.List.{take_all}
+use Rattle.std.proofs.lemmas.Iterator.Consumers.{YieldsList-from_shown, YieldsList-turn}
 use Rattle.ultra_desk.specs.Tasks.{CanBeMade, task_made}
 use Rattle.ultra_desk.specs.declared.task.Task.{Task}
-use Rattle.ultra_crew.proofs.Held.{held}
 use Rattle.ultra_crew.proofs.shift.Shift.hand_out.Goals as goal
 
--- the last of what is left of a list that was turned round is taken
-module _ {X : Type 0} (all old rest : List X) (x : X) (n : ℕ) (taken : old ≡ rest ++ x ∷ []) (count : n + length old ≡ length all) (left : (w : ℕ) (d : X) → w < length old → get_or old w d ≡ get_or (reverse all) w d) where
-  one_fewer : length old ≡ length rest + 1
-  one_fewer = ap length taken ∙ length_push rest x
-
-  place_in : n < length all
-  place_in = let e = one_fewer in omega (arith, e, count)
-
-  taken_is : x ≡ get_or all n x
-  taken_is =
-      let e = one_fewer in
-      sym (get_or_at rest x [] x (length rest) refl) ∙ ap (λ xs. get_or xs (length rest) x) (sym taken) ∙ left (length rest) x (omega (arith, e))
-      ∙ get_or-reverse all (length rest) x (omega (arith, e, count)) ∙ ap (λ k. get_or all k x) (omega (arith, e, count))
-
-  still_left : (w : ℕ) (d : X) → w < length rest → get_or rest w d ≡ get_or (reverse all) w d
-  still_left w d below =
-      let e = one_fewer in
-      sym (get_or_append_left rest (x ∷ []) d w below) ∙ ap (λ xs. get_or xs w d) (sym taken) ∙ left w d (omega (arith, e))
+-- the element that comes next stands in the whole list at the place of this number
+next_of : {X : Type 0} (left all : List X) (n w : ℕ) (x : X) → left ≡ all → w ≡ n → (n < length left) × (x ≡ get_or left n x) → (w < length all) × (x ≡ get_or all w x)
+next_of left all n w x e f t =
+    subst (λ xs. (w < length xs) × (x ≡ get_or xs w x)) e (subst (λ k. (k < length left) × (x ≡ get_or left k x)) (sym f) t)
 
 pub index-requires : goal.index-requires
 index-requires g c =
-    let below = place_in c.args.teams.now.items c.loop-team.teams.items c.pop.new.self.items c.in-Some.team c.loop-team.worker c.in-Some.ensures.items c.loop-team.invariant.count c.loop-team.invariant.left in
+    let s = c.into_iter-team-iterator.result in
+    let teams = c.args.teams.now.items in
+    let whole : drain_items s ≡ teams = ap drain_items c.into_iter-team-iterator.ensures.into_iter_gives ∙ c.drain-team-items.ensures.rest ∙ take_all _ teams (omega (arith, c.args.teams.now.ok.0)) in
+    let turn = YieldsList-turn (YieldsList-from_shown drain_steps (λ x. x) drain_items (λ _ _ h. ap length h.0) (λ _ _ _ h. h.0) s) c.loop-team.yielded _ c.loop-team.yielded_by _ _ c.in-Some.team c.in-Some.is c.next.ensures.steps in
+    let here = next_of _ teams _ c.loop-team.worker _ whole c.loop-team.invariant turn in
     let seen : length c.self.inside.desks.items ≡ c.args.self.now = c.self.view_is in
-    let count = c.requires.count in let all = c.self.inside.desks.ok in
-    omega (arith, below, count, all.0, seen)
+    let some = here.0 in let count = c.requires.count in let all = c.self.inside.desks.ok in
+    omega (arith, some, count, all.0, seen)
 
 pub hand_out-requires-clause-ready : goal.hand_out-requires-clause-ready
 hand_out-requires-clause-ready g c =
-    let below = place_in c.args.teams.now.items c.loop-team.teams.items c.pop.new.self.items c.in-Some.team c.loop-team.worker c.in-Some.ensures.items c.loop-team.invariant.count c.loop-team.invariant.left in
-    let is = taken_is c.args.teams.now.items c.loop-team.teams.items c.pop.new.self.items c.in-Some.team c.loop-team.worker c.in-Some.ensures.items c.loop-team.invariant.count c.loop-team.invariant.left in
-    subst (λ (v : Vec Task Global). All (CanBeMade c.args.half) v.items) (sym is) (c.requires.ready c.loop-team.worker c.in-Some.team below)
+    let s = c.into_iter-team-iterator.result in
+    let teams = c.args.teams.now.items in
+    let whole : drain_items s ≡ teams = ap drain_items c.into_iter-team-iterator.ensures.into_iter_gives ∙ c.drain-team-items.ensures.rest ∙ take_all _ teams (omega (arith, c.args.teams.now.ok.0)) in
+    let turn = YieldsList-turn (YieldsList-from_shown drain_steps (λ x. x) drain_items (λ _ _ h. ap length h.0) (λ _ _ _ h. h.0) s) c.loop-team.yielded _ c.loop-team.yielded_by _ _ c.in-Some.team c.in-Some.is c.next.ensures.steps in
+    let here = next_of _ teams _ c.loop-team.worker _ whole c.loop-team.invariant turn in
+    subst (λ (v : Vec Task Global). All (CanBeMade c.args.half) v.items) (sym here.1) (c.requires.ready c.loop-team.worker c.in-Some.team here.0)
 
 pub hand_out-requires-clause-settled : goal.hand_out-requires-clause-settled
 hand_out-requires-clause-settled g c =
-    let below = place_in c.args.teams.now.items c.loop-team.teams.items c.pop.new.self.items c.in-Some.team c.loop-team.worker c.in-Some.ensures.items c.loop-team.invariant.count c.loop-team.invariant.left in
-    let is = taken_is c.args.teams.now.items c.loop-team.teams.items c.pop.new.self.items c.in-Some.team c.loop-team.worker c.in-Some.ensures.items c.loop-team.invariant.count c.loop-team.invariant.left in
-    ap (λ (v : Vec Task Global). map (task_made c.args.half c.args.rooms.now g.J.Course.program) v.items) is ∙ c.requires.settled c.loop-team.worker c.in-Some.team below
-
-pub loop-team-preserved : goal.loop-team-preserved
-loop-team-preserved g c =
-    let fewer = one_fewer c.args.teams.now.items c.loop-team.teams.items c.pop.new.self.items c.in-Some.team c.loop-team.worker c.in-Some.ensures.items c.loop-team.invariant.count c.loop-team.invariant.left in
-    let count = c.loop-team.invariant.count in
-    record {
-      count = omega (arith, fewer, count);
-      left = still_left c.args.teams.now.items c.loop-team.teams.items c.pop.new.self.items c.in-Some.team c.loop-team.worker c.in-Some.ensures.items count c.loop-team.invariant.left;
-    }
-
-pub loop-team-init : goal.loop-team-init
-loop-team-init g c =
+    let s = c.into_iter-team-iterator.result in
     let teams = c.args.teams.now.items in
-    let turned = held c.args.teams.now c.as_mut_slice.result.now c.reverse.new.self c.reverse.ensures.len c.as_mut_slice.ensures.len ∙ c.reverse.ensures.after ∙ ap (λ (xs : List (Vec Task Global)). reverse xs) c.as_mut_slice.ensures.value in
-    record {
-      count = zero-add _ ∙ ap length turned ∙ length-reverse teams;
-      left = λ w d below. ap (λ (xs : List (Vec Task Global)). get_or xs w d) turned;
-    }
-
-pub overflow_add-worker : goal.overflow_add-worker
-overflow_add-worker g c =
-    let below = place_in c.args.teams.now.items c.loop-team.teams.items c.pop.new.self.items c.in-Some.team c.loop-team.worker c.in-Some.ensures.items c.loop-team.invariant.count c.loop-team.invariant.left in
-    let ok = c.args.teams.now.ok in let small = c.args.teams.now.small in
-    omega (arith, below, ok.0)
-
-pub returns : goal.returns
-returns g c = let none = c.in_default.ensures.cases in let ok = c.pop.new.self.ok in nil_from_length c.pop.new.self.items (omega (arith, none.1, ok.0))
+    let whole : drain_items s ≡ teams = ap drain_items c.into_iter-team-iterator.ensures.into_iter_gives ∙ c.drain-team-items.ensures.rest ∙ take_all _ teams (omega (arith, c.args.teams.now.ok.0)) in
+    let turn = YieldsList-turn (YieldsList-from_shown drain_steps (λ x. x) drain_items (λ _ _ h. ap length h.0) (λ _ _ _ h. h.0) s) c.loop-team.yielded _ c.loop-team.yielded_by _ _ c.in-Some.team c.in-Some.is c.next.ensures.steps in
+    let here = next_of _ teams _ c.loop-team.worker _ whole c.loop-team.invariant turn in
+    ap (λ (v : Vec Task Global). map (task_made c.args.half c.args.rooms.now g.J.Course.program) v.items) here.1 ∙ c.requires.settled c.loop-team.worker c.in-Some.team here.0
