@@ -111,7 +111,7 @@ pub(crate) fn call_into<'t, R: Host>(
 }
 
 /// Standard error doesn't say that memory or a thread was refused; else that is the error here.
-fn unless_refused(ended: Ended) -> Result<Ended, Fail> {
+pub(crate) fn unless_refused(ended: Ended) -> Result<Ended, Fail> {
     if is_refusal(ended.err.as_str()) {
         return Err("no memory, or no thread".into());
     }

@@ -1,6 +1,6 @@
 //! The explanations of the examples, and what small heaps and refused memory do.
 
-use crate::calls::{call_within, check_command, check_usage_fault};
+use crate::calls::{call_within, check_command, check_usage_fault, unless_refused};
 use crate::examples::ADDS_ONE;
 use crate::host::Host;
 use crate::tray::Limits;
@@ -168,12 +168,14 @@ fn sizes_of_heaps_have_limits(rt: HostRuntime) -> Result<(), Fail> {
 /// Settings of three stages, and a program.
 static THREE_STAGES: [(&str, &[u8]); 2] = [("c.toml", b"stages = 3"), ("p.s", ADDS_ONE)];
 
-/// With each allocation refused in turn, an explanation is refused after a prefix of its text, or whole.
+/// With each allocation refused in turn, an explanation is refused after a prefix of its text, or
+/// whole. A refusal is the error of this test.
 #[test]
 fn an_explanation_is_refused_or_whole(rt: HostRuntime) -> Result<(), Fail> {
     let words = with_heap("4096");
     let no_limits = Limits::none();
     let ended = call_within(&rt, &words, &THREE_STAGES, no_limits, no_limits)?;
     ended.check_refused_or_whole(&rt, THREE_LEVELS);
+    unless_refused(ended)?;
     Ok(())
 }
