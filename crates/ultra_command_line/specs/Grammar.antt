@@ -51,7 +51,7 @@ sweep_app = with_rule (with_rule (with_rule (with_rule (new_app (codes "sweep"))
     (argument (codes "JOBS"))) (required_option (codes "workers") 1 64))
     (required_option (codes "at-once") 1 64)) (flag (codes "progress"))
 
--- numbers of a register, of which one at least has to be there
+-- numbers of a register; at least one has to be there
 abbrev pub numbers_named : Text → Rule
 numbers_named name = record (argument name) {
   parser = Some (vp.Unsigned 0 4294967295);

@@ -41,7 +41,7 @@ pub struct Naming {
 pub enum Argument {
     /// A text that has to be given.
     Text(Naming),
-    /// Numbers below `2^32`, of which one at least has to be given.
+    /// Numbers below `2^32`. At least one has to be given.
     Numbers(Naming),
     /// The option `--NAME NUMBER`, with a number in a range.
     Number {
