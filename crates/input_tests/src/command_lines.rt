@@ -3,7 +3,7 @@
 use std::alloc::Global;
 use std::process::Abort;
 use std::test::Fail;
-use ultra_command_line::{Command, HeapBytes, Parsed, Workers, parse};
+use ultra_command_line::{Command, Parsed, parse};
 
 /// What the words ask for. Where memory was refused, that is the error here.
 fn parsed<'w>(alloc: Global, words: &'w [&'w str]) -> Result<Parsed<'w>, Fail> {
@@ -21,15 +21,10 @@ fn command_of<'w>(alloc: Global, words: &'w [&'w str]) -> Result<Command<'w>, Fa
     }
 }
 
-/// Asserts which command the words ask for.
-fn check_command<'w, R: Abort + AllocGlobal>(
-    rt: &R,
-    words: &'w [&'w str],
-    wanted: Command<'w>,
-) -> Result<(), Fail> {
-    let command = command_of(rt.alloc(), words)?;
-    assert!(rt; command == wanted, "{words:?}");
-    Ok(())
+/// Asserts that a command is about the settings `c.toml` and the program `p.s`.
+fn check_files<R: Abort>(rt: &R, words: &[&str], settings: &str, program: &str) {
+    assert_eq!(rt; settings, "c.toml", "{words:?}");
+    assert_eq!(rt; program, "p.s", "{words:?}");
 }
 
 /// The help that the words ask for.
@@ -68,28 +63,28 @@ static RUNS: [(&[&str], usize); 5] = [
 #[test]
 fn a_run_is_asked_for(rt: HostRuntime) -> Result<(), Fail> {
     for (words, count) in &RUNS {
-        check_command(&rt, words, run_by(*count)?)?;
+        let Command::Run {
+            settings,
+            program,
+            workers,
+        } = command_of(rt.alloc(), words)?
+        else {
+            return Err("no run".into());
+        };
+        check_files(&rt, words, settings, program);
+        assert_eq!(rt; workers.count, *count, "{words:?}");
     }
     Ok(())
 }
 
-/// The run of `p.s` with the settings `c.toml` by n workers.
-fn run_by(count: usize) -> Result<Command<'static>, Fail> {
-    let workers = Workers::new(count).ok_or("no workers")?;
-    Ok(Command::Run {
-        settings: "c.toml",
-        program: "p.s",
-        workers,
-    })
-}
-
 #[test]
 fn an_order_is_asked_for(rt: HostRuntime) -> Result<(), Fail> {
-    let order = Command::Order {
-        settings: "c.toml",
-        program: "p.s",
+    let words = ["ultra", "order", "c.toml", "p.s"];
+    let Command::Order { settings, program } = command_of(rt.alloc(), &words)? else {
+        return Err("no order".into());
     };
-    check_command(&rt, &["ultra", "order", "c.toml", "p.s"], order)
+    check_files(&rt, &words, settings, program);
+    Ok(())
 }
 
 /// Words that ask for an explanation, with the bytes of its heap.
@@ -105,19 +100,18 @@ static EXPLANATIONS: [(&[&str], usize); 3] = [
 #[test]
 fn an_explanation_is_asked_for(rt: HostRuntime) -> Result<(), Fail> {
     for (words, bytes) in &EXPLANATIONS {
-        check_command(&rt, words, explanation_within(*bytes)?)?;
+        let Command::Explain {
+            settings,
+            program,
+            heap,
+        } = command_of(rt.alloc(), words)?
+        else {
+            return Err("no explanation".into());
+        };
+        check_files(&rt, words, settings, program);
+        assert_eq!(rt; heap.count, *bytes, "{words:?}");
     }
     Ok(())
-}
-
-/// The explanation of that run, with the trees in a heap of n bytes.
-fn explanation_within(bytes: usize) -> Result<Command<'static>, Fail> {
-    let heap = HeapBytes::new(bytes).ok_or("no heap")?;
-    Ok(Command::Explain {
-        settings: "c.toml",
-        program: "p.s",
-        heap,
-    })
 }
 
 /// Words that are no command.

@@ -4,7 +4,7 @@ use Rattle.std.specs.Prelude.{String, string_bytes}
 use Rattle.std.specs.declared.alloc.Global.{Global}
 use Rattle.std.proofs.lemmas.List.{take_more, map-append}
 use Rattle.ultra_io.specs.Source.{File}
-use Rattle.ultra_jobs.specs.JobsText.{Paths, all_paths}
+use Rattle.ultra_settings.specs.JobsText.{Paths, all_paths}
 use Rattle.ultra_inputs.specs.declared.failure.Failure.{Failure}
 use Rattle.ultra_inputs.specs.Inputs.{Gave, GaveNothing}
 use Rattle.ultra_sweep.specs.declared.job.Job.{Job}

@@ -1,9 +1,9 @@
 -- what a file of jobs and the files that it names give; this project's profile
 use Rattle.std.specs.Prelude.{◌≡◌, ℕ, List, [], ◌∷◌, ◌++◌, ⊤}
 use Rattle.ultra_io.specs.Source.{File}
-use Rattle.ultra_jobs.specs.declared.JobsFault.TheVariants as jobs_fault
-use Rattle.ultra_jobs.specs.JobsText.{Paths}
-use Rattle.ultra_jobs.specs.JobsText as jobs_text
+use Rattle.ultra_settings.specs.declared.jobs.JobsFault.TheVariants as jobs_fault
+use Rattle.ultra_settings.specs.JobsText.{Paths}
+use Rattle.ultra_settings.specs.JobsText as jobs_text
 use Rattle.ultra_inputs.specs.declared.failure.Failure.{Failure}
 use Rattle.ultra_inputs.specs.declared.failure.Failure.TheVariants.{NotToml, BadJob, NoMemory}
 use Rattle.ultra_inputs.specs.Inputs.{Gave, GaveNothing}

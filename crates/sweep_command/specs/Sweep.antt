@@ -3,7 +3,7 @@ use Rattle.std.specs.Prelude.{◌≡◌, ◌+◌, ℕ, ◌⊎◌, Bool, List, []
 use Rattle.ultra_msg.specs.Bytes.{TakesPrefix}
 use Rattle.ultra_io.specs.Account.{SinkState}
 use Rattle.ultra_io.specs.Source.{file_of}
-use Rattle.ultra_jobs.specs.JobsText.{Paths, Gives}
+use Rattle.ultra_settings.specs.JobsText.{Paths, Gives}
 use Rattle.ultra_inputs.specs.declared.failure.Failure.{Failure}
 use Rattle.ultra_inputs.specs.declared.failure.Failure.TheVariants.{NoMemory, NoThread, NotWritten}
 use Rattle.ultra_inputs.specs.Failure.{status_of, read_failures}

@@ -7,6 +7,7 @@ ghost use Rattle.sweep_command.specs.Shown.{stream, HasShown};
 ghost use Rattle.sweep_command.specs.declared.fault.SweepFault.TheVariants.{NoThread};
 
 use crate::fault::SweepFault;
+use crate::gate::RunAlone;
 use crate::meter::Meter;
 use crate::share::{Share, join_shares};
 use crate::task::Task;
@@ -14,7 +15,6 @@ use std::alloc::{AllocError, Global};
 use std::sync::Wait;
 use std::thread::{self, PromisedHandle, Scope, Threads};
 use ultra_board::{Board, Seat};
-use ultra_job_gate::RunAlone;
 use ultra_msg::Sink;
 use ultra_sweep::work;
 

@@ -5,19 +5,22 @@ ghost use Rattle.std.specs.Prelude.{◌≡◌, ◌≢◌, ◌+◌, IfErr, OnOk};
 ghost use Rattle.ultra_inputs.specs.declared.failure.Failure.{Failure};
 ghost use Rattle.ultra_inputs.specs.Failure.{status_of, read_failures, write_failures};
 ghost use Rattle.ultra_inputs.specs.Traffic.{traffic};
-ghost use Rattle.ultra_jobs.specs.JobsText.{all_paths};
+ghost use Rattle.ultra_settings.specs.JobsText.{all_paths};
 ghost use Rattle.sweep_command.specs.Shown.{stream};
 ghost use Rattle.sweep_command.specs.Sweep.{Swept, HasFailed, SweptJobs, JobsFail};
 
 mod bell;
 mod crew;
 mod fault;
+mod gate;
 mod listing;
 mod meter;
 mod running;
 mod share;
 mod task;
+mod text;
 
+pub use gate::RunAlone;
 use listing::{list_jobs, read_jobs};
 use running::run_jobs;
 use std::alloc::Global;

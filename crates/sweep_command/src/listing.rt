@@ -1,7 +1,7 @@
 //! The file of jobs, and the files that it names.
 
 ghost use Rattle.std.specs.Prelude.{◌≡◌, ◌+◌, IfOk, IfErr, OnOk};
-ghost use Rattle.ultra_jobs.specs.JobsText.{all_paths, Gives};
+ghost use Rattle.ultra_settings.specs.JobsText.{all_paths, Gives};
 ghost use Rattle.ultra_inputs.specs.Failure.{read_failures};
 ghost use Rattle.ultra_inputs.specs.Inputs.{FileGave, FileGaveNothing};
 ghost use Rattle.sweep_command.specs.Jobs.{ExplainsJobs, GaveJobs, GaveNoJobs};
@@ -9,7 +9,7 @@ ghost use Rattle.sweep_command.specs.Jobs.{ExplainsJobs, GaveJobs, GaveNoJobs};
 use std::alloc::Global;
 use ultra_inputs::{Failure, Inputs, read_file, read_inputs};
 use ultra_io::Source;
-use ultra_jobs::{JobsFault, jobs_from};
+use ultra_settings::{JobsFault, jobs_from};
 use ultra_sweep::Job;
 
 /// The paths of the jobs that a file lists: for each its settings and its program.

@@ -4,12 +4,12 @@ ghost use Rattle.std.specs.Prelude.{◌≡◌};
 ghost use Rattle.sweep_command.specs.Share.{IsFresh, IsShare, IsTask};
 
 use crate::bell::Bell;
+use crate::gate::RunAlone;
 use crate::share::Share;
 use std::alloc::Global;
 use std::sync::Wait;
 use std::thread::Promise;
 use ultra_board::{Board, Seat};
-use ultra_job_gate::RunAlone;
 use ultra_sweep::{Job, JobGate, JobResult, work};
 
 /// The task of all threads. Each promises its share of it, with a seat of one place.

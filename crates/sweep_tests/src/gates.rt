@@ -4,8 +4,8 @@ use std::alloc::Global;
 use std::sync::Wait;
 use std::sync::atomic::{AtomicU64, Ordering};
 use std::thread;
+use sweep_command::RunAlone;
 use ultra_board::Seat;
-use ultra_job_gate::RunAlone;
 use ultra_sweep::{Job, JobGate, JobResult};
 
 /// A gate at which the runs of jobs 0 and 1 meet: each raises a flag and waits for the other's,

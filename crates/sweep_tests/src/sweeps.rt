@@ -11,8 +11,8 @@ use std::sync::Wait;
 use std::sync::atomic::Ordering;
 use std::test::Fail;
 use std::thread::{self, Threads};
+use sweep_command::RunAlone;
 use ultra_board::Board;
-use ultra_job_gate::RunAlone;
 use ultra_sweep::{Job, JobGate, JobResult, WorkFault, gather, report, work};
 
 /// The report of a job that halts at once, and of one in which two processing elements add 1 each

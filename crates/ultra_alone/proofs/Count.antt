@@ -9,11 +9,11 @@ use Rattle.ultra_isa.specs.declared.Instr.{Instr}
 use Rattle.ultra_model.specs.Machine.{Settings, Machine, start, is_quiet}
 use Rattle.ultra_block.specs.State.{BlocksState}
 use Rattle.ultra_model.specs.Phases.{after, cycle, reply_phase, memory_phase, request_phase, processor_phase}
-use Rattle.ultra_page.specs.declared.Page.{Page}
-use Rattle.ultra_page.specs.Page.{Writes, WritesPrefix}
+use Rattle.ultra_io.specs.declared.page.Page.{Page}
+use Rattle.ultra_io.specs.Page.{Writes, WritesPrefix}
 use Rattle.ultra_alone.specs.BlocksAfter.{IsAfter}
 use Rattle.ultra_model.specs.Trace.{by_number, cycle_text, cycles_text, cycle_count, all_cycles_text, last_state, end_text}
-use Rattle.ultra_page.proofs.Writing.{either, writes_failed, writes_spent}
+use Rattle.ultra_io.proofs.Writing.{either, writes_failed, writes_spent}
 use Rattle.ultra_lines.proofs.Numbered.{range_parts, writes_number}
 
 -- ---- the first number of a range that passes a test

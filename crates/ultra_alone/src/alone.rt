@@ -3,15 +3,15 @@
 ghost use Rattle.std.specs.Prelude.{◌≡◌, ◌+◌, ◌<◌, ◌≤◌, ◌++◌, ◌||◌, codes, false, OnOk, OnErr};
 ghost use Rattle.ultra_msg.specs.Bytes.{TakesPrefix};
 ghost use Rattle.ultra_model.specs.Machine.{is_quiet};
-ghost use Rattle.ultra_page.specs.Page.{Writes, has_failed};
+ghost use Rattle.ultra_io.specs.Page.{Writes, has_failed};
 ghost use Rattle.ultra_model.specs.Text.{newline};
 ghost use Rattle.ultra_model.specs.Trace.{all_cycles_text, cycle_count, cycle_text, trace};
 ghost use Rattle.ultra_alone.specs.BlocksAfter.{IsAfter};
 
 use ultra_block::Blocks;
+use ultra_io::Page;
 use ultra_lines::{put_cycle, put_end};
 use ultra_msg::{Sink, SinkFault};
-use ultra_page::Page;
 
 /// Runs a machine from its start, and writes its trace to a sink. After a fault the sink has taken a prefix of it.
 pub(crate) fn write_trace<S: Sink>(blocks: &mut Blocks, sink: &mut S) -> Result<(), SinkFault>

@@ -1,8 +1,8 @@
 -- a text whose rest is still to be written on a page
 use Rattle.std.proofs.Common.{ℕ, ◌≡◌, List, [], ◌++◌, refl, sym, ◌∙◌, append_assoc}
-use Rattle.ultra_page.specs.declared.Page.{Page}
-use Rattle.ultra_page.specs.Page.{Writes}
-use Rattle.ultra_page.proofs.Writing.{◌then◌, writes_nothing}
+use Rattle.ultra_io.specs.declared.page.Page.{Page}
+use Rattle.ultra_io.specs.Page.{Writes}
+use Rattle.ultra_io.proofs.Writing.{◌then◌, writes_nothing}
 
 pub record IsOnPage {S : Type 0} (taken : S → List ℕ) (failures : S → ℕ) (text rest : List ℕ) (old new : Page S) : Type 0 where
   pub part : List ℕ

@@ -5,12 +5,12 @@ ghost use Rattle.ultra_asm.specs.Instruction.{mnemonic_of, operands_of};
 ghost use Rattle.ultra_asm.specs.ProgramText.{IsProgramText};
 ghost use Rattle.ultra_asm.specs.Listing.{label_text, label_line, label_if, listed, operand_text, operands_text, line_text, instruction_line, target_of, is_target, listing_text, AreWritable, IsListable};
 ghost use Rattle.ultra_msg.specs.Bytes.{TakesPrefix};
-ghost use Rattle.ultra_page.specs.Page.{Writes};
+ghost use Rattle.ultra_io.specs.Page.{Writes};
 
 use crate::instruction::{Mnemonic, Operand};
+use ultra_io::Page;
 use ultra_isa::{Instr, MOST_INSTRUCTIONS, Program};
 use ultra_msg::{Sink, SinkFault};
-use ultra_page::Page;
 
 /// How many places a jump can go to.
 const PLACES: usize = MOST_INSTRUCTIONS + 1;

@@ -2,7 +2,7 @@
 use Rattle.std.proofs.Common.{◌≡◌, ◌≢◌, ◌∙◌, ◌+◌, ℕ, inl, inr, refl, sym, ap, subst, arith, ⊎_elim}
 use Rattle.std.specs.Prelude.{Bool, List, Result, Ok, Err, OnOk, IfErr}
 use Rattle.std.proofs.lemmas.Bool.{cases_eq}
-use Rattle.ultra_jobs.specs.JobsText.{Paths}
+use Rattle.ultra_settings.specs.JobsText.{Paths}
 use Rattle.ultra_isa.specs.declared.Instr.{Instr}
 use Rattle.ultra_model.specs.Machine.{Settings}
 use Rattle.ultra_io.specs.Account.{SinkState}
@@ -10,16 +10,17 @@ use Rattle.ultra_inputs.specs.declared.failure.Failure.{Failure}
 use Rattle.ultra_inputs.specs.declared.failure.Failure.TheVariants.{Usage, NotWords, NotRead, NotToml, BadField, UnknownKey, NotUtf8, BadLine, BadJob, BadParameter, NoMemory, NoThread, HeapFull, NotWritten}
 use Rattle.ultra_inputs.specs.Failure.{status_of, read_failures, write_failures}
 use Rattle.ultra_inputs.specs.Traffic.{Traffic, IsStopped, TextFails, refused, stopped}
-use Rattle.run_command.specs.Stops.{IsStoppedBy}
+use Rattle.basic_commands.specs.Listing.{ListFails, unread_text, refused_text, unwritten}
+use Rattle.basic_commands.specs.Stops.{IsStoppedBy}
 use Rattle.explain_command.specs.Explanation.{explanation_of, EndsFull, IsCutShort}
-use Rattle.lib_command.specs.Coordination as lib
-use Rattle.lib_command.specs.Coordination.{LibFails}
+use Rattle.basic_commands.specs.Coordination as lib
+use Rattle.basic_commands.specs.Coordination.{LibFails}
 use Rattle.ultra_command_line.specs.declared.Coordination.{Coordination}
 use Rattle.ultra_command_line.specs.declared.Parsed.{Parsed}
 use Rattle.sweep_command.specs.Shown.{IsReported}
 use Rattle.sweep_command.specs.Sweep as sweep
 use Rattle.sweep_command.specs.Sweep.{Swept, SweepFails, HasFailed, JobsFail}
-use Rattle.ultra_cli.specs.Outcome.{IsStatus, IsRefusal, status_failures, ListFails, unread_text, refused_text, unwritten, ExplainFails, Obeyed, NotObeyed, HasReported, HasEnded}
+use Rattle.ultra_cli.specs.Outcome.{IsStatus, IsRefusal, status_failures, ExplainFails, Obeyed, NotObeyed, HasReported, HasEnded}
 
 two : IsStatus 2
 two = inr (inl refl)

@@ -1,25 +1,22 @@
 -- which commands were obeyed, and with which status the program ends; this project's profile
 use Rattle.std.specs.Prelude.{◌≡◌, ◌≢◌, ◌+◌, ℕ, List, [], ◌∷◌, ◌++◌, ◌⊎◌, ◌==◌, if◌then◌else◌, string_bytes, Result, OnOk, IfErr}
 use Rattle.ultra_msg.specs.Bytes.{TakesPrefix}
-use Rattle.ultra_isa.specs.declared.Instr.{Instr}
-use Rattle.ultra_asm.specs.Listing.{listing_text}
 use Rattle.ultra_command_line.specs.declared.Command.TheVariants.{Run, Order, Explain, List as ListOf, Sweep, Lib}
 use Rattle.ultra_command_line.specs.declared.Parsed.{Parsed}
 use Rattle.ultra_command_line.specs.declared.Parsed.TheVariants as parsed
 use Rattle.ultra_inputs.specs.declared.failure.Failure.{Failure}
 use Rattle.ultra_inputs.specs.declared.failure.Failure.TheVariants.{Usage, NoMemory, HeapFull, NotWritten}
-use Rattle.ultra_inputs.specs.Inputs.{IsProgramOf, IsUnread, ExplainsProgram}
-use Rattle.ultra_inputs.specs.Traffic.{Traffic, with_files, IsStopped, WroteText, TextFails}
+use Rattle.ultra_inputs.specs.Traffic.{Traffic, IsStopped, WroteText, TextFails}
 use Rattle.ultra_inputs.specs.Failure.{status_of, read_failures}
 use Rattle.ultra_io.specs.Account.{SinkState}
-use Rattle.ultra_io.specs.Source.{file_of}
-use Rattle.run_command.specs.Stops.{IsStoppedBy}
-use Rattle.order_command.specs.Order.{order_of}
+use Rattle.basic_commands.specs.Listing.{WroteListing, ListFails}
+use Rattle.basic_commands.specs.Stops.{IsStoppedBy}
+use Rattle.basic_commands.specs.Order.{order_of}
 use Rattle.explain_command.specs.Explanation.{explanation_of, EndsFull, IsCutShort}
-use Rattle.lib_command.specs.Coordination.{WroteProgram, LibFails}
+use Rattle.basic_commands.specs.Coordination.{WroteProgram, LibFails}
 use Rattle.sweep_command.specs.Shown.{IsReported}
 use Rattle.sweep_command.specs.Sweep.{Swept, SweepFails}
-use Rattle.run_command.specs.Trace.{trace}
+use Rattle.basic_commands.specs.Trace.{trace}
 
 -- one of the program's statuses: done, a usage fault, refused input, no memory or thread, a failed write
 abbrev pub IsStatus : ℕ → Type 0
@@ -32,20 +29,6 @@ IsRefusal s = (s ≡ 2) ⊎ (s ≡ 3)
 -- how often standard output failed where the program ended with the status
 abbrev pub status_failures : ℕ → ℕ
 status_failures s = if s == 5 then 1 else 0
-
--- a file was read, and the canonical text of its program was written
-pub record WroteListing (prog : List ℕ) (old new : Traffic) : Type 0 where
-  pub bytes : List ℕ
-  pub program : List Instr
-  pub assembled : IsProgramOf bytes program
-  pub files : new.files ≡ old.files ++ file_of prog bytes ∷ []
-  pub written : new.written ≡ old.written ++ listing_text program
-
--- how a listing fails: its file is accepted before a byte is written
-pub data ListFails (prog : List ℕ) (old new : Traffic) (f : Failure) : Type 0 where
-  unread_text : IsUnread prog f → new ≡ old → ListFails prog old new f
-  refused_text : (text : List ℕ) → ExplainsProgram prog text f → new ≡ with_files old (file_of prog text ∷ []) → ListFails prog old new f
-  unwritten : (text : List ℕ) (p : List Instr) → IsProgramOf text p → f ≡ NotWritten → new.files ≡ old.files ++ file_of prog text ∷ [] → TakesPrefix (listing_text p) old.written new.written → ListFails prog old new f
 
 -- how an explanation fails: where the heap is full, the lines before a combination are written
 pub record ExplainFails (conf prog : List ℕ) (old new : Traffic) (f : Failure) : Type 0 where

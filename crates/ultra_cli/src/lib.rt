@@ -9,8 +9,6 @@ ghost use Rattle.sweep_command.specs.Shown.{stream};
 ghost use Rattle.ultra_inputs.specs.Traffic.{traffic};
 ghost use Rattle.ultra_cli.specs.Outcome.{status_failures, IsRefusal, IsStatus, Obeyed, Failed, HasEnded, HasReported};
 
-mod list;
-
 use std::sync::Wait;
 use std::thread::Threads;
 use sweep_command::{Plan, sweep};
@@ -97,12 +95,12 @@ fn carry_out<'w, R: AllocGlobal + Threads + Wait + Sync, F: Source, O: Sink, E: 
             program,
             workers,
         } => {
-            let done = run_command::run(rt, alloc, settings, program, workers, source, out);
+            let done = basic_commands::run(rt, alloc, settings, program, workers, source, out);
             ended(done, err)
         }
         Command::Order { settings, program } => {
             ended(
-                order_command::order(alloc, settings, program, source, out),
+                basic_commands::order(alloc, settings, program, source, out),
                 err,
             )
         }
@@ -114,7 +112,7 @@ fn carry_out<'w, R: AllocGlobal + Threads + Wait + Sync, F: Source, O: Sink, E: 
             let done = explain_command::explain(alloc, settings, program, heap.count, source, out);
             ended(done, err)
         }
-        Command::List { program } => ended(list::list(alloc, program, source, out), err),
+        Command::List { program } => ended(basic_commands::list(alloc, program, source, out), err),
         Command::Sweep {
             jobs,
             workers,
@@ -129,7 +127,7 @@ fn carry_out<'w, R: AllocGlobal + Threads + Wait + Sync, F: Source, O: Sink, E: 
             sweep(rt, alloc, jobs, plan, source, out, err)
         }
         Command::Lib(coordination) => {
-            ended(lib_command::write_program(alloc, coordination, out), err)
+            ended(basic_commands::write_program(alloc, coordination, out), err)
         }
     }
 }

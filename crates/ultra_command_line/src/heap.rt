@@ -9,7 +9,7 @@ const FEWEST_BYTES: usize = 256;
 const MOST_BYTES: usize = 16_777_216;
 
 /// The size of the heap of the combining trees.
-#[derive(Clone, Copy, PartialEq, Eq)]
+#[derive(Clone, Copy)]
 pub struct HeapBytes {
     /// How many bytes, 256 to 16,777,216.
     pub count: usize,

@@ -23,7 +23,7 @@ use std::alloc::{AllocError, Global};
 pub use workers::Workers;
 
 /// What the program is asked to do.
-#[derive(Clone, Copy, PartialEq, Eq, Drop)]
+#[derive(Clone, Copy, Drop)]
 pub enum Command<'w> {
     /// To write the trace of a run: `ultra run CONF PROG [--workers H]`.
     Run {
@@ -73,7 +73,7 @@ pub enum Command<'w> {
 
 /// A coordination program with its parameters as the words give them: they may be out of range. The
 /// rounds are to be 1 to 1000.
-#[derive(Clone, Copy, PartialEq, Eq)]
+#[derive(Clone, Copy)]
 pub enum Coordination {
     /// A gate: `ultra lib gate B T`. The bound is to be 1 to 64.
     Gate { bound: u32, rounds: u32 },

@@ -7,7 +7,7 @@ const MOST_WORKERS: usize = 64;
 
 /// A number of threads of the host, 1 to 64. In a run one worker is the caller's thread, and of
 /// several each has a thread of its own.
-#[derive(Clone, Copy, PartialEq, Eq)]
+#[derive(Clone, Copy)]
 pub struct Workers {
     /// How many, 1 to 64.
     pub count: usize,

@@ -13,7 +13,7 @@ use Rattle.ultra_isa.specs.Instruction.{minus}
 use Rattle.ultra_model.specs.Machine.{Settings, size}
 use Rattle.ultra_model.specs.Ranges.{AreInRange}
 use Rattle.ultra_para.specs.Para.{Para, start_para, run_para}
-use Rattle.ultra_interleaving.proofs.Interleaving.{IsIn, unchanged, sum_changes, phase_after, replicated, few_elements, zero_at_first, Knows, stage_at, ◌▹◌, AreKept, Holds, always}
+use Rattle.ultra_coordination.proofs.Interleaving.{IsIn, unchanged, sum_changes, phase_after, replicated, few_elements, zero_at_first, Knows, stage_at, ◌▹◌, AreKept, Holds, always}
 use Rattle.ultra_coordination.specs.Schedules.{IsKept}
 use Rattle.ultra_coordination.specs.Barrier.{barrier, AreInStep}
 use Rattle.ultra_coordination.proofs.Tally.{at_phase}

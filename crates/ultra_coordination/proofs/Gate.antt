@@ -8,7 +8,7 @@ use Rattle.ultra_msg.specs.Act.{plus}
 use Rattle.ultra_model.specs.Machine.{Settings, size}
 use Rattle.ultra_model.specs.Ranges.{AreInRange}
 use Rattle.ultra_para.specs.Para.{Para, start_para}
-use Rattle.ultra_interleaving.proofs.Interleaving.{IsIn, unchanged, sum_changes, within_sum, few_elements, Knows, stage_at, ◌▹◌, AreKept, Holds, always}
+use Rattle.ultra_coordination.proofs.Interleaving.{IsIn, unchanged, sum_changes, within_sum, few_elements, Knows, stage_at, ◌▹◌, AreKept, Holds, always}
 use Rattle.ultra_coordination.specs.Schedules.{total, IsKept}
 use Rattle.ultra_coordination.specs.Gate.{gate, AreFewInside}
 use Rattle.ultra_coordination.proofs.Tally.{at_phase, Tally, counts, raises, tally_at_first, total_flags}

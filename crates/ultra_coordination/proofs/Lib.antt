@@ -1,3 +1,5 @@
+pub mod Interleaving
+pub mod Tickets
 pub mod Tally
 pub mod Gate
 pub mod ReadersWriters

@@ -12,7 +12,7 @@ use Rattle.ultra_isa.specs.Instruction.{minus}
 use Rattle.ultra_model.specs.Machine.{Settings, size}
 use Rattle.ultra_model.specs.Ranges.{AreInRange}
 use Rattle.ultra_para.specs.Para.{start_para, run_para}
-use Rattle.ultra_interleaving.proofs.Interleaving.{Sixteen, listed, IsIn, unchanged, few_elements, zero_at_first, Knows, stage_at, ◌▹◌, AreKept, Comes, always}
+use Rattle.ultra_coordination.proofs.Interleaving.{Sixteen, listed, IsIn, unchanged, few_elements, zero_at_first, Knows, stage_at, ◌▹◌, AreKept, Comes, always}
 use Rattle.ultra_coordination.specs.Schedules.{IsKept}
 use Rattle.ultra_coordination.specs.Queue.{queue, AreItemsOnce}
 use Rattle.ultra_coordination.proofs.Tally.{at_phase}

@@ -7,7 +7,7 @@ use Rattle.std.proofs.lemmas.List.{get_or-set_same, get_or_default}
 use Rattle.std.proofs.lemmas.List.Sums.{sum_by-le, sum_by-le-sum_by}
 use Rattle.std.proofs.lemmas.List.Folds.{sum_by-replicate}
 use Rattle.std.proofs.lemmas.Nat.{div-mul-add, mod-mul-add}
-use Rattle.ultra_interleaving.proofs.Interleaving.{IsIn, sum_changes, phase_after, replicated}
+use Rattle.ultra_coordination.proofs.Interleaving.{IsIn, sum_changes, phase_after, replicated}
 
 -- ---- one number of a row is set
 abbrev pub changed : (ℕ → ℕ) → ℕ → ℕ → ℕ → ℕ

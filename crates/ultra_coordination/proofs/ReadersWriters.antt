@@ -9,7 +9,7 @@ use Rattle.ultra_msg.specs.Act.{plus}
 use Rattle.ultra_model.specs.Machine.{Settings, size}
 use Rattle.ultra_model.specs.Ranges.{AreInRange}
 use Rattle.ultra_para.specs.Para.{Para, start_para}
-use Rattle.ultra_interleaving.proofs.Interleaving.{IsIn, sum_changes, within_sum, phase_after, few_elements, Knows, stage_at, ◌▹◌, AreKept, Holds, always}
+use Rattle.ultra_coordination.proofs.Interleaving.{IsIn, sum_changes, within_sum, phase_after, few_elements, Knows, stage_at, ◌▹◌, AreKept, Holds, always}
 use Rattle.ultra_coordination.specs.Schedules.{IsKept}
 use Rattle.ultra_coordination.specs.ReadersWriters.{readers_writers, AreWritersAlone}
 use Rattle.ultra_coordination.proofs.Tally.{at_phase, two_within_sum, sum_at_most_one, Tally, counts, raises, tally_at_first}

@@ -9,7 +9,7 @@ use Rattle.std.proofs.lemmas.List.Folds.{sum_by-replicate}
 use Rattle.ultra_model.specs.Machine.{Settings, size}
 use Rattle.ultra_para.specs.Para.{start_para}
 use Rattle.ultra_coordination.specs.Schedules.{total}
-use Rattle.ultra_interleaving.proofs.Interleaving.{IsIn, sum_changes, within_sum, phase_after, replicated, zero_at_first}
+use Rattle.ultra_coordination.proofs.Interleaving.{IsIn, sum_changes, within_sum, phase_after, replicated, zero_at_first}
 
 -- who is in a phase is in one that is the same
 pub at_phase : {Φ : Type 0} {phases : List Φ} {p : ℕ} {out φ ψ : Φ} → φ ≡ ψ → IsIn phases p out φ → IsIn phases p out ψ

@@ -1,3 +1,4 @@
+pub mod Tickets
 pub mod Schedules
 pub mod Gate
 pub mod ReadersWriters

@@ -1,4 +1,4 @@
-//! The laws of the coordination programs on the paracomputer.
+//! The laws of the coordination programs, and of a ticket counter, on the paracomputer: each holds after every schedule.
 //!
 //! The gate's test, increment and retest are the 1983 paper's; the programs are this project's.
 #![tactic(auto)]
@@ -7,6 +7,13 @@ ghost use Rattle.ultra_coordination.specs.Barrier.{BarrierLaw};
 ghost use Rattle.ultra_coordination.specs.Gate.{GateLaw};
 ghost use Rattle.ultra_coordination.specs.Queue.{QueueLaw};
 ghost use Rattle.ultra_coordination.specs.ReadersWriters.{ReadersWritersLaw};
+ghost use Rattle.ultra_coordination.specs.Tickets.{TicketsLaw};
+
+/// The law of the ticket counter, as this function's contract: for all settings in their ranges without initial values
+/// and every schedule, no two processing elements have taken the same ticket. The function itself does nothing.
+pub fn tickets_law()
+    ensures different { TicketsLaw }
+{}
 
 /// The gate's law, as this function's contract: at most `bound` processing elements are inside at once, after every
 /// schedule. The function itself does nothing.

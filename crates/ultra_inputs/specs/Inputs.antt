@@ -4,7 +4,7 @@ use Rattle.ultra_isa.specs.declared.Instr.{Instr}
 use Rattle.ultra_model.specs.Machine.{Settings}
 use Rattle.ultra_model.specs.declared.config.RawSettings.{RawSettings}
 use Rattle.ultra_model.specs.Accepted.{first_bad, settings_of}
-use Rattle.ultra_settings.specs.declared.SettingsFault.TheVariants as settings
+use Rattle.ultra_settings.specs.declared.settings.SettingsFault.TheVariants as settings
 use Rattle.ultra_settings.specs.SettingsText as settings_text
 use Rattle.ultra_settings.specs.SettingsText.{Gives}
 use Rattle.ultra_asm.specs.Words.{text_words}

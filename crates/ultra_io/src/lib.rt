@@ -1,11 +1,13 @@
 //! Files that are read and streams that are written: what a program sees of them, and those of the
-//! host.
+//! host. Text goes to a stream by a page, in large pieces.
 #![tactic(auto)]
 
 mod account;
+mod page;
 mod source;
 mod stream;
 
 pub use account::Account;
+pub use page::Page;
 pub use source::{FileSource, Source, SourceFault};
 pub use stream::Stream;

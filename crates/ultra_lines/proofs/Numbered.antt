@@ -4,10 +4,10 @@ use Rattle.std.specs.Option.{unwrap_or}
 use Rattle.std.specs.List.{flat_map, range_with_len}
 use Rattle.std.proofs.lemmas.List.{take_more, take_all}
 use Rattle.std.proofs.lemmas.List.Concat.{flat_map-append}
-use Rattle.ultra_page.specs.declared.Page.{Page}
-use Rattle.ultra_page.specs.Page.{Writes}
+use Rattle.ultra_io.specs.declared.page.Page.{Page}
+use Rattle.ultra_io.specs.Page.{Writes}
 use Rattle.ultra_model.specs.Trace.{by_number}
-use Rattle.ultra_page.proofs.Writing.{◌then◌}
+use Rattle.ultra_io.proofs.Writing.{◌then◌}
 
 one_more : (a n b : ℕ) → a + n ≡ b → range_with_len a (suc n) ≡ range_with_len a n ++ b ∷ []
 one_more a zero b e = let same : a ≡ b = omega arith in ap (λ k. k ∷ []) same

@@ -4,7 +4,7 @@ use Rattle.std.specs.Prelude.{All}
 use Rattle.std.specs.List.{filter, range_with_len, flat_map}
 use Rattle.std.proofs.Math.Nat.{eq-or-lt_of_le}
 use Rattle.std.proofs.lemmas.List.Elements.{All-filter}
-use Rattle.ultra_page.proofs.Writing.{either}
+use Rattle.ultra_io.proofs.Writing.{either}
 use Rattle.ultra_block.specs.{IsFirstWhere}
 
 module _ (p : ℕ → Bool) where

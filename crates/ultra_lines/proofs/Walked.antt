@@ -5,8 +5,8 @@ use Rattle.ultra_units.specs.Numbers.{switch_count}
 use Rattle.ultra_block.specs.Held.{Held}
 use Rattle.ultra_block.specs.Holding.{holds}
 use Rattle.ultra_block.specs.State.{BlocksState}
-use Rattle.ultra_page.specs.declared.Page.{Page}
-use Rattle.ultra_page.specs.Page.{Writes}
+use Rattle.ultra_io.specs.declared.page.Page.{Page}
+use Rattle.ultra_io.specs.Page.{Writes}
 use Rattle.ultra_lines.specs.Holders.{holding}
 use Rattle.ultra_model.specs.Trace.{by_stage}
 use Rattle.ultra_lines.proofs.Rows.{by_rows, lines_at}

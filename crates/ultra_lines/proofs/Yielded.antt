@@ -2,9 +2,9 @@
 use Rattle.std.proofs.Common.{ℕ, ◌≡◌, ◌+◌, ◌<◌, ◌≤◌, List, [], ◌∷◌, ◌++◌, length, take, get_or, arith, sym, ◌∙◌, ap, append_assoc, append-nil}
 use Rattle.std.proofs.lemmas.List.{take_more, take_all}
 use Rattle.std.specs.List.{flat_map}
-use Rattle.ultra_page.specs.declared.Page.{Page}
-use Rattle.ultra_page.specs.Page.{Writes}
-use Rattle.ultra_page.proofs.Writing.{◌then◌}
+use Rattle.ultra_io.specs.declared.page.Page.{Page}
+use Rattle.ultra_io.specs.Page.{Writes}
+use Rattle.ultra_io.proofs.Writing.{◌then◌}
 use Rattle.ultra_lines.proofs.Numbered.{last_line}
 
 -- what came and what is left are all

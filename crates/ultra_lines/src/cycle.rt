@@ -2,15 +2,15 @@
 
 ghost use Rattle.std.specs.Prelude.{◌≡◌, ◌+◌, ◌<◌, ◌++◌, OnOk, OnErr};
 ghost use Rattle.ultra_msg.specs.Bytes.{TakesPrefix};
-ghost use Rattle.ultra_page.specs.Page.{Writes};
+ghost use Rattle.ultra_io.specs.Page.{Writes};
 ghost use Rattle.ultra_model.specs.Trace.{cycle_text};
 
 use crate::events::put_events;
 use crate::state::put_state;
 use crate::texts::put_with_word;
 use ultra_block::Blocks;
+use ultra_io::Page;
 use ultra_msg::{Sink, SinkFault};
-use ultra_page::Page;
 
 /// Writes the lines of the last cycle to the sink. After a fault the sink has taken a prefix of them.
 ///

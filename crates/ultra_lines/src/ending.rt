@@ -3,14 +3,14 @@
 ghost use Rattle.std.specs.Prelude.{◌≡◌, ◌*◌, ◌<◌};
 ghost use Rattle.ultra_model.specs.Machine.{size};
 ghost use Rattle.ultra_model.specs.Trace.{by_number, ending_text, cell_line, cell_of, cell_value, register_text, registers_text, pe_line, pe_of, end_text};
-ghost use Rattle.ultra_page.specs.Page.{Writes};
+ghost use Rattle.ultra_io.specs.Page.{Writes};
 
 use crate::state::positions;
 use crate::texts::{put_activity, put_with_word};
 use ultra_block::Blocks;
+use ultra_io::Page;
 use ultra_isa::Processor;
 use ultra_msg::{Cell, Pe, Register, Sink, Word};
-use ultra_page::Page;
 
 /// Writes the lines at the end: how the run ended, the cells that aren't 0, and the processing elements.
 pub fn put_end<S: Sink>(page: &mut Page<'_, S>, blocks: &Blocks)

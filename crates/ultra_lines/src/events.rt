@@ -1,14 +1,14 @@
 //! The lines of what happened in a cycle.
 
 ghost use Rattle.std.specs.List.{flat_map};
-ghost use Rattle.ultra_page.specs.Page.{Writes};
+ghost use Rattle.ultra_io.specs.Page.{Writes};
 ghost use Rattle.ultra_model.specs.Trace.{got_line, act_line, fault_line, events_text};
 
 use crate::texts::{put_fault, put_message, put_reply, put_request, put_with_word};
 use ultra_block::Blocks;
+use ultra_io::Page;
 use ultra_model::Stop;
 use ultra_msg::{Event, Sink};
-use ultra_page::Page;
 
 /// Writes the lines of what happened in the last cycle: first what was delivered, then what was served, then who faulted.
 pub(crate) fn put_events<S: Sink>(page: &mut Page<'_, S>, blocks: &Blocks)

@@ -3,12 +3,12 @@
 ghost use Rattle.std.specs.Prelude.{◌++◌, codes};
 ghost use Rattle.ultra_model.specs.Text.{separator};
 ghost use Rattle.ultra_model.specs.Trace.{unit_name, stage_name, pni_line, req_line, wait_line, inp_line, out_line, rep_line};
-ghost use Rattle.ultra_page.specs.Page.{Writes};
+ghost use Rattle.ultra_io.specs.Page.{Writes};
 
 use crate::texts::{put_entry, put_message, put_record, put_request};
+use ultra_io::Page;
 use ultra_mem::Module;
 use ultra_msg::Sink;
-use ultra_page::Page;
 use ultra_pni::Pni;
 use ultra_switch::{ToMm, ToPe};
 

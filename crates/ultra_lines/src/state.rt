@@ -3,15 +3,15 @@
 ghost use Rattle.std.specs.Prelude.{◌≡◌, ◌+◌, ◌*◌, ◌-◌, ◌/◌, ◌%◌, ◌^◌, ◌<◌, ◌≤◌};
 ghost use Rattle.ultra_model.specs.Machine.{size};
 ghost use Rattle.ultra_units.specs.Numbers.{switch_count};
-ghost use Rattle.ultra_page.specs.Page.{Writes};
+ghost use Rattle.ultra_io.specs.Page.{Writes};
 ghost use Rattle.ultra_lines.specs.Ports.{port_line};
 ghost use Rattle.ultra_model.specs.Trace.{by_number, by_stage, pni_of, inp_of, out_of, state_text};
 
 use crate::holders::{elements_with, modules_with, switches_with};
 use crate::places::{put_inp, put_out, put_pni, put_rep, put_req, put_wait};
 use ultra_block::{Blocks, Held};
+use ultra_io::Page;
 use ultra_msg::Sink;
-use ultra_page::Page;
 
 /// Writes what stands where after the last cycle.
 pub(crate) fn put_state<S: Sink>(page: &mut Page<'_, S>, blocks: &Blocks)

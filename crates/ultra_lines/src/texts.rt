@@ -2,11 +2,11 @@
 
 ghost use Rattle.std.specs.Prelude.{◌++◌, decimal};
 ghost use Rattle.ultra_model.specs.Text.{op_text, identity_text, request_text, mark_text, entry_text, reply_text, message_text, give_text, record_text, fault_text, activity_text};
-ghost use Rattle.ultra_page.specs.Page.{Writes};
+ghost use Rattle.ultra_io.specs.Page.{Writes};
 
+use ultra_io::Page;
 use ultra_isa::{Activity, MachineFault};
 use ultra_msg::{Cell, Give, Op, Pe, Reply, ReplyMessage, Request, Sink};
-use ultra_page::Page;
 use ultra_switch::{Entry, WaitRecord};
 
 /// Writes an operation, as `faa 1`.

@@ -5,11 +5,11 @@ use Rattle.ultra_mem.specs.Serve.{Bank}
 use Rattle.ultra_units.specs.Numbers.{switch_count, module_number, element_number}
 use Rattle.ultra_units.specs.Visits.{after_units}
 use Rattle.ultra_halves.specs.declared.elements.ProcessingElement.{ProcessingElement}
-use Rattle.ultra_links.specs.declared.unit.Unit.{Unit}
-use Rattle.ultra_links.specs.declared.unit.Unit.TheVariants as unit
-use Rattle.ultra_links.specs.Units.{unit_of, stage_of, index_of, IsUnit, IsSwitch, IsModule, IsElement}
+use Rattle.ultra_units.specs.declared.unit.Unit.{Unit}
+use Rattle.ultra_units.specs.declared.unit.Unit.TheVariants as unit
+use Rattle.ultra_units.specs.Units.{unit_of, stage_of, index_of, IsUnit, IsSwitch, IsModule, IsElement}
 use Rattle.ultra_section.specs.BlockState.{BlockState, switch_at, module_at, element_at}
-use Rattle.ultra_links.proofs.Standing.{unit_is, unit_of_switch, unit_of_module, unit_of_element}
+use Rattle.ultra_units.proofs.Standing.{unit_is, unit_of_switch, unit_of_module, unit_of_element}
 
 -- of a unit that stands here
 abbrev pub if_stands : {X : Type 0} → BlockState → (X → BlockState) → Option X → BlockState

@@ -12,8 +12,8 @@ use Rattle.ultra_model.specs.Places.{present}
 use Rattle.ultra_units.specs.Numbers.{switch_count}
 use Rattle.ultra_halves.specs.declared.elements.ProcessingElement.{ProcessingElement}
 use Rattle.ultra_section.specs.declared.sets.Sets.{Sets}
-use Rattle.ultra_links.specs.declared.links.Links.{Links}
-use Rattle.ultra_links.specs.Units.{IsSwitch, IsModule, IsElement}
+use Rattle.ultra_units.specs.declared.links.Links.{Links}
+use Rattle.ultra_units.specs.Units.{IsSwitch, IsModule, IsElement}
 use Rattle.ultra_section.specs.BlockState.{BlockState, IsKept, switch_at, module_at, element_at}
 
 -- ---- `o` is what was read of entry i

@@ -12,13 +12,13 @@ use Rattle.ultra_units.specs.Numbers.{element_number}
 use Rattle.ultra_units.specs.Visits.{after_units}
 use Rattle.ultra_halves.specs.declared.elements.ProcessingElement.{ProcessingElement}
 use Rattle.ultra_halves.specs.Elements.{element_of, executed, step_at}
-use Rattle.ultra_links.specs.declared.unit.Unit.{Unit}
-use Rattle.ultra_links.specs.declared.unit.Unit.TheVariants as unit
-use Rattle.ultra_links.specs.Units.{unit_of, IsUnit}
+use Rattle.ultra_units.specs.declared.unit.Unit.{Unit}
+use Rattle.ultra_units.specs.declared.unit.Unit.TheVariants as unit
+use Rattle.ultra_units.specs.Units.{unit_of, IsUnit}
 use Rattle.ultra_section.specs.BlockState.{BlockState, switch_at, module_at, element_at}
 use Rattle.ultra_section.specs.Shape.{IsShaped}
 use Rattle.ultra_section.specs.Execution.{stepped_by, element_executes, executes}
-use Rattle.ultra_links.proofs.Standing.{unit_is}
+use Rattle.ultra_units.proofs.Standing.{unit_is}
 use Rattle.ultra_section.proofs.ByKind.{visit, visit_as, not_changed, same_visits, keeps, leaves, own_element, or_same}
 use Rattle.ultra_section.proofs.Once.{all_keep, never_changed, not_yet_changed, changed_once, entries_before, all_entries}
 

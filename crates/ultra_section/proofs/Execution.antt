@@ -17,13 +17,13 @@ use Rattle.ultra_halves.specs.Elements.{element_of, executed, step_at, is_at_res
 use Rattle.ultra_halves.specs.Rest.{stalls}
 use Rattle.ultra_halves.proofs.Rests.{left_at_rest}
 use Rattle.ultra_section.specs.declared.sets.Sets.{Sets}
-use Rattle.ultra_links.specs.declared.unit.Unit.{Unit as UnitName}
-use Rattle.ultra_links.specs.declared.unit.Unit.TheVariants as unit
-use Rattle.ultra_links.specs.Units.{unit_of, IsUnit, IsElement}
+use Rattle.ultra_units.specs.declared.unit.Unit.{Unit as UnitName}
+use Rattle.ultra_units.specs.declared.unit.Unit.TheVariants as unit
+use Rattle.ultra_units.specs.Units.{unit_of, IsUnit, IsElement}
 use Rattle.ultra_section.specs.Sets.{if_here}
 use Rattle.ultra_section.specs.BlockState.{BlockState, HasEventRoom, HasStopRoom, UnitsAreKnown, element_at}
 use Rattle.ultra_section.specs.Execution.{stepped_by, element_executes, executes, UnitCanExecute, CanExecuteAt}
-use Rattle.ultra_links.proofs.Standing.{unit_is}
+use Rattle.ultra_units.proofs.Standing.{unit_is}
 use Rattle.ultra_section.proofs.Empty.{same_entry, is_none}
 
 one_issue : (e : Element) (o : Option Request) → length (present (issue_event e o ∷ [])) ≤ 1

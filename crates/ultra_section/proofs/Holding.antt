@@ -9,13 +9,13 @@ use Rattle.ultra_halves.specs.declared.elements.ProcessingElement.{ProcessingEle
 use Rattle.ultra_section.specs.declared.sets.Sets.{Sets}
 use Rattle.ultra_section.specs.declared.held.Held.{Held}
 use Rattle.ultra_section.specs.declared.held.Held.TheVariants.{Reply, Request, Record}
-use Rattle.ultra_links.specs.declared.unit.Unit.{Unit}
-use Rattle.ultra_links.specs.declared.unit.Unit.TheVariants as unit
-use Rattle.ultra_links.specs.Units.{unit_of, of_unit, stage_of, index_of, IsUnit}
+use Rattle.ultra_units.specs.declared.unit.Unit.{Unit}
+use Rattle.ultra_units.specs.declared.unit.Unit.TheVariants as unit
+use Rattle.ultra_units.specs.Units.{unit_of, of_unit, stage_of, index_of, IsUnit}
 use Rattle.ultra_section.specs.Sets.{UnitFacts, fact_of, facts_at, no_facts, if_here, KnowsSwitch, KnowsModule, KnowsElement}
 use Rattle.ultra_section.specs.BlockState.{BlockState, UnitsAreKnown, switch_at, module_at, element_at}
 use Rattle.ultra_section.specs.Holding.{IsNextWhere, holds_at, switch_holds, module_holds, element_holds}
-use Rattle.ultra_links.proofs.Standing.{unit_is, unit_of_switch, unit_of_module, unit_of_element}
+use Rattle.ultra_units.proofs.Standing.{unit_is, unit_of_switch, unit_of_module, unit_of_element}
 use Rattle.ultra_section.proofs.OfKind.{unit_of_none}
 
 never : {X : Type 0} (o : Option X) → false ≡ if_here (λ (x : X). false) o

@@ -11,13 +11,13 @@ use Rattle.ultra_units.specs.Numbers.{switch_count, module_number, element_numbe
 use Rattle.ultra_halves.specs.Switches.{has_reply_room, has_request_room, holds_replies, holds_requests, keeps_records}
 use Rattle.ultra_halves.specs.Elements.{holds_request}
 use Rattle.ultra_halves.specs.declared.elements.ProcessingElement.{ProcessingElement}
-use Rattle.ultra_links.specs.Units.{IsModule, IsElement}
+use Rattle.ultra_units.specs.Units.{IsModule, IsElement}
 use Rattle.ultra_section.specs.declared.sets.Sets.{Sets}
 use Rattle.ultra_section.specs.Sets.{UnitFacts, facts_at, would_serve, KnowsSwitch, KnowsModule, KnowsElement}
 use Rattle.ultra_msg.specs.declared.Request.{Request}
 use Rattle.ultra_msg.specs.declared.ReplyMessage.{ReplyMessage}
-use Rattle.ultra_links.specs.declared.links.Links.{Links}
-use Rattle.ultra_links.specs.Marks.{RepliesAreKnown, RequestsAreKnown}
+use Rattle.ultra_units.specs.declared.links.Links.{Links}
+use Rattle.ultra_units.specs.Marks.{RepliesAreKnown, RequestsAreKnown}
 use Rattle.ultra_section.specs.BlockState.{IsKept, UnitsAreKnown}
 
 -- the sets agree on all units but one

@@ -1,7 +1,7 @@
-pub use Rattle.ultra_links.proofs.Readers
-pub use Rattle.ultra_links.proofs.Standing
-pub use Rattle.ultra_links.proofs.Marks
-pub use Rattle.ultra_links.proofs.Put
+pub use Rattle.ultra_units.proofs.Readers
+pub use Rattle.ultra_units.proofs.Standing
+pub use Rattle.ultra_units.proofs.Marks
+pub use Rattle.ultra_units.proofs.Put
 pub mod Records
 pub mod Known
 pub mod Entries

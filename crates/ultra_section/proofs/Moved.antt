@@ -13,11 +13,11 @@ use Rattle.ultra_halves.specs.Switches.{has_reply_room, has_request_room, holds_
 use Rattle.ultra_halves.specs.Elements.{holds_request}
 use Rattle.ultra_halves.specs.declared.elements.ProcessingElement.{ProcessingElement}
 use Rattle.ultra_section.specs.declared.sets.Sets.{Sets}
-use Rattle.ultra_links.specs.declared.links.Links.{Links}
+use Rattle.ultra_units.specs.declared.links.Links.{Links}
 use Rattle.ultra_section.specs.Sets.{UnitFacts, no_facts, facts_at, would_serve, KnowsSwitch, KnowsModule, KnowsElement}
-use Rattle.ultra_links.specs.Marks.{RepliesAreKnown, RequestsAreKnown}
+use Rattle.ultra_units.specs.Marks.{RepliesAreKnown, RequestsAreKnown}
 use Rattle.ultra_section.specs.BlockState.{IsKept, UnitsAreKnown, most_events, most_stops}
-use Rattle.ultra_links.proofs.Renewed.{no_entry, no_replies, no_requests}
+use Rattle.ultra_units.proofs.Renewed.{no_entry, no_replies, no_requests}
 use Rattle.ultra_section.proofs.Known.{AgreeBut}
 
 -- ---- the block

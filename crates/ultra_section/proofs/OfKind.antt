@@ -3,14 +3,14 @@ use Rattle.std.proofs.Common.{◌≡◌, ℕ, ◌+◌, ◌-◌, ◌^◌, ◌<◌
 use Rattle.std.specs.Prelude.{is_some}
 use Rattle.std.proofs.lemmas.Bool.{cases_lt}
 use Rattle.ultra_units.specs.Numbers.{switch_count, unit_count, module_number, element_number}
-use Rattle.ultra_links.specs.declared.unit.Unit.{Unit}
-use Rattle.ultra_links.specs.declared.unit.Unit.TheVariants as unit
-use Rattle.ultra_links.specs.Units.{unit_of, stage_of, index_of}
-use Rattle.ultra_links.specs.Links.{put_on}
+use Rattle.ultra_units.specs.declared.unit.Unit.{Unit}
+use Rattle.ultra_units.specs.declared.unit.Unit.TheVariants as unit
+use Rattle.ultra_units.specs.Units.{unit_of, stage_of, index_of}
+use Rattle.ultra_units.specs.Links.{put_on}
 use Rattle.ultra_section.specs.BlockState.{BlockState, switch_at, module_at, element_at}
 use Rattle.ultra_section.specs.Away.{stands}
 use Rattle.ultra_section.specs.Building.{with_unit, without_unit}
-use Rattle.ultra_links.proofs.Standing.{unit_of_switch, unit_of_module, unit_of_element}
+use Rattle.ultra_units.proofs.Standing.{unit_of_switch, unit_of_module, unit_of_element}
 
 -- what holds of each switch, each module, each processing element, and of what is none of them
 pub by_kind : (d : ℕ) (P : ℕ → Type 0) → ((n : ℕ) → n < switch_count d → P n)

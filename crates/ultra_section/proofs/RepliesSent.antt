@@ -10,16 +10,16 @@ use Rattle.ultra_model.specs.Phases.{without_reply}
 use Rattle.ultra_halves.specs.Halves.{ports, where_room}
 use Rattle.ultra_halves.specs.Switches.{holds_replies, replies_leaving, without_replies}
 use Rattle.ultra_section.specs.declared.sets.Sets.{Sets}
-use Rattle.ultra_links.specs.declared.unit.Unit.{Unit}
-use Rattle.ultra_links.specs.declared.unit.Unit.TheVariants as unit
-use Rattle.ultra_links.specs.Units.{unit_of, IsUnit}
+use Rattle.ultra_units.specs.declared.unit.Unit.{Unit}
+use Rattle.ultra_units.specs.declared.unit.Unit.TheVariants as unit
+use Rattle.ultra_units.specs.Units.{unit_of, IsUnit}
 use Rattle.ultra_section.specs.Sets.{if_here}
-use Rattle.ultra_links.specs.Links.{put_on}
+use Rattle.ultra_units.specs.Links.{put_on}
 use Rattle.ultra_units.specs.Numbers.{place_number}
 use Rattle.ultra_section.specs.BlockState.{BlockState, UnitsAreKnown, switch_at, module_at}
 use Rattle.ultra_section.specs.RepliesSent.{replies_sent_by, switch_sends_replies, reply_sent_by, module_sends_reply, sends_replies}
-use Rattle.ultra_links.specs.Ways.{reply_ways, has_way_from_module}
-use Rattle.ultra_links.proofs.Standing.{unit_is}
+use Rattle.ultra_units.specs.Ways.{reply_ways, has_way_from_module}
+use Rattle.ultra_units.proofs.Standing.{unit_is}
 use Rattle.ultra_section.proofs.Empty.{silent, both_none, none_of, no_room_none, same_entry}
 
 module _ (closed : List ℕ) (b : BlockState) where

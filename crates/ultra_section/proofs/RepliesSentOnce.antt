@@ -12,18 +12,18 @@ use Rattle.ultra_halves.specs.declared.elements.ProcessingElement.{ProcessingEle
 use Rattle.ultra_model.specs.Phases.{without_reply}
 use Rattle.ultra_halves.specs.Switches.{replies_leaving, without_replies}
 use Rattle.ultra_section.specs.RepliesSent.{replies_sent_by, switch_sends_replies, reply_sent_by, module_sends_reply, sends_replies}
-use Rattle.ultra_links.specs.Ways.{reply_ways, has_way_from_module}
-use Rattle.ultra_links.specs.declared.unit.Unit.{Unit}
-use Rattle.ultra_links.specs.declared.unit.Unit.TheVariants as unit
-use Rattle.ultra_links.specs.Units.{unit_of, stage_of, index_of, IsSwitch}
-use Rattle.ultra_links.specs.Links.{put_on}
-use Rattle.ultra_links.specs.Marks.{on_link, on_both}
+use Rattle.ultra_units.specs.Ways.{reply_ways, has_way_from_module}
+use Rattle.ultra_units.specs.declared.unit.Unit.{Unit}
+use Rattle.ultra_units.specs.declared.unit.Unit.TheVariants as unit
+use Rattle.ultra_units.specs.Units.{unit_of, stage_of, index_of, IsSwitch}
+use Rattle.ultra_units.specs.Links.{put_on}
+use Rattle.ultra_units.specs.Marks.{on_link, on_both}
 use Rattle.ultra_section.specs.BlockState.{BlockState, switch_at, module_at, element_at}
 use Rattle.ultra_section.specs.Shape.{IsShaped}
-use Rattle.ultra_links.proofs.Standing.{is_switch}
-use Rattle.ultra_links.proofs.Marks.{length-put_on}
-use Rattle.ultra_links.proofs.Emptied.{pair}
-use Rattle.ultra_links.proofs.Put.{put_or, put_apart, put_there, put_both, link_apart_put, both_apart_put, both_put, both_apart_put_one, places_of, has_places, place_behind, place_behind_small}
+use Rattle.ultra_units.proofs.Standing.{is_switch}
+use Rattle.ultra_units.proofs.Marks.{length-put_on}
+use Rattle.ultra_units.proofs.Emptied.{pair}
+use Rattle.ultra_units.proofs.Put.{put_or, put_apart, put_there, put_both, link_apart_put, both_apart_put, both_put, both_apart_put_one, places_of, has_places, place_behind, place_behind_small}
 use Rattle.ultra_section.proofs.ByKind.{visit, visit_as, not_changed, same_visits, keeps, leaves, own_switch, own_module, or_same}
 use Rattle.ultra_section.proofs.Once.{all_keep, never_changed, changed_once}
 

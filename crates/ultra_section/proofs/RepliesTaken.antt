@@ -15,16 +15,16 @@ use Rattle.ultra_halves.specs.Halves.{ports}
 use Rattle.ultra_halves.specs.Switches.{CanTakeReplies, after_replies}
 use Rattle.ultra_halves.specs.Elements.{delivered_to}
 use Rattle.ultra_section.specs.declared.sets.Sets.{Sets}
-use Rattle.ultra_links.specs.declared.links.Links.{Links}
-use Rattle.ultra_links.specs.declared.unit.Unit.{Unit as UnitName}
-use Rattle.ultra_links.specs.declared.unit.Unit.TheVariants as unit
-use Rattle.ultra_links.specs.Units.{unit_of, IsUnit, IsElement}
-use Rattle.ultra_links.specs.Marks.{RepliesAreKnown, reply_links, delivery_link, on_link, on_both, without_both}
+use Rattle.ultra_units.specs.declared.links.Links.{Links}
+use Rattle.ultra_units.specs.declared.unit.Unit.{Unit as UnitName}
+use Rattle.ultra_units.specs.declared.unit.Unit.TheVariants as unit
+use Rattle.ultra_units.specs.Units.{unit_of, IsUnit, IsElement}
+use Rattle.ultra_units.specs.Marks.{RepliesAreKnown, reply_links, delivery_link, on_link, on_both, without_both}
 use Rattle.ultra_section.specs.BlockState.{BlockState, HasEventRoom, UnitsAreKnown, switch_at, element_at}
 use Rattle.ultra_section.specs.RepliesTaken.{replies_at_switch, replies_taken_by, switch_takes_replies, reply_at_element, reply_taken_by, element_takes_reply, takes_replies, UnitCanTakeReplies, CanTakeRepliesAt}
-use Rattle.ultra_links.proofs.Standing.{unit_is}
+use Rattle.ultra_units.proofs.Standing.{unit_is}
 use Rattle.ultra_section.proofs.Empty.{same_entry}
-use Rattle.ultra_links.proofs.Marks.{Fewer, fewer_set, fewer_both, for_fewer, nothing_came}
+use Rattle.ultra_units.proofs.Marks.{Fewer, fewer_set, fewer_both, for_fewer, nothing_came}
 
 -- ---- where nothing comes
 after_none : (d s : ℕ) (w : Switch) → after_replies d s w (ports None None) ≡ w

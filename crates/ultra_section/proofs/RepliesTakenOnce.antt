@@ -14,18 +14,18 @@ use Rattle.ultra_halves.specs.Halves.{ports}
 use Rattle.ultra_halves.specs.declared.elements.ProcessingElement.{ProcessingElement}
 use Rattle.ultra_halves.specs.Switches.{after_replies}
 use Rattle.ultra_halves.specs.Elements.{delivered_to}
-use Rattle.ultra_links.specs.declared.unit.Unit.{Unit}
-use Rattle.ultra_links.specs.declared.unit.Unit.TheVariants as unit
-use Rattle.ultra_links.specs.Units.{unit_of, stage_of, index_of, IsUnit, IsSwitch}
-use Rattle.ultra_links.specs.Marks.{reply_links, delivery_link, on_link, on_both, without_both}
+use Rattle.ultra_units.specs.declared.unit.Unit.{Unit}
+use Rattle.ultra_units.specs.declared.unit.Unit.TheVariants as unit
+use Rattle.ultra_units.specs.Units.{unit_of, stage_of, index_of, IsUnit, IsSwitch}
+use Rattle.ultra_units.specs.Marks.{reply_links, delivery_link, on_link, on_both, without_both}
 use Rattle.ultra_section.specs.BlockState.{BlockState, switch_at, module_at, element_at}
 use Rattle.ultra_section.specs.Shape.{IsShaped}
 use Rattle.ultra_section.specs.RepliesTaken.{replies_taken_by, switch_takes_replies, reply_taken_by, element_takes_reply, takes_replies}
-use Rattle.ultra_links.proofs.Standing.{is_switch, unit_is}
-use Rattle.ultra_links.proofs.Readers.{reply_reader, reply_to_element}
-use Rattle.ultra_links.proofs.ReplyMarks.{both_links}
-use Rattle.ultra_links.proofs.Marks.{emptied}
-use Rattle.ultra_links.proofs.Emptied.{pair, link_apart, link_apart_both, both_apart, both_apart_one, both_emptied}
+use Rattle.ultra_units.proofs.Standing.{is_switch, unit_is}
+use Rattle.ultra_units.proofs.Readers.{reply_reader, reply_to_element}
+use Rattle.ultra_units.proofs.ReplyMarks.{both_links}
+use Rattle.ultra_units.proofs.Marks.{emptied}
+use Rattle.ultra_units.proofs.Emptied.{pair, link_apart, link_apart_both, both_apart, both_apart_one, both_emptied}
 use Rattle.ultra_section.proofs.ByKind.{visit, visit_as, not_changed, same_visits, keeps, leaves, own_switch, own_element, or_same}
 use Rattle.ultra_section.proofs.Once.{all_keep, never_changed, not_yet_changed, changed_once, entries_before, all_entries}
 

@@ -5,17 +5,17 @@ use Rattle.ultra_msg.specs.declared.Request.{Request}
 use Rattle.ultra_units.specs.Set.{has_unit}
 use Rattle.ultra_units.specs.Numbers.{module_number}
 use Rattle.ultra_section.specs.declared.sets.Sets.{Sets}
-use Rattle.ultra_links.specs.declared.links.Links.{Links}
-use Rattle.ultra_links.specs.declared.unit.Unit.{Unit as UnitName}
-use Rattle.ultra_links.specs.declared.unit.Unit.TheVariants as unit
-use Rattle.ultra_links.specs.Units.{unit_of, stage_of, index_of, IsUnit}
-use Rattle.ultra_links.specs.Marks.{RequestsAreKnown, on_link, request_links, memory_link}
+use Rattle.ultra_units.specs.declared.links.Links.{Links}
+use Rattle.ultra_units.specs.declared.unit.Unit.{Unit as UnitName}
+use Rattle.ultra_units.specs.declared.unit.Unit.TheVariants as unit
+use Rattle.ultra_units.specs.Units.{unit_of, stage_of, index_of, IsUnit}
+use Rattle.ultra_units.specs.Marks.{RequestsAreKnown, on_link, request_links, memory_link}
 use Rattle.ultra_section.specs.BlockState.{BlockState, UnitsAreKnown, switch_at, module_at, element_at}
 use Rattle.ultra_section.specs.Away.{stands}
-use Rattle.ultra_links.specs.Inlets.{AreEmpty, at_both, request_inlets}
-use Rattle.ultra_links.proofs.Standing.{unit_is}
-pub use Rattle.ultra_links.proofs.RequestInlets.{inlets}
-use Rattle.ultra_links.proofs.Left.{nothing_left}
+use Rattle.ultra_units.specs.Inlets.{AreEmpty, at_both, request_inlets}
+use Rattle.ultra_units.proofs.Standing.{unit_is}
+pub use Rattle.ultra_units.proofs.RequestInlets.{inlets}
+use Rattle.ultra_units.proofs.Left.{nothing_left}
 
 -- a unit elsewhere that isn't among those to which something is known to lead
 module _ (b : BlockState) (s : Sets) (l : Links Request) (table : l.table.items ≡ b.requests) (known : UnitsAreKnown b.stages s b.switches b.modules b.elements) (marked : RequestsAreKnown b.stages s.here l) where

@@ -13,15 +13,15 @@ use Rattle.ultra_halves.specs.Halves.{ports, where_room, has_none}
 use Rattle.ultra_halves.specs.Switches.{holds_requests, requests_leaving, request_heads, without_requests}
 use Rattle.ultra_halves.specs.Elements.{holds_request, element_without}
 use Rattle.ultra_section.specs.declared.sets.Sets.{Sets}
-use Rattle.ultra_links.specs.declared.unit.Unit.{Unit}
-use Rattle.ultra_links.specs.declared.unit.Unit.TheVariants as unit
-use Rattle.ultra_links.specs.Units.{unit_of, IsUnit}
+use Rattle.ultra_units.specs.declared.unit.Unit.{Unit}
+use Rattle.ultra_units.specs.declared.unit.Unit.TheVariants as unit
+use Rattle.ultra_units.specs.Units.{unit_of, IsUnit}
 use Rattle.ultra_section.specs.Sets.{if_here}
-use Rattle.ultra_links.specs.Links.{put_on}
+use Rattle.ultra_units.specs.Links.{put_on}
 use Rattle.ultra_section.specs.BlockState.{BlockState, UnitsAreKnown, switch_at, element_at}
 use Rattle.ultra_section.specs.RequestsSent.{requests_sent_by, switch_sends_requests, request_sent_by, element_sends_request, sends_requests}
-use Rattle.ultra_links.specs.Ways.{request_ways, has_way_from_element}
-use Rattle.ultra_links.proofs.Standing.{unit_is}
+use Rattle.ultra_units.specs.Ways.{request_ways, has_way_from_element}
+use Rattle.ultra_units.proofs.Standing.{unit_is}
 use Rattle.ultra_section.proofs.Empty.{no_head, both_none, is_none, no_room_none, same_entry}
 
 silent_lane : (goes : Bool) (xs : List Entry) → has_none xs ≡ true → where_room goes (request_of (slice_get xs 0)) ≡ None

@@ -13,16 +13,16 @@ use Rattle.ultra_halves.specs.Halves.{ports, coming_to, arrivals}
 use Rattle.ultra_halves.specs.Switches.{CanTakeRequests, HasWay, after_requests, combinations_of}
 use Rattle.ultra_halves.specs.Modules.{bank_with}
 use Rattle.ultra_section.specs.declared.sets.Sets.{Sets}
-use Rattle.ultra_links.specs.declared.links.Links.{Links}
-use Rattle.ultra_links.specs.declared.unit.Unit.{Unit as UnitName}
-use Rattle.ultra_links.specs.declared.unit.Unit.TheVariants as unit
-use Rattle.ultra_links.specs.Units.{unit_of, IsUnit, IsModule}
-use Rattle.ultra_links.specs.Marks.{RequestsAreKnown, request_links, memory_link, on_link, on_both, without_both}
+use Rattle.ultra_units.specs.declared.links.Links.{Links}
+use Rattle.ultra_units.specs.declared.unit.Unit.{Unit as UnitName}
+use Rattle.ultra_units.specs.declared.unit.Unit.TheVariants as unit
+use Rattle.ultra_units.specs.Units.{unit_of, IsUnit, IsModule}
+use Rattle.ultra_units.specs.Marks.{RequestsAreKnown, request_links, memory_link, on_link, on_both, without_both}
 use Rattle.ultra_section.specs.BlockState.{BlockState, HasEventRoom, UnitsAreKnown, switch_at, module_at}
 use Rattle.ultra_section.specs.RequestsTaken.{requests_at_switch, requests_taken_by, switch_takes_requests, request_at_module, request_taken_by, module_takes_request, takes_requests, UnitCanTakeRequests, CanTakeRequestsAt}
-use Rattle.ultra_links.proofs.Standing.{unit_is}
+use Rattle.ultra_units.proofs.Standing.{unit_is}
 use Rattle.ultra_section.proofs.Empty.{same_entry}
-use Rattle.ultra_links.proofs.Marks.{Fewer, fewer_set, fewer_both, for_fewer, nothing_came}
+use Rattle.ultra_units.proofs.Marks.{Fewer, fewer_set, fewer_both, for_fewer, nothing_came}
 
 -- ---- where nothing comes
 none_arrive_as : (d s j : ℕ) (even : Bool) → coming_to d s j (elim even [ true ↦ None | false ↦ None ]) ++ coming_to d s j (elim even [ true ↦ None | false ↦ None ]) ≡ []

@@ -12,18 +12,18 @@ use Rattle.ultra_halves.specs.Halves.{ports}
 use Rattle.ultra_halves.specs.declared.elements.ProcessingElement.{ProcessingElement}
 use Rattle.ultra_halves.specs.Switches.{after_requests, combinations_of}
 use Rattle.ultra_halves.specs.Modules.{bank_with}
-use Rattle.ultra_links.specs.declared.unit.Unit.{Unit}
-use Rattle.ultra_links.specs.declared.unit.Unit.TheVariants as unit
-use Rattle.ultra_links.specs.Units.{unit_of, stage_of, index_of, IsUnit, IsSwitch}
-use Rattle.ultra_links.specs.Marks.{request_links, memory_link, on_link, on_both, without_both}
+use Rattle.ultra_units.specs.declared.unit.Unit.{Unit}
+use Rattle.ultra_units.specs.declared.unit.Unit.TheVariants as unit
+use Rattle.ultra_units.specs.Units.{unit_of, stage_of, index_of, IsUnit, IsSwitch}
+use Rattle.ultra_units.specs.Marks.{request_links, memory_link, on_link, on_both, without_both}
 use Rattle.ultra_section.specs.BlockState.{BlockState, switch_at, module_at, element_at}
 use Rattle.ultra_section.specs.Shape.{IsShaped}
 use Rattle.ultra_section.specs.RequestsTaken.{requests_taken_by, switch_takes_requests, request_taken_by, module_takes_request, takes_requests}
-use Rattle.ultra_links.proofs.Standing.{is_switch, unit_is}
-use Rattle.ultra_links.proofs.Readers.{request_reader, request_to_module}
-use Rattle.ultra_links.proofs.RequestMarks.{both_links}
-use Rattle.ultra_links.proofs.Marks.{emptied}
-use Rattle.ultra_links.proofs.Emptied.{pair, link_apart, link_apart_both, both_apart, both_apart_one, both_emptied}
+use Rattle.ultra_units.proofs.Standing.{is_switch, unit_is}
+use Rattle.ultra_units.proofs.Readers.{request_reader, request_to_module}
+use Rattle.ultra_units.proofs.RequestMarks.{both_links}
+use Rattle.ultra_units.proofs.Marks.{emptied}
+use Rattle.ultra_units.proofs.Emptied.{pair, link_apart, link_apart_both, both_apart, both_apart_one, both_emptied}
 use Rattle.ultra_section.proofs.ByKind.{visit, visit_as, not_changed, same_visits, keeps, leaves, own_switch, own_module, or_same}
 use Rattle.ultra_section.proofs.Once.{all_keep, never_changed, not_yet_changed, changed_once, entries_before, all_entries}
 

@@ -10,13 +10,13 @@ use Rattle.ultra_units.specs.Set.{has_unit}
 use Rattle.ultra_model.specs.Places.{present}
 use Rattle.ultra_model.specs.Phases.{serving}
 use Rattle.ultra_section.specs.declared.sets.Sets.{Sets}
-use Rattle.ultra_links.specs.declared.unit.Unit.{Unit}
-use Rattle.ultra_links.specs.declared.unit.Unit.TheVariants as unit
-use Rattle.ultra_links.specs.Units.{unit_of, IsUnit}
+use Rattle.ultra_units.specs.declared.unit.Unit.{Unit}
+use Rattle.ultra_units.specs.declared.unit.Unit.TheVariants as unit
+use Rattle.ultra_units.specs.Units.{unit_of, IsUnit}
 use Rattle.ultra_section.specs.Sets.{if_here, would_serve}
 use Rattle.ultra_section.specs.BlockState.{BlockState, HasEventRoom, UnitsAreKnown, module_at}
 use Rattle.ultra_section.specs.Serving.{served_by, module_serves, serves}
-use Rattle.ultra_links.proofs.Standing.{unit_is}
+use Rattle.ultra_units.proofs.Standing.{unit_is}
 use Rattle.ultra_section.proofs.Empty.{same_entry}
 
 none_to_serve : (inp : Option Placed) (out : Option ReplyMessage) → is_some inp && not (is_some out) ≡ false → ◌≡◌ {A = Option Placed} (elim out [ None ↦ inp | Some r ↦ None ]) None

@@ -3,10 +3,10 @@ use Rattle.std.specs.Prelude.{◌≡◌, ℕ, ◌≤◌, ◌<◌, Bool, false, O
 use Rattle.ultra_msg.specs.declared.Request.{Request}
 use Rattle.ultra_msg.specs.declared.ReplyMessage.{ReplyMessage}
 use Rattle.ultra_switch.specs.declared.Ports.{Ports}
-use Rattle.ultra_links.specs.declared.unit.Unit.TheVariants as unit
-use Rattle.ultra_links.specs.Units.{unit_of}
-use Rattle.ultra_links.specs.Marks.{without_both}
-pub use Rattle.ultra_links.specs.Inlets.{reply_inlets, request_inlets, taken_by_turns, put_on_both, AreEmpty}
+use Rattle.ultra_units.specs.declared.unit.Unit.TheVariants as unit
+use Rattle.ultra_units.specs.Units.{unit_of}
+use Rattle.ultra_units.specs.Marks.{without_both}
+pub use Rattle.ultra_units.specs.Inlets.{reply_inlets, request_inlets, taken_by_turns, put_on_both, AreEmpty}
 use Rattle.ultra_section.specs.BlockState.{BlockState, switch_at, module_at, element_at}
 
 -- whether the unit with number n stands in a block

@@ -9,9 +9,9 @@ use Rattle.ultra_model.specs.declared.Stop.{Stop}
 use Rattle.ultra_units.specs.Numbers.{switch_count, module_number, element_number, unit_count}
 use Rattle.ultra_halves.specs.declared.elements.ProcessingElement.{ProcessingElement}
 use Rattle.ultra_section.specs.declared.sets.Sets.{Sets}
-use Rattle.ultra_links.specs.declared.links.Links.{Links}
+use Rattle.ultra_units.specs.declared.links.Links.{Links}
 use Rattle.ultra_section.specs.Sets.{facts_at, no_facts, KnowsSwitch, KnowsModule, KnowsElement}
-use Rattle.ultra_links.specs.Marks.{RepliesAreKnown, RequestsAreKnown}
+use Rattle.ultra_units.specs.Marks.{RepliesAreKnown, RequestsAreKnown}
 
 -- the units that stand there, by their numbers, what is on each link, and what has happened in the cycle
 pub record BlockState : Type 0 where

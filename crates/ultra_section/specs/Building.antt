@@ -1,9 +1,9 @@
 -- a block without units, and units that go from one block to another
 use Rattle.std.specs.Prelude.{ℕ, ◌+◌, ◌*◌, ◌^◌, [], None, replicate, slice_set}
 use Rattle.ultra_units.specs.Numbers.{switch_count}
-use Rattle.ultra_links.specs.declared.unit.Unit.TheVariants as unit
-use Rattle.ultra_links.specs.Units.{unit_of}
-use Rattle.ultra_links.specs.Links.{put_on}
+use Rattle.ultra_units.specs.declared.unit.Unit.TheVariants as unit
+use Rattle.ultra_units.specs.Units.{unit_of}
+use Rattle.ultra_units.specs.Links.{put_on}
 use Rattle.ultra_section.specs.BlockState.{BlockState, switch_at, module_at, element_at}
 
 -- of a machine of d stages, before its first cycle

@@ -6,9 +6,9 @@ use Rattle.ultra_model.specs.Places.{present}
 use Rattle.ultra_model.specs.Phases.{issue_event, stop_of}
 use Rattle.ultra_halves.specs.declared.elements.ProcessingElement.{ProcessingElement}
 use Rattle.ultra_halves.specs.Elements.{element_of, executed, step_at}
-use Rattle.ultra_links.specs.declared.unit.Unit.{Unit as UnitName}
-use Rattle.ultra_links.specs.declared.unit.Unit.TheVariants as unit
-use Rattle.ultra_links.specs.Units.{unit_of}
+use Rattle.ultra_units.specs.declared.unit.Unit.{Unit as UnitName}
+use Rattle.ultra_units.specs.declared.unit.Unit.TheVariants as unit
+use Rattle.ultra_units.specs.Units.{unit_of}
 use Rattle.ultra_section.specs.BlockState.{BlockState, HasEventRoom, HasStopRoom, element_at}
 
 module _ (program : List Instr) where

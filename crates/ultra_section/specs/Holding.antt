@@ -7,7 +7,7 @@ use Rattle.ultra_halves.specs.Switches.{holds_replies, holds_requests, keeps_rec
 use Rattle.ultra_halves.specs.Elements.{holds_request}
 use Rattle.ultra_section.specs.declared.held.Held.{Held}
 use Rattle.ultra_section.specs.declared.held.Held.TheVariants.{Reply, Request, Record}
-use Rattle.ultra_links.specs.Units.{of_unit}
+use Rattle.ultra_units.specs.Units.{of_unit}
 use Rattle.ultra_section.specs.Sets.{if_here}
 use Rattle.ultra_section.specs.BlockState.{BlockState, switch_at, module_at, element_at}
 

@@ -1,6 +1,6 @@
-pub use Rattle.ultra_links.specs.Links
-pub use Rattle.ultra_links.specs.Units
-pub use Rattle.ultra_links.specs.Marks
+pub use Rattle.ultra_units.specs.Links
+pub use Rattle.ultra_units.specs.Units
+pub use Rattle.ultra_units.specs.Marks
 pub mod Sets
 pub mod BlockState
 pub mod RepliesSent

@@ -6,10 +6,10 @@ use Rattle.ultra_model.specs.Phases.{without_reply}
 use Rattle.ultra_units.specs.Numbers.{place_number}
 use Rattle.ultra_halves.specs.Halves.{where_room}
 use Rattle.ultra_halves.specs.Switches.{replies_leaving, without_replies}
-use Rattle.ultra_links.specs.declared.unit.Unit.TheVariants as unit
-use Rattle.ultra_links.specs.Units.{unit_of}
-use Rattle.ultra_links.specs.Links.{put_on}
-pub use Rattle.ultra_links.specs.Ways.{reply_targets, replies_put, has_reply_way, reply_ways, has_way_from_module}
+use Rattle.ultra_units.specs.declared.unit.Unit.TheVariants as unit
+use Rattle.ultra_units.specs.Units.{unit_of}
+use Rattle.ultra_units.specs.Links.{put_on}
+pub use Rattle.ultra_units.specs.Ways.{reply_targets, replies_put, has_reply_way, reply_ways, has_way_from_module}
 use Rattle.ultra_section.specs.BlockState.{BlockState, switch_at, module_at}
 
 -- `closed` are the switches without room for replies

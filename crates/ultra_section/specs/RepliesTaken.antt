@@ -9,10 +9,10 @@ use Rattle.ultra_model.specs.Phases.{delivery}
 use Rattle.ultra_halves.specs.declared.elements.ProcessingElement.{ProcessingElement}
 use Rattle.ultra_halves.specs.Switches.{CanTakeReplies, after_replies}
 use Rattle.ultra_halves.specs.Elements.{delivered_to}
-use Rattle.ultra_links.specs.declared.unit.Unit.{Unit as UnitName}
-use Rattle.ultra_links.specs.declared.unit.Unit.TheVariants as unit
-use Rattle.ultra_links.specs.Units.{unit_of}
-use Rattle.ultra_links.specs.Marks.{reply_links, delivery_link, on_link, on_both, without_both}
+use Rattle.ultra_units.specs.declared.unit.Unit.{Unit as UnitName}
+use Rattle.ultra_units.specs.declared.unit.Unit.TheVariants as unit
+use Rattle.ultra_units.specs.Units.{unit_of}
+use Rattle.ultra_units.specs.Marks.{reply_links, delivery_link, on_link, on_both, without_both}
 use Rattle.ultra_section.specs.BlockState.{BlockState, HasEventRoom, switch_at, element_at}
 
 -- ---- at switch k of stage s, which has number n

@@ -7,10 +7,10 @@ use Rattle.ultra_halves.specs.declared.elements.ProcessingElement.{ProcessingEle
 use Rattle.ultra_halves.specs.Halves.{where_room}
 use Rattle.ultra_halves.specs.Switches.{requests_leaving, request_heads, without_requests}
 use Rattle.ultra_halves.specs.Elements.{element_without}
-use Rattle.ultra_links.specs.declared.unit.Unit.TheVariants as unit
-use Rattle.ultra_links.specs.Units.{unit_of}
-use Rattle.ultra_links.specs.Links.{put_on}
-pub use Rattle.ultra_links.specs.Ways.{request_targets, requests_put, has_room_at, has_request_way, request_ways, has_way_from_element}
+use Rattle.ultra_units.specs.declared.unit.Unit.TheVariants as unit
+use Rattle.ultra_units.specs.Units.{unit_of}
+use Rattle.ultra_units.specs.Links.{put_on}
+pub use Rattle.ultra_units.specs.Ways.{request_targets, requests_put, has_room_at, has_request_way, request_ways, has_way_from_element}
 use Rattle.ultra_section.specs.BlockState.{BlockState, switch_at, element_at}
 
 -- `closed` are, by the memory-side port, the switches whose queue there has no room for requests; in `zero` also the modules whose register holds one

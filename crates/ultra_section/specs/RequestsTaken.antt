@@ -7,10 +7,10 @@ use Rattle.ultra_switch.specs.declared.Switch.{Switch}
 use Rattle.ultra_mem.specs.Serve.{Bank}
 use Rattle.ultra_halves.specs.Switches.{CanTakeRequests, after_requests, combinations_of}
 use Rattle.ultra_halves.specs.Modules.{bank_with}
-use Rattle.ultra_links.specs.declared.unit.Unit.{Unit as UnitName}
-use Rattle.ultra_links.specs.declared.unit.Unit.TheVariants as unit
-use Rattle.ultra_links.specs.Units.{unit_of}
-use Rattle.ultra_links.specs.Marks.{request_links, memory_link, on_link, on_both, without_both}
+use Rattle.ultra_units.specs.declared.unit.Unit.{Unit as UnitName}
+use Rattle.ultra_units.specs.declared.unit.Unit.TheVariants as unit
+use Rattle.ultra_units.specs.Units.{unit_of}
+use Rattle.ultra_units.specs.Marks.{request_links, memory_link, on_link, on_both, without_both}
 use Rattle.ultra_section.specs.BlockState.{BlockState, HasEventRoom, switch_at, module_at}
 
 -- ---- at switch k of stage s, which has number n

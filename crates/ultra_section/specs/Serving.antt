@@ -3,8 +3,8 @@ use Rattle.std.specs.Prelude.{ℕ, [], ◌∷◌, ◌++◌, Some, None, slice_se
 use Rattle.ultra_mem.specs.Serve.{Bank, serve, served}
 use Rattle.ultra_model.specs.Places.{present}
 use Rattle.ultra_model.specs.Phases.{serving}
-use Rattle.ultra_links.specs.declared.unit.Unit.TheVariants as unit
-use Rattle.ultra_links.specs.Units.{unit_of}
+use Rattle.ultra_units.specs.declared.unit.Unit.TheVariants as unit
+use Rattle.ultra_units.specs.Units.{unit_of}
 use Rattle.ultra_section.specs.BlockState.{BlockState, module_at}
 
 -- ---- module m

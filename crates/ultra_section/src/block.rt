@@ -1,17 +1,17 @@
 //! Blocks: some of the units of a machine.
 
 ghost use Rattle.std.specs.Prelude.{◌≡◌, ◌<◌, ◌≤◌, ◌++◌, ◌∷◌, [], length, vec_capacity};
-ghost use Rattle.ultra_links.specs.Units.{IsUnit, unit_of};
+ghost use Rattle.ultra_units.specs.Units.{IsUnit, unit_of};
 
 use crate::sets::Sets;
 use std::marker::Model;
 use ultra_halves::ProcessingElement;
-use ultra_links::{Links, Numbering, Unit};
 use ultra_mem::Module;
 use ultra_model::Stop;
 use ultra_msg::{Event, ReplyMessage, Request};
 use ultra_route::Net;
 use ultra_switch::Switch;
+use ultra_units::{Links, Numbering, Unit};
 
 /// Some of the units of a machine, by their numbers: any switches, modules and processing elements, or none. A link has the number of the position, module or processing element from which it leads. What a unit of this block sends is put on its link, and what comes to a unit of this block is taken from there.
 ///

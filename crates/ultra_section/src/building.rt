@@ -4,20 +4,21 @@ ghost use Rattle.std.specs.Prelude.{◌≡◌, ◌+◌, ◌*◌, ◌<◌, ◌≤
 ghost use Rattle.ultra_units.specs.Numbers.{switch_count as count_of_switches};
 ghost use Rattle.ultra_section.specs.BlockState.{element_at, module_at, most_events, most_stops, switch_at};
 ghost use Rattle.ultra_section.specs.Building.{empty_block, with_unit, without_unit};
-ghost use Rattle.ultra_links.specs.Links.{put_on};
+ghost use Rattle.ultra_units.specs.Links.{put_on};
 
 use crate::block::Block;
 use crate::sets::Sets;
 use std::alloc::{AllocError, Global};
 use std::mem::swap;
 use ultra_halves::ProcessingElement;
-use ultra_links::{Links, Numbering, Unit, no_entries};
 use ultra_mem::Module;
 use ultra_model::Stop;
 use ultra_msg::{Event, ReplyMessage, Request};
 use ultra_route::Net;
 use ultra_switch::Switch;
-use ultra_units::{element_number, module_number, switch_count};
+use ultra_units::{
+    Links, Numbering, Unit, element_number, module_number, no_entries, switch_count,
+};
 
 /// For how many events a block has memory: at most two of each of 320 units in each of four halves.
 const MOST_EVENTS: usize = 2560;

@@ -4,13 +4,12 @@ ghost use Rattle.std.specs.Prelude.{◌≡◌, ℕ, ◌+◌, ◌-◌, ◌^◌, �
 ghost use Rattle.ultra_units.specs.Visits.{after_units};
 ghost use Rattle.ultra_section.specs.BlockState.{most_events, most_stops};
 ghost use Rattle.ultra_section.specs.Execution.{CanExecuteAt, ElementCanExecute, counted, element_executes, executes};
-ghost use Rattle.ultra_links.specs.Units.{IsElement};
+ghost use Rattle.ultra_units.specs.Units.{IsElement};
 
 use crate::block::{Block, append};
 use ultra_halves::Outcome;
 use ultra_isa::Program;
-use ultra_links::Unit;
-use ultra_units::{UnitSet, Visit, visit_all};
+use ultra_units::{Unit, UnitSet, Visit, visit_all};
 
 impl Block {
     /// A processing element makes a step.

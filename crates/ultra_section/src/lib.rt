@@ -39,4 +39,4 @@ pub use block::Block;
 pub use half::Half;
 pub use held::Held;
 pub use rooms::Rooms;
-pub use ultra_links::{reply_inlets, request_inlets};
+pub use ultra_units::{reply_inlets, request_inlets};

@@ -9,9 +9,9 @@ ghost use Rattle.ultra_section.specs.Quiet.{or_elsewhere, quiet_block};
 
 use crate::block::Block;
 use ultra_halves::{ProcessingElement, modules, switches};
-use ultra_links::Unit;
 use ultra_mem::Module;
 use ultra_switch::Switch;
+use ultra_units::Unit;
 
 /// Whether nothing is in a switch, if it stands here.
 fn is_switch_quiet(entry: &Option<Switch>) -> bool

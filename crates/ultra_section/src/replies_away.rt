@@ -2,7 +2,7 @@
 
 ghost use Rattle.std.specs.Prelude.{◌≡◌, ◌+◌, ◌*◌, ◌^◌, ◌<◌, Some, IfNone, IfSome, length};
 ghost use Rattle.ultra_section.specs.Away.{IsNextForReplies, NoReplyLeavesWithin, replies_handed_over, replies_received};
-ghost use Rattle.ultra_links.specs.Inlets.{reply_inlets as inlets_of, taken_by_turns};
+ghost use Rattle.ultra_units.specs.Inlets.{reply_inlets as inlets_of, taken_by_turns};
 
 use crate::block::Block;
 use ultra_msg::ReplyMessage;

@@ -2,21 +2,22 @@
 
 ghost use Rattle.std.specs.Prelude.{◌≡◌, ◌-◌, ◌^◌, ◌<◌};
 ghost use Rattle.ultra_halves.specs.Switches.{replies_leaving, without_replies};
-ghost use Rattle.ultra_links.specs.Marks.{RepliesAreKnown};
+ghost use Rattle.ultra_units.specs.Marks.{RepliesAreKnown};
 ghost use Rattle.ultra_section.specs.RepliesSent.{begun, module_sends_reply, sends_replies, switch_sends_replies};
-ghost use Rattle.ultra_links.specs.Ways.{replies_put, reply_ways};
+ghost use Rattle.ultra_units.specs.Ways.{replies_put, reply_ways};
 ghost use Rattle.ultra_units.specs.Visits.{after_units};
-ghost use Rattle.ultra_links.specs.Units.{IsModule, IsSwitch};
+ghost use Rattle.ultra_units.specs.Units.{IsModule, IsSwitch};
 
 use crate::block::Block;
 use crate::rooms::Rooms;
 use ultra_halves::{modules, switches};
-use ultra_links::replies::{leave_module, leave_stage};
-use ultra_links::{Links, Unit, find_reply_ways, reply_targets};
 use ultra_msg::ReplyMessage;
 use ultra_route::Net;
 use ultra_switch::Switch;
-use ultra_units::{UnitSet, Visit, switch_number, visit_all};
+use ultra_units::replies::{leave_module, leave_stage};
+use ultra_units::{
+    Links, Unit, UnitSet, Visit, find_reply_ways, reply_targets, switch_number, visit_all,
+};
 
 /// The first reply of each queue of a switch goes onto its link, where there is a way. `here` are the units that stand here, and `closed` the switches without room for replies.
 #[inline(always)]

@@ -3,20 +3,21 @@
 ghost use Rattle.std.specs.Prelude.{◌≡◌, ◌-◌, ◌^◌, ◌<◌};
 ghost use Rattle.ultra_units.specs.Visits.{after_units};
 ghost use Rattle.ultra_halves.specs.Switches.{request_heads, requests_leaving, without_requests};
-ghost use Rattle.ultra_links.specs.Marks.{RequestsAreKnown};
+ghost use Rattle.ultra_units.specs.Marks.{RequestsAreKnown};
 ghost use Rattle.ultra_section.specs.RequestsSent.{element_sends_request, sends_requests, switch_sends_requests};
-ghost use Rattle.ultra_links.specs.Ways.{request_ways, requests_put};
-ghost use Rattle.ultra_links.specs.Units.{IsElement, IsSwitch};
+ghost use Rattle.ultra_units.specs.Ways.{request_ways, requests_put};
+ghost use Rattle.ultra_units.specs.Units.{IsElement, IsSwitch};
 
 use crate::block::Block;
 use crate::rooms::Rooms;
 use ultra_halves::switches;
-use ultra_links::requests::{leave_element, leave_stage};
-use ultra_links::{Links, Unit, find_request_ways, has_way_from_element};
 use ultra_msg::Request;
 use ultra_route::Net;
 use ultra_switch::{Ports, Switch};
-use ultra_units::{UnitSet, Visit, visit_all};
+use ultra_units::requests::{leave_element, leave_stage};
+use ultra_units::{
+    Links, Unit, UnitSet, Visit, find_request_ways, has_way_from_element, visit_all,
+};
 
 /// The first request of each queue of a switch goes onto its link, where there is a way. `here` are the units that stand here.
 #[inline(always)]

@@ -4,12 +4,11 @@ ghost use Rattle.std.specs.Prelude.{◌≡◌, ℕ, ◌<◌, length};
 ghost use Rattle.ultra_units.specs.Visits.{after_units};
 ghost use Rattle.ultra_section.specs.BlockState.{HasEventRoom, most_events};
 ghost use Rattle.ultra_section.specs.Serving.{module_serves, serves};
-ghost use Rattle.ultra_links.specs.Units.{IsModule};
+ghost use Rattle.ultra_units.specs.Units.{IsModule};
 
 use crate::block::{Block, append};
-use ultra_links::Unit;
 use ultra_msg::Event;
-use ultra_units::{UnitSet, Visit, visit_all};
+use ultra_units::{Unit, UnitSet, Visit, visit_all};
 
 impl Block {
     /// A module serves the request that waits, if no reply is in its way.

@@ -4,18 +4,17 @@ ghost use Rattle.std.specs.Prelude.{◌≡◌, ℕ, ◌<◌, List, length};
 ghost use Rattle.ultra_halves.specs.Switches.{CanTakeReplies, after_replies};
 ghost use Rattle.ultra_units.specs.Visits.{after_units};
 ghost use Rattle.ultra_section.specs.BlockState.{most_events};
-ghost use Rattle.ultra_links.specs.Marks.{HasAllLinks, RepliesAreKnown, on_both, reply_links, without_both};
+ghost use Rattle.ultra_units.specs.Marks.{HasAllLinks, RepliesAreKnown, on_both, reply_links, without_both};
 ghost use Rattle.ultra_section.specs.RepliesTaken.{CanTakeRepliesAt, ElementCanTakeReply, SwitchCanTakeReplies, element_takes_reply, switch_takes_replies, takes_replies};
-ghost use Rattle.ultra_links.specs.Units.{IsElement, IsSwitch};
+ghost use Rattle.ultra_units.specs.Units.{IsElement, IsSwitch};
 
 use crate::block::{Block, append};
 use ultra_halves::switches;
-use ultra_links::replies::{take_at_element, take_at_switch};
-use ultra_links::{Links, Unit};
 use ultra_msg::{Event, ReplyMessage};
 use ultra_route::Net;
 use ultra_switch::Switch;
-use ultra_units::{UnitSet, Visit, visit_all};
+use ultra_units::replies::{take_at_element, take_at_switch};
+use ultra_units::{Links, Unit, UnitSet, Visit, visit_all};
 
 /// What comes to a switch goes through its wait buffers into its queues. `number` is the number of the unit.
 #[inline(always)]

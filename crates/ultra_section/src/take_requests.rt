@@ -5,18 +5,17 @@ ghost use Rattle.ultra_halves.specs.Switches.{CanTakeRequests, after_requests, c
 ghost use Rattle.ultra_model.specs.Places.{present};
 ghost use Rattle.ultra_units.specs.Visits.{after_units};
 ghost use Rattle.ultra_section.specs.BlockState.{most_events};
-ghost use Rattle.ultra_links.specs.Marks.{HasAllLinks, RequestsAreKnown, on_both, request_links, without_both};
+ghost use Rattle.ultra_units.specs.Marks.{HasAllLinks, RequestsAreKnown, on_both, request_links, without_both};
 ghost use Rattle.ultra_section.specs.RequestsTaken.{CanTakeRequestsAt, ModuleCanTakeRequest, SwitchCanTakeRequests, module_takes_request, switch_takes_requests, takes_requests};
-ghost use Rattle.ultra_links.specs.Units.{IsModule, IsSwitch};
+ghost use Rattle.ultra_units.specs.Units.{IsModule, IsSwitch};
 
 use crate::block::{Block, append};
 use ultra_halves::{modules, switches};
-use ultra_links::requests::{take_at_module, take_at_switch};
-use ultra_links::{Links, Unit};
 use ultra_msg::{Event, Request};
 use ultra_route::Net;
 use ultra_switch::{Ports, Switch};
-use ultra_units::{UnitSet, Visit, visit_all};
+use ultra_units::requests::{take_at_module, take_at_switch};
+use ultra_units::{Links, Unit, UnitSet, Visit, visit_all};
 
 /// Puts two events, if they are there, at the end of the list. Where there is only one, it is in `zero`.
 fn append_both(list: &mut Vec<Event>, events: Ports<Option<Event>>)

@@ -1,1 +1,2 @@
 pub mod SettingsText
+pub mod JobsText

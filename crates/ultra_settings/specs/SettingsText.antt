@@ -7,8 +7,8 @@ use Rattle.toml.specs.Parse.{parse_document}
 use Rattle.ultra_model.specs.declared.config.RawSettings.{RawSettings}
 use Rattle.ultra_model.specs.declared.config.Field.{Field}
 use Rattle.ultra_model.specs.declared.config.Field.TheVariants.{Stages, RequestPlaces, ReplyPlaces, WaitPlaces, MostOpen, Cells, Cycles, Initial}
-use Rattle.ultra_settings.specs.declared.SettingsFault.{SettingsFault}
-use Rattle.ultra_settings.specs.declared.SettingsFault.TheVariants.{NoMemory, NotToml, BadField, UnknownKey}
+use Rattle.ultra_settings.specs.declared.settings.SettingsFault.{SettingsFault}
+use Rattle.ultra_settings.specs.declared.settings.SettingsFault.TheVariants.{NoMemory, NotToml, BadField, UnknownKey}
 use Rattle.ultra_model.specs.Accepted.{name_of, numbers, first_bad}
 
 -- all keys

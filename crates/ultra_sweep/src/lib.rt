@@ -17,6 +17,5 @@ pub use gathering::{GatherFault, Gathered, close_and_gather, gather};
 pub use job::{Job, JobGate, JobResult, Outcome};
 pub use law::sweep_law;
 pub use reporting::report;
-pub use ultra_jobs::{JobsFault, jobs_from};
-pub use ultra_settings::{SettingsFault, settings_from};
+pub use ultra_settings::{JobsFault, SettingsFault, jobs_from, settings_from};
 pub use working::{WorkFault, work};

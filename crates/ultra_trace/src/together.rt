@@ -2,7 +2,7 @@
 
 ghost use Rattle.std.specs.Prelude.{◌≡◌, ◌+◌, ◌≤◌, ◌++◌, [], false, OnOk, OnErr, IfOk, IfErr};
 ghost use Rattle.ultra_msg.specs.Bytes.{TakesPrefix};
-ghost use Rattle.ultra_page.specs.Page.{Writes, WritesPrefix, has_failed};
+ghost use Rattle.ultra_io.specs.Page.{Writes, WritesPrefix, has_failed};
 ghost use Rattle.ultra_model.specs.Trace.{all_cycles_text, cycle_count, trace};
 ghost use Rattle.ultra_crew.specs.Course.{IsCourse};
 ghost use Rattle.ultra_alone.specs.Faults.{sink_faults};
@@ -16,9 +16,9 @@ use std::sync::Wait;
 use std::thread::{self, Threads};
 use ultra_alone::{RunFault, most_cycles, put_and_judge, put_first_line};
 use ultra_crew::{Blocks, Course, CrewFault, Gate, Shift};
+use ultra_io::Page;
 use ultra_lines::put_end;
 use ultra_msg::Sink;
-use ultra_page::Page;
 
 /// Runs a machine from its start by workers, and writes its trace to a sink. The workers' threads are kept for the whole run, and joined at its end. After a fault the sink has taken a prefix of the trace.
 pub fn write_trace_together<R: Threads + Wait + Sync, G: Gate + Sync, S: Sink>(

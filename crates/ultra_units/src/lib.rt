@@ -1,13 +1,29 @@
 //! The units of a machine by their numbers: sets of them, and the links between them.
+//!
+//! `Numbering` says which unit has a number, and `Links` has the message on each link. Messages leave a unit and come to one by the functions of `replies` and `requests`. Others say to which units messages go, whether there is room for them, and by which links they come.
 #![tactic(auto)]
 
+mod entries;
+mod inlets;
+mod links;
 mod numbers;
 mod pass;
+pub mod replies;
+mod reply_ways;
+mod request_ways;
+pub mod requests;
+mod unit;
 mod unit_set;
 
+pub use entries::no_entries;
+pub use inlets::{reply_inlets, request_inlets};
+pub use links::Links;
 pub use numbers::{
     element_number, module_number, place_number, reply_source, reply_target, request_source,
     request_target, switch_count, switch_number,
 };
 pub use pass::{Visit, visit_all};
+pub use reply_ways::{find_reply_ways, reply_targets};
+pub use request_ways::{find_request_ways, has_way_from_element};
+pub use unit::{Numbering, Unit};
 pub use unit_set::UnitSet;

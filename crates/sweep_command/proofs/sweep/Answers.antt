@@ -1,6 +1,6 @@
 -- how a sweep that fails is reported
 use Rattle.std.proofs.Common.{arith, ◌∙◌, refl, sym}
-use Rattle.ultra_jobs.specs.JobsText.{all_paths}
+use Rattle.ultra_settings.specs.JobsText.{all_paths}
 use Rattle.sweep_command.specs.Shown.{stream}
 use Rattle.sweep_command.specs.Sweep.{unlisted, listed}
 use Rattle.sweep_command.proofs.Counted.{unlisted_none, never_done}

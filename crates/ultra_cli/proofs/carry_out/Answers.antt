@@ -6,12 +6,13 @@ use Rattle.ultra_command_line.specs.declared.Command.TheVariants.{Run, Order, Ex
 use Rattle.ultra_command_line.specs.declared.Parsed.TheVariants as parsed
 use Rattle.ultra_inputs.specs.Failure.{read_failures}
 use Rattle.ultra_inputs.specs.Traffic.{traffic, IsStopped, WroteText, TextFails}
-use Rattle.run_command.specs.Trace.{trace}
-use Rattle.run_command.specs.Stops.{IsStoppedBy}
-use Rattle.order_command.specs.Order.{order_of}
+use Rattle.basic_commands.specs.Trace.{trace}
+use Rattle.basic_commands.specs.Listing.{WroteListing, ListFails}
+use Rattle.basic_commands.specs.Stops.{IsStoppedBy}
+use Rattle.basic_commands.specs.Order.{order_of}
 use Rattle.explain_command.specs.Explanation.{explanation_of}
-use Rattle.lib_command.specs.Coordination.{WroteProgram, LibFails}
-use Rattle.ultra_cli.specs.Outcome.{WroteListing, ListFails, ExplainFails}
+use Rattle.basic_commands.specs.Coordination.{WroteProgram, LibFails}
+use Rattle.ultra_cli.specs.Outcome.{ExplainFails}
 use Rattle.ultra_cli.proofs.Endings.{run_refused, order_refused, explain_failed, explain_refused, list_refused, lib_refused, lib_unread, command_ended, sweep_ended}
 use Rattle.ultra_cli.proofs.carry_out.Goals as goal
 

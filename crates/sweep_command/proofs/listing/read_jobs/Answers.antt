@@ -1,7 +1,7 @@
 -- the files of each job in turn
 use Rattle.std.proofs.Common.{◌∙◌, ◌+◌, ◌∷◌, [], ap, sym, subst, take, length, arith, length-append}
 use Rattle.std.proofs.lemmas.Result.{err_from_is_err_and}
-use Rattle.ultra_jobs.specs.JobsText.{all_paths}
+use Rattle.ultra_settings.specs.JobsText.{all_paths}
 use Rattle.ultra_sweep.specs.declared.job.Job.{Job}
 use Rattle.sweep_command.specs.Jobs.{GaveJobs}
 use Rattle.sweep_command.proofs.Reading.{gave-next, refused-next}

@@ -1,6 +1,6 @@
 use Rattle.std.proofs.Common.{◌≡◌, ◌≤◌, length, take}
 use Rattle.std.specs.Prelude.{vec_capacity}
-use Rattle.ultra_jobs.specs.JobsText.{all_paths}
+use Rattle.ultra_settings.specs.JobsText.{all_paths}
 use Rattle.sweep_command.specs.Jobs.{GaveJobs}
 use Rattle.sweep_command.proofs.listing.read_jobs.Given as goal
 

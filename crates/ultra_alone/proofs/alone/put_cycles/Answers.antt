@@ -1,5 +1,5 @@
 use Rattle.std.proofs.Common.{arith, sym, ◌+◌}
-use Rattle.ultra_page.proofs.Writing.{writes_nothing}
+use Rattle.ultra_io.proofs.Writing.{writes_nothing}
 use Rattle.ultra_alone.proofs.Count.{next_after, done_after, cycle_written, busy_none, last_written, last_machine, still_busy, limit_written, limit_machine}
 use Rattle.ultra_alone.proofs.alone.put_cycles.Goals as goal
 

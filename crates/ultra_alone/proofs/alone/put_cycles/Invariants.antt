@@ -1,4 +1,4 @@
-use Rattle.ultra_page.specs.Page.{Writes}
+use Rattle.ultra_io.specs.Page.{Writes}
 use Rattle.ultra_alone.specs.BlocksAfter.{IsAfter}
 use Rattle.ultra_model.specs.Trace.{cycles_text}
 use Rattle.ultra_alone.proofs.Count.{IsBusy}

@@ -1,5 +1,5 @@
 use Rattle.ultra_model.specs.Trace.{trace}
-use Rattle.ultra_page.proofs.Writing.{◌then◌}
+use Rattle.ultra_io.proofs.Writing.{◌then◌}
 use Rattle.ultra_alone.proofs.Count.{end_written}
 use Rattle.ultra_alone.proofs.alone.put_trace.Goals as goal
 

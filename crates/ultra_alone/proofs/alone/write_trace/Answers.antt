@@ -1,5 +1,5 @@
 use Rattle.std.proofs.Common.{rules}
-use Rattle.ultra_page.proofs.Writing.{finished}
+use Rattle.ultra_io.proofs.Writing.{finished}
 use Rattle.ultra_alone.proofs.alone.write_trace.Goals as goal
 
 pub returns : goal.returns

@@ -1,5 +1,5 @@
 use Rattle.std.proofs.Common.{rules}
-use Rattle.ultra_page.proofs.Writing.{finished}
+use Rattle.ultra_io.proofs.Writing.{finished}
 use Rattle.ultra_asm.proofs.canonical.listing.Goals as goal
 
 pub returns : goal.returns

@@ -1,5 +1,5 @@
 use Rattle.std.proofs.Common.{◌≡◌, get_or, true, false}
-use Rattle.ultra_page.proofs.Writing.{◌then◌}
+use Rattle.ultra_io.proofs.Writing.{◌then◌}
 use Rattle.ultra_asm.proofs.canonical.write_label_line.Goals as goal
 
 pub returns-then-targets-place : goal.returns-then-targets-place

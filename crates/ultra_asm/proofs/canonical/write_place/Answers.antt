@@ -1,4 +1,4 @@
-use Rattle.ultra_page.proofs.Writing.{◌then◌}
+use Rattle.ultra_io.proofs.Writing.{◌then◌}
 use Rattle.ultra_asm.proofs.canonical.write_place.Goals as goal
 
 pub returns : goal.returns

@@ -1,5 +1,5 @@
 use Rattle.ultra_model.specs.Trace.{cycle_text}
-use Rattle.ultra_page.proofs.Writing.{◌then◌}
+use Rattle.ultra_io.proofs.Writing.{◌then◌}
 use Rattle.ultra_lines.proofs.cycle.put_cycle.Goals as goal
 
 pub returns : goal.returns

@@ -1,5 +1,5 @@
 use Rattle.std.proofs.Common.{rules}
-use Rattle.ultra_page.proofs.Writing.{finished}
+use Rattle.ultra_io.proofs.Writing.{finished}
 use Rattle.ultra_lines.proofs.cycle.write_cycle.Goals as goal
 
 pub returns : goal.returns

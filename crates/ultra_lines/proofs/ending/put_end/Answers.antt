@@ -1,5 +1,5 @@
 use Rattle.ultra_model.specs.Trace.{end_text}
-use Rattle.ultra_page.proofs.Writing.{◌then◌}
+use Rattle.ultra_io.proofs.Writing.{◌then◌}
 use Rattle.ultra_lines.proofs.ending.put_end.Goals as goal
 
 pub returns : goal.returns

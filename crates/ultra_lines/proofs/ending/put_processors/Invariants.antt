@@ -1,4 +1,4 @@
-use Rattle.ultra_page.specs.Page.{Writes}
+use Rattle.ultra_io.specs.Page.{Writes}
 use Rattle.ultra_model.specs.Trace.{by_number, pe_of}
 use Rattle.ultra_lines.proofs.ending.put_processors.Given as goal
 

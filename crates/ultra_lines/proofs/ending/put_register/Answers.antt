@@ -1,4 +1,4 @@
-use Rattle.ultra_page.proofs.Writing.{◌then◌}
+use Rattle.ultra_io.proofs.Writing.{◌then◌}
 use Rattle.ultra_lines.proofs.Listed.{not_zero}
 use Rattle.ultra_lines.proofs.ending.put_register.Goals as goal
 

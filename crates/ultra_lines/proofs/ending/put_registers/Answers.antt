@@ -1,7 +1,7 @@
 use Rattle.std.proofs.Common.{◌≡◌, arith}
 use Rattle.std.specs.Prelude.{slice_index}
 use Rattle.ultra_model.specs.Trace.{registers_text, register_text}
-use Rattle.ultra_page.proofs.Writing.{◌then◌}
+use Rattle.ultra_io.proofs.Writing.{◌then◌}
 use Rattle.ultra_lines.proofs.Numbered.{by_number_more}
 use Rattle.ultra_lines.proofs.ending.put_registers.Goals as goal
 use Rattle.ultra_lines.proofs.ending.put_registers.Goals.{in-Some, in_default}

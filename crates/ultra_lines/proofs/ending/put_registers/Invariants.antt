@@ -1,5 +1,5 @@
 use Rattle.std.specs.Prelude.{slice_index}
-use Rattle.ultra_page.specs.Page.{Writes}
+use Rattle.ultra_io.specs.Page.{Writes}
 use Rattle.ultra_model.specs.Trace.{by_number, register_text}
 use Rattle.ultra_lines.proofs.ending.put_registers.Given as goal
 

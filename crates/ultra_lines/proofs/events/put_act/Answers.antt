@@ -1,4 +1,4 @@
-use Rattle.ultra_page.proofs.Writing.{◌then◌}
+use Rattle.ultra_io.proofs.Writing.{◌then◌}
 use Rattle.ultra_lines.proofs.events.put_act.Goals as goal
 
 pub returns-in-Served : goal.returns-in-Served

@@ -1,4 +1,4 @@
-use Rattle.ultra_page.proofs.Writing.{◌then◌}
+use Rattle.ultra_io.proofs.Writing.{◌then◌}
 use Rattle.ultra_lines.proofs.events.put_events.Goals as goal
 
 pub returns : goal.returns

@@ -1,4 +1,4 @@
-use Rattle.ultra_page.proofs.Writing.{◌then◌}
+use Rattle.ultra_io.proofs.Writing.{◌then◌}
 use Rattle.ultra_lines.proofs.events.put_got.Goals as goal
 
 pub returns-in-Delivered : goal.returns-in-Delivered

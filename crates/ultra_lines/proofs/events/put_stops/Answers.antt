@@ -1,6 +1,6 @@
 use Rattle.ultra_model.specs.Trace.{fault_line}
 use Rattle.std.proofs.Common.{◌∙◌, ap}
-use Rattle.ultra_page.proofs.Writing.{writes_nothing}
+use Rattle.ultra_io.proofs.Writing.{writes_nothing}
 use Rattle.ultra_block.specs.State.{stops_left}
 use Rattle.ultra_lines.proofs.Yielded.{one_came, one_fewer, all_came, writes_one, writes_next, writes_all}
 use Rattle.ultra_lines.proofs.events.put_stops.Goals as goal

@@ -1,7 +1,7 @@
 use Rattle.std.proofs.Common.{◌≡◌, ◌++◌, take}
 use Rattle.std.specs.List.{flat_map}
 use Rattle.ultra_block.specs.State.{stops_left}
-use Rattle.ultra_page.specs.Page.{Writes}
+use Rattle.ultra_io.specs.Page.{Writes}
 use Rattle.ultra_model.specs.Trace.{fault_line}
 use Rattle.ultra_lines.proofs.events.put_stops.Given as goal
 

@@ -1,4 +1,4 @@
-use Rattle.ultra_page.proofs.Writing.{◌then◌}
+use Rattle.ultra_io.proofs.Writing.{◌then◌}
 use Rattle.ultra_lines.proofs.Listed.{inp_line_is}
 use Rattle.ultra_lines.proofs.places.put_inp.Goals as goal
 

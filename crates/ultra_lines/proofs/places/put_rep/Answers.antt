@@ -1,7 +1,7 @@
 use Rattle.std.proofs.Common.{arith}
 use Rattle.std.proofs.lemmas.List.{take_all}
 use Rattle.ultra_model.specs.Text.{message_text}
-use Rattle.ultra_page.proofs.Writing.{◌then◌, writes_nothing}
+use Rattle.ultra_io.proofs.Writing.{◌then◌, writes_nothing}
 use Rattle.ultra_lines.proofs.Listed.{listed_more, line_is, no_line}
 use Rattle.ultra_lines.proofs.places.put_rep.Goals as goal
 

@@ -1,5 +1,5 @@
 use Rattle.std.proofs.Common.{take}
-use Rattle.ultra_page.specs.Page.{Writes}
+use Rattle.ultra_io.specs.Page.{Writes}
 use Rattle.ultra_model.specs.Text.{listed, entry_text}
 use Rattle.ultra_lines.proofs.places.put_req.Given as goal
 

@@ -1,4 +1,4 @@
-use Rattle.ultra_page.proofs.Writing.{writes_nothing}
+use Rattle.ultra_io.proofs.Writing.{writes_nothing}
 use Rattle.ultra_lines.proofs.Listed.{begins, separates}
 use Rattle.ultra_lines.proofs.places.put_separator.Goals as goal
 

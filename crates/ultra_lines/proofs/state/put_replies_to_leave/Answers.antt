@@ -4,7 +4,7 @@ use Rattle.ultra_block.specs.Held.TheVariants.{Reply}
 use Rattle.ultra_block.specs.Holding.{holds}
 use Rattle.ultra_block.specs.State.{BlocksState}
 use Rattle.ultra_model.specs.Trace.{out_of}
-use Rattle.ultra_page.proofs.Writing.{writes_nothing}
+use Rattle.ultra_io.proofs.Writing.{writes_nothing}
 use Rattle.ultra_lines.specs.Holders.{holders_left}
 use Rattle.ultra_lines.proofs.Yielded.{one_came, one_fewer, all_came, writes_one}
 use Rattle.ultra_lines.proofs.Skipped.{next_small, skipped}

@@ -2,7 +2,7 @@ use Rattle.std.proofs.Common.{◌≡◌, ◌++◌, ◌^◌}
 use Rattle.std.specs.List.{flat_map}
 use Rattle.ultra_units.specs.Numbers.{module_number}
 use Rattle.ultra_block.specs.Held.TheVariants.{Request}
-use Rattle.ultra_page.specs.Page.{Writes}
+use Rattle.ultra_io.specs.Page.{Writes}
 use Rattle.ultra_lines.specs.Holders.{holders_left, holding}
 use Rattle.ultra_model.specs.Trace.{inp_of}
 use Rattle.ultra_lines.proofs.state.put_requests_to_serve.Given as goal

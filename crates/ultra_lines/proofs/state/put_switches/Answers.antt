@@ -1,5 +1,5 @@
 use Rattle.std.proofs.Common.{arith, ◌∙◌, ap}
-use Rattle.ultra_page.proofs.Writing.{◌then◌, writes_nothing}
+use Rattle.ultra_io.proofs.Writing.{◌then◌, writes_nothing}
 use Rattle.ultra_lines.specs.Holders.{holders_left}
 use Rattle.ultra_lines.specs.Ports.{port_line}
 use Rattle.ultra_lines.proofs.Empty.{no_port_lines}

@@ -1,6 +1,6 @@
 use Rattle.std.proofs.Common.{◌≡◌, ◌++◌}
 use Rattle.std.specs.List.{flat_map}
-use Rattle.ultra_page.specs.Page.{Writes}
+use Rattle.ultra_io.specs.Page.{Writes}
 use Rattle.ultra_lines.specs.Holders.{holders_left}
 use Rattle.ultra_lines.specs.Ports.{port_line}
 use Rattle.ultra_lines.proofs.Walked.{lines_of, switches_holding}

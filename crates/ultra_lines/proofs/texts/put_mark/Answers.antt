@@ -1,4 +1,4 @@
-use Rattle.ultra_page.proofs.Writing.{writes_nothing}
+use Rattle.ultra_io.proofs.Writing.{writes_nothing}
 use Rattle.ultra_lines.proofs.texts.put_mark.Goals as goal
 
 pub returns-then-combined : goal.returns-then-combined

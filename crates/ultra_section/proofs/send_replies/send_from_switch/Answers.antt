@@ -4,8 +4,8 @@ use Rattle.ultra_switch.specs.declared.Ports.{Ports}
 use Rattle.ultra_switch.specs.declared.Switch.{Switch}
 use Rattle.ultra_halves.specs.Switches.{replies_leaving, without_replies}
 use Rattle.ultra_units.specs.Numbers.{place_number}
-use Rattle.ultra_links.specs.Links.{put_on}
-use Rattle.ultra_links.specs.Ways.{replies_put}
+use Rattle.ultra_units.specs.Links.{put_on}
+use Rattle.ultra_units.specs.Ways.{replies_put}
 use Rattle.ultra_section.proofs.send_replies.send_from_switch.Goals as goal
 
 pub reply_targets-targets-requires : goal.reply_targets-targets-requires

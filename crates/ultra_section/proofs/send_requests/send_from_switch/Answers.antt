@@ -4,8 +4,8 @@ use Rattle.ultra_switch.specs.declared.Ports.{Ports}
 use Rattle.ultra_switch.specs.declared.Switch.{Switch}
 use Rattle.ultra_halves.specs.Switches.{requests_leaving, without_requests}
 use Rattle.ultra_units.specs.Numbers.{place_number}
-use Rattle.ultra_links.specs.Links.{put_on}
-use Rattle.ultra_links.specs.Ways.{request_ways, requests_put}
+use Rattle.ultra_units.specs.Links.{put_on}
+use Rattle.ultra_units.specs.Ways.{request_ways, requests_put}
 use Rattle.ultra_section.proofs.send_requests.send_from_switch.Goals as goal
 
 pub find_request_ways-requires : goal.find_request_ways-requires

@@ -1,6 +1,6 @@
 use Rattle.std.proofs.Common.{arith, rules, sym, ◌+◌}
 use Rattle.ultra_model.specs.Machine.{is_quiet}
-use Rattle.ultra_page.proofs.Writing.{writes_nothing}
+use Rattle.ultra_io.proofs.Writing.{writes_nothing}
 use Rattle.ultra_alone.proofs.Count.{next_after, done_after, cycle_written, busy_none, first_written, last_written, last_machine, still_busy, limit_written, limit_machine, not_second}
 use Rattle.ultra_trace.proofs.together.put_cycles_together.Goals as goal
 

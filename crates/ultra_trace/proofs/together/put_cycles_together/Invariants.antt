@@ -1,6 +1,6 @@
 use Rattle.std.proofs.Common.{◌≡◌, false}
 use Rattle.ultra_crew.specs.Course.{IsCourse}
-use Rattle.ultra_page.specs.Page.{Writes}
+use Rattle.ultra_io.specs.Page.{Writes}
 use Rattle.ultra_alone.specs.BlocksAfter.{IsAfter}
 use Rattle.ultra_model.specs.Trace.{cycles_text}
 use Rattle.ultra_alone.proofs.Count.{IsBusy}

@@ -1,8 +1,8 @@
 use Rattle.std.proofs.Common.{◌++◌, codes, rules, sym}
 use Rattle.ultra_model.specs.Text.{newline}
-use Rattle.ultra_page.specs.Page.{WritesPrefix}
+use Rattle.ultra_io.specs.Page.{WritesPrefix}
 use Rattle.ultra_model.specs.Trace.{all_cycles_text, end_text, last_state, trace}
-use Rattle.ultra_page.proofs.Writing.{◌then◌, begins_within, writes_failed}
+use Rattle.ultra_io.proofs.Writing.{◌then◌, begins_within, writes_failed}
 use Rattle.ultra_alone.proofs.Count.{end_written}
 use Rattle.ultra_trace.proofs.together.put_trace_together.Goals as goal
 

@@ -1,7 +1,7 @@
 use Rattle.std.proofs.Common.{rules}
 use Rattle.std.proofs.lemmas.Result.{IfOk-from_err}
 use Rattle.ultra_model.specs.Trace.{trace}
-use Rattle.ultra_page.proofs.Writing.{finished, part_taken}
+use Rattle.ultra_io.proofs.Writing.{finished, part_taken}
 use Rattle.ultra_trace.proofs.together.write_by_shift.Goals as goal
 
 pub returns-in-Err-clause-err : goal.returns-in-Err-clause-err

@@ -4,7 +4,7 @@ use Rattle.ultra_model.specs.Phases.{issue_event, stop_of}
 use Rattle.ultra_halves.specs.Elements.{element_of, holds_request, issue_in, step_at, executed, stop_in}
 use Rattle.ultra_halves.proofs.Rests.{holds_as_before, went_on}
 use Rattle.ultra_section.specs.BlockState.{BlockState}
-use Rattle.ultra_links.specs.Units.{IsElement}
+use Rattle.ultra_units.specs.Units.{IsElement}
 use Rattle.ultra_section.proofs.Known.{element_changed, element_same, units_changed}
 use Rattle.ultra_msg.specs.declared.Event.{Event}
 use Rattle.ultra_isa.specs.declared.Instr.{Instr}

@@ -1,7 +1,7 @@
 use Rattle.std.proofs.Common.{◌≡◌, ◌<◌, Some, sym, subst, arith}
 use Rattle.ultra_section.specs.BlockState.{BlockState}
-use Rattle.ultra_links.specs.Inlets.{request_inlets}
-use Rattle.ultra_links.proofs.RequestInlets.{inlets, known_left}
+use Rattle.ultra_units.specs.Inlets.{request_inlets}
+use Rattle.ultra_units.proofs.RequestInlets.{inlets, known_left}
 use Rattle.ultra_section.proofs.block.Block.hand_over_requests.Goals as goal
 
 pub hand_over-requires-clause-zero : goal.hand_over-requires-clause-zero

@@ -3,7 +3,7 @@ use Rattle.std.specs.Prelude.{IfSome, IfNone}
 use Rattle.ultra_units.specs.Set.{has_unit, HasNoneFrom, IsFirstFrom}
 use Rattle.ultra_section.specs.BlockState.{BlockState}
 use Rattle.ultra_section.specs.Away.{IsNextForReplies, NoReplyLeavesWithin, stands}
-use Rattle.ultra_links.specs.Inlets.{AreEmpty, reply_inlets}
+use Rattle.ultra_units.specs.Inlets.{AreEmpty, reply_inlets}
 use Rattle.ultra_section.proofs.RepliesAway.{none_away}
 use Rattle.ultra_section.proofs.block.Block.next_for_replies.Goals as goal
 

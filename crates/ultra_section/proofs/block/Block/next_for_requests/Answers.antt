@@ -3,7 +3,7 @@ use Rattle.std.specs.Prelude.{IfSome, IfNone}
 use Rattle.ultra_units.specs.Set.{has_unit, HasNoneFrom, IsFirstFrom}
 use Rattle.ultra_section.specs.BlockState.{BlockState}
 use Rattle.ultra_section.specs.Away.{IsNextForRequests, NoRequestLeavesWithin, stands}
-use Rattle.ultra_links.specs.Inlets.{AreEmpty, request_inlets}
+use Rattle.ultra_units.specs.Inlets.{AreEmpty, request_inlets}
 use Rattle.ultra_section.proofs.RequestsAway.{none_away}
 use Rattle.ultra_section.proofs.block.Block.next_for_requests.Goals as goal
 

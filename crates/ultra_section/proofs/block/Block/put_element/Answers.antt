@@ -2,7 +2,7 @@ use Rattle.std.proofs.Common.{◌^◌, ◌<◌, Some, sym, subst, ◌∙◌, tru
 use Rattle.ultra_section.specs.BlockState.{BlockState, element_at}
 use Rattle.ultra_section.specs.Sets.{facts_at, KnowsElement}
 use Rattle.ultra_section.proofs.Known.{AgreeBut, element_known}
-use Rattle.ultra_links.proofs.Renewed.{replies_anew, requests_beside}
+use Rattle.ultra_units.proofs.Renewed.{replies_anew, requests_beside}
 use Rattle.ultra_section.proofs.Moved.{others_here, unit_moved, element_put}
 use Rattle.ultra_section.proofs.block.Block.put_element.Goals as goal
 

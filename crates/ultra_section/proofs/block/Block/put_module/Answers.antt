@@ -2,7 +2,7 @@ use Rattle.std.proofs.Common.{◌^◌, ◌<◌, Some, sym, subst, ◌∙◌, tru
 use Rattle.ultra_section.specs.BlockState.{BlockState, module_at}
 use Rattle.ultra_section.specs.Sets.{facts_at, KnowsModule}
 use Rattle.ultra_section.proofs.Known.{AgreeBut, module_known}
-use Rattle.ultra_links.proofs.Renewed.{replies_beside, requests_anew}
+use Rattle.ultra_units.proofs.Renewed.{replies_beside, requests_anew}
 use Rattle.ultra_section.proofs.Moved.{others_here, unit_moved, module_put}
 use Rattle.ultra_section.proofs.block.Block.put_module.Goals as goal
 

@@ -1,7 +1,7 @@
 use Rattle.std.proofs.Common.{◌<◌, Some, sym, subst, true}
 use Rattle.ultra_units.specs.Numbers.{switch_count}
 use Rattle.ultra_section.specs.BlockState.{BlockState}
-use Rattle.ultra_links.proofs.Renewed.{replies_anew, requests_anew}
+use Rattle.ultra_units.proofs.Renewed.{replies_anew, requests_anew}
 use Rattle.ultra_section.proofs.Known.{switch_known}
 use Rattle.ultra_section.proofs.Moved.{others_here, unit_moved}
 use Rattle.ultra_section.proofs.block.Block.put_switch.Goals as goal

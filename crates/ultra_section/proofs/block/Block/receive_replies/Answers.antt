@@ -1,8 +1,8 @@
 use Rattle.std.proofs.Common.{◌≡◌, ◌<◌, Some, sym, subst, ap, ◌∙◌, arith, length}
 use Rattle.ultra_section.specs.BlockState.{BlockState}
-use Rattle.ultra_links.specs.Inlets.{reply_inlets}
-use Rattle.ultra_links.proofs.Marks.{length-put_on}
-use Rattle.ultra_links.proofs.ReplyMarks.{known_put}
+use Rattle.ultra_units.specs.Inlets.{reply_inlets}
+use Rattle.ultra_units.proofs.Marks.{length-put_on}
+use Rattle.ultra_units.proofs.ReplyMarks.{known_put}
 use Rattle.ultra_section.proofs.RepliesAway.{inlets}
 use Rattle.ultra_section.proofs.block.Block.receive_replies.Goals as goal
 

@@ -1,8 +1,8 @@
 use Rattle.std.proofs.Common.{◌≡◌, ◌<◌, Some, sym, subst, ap, ◌∙◌, arith, length}
 use Rattle.ultra_section.specs.BlockState.{BlockState}
-use Rattle.ultra_links.specs.Inlets.{request_inlets}
-use Rattle.ultra_links.proofs.Marks.{length-put_on}
-use Rattle.ultra_links.proofs.RequestMarks.{known_put}
+use Rattle.ultra_units.specs.Inlets.{request_inlets}
+use Rattle.ultra_units.proofs.Marks.{length-put_on}
+use Rattle.ultra_units.proofs.RequestMarks.{known_put}
 use Rattle.ultra_section.proofs.RequestsAway.{inlets}
 use Rattle.ultra_section.proofs.block.Block.receive_requests.Goals as goal
 

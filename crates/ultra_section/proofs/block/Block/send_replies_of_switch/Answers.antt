@@ -1,12 +1,12 @@
 use Rattle.std.proofs.Common.{sym, ap, subst, ◌≡◌, ℕ, List, Option, Some, set, refl, ◌∙◌}
 use Rattle.ultra_halves.specs.Switches.{has_request_room, holds_requests, keeps_records, replies_leaving, without_replies}
 use Rattle.ultra_section.specs.BlockState.{BlockState}
-use Rattle.ultra_links.specs.Marks.{RepliesAreKnown, RequestsAreKnown}
+use Rattle.ultra_units.specs.Marks.{RepliesAreKnown, RequestsAreKnown}
 use Rattle.ultra_section.proofs.Known.{switch_replies_changed}
 use Rattle.ultra_msg.specs.declared.ReplyMessage.{ReplyMessage}
 use Rattle.ultra_switch.specs.declared.Switch.{Switch}
 use Rattle.ultra_section.specs.RepliesSent.{replies_sent_by}
-use Rattle.ultra_links.specs.Ways.{replies_put, reply_ways}
+use Rattle.ultra_units.specs.Ways.{replies_put, reply_ways}
 use Rattle.ultra_section.proofs.Entries.{put_back, switches_kept, switch_entry, switch_inside, switch_passed, switch_worked}
 use Rattle.ultra_section.proofs.block.Block.send_replies_of_switch.Goals as goal
 

@@ -1,7 +1,7 @@
 use Rattle.std.proofs.Common.{sym, subst, ◌≡◌, ℕ, ◌-◌, ◌/◌, List, Bool, Option, Some, set, refl, ◌∙◌}
 use Rattle.ultra_section.specs.BlockState.{BlockState}
-use Rattle.ultra_links.specs.Marks.{RepliesAreKnown, RequestsAreKnown}
-use Rattle.ultra_links.specs.Units.{IsModule}
+use Rattle.ultra_units.specs.Marks.{RepliesAreKnown, RequestsAreKnown}
+use Rattle.ultra_units.specs.Units.{IsModule}
 use Rattle.ultra_section.proofs.Known.{module_changed}
 use Rattle.std.specs.Prelude.{not}
 use Rattle.ultra_msg.specs.declared.ReplyMessage.{ReplyMessage}
@@ -10,7 +10,7 @@ use Rattle.ultra_model.specs.Phases.{without_reply}
 use Rattle.ultra_units.specs.Set.{has_unit}
 use Rattle.ultra_units.specs.Numbers.{place_number, switch_number}
 use Rattle.ultra_halves.specs.Halves.{where_room}
-use Rattle.ultra_links.specs.Links.{put_on}
+use Rattle.ultra_units.specs.Links.{put_on}
 use Rattle.ultra_section.specs.RepliesSent.{reply_sent_by}
 use Rattle.ultra_section.proofs.Entries.{module_entry, module_inside, module_passed, module_worked, modules_kept, put_back}
 use Rattle.ultra_section.proofs.block.Block.send_reply_of_module.Goals as goal

@@ -6,11 +6,11 @@ use Rattle.ultra_units.specs.Numbers.{place_number}
 use Rattle.ultra_halves.specs.declared.elements.ProcessingElement.{ProcessingElement}
 use Rattle.ultra_halves.specs.Elements.{element_without}
 use Rattle.ultra_section.specs.BlockState.{BlockState}
-use Rattle.ultra_links.specs.Marks.{RepliesAreKnown, RequestsAreKnown}
-use Rattle.ultra_links.specs.Links.{put_on}
+use Rattle.ultra_units.specs.Marks.{RepliesAreKnown, RequestsAreKnown}
+use Rattle.ultra_units.specs.Links.{put_on}
 use Rattle.ultra_section.specs.RequestsSent.{request_sent_by}
-use Rattle.ultra_links.specs.Ways.{has_way_from_element}
-use Rattle.ultra_links.specs.Units.{IsElement}
+use Rattle.ultra_units.specs.Ways.{has_way_from_element}
+use Rattle.ultra_units.specs.Units.{IsElement}
 use Rattle.ultra_section.proofs.Entries.{element_entry, element_inside, element_passed, element_worked, elements_kept, put_back, put_back_some}
 use Rattle.ultra_section.proofs.Known.{element_changed}
 use Rattle.ultra_section.proofs.block.Block.send_request_of_element.Goals as goal

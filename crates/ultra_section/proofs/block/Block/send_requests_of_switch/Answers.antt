@@ -1,13 +1,13 @@
 use Rattle.std.proofs.Common.{sym, ap, subst, ◌≡◌, ℕ, List, Option, Some, set, refl, ◌∙◌}
 use Rattle.ultra_halves.specs.Switches.{has_reply_room, holds_replies, keeps_records, request_heads, requests_leaving, without_requests}
 use Rattle.ultra_section.specs.BlockState.{BlockState}
-use Rattle.ultra_links.specs.Marks.{RepliesAreKnown, RequestsAreKnown}
+use Rattle.ultra_units.specs.Marks.{RepliesAreKnown, RequestsAreKnown}
 use Rattle.ultra_section.proofs.Known.{switch_requests_changed}
 use Rattle.ultra_msg.specs.declared.Request.{Request}
 use Rattle.ultra_switch.specs.declared.Ports.{Ports}
 use Rattle.ultra_switch.specs.declared.Switch.{Switch}
 use Rattle.ultra_section.specs.RequestsSent.{requests_sent_by}
-use Rattle.ultra_links.specs.Ways.{request_ways, requests_put}
+use Rattle.ultra_units.specs.Ways.{request_ways, requests_put}
 use Rattle.ultra_section.proofs.Entries.{put_back, switches_kept, switch_entry, switch_inside, switch_passed, switch_worked}
 use Rattle.ultra_section.proofs.block.Block.send_requests_of_switch.Goals as goal
 

@@ -1,6 +1,6 @@
 use Rattle.std.proofs.Common.{refl, sym, subst, arith, ◌≡◌, ℕ, List, [], ◌∷◌, ◌++◌, Some, set, ◌∙◌, ap}
 use Rattle.ultra_section.specs.BlockState.{BlockState}
-use Rattle.ultra_links.specs.Units.{IsModule}
+use Rattle.ultra_units.specs.Units.{IsModule}
 use Rattle.ultra_section.proofs.Known.{module_changed, units_changed}
 use Rattle.ultra_msg.specs.declared.Event.{Event}
 use Rattle.ultra_mem.specs.Serve.{Bank, serve, served}

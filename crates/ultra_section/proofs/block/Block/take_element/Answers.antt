@@ -3,7 +3,7 @@ use Rattle.ultra_units.specs.Numbers.{element_number}
 use Rattle.ultra_section.specs.BlockState.{BlockState}
 use Rattle.ultra_section.specs.Sets.{facts_at, KnowsElement}
 use Rattle.ultra_section.proofs.Known.{AgreeBut, element_known}
-use Rattle.ultra_links.proofs.Renewed.{replies_anew, requests_beside}
+use Rattle.ultra_units.proofs.Renewed.{replies_anew, requests_beside}
 use Rattle.ultra_section.proofs.Moved.{others_here, unit_moved, element_gone}
 use Rattle.ultra_section.proofs.block.Block.take_element.Goals as goal
 

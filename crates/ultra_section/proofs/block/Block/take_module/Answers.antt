@@ -3,7 +3,7 @@ use Rattle.ultra_units.specs.Numbers.{module_number}
 use Rattle.ultra_section.specs.BlockState.{BlockState}
 use Rattle.ultra_section.specs.Sets.{facts_at, KnowsModule}
 use Rattle.ultra_section.proofs.Known.{AgreeBut, module_known}
-use Rattle.ultra_links.proofs.Renewed.{replies_beside, requests_anew}
+use Rattle.ultra_units.proofs.Renewed.{replies_beside, requests_anew}
 use Rattle.ultra_section.proofs.Moved.{others_here, unit_moved, module_gone}
 use Rattle.ultra_section.proofs.block.Block.take_module.Goals as goal
 

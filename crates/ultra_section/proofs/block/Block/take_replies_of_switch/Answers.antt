@@ -1,7 +1,7 @@
 use Rattle.std.proofs.Common.{◌∙◌, sym, ap, subst, ◌≡◌, ℕ, List, Option, Some, set, refl}
 use Rattle.ultra_halves.specs.Switches.{has_request_room, holds_requests, keeps_records, after_replies}
 use Rattle.ultra_section.specs.BlockState.{BlockState}
-use Rattle.ultra_links.specs.Marks.{RepliesAreKnown, RequestsAreKnown, on_both, reply_links, without_both}
+use Rattle.ultra_units.specs.Marks.{RepliesAreKnown, RequestsAreKnown, on_both, reply_links, without_both}
 use Rattle.ultra_section.specs.RepliesTaken.{SwitchCanTakeReplies, replies_taken_by}
 use Rattle.ultra_section.proofs.Known.{switch_replies_taken, switch_was, stands}
 use Rattle.ultra_section.proofs.Records.{keeps_none}

@@ -4,13 +4,13 @@ use Rattle.ultra_halves.specs.Elements.{holds_request, delivered_to}
 use Rattle.ultra_halves.specs.declared.elements.ProcessingElement.{ProcessingElement}
 use Rattle.ultra_section.specs.BlockState.{BlockState}
 use Rattle.ultra_section.specs.RepliesTaken.{ElementCanTakeReply, reply_taken_by}
-use Rattle.ultra_links.specs.Units.{IsElement}
+use Rattle.ultra_units.specs.Units.{IsElement}
 use Rattle.ultra_section.proofs.Known.{element_same, stands}
 use Rattle.ultra_msg.specs.declared.Event.{Event}
 use Rattle.ultra_msg.specs.declared.ReplyMessage.{ReplyMessage}
 use Rattle.ultra_model.specs.Places.{present}
 use Rattle.ultra_model.specs.Phases.{delivery}
-use Rattle.ultra_links.specs.Marks.{delivery_link, on_link}
+use Rattle.ultra_units.specs.Marks.{delivery_link, on_link}
 use Rattle.ultra_section.proofs.Entries.{element_entry, element_inside, element_passed, element_worked, elements_kept, none_more, one_more, put_back}
 use Rattle.ultra_section.proofs.block.Block.take_reply_of_element.Goals as goal
 

@@ -1,8 +1,8 @@
 use Rattle.std.proofs.Common.{sym, subst, ◌∙◌, arith, ◌≡◌, ℕ, ◌^◌, List, Option, Some, None, set, ap, refl}
 use Rattle.ultra_section.specs.BlockState.{BlockState}
-use Rattle.ultra_links.specs.Marks.{RepliesAreKnown, RequestsAreKnown, memory_link, on_link}
+use Rattle.ultra_units.specs.Marks.{RepliesAreKnown, RequestsAreKnown, memory_link, on_link}
 use Rattle.ultra_section.specs.RequestsTaken.{ModuleCanTakeRequest, request_taken_by}
-use Rattle.ultra_links.specs.Units.{IsModule}
+use Rattle.ultra_units.specs.Units.{IsModule}
 use Rattle.ultra_section.proofs.Known.{module_changed, stands}
 use Rattle.ultra_msg.specs.declared.Request.{Request}
 use Rattle.ultra_mem.specs.Serve.{Bank}

@@ -1,7 +1,7 @@
 use Rattle.std.proofs.Common.{◌∙◌, sym, ap, subst, arith, ◌≡◌, ℕ, List, ◌++◌, Option, Some, set, refl}
 use Rattle.ultra_halves.specs.Switches.{has_reply_room, holds_replies, keeps_records, after_requests, combinations_of}
 use Rattle.ultra_section.specs.BlockState.{BlockState}
-use Rattle.ultra_links.specs.Marks.{RepliesAreKnown, RequestsAreKnown, on_both, request_links, without_both}
+use Rattle.ultra_units.specs.Marks.{RepliesAreKnown, RequestsAreKnown, on_both, request_links, without_both}
 use Rattle.ultra_section.specs.RequestsTaken.{SwitchCanTakeRequests, requests_taken_by}
 use Rattle.ultra_section.proofs.Known.{switch_requests_taken, switch_was, stands}
 use Rattle.ultra_section.proofs.Records.{keeps_as_before, none_present}

@@ -3,7 +3,7 @@ use Rattle.ultra_units.specs.Numbers.{switch_count}
 use Rattle.ultra_section.specs.BlockState.{BlockState}
 use Rattle.ultra_section.specs.Sets.{facts_at, KnowsSwitch}
 use Rattle.ultra_section.proofs.Known.{AgreeBut, switch_known}
-use Rattle.ultra_links.proofs.Renewed.{replies_anew, requests_anew}
+use Rattle.ultra_units.proofs.Renewed.{replies_anew, requests_anew}
 use Rattle.ultra_section.proofs.Moved.{others_here, unit_moved, switch_gone}
 use Rattle.ultra_section.proofs.block.Block.take_switch.Goals as goal
 

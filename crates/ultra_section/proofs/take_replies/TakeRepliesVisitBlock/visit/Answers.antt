@@ -1,7 +1,7 @@
 use Rattle.std.proofs.Common.{sym, subst, arith}
 use Rattle.ultra_section.specs.BlockState.{BlockState}
 use Rattle.ultra_section.specs.RepliesTaken.{CanTakeRepliesAt}
-use Rattle.ultra_links.specs.Units.{IsElement}
+use Rattle.ultra_units.specs.Units.{IsElement}
 use Rattle.ultra_section.proofs.RepliesTaken.{later_switch, later_element}
 use Rattle.ultra_section.proofs.take_replies.TakeRepliesVisitBlock.visit.Goals as goal
 

@@ -1,7 +1,7 @@
 use Rattle.std.proofs.Common.{sym, subst, arith}
 use Rattle.ultra_section.specs.BlockState.{BlockState}
 use Rattle.ultra_section.specs.RequestsTaken.{CanTakeRequestsAt}
-use Rattle.ultra_links.specs.Units.{IsModule}
+use Rattle.ultra_units.specs.Units.{IsModule}
 use Rattle.ultra_section.proofs.RequestsTaken.{later_switch, later_module}
 use Rattle.ultra_section.proofs.take_requests.TakeRequestsVisitBlock.visit.Goals as goal
 

@@ -1,2 +1,0 @@
-pub mod Stops
-pub use Rattle.ultra_trace.specs.Trace

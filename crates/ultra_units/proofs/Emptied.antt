@@ -1,0 +1,24 @@
+-- What is on links, after others or they themselves were emptied.
+use Rattle.std.proofs.Common.{◌≡◌, ◌≢◌, ℕ, ◌<◌, List, Option, None, length, set, get_or-set_other, refl, ◌∙◌}
+use Rattle.ultra_switch.specs.declared.Ports.{Ports}
+use Rattle.ultra_units.specs.Marks.{on_link, on_both, without_both}
+use Rattle.ultra_units.proofs.Marks.{emptied_first, emptied_second}
+
+pub pair : {A B : Type 0} (a c : A) (b e : B) → a ≡ c → b ≡ e → ◌≡◌ {A = A × B} (a, b) (c, e)
+pair a c b e p q = rw (p, q) refl
+
+module _ {M : Type 0} (t : List (Option M)) where
+  pub link_apart : (a x : ℕ) → x ≢ a → on_link (set t a None) x ≡ on_link t x
+  link_apart a x other = get_or-set_other t a x None None other
+
+  pub link_apart_both : (p : Ports ℕ) (x : ℕ) → x ≢ p.zero → x ≢ p.one → on_link (without_both t p) x ≡ on_link t x
+  link_apart_both p x zero one = get_or-set_other (set t p.zero None) p.one x None None one ∙ link_apart p.zero x zero
+
+  pub both_apart : (p q : Ports ℕ) → q.zero ≢ p.zero → q.zero ≢ p.one → q.one ≢ p.zero → q.one ≢ p.one → on_both (without_both t p) q ≡ on_both t q
+  both_apart p q a b c d = rw (link_apart_both p q.zero a b, link_apart_both p q.one c d) refl
+
+  pub both_apart_one : (a : ℕ) (q : Ports ℕ) → q.zero ≢ a → q.one ≢ a → on_both (set t a None) q ≡ on_both t q
+  both_apart_one a q zero one = rw (link_apart a q.zero zero, link_apart a q.one one) refl
+
+  pub both_emptied : (p : Ports ℕ) → p.zero < length t → p.one < length t → on_both (without_both t p) p ≡ record { zero = None; one = None }
+  both_emptied p zero one = rw (emptied_first t p.zero p.one zero one, emptied_second t p.zero p.one one) refl

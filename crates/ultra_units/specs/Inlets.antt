@@ -1,0 +1,42 @@
+-- by which links messages come to the unit with a number, and what goes from one table of links to another
+use Rattle.std.specs.Prelude.{◌≡◌, ℕ, List, Option, Some, None, slice_set}
+use Rattle.ultra_switch.specs.declared.Ports.{Ports}
+use Rattle.ultra_units.specs.declared.unit.Unit.TheVariants as unit
+use Rattle.ultra_units.specs.Units.{unit_of}
+use Rattle.ultra_units.specs.Links.{put_on}
+use Rattle.ultra_units.specs.Marks.{on_link, reply_links, delivery_link, request_links, memory_link}
+
+-- one link, which stands at both ports
+abbrev pub at_both : ℕ → Ports ℕ
+at_both link = record { zero = link; one = link }
+
+-- the links by which replies come to the unit with number n, if any can: a processing element has
+-- one, which stands at both ports
+abbrev pub reply_inlets : ℕ → ℕ → Option (Ports ℕ)
+reply_inlets d n = elim (unit_of d n) [
+  | unit.Switch s k ↦ Some (reply_links d s k)
+  | unit.Module m ↦ None
+  | unit.Element p ↦ Some (at_both (delivery_link d p))
+  | unit.Nothing ↦ None
+]
+
+-- the links by which requests come to it: a module has one
+abbrev pub request_inlets : ℕ → ℕ → Option (Ports ℕ)
+request_inlets d n = elim (unit_of d n) [
+  | unit.Switch s k ↦ Some (request_links d s k)
+  | unit.Module m ↦ Some (at_both (memory_link d m))
+  | unit.Element p ↦ None
+  | unit.Nothing ↦ None
+]
+
+-- what is taken from two links, first from the one and then from the other, and put on them
+abbrev pub taken_by_turns : {M : Type 0} → List (Option M) → Ports ℕ → Ports (Option M)
+taken_by_turns table p = record { zero = on_link table p.zero; one = on_link (slice_set table p.zero None) p.one }
+
+abbrev pub put_on_both : {M : Type 0} → List (Option M) → Ports ℕ → Ports (Option M) → List (Option M)
+put_on_both table p o = put_on (put_on table p.zero o.zero) p.one o.one
+
+-- nothing is on the links of a unit
+abbrev pub AreEmpty : {M : Type 0} → List (Option M) → Option (Ports ℕ) → Type 0
+AreEmpty table None = Unit {0}
+AreEmpty table (Some p) = (on_link table p.zero ≡ None) × (on_link table p.one ≡ None)

@@ -1,0 +1,112 @@
+//! Where requests go from a switch or a processing element, and whether they may.
+
+ghost use Rattle.std.specs.Prelude.{◌≡◌, ℕ, ◌-◌, ◌^◌, ◌<◌};
+ghost use Rattle.ultra_units.specs.Numbers.{request_target as target_of_request};
+ghost use Rattle.ultra_units.specs.Ways.{has_request_way as way_of_request, has_room_at as room_at, has_way_from_element as way_from_element, request_targets as targets_of_requests, request_ways};
+
+use crate::numbers::{request_target, switch_number};
+use crate::unit_set::UnitSet;
+use ultra_msg::Request;
+use ultra_route::Net;
+use ultra_switch::Ports;
+
+/// Whether the queue that a request goes to has room, at the switch of a stage with this number. `closed` are, by the memory-side port, the switches whose queue there has no room for requests.
+#[inline(always)]
+fn has_room_at(
+    net: Net,
+    closed: &Ports<UnitSet>,
+    stage: u32,
+    switch: usize,
+    request: Request,
+) -> bool
+    requires { stage < net }
+    ensures { result ≡ room_at closed.now net stage switch request }
+{
+    if net.request_port(stage, request.cell % net.size()) == 0 {
+        !closed.zero.has(switch)
+    } else {
+        !closed.one.has(switch)
+    }
+}
+
+/// The units to which requests go from a switch, by the memory-side port.
+#[inline(always)]
+fn request_targets(net: Net, stage: u32, index: u32) -> Ports<usize>
+    requires stage { stage < net }
+    requires index { index < 2 ^ (net - 1) }
+    ensures value { result ≡ targets_of_requests net stage index }
+    ensures zero { result.zero < 320 }
+    ensures one { result.one < 320 }
+{
+    let _even = net.size();
+    Ports {
+        zero: request_target(net, stage, 2 * index),
+        one: request_target(net, stage, 2 * index + 1),
+    }
+}
+
+/// Whether the first request of a queue may go on from a stage to the unit `target`. In `zero`, `closed` has also the modules whose register holds a request.
+#[inline(always)]
+fn has_request_way(
+    net: Net,
+    closed: &Ports<UnitSet>,
+    stage: u32,
+    target: usize,
+    head: Option<Request>,
+) -> bool
+    requires { stage < net }
+    ensures { (position : ℕ) → target ≡ target_of_request net stage position → result ≡ way_of_request closed.now net stage position head }
+{
+    let Some(request) = head else {
+        return false;
+    };
+    if stage == net.stages() - 1 {
+        !closed.zero.has(target)
+    } else {
+        has_room_at(net, closed, stage + 1, target, request)
+    }
+}
+
+/// The units to which requests go from a switch, and whether its first requests may go on there, by the memory-side port.
+#[inline(always)]
+pub fn find_request_ways(
+    net: Net,
+    closed: &Ports<UnitSet>,
+    stage: u32,
+    index: u32,
+    heads: Ports<Option<Request>>,
+) -> (Ports<usize>, Ports<bool>)
+    requires stage { stage < net }
+    requires index { index < 2 ^ (net - 1) }
+    ensures targets { result.0 ≡ targets_of_requests net stage index }
+    ensures zero { result.0.zero < 320 }
+    ensures one { result.0.one < 320 }
+    ensures ways { result.1 ≡ request_ways closed.now net stage index heads }
+{
+    let targets = request_targets(net, stage, index);
+    let ways = Ports {
+        zero: has_request_way(net, closed, stage, targets.zero, heads.zero),
+        one: has_request_way(net, closed, stage, targets.one, heads.one),
+    };
+    (targets, ways)
+}
+
+/// Whether the first request of a processing element may go on.
+#[inline(always)]
+pub fn has_way_from_element(
+    net: Net,
+    closed: &Ports<UnitSet>,
+    pe: u32,
+    head: Option<Request>,
+) -> bool
+    requires { pe < 2 ^ net }
+    ensures { result ≡ way_from_element closed.now net pe head }
+{
+    let Some(request) = head else {
+        return false;
+    };
+    let _stages = net.stages();
+    let _even = net.size();
+    let switch = switch_number(net, 0, net.shuffle(pe) / 2);
+    has_room_at(net, closed, 0, switch, request)
+}

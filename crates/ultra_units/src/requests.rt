@@ -1,0 +1,98 @@
+//! Requests on the links between units.
+
+ghost use Rattle.std.specs.Prelude.{◌≡◌, ℕ, ◌^◌, ◌<◌, List, None, slice_set};
+ghost use Rattle.ultra_units.specs.Numbers.{place_number as number_of_place, request_target as target_of_request};
+ghost use Rattle.ultra_units.specs.Links.{put_on};
+ghost use Rattle.ultra_units.specs.Marks.{HasAllLinks, RequestsAreKnown, memory_link, on_both, on_link, request_links, without_both};
+ghost use Rattle.ultra_units.specs.Units.{IsModule, IsSwitch};
+
+use crate::links::Links;
+use crate::numbers::{place_number, request_source, switch_number};
+use crate::unit_set::UnitSet;
+use ultra_msg::Request;
+use ultra_route::Net;
+use ultra_switch::Ports;
+
+/// A request, if there is one, leaves a memory-side position of a stage, for the unit `target`. `here` are the units that stand here.
+#[inline(always)]
+pub fn leave_stage(
+    links: &mut Links<Request>,
+    here: &UnitSet,
+    net: Net,
+    stage: u32,
+    position: u32,
+    target: usize,
+    request: Option<Request>,
+)
+    requires stage { stage < net }
+    requires position { position < 2 ^ net }
+    requires target { target ≡ target_of_request net stage position }
+    requires small { target < 320 }
+    requires known { RequestsAreKnown net here.now links.old }
+    ensures table { links.new.table.items ≡ put_on links.old.table.items (number_of_place net stage position) request }
+    ensures known { RequestsAreKnown net here.now links.new }
+{
+    let link = place_number(net, stage, position);
+    links.put(here, link, target, request);
+}
+
+/// A request, if there is one, leaves a processing element.
+#[inline(always)]
+pub fn leave_element(
+    links: &mut Links<Request>,
+    here: &UnitSet,
+    net: Net,
+    pe: u32,
+    request: Option<Request>,
+)
+    requires pe { pe < 2 ^ net }
+    requires known { RequestsAreKnown net here.now links.old }
+    ensures table { links.new.table.items ≡ put_on links.old.table.items (number_of_place net net pe) request }
+    ensures known { RequestsAreKnown net here.now links.new }
+{
+    let _even = net.size();
+    let link = place_number(net, net.stages(), pe);
+    let target = switch_number(net, 0, net.shuffle(pe) / 2);
+    links.put(here, link, target, request);
+}
+
+/// Takes what comes to a switch, by the PE-side port. `number` is the number of the unit.
+#[inline(always)]
+pub fn take_at_switch(
+    links: &mut Links<Request>,
+    net: Net,
+    number: usize,
+    stage: u32,
+    index: u32,
+) -> Ports<Option<Request>>
+    requires switch { IsSwitch net number stage index }
+    requires all { HasAllLinks net links.old }
+    ensures came { result ≡ on_both links.old.table.items (request_links net stage index) }
+    ensures table { links.new.table.items ≡ without_both links.old.table.items (request_links net stage index) }
+    ensures known { (here : List ℕ) → RequestsAreKnown net here links.old → RequestsAreKnown net here links.new }
+{
+    let _even = net.size();
+    let zero = links.take(request_source(net, stage, 2 * index));
+    let one = links.take(request_source(net, stage, 2 * index + 1));
+    links.came.remove(number);
+    Ports { zero, one }
+}
+
+/// Takes what comes to a memory module. `number` is the number of the unit.
+#[inline(always)]
+pub fn take_at_module(
+    links: &mut Links<Request>,
+    net: Net,
+    number: usize,
+    module_number: u32,
+) -> Option<Request>
+    requires target { IsModule net number module_number }
+    requires all { HasAllLinks net links.old }
+    ensures came { result ≡ on_link links.old.table.items (memory_link net module_number) }
+    ensures table { links.new.table.items ≡ slice_set links.old.table.items (memory_link net module_number) None }
+    ensures known { (here : List ℕ) → RequestsAreKnown net here links.old → RequestsAreKnown net here links.new }
+{
+    let request = links.take(place_number(net, net.stages() - 1, module_number));
+    links.came.remove(number);
+    request
+}

@@ -1,0 +1,91 @@
+//! Which unit has a number.
+
+ghost use Rattle.std.specs.Prelude.{◌≡◌, ℕ};
+ghost use Rattle.ultra_units.specs.Units.{IsUnit, unit_of};
+
+use crate::numbers::switch_count;
+use std::marker::Model;
+use ultra_route::Net;
+
+/// A unit of a machine.
+#[derive(Clone, Copy, Drop)]
+pub enum Unit {
+    /// A switch, by its stage and its index there.
+    Switch { stage: u32, index: u32 },
+    /// A memory module, by its number among modules.
+    Module(u32),
+    /// A processing element, by its number among those.
+    Element(u32),
+    /// None has the number.
+    Nothing,
+}
+
+/// Where the numbers of each kind of unit begin: switches come first, then modules, then processing elements.
+#[derive(Drop)]
+pub struct Numbering {
+    net: Net,
+    /// The number of the first module.
+    modules: usize,
+    /// The number of the first processing element.
+    elements: usize,
+    /// How many units there are.
+    units: usize,
+}
+
+impl Model for Numbering {
+    ghost use Rattle.std.specs.Prelude.{ℕ};
+    ghost use Rattle.ultra_units.specs.Units.{IsNumbering};
+
+    ghost Value = { ℕ };
+
+    ghost view = { λ n. n.net };
+
+    ghost invariant = { λ n. IsNumbering n.net n.modules n.elements n.units };
+}
+
+impl Numbering {
+    /// That of a machine with this network.
+    pub fn of(net: Net) -> Numbering
+        ensures { result ≡ net }
+    {
+        let modules = switch_count(net);
+        let size = net.size() as usize;
+        Numbering {
+            net,
+            modules,
+            elements: modules + size,
+            units: modules + 2 * size,
+        }
+    }
+
+    /// The unit with this number.
+    #[inline(always)]
+    pub fn unit(&self, number: usize) -> Unit
+        ensures value { result ≡ unit_of self.now number }
+        ensures is { IsUnit self.now number result }
+    {
+        let _size = self.net.size();
+        if number < self.modules {
+            let high = self.net.stages() - 1;
+            Unit::Switch {
+                stage: (number >> high) as u32,
+                index: (number % (1 << high)) as u32,
+            }
+        } else if number < self.elements {
+            Unit::Module((number - self.modules) as u32)
+        } else if number < self.units {
+            Unit::Element((number - self.elements) as u32)
+        } else {
+            Unit::Nothing
+        }
+    }
+}
+
+/// The unit with this number in a machine with this network.
+#[inline(always)]
+pub(crate) fn unit_of(net: Net, number: usize) -> Unit
+    ensures value { result ≡ unit_of net number }
+    ensures is { IsUnit net number result }
+{
+    Numbering::of(net).unit(number)
+}
