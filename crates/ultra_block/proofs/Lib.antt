@@ -14,3 +14,4 @@ pub mod Carried
 pub mod Listing
 pub mod Parted
 pub use Rattle.ultra_cut.proofs.NothingHeld
+pub mod TurnOfOne

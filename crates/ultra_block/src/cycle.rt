@@ -1,6 +1,7 @@
 //! A cycle of all blocks.
 
-ghost use Rattle.std.specs.Prelude.{◌≡◌, ℕ, ◌+◌, ◌-◌, ◌^◌, ◌<◌};
+ghost use Rattle.std.specs.Prelude.{◌≡◌, ℕ, ◌+◌, ◌-◌, ◌^◌, ◌<◌, ◌∷◌, [], List};
+ghost use Rattle.ultra_model.specs.Machine.{Settings};
 ghost use Rattle.ultra_model.specs.Phases.{cycle as next_cycle};
 ghost use Rattle.ultra_cut.specs.Moments.{AreWhole, machine_in};
 
@@ -23,6 +24,10 @@ pub(crate) fn make_cycle(
     ensures whole { AreWhole config.now partition.now (done + 1) blocks.new }
     ensures state { machine_in config.now partition.now (done + 1) blocks.new ≡ next_cycle config.now program.now (machine_in config.now partition.now done blocks.old) }
 {
+    if let [block] = blocks {
+        make_cycle_of_one(block, program);
+        return;
+    }
     let net = config.net();
     let rooms = note_rooms(blocks);
     make(blocks, Half::SendReplies, &rooms, program);
@@ -34,4 +39,18 @@ pub(crate) fn make_cycle(
     exchange_requests(blocks, partition, net);
     make(blocks, Half::TakeRequests, &rooms, program);
     make(blocks, Half::Execute, &rooms, program);
+}
+
+/// The one block in which a whole machine stands makes a cycle. It knows all rooms, and its messages lead to its own units.
+fn make_cycle_of_one(block: &mut Block, program: &Program)
+    requires { (c : Settings) × (partition : List ℕ) × (n : ℕ) × AreWhole c partition n (block.old ∷ []) × (n < 2 ^ 32 - 1) }
+    ensures { (c : Settings) (partition : List ℕ) (n : ℕ) → AreWhole c partition n (block.old ∷ []) → n < 2 ^ 32 - 1
+        → AreWhole c partition (n + 1) (block.new ∷ []) × (machine_in c partition (n + 1) (block.new ∷ []) ≡ next_cycle c program.now (machine_in c partition n (block.old ∷ []))) }
+{
+    block.send_replies_here();
+    block.take_replies();
+    block.serve();
+    block.send_requests_here();
+    block.take_requests();
+    block.execute(program);
 }

@@ -44,3 +44,4 @@ pub mod Requested
 pub mod CycleEvents
 pub mod Cycle
 pub mod Whole
+pub mod OneBlock

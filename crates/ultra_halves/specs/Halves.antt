@@ -10,6 +10,7 @@ use Rattle.ultra_route.specs.Route.{bit_of}
 use Rattle.ultra_switch.specs.declared.Ports.{Ports}
 use Rattle.ultra_switch.specs.Arrive.{Combination, combine_within}
 use Rattle.ultra_switch.specs.Queues.{SizedLane, SizedReplies}
+use Rattle.ultra_halves.specs.declared.requests.Partner.{Partner}
 use Rattle.ultra_model.specs.Places.{after_leaving}
 use Rattle.ultra_model.specs.Phases.{records_left, replies_made, arrive_all}
 
@@ -91,6 +92,19 @@ combination_by d s k lanes None = None
 combination_by d s k lanes (Some r) = elim (leaves_by d s 0 r) [
   | true ↦ combination_event s (2 * k) r (combine_within lanes.zero.wait_places lanes.zero.lane r)
   | false ↦ combination_event s (2 * k + 1) r (combine_within lanes.one.wait_places lanes.one.lane r)
+]
+
+-- the request with which one has combined, if it has
+abbrev pub partner_in : Request → Option Combination → Option Partner
+partner_in r None = None
+partner_in r (Some c) = Some record { pe = c.old.request.pe; goes_first = (pair_of c.old.request.op r.op).old_first }
+
+-- that of what came to a port of a switch of stage s, in the queue by which it leaves
+abbrev pub partner_of : ℕ → ℕ → Ports SizedLane → Option Request → Option Partner
+partner_of d s lanes None = None
+partner_of d s lanes (Some r) = elim (leaves_by d s 0 r) [
+  | true ↦ partner_in r (combine_within lanes.zero.wait_places lanes.zero.lane r)
+  | false ↦ partner_in r (combine_within lanes.one.wait_places lanes.one.lane r)
 ]
 
 -- whether of two requests the second leaves stage s by port 0, and the first by port 1

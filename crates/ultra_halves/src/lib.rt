@@ -5,9 +5,11 @@
 #![tactic(auto)]
 
 mod elements;
+mod lists;
 pub mod modules;
 mod replies;
 mod requests;
 pub mod switches;
 
 pub use elements::{Outcome, ProcessingElement};
+pub use lists::append;

@@ -18,6 +18,7 @@ pub(crate) fn leave_where(has_room: bool, queue: &mut ToPe) -> Option<ReplyMessa
 }
 
 /// Puts a reply into the queue by which it leaves the stage.
+#[inline(always)]
 fn put_reply(to_pe: &mut Ports<ToPe>, net: Net, stage: u32, reply: ReplyMessage)
     requires stage { stage < net }
     requires zero { length to_pe.old.zero.replies < to_pe.old.zero.places }

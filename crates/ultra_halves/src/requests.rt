@@ -1,14 +1,16 @@
 //! Requests on their way through a switch.
 
-ghost use Rattle.std.specs.Prelude.{◌≡◌, ℕ, ◌+◌, ◌-◌, ◌*◌, ◌%◌, ◌^◌, ◌<◌, ◌≤◌, ◌∷◌, [], None, IsTrue, length, slice_get};
+ghost use Rattle.std.specs.Prelude.{◌≡◌, ℕ, ◌+◌, ◌-◌, ◌%◌, ◌^◌, ◌<◌, ◌≤◌, ◌++◌, ◌∷◌, [], IsTrue, length, slice_get, vec_capacity};
 ghost use Rattle.std.specs.Option.{ForSome};
 ghost use Rattle.ultra_route.specs.Route.{bit_of};
 ghost use Rattle.ultra_switch.specs.Arrive.{arrive, combine_within};
-ghost use Rattle.ultra_switch.specs.Queues.{request_of};
+ghost use Rattle.ultra_switch.specs.declared.Ports.{Ports};
+ghost use Rattle.ultra_switch.specs.Queues.{SizedLane, request_of};
 ghost use Rattle.ultra_model.specs.Places.{present};
-ghost use Rattle.ultra_halves.specs.Halves.{combination_by, combination_event, coming_to, first_of, in_order, is_turned, lane_with, lane_without, leaves_by, second_of, where_room};
+ghost use Rattle.ultra_halves.specs.Halves.{combination_by, coming_to, first_of, in_order, is_turned, lane_with, lane_without, leaves_by, partner_in, partner_of, second_of, where_room};
 
-use ultra_msg::{Event, Request};
+use crate::lists::append;
+use ultra_msg::{Event, Pe, Request};
 use ultra_route::Net;
 use ultra_switch::{Arrived, Ports, ToMm};
 
@@ -26,58 +28,124 @@ fn exit(net: Net, stage: u32, request: Request) -> u32
     ensures value { result ≡ bit_of (net - 1 - stage) (request.cell % 2 ^ net) }
     ensures small { result < 2 }
 {
-    net.request_port(stage, request.cell % net.size())
+    net.request_port(stage, request.cell)
 }
 
-/// A request comes to a queue toward memory, at this position of a stage: it combines, or it goes to the end. Its combination, if there is one.
+/// The request with which one has combined.
+#[derive(Clone, Copy, Drop)]
+pub(crate) struct Partner {
+    /// The processing element that issued it.
+    pub(crate) pe: Pe,
+    /// Whether it goes first in the pair.
+    pub(crate) goes_first: bool,
+}
+
+/// A request comes to a queue toward memory: it combines, or it goes to the end. Its partner, if there is one.
 #[inline(always)]
-fn arrive(to_mm: &mut ToMm, stage: u32, position: u32, request: Request) -> Option<Event>
+fn arrive(to_mm: &mut ToMm, request: Request) -> Option<Partner>
     requires { length to_mm.old.lane.queue < to_mm.old.request_places }
     ensures lane { to_mm.new ≡ lane_with to_mm.old (request ∷ []) }
     ensures longer { length to_mm.new.lane.queue ≤ length to_mm.old.lane.queue + 1 }
-    ensures combined { result ≡ combination_event stage position request (combine_within to_mm.old.wait_places to_mm.old.lane request) }
+    ensures partner { result ≡ partner_in request (combine_within to_mm.old.wait_places to_mm.old.lane request) }
 {
     match to_mm.arrive(request) {
         Arrived::Appended => None,
-        Arrived::CombinedWith(old) => {
+        Arrived::CombinedWith(pe) => {
             let record = to_mm.record(to_mm.record_count() - 1);
-            Some(Event::Combined {
-                stage,
-                position,
-                cell: request.cell,
-                old,
-                new: request.pe,
-                old_first: record.give_old.old_goes_first(),
-            })
+            let goes_first = record.give_old.old_goes_first();
+            Some(Partner { pe, goes_first })
         }
     }
 }
 
-/// What came to a port of the switch goes to the queue by which it leaves the stage. Its combination, if there is one.
+/// What came to a port of the switch goes to the queue by which it leaves the stage. Its partner, if it combines.
 #[inline(always)]
 pub(crate) fn take_request(
     to_mm: &mut Ports<ToMm>,
     net: Net,
     stage: u32,
-    index: u32,
     request: Option<Request>,
-) -> Option<Event>
+) -> Option<Partner>
     requires stage { stage < net }
-    requires index { index < 2 ^ (net - 1) }
     requires room_zero { ForSome request (λ r. IsTrue (leaves_by net stage 0 r) → length to_mm.old.zero.lane.queue < to_mm.old.zero.request_places) }
     requires room_one { ForSome request (λ r. IsTrue (leaves_by net stage 1 r) → length to_mm.old.one.lane.queue < to_mm.old.one.request_places) }
     ensures zero { to_mm.new.zero ≡ lane_with to_mm.old.zero (coming_to net stage 0 request) }
     ensures one { to_mm.new.one ≡ lane_with to_mm.old.one (coming_to net stage 1 request) }
     ensures longer_zero { length to_mm.new.zero.lane.queue ≤ length to_mm.old.zero.lane.queue + 1 }
     ensures longer_one { length to_mm.new.one.lane.queue ≤ length to_mm.old.one.lane.queue + 1 }
-    ensures combined { result ≡ combination_by net stage index to_mm.old request }
+    ensures partner { result ≡ partner_of net stage to_mm.old request }
 {
     let request = request?;
-    let _even = net.size();
     if exit(net, stage, request) == 0 {
-        arrive(&mut to_mm.zero, stage, 2 * index, request)
+        arrive(&mut to_mm.zero, request)
     } else {
-        arrive(&mut to_mm.one, stage, 2 * index + 1, request)
+        arrive(&mut to_mm.one, request)
+    }
+}
+
+/// The combination of what came to a port of a switch with its partner, if it has one.
+fn combination(
+    net: Net,
+    stage: u32,
+    index: u32,
+    request: Option<Request>,
+    partner: Option<Partner>,
+) -> Option<Event>
+    requires stage { stage < net }
+    requires index { index < 2 ^ (net - 1) }
+    ensures { (lanes : Ports SizedLane) → partner ≡ partner_of net stage lanes request → result ≡ combination_by net stage index lanes request }
+{
+    let request = request?;
+    let partner = partner?;
+    let _even = net.size();
+    Some(Event::Combined {
+        stage,
+        position: 2 * index + exit(net, stage, request),
+        cell: request.cell,
+        old: partner.pe,
+        new: request.pe,
+        old_first: partner.goes_first,
+    })
+}
+
+/// Appends the combinations of two requests with their partners: by position, and at one position in the order of the arrivals. `index` is the number of the switch in its stage.
+#[inline(never)]
+pub(crate) fn append_combinations(
+    events: &mut Vec<Event>,
+    net: Net,
+    stage: u32,
+    index: u32,
+    requests: (Option<Request>, Option<Request>),
+    partners: (Option<Partner>, Option<Partner>),
+)
+    requires stage { stage < net }
+    requires index { index < 2 ^ (net - 1) }
+    requires room { length events.old.items + 2 ≤ vec_capacity events.old }
+    ensures entries { (lanes after : Ports SizedLane) → partners.0 ≡ partner_of net stage lanes requests.0 → partners.1 ≡ partner_of net stage after requests.1
+        → events.new.items ≡ events.old.items ++ present (in_order (is_turned net stage requests.0 requests.1) (combination_by net stage index lanes requests.0) (combination_by net stage index after requests.1)) }
+    ensures places { vec_capacity events.old ≤ vec_capacity events.new }
+    ensures few { length events.new.items ≤ length events.old.items + 2 }
+{
+    let first = combination(net, stage, index, requests.0, partners.0);
+    let second = combination(net, stage, index, requests.1, partners.1);
+    if is_turned(net, stage, requests.0, requests.1) {
+        append_some(events, second);
+        append_some(events, first);
+    } else {
+        append_some(events, first);
+        append_some(events, second);
+    }
+}
+
+/// Appends an event, if there is one.
+fn append_some(events: &mut Vec<Event>, event: Option<Event>)
+    requires { length events.old.items < vec_capacity events.old }
+    ensures entries { events.new.items ≡ events.old.items ++ present (event ∷ []) }
+    ensures places { vec_capacity events.old ≤ vec_capacity events.new }
+    ensures few { length events.new.items ≤ length events.old.items + 1 }
+{
+    if let Some(event) = event {
+        append(events, event);
     }
 }
 
@@ -106,36 +174,5 @@ fn is_turned(net: Net, stage: u32, first: Option<Request>, second: Option<Reques
             exit(net, stage, first) == 1 && exit(net, stage, second) == 0
         }
         _ => false,
-    }
-}
-
-/// The combinations of two requests, if there are any, in the order of their positions. Where there is only one, it comes first.
-#[inline(always)]
-pub(crate) fn in_order(
-    net: Net,
-    stage: u32,
-    requests: (Option<Request>, Option<Request>),
-    first: Option<Event>,
-    second: Option<Event>,
-) -> Ports<Option<Event>>
-    requires { stage < net }
-    ensures list { present (result.zero ∷ result.one ∷ []) ≡ present (in_order (is_turned net stage requests.0 requests.1) first second) }
-    ensures front { result.zero ≡ None → result.one ≡ None }
-{
-    if second.is_none() {
-        Ports {
-            zero: first,
-            one: None,
-        }
-    } else if first.is_none() || is_turned(net, stage, requests.0, requests.1) {
-        Ports {
-            zero: second,
-            one: first,
-        }
-    } else {
-        Ports {
-            zero: first,
-            one: second,
-        }
     }
 }

@@ -1,11 +1,10 @@
 //! What the halves of a cycle do to a switch.
 
-ghost use Rattle.std.specs.Prelude.{◌≡◌, ℕ, ◌-◌, ◌^◌, ◌<◌, ◌∷◌, [], None};
-ghost use Rattle.ultra_model.specs.Places.{present};
+ghost use Rattle.std.specs.Prelude.{◌≡◌, ℕ, ◌+◌, ◌-◌, ◌^◌, ◌<◌, ◌≤◌, ◌++◌, [], false, length, vec_capacity};
 ghost use Rattle.ultra_halves.specs.Switches.{CanTakeReplies, CanTakeRequests, after_replies, after_requests, combinations_of, has_reply_room, has_request_room, holds_replies, holds_requests, keeps_records, quiet_switch, replies_leaving, request_heads, requests_leaving, without_replies, without_requests};
 
 use crate::replies::{self, take_reply};
-use crate::requests::{self, in_order, in_turn, take_request};
+use crate::requests::{self, append_combinations, in_turn, take_request};
 use ultra_msg::{Event, ReplyMessage, Request};
 use ultra_route::Net;
 use ultra_switch::{Ports, Switch};
@@ -59,7 +58,8 @@ pub fn send_requests(switch: &mut Switch, goes: Ports<bool>) -> Ports<Option<Req
 
 /// The requests that came, by the PE-side port, go to the queues by which they leave this stage, in the order of this cycle: port 0 first in even cycles, port 1 in odd ones. `index` is the number of the switch in its stage. Where a request came, the queue that it goes to has at least 2 free places.
 ///
-/// Gives the combinations: by position, and at one position in the order of the arrivals. Where there is only one, it is in `zero`.
+/// Their combinations are appended to `events`: by position, and at one position in the order of the arrivals. Whether there are any.
+#[inline(always)]
 pub fn take_requests(
     switch: &mut Switch,
     net: Net,
@@ -67,19 +67,27 @@ pub fn take_requests(
     index: u32,
     cycle: u32,
     came: Ports<Option<Request>>,
-) -> Ports<Option<Event>>
+    events: &mut Vec<Event>,
+) -> bool
     requires stage { stage < net }
     requires index { index < 2 ^ (net - 1) }
     requires room { CanTakeRequests net stage switch.old came }
+    requires event_room { length events.old.items + 2 ≤ vec_capacity events.old }
     ensures queues { switch.new ≡ after_requests net stage cycle switch.old came }
-    ensures combined { present (result.zero ∷ result.one ∷ []) ≡ combinations_of net stage index cycle switch.old came }
-    ensures front { result.zero ≡ None → result.one ≡ None }
+    ensures events { events.new.items ≡ events.old.items ++ combinations_of net stage index cycle switch.old came }
+    ensures places { vec_capacity events.old ≤ vec_capacity events.new }
+    ensures few { length events.new.items ≤ length events.old.items + 2 }
+    ensures none { result ≡ false → combinations_of net stage index cycle switch.old came ≡ [] }
 {
-    let (first, second) = in_turn(cycle, came);
+    let requests = in_turn(cycle, came);
     let to_mm = &mut switch.to_mm;
-    let of_first = take_request(to_mm, net, stage, index, first);
-    let of_second = take_request(to_mm, net, stage, index, second);
-    in_order(net, stage, (first, second), of_first, of_second)
+    let of_first = take_request(to_mm, net, stage, requests.0);
+    let of_second = take_request(to_mm, net, stage, requests.1);
+    let has_combined = of_first.is_some() || of_second.is_some();
+    if has_combined {
+        append_combinations(events, net, stage, index, requests, (of_first, of_second));
+    }
+    has_combined
 }
 
 /// Whether a reply stands in one of the queues toward the processing elements.

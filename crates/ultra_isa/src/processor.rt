@@ -55,6 +55,9 @@ impl Instr {
     fn is_blocked(&self, interface: &Pni) -> bool
         ensures { result ≡ names_awaited self.now interface.now.interface }
     {
+        if interface.awaits_none() {
+            return false;
+        }
         match *self {
             Instr::Jump(_) | Instr::Fence | Instr::Halt => false,
             Instr::Set(d, _) | Instr::Number(d) | Instr::Size(d) => interface.awaits(d),

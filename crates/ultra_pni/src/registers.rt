@@ -1,6 +1,6 @@
 //! Sets of registers.
 
-ghost use Rattle.std.specs.Prelude.{◌≡◌, ℕ, ◌<◌, ◌==◌, ◌||◌, false};
+ghost use Rattle.std.specs.Prelude.{◌≡◌, ℕ, ◌<◌, ◌==◌, ◌||◌, true, false};
 ghost use Rattle.ultra_pni.specs.Interface.{goes_to, is_awaited};
 ghost use Rattle.ultra_pni.specs.Registers.{has_register};
 
@@ -40,6 +40,14 @@ impl Registers {
         ensures { result ≡ has_register self register }
     {
         (self.word >> register.index()) % 2 == 1
+    }
+
+    /// Whether there is none.
+    #[inline(always)]
+    pub(crate) fn is_empty(self) -> bool
+        ensures { result ≡ true → (r : ℕ) → has_register self r ≡ false }
+    {
+        self.word == 0
     }
 
     /// These, and the register `target`, if there is one.

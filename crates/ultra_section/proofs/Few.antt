@@ -1,18 +1,9 @@
 -- In each half a unit has at most two events, so there is memory for all events of a cycle.
-use Rattle.std.proofs.Common.{◌≡◌, ℕ, zero, suc, ◌+◌, ◌*◌, ◌<◌, ◌≤◌, List, [], ◌∷◌, ◌++◌, Bool, true, false, Option, Some, None, length, length-append, sym, ap, subst, arith}
-use Rattle.ultra_msg.specs.declared.Event.{Event}
+use Rattle.std.proofs.Common.{◌≡◌, ℕ, zero, suc, ◌+◌, ◌*◌, ◌≤◌, List, [], ◌∷◌, Bool, true, false, Option, Some, None, length, length-append, subst, arith}
 use Rattle.ultra_msg.specs.declared.Request.{Request}
-use Rattle.ultra_msg.specs.declared.ReplyMessage.{ReplyMessage}
-use Rattle.ultra_mem.specs.declared.Served.{Served}
-use Rattle.ultra_mem.specs.Serve.{Bank, served}
 use Rattle.ultra_switch.specs.declared.Switch.{Switch}
 use Rattle.ultra_switch.specs.declared.Ports.{Ports}
-use Rattle.ultra_model.specs.Machine.{Element}
 use Rattle.ultra_model.specs.Places.{present}
-use Rattle.ultra_model.specs.Phases.{serving, delivery, issue_event}
-use Rattle.ultra_isa.specs.declared.Instr.{Instr}
-use Rattle.ultra_halves.specs.declared.elements.ProcessingElement.{ProcessingElement}
-use Rattle.ultra_halves.specs.Elements.{element_of, step_at}
 use Rattle.ultra_halves.specs.Halves.{in_order, first_of, second_of}
 use Rattle.ultra_halves.specs.Switches.{combinations_of}
 use Rattle.ultra_halves.proofs.Combinations.{combined}

@@ -26,3 +26,4 @@ pub mod RequestsTaken
 pub mod RepliesAway
 pub mod RequestsAway
 pub mod Holding
+pub mod OwnRooms

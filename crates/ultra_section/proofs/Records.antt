@@ -1,15 +1,12 @@
 -- When the wait buffers of a switch keep records as before.
 use Rattle.std.proofs.Common.{◌≡◌, ℕ, ◌+◌, ◌*◌, List, [], ◌∷◌, ◌++◌, true, false, Option, Some, None, length, refl, ◌∙◌, arith}
-use Rattle.std.specs.Prelude.{is_some}
 use Rattle.std.proofs.lemmas.Bool.{eqb-true}
 use Rattle.ultra_msg.specs.declared.Request.{Request}
 use Rattle.ultra_msg.specs.declared.ReplyMessage.{ReplyMessage}
-use Rattle.ultra_msg.specs.declared.Event.{Event}
 use Rattle.ultra_switch.specs.declared.Ports.{Ports}
 use Rattle.ultra_switch.specs.declared.Switch.{Switch}
 use Rattle.ultra_switch.specs.declared.WaitRecord.{WaitRecord}
 use Rattle.ultra_switch.specs.Arrive.{Lane, Combination, after_arrival, arrive, combine_within}
-use Rattle.ultra_model.specs.Places.{present}
 use Rattle.ultra_model.specs.Phases.{arrive_all, combination, combinations, records_left}
 use Rattle.ultra_halves.specs.Halves.{arrivals, has_none}
 use Rattle.ultra_halves.specs.Switches.{after_replies, after_requests, combinations_of, keeps_records}
@@ -48,8 +45,3 @@ keeps_as_before d s k n w came h =
     let zero = none_combined w.to_mm.zero.wait_places s (2 * k) w.to_mm.zero.lane (arrivals d s 0 n came) parts.0 in
     let one = none_combined w.to_mm.one.wait_places s (2 * k + 1) w.to_mm.one.lane (arrivals d s 1 n came) parts.1 in
     rw (zero, one) refl
-
--- what is at hand of two events where the first isn't there
-pub none_present : (a b : Option Event) → is_some a ≡ false → (a ≡ None → b ≡ None) → present (a ∷ b ∷ []) ≡ []
-none_present None b h front = rw (front refl) refl
-none_present (Some e) b h front = cc

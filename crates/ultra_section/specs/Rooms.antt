@@ -1,5 +1,5 @@
 -- what blocks note of their rooms
-use Rattle.std.specs.Prelude.{◌≡◌, ℕ, ◌^◌, ◌<◌, not, ◌||◌, is_some}
+use Rattle.std.specs.Prelude.{◌≡◌, ℕ, ◌^◌, ◌<◌, not, ◌||◌, is_some, replicate}
 use Rattle.ultra_units.specs.Set.{has_unit}
 use Rattle.ultra_units.specs.Numbers.{switch_count, module_number}
 use Rattle.ultra_halves.specs.Switches.{has_reply_room, has_request_room}
@@ -18,3 +18,11 @@ pub record HasNoted (b : BlockState) (old now : Rooms) : Type 0 where
   pub modules : (m : ℕ) → m < 2 ^ b.stages
       → has_unit now.no_request_room.zero (module_number b.stages m)
       ≡ (has_unit old.no_request_room.zero (module_number b.stages m) || if_here (λ bank. is_some bank.inp) (module_at b.modules m))
+
+-- there is room everywhere
+abbrev pub all_open : Rooms
+all_open = record { no_reply_room = replicate 5 0; no_request_room = record { zero = replicate 5 0; one = replicate 5 0 } }
+
+-- the rooms as a block notes them that is the first to do so
+abbrev pub AreOwnRooms : BlockState → Rooms → Type 0
+AreOwnRooms b rooms = HasNoted b all_open rooms

@@ -1,6 +1,6 @@
 //! Blocks: some of the units of a machine.
 
-ghost use Rattle.std.specs.Prelude.{◌≡◌, ◌<◌, ◌≤◌, ◌++◌, ◌∷◌, [], length, vec_capacity};
+ghost use Rattle.std.specs.Prelude.{◌≡◌};
 ghost use Rattle.ultra_units.specs.Units.{IsUnit, unit_of};
 
 use crate::sets::Sets;
@@ -67,14 +67,4 @@ impl Block {
     {
         self.numbering.unit(number)
     }
-}
-
-/// Adds an entry at the end of a list that has memory for it.
-#[inline(always)]
-pub(crate) fn append<T: Drop>(list: &mut Vec<T>, entry: T)
-    requires { length list.old.items < vec_capacity list.old }
-    ensures entries { list.new.items ≡ list.old.items ++ entry ∷ [] }
-    ensures places { vec_capacity list.old ≤ vec_capacity list.new }
-{
-    let _pushed = list.push(entry);
 }

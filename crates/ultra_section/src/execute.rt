@@ -6,8 +6,8 @@ ghost use Rattle.ultra_section.specs.BlockState.{most_events, most_stops};
 ghost use Rattle.ultra_section.specs.Execution.{CanExecuteAt, ElementCanExecute, counted, element_executes, executes};
 ghost use Rattle.ultra_units.specs.Units.{IsElement};
 
-use crate::block::{Block, append};
-use ultra_halves::Outcome;
+use crate::block::Block;
+use ultra_halves::{Outcome, append};
 use ultra_isa::Program;
 use ultra_units::{Unit, UnitSet, Visit, visit_all};
 

@@ -3,6 +3,8 @@
 ghost use Rattle.std.specs.Prelude.{◌≡◌, ◌-◌, ◌^◌, ◌<◌};
 ghost use Rattle.ultra_halves.specs.Switches.{replies_leaving, without_replies};
 ghost use Rattle.ultra_units.specs.Marks.{RepliesAreKnown};
+ghost use Rattle.ultra_section.specs.Rooms.{AreOwnRooms};
+ghost use Rattle.ultra_section.specs.declared.rooms.Rooms.{Rooms};
 ghost use Rattle.ultra_section.specs.RepliesSent.{begun, module_sends_reply, sends_replies, switch_sends_replies};
 ghost use Rattle.ultra_units.specs.Ways.{replies_put, reply_ways};
 ghost use Rattle.ultra_units.specs.Visits.{after_units};
@@ -108,16 +110,30 @@ impl Visit<Block> for SendReplies<'_> {
 }
 
 impl Block {
+    /// Replies leave the switches and modules, past the switches in `closed`, which have no room for them. What had happened in the cycle before is forgotten.
+    #[inline(always)]
+    fn send_replies_past(&mut self, closed: &UnitSet)
+        ensures { self.new ≡ after_units (sends_replies closed.now) 320 (begun self.old) }
+    {
+        self.events.clear();
+        self.stops.clear();
+        visit_all(&SendReplies { closed }, self);
+    }
+
     /// The first half of a cycle: replies leave the switches and modules for where there is room, onto their links. What had happened in the cycle before is forgotten.
     #[inline(always)]
     pub fn send_replies(&mut self, rooms: &Rooms)
         ensures { self.new ≡ after_units (sends_replies rooms.now.no_reply_room) 320 (begun self.old) }
     {
-        self.events.clear();
-        self.stops.clear();
-        let visit = SendReplies {
-            closed: &rooms.no_reply_room,
-        };
-        visit_all(&visit, self);
+        self.send_replies_past(&rooms.no_reply_room);
+    }
+
+    /// The first half of a cycle in a block in which all units stand: it knows all rooms itself.
+    #[inline(always)]
+    pub fn send_replies_here(&mut self)
+        ensures { (rooms : Rooms) × AreOwnRooms self.old rooms × (self.new ≡ after_units (sends_replies rooms.no_reply_room) 320 (begun self.old)) }
+    {
+        let closed = self.sets.no_reply_room;
+        self.send_replies_past(&closed);
     }
 }

@@ -4,6 +4,8 @@ ghost use Rattle.std.specs.Prelude.{◌≡◌, ◌-◌, ◌^◌, ◌<◌};
 ghost use Rattle.ultra_units.specs.Visits.{after_units};
 ghost use Rattle.ultra_halves.specs.Switches.{request_heads, requests_leaving, without_requests};
 ghost use Rattle.ultra_units.specs.Marks.{RequestsAreKnown};
+ghost use Rattle.ultra_section.specs.Rooms.{AreOwnRooms};
+ghost use Rattle.ultra_section.specs.declared.rooms.Rooms.{Rooms};
 ghost use Rattle.ultra_section.specs.RequestsSent.{element_sends_request, sends_requests, switch_sends_requests};
 ghost use Rattle.ultra_units.specs.Ways.{request_ways, requests_put};
 ghost use Rattle.ultra_units.specs.Units.{IsElement, IsSwitch};
@@ -117,14 +119,28 @@ impl Visit<Block> for SendRequests<'_> {
 }
 
 impl Block {
+    /// Requests leave the switches and processing elements, past the units in `closed`, which have no room for them, by the memory-side port.
+    #[inline(always)]
+    fn send_requests_past(&mut self, closed: &Ports<UnitSet>)
+        ensures { self.new ≡ after_units (sends_requests closed.now) 320 self.old }
+    {
+        visit_all(&SendRequests { closed }, self);
+    }
+
     /// The fourth half of a cycle: requests leave the switches and processing elements for where there is room, onto their links.
     #[inline(always)]
     pub fn send_requests(&mut self, rooms: &Rooms)
         ensures { self.new ≡ after_units (sends_requests rooms.now.no_request_room) 320 self.old }
     {
-        let visit = SendRequests {
-            closed: &rooms.no_request_room,
-        };
-        visit_all(&visit, self);
+        self.send_requests_past(&rooms.no_request_room);
+    }
+
+    /// The fourth half of a cycle in a block in which all units stand: it knows all rooms itself.
+    #[inline(always)]
+    pub fn send_requests_here(&mut self)
+        ensures { (rooms : Rooms) × AreOwnRooms self.old rooms × (self.new ≡ after_units (sends_requests rooms.no_request_room) 320 self.old) }
+    {
+        let closed = self.sets.no_request_room;
+        self.send_requests_past(&closed);
     }
 }

@@ -6,7 +6,8 @@ ghost use Rattle.ultra_section.specs.BlockState.{HasEventRoom, most_events};
 ghost use Rattle.ultra_section.specs.Serving.{module_serves, serves};
 ghost use Rattle.ultra_units.specs.Units.{IsModule};
 
-use crate::block::{Block, append};
+use crate::block::Block;
+use ultra_halves::append;
 use ultra_msg::Event;
 use ultra_units::{Unit, UnitSet, Visit, visit_all};
 

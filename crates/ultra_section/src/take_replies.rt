@@ -8,8 +8,8 @@ ghost use Rattle.ultra_units.specs.Marks.{HasAllLinks, RepliesAreKnown, on_both,
 ghost use Rattle.ultra_section.specs.RepliesTaken.{CanTakeRepliesAt, ElementCanTakeReply, SwitchCanTakeReplies, element_takes_reply, switch_takes_replies, takes_replies};
 ghost use Rattle.ultra_units.specs.Units.{IsElement, IsSwitch};
 
-use crate::block::{Block, append};
-use ultra_halves::switches;
+use crate::block::Block;
+use ultra_halves::{append, switches};
 use ultra_msg::{Event, ReplyMessage};
 use ultra_route::Net;
 use ultra_switch::Switch;

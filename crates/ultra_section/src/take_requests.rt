@@ -1,40 +1,22 @@
 //! The half of a cycle in which requests come to switches and modules.
 
-ghost use Rattle.std.specs.Prelude.{◌≡◌, ℕ, ◌+◌, ◌<◌, ◌≤◌, ◌++◌, ◌∷◌, [], List, None, length, vec_capacity};
+ghost use Rattle.std.specs.Prelude.{◌≡◌, ℕ, ◌+◌, ◌<◌, ◌≤◌, ◌++◌, [], false, List, length, vec_capacity};
 ghost use Rattle.ultra_halves.specs.Switches.{CanTakeRequests, after_requests, combinations_of};
-ghost use Rattle.ultra_model.specs.Places.{present};
 ghost use Rattle.ultra_units.specs.Visits.{after_units};
 ghost use Rattle.ultra_section.specs.BlockState.{most_events};
 ghost use Rattle.ultra_units.specs.Marks.{HasAllLinks, RequestsAreKnown, on_both, request_links, without_both};
 ghost use Rattle.ultra_section.specs.RequestsTaken.{CanTakeRequestsAt, ModuleCanTakeRequest, SwitchCanTakeRequests, module_takes_request, switch_takes_requests, takes_requests};
 ghost use Rattle.ultra_units.specs.Units.{IsModule, IsSwitch};
 
-use crate::block::{Block, append};
+use crate::block::Block;
 use ultra_halves::{modules, switches};
 use ultra_msg::{Event, Request};
 use ultra_route::Net;
-use ultra_switch::{Ports, Switch};
+use ultra_switch::Switch;
 use ultra_units::requests::{take_at_module, take_at_switch};
 use ultra_units::{Links, Unit, UnitSet, Visit, visit_all};
 
-/// Puts two events, if they are there, at the end of the list. Where there is only one, it is in `zero`.
-fn append_both(list: &mut Vec<Event>, events: Ports<Option<Event>>)
-    requires front { events.zero ≡ None → events.one ≡ None }
-    requires room { length list.old.items + 2 ≤ vec_capacity list.old }
-    ensures entries { list.new.items ≡ list.old.items ++ present (events.zero ∷ events.one ∷ []) }
-    ensures places { vec_capacity list.old ≤ vec_capacity list.new }
-    ensures few { length list.new.items ≤ length list.old.items + 2 }
-{
-    let Some(first) = events.zero else {
-        return;
-    };
-    append(list, first);
-    if let Some(second) = events.one {
-        append(list, second);
-    }
-}
-
-/// What comes to a switch goes into its queues, where it may combine. `number` is the number of the unit.
+/// What comes to a switch goes into its queues, where it may combine. `number` is the number of the unit. Combinations are appended to `events`. Whether there are any.
 #[inline(always)]
 fn take_into_switch(
     switch: &mut Switch,
@@ -44,18 +26,22 @@ fn take_into_switch(
     stage: u32,
     index: u32,
     cycle: u32,
-) -> Ports<Option<Event>>
+    events: &mut Vec<Event>,
+) -> bool
     requires is { IsSwitch net number stage index }
     requires all { HasAllLinks net links.old }
     requires room { CanTakeRequests net stage switch.old (on_both links.old.table.items (request_links net stage index)) }
+    requires event_room { length events.old.items + 2 ≤ vec_capacity events.old }
     ensures switch { switch.new ≡ after_requests net stage cycle switch.old (on_both links.old.table.items (request_links net stage index)) }
-    ensures combined { present (result.zero ∷ result.one ∷ []) ≡ combinations_of net stage index cycle switch.old (on_both links.old.table.items (request_links net stage index)) }
-    ensures front { result.zero ≡ None → result.one ≡ None }
+    ensures events { events.new.items ≡ events.old.items ++ combinations_of net stage index cycle switch.old (on_both links.old.table.items (request_links net stage index)) }
+    ensures places { vec_capacity events.old ≤ vec_capacity events.new }
+    ensures few { length events.new.items ≤ length events.old.items + 2 }
+    ensures none { result ≡ false → combinations_of net stage index cycle switch.old (on_both links.old.table.items (request_links net stage index)) ≡ [] }
     ensures table { links.new.table.items ≡ without_both links.old.table.items (request_links net stage index) }
     ensures known { (here : List ℕ) → RequestsAreKnown net here links.old → RequestsAreKnown net here links.new }
 {
     let came = take_at_switch(links, net, number, stage, index);
-    switches::take_requests(switch, net, stage, index, cycle, came)
+    switches::take_requests(switch, net, stage, index, cycle, came, events)
 }
 
 impl Block {
@@ -73,11 +59,11 @@ impl Block {
         let Some(switch) = &mut self.switches[number] else {
             return;
         };
-        let links = &mut self.requests;
-        let combined = take_into_switch(switch, links, net, number, stage, index, cycle);
-        let has_combined = combined.zero.is_some();
+        let (links, events) = (&mut self.requests, &mut self.events);
+        let has_combined = take_into_switch(
+            switch, links, net, number, stage, index, cycle, events,
+        );
         self.sets.note_requests_taken(number, switch, has_combined);
-        append_both(&mut self.events, combined);
     }
 
     /// What comes to a module goes into its register.

@@ -22,7 +22,7 @@ fn has_room_at(
     requires { stage < net }
     ensures { result ≡ room_at closed.now net stage switch request }
 {
-    if net.request_port(stage, request.cell % net.size()) == 0 {
+    if net.request_port(stage, request.cell) == 0 {
         !closed.zero.has(switch)
     } else {
         !closed.one.has(switch)

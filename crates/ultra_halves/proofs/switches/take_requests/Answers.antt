@@ -1,9 +1,11 @@
-use Rattle.std.proofs.Common.{◌∙◌}
+use Rattle.std.proofs.Common.{◌++◌, ◌∙◌, ap}
 use Rattle.ultra_halves.proofs.Combinations.{combined}
 use Rattle.ultra_halves.proofs.switches.take_requests.Goals as goal
 
-pub returns-clause-combined : goal.returns-clause-combined
-returns-clause-combined c =
-    c.in_order.ensures.list
-    ∙ rw (c.take_request-of_second.ensures.combined, c.take_request-of_first.ensures.combined, c.take_request-of_first.ensures.zero, c.take_request-of_first.ensures.one, c.in_turn-first.ensures.first, c.in_turn-first.ensures.second)
-    (combined c.args.stage c.args.index c.args.switch.now.to_mm c.args.net _ _)
+pub returns-then-has_combined-clause-events : goal.returns-then-has_combined-clause-events
+returns-then-has_combined-clause-events c =
+    let first = c.take_request-of_first in
+    let second = c.take_request-of_second in
+    c.append_combinations.ensures.entries c.args.switch.now.to_mm first.new.to_mm first.ensures.partner second.ensures.partner
+    ∙ ap (λ es. c.args.events.now.items ++ es)
+    (rw (first.ensures.zero, first.ensures.one, c.in_turn-requests.ensures.first, c.in_turn-requests.ensures.second) (combined c.args.stage c.args.index c.args.switch.now.to_mm c.args.net _ _))

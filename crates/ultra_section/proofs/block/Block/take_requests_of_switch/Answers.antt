@@ -1,10 +1,10 @@
-use Rattle.std.proofs.Common.{◌∙◌, sym, ap, subst, arith, ◌≡◌, ℕ, List, ◌++◌, Option, Some, set, refl}
+use Rattle.std.proofs.Common.{◌∙◌, sym, ap, subst, arith, ◌≡◌, ◌≤◌, ◌+◌, ℕ, List, ◌++◌, Option, Some, length, set, refl}
 use Rattle.ultra_halves.specs.Switches.{has_reply_room, holds_replies, keeps_records, after_requests, combinations_of}
-use Rattle.ultra_section.specs.BlockState.{BlockState}
+use Rattle.ultra_section.specs.BlockState.{BlockState, most_events}
 use Rattle.ultra_units.specs.Marks.{RepliesAreKnown, RequestsAreKnown, on_both, request_links, without_both}
 use Rattle.ultra_section.specs.RequestsTaken.{SwitchCanTakeRequests, requests_taken_by}
 use Rattle.ultra_section.proofs.Known.{switch_requests_taken, switch_was, stands}
-use Rattle.ultra_section.proofs.Records.{keeps_as_before, none_present}
+use Rattle.ultra_section.proofs.Records.{keeps_as_before}
 use Rattle.ultra_msg.specs.declared.Event.{Event}
 use Rattle.ultra_msg.specs.declared.Request.{Request}
 use Rattle.ultra_switch.specs.declared.Switch.{Switch}
@@ -27,13 +27,16 @@ returns-in_default-clause-value c =
 pub index_mut-requires : goal.index_mut-requires
 index_mut-requires c = switch_entry c.self.view_is c.args.number c.args.stage c.args.index c.self.inside.switches.len c.requires.is c.self.inside.switches.ok.0 c.self.invariant.units.switch_entries
 
-pub take_into_switch-combined-requires : goal.take_into_switch-combined-requires
-take_into_switch-combined-requires c =
+pub take_into_switch-has_combined-requires : goal.take_into_switch-has_combined-requires
+take_into_switch-has_combined-requires c =
     let inside = c.self.inside in
     let can = subst (λ (b : BlockState). SwitchCanTakeRequests c.args.number c.args.stage c.args.index b) (sym c.self.view_is) c.requires.can in
     record {
       is = switch_inside c.self.view_is c.args.number c.args.stage c.args.index c.requires.is;
       all = c.self.invariant.requests.all;
+      event_room =
+          let few = subst (λ (b : BlockState). length b.events + 2 ≤ most_events) (sym c.self.view_is) c.requires.room in
+          omega (arith, few, c.self.invariant.events_fit);
       room =
           can c.in-Some.switch (stands inside.switches.items c.args.number c.index_mut.result.now c.in-Some.switch (switch_within c.self.view_is c.args.number c.args.stage c.args.index c.requires.is c.self.invariant.units.switch_entries)
           c.index_mut.ensures.value c.in-Some.is);
@@ -46,18 +49,14 @@ note_requests_taken-requires c = record {
       let inside = c.self.inside in
       let is = switch_inside c.self.view_is c.args.number c.args.stage c.args.index c.requires.is in
       let was = switch_was inside.net inside.sets inside.sets inside.switches.items inside.modules.items inside.elements.items c.self.invariant.units c.args.number c.index_mut.result.now c.in-Some.switch is.within c.index_mut.ensures.value c.in-Some.is in
-      let combined = c.take_into_switch-combined.ensures in
-      let nothing = sym combined.combined ∙ none_present _ _ (sym c.is_some-has_combined.ensures ∙ none) combined.front in
-      was.keeps_records ∙ sym (ap keeps_records combined.switch ∙ keeps_as_before inside.net c.args.stage c.args.index inside.done c.in-Some.switch _ nothing);
+      let nothing = c.take_into_switch-has_combined.ensures.none none in
+      was.keeps_records ∙ sym (ap keeps_records c.take_into_switch-has_combined.ensures.switch ∙ keeps_as_before inside.net c.args.stage c.args.index inside.done c.in-Some.switch _ nothing);
 }
-
-pub append_both-requires-clause-front : goal.append_both-requires-clause-front
-append_both-requires-clause-front c = c.take_into_switch-combined.ensures.front
 
 pub returns-clause-value : goal.returns-clause-value
 returns-clause-value c =
-    taking_done _ c.args.number c.args.stage c.args.index c.in-Some.switch c.take_into_switch-combined.new.switch _ _ c.take_into_switch-combined.ensures.switch c.take_into_switch-combined.ensures.table
-    (c.append_both.ensures.entries ∙ ap (λ more. c.self.inside.events.items ++ more) c.take_into_switch-combined.ensures.combined)
+    taking_done _ c.args.number c.args.stage c.args.index c.in-Some.switch c.take_into_switch-has_combined.new.switch _ _ c.take_into_switch-has_combined.ensures.switch c.take_into_switch-has_combined.ensures.table
+    c.take_into_switch-has_combined.ensures.events
     ∙ switch_worked c.self.view_is (requests_taken_by c.args.number c.args.stage c.args.index) c.args.number c.args.stage c.args.index c.index_mut.result.now c.in-Some.switch c.requires.is c.self.invariant.units.switch_entries c.index_mut.ensures.value c.in-Some.is
 
 pub invariant_of-self-2 : goal.invariant_of-self-2
@@ -68,11 +67,11 @@ invariant_of-self-2 c =
     record {
       units =
           switch_requests_taken inside.net inside.sets c.note_requests_taken.new.self inside.switches.items inside.modules.items inside.elements.items known.units
-          c.args.number c.index_mut.result.now c.in-Some.switch c.take_into_switch-combined.new.switch is.within c.index_mut.ensures.value c.in-Some.is
-          c.note_requests_taken.ensures.others c.note_requests_taken.ensures.there (ap holds_replies c.take_into_switch-combined.ensures.switch) (ap has_reply_room c.take_into_switch-combined.ensures.switch);
+          c.args.number c.index_mut.result.now c.in-Some.switch c.take_into_switch-has_combined.new.switch is.within c.index_mut.ensures.value c.in-Some.is
+          c.note_requests_taken.ensures.others c.note_requests_taken.ensures.there (ap holds_replies c.take_into_switch-has_combined.ensures.switch) (ap has_reply_room c.take_into_switch-has_combined.ensures.switch);
       replies = subst (λ h. RepliesAreKnown inside.net h inside.replies) (sym c.note_requests_taken.ensures.here) known.replies;
-      requests = subst (λ h. RequestsAreKnown inside.net h c.take_into_switch-combined.new.links) (sym c.note_requests_taken.ensures.here) (c.take_into_switch-combined.ensures.known inside.sets.here known.requests);
-      events_fit = let more = c.append_both.ensures.places in omega (arith, known.events_fit);
+      requests = subst (λ h. RequestsAreKnown inside.net h c.take_into_switch-has_combined.new.links) (sym c.note_requests_taken.ensures.here) (c.take_into_switch-has_combined.ensures.known inside.sets.here known.requests);
+      events_fit = let more = c.take_into_switch-has_combined.ensures.places in omega (arith, known.events_fit);
       stops_fit = known.stops_fit;
       numbers = known.numbers;
     }

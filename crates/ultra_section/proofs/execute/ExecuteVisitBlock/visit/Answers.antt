@@ -1,5 +1,4 @@
 use Rattle.std.proofs.Common.{sym, subst}
-use Rattle.ultra_section.specs.BlockState.{BlockState}
 use Rattle.ultra_section.specs.Execution.{CanExecuteAt}
 use Rattle.ultra_units.specs.Units.{IsElement}
 use Rattle.ultra_section.proofs.Execution.{later_element}

@@ -1,4 +1,4 @@
-use Rattle.std.proofs.Common.{sym, ap, ◌∙◌}
+use Rattle.std.proofs.Common.{ap, ◌∙◌}
 use Rattle.ultra_halves.specs.Switches.{keeps_records}
 use Rattle.ultra_section.specs.Sets.{UnitFacts}
 use Rattle.ultra_section.proofs.sets.Sets.note_requests_taken.Goals as goal

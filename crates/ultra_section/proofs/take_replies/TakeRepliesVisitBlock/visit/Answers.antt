@@ -1,5 +1,4 @@
 use Rattle.std.proofs.Common.{sym, subst, arith}
-use Rattle.ultra_section.specs.BlockState.{BlockState}
 use Rattle.ultra_section.specs.RepliesTaken.{CanTakeRepliesAt}
 use Rattle.ultra_units.specs.Units.{IsElement}
 use Rattle.ultra_section.proofs.RepliesTaken.{later_switch, later_element}

@@ -1,5 +1,4 @@
 use Rattle.std.proofs.Common.{sym, subst, arith}
-use Rattle.ultra_section.specs.BlockState.{BlockState}
 use Rattle.ultra_section.specs.RequestsTaken.{CanTakeRequestsAt}
 use Rattle.ultra_units.specs.Units.{IsModule}
 use Rattle.ultra_section.proofs.RequestsTaken.{later_switch, later_module}
