@@ -7,9 +7,9 @@
 //! |---|---|---|---|
 //! | `here` | exactly those that stand here | `put_switch`, `take_switch` and the like | each half that sends, which notes a message in `came` if its unit stands here, and else in `away` |
 //! | `holds_replies` | exactly the switches and modules that hold a reply | each half that moves replies, and `serve` | `send_replies` |
-//! | `no_reply_room` | exactly the switches without room for replies | each half that moves replies | `rooms` |
+//! | `no_reply_room` | exactly the switches without room for replies | each half that moves replies | `rooms`, `send_replies_here` |
 //! | `holds_requests` | exactly the units that hold a request | each half that moves requests, `serve` and `execute` | `send_requests`, which skips modules |
-//! | `no_request_room` | exactly the switches whose queue at that port has no room for requests, and modules that hold one | each half that moves requests, and `serve` | `rooms` |
+//! | `no_request_room` | exactly the switches whose queue at that port has no room for requests, and modules that hold one | each half that moves requests, and `serve` | `rooms`, `send_requests_here` |
 //! | `to_serve` | exactly the modules that hold a request and no reply | `send_replies`, `serve`, `take_requests` | `serve` |
 //! | `to_step` | exactly the processing elements that haven't stopped | `execute` | `execute` |
 //! | `keeps_records` | exactly the switches that keep a record of a combination | `take_requests` and `take_replies` | `next_holding` |
