@@ -28,7 +28,8 @@ impl Block {
         unit: usize,
         inlets: Ports<usize>,
     ) -> Ports<Option<ReplyMessage>>
-        requires { inlets_of self.old.stages unit ≡ Some inlets }
+        requires links { inlets_of self.old.stages unit ≡ Some inlets }
+        requires small { unit < 320 }
         ensures value { result ≡ taken_by_turns self.old.replies inlets }
         ensures left { self.new ≡ replies_handed_over inlets self.old }
     {

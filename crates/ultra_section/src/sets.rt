@@ -77,6 +77,7 @@ impl Sets {
 
     /// A unit doesn't stand here any more.
     pub(crate) fn leave(&mut self, number: usize)
+        requires { number < 320 }
         ensures there { facts_at self.new number ≡ no_facts }
         ensures others { (k : ℕ) → k ≢ number → facts_at self.new k ≡ facts_at self.old k }
     {

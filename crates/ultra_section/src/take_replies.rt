@@ -27,6 +27,7 @@ fn take_into_switch(
     index: u32,
 )
     requires is { IsSwitch net number stage index }
+    requires small { number < 320 }
     requires all { HasAllLinks net links.old }
     requires room { CanTakeReplies switch.old (on_both links.old.table.items (reply_links net stage index)) }
     ensures switch { switch.new ≡ after_replies net stage switch.old (on_both links.old.table.items (reply_links net stage index)) }
@@ -57,6 +58,7 @@ impl Block {
     fn take_reply_of_element(&mut self, number: usize, pe: u32)
         requires is { IsElement self.old.stages number pe }
         requires open { ElementCanTakeReply pe self.old }
+        requires small { number < 320 }
         requires room { length self.old.events < most_events }
         ensures { self.new ≡ element_takes_reply pe self.old }
     {

@@ -29,6 +29,7 @@ fn take_into_switch(
     events: &mut Vec<Event>,
 ) -> bool
     requires is { IsSwitch net number stage index }
+    requires small { number < 320 }
     requires all { HasAllLinks net links.old }
     requires room { CanTakeRequests net stage switch.old (on_both links.old.table.items (request_links net stage index)) }
     requires event_room { length events.old.items + 2 ≤ vec_capacity events.old }

@@ -86,6 +86,7 @@ impl<M: Copy> Links<M> {
 
     /// Takes what is on the links that lead to a unit elsewhere.
     pub fn hand_over(&mut self, unit: usize, inlets: Ports<usize>) -> Ports<Option<M>>
+        requires unit { unit < 320 }
         requires zero { inlets.zero < length self.old.table.items }
         requires one { inlets.one < length self.old.table.items }
         ensures value { result ≡ taken_by_turns self.old.table.items inlets }

@@ -67,6 +67,7 @@ pub fn take_at_switch(
     index: u32,
 ) -> Ports<Option<ReplyMessage>>
     requires switch { IsSwitch net number stage index }
+    requires small { number < 320 }
     requires all { HasAllLinks net links.old }
     ensures came { result ≡ on_both links.old.table.items (reply_links net stage index) }
     ensures table { links.new.table.items ≡ without_both links.old.table.items (reply_links net stage index) }
@@ -88,6 +89,7 @@ pub fn take_at_element(
     pe: u32,
 ) -> Option<ReplyMessage>
     requires element { IsElement net number pe }
+    requires small { number < 320 }
     requires all { HasAllLinks net links.old }
     ensures came { result ≡ on_link links.old.table.items (delivery_link net pe) }
     ensures table { links.new.table.items ≡ slice_set links.old.table.items (delivery_link net pe) None }

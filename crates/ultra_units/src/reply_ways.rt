@@ -27,6 +27,8 @@ pub fn reply_targets(net: Net, stage: u32, index: u32) -> Ports<usize>
 /// Whether replies may go on from a switch, by the PE-side port, to the units `targets`. `closed` are the switches without room for replies.
 #[inline(always)]
 pub fn find_reply_ways(closed: &UnitSet, stage: u32, targets: Ports<usize>) -> Ports<bool>
+    requires zero { targets.zero < 320 }
+    requires one { targets.one < 320 }
     ensures { (net index : ℕ) → targets ≡ targets_of_replies net stage index → result ≡ reply_ways closed.now net stage index }
 {
     Ports {

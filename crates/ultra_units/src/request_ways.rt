@@ -19,7 +19,8 @@ fn has_room_at(
     switch: usize,
     request: Request,
 ) -> bool
-    requires { stage < net }
+    requires stage { stage < net }
+    requires switch { switch < 320 }
     ensures { result ≡ room_at closed.now net stage switch request }
 {
     if net.request_port(stage, request.cell) == 0 {
@@ -54,7 +55,8 @@ fn has_request_way(
     target: usize,
     head: Option<Request>,
 ) -> bool
-    requires { stage < net }
+    requires stage { stage < net }
+    requires target { target < 320 }
     ensures { (position : ℕ) → target ≡ target_of_request net stage position → result ≡ way_of_request closed.now net stage position head }
 {
     let Some(request) = head else {

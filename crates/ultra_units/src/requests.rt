@@ -66,6 +66,7 @@ pub fn take_at_switch(
     index: u32,
 ) -> Ports<Option<Request>>
     requires switch { IsSwitch net number stage index }
+    requires small { number < 320 }
     requires all { HasAllLinks net links.old }
     ensures came { result ≡ on_both links.old.table.items (request_links net stage index) }
     ensures table { links.new.table.items ≡ without_both links.old.table.items (request_links net stage index) }
@@ -87,6 +88,7 @@ pub fn take_at_module(
     module_number: u32,
 ) -> Option<Request>
     requires target { IsModule net number module_number }
+    requires small { number < 320 }
     requires all { HasAllLinks net links.old }
     ensures came { result ≡ on_link links.old.table.items (memory_link net module_number) }
     ensures table { links.new.table.items ≡ slice_set links.old.table.items (memory_link net module_number) None }

@@ -11,7 +11,7 @@ pub(crate) const UNITS: usize = 320;
 /// How many words of 64 bits that takes.
 const WORDS: usize = 5;
 
-/// A set of units, by their numbers: switches first, then modules, then processing elements. A number from 320 on is never in it.
+/// A set of units, by their numbers, which are below 320: switches first, then modules, then processing elements.
 #[derive(Clone, Copy, Drop)]
 pub struct UnitSet {
     // bit k % 64 of word k / 64 says that unit k is in the set
@@ -48,46 +48,42 @@ impl UnitSet {
     /// Whether the unit of this number is in the set.
     #[inline(always)]
     pub fn has(&self, number: usize) -> bool
+        requires { number < 320 }
         ensures { result ≡ has_unit self.now number }
     {
-        number < UNITS && self.words[number / 64] >> (number % 64) & 1 == 1
+        self.words[number / 64] >> (number % 64) & 1 == 1
     }
 
-    /// Puts the unit of this number into the set, if the number is below 320.
+    /// Puts the unit of this number into the set.
     #[inline(always)]
     pub fn insert(&mut self, number: usize)
+        requires { number < 320 }
         ensures others { (k : ℕ) → k ≢ number → has_unit self.new k ≡ has_unit self.old k }
-        ensures there { number < 320 → has_unit self.new number ≡ true }
-        ensures outside { 320 ≤ number → self.new ≡ self.old }
+        ensures there { has_unit self.new number ≡ true }
     {
-        if number < UNITS {
-            self.words[number / 64] |= 1u64 << (number % 64);
-        }
+        self.words[number / 64] |= 1u64 << (number % 64);
     }
 
     /// Takes the unit of this number out of the set, if it is there.
     #[inline(always)]
     pub fn remove(&mut self, number: usize)
+        requires { number < 320 }
         ensures others { (k : ℕ) → k ≢ number → has_unit self.new k ≡ has_unit self.old k }
         ensures gone { has_unit self.new number ≡ false }
     {
-        if number < UNITS {
-            self.words[number / 64] &= !(1u64 << (number % 64));
-        }
+        self.words[number / 64] &= !(1u64 << (number % 64));
     }
 
-    /// Puts the unit of this number into the set, or takes it out. A number from 320 on is never in it.
+    /// Puts the unit of this number into the set, or takes it out.
     #[inline(always)]
     pub fn note(&mut self, number: usize, is_in: bool)
+        requires { number < 320 }
         ensures others { (k : ℕ) → k ≢ number → has_unit self.new k ≡ has_unit self.old k }
-        ensures there { number < 320 → has_unit self.new number ≡ is_in }
-        ensures only { has_unit self.new number ≡ true → is_in ≡ true }
+        ensures there { has_unit self.new number ≡ is_in }
     {
-        if number < UNITS {
-            let bit = 1u64 << (number % 64);
-            let word = self.words[number / 64];
-            self.words[number / 64] = if is_in { word | bit } else { word & !bit };
-        }
+        let bit = 1u64 << (number % 64);
+        let word = self.words[number / 64];
+        self.words[number / 64] = if is_in { word | bit } else { word & !bit };
     }
 
     /// Puts all units of another set into this one.

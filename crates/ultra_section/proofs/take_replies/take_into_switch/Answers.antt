@@ -3,7 +3,7 @@ use Rattle.ultra_halves.specs.Switches.{CanTakeReplies, after_replies}
 use Rattle.ultra_section.proofs.take_replies.take_into_switch.Goals as goal
 
 pub take_at_switch-came-requires : goal.take_at_switch-came-requires
-take_at_switch-came-requires c = record { switch = c.requires.is; all = c.requires.all }
+take_at_switch-came-requires c = record { switch = c.requires.is; small = c.requires.small; all = c.requires.all }
 
 pub take_replies-requires : goal.take_replies-requires
 take_replies-requires c = record {

@@ -3,7 +3,7 @@ use Rattle.ultra_halves.specs.Switches.{CanTakeRequests, after_requests, combina
 use Rattle.ultra_section.proofs.take_requests.take_into_switch.Goals as goal
 
 pub take_at_switch-came-requires : goal.take_at_switch-came-requires
-take_at_switch-came-requires c = record { switch = c.requires.is; all = c.requires.all }
+take_at_switch-came-requires c = record { switch = c.requires.is; small = c.requires.small; all = c.requires.all }
 
 pub take_requests-requires : goal.take_requests-requires
 take_requests-requires c = record {

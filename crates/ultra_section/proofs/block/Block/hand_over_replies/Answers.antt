@@ -7,20 +7,20 @@ use Rattle.ultra_section.proofs.block.Block.hand_over_replies.Goals as goal
 pub hand_over-requires-clause-zero : goal.hand_over-requires-clause-zero
 hand_over-requires-clause-zero c =
     let inside = c.self.inside in
-    let links = subst (λ (b : BlockState). reply_inlets b.stages c.args.unit ≡ Some c.args.inlets) (sym c.self.view_is) c.requires in
+    let links = subst (λ (b : BlockState). reply_inlets b.stages c.args.unit ≡ Some c.args.inlets) (sym c.self.view_is) c.requires.links in
     subst (λ x. c.args.inlets.zero < x) (sym c.self.invariant.replies.all) (inlets inside.net (omega arith) (omega arith) c.args.unit c.args.inlets links).zero_small
 
 pub hand_over-requires-clause-one : goal.hand_over-requires-clause-one
 hand_over-requires-clause-one c =
     let inside = c.self.inside in
-    let links = subst (λ (b : BlockState). reply_inlets b.stages c.args.unit ≡ Some c.args.inlets) (sym c.self.view_is) c.requires in
+    let links = subst (λ (b : BlockState). reply_inlets b.stages c.args.unit ≡ Some c.args.inlets) (sym c.self.view_is) c.requires.links in
     subst (λ x. c.args.inlets.one < x) (sym c.self.invariant.replies.all) (inlets inside.net (omega arith) (omega arith) c.args.unit c.args.inlets links).one_small
 
 pub invariant_of-self : goal.invariant_of-self
 invariant_of-self c =
     let inside = c.self.inside in
     let known = c.self.invariant in
-    let links = subst (λ (b : BlockState). reply_inlets b.stages c.args.unit ≡ Some c.args.inlets) (sym c.self.view_is) c.requires in
+    let links = subst (λ (b : BlockState). reply_inlets b.stages c.args.unit ≡ Some c.args.inlets) (sym c.self.view_is) c.requires.links in
     record {
       units = known.units;
       replies =

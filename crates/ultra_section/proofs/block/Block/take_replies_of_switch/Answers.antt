@@ -31,6 +31,7 @@ take_into_switch-requires c =
     let can = subst (λ (b : BlockState). SwitchCanTakeReplies c.args.number c.args.stage c.args.index b) (sym c.self.view_is) c.requires.room in
     record {
       is = switch_inside c.self.view_is c.args.number c.args.stage c.args.index c.requires.is;
+      small = c.requires.small;
       all = c.self.invariant.replies.all;
       room =
           can c.in-Some.switch (stands inside.switches.items c.args.number c.index_mut.result.now c.in-Some.switch (switch_within c.self.view_is c.args.number c.args.stage c.args.index c.requires.is c.self.invariant.units.switch_entries)

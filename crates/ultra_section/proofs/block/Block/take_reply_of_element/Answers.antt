@@ -83,4 +83,4 @@ pub index_mut-requires : goal.index_mut-requires
 index_mut-requires c = element_entry c.self.view_is c.args.number c.args.pe c.self.inside.elements.len c.requires.is c.self.inside.elements.ok.0 c.self.invariant.units.element_entries
 
 pub take_at_element-came-requires : goal.take_at_element-came-requires
-take_at_element-came-requires c = record { element = element_inside c.self.view_is c.args.number c.args.pe c.requires.is; all = c.self.invariant.replies.all }
+take_at_element-came-requires c = record { element = element_inside c.self.view_is c.args.number c.args.pe c.requires.is; small = c.requires.small; all = c.self.invariant.replies.all }

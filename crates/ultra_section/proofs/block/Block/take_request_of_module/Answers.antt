@@ -65,7 +65,7 @@ pub index_mut-requires : goal.index_mut-requires
 index_mut-requires c = module_entry c.self.view_is c.args.number c.args.module_number c.self.inside.modules.len c.requires.is c.self.inside.modules.ok.0 c.self.invariant.units.module_entries
 
 pub take_at_module-came-requires : goal.take_at_module-came-requires
-take_at_module-came-requires c = record { target = module_inside c.self.view_is c.args.number c.args.module_number c.requires.is; all = c.self.invariant.requests.all }
+take_at_module-came-requires c = record { target = module_inside c.self.view_is c.args.number c.args.module_number c.requires.is; small = c.requires.small; all = c.self.invariant.requests.all }
 
 pub note_module-requires : goal.note_module-requires
 note_module-requires c = c.requires.small

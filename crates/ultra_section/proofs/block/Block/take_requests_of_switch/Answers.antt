@@ -33,6 +33,7 @@ take_into_switch-has_combined-requires c =
     let can = subst (λ (b : BlockState). SwitchCanTakeRequests c.args.number c.args.stage c.args.index b) (sym c.self.view_is) c.requires.can in
     record {
       is = switch_inside c.self.view_is c.args.number c.args.stage c.args.index c.requires.is;
+      small = c.requires.small;
       all = c.self.invariant.requests.all;
       event_room =
           let few = subst (λ (b : BlockState). length b.events + 2 ≤ most_events) (sym c.self.view_is) c.requires.room in
