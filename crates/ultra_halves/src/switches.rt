@@ -79,13 +79,14 @@ pub fn take_requests(
     ensures few { length events.new.items ≤ length events.old.items + 2 }
     ensures none { result ≡ false → combinations_of net stage index cycle switch.old came ≡ [] }
 {
-    let requests = in_turn(cycle, came);
+    let (first, second) = in_turn(cycle, came);
     let to_mm = &mut switch.to_mm;
-    let of_first = take_request(to_mm, net, stage, requests.0);
-    let of_second = take_request(to_mm, net, stage, requests.1);
+    let of_first = take_request(to_mm, net, stage, first);
+    let of_second = take_request(to_mm, net, stage, second);
     let has_combined = of_first.is_some() || of_second.is_some();
     if has_combined {
-        append_combinations(events, net, stage, index, requests, (of_first, of_second));
+        let (requests, partners) = ((first, second), (of_first, of_second));
+        append_combinations(events, net, stage, index, requests, partners);
     }
     has_combined
 }

@@ -8,4 +8,4 @@ returns-then-has_combined-clause-events c =
     let second = c.take_request-of_second in
     c.append_combinations.ensures.entries c.args.switch.now.to_mm first.new.to_mm first.ensures.partner second.ensures.partner
     ∙ ap (λ es. c.args.events.now.items ++ es)
-    (rw (first.ensures.zero, first.ensures.one, c.in_turn-requests.ensures.first, c.in_turn-requests.ensures.second) (combined c.args.stage c.args.index c.args.switch.now.to_mm c.args.net _ _))
+    (rw (first.ensures.zero, first.ensures.one, c.in_turn-first.ensures.first, c.in_turn-first.ensures.second) (combined c.args.stage c.args.index c.args.switch.now.to_mm c.args.net _ _))
