@@ -1,4 +1,4 @@
-//! The commands `run`, `order`, `list` and `lib`, each of which reads its files, if it has any, and writes one text.
+//! The commands `run`, `order`, `list` and `lib`. Each writes one text.
 #![tactic(auto)]
 
 mod coordination;
