@@ -6,7 +6,7 @@ use Rattle.ultra_msg.specs.Pair.{pair_of, is_fixed}
 use Rattle.ultra_msg.proofs.Pairs.{pair_first}
 use Rattle.ultra_switch.specs.declared.Entry.{Entry}
 use Rattle.ultra_switch.specs.declared.WaitRecord.{WaitRecord}
-use Rattle.ultra_switch.specs.declared.Arrived.TheVariants.{Appended, CombinedWith}
+use Rattle.ultra_switch.specs.declared.Arrived.TheVariants.{CombinedWith}
 use Rattle.ultra_switch.specs.Arrive.{Lane, Combination, entry, behind, can_combine, combine, combine_within, wait_record, after_arrival, arrive, outcome}
 use Rattle.ultra_halves.specs.Halves.{partner_in}
 use Rattle.ultra_model.proofs.Each.{if_tested}
@@ -40,11 +40,6 @@ last_of : {X : Type 0} (xs : List X) (y : X) → slice_get (xs ++ y ∷ []) (len
 last_of xs y =
     let e : length (xs ++ y ∷ []) - 1 ≡ length xs = omega (arith, length-append xs (y ∷ [])) in
     rw e (at_end xs y)
-
--- where a request was appended, it has no partner
-pub no_partner : (r : Request) (o : Option Combination) → outcome o ≡ Appended → None ≡ partner_in r o
-no_partner r None e = refl
-no_partner r (Some c) e = cc
 
 pub partner_kept : (p : ℕ) (r : Request) (l : Lane) (o : Option Combination) (w : WaitRecord) → outcome o ≡ CombinedWith p
     → slice_get (after_arrival l r o).records (length (after_arrival l r o).records - 1) ≡ Some w

@@ -58,7 +58,7 @@ pub fn send_requests(switch: &mut Switch, goes: Ports<bool>) -> Ports<Option<Req
 
 /// The requests that came, by the PE-side port, go to the queues by which they leave this stage, in the order of this cycle: port 0 first in even cycles, port 1 in odd ones. `index` is the number of the switch in its stage. Where a request came, the queue that it goes to has at least 2 free places.
 ///
-/// Their combinations are appended to `events`: by position, and at one position in the order of the arrivals. Whether there are any.
+/// Their combinations are appended to `events`: by position, and at one position in the order of the arrivals. `false` says that there are none.
 #[inline(always)]
 pub fn take_requests(
     switch: &mut Switch,

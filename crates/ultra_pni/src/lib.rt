@@ -150,7 +150,7 @@ impl Pni {
         self.awaited.has(register)
     }
 
-    /// Whether no register is awaited.
+    /// `true` says that no register is awaited.
     #[inline(always)]
     pub fn awaits_none(&self) -> bool
         ensures { result ≡ true → (r : ℕ) → is_awaited r self.now.interface.opened ≡ false }

@@ -42,7 +42,7 @@ impl Registers {
         (self.word >> register.index()) % 2 == 1
     }
 
-    /// Whether there is none.
+    /// `true` says that there is none.
     #[inline(always)]
     pub(crate) fn is_empty(self) -> bool
         ensures { result ≡ true → (r : ℕ) → has_register self r ≡ false }

@@ -16,7 +16,7 @@ use ultra_switch::Switch;
 use ultra_units::requests::{take_at_module, take_at_switch};
 use ultra_units::{Links, Unit, UnitSet, Visit, visit_all};
 
-/// What comes to a switch goes into its queues, where it may combine. `number` is the number of the unit. Combinations are appended to `events`. Whether there are any.
+/// What comes to a switch goes into its queues, where it may combine. `number` is the number of the unit. Combinations are appended to `events`; `false` says that there are none.
 #[inline(always)]
 fn take_into_switch(
     switch: &mut Switch,
