@@ -2,6 +2,7 @@
 use Rattle.std.proofs.Common.{◌≡◌, ℕ, ◌<◌, List, [], ◌∷◌, arith, refl, ap, ◌∙◌, sym, subst, length}
 use Rattle.std.proofs.lemmas.List.{ext_get_or, length-replicate, get_or-replicate}
 use Rattle.ultra_model.specs.declared.Stop.{Stop}
+use Rattle.ultra_isa.specs.declared.Instr.{Instr}
 use Rattle.ultra_model.specs.Machine.{Settings}
 use Rattle.ultra_units.specs.Numbers.{unit_count}
 use Rattle.ultra_section.specs.BlockState.{BlockState}
@@ -32,7 +33,7 @@ module _ (d : ℕ) (b : BlockState) (order : IsInOrder d b) where
       sym (merged_of (λ (s : Stop). s.pe) 64 (λ (x : BlockState). x.stops) (b ∷ []))
       ∙ merged_alone (λ (s : Stop). s.pe) 64 b.stops (is_ranked (λ (s : Stop). s.pe) 64 b.stops order.stops order.elements)
 
-module _ (c : Settings) (partition : List ℕ) (n : ℕ) (bs : List BlockState) (whole : AreWhole c partition n bs) (one : length bs ≡ 1) where
+module _ (c : Settings) (program : List Instr) (partition : List ℕ) (n : ℕ) (bs : List BlockState) (whole : AreWhole c program partition n bs) (one : length bs ≡ 1) where
   pub only : bs ≡ block_at bs 0 ∷ []
   only = only_one bs one
 
@@ -51,5 +52,5 @@ module _ (c : Settings) (partition : List ℕ) (n : ℕ) (bs : List BlockState) 
       let first : home partition i ≡ 0 = omega (arith, at_home) in
       first ∙ sym (get_or-replicate (unit_count c.stages) i 0 0 small))
 
-  pub one_whole : AreWhole c (one_block c.stages) n (block_at bs 0 ∷ [])
-  one_whole = subst (λ p. AreWhole c p n (block_at bs 0 ∷ [])) all_in_one (subst (λ xs. AreWhole c partition n xs) only whole)
+  pub one_whole : AreWhole c program (one_block c.stages) n (block_at bs 0 ∷ [])
+  one_whole = subst (λ p. AreWhole c program p n (block_at bs 0 ∷ [])) all_in_one (subst (λ xs. AreWhole c program partition n xs) only whole)

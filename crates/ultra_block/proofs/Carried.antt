@@ -42,7 +42,7 @@ module _ (d : ℕ) (partition : List ℕ) (b : BlockState) (blocks : ℕ) where
   -- a block without units but for those of a machine of d stages
   pub record IsBare (x : BlockState) : Type 0 where
     pub stages : x.stages ≡ d
-    pub only : HasOnlyUnits d b.done x
+    pub only : HasOnlyUnits d b.program b.done x
 
   pub record AreCarriedBelow (n : ℕ) (left : BlockState) (now : List BlockState) : Type 0 where
     pub stages : left.stages ≡ d
@@ -55,16 +55,16 @@ module _ (d : ℕ) (partition : List ℕ) (b : BlockState) (blocks : ℕ) where
 
   -- ---- at first
   module _ (shape : IsShaped d b) where
-    new_block : (k : ℕ) → k < blocks → block_at (replicate blocks (empty_after d b.done)) k ≡ empty_after d b.done
-    new_block k h = get_or-replicate blocks k (empty_after d b.done) no_block h
+    new_block : (k : ℕ) → k < blocks → block_at (replicate blocks (empty_after d b.program b.done)) k ≡ empty_after d b.program b.done
+    new_block k h = get_or-replicate blocks k (empty_after d b.program b.done) no_block h
 
-    bare_new : IsBare (empty_after d b.done)
-    bare_new = record { stages = refl; only = record { done = refl; replies = refl; requests = refl; story = record { events = refl; stops = refl } } }
+    bare_new : IsBare (empty_after d b.program b.done)
+    bare_new = record { stages = refl; only = record { runs = refl; done = refl; replies = refl; requests = refl; story = record { events = refl; stops = refl } } }
 
-    pub none_carried : AreCarriedBelow 0 b (replicate blocks (empty_after d b.done))
+    pub none_carried : AreCarriedBelow 0 b (replicate blocks (empty_after d b.program b.done))
     none_carried =
-        let new = replicate blocks (empty_after d b.done) in
-        let all = length-replicate blocks (empty_after d b.done) in
+        let new = replicate blocks (empty_after d b.program b.done) in
+        let all = length-replicate blocks (empty_after d b.program b.done) in
         record {
           stages = shape.stages;
           story = record { events = refl; stops = refl };
@@ -94,6 +94,7 @@ module _ (d : ℕ) (partition : List ℕ) (b : BlockState) (blocks : ℕ) where
         record {
           stages = bare.stages;
           only = record {
+            runs = only.runs;
             done = only.done;
             replies = only.replies;
             requests = only.requests;

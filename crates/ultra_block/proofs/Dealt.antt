@@ -3,6 +3,7 @@ use Rattle.std.proofs.Common.{◌≡◌, ℕ, zero, suc, ◌<◌, ◌≤◌, Lis
 use Rattle.std.specs.List.Sorted.{IsNonDecreasing}
 use Rattle.ultra_msg.specs.declared.Event.{Event}
 use Rattle.ultra_model.specs.declared.Stop.{Stop}
+use Rattle.ultra_isa.specs.declared.Instr.{Instr}
 use Rattle.ultra_model.specs.Machine.{Settings, start}
 use Rattle.ultra_model.specs.Sound.{IsSound}
 use Rattle.ultra_section.specs.BlockState.{BlockState}
@@ -55,7 +56,7 @@ unfolding stops_of
 no_stops d b none = sym (merged_of (λ (s : Stop). s.pe) 64 (λ (x : BlockState). x.stops) (b ∷ [])) ∙ merged_none (λ (s : Stop). s.pe) 64 (b.stops ∷ []) (one_empty b.stops none)
 
 -- ---- before the first cycle
-module _ (c : Settings) (b : BlockState) (fresh : IsFresh c b) where
+module _ (c : Settings) (program : List Instr) (b : BlockState) (fresh : IsFresh c program b) where
   abbrev one : List ℕ
   one = one_block c.stages
 
@@ -69,10 +70,11 @@ module _ (c : Settings) (b : BlockState) (fresh : IsFresh c b) where
   only_block P h zero within = h
   only_block P h (suc k) within = absurd (omega arith)
 
-  pub fresh_whole : AreWhole c one 0 (b ∷ [])
+  pub fresh_whole : AreWhole c program one 0 (b ∷ [])
   fresh_whole = record {
     machine = record {
       blocks = fresh.blocks;
+      runs = only_block (λ x. x.program ≡ program) fresh.runs;
       done = only_block (λ x. x.done ≡ 0) fresh.done;
       machine = record { range = fresh.machine.range; fits = fresh.machine.fits; machine = refl; sound = subst (λ m. IsSound c m) (sym fresh_machine) fresh.machine.sound };
     };
@@ -81,7 +83,7 @@ module _ (c : Settings) (b : BlockState) (fresh : IsFresh c b) where
   }
 
 -- ---- dealt to blocks
-module _ (c : Settings) (n : ℕ) (b : BlockState) (was : AreWhole c (one_block c.stages) n (b ∷ [])) (partition : List ℕ) (now : List BlockState) (dealt : IsDealt c.stages partition b now) where
+module _ (c : Settings) (program : List Instr) (n : ℕ) (b : BlockState) (was : AreWhole c program (one_block c.stages) n (b ∷ [])) (partition : List ℕ) (now : List BlockState) (dealt : IsDealt c.stages partition b now) where
   abbrev d : ℕ
   d = c.stages
 
@@ -97,12 +99,13 @@ module _ (c : Settings) (n : ℕ) (b : BlockState) (was : AreWhole c (one_block 
       let silent = dealt.silent (suc k) (omega arith) within in
       lists_nothing d (block_at now (suc k)) silent.events silent.stops
 
-  pub dealt_whole : AreWhole c partition n now
+  pub dealt_whole : AreWhole c program partition n now
   dealt_whole =
       let w = was.machine.machine in
       record {
         machine = record {
           blocks = dealt.blocks;
+          runs = λ k h. dealt.runs k h ∙ was.machine.runs 0 (omega arith);
           done = λ k h. dealt.done k h ∙ was.machine.done 0 (omega arith);
           machine = record {
             range = w.range;

@@ -162,6 +162,7 @@ module _ (d : ℕ) (partition : List ℕ) (b : BlockState) (bs : List BlockState
     few = omega (arith, long);
     last = subst (IsLastNamed partition) (sym long) last;
     frame = alike;
+    runs = λ k h. part (λ (x : BlockState). x.program) refl k ∙ (carried.bare k (omega (arith, long))).runs;
     done = λ k h. part (λ (x : BlockState). x.done) refl k ∙ (carried.bare k (omega (arith, long))).done;
     first = same;
     silent = silent;

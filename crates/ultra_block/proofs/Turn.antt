@@ -15,7 +15,7 @@ use Rattle.ultra_cut.specs.Whole.{AreRoomsOfAll}
 use Rattle.ultra_cut.specs.Moments.{AreWhole, machine_in}
 use Rattle.ultra_cut.proofs.Whole as whole
 
-module _ (c : Settings) (partition : List ℕ) (n : ℕ) (program : List Instr) (bs : List BlockState) (start : AreWhole c partition n bs) (d : ℕ) (net : d ≡ c.stages)
+module _ (c : Settings) (partition : List ℕ) (n : ℕ) (program : List Instr) (bs : List BlockState) (start : AreWhole c program partition n bs) (d : ℕ) (net : d ≡ c.stages)
     (first : BlockRooms) (first_noted : AreRoomsOfAll bs first) (sent : List BlockState) (sent_is : sent ≡ all_made SendReplies first program bs) where
   first_room : AreRooms c.stages (frame_of c.stages partition bs) (noted c.stages first)
   first_room = first_noted c.stages partition start.machine.blocks
@@ -33,12 +33,12 @@ module _ (c : Settings) (partition : List ℕ) (n : ℕ) (program : List Instr) 
     replies_there : AreRepliesThere c.stages partition replies
     replies_there = subst (λ k. AreRepliesThere k partition replies) net there
 
-    pub can_take_replies : AllCanMake TakeReplies replies
+    pub can_take_replies : AllCanMake program TakeReplies replies
     can_take_replies = whole.can_take_replies c partition n program bs start first first_room replies replies_moved replies_there
 
     module _ (taken : List BlockState) (taken_is : taken ≡ all_made TakeReplies first program replies) where
-      pub can_serve : AllCanMake Serve taken
-      can_serve = subst (λ xs. AllCanMake Serve xs) (sym taken_is) (whole.can_serve c partition n program bs start first first_room replies replies_moved replies_there)
+      pub can_serve : AllCanMake program Serve taken
+      can_serve = subst (λ xs. AllCanMake program Serve xs) (sym taken_is) (whole.can_serve c partition n program bs start first first_room replies replies_moved replies_there)
 
       module _ (served : List BlockState) (made : served ≡ all_made Serve first program taken) where
         served_is : served ≡ all_made Serve first program (all_made TakeReplies first program replies)
@@ -69,13 +69,13 @@ module _ (c : Settings) (partition : List ℕ) (n : ℕ) (program : List Instr) 
             requests_there : AreRequestsThere c.stages partition requests
             requests_there = subst (λ k. AreRequestsThere k partition requests) net there_now
 
-            pub can_take_requests : AllCanMake TakeRequests requests
+            pub can_take_requests : AllCanMake program TakeRequests requests
             can_take_requests = whole.can_take_requests c partition n program bs start first first_room replies replies_moved replies_there second second_room requests requests_moved requests_there
 
             module _ (early : n < 2 ^ 32 - 1) (waiting : List BlockState) (waiting_is : waiting ≡ all_made TakeRequests second program requests) where
-              pub can_execute : AllCanMake Execute waiting
+              pub can_execute : AllCanMake program Execute waiting
               can_execute =
-                  subst (λ xs. AllCanMake Execute xs) (sym waiting_is)
+                  subst (λ xs. AllCanMake program Execute xs) (sym waiting_is)
                   (whole.can_execute c partition n program bs start first first_room replies replies_moved replies_there second second_room requests requests_moved requests_there early)
 
               module _ (stepped : List BlockState) (executed : stepped ≡ all_made Execute second program waiting) where
@@ -87,7 +87,7 @@ module _ (c : Settings) (partition : List ℕ) (n : ℕ) (program : List Instr) 
                     subst (λ xs. machine_in c partition (n + 1) xs ≡ cycle c program (machine_in c partition n bs)) (sym stepped_is)
                     (whole.next_machine c partition n program bs start first first_room replies replies_moved replies_there second second_room requests requests_moved requests_there)
 
-                pub next_whole : AreWhole c partition (n + 1) stepped
+                pub next_whole : AreWhole c program partition (n + 1) stepped
                 next_whole =
-                    subst (λ xs. AreWhole c partition (n + 1) xs) (sym stepped_is)
+                    subst (λ xs. AreWhole c program partition (n + 1) xs) (sym stepped_is)
                     (whole.next_whole c partition n program bs start first first_room replies replies_moved replies_there second second_room requests requests_moved requests_there)

@@ -1,5 +1,5 @@
 -- A cycle of one block in which all units stand, as its steps give it, one after the other.
-use Rattle.std.proofs.Common.{◌≡◌, ℕ, ◌+◌, ◌^◌, ◌<◌, List, [], ◌∷◌, ap, arith, refl}
+use Rattle.std.proofs.Common.{◌≡◌, ℕ, ◌+◌, ◌^◌, ◌<◌, List, [], ◌∷◌, length, get_or, set, ap, arith, refl}
 use Rattle.std.specs.Prelude.{◌-◌}
 use Rattle.ultra_isa.specs.declared.Instr.{Instr}
 use Rattle.ultra_model.specs.Machine.{Settings}
@@ -19,10 +19,10 @@ use Rattle.ultra_cut.proofs.OneBlock.{own_are_all, replies_stay, replies_there, 
 use Rattle.ultra_block.proofs.Turn as turn
 
 -- what all blocks can do, the one can
-the_one : (half : Half) (b : BlockState) → AllCanMake half (b ∷ []) → CanMake half b
-the_one half b all = all 0 (omega arith)
+the_one : (program : List Instr) (half : Half) (b : BlockState) → AllCanMake program half (b ∷ []) → CanMake program half b
+the_one program half b all = all 0 (omega arith)
 
-module _ (c : Settings) (partition : List ℕ) (n : ℕ) (program : List Instr) (b : BlockState) (start : AreWhole c partition n (b ∷ []))
+module _ (c : Settings) (partition : List ℕ) (n : ℕ) (program : List Instr) (b : BlockState) (start : AreWhole c program partition n (b ∷ []))
     (first : BlockRooms) (own : AreOwnRooms b first) (sent : BlockState) (sent_is : sent ≡ made SendReplies first program b) where
   first_all : AreRoomsOfAll (b ∷ []) first
   first_all = own_are_all b first own
@@ -36,15 +36,15 @@ module _ (c : Settings) (partition : List ℕ) (n : ℕ) (program : List Instr) 
   there : AreRepliesThere c.stages partition (sent ∷ [])
   there = replies_there c.stages partition sent (turn.sent_cut c partition n program (b ∷ []) start c.stages refl first first_all (sent ∷ []) all_sent)
 
-  pub can_take_replies : CanMake TakeReplies sent
-  can_take_replies = the_one TakeReplies sent (turn.can_take_replies c partition n program (b ∷ []) start c.stages refl first first_all (sent ∷ []) all_sent (sent ∷ []) moved there)
+  pub can_take_replies : CanMake program TakeReplies sent
+  can_take_replies = the_one program TakeReplies sent (turn.can_take_replies c partition n program (b ∷ []) start c.stages refl first first_all (sent ∷ []) all_sent (sent ∷ []) moved there)
 
   module _ (taken : BlockState) (taken_is : taken ≡ made TakeReplies first program sent) where
     all_taken : taken ∷ [] ≡ all_made TakeReplies first program (sent ∷ [])
     all_taken = ap (λ x. x ∷ []) taken_is
 
-    pub can_serve : CanMake Serve taken
-    can_serve = the_one Serve taken (turn.can_serve c partition n program (b ∷ []) start c.stages refl first first_all (sent ∷ []) all_sent (sent ∷ []) moved there (taken ∷ []) all_taken)
+    pub can_serve : CanMake program Serve taken
+    can_serve = the_one program Serve taken (turn.can_serve c partition n program (b ∷ []) start c.stages refl first first_all (sent ∷ []) all_sent (sent ∷ []) moved there (taken ∷ []) all_taken)
 
     module _ (served : BlockState) (served_is : served ≡ made Serve first program taken) (second : BlockRooms) (own_now : AreOwnRooms served second)
         (sent_on : BlockState) (sent_on_is : sent_on ≡ made SendRequests second program served) where
@@ -65,8 +65,8 @@ module _ (c : Settings) (partition : List ℕ) (n : ℕ) (program : List Instr) 
       there_now = requests_there c.stages partition sent_on
           (turn.sent_on_cut c partition n program (b ∷ []) start c.stages refl first first_all (sent ∷ []) all_sent (sent ∷ []) moved there (taken ∷ []) all_taken (served ∷ []) all_served second second_all (sent_on ∷ []) all_sent_on)
 
-      pub can_take_requests : CanMake TakeRequests sent_on
-      can_take_requests = the_one TakeRequests sent_on
+      pub can_take_requests : CanMake program TakeRequests sent_on
+      can_take_requests = the_one program TakeRequests sent_on
           (turn.can_take_requests c partition n program (b ∷ []) start c.stages refl first first_all (sent ∷ []) all_sent (sent ∷ []) moved there (taken ∷ []) all_taken (served ∷ []) all_served second second_all (sent_on ∷ []) all_sent_on
           (sent_on ∷ []) moved_on there_now)
 
@@ -74,13 +74,13 @@ module _ (c : Settings) (partition : List ℕ) (n : ℕ) (program : List Instr) 
         all_waiting : waiting ∷ [] ≡ all_made TakeRequests second program (sent_on ∷ [])
         all_waiting = ap (λ x. x ∷ []) waiting_is
 
-        pub can_execute : CanMake Execute waiting
-        can_execute = the_one Execute waiting
+        pub can_execute : CanMake program Execute waiting
+        can_execute = the_one program Execute waiting
             (turn.can_execute c partition n program (b ∷ []) start c.stages refl first first_all (sent ∷ []) all_sent (sent ∷ []) moved there (taken ∷ []) all_taken (served ∷ []) all_served second second_all (sent_on ∷ []) all_sent_on
             (sent_on ∷ []) moved_on there_now early (waiting ∷ []) all_waiting)
 
         pub next : (stepped : BlockState) → stepped ≡ made Execute second program waiting
-            → AreWhole c partition (n + 1) (stepped ∷ []) × (machine_in c partition (n + 1) (stepped ∷ []) ≡ cycle c program (machine_in c partition n (b ∷ [])))
+            → AreWhole c program partition (n + 1) (stepped ∷ []) × (machine_in c partition (n + 1) (stepped ∷ []) ≡ cycle c program (machine_in c partition n (b ∷ [])))
         next stepped executed =
             let all_stepped : stepped ∷ [] ≡ all_made Execute second program (waiting ∷ []) = ap (λ x. x ∷ []) executed in (
               turn.next_whole c partition n program (b ∷ []) start c.stages refl first first_all (sent ∷ []) all_sent (sent ∷ []) moved there (taken ∷ []) all_taken (served ∷ []) all_served second second_all (sent_on ∷ []) all_sent_on
@@ -88,3 +88,11 @@ module _ (c : Settings) (partition : List ℕ) (n : ℕ) (program : List Instr) 
               turn.next_machine c partition n program (b ∷ []) start c.stages refl first first_all (sent ∷ []) all_sent (sent ∷ []) moved there (taken ∷ []) all_taken (served ∷ []) all_served second second_all (sent_on ∷ []) all_sent_on
                   (sent_on ∷ []) moved_on there_now early (waiting ∷ []) all_waiting (stepped ∷ []) all_stepped,
             )
+
+-- the cycle of a list of one block
+pub next_alone : (c : Settings) (program : List Instr) (partition : List ℕ) (n : ℕ) (bs : List BlockState) (x y : BlockState) → length bs ≡ 1
+    → (AreWhole c program partition n (get_or bs 0 x ∷ []) → AreWhole c program partition (n + 1) (y ∷ []) × (machine_in c partition (n + 1) (y ∷ []) ≡ cycle c program (machine_in c partition n (get_or bs 0 x ∷ []))))
+    → AreWhole c program partition n bs → AreWhole c program partition (n + 1) (set bs 0 y) × (machine_in c partition (n + 1) (set bs 0 y) ≡ cycle c program (machine_in c partition n bs))
+next_alone c program partition n [] x y one step whole = absurd (omega arith)
+next_alone c program partition n (b ∷ []) x y one step whole = step whole
+next_alone c program partition n (b ∷ z ∷ zs) x y one step whole = absurd (omega arith)

@@ -1,6 +1,7 @@
 -- a machine that stands in one block, dealt to the blocks that a partition names
 use Rattle.std.specs.Prelude.{◌≡◌, ℕ, ◌+◌, ◌*◌, ◌^◌, ◌<◌, ◌≤◌, ◌==◌, Bool, true, false, List, [], ◌∷◌, Option, None, length, replicate}
 use Rattle.ultra_units.specs.Numbers.{switch_count, module_number, element_number}
+use Rattle.ultra_isa.specs.declared.Instr.{Instr}
 use Rattle.ultra_section.specs.BlockState.{BlockState, switch_at, module_at, element_at}
 use Rattle.ultra_section.specs.Building.{empty_block}
 use Rattle.ultra_section.specs.Shape.{IsShaped}
@@ -10,9 +11,9 @@ use Rattle.ultra_cut.specs.Events.{events_of, stops_of}
 use Rattle.ultra_cut.specs.Halves.{AreBlocks, OfEach}
 use Rattle.ultra_block.specs.Fresh.{frame_of_one}
 
--- a block without units of a machine of d stages, after n cycles
-abbrev pub empty_after : ℕ → ℕ → BlockState
-empty_after d n = record (empty_block d) { done = n }
+-- a block without units of a machine of d stages that runs this program, after n cycles
+abbrev pub empty_after : ℕ → List Instr → ℕ → BlockState
+empty_after d program n = record (empty_block d program) { done = n }
 
 -- a block lists what another lists of the cycle, or nothing
 pub record ListsSame (x b : BlockState) : Type 0 where
@@ -23,8 +24,9 @@ pub record ListsNothing (x : BlockState) : Type 0 where
   pub events : x.events ≡ []
   pub stops : x.stops ≡ []
 
--- nothing is on its links, it lists nothing, and n cycles are done
-pub record HasOnlyUnits (d n : ℕ) (x : BlockState) : Type 0 where
+-- it runs this program, nothing is on its links, it lists nothing, and n cycles are done
+pub record HasOnlyUnits (d : ℕ) (program : List Instr) (n : ℕ) (x : BlockState) : Type 0 where
+  pub runs : x.program ≡ program
   pub done : x.done ≡ n
   pub replies : x.replies ≡ replicate ((d + 1) * 2 ^ d) None
   pub requests : x.requests ≡ replicate ((d + 1) * 2 ^ d) None
@@ -44,7 +46,7 @@ module _ (d : ℕ) (partition : List ℕ) (b : BlockState) where
   -- the units of block b stand where the partition says, and nowhere else
   pub record AreCarried (now : List BlockState) : Type 0 where
     pub shaped : OfEach (IsShaped d) now
-    pub bare : OfEach (HasOnlyUnits d b.done) now
+    pub bare : OfEach (HasOnlyUnits d b.program b.done) now
     pub switches :
         (k n : ℕ) → k < length now → n < switch_count d
         → switch_at (block_at now k).switches n
@@ -64,6 +66,7 @@ module _ (d : ℕ) (partition : List ℕ) (b : BlockState) where
     pub few : length now ≤ 64
     pub last : IsLastNamed partition (length now)
     pub frame : AreAlike d (frame_of d partition now) (frame_of_one d b)
+    pub runs : OfEach (λ x. x.program ≡ b.program) now
     pub done : OfEach (λ x. x.done ≡ b.done) now
     pub first : ListsSame (block_at now 0) b
     pub silent : (k : ℕ) → 0 < k → k < length now → ListsNothing (block_at now k)

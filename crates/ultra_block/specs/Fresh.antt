@@ -4,6 +4,7 @@ use Rattle.ultra_switch.specs.declared.Switch.{Switch}
 use Rattle.ultra_mem.specs.Serve.{Bank}
 use Rattle.ultra_pni.specs.Interface.{empty_interface}
 use Rattle.ultra_isa.specs.Step.{fresh_core}
+use Rattle.ultra_isa.specs.declared.Instr.{Instr}
 use Rattle.ultra_model.specs.Places.{places}
 use Rattle.ultra_model.specs.Machine.{Settings, given_value, site, size, start}
 use Rattle.ultra_units.specs.Numbers.{switch_count, unit_count}
@@ -52,8 +53,9 @@ one_block d = replicate (unit_count d) 0
 abbrev pub frame_of_one : ℕ → BlockState → Frame
 frame_of_one d b = frame_of d (one_block d) (b ∷ [])
 
--- the block is the machine of the definition before its first cycle
-pub record IsFresh (c : Settings) (b : BlockState) : Type 0 where
+-- the block runs the program and is the machine of the definition before its first cycle
+pub record IsFresh (c : Settings) (program : List Instr) (b : BlockState) : Type 0 where
+  pub runs : b.program ≡ program
   pub blocks : AreBlocks c.stages (one_block c.stages) (b ∷ [])
   pub done : b.done ≡ 0
   pub events : b.events ≡ []

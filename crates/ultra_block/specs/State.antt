@@ -32,7 +32,7 @@ put_together p = record {
 
 -- they may be put together
 pub record AreParts (p : Parts) : Type 0 where
-  pub whole : AreWhole p.config p.partition.items p.done p.blocks.items
+  pub whole : AreWhole p.config p.program p.partition.items p.done p.blocks.items
   pub few : length p.blocks.items ≤ 64
 
 -- the events and the faults that are still to come

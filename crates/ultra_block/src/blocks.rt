@@ -126,7 +126,6 @@ impl Blocks {
             &self.parts.config,
             self.parts.partition.as_slice(),
             self.parts.done,
-            &self.parts.program,
         );
         self.parts.done += 1;
     }

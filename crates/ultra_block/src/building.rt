@@ -7,7 +7,7 @@ ghost use Rattle.ultra_block.specs.Fresh.{IsFresh, filled, first_bank, first_ele
 
 use std::alloc::{AllocError, Global};
 use ultra_halves::ProcessingElement;
-use ultra_isa::Processor;
+use ultra_isa::{Processor, Program};
 use ultra_mem::Module;
 use ultra_model::Config;
 use ultra_msg::{Cell, Pe, Word};
@@ -101,12 +101,12 @@ fn add_elements(config: &Config, block: &mut Block)
     }
 }
 
-/// All units of the machine before its first cycle, in one block. An error says that memory was refused.
-pub fn fresh_block(alloc: Global, config: &Config) -> Result<Block, AllocError>
-    ensures { IfOk result (λ b. IsFresh config.now b) }
+/// All units of the machine before its first cycle, in one block, which keeps a copy of the program. An error says that memory was refused.
+pub fn fresh_block(alloc: Global, config: &Config, program: &Program) -> Result<Block, AllocError>
+    ensures { IfOk result (λ b. IsFresh config.now program.now b) }
 {
     let _initial = config.initial();
-    let mut block = Block::empty(alloc, config.net())?;
+    let mut block = Block::empty(alloc, config.net(), program)?;
     add_switches(alloc, config, &mut block)?;
     add_modules(alloc, config, &mut block)?;
     add_elements(config, &mut block);

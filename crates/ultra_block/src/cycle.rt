@@ -1,56 +1,51 @@
 //! A cycle of all blocks.
 
 ghost use Rattle.std.specs.Prelude.{◌≡◌, ℕ, ◌+◌, ◌-◌, ◌^◌, ◌<◌, ◌∷◌, [], List};
+ghost use Rattle.ultra_isa.specs.declared.Instr.{Instr};
 ghost use Rattle.ultra_model.specs.Machine.{Settings};
 ghost use Rattle.ultra_model.specs.Phases.{cycle as next_cycle};
 ghost use Rattle.ultra_cut.specs.Moments.{AreWhole, machine_in};
 
 use crate::every_block::make;
 use ultra_cut::{exchange_replies, exchange_requests, note_rooms};
-use ultra_isa::Program;
 use ultra_model::Config;
 use ultra_section::{Block, Half};
 
 /// The blocks of a machine, which has made `done` cycles, make one more: replies, memory, requests, processors. All blocks make a half before any makes the next, and between the two halves of a phase each message goes to the block of the unit to which it leads.
-pub(crate) fn make_cycle(
-    blocks: &mut [Block],
-    config: &Config,
-    partition: &[u8],
-    done: u32,
-    program: &Program,
-)
-    requires whole { AreWhole config.now partition.now done blocks.old }
+pub(crate) fn make_cycle(blocks: &mut [Block], config: &Config, partition: &[u8], done: u32)
+    requires whole { (program : List Instr) × AreWhole config.now program partition.now done blocks.old }
     requires counted { done < 2 ^ 32 - 1 }
-    ensures whole { AreWhole config.now partition.now (done + 1) blocks.new }
-    ensures state { machine_in config.now partition.now (done + 1) blocks.new ≡ next_cycle config.now program.now (machine_in config.now partition.now done blocks.old) }
+    ensures whole { (program : List Instr) → AreWhole config.now program partition.now done blocks.old → AreWhole config.now program partition.now (done + 1) blocks.new }
+    ensures state { (program : List Instr) → AreWhole config.now program partition.now done blocks.old
+        → machine_in config.now partition.now (done + 1) blocks.new ≡ next_cycle config.now program (machine_in config.now partition.now done blocks.old) }
 {
     if let [block] = blocks {
-        make_cycle_of_one(block, program);
+        make_cycle_of_one(block);
         return;
     }
     let net = config.net();
     let rooms = note_rooms(blocks);
-    make(blocks, Half::SendReplies, &rooms, program);
+    make(blocks, Half::SendReplies, &rooms);
     exchange_replies(blocks, partition, net);
-    make(blocks, Half::TakeReplies, &rooms, program);
-    make(blocks, Half::Serve, &rooms, program);
+    make(blocks, Half::TakeReplies, &rooms);
+    make(blocks, Half::Serve, &rooms);
     let rooms = note_rooms(blocks);
-    make(blocks, Half::SendRequests, &rooms, program);
+    make(blocks, Half::SendRequests, &rooms);
     exchange_requests(blocks, partition, net);
-    make(blocks, Half::TakeRequests, &rooms, program);
-    make(blocks, Half::Execute, &rooms, program);
+    make(blocks, Half::TakeRequests, &rooms);
+    make(blocks, Half::Execute, &rooms);
 }
 
 /// The one block in which a whole machine stands makes a cycle. It knows all rooms, and its messages lead to its own units.
-fn make_cycle_of_one(block: &mut Block, program: &Program)
-    requires { (c : Settings) × (partition : List ℕ) × (n : ℕ) × AreWhole c partition n (block.old ∷ []) × (n < 2 ^ 32 - 1) }
-    ensures { (c : Settings) (partition : List ℕ) (n : ℕ) → AreWhole c partition n (block.old ∷ []) → n < 2 ^ 32 - 1
-        → AreWhole c partition (n + 1) (block.new ∷ []) × (machine_in c partition (n + 1) (block.new ∷ []) ≡ next_cycle c program.now (machine_in c partition n (block.old ∷ []))) }
+fn make_cycle_of_one(block: &mut Block)
+    requires { (c : Settings) × (program : List Instr) × (partition : List ℕ) × (n : ℕ) × AreWhole c program partition n (block.old ∷ []) × (n < 2 ^ 32 - 1) }
+    ensures { (c : Settings) (program : List Instr) (partition : List ℕ) (n : ℕ) → AreWhole c program partition n (block.old ∷ []) → n < 2 ^ 32 - 1
+        → AreWhole c program partition (n + 1) (block.new ∷ []) × (machine_in c partition (n + 1) (block.new ∷ []) ≡ next_cycle c program (machine_in c partition n (block.old ∷ []))) }
 {
     block.send_replies_here();
     block.take_replies();
     block.serve();
     block.send_requests_here();
     block.take_requests();
-    block.execute(program);
+    block.execute();
 }

@@ -25,14 +25,19 @@ fn count_blocks(partition: &[u8]) -> usize
     }
 }
 
-/// `count` blocks without units, after `done` cycles. An error says that memory was refused.
-fn empty_blocks(alloc: Global, net: Net, done: u32, count: usize) -> Result<Vec<Block>, AllocError>
-    ensures { IfOk result (λ v. v.items ≡ replicate count (empty_after net done)) }
+/// `count` blocks without units, which run the program of this block, after as many cycles. An error says that memory was refused.
+fn empty_blocks(
+    alloc: Global,
+    net: Net,
+    block: &Block,
+    count: usize,
+) -> Result<Vec<Block>, AllocError>
+    ensures { IfOk result (λ v. v.items ≡ replicate count (empty_after net block.now.program block.now.done)) }
 {
     let mut blocks = Vec::with_capacity(alloc, count)?;
     for place in 0..count {
         let _ = place;
-        blocks.push(Block::empty_after(alloc, net, done)?)?;
+        blocks.push(Block::empty_after(alloc, net, block.program(), block.done())?)?;
     }
     Ok(blocks)
 }
@@ -41,7 +46,7 @@ fn empty_blocks(alloc: Global, net: Net, done: u32, count: usize) -> Result<Vec<
 fn carry(partition: &[u8], block: &mut Block, blocks: &mut [Block])
     requires named { All (λ b. b < length blocks.old) partition.now }
     requires count { length partition.now ≡ unit_count block.old.stages }
-    requires empty { blocks.old ≡ replicate (length blocks.old) (empty_after block.old.stages block.old.done) }
+    requires empty { blocks.old ≡ replicate (length blocks.old) (empty_after block.old.stages block.old.program block.old.done) }
     ensures carried { AreCarried block.old.stages partition.now block.old blocks.new }
     ensures count { length blocks.new ≡ length blocks.old }
     ensures story { (block.new.events ≡ block.old.events) × (block.new.stops ≡ block.old.stops) }
@@ -68,7 +73,7 @@ pub fn deal(
     ensures kept { OnErr result (block.new ≡ block.old) }
 {
     let count = count_blocks(partition);
-    let mut blocks = empty_blocks(alloc, net, block.done(), count)?;
+    let mut blocks = empty_blocks(alloc, net, block, count)?;
     carry(partition, block, blocks.as_mut_slice());
     blocks[0].take_story(block);
     Ok(blocks)

@@ -29,15 +29,20 @@ pub struct Parts {
     pub blocks: Vec<Block>,
 }
 
-/// The blocks of a machine before its first cycle. The partition names the block of each unit. An error says that memory was refused.
-fn fresh_blocks(alloc: Global, config: &Config, partition: &[u8]) -> Result<Vec<Block>, AllocError>
+/// The blocks of a machine before its first cycle, each with a copy of the program. The partition names the block of each unit. An error says that memory was refused.
+fn fresh_blocks(
+    alloc: Global,
+    config: &Config,
+    program: &Program,
+    partition: &[u8],
+) -> Result<Vec<Block>, AllocError>
     requires { is_partition config.now partition.now ≡ true }
-    ensures whole { IfOk result (λ bs. AreWhole config.now partition.now 0 bs.items) }
+    ensures whole { IfOk result (λ bs. AreWhole config.now program.now partition.now 0 bs.items) }
     ensures few { IfOk result (λ bs. length bs.items ≤ 64) }
     ensures count { IfOk result (λ bs. IsLastNamed partition.now (length bs.items)) }
     ensures state { IfOk result (λ bs. machine_in config.now partition.now 0 bs.items ≡ start config.now) }
 {
-    let mut block = fresh_block(alloc, config)?;
+    let mut block = fresh_block(alloc, config, program)?;
     deal(alloc, config.net(), partition, &mut block)
 }
 
@@ -58,12 +63,12 @@ impl Parts {
         ensures state { IfOk result (λ p. (put_together p).machine ≡ start config.now) }
     {
         let settings = config.try_clone()?;
-        let program = program.try_clone(alloc)?;
+        let own_program = program.try_clone(alloc)?;
         let homes = Vec::from_slice(alloc, partition)?;
-        let blocks = fresh_blocks(alloc, config, partition)?;
+        let blocks = fresh_blocks(alloc, config, program, partition)?;
         Ok(Parts {
             config: settings,
-            program,
+            program: own_program,
             partition: homes,
             done: 0,
             blocks,

@@ -83,7 +83,7 @@ pub noted_in : (xs ys : List BlockState) (rooms : BlockRooms) → xs ≡ ys → 
 noted_in xs ys rooms same noted = subst (λ bs. AreRoomsOfAll bs rooms) same noted
 
 -- ---- step by step
-module _ (c : Settings) (partition : List ℕ) (n : ℕ) (program : List Instr) (bs : List BlockState) (start : AreWhole c partition n bs) (e : ℕ) (net : e ≡ c.stages)
+module _ (c : Settings) (partition : List ℕ) (n : ℕ) (program : List Instr) (bs : List BlockState) (start : AreWhole c program partition n bs) (e : ℕ) (net : e ≡ c.stages)
     (first : BlockRooms) (first_noted : AreRoomsOfAll bs first) (sent : List BlockState) (sent_is : sent ≡ all_made SendReplies first program bs) where
   abbrev d : ℕ
   d = c.stages

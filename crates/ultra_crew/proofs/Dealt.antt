@@ -34,19 +34,19 @@ module _ (h : Half) (rooms : Rooms) (program : List Instr) where
         | false ↦ more
       ]
 
-  tasks_can : (k : ℕ) (bs : List BlockState) → All (CanMake h) bs → All (CanBeMade h) (tasks_from k bs)
+  tasks_can : (k : ℕ) (bs : List BlockState) → All (CanMake program h) bs → All (CanBeMade program h) (tasks_from k bs)
   tasks_can k [] can i d below = absurd (omega arith)
   tasks_can k (b ∷ bs) can zero d below = can 0 b (omega arith)
   tasks_can k (b ∷ bs) can (suc i) d below = tasks_can (k + 1) bs (λ j e inside. can (suc j) e (omega arith)) i d (omega arith)
 
-  each_can : (bs : List BlockState) → AllCanMake h bs → All (CanMake h) bs
-  each_can bs can i d below = subst (CanMake h) (get_or_default bs i no_block d below) (can i below)
+  each_can : (bs : List BlockState) → AllCanMake program h bs → All (CanMake program h) bs
+  each_can bs can i d below = subst (CanMake program h) (get_or_default bs i no_block d below) (can i below)
 
   module _ (workers : ℕ) (bs : List BlockState) (teams : List (Vec Task Global)) (many : length teams ≡ workers) (dealt : AreTeams workers teams bs) where
-    pub teams_can : AllCanMake h bs → (w : ℕ) (d : Vec Task Global) → w < length teams → All (CanBeMade h) (get_or teams w d).items
+    pub teams_can : AllCanMake program h bs → (w : ℕ) (d : Vec Task Global) → w < length teams → All (CanBeMade program h) (get_or teams w d).items
     teams_can can w d below =
-        subst (λ ts. All (CanBeMade h) ts) (sym (dealt w d (subst (λ n. w < n) many below)))
-        (All-filter (is_of_worker workers w) (CanBeMade h) (tasks_from 0 bs) (tasks_can 0 bs (each_can bs can)))
+        subst (λ ts. All (CanBeMade program h) ts) (sym (dealt w d (subst (λ n. w < n) many below)))
+        (All-filter (is_of_worker workers w) (CanBeMade program h) (tasks_from 0 bs) (tasks_can 0 bs (each_can bs can)))
 
     pub teams_made : (w : ℕ) (d : Vec Task Global) → w < length teams → map (task_made h rooms program) (get_or teams w d).items ≡ teams_of workers (all_made h rooms program bs) w
     teams_made w d below = ap (map (task_made h rooms program)) (dealt w d (subst (λ n. w < n) many below)) ∙ team_made workers w 0 bs

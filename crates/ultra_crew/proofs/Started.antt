@@ -86,10 +86,11 @@ element_with s v n = record {
   issued = v.issued;
 }
 
-block_with : ℕ → ℕ → List (Option Switch) → List (Option Bank) → List (Option ProcessingElement) → List (Option ReplyMessage) → List (Option Request) → BlockState
-block_with d n ws bs es rs qs = record {
+block_with : ℕ → ℕ → List Instr → List (Option Switch) → List (Option Bank) → List (Option ProcessingElement) → List (Option ReplyMessage) → List (Option Request) → BlockState
+block_with d n program ws bs es rs qs = record {
   stages = d;
   done = n;
+  program = program;
   switches = ws;
   modules = bs;
   elements = es;
@@ -99,12 +100,12 @@ block_with d n ws bs es rs qs = record {
   stops = [];
 }
 
-same_block : {d d' n n' : ℕ} {ws ws' : List (Option Switch)} {bs bs' : List (Option Bank)} {es es' : List (Option ProcessingElement)} {rs rs' : List (Option ReplyMessage)}
-    {qs qs' : List (Option Request)} → d ≡ d' → n ≡ n' → ws ≡ ws' → bs ≡ bs' → es ≡ es' → rs ≡ rs' → qs ≡ qs'
-    → block_with d n ws bs es rs qs ≡ block_with d' n' ws' bs' es' rs' qs'
-same_block hd hn hw hb he hr hq = cc
+same_block : {d d' n n' : ℕ} {program program' : List Instr} {ws ws' : List (Option Switch)} {bs bs' : List (Option Bank)} {es es' : List (Option ProcessingElement)} {rs rs' : List (Option ReplyMessage)}
+    {qs qs' : List (Option Request)} → d ≡ d' → n ≡ n' → program ≡ program' → ws ≡ ws' → bs ≡ bs' → es ≡ es' → rs ≡ rs' → qs ≡ qs'
+    → block_with d n program ws bs es rs qs ≡ block_with d' n' program' ws' bs' es' rs' qs'
+same_block hd hn hp hw hb he hr hq = cc
 
-module _ (c : Settings) (program : List Instr) (partition : List ℕ) (n : ℕ) (bs : List BlockState) (w : AreWhole c partition n bs) where
+module _ (c : Settings) (program : List Instr) (partition : List ℕ) (n : ℕ) (bs : List BlockState) (w : AreWhole c program partition n bs) where
   abbrev d : ℕ
   d = c.stages
 
@@ -206,7 +207,7 @@ module _ (c : Settings) (program : List Instr) (partition : List ℕ) (n : ℕ) 
 
     block_is : begun b ≡ first_block (state_of c program partition n bs) k
     unfolding block_with
-    block_is = same_block shape.stages (w.machine.done k within ∙ sym (cycles_are c partition n bs)) switches modules elements replies requests
+    block_is = same_block shape.stages (w.machine.done k within ∙ sym (cycles_are c partition n bs)) (w.machine.runs k within) switches modules elements replies requests
 
   pub blocks_are : map begun bs ≡ first_blocks (state_of c program partition n bs)
   unfolding first_blocks

@@ -57,6 +57,7 @@ module _ (b : BlocksState) where
   first_block k = record {
     stages = d;
     done = b.machine.cycles;
+    program = b.program;
     switches = places (switch_count d) (λ n. if_here k n (switch_in b.config b.machine n));
     modules = places (2 ^ d) (λ m. if_here k (module_number d m) (bank_at b.machine m));
     elements = places (2 ^ d) (λ p. if_here k (element_number d p) (element_in b.config b.machine p));

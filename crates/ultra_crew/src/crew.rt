@@ -129,7 +129,7 @@ fn cycles_together<J: Course + Send, R: Threads + Wait + Sync, G: Gate + Sync>(
             requires course { IsCourse J.results J.program workers blocks }
             ensures { IfOk result (λ b. b ≡ record blocks { machine = cycles_on blocks.config blocks.program count blocks.machine }) }
         {
-            let shift = Shift::<J>::begin(scope, rt, alloc, workers, gate, blocks.program())?;
+            let shift = Shift::<J>::begin(scope, rt, alloc, workers, gate)?;
             let result = shift.cycles(rt, alloc, blocks, count);
             shift.end(rt);
             result

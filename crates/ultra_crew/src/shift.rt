@@ -1,7 +1,6 @@
 //! Workers whose threads are kept over several cycles.
 
 ghost use Rattle.std.specs.Prelude.{◌≡◌, ℕ, ◌+◌, ◌-◌, ◌<◌, ◌≤◌, ◌^◌, All, IfOk, OnOk, [], length, map, slice_index_or};
-ghost use Rattle.std.specs.Arc.{arc_value};
 ghost use Rattle.ultra_model.specs.Phases.{cycle as next_cycle};
 ghost use Rattle.ultra_section.specs.declared.half.Half.{Half};
 ghost use Rattle.ultra_cut.specs.Halves.{AllCanMake, all_made};
@@ -13,12 +12,11 @@ ghost use Rattle.ultra_crew.specs.Course.{IsCourse, cycles_on, results_in, teams
 use crate::moves::{with_replies_exchanged, with_requests_exchanged};
 use std::alloc::Global;
 use std::marker::Model;
-use std::sync::{Arc, Wait};
+use std::sync::Wait;
 use std::thread::{Scope, Threads};
 use ultra_block::{Blocks, Parts};
 use ultra_cut::note_rooms;
 use ultra_desk::{Course, CrewFault, Desk, Gate, Name, Task, deal, empty_teams, gather};
-use ultra_isa::Program;
 use ultra_model::Config;
 use ultra_section::{Block, Half, Rooms};
 
@@ -35,7 +33,7 @@ impl<J: Course> Model for Shift<J> {
 }
 
 impl<J: Course> Shift<J> {
-    /// Starts a thread for each of n workers. They make the halves of blocks whose processing elements run this program, which is that of the course `J`, and call this gate before each half of a block. In every end the threads that were started are joined: by `end`, or here where one could not be started.
+    /// Starts a thread for each of n workers. They make the halves of blocks of the machine whose course is `J`, and call this gate before each half of a block. In every end the threads that were started are joined: by `end`, or here where one could not be started.
     ///
     /// `NoThread` says that a thread could not be started, `NoMemory` that memory was refused.
     pub fn begin<'s, E, R: Threads + Wait + Sync, G: Gate + Sync>(
@@ -44,20 +42,14 @@ impl<J: Course> Shift<J> {
         alloc: Global,
         workers: usize,
         gate: &'s G,
-        program: &Program,
     ) -> Result<Shift<J>, CrewFault>
     where
         J: Send + 's,
-        requires { program.now ≡ J.program }
         ensures { IfOk result (λ s. s ≡ workers) }
     {
-        let program = program.try_clone(alloc)?;
-        let Ok(program) = Arc::new(alloc, program) else {
-            return Err(CrewFault::NoMemory);
-        };
         let mut desks = Vec::with_capacity(alloc, workers)?;
         for _ in 0..workers {
-            match open(scope, rt, alloc, gate, &program) {
+            match Desk::open(scope, rt, alloc, gate) {
                 Ok(desk) => desks.push_reserved(desk),
                 Err(fault) => {
                     close_all(rt, desks);
@@ -132,11 +124,11 @@ impl<J: Course> Shift<J> {
         done: u32,
         blocks: Vec<Block>,
     ) -> Result<Vec<Block>, CrewFault>
-        requires whole { AreWhole config.now partition.now done blocks.items }
+        requires whole { AreWhole config.now J.program partition.now done blocks.items }
         requires counted { done < 2 ^ 32 - 1 }
         requires some_worker { 1 ≤ self.now }
         requires settled { (h : Half) (w : ℕ) → J.results done h w ≡ results_in self.now (state_of config.now J.program partition.now done blocks.items) h w }
-        ensures whole { IfOk result (λ v. AreWhole config.now partition.now (done + 1) v.items) }
+        ensures whole { IfOk result (λ v. AreWhole config.now J.program partition.now (done + 1) v.items) }
         ensures state { IfOk result (λ v. machine_in config.now partition.now (done + 1) v.items ≡ next_cycle config.now J.program (machine_in config.now partition.now done blocks.items)) }
         ensures count { IfOk result (λ v. length v.items ≡ length blocks.items) }
     {
@@ -168,7 +160,7 @@ impl<J: Course> Shift<J> {
     ) -> Result<Vec<Block>, CrewFault>
         requires some_worker { 1 ≤ self.now }
         requires teams { AreEmptyTeams self.now teams.old.items }
-        requires ready { AllCanMake half blocks.items }
+        requires ready { AllCanMake J.program half blocks.items }
         requires settled { (w : ℕ) → J.results cycle half w ≡ teams_of self.now (all_made half rooms.now J.program blocks.items) w }
         ensures blocks { IfOk result (λ v. v.items ≡ all_made half rooms.now J.program blocks.items) }
         ensures teams { OnOk result (AreEmptyTeams self.now teams.new.items) }
@@ -192,9 +184,9 @@ impl<J: Course> Shift<J> {
     ) -> Result<Vec<Block>, CrewFault>
         requires some_worker { 1 ≤ self.now }
         requires teams { AreEmptyTeams self.now teams.old.items }
-        requires ready { AllCanMake halves.0 blocks.items }
+        requires ready { AllCanMake J.program halves.0 blocks.items }
         requires settled { (w : ℕ) → J.results cycle halves.0 w ≡ teams_of self.now (all_made halves.0 rooms.now J.program blocks.items) w }
-        requires ready_again { AllCanMake halves.1 (all_made halves.0 rooms.now J.program blocks.items) }
+        requires ready_again { AllCanMake J.program halves.1 (all_made halves.0 rooms.now J.program blocks.items) }
         requires settled_again { (w : ℕ) → J.results cycle halves.1 w ≡ teams_of self.now (all_made halves.1 rooms.now J.program (all_made halves.0 rooms.now J.program blocks.items)) w }
         ensures blocks { IfOk result (λ v. v.items ≡ all_made halves.1 rooms.now J.program (all_made halves.0 rooms.now J.program blocks.items)) }
         ensures teams { OnOk result (AreEmptyTeams self.now teams.new.items) }
@@ -217,7 +209,7 @@ impl<J: Course> Shift<J> {
         teams: &mut Vec<Vec<Task>>,
     ) -> Result<(), CrewFault>
         requires count { length teams.old.items ≡ self.now }
-        requires ready { (w : ℕ) (d : _) → w < length teams.old.items → All (CanBeMade half) (slice_index_or teams.old.items w d).items }
+        requires ready { (w : ℕ) (d : _) → w < length teams.old.items → All (CanBeMade J.program half) (slice_index_or teams.old.items w d).items }
         requires settled { (w : ℕ) (d : _) → w < length teams.old.items → map (task_made half rooms.now J.program) (slice_index_or teams.old.items w d).items ≡ J.results cycle half w }
         ensures count { OnOk result (length teams.new.items ≡ self.now) }
         ensures results { OnOk result ((w : ℕ) (d : _) → w < self.now → (slice_index_or teams.new.items w d).items ≡ J.results cycle half w) }
@@ -236,7 +228,7 @@ impl<J: Course> Shift<J> {
         teams: &mut Vec<Vec<Task>>,
     ) -> Result<(), CrewFault>
         requires count { length teams.old.items ≡ self.now }
-        requires ready { (w : ℕ) (d : _) → w < length teams.old.items → All (CanBeMade half) (slice_index_or teams.old.items w d).items }
+        requires ready { (w : ℕ) (d : _) → w < length teams.old.items → All (CanBeMade J.program half) (slice_index_or teams.old.items w d).items }
         requires settled { (w : ℕ) (d : _) → w < length teams.old.items → map (task_made half rooms.now J.program) (slice_index_or teams.old.items w d).items ≡ J.results cycle half w }
         ensures { OnOk result (teams.new.items ≡ []) }
     {
@@ -278,22 +270,6 @@ impl<J: Course> Shift<J> {
         }
         Ok(())
     }
-}
-
-/// Starts the thread of one worker, who makes halves of blocks whose processing elements run this program.
-fn open<'s, J: Course, E, R: Threads + Wait + Sync, G: Gate + Sync>(
-    scope: &Scope<'s, E>,
-    rt: &'s R,
-    alloc: Global,
-    gate: &'s G,
-    program: &Arc<Program, Global>,
-) -> Result<Desk<J>, CrewFault>
-where
-    J: Send + 's,
-    requires { arc_value program.now ≡ J.program }
-{
-    let program = Arc::try_clone(program)?;
-    Desk::open(scope, rt, alloc, gate, program)
 }
 
 /// Lets these workers end, and joins their threads.

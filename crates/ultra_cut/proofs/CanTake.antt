@@ -93,13 +93,13 @@ module _ (d : ℕ) (partition : List ℕ) (bs : List BlockState) (blocks : AreBl
         (λ n past. subst (UnitCanTakeRequests n b) (sym (unit_of_none d n past)) tt)
 
 pub can_take_replies : CanTakeRepliesLaw
-can_take_replies d partition bs blocks there single can room = λ i within n small. record {
+can_take_replies d partition program bs blocks there single can room = λ i within n small. record {
   unit = subst (λ e. UnitCanTakeReplies n (block_at bs i) (unit_of e n)) (sym (blocks.cut.stages i within)) (unit_replies d partition bs blocks i within there can n);
   room = room_for_half (block_at bs i) (room i within) n;
 }
 
 pub can_take_requests : CanTakeRequestsLaw
-can_take_requests d partition bs blocks there single can room = λ i within n small. record {
+can_take_requests d partition program bs blocks there single can room = λ i within n small. record {
   unit = subst (λ e. UnitCanTakeRequests n (block_at bs i) (unit_of e n)) (sym (blocks.cut.stages i within)) (unit_requests d partition bs blocks i within there can n);
   room = room_for_half (block_at bs i) (room i within) n;
 }

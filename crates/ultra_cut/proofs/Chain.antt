@@ -1,5 +1,6 @@
 -- from one list of blocks of a cycle to the next
 use Rattle.std.proofs.Common.{◌≡◌, ℕ, ◌+◌, ◌<◌, ◌≤◌, List, length, sym, ◌∙◌, ap, subst, arith}
+use Rattle.ultra_isa.specs.declared.Instr.{Instr}
 use Rattle.ultra_section.specs.BlockState.{BlockState}
 use Rattle.ultra_course.specs.Frame.{Frame, AreAlike}
 use Rattle.ultra_cut.specs.Cut.{block_at}
@@ -42,6 +43,11 @@ pub done_after : (d : ℕ) (partition : List ℕ) (more n : ℕ) (old now : List
 done_after d partition more n old now after was k h =
     let inside : k < length old = subst (λ x. k < x) after.count h in
     after.done k inside ∙ ap (λ x. x + more) (was k inside)
+
+-- and it runs the same program
+pub runs_after : (d : ℕ) (partition : List ℕ) (more : ℕ) (program : List Instr) (old now : List BlockState) → AreBlocksAfter d partition more old now
+    → OfEach (λ b. b.program ≡ program) old → OfEach (λ b. b.program ≡ program) now
+runs_after d partition more program old now after = same_value old now after.count (λ b. b.program) program after.program
 
 -- there is memory for the events of one more half
 pub half_room : (most : ℕ) → most ≤ 1920 → (bs : List BlockState) → OfEach (λ b. length b.events ≤ most) bs → OfEach HasHalfRoom bs

@@ -18,10 +18,11 @@ use Rattle.ultra_cut.proofs.Units.{Sort, at_home, away, home_small, unit}
 pub unit_small : (d n : ℕ) → 1 ≤ d → d ≤ 6 → n < unit_count d → n < 320
 unit_small d n low high h = let most = few_units d low high in omega arith
 
--- a block has the units that it had, and `more` cycles are done
+-- a block has the units and the program that it had, and `more` cycles are done
 pub record HasSameUnits (d more : ℕ) (old now : BlockState) : Type 0 where
   pub shape : IsShaped d now
   pub done : now.done ≡ old.done + more
+  pub program : now.program ≡ old.program
   pub switches : (n : ℕ) → n < switch_count d → is_some (switch_at now.switches n) ≡ is_some (switch_at old.switches n)
   pub modules : (m : ℕ) → m < 2 ^ d → is_some (module_at now.modules m) ≡ is_some (module_at old.modules m)
   pub elements : (p : ℕ) → p < 2 ^ d → is_some (element_at now.elements p) ≡ is_some (element_at old.elements p)
@@ -66,6 +67,7 @@ module _ (d : ℕ) (partition : List ℕ) (bs : List BlockState) (blocks : AreBl
       };
       count = count;
       done = λ k h. ap (λ (b : BlockState). b.done) (changed_at change bs k h) ∙ (same k h).done;
+      program = λ k h. ap (λ (b : BlockState). b.program) (changed_at change bs k h) ∙ (same k h).program;
     }
 
 pub no_more : (n : ℕ) → n ≡ n + 0

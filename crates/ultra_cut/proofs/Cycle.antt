@@ -24,7 +24,7 @@ use Rattle.ultra_cut.proofs.Requested as requested
 use Rattle.ultra_cut.proofs.Requested.{AreServed}
 
 module _ (c : Settings) (partition : List ℕ) (n : ℕ) (events : List Event) (stops : List Stop) (m : Machine) (program : List Instr)
-    (bs : List BlockState) (start : AreMachine c partition n events stops m bs) (clear : IsClear c.stages (frame_of c.stages partition bs))
+    (bs : List BlockState) (start : AreMachine c program partition n events stops m bs) (clear : IsClear c.stages (frame_of c.stages partition bs))
     (first : BlockRooms) (first_room : AreRooms c.stages (frame_of c.stages partition bs) (noted c.stages first))
     (replies : List BlockState) (replies_moved : OnlyRepliesMove (all_made SendReplies first program bs) replies)
     (replies_there : AreRepliesThere c.stages partition replies) where
@@ -46,7 +46,7 @@ module _ (c : Settings) (partition : List ℕ) (n : ℕ) (events : List Event) (
   abbrev middle : Machine
   middle = memory_phase c (reply_phase c m)
 
-  pub are_served : (second : BlockRooms) → AreRooms d (f served) (noted d second) → AreServed c partition n so_far middle served second
+  pub are_served : (second : BlockRooms) → AreRooms d (f served) (noted d second) → AreServed c program partition n so_far middle served second
   are_served second room = record {
     machine = replied.served_machine c partition n events stops m program bs start clear first first_room replies replies_moved replies_there;
     clear = replied.served_clear c partition n events stops m program bs start clear first first_room replies replies_moved replies_there;
@@ -64,13 +64,13 @@ module _ (c : Settings) (partition : List ℕ) (n : ℕ) (events : List Event) (
     abbrev stepped : List BlockState
     stepped = listing.stepped d n partition program first second bs replies requests
 
-    abbrev next : AreServed c partition n so_far middle served second
+    abbrev next : AreServed c program partition n so_far middle served second
     next = are_served second second_room
 
-    waiting_machine : AreMachine c partition n (so_far ++ combinations d n (f requests)) [] (request_phase c middle) waiting
+    waiting_machine : AreMachine c program partition n (so_far ++ combinations d n (f requests)) [] (request_phase c middle) waiting
     waiting_machine = requested.taken_machine c partition n so_far middle program served second next requests requests_moved requests_there
 
-    stepped_machine : AreMachine c partition (n + 1) ((so_far ++ combinations d n (f requests)) ++ issues d program (f waiting)) (all_stops d program (f waiting))
+    stepped_machine : AreMachine c program partition (n + 1) ((so_far ++ combinations d n (f requests)) ++ issues d program (f waiting)) (all_stops d program (f waiting))
         (processor_phase c program (request_phase c middle)) stepped
     stepped_machine = requested.stepped_machine c partition n so_far middle program served second next requests requests_moved requests_there
 
@@ -101,9 +101,9 @@ module _ (c : Settings) (partition : List ℕ) (n : ℕ) (events : List Event) (
     stepped_in_order = listing.in_order d n partition program first second bs replies requests in_cycle
 
     -- the blocks are the machine after the cycle, and what they list, merged, is what happened in it
-    pub cycled : AreMachine c partition (n + 1) (events_of d stepped) (stops_of d stepped) (cycle c program m) stepped
+    pub cycled : AreMachine c program partition (n + 1) (events_of d stepped) (stops_of d stepped) (cycle c program m) stepped
     unfolding cycle
     cycled =
-        subst (λ es. AreMachine c partition (n + 1) es (stops_of d stepped) (processor_phase c program (request_phase c middle)) stepped) (sym list_what_happens.events)
-        (subst (λ ss. AreMachine c partition (n + 1) ((so_far ++ combinations d n (f requests)) ++ issues d program (f waiting)) ss (processor_phase c program (request_phase c middle)) stepped)
+        subst (λ es. AreMachine c program partition (n + 1) es (stops_of d stepped) (processor_phase c program (request_phase c middle)) stepped) (sym list_what_happens.events)
+        (subst (λ ss. AreMachine c program partition (n + 1) ((so_far ++ combinations d n (f requests)) ++ issues d program (f waiting)) ss (processor_phase c program (request_phase c middle)) stepped)
         (sym list_what_happens.stops) stepped_machine)

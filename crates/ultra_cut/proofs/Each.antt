@@ -37,6 +37,7 @@ given_worked nothing f o some =
 pub record HasWorked (d : ℕ) (f : Bank → Bank) (g : ProcessingElement → ProcessingElement) (more : ℕ) (b now : BlockState) : Type 0 where
   pub shaped : IsShaped d now
   pub done : now.done ≡ b.done + more
+  pub program : now.program ≡ b.program
   pub switches : now.switches ≡ b.switches
   pub modules : (m : ℕ) → m < 2 ^ d → module_at now.modules m ≡ worked f (module_at b.modules m)
   pub elements : (p : ℕ) → p < 2 ^ d → element_at now.elements p ≡ worked g (element_at b.elements p)
@@ -47,6 +48,7 @@ same_units : (d : ℕ) (f : Bank → Bank) (g : ProcessingElement → Processing
 same_units d f g more b now work = record {
   shape = work.shaped;
   done = work.done;
+  program = work.program;
   switches = λ n h. ap (λ ws. is_some (switch_at ws n)) work.switches;
   modules = λ m h. ap is_some (work.modules m h) ∙ still_some f (module_at b.modules m);
   elements = λ p h. ap is_some (work.elements p h) ∙ still_some g (element_at b.elements p);

@@ -48,6 +48,7 @@ module _ (program : List Instr) (d : ℕ) (low : 1 ≤ d) (high : d ≤ 6) (b : 
       requests = shape_now.requests;
     };
     done = ap (λ n. n + 1) (kept_by_executing program d (λ t. t.done) (λ p t e. refl) b shape);
+    program = kept_by_executing program d (λ t. t.program) (λ p t e. refl) b shape;
     switches = kept_by_executing program d (λ t. t.switches) (λ p t e. refl) b shape;
     modules = λ m h. ap (λ ms. module_at ms m) (kept_by_executing program d (λ t. t.modules) (λ p t e. refl) b shape) ∙ same_worked (module_at b.modules m);
     elements = λ p h.
@@ -99,7 +100,8 @@ module _ (d : ℕ) (partition : List ℕ) (bs : List BlockState) (are : AreBlock
     }
 
 pub can_execute_law : CanExecuteLaw
-can_execute_law = λ d partition bs are few can room none k h. record {
+can_execute_law = λ d partition program bs are runs few can room none k h. record {
+  runs = runs k h;
   few = few k h;
   units = λ n within. can_execute_at d partition bs are can room none k h n;
 }

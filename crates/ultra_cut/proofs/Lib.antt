@@ -45,3 +45,4 @@ pub mod CycleEvents
 pub mod Cycle
 pub mod Whole
 pub mod OneBlock
+pub mod OwnProgram

@@ -27,10 +27,10 @@ use Rattle.std.specs.Option.{ForSome}
 use Rattle.ultra_msg.specs.declared.ReplyMessage.{ReplyMessage}
 use Rattle.ultra_cut.specs.Moments.{AreMachine}
 use Rattle.ultra_cut.proofs.Homes.{replies_home}
-use Rattle.ultra_cut.proofs.Chain.{alike_by, done_after, half_room, more_events, same_value}
+use Rattle.ultra_cut.proofs.Chain.{alike_by, done_after, half_room, more_events, same_value, runs_after}
 
 module _ (c : Settings) (partition : List ℕ) (n : ℕ) (events : List Event) (stops : List Stop) (m : Machine) (program : List Instr)
-    (bs : List BlockState) (start : AreMachine c partition n events stops m bs) (clear : IsClear c.stages (frame_of c.stages partition bs))
+    (bs : List BlockState) (start : AreMachine c program partition n events stops m bs) (clear : IsClear c.stages (frame_of c.stages partition bs))
     (rooms : BlockRooms) (room : AreRooms c.stages (frame_of c.stages partition bs) (noted c.stages rooms)) where
   abbrev d : ℕ
   d = c.stages
@@ -57,6 +57,10 @@ module _ (c : Settings) (partition : List ℕ) (n : ℕ) (events : List Event) (
     there_done = same_value sent there only.count (λ b. b.done) n (λ k h. ap (λ (b : BlockState). b.done) (only.rest k))
         (λ k h. done_after d partition 0 n bs sent are_sent.frame.blocks start.done k h ∙ omega arith)
 
+    there_runs : OfEach (λ b. b.program ≡ program) there
+    there_runs = same_value sent there only.count (λ b. b.program) program (λ k h. ap (λ (b : BlockState). b.program) (only.rest k))
+        (runs_after d partition 0 program bs sent are_sent.frame.blocks start.runs)
+
     there_silent : OfEach (λ b. length b.events ≤ 0) there
     there_silent k h =
         let within : k < length sent = subst (λ x. k < x) only.count h in
@@ -72,8 +76,8 @@ module _ (c : Settings) (partition : List ℕ) (n : ℕ) (events : List Event) (
     pub there_home : (p : ℕ) → p < 2 ^ d → ForSome (reply_to d (f there) p) (λ (r : ReplyMessage). r.pe ≡ p)
     there_home = replies_home c n (f bs) events stops m start.machine (noted d rooms) room (f there) there_alike
 
-    pub all_can_take : AllCanMake TakeReplies there
-    all_can_take = taking.can_take_replies d partition there there_blocks home only.single can_take (half_room 0 (omega arith) there there_silent)
+    pub all_can_take : AllCanMake program TakeReplies there
+    all_can_take = taking.can_take_replies d partition program there there_blocks home only.single can_take (half_room 0 (omega arith) there there_silent)
 
     -- ---- they have been taken
     abbrev taken : List BlockState
@@ -82,9 +86,10 @@ module _ (c : Settings) (partition : List ℕ) (n : ℕ) (events : List Event) (
     are_taken : AreRepliesTaken d partition there taken
     are_taken = replies_taken d partition there rooms program there_blocks home only.single
 
-    pub taken_machine : AreMachine c partition n (deliveries d (f there)) [] (reply_phase c m) taken
+    pub taken_machine : AreMachine c program partition n (deliveries d (f there)) [] (reply_phase c m) taken
     taken_machine = record {
       blocks = are_taken.frame.blocks.blocks;
+      runs = runs_after d partition 0 program there taken are_taken.frame.blocks there_runs;
       done = λ k h. done_after d partition 0 n there taken are_taken.frame.blocks there_done k h ∙ omega arith;
       machine = step.replied c n (f bs) events stops m start.machine (noted d rooms) room (f there) there_alike (f taken) are_taken.frame.frame;
     }
@@ -92,8 +97,8 @@ module _ (c : Settings) (partition : List ℕ) (n : ℕ) (events : List Event) (
     taken_few : OfEach (λ b. length b.events ≤ 0 + 640) taken
     taken_few = more_events there taken are_taken.frame.blocks.count 0 are_taken.events there_silent
 
-    pub all_can_serve : AllCanMake Serve taken
-    all_can_serve = can_serve_law taken (half_room 640 (omega arith) taken taken_few)
+    pub all_can_serve : AllCanMake program Serve taken
+    all_can_serve = can_serve_law program taken (half_room 640 (omega arith) taken taken_few)
 
     -- ---- memory has served
     abbrev served : List BlockState
@@ -102,9 +107,10 @@ module _ (c : Settings) (partition : List ℕ) (n : ℕ) (events : List Event) (
     have_served : HaveServed d partition taken served
     have_served = serve_law d partition taken rooms program taken_machine.blocks
 
-    pub served_machine : AreMachine c partition n (deliveries d (f there) ++ servings d (f taken)) [] (memory_phase c (reply_phase c m)) served
+    pub served_machine : AreMachine c program partition n (deliveries d (f there) ++ servings d (f taken)) [] (memory_phase c (reply_phase c m)) served
     served_machine = record {
       blocks = have_served.frame.blocks.blocks;
+      runs = runs_after d partition 0 program taken served have_served.frame.blocks taken_machine.runs;
       done = λ k h. done_after d partition 0 n taken served have_served.frame.blocks taken_machine.done k h ∙ omega arith;
       machine = step.served c n (f taken) (deliveries d (f there)) [] (reply_phase c m) taken_machine.machine (f served) have_served.frame.frame;
     }

@@ -103,6 +103,7 @@ module _ (d : ℕ) (partition : List ℕ) (bs : List BlockState) (rooms : BlockR
   same k within = record {
     shape = sent_shaped k within;
     done = kept (λ t. t.done) (λ n s k t w. refl) (λ m t x. refl) k within ∙ no_more (block_at bs k).done;
+    program = kept (λ t. t.program) (λ n s k t w. refl) (λ m t x. refl) k within;
     switches = λ n h. still_there switches d partition bs blocks.cut send n h (on n h) (step n h) (acts n h) (λ l. refl) (λ w l. refl) k within;
     modules = λ m h. still_there modules d partition bs blocks.cut send m h (on_end m h) (step_end m h) (acts_end m h) (λ l. refl) (λ x l. refl) k within;
     elements = λ p h. ap (λ es. is_some (element_at es p)) (kept_elements k within);

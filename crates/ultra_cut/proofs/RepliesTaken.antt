@@ -100,6 +100,7 @@ module _ (d : ℕ) (partition : List ℕ) (bs : List BlockState) (rooms : BlockR
   same k within = record {
     shape = shape_after_taking d low high (block_at bs k) (blocks.shaped k within);
     done = kept (λ t. t.done) (λ n s k t w. refl) (λ i t x. refl) k within ∙ no_more (block_at bs k).done;
+    program = kept (λ t. t.program) (λ n s k t w. refl) (λ i t x. refl) k within;
     switches = λ n h. still_there switches d partition bs blocks.cut take n h (on n h) (step n h) (acts n h) (λ l. refl) (λ w l. refl) k within;
     elements = λ p h. still_there elements d partition bs blocks.cut take p h (on_end p h) (step_end p h) (acts_end p h) (λ l. refl) (λ x l. refl) k within;
     modules = λ i h. ap (λ xs. is_some (module_at xs i)) (kept_modules k within);

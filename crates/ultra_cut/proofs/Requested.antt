@@ -24,18 +24,18 @@ use Rattle.ultra_cut.proofs.CanTake as taking
 use Rattle.ultra_cut.specs.UnitLaws.{HaveExecuted}
 use Rattle.ultra_cut.proofs.Executed.{execute_law, can_execute_law}
 use Rattle.ultra_cut.specs.Moments.{AreMachine}
-use Rattle.ultra_cut.proofs.Chain.{alike_by, done_after, half_room, more_events, same_events, same_value}
+use Rattle.ultra_cut.proofs.Chain.{alike_by, done_after, half_room, more_events, same_events, same_value, runs_after}
 
 -- blocks after memory has served, and the rooms by which requests are to leave
-pub record AreServed (c : Settings) (partition : List ℕ) (n : ℕ) (events : List Event) (m : Machine) (bs : List BlockState) (rooms : BlockRooms) : Type 0 where
-  pub machine : AreMachine c partition n events [] m bs
+pub record AreServed (c : Settings) (program : List Instr) (partition : List ℕ) (n : ℕ) (events : List Event) (m : Machine) (bs : List BlockState) (rooms : BlockRooms) : Type 0 where
+  pub machine : AreMachine c program partition n events [] m bs
   pub clear : IsClear c.stages (frame_of c.stages partition bs)
   pub few : OfEach (λ b. length b.events ≤ 1280) bs
   pub no_stops : OfEach (λ b. b.stops ≡ []) bs
   pub room : AreRooms c.stages (frame_of c.stages partition bs) (noted c.stages rooms)
 
 module _ (c : Settings) (partition : List ℕ) (n : ℕ) (events : List Event) (m : Machine) (program : List Instr) (bs : List BlockState) (rooms : BlockRooms)
-    (start : AreServed c partition n events m bs rooms) where
+    (start : AreServed c program partition n events m bs rooms) where
   abbrev d : ℕ
   d = c.stages
 
@@ -61,6 +61,10 @@ module _ (c : Settings) (partition : List ℕ) (n : ℕ) (events : List Event) (
     there_done = same_value sent there only.count (λ b. b.done) n (λ k h. ap (λ (b : BlockState). b.done) (only.rest k))
         (λ k h. done_after d partition 0 n bs sent are_sent.frame.blocks start.machine.done k h ∙ omega arith)
 
+    there_runs : OfEach (λ b. b.program ≡ program) there
+    there_runs = same_value sent there only.count (λ b. b.program) program (λ k h. ap (λ (b : BlockState). b.program) (only.rest k))
+        (runs_after d partition 0 program bs sent are_sent.frame.blocks start.machine.runs)
+
     there_few : OfEach (λ b. length b.events ≤ 1280) there
     there_few = same_events sent there only.count 1280 (λ k h. ap (λ (b : BlockState). b.events) (only.rest k))
         (same_events bs sent are_sent.frame.blocks.count 1280 are_sent.events start.few)
@@ -72,8 +76,8 @@ module _ (c : Settings) (partition : List ℕ) (n : ℕ) (events : List Event) (
     can_take : CanTakeRequests d (f there)
     can_take = step.can_take_requests c n (f bs) events [] m start.machine.machine (noted d rooms) start.room (f there) there_alike
 
-    pub all_can_take : AllCanMake TakeRequests there
-    all_can_take = taking.can_take_requests d partition there there_blocks home only.single can_take (half_room 1280 (omega arith) there there_few)
+    pub all_can_take : AllCanMake program TakeRequests there
+    all_can_take = taking.can_take_requests d partition program there there_blocks home only.single can_take (half_room 1280 (omega arith) there there_few)
 
     -- ---- they have been taken
     abbrev taken : List BlockState
@@ -82,9 +86,10 @@ module _ (c : Settings) (partition : List ℕ) (n : ℕ) (events : List Event) (
     are_taken : AreRequestsTaken d partition n there taken
     are_taken = requests_taken d partition n there rooms program there_blocks home only.single there_done
 
-    pub taken_machine : AreMachine c partition n (events ++ combinations d n (f there)) [] (request_phase c m) taken
+    pub taken_machine : AreMachine c program partition n (events ++ combinations d n (f there)) [] (request_phase c m) taken
     taken_machine = record {
       blocks = are_taken.frame.blocks.blocks;
+      runs = runs_after d partition 0 program there taken are_taken.frame.blocks there_runs;
       done = λ k h. done_after d partition 0 n there taken are_taken.frame.blocks there_done k h ∙ omega arith;
       machine = step.requested c n (f bs) events [] m start.machine.machine (noted d rooms) start.room (f there) there_alike (f taken) are_taken.frame.frame;
     }
@@ -100,9 +105,9 @@ module _ (c : Settings) (partition : List ℕ) (n : ℕ) (events : List Event) (
       can_execute : CanExecute d (f taken)
       can_execute = step.can_execute c n (f taken) (events ++ combinations d n (f there)) [] (request_phase c m) taken_machine.machine early
 
-      pub all_can_execute : AllCanMake Execute taken
+      pub all_can_execute : AllCanMake program Execute taken
       all_can_execute =
-          can_execute_law d partition taken taken_machine.blocks (λ k h. subst (λ x. x < 2 ^ 32 - 1) (sym (taken_machine.done k h)) early)
+          can_execute_law d partition program taken taken_machine.blocks taken_machine.runs (λ k h. subst (λ x. x < 2 ^ 32 - 1) (sym (taken_machine.done k h)) early)
           can_execute (half_room 1920 (omega arith) taken taken_few) taken_stops
 
     abbrev stepped : List BlockState
@@ -111,9 +116,10 @@ module _ (c : Settings) (partition : List ℕ) (n : ℕ) (events : List Event) (
     have_executed : HaveExecuted d partition program taken stepped
     have_executed = execute_law d partition taken rooms program taken_machine.blocks
 
-    pub stepped_machine : AreMachine c partition (n + 1) ((events ++ combinations d n (f there)) ++ issues d program (f taken)) (stops d program (f taken)) (processor_phase c program (request_phase c m)) stepped
+    pub stepped_machine : AreMachine c program partition (n + 1) ((events ++ combinations d n (f there)) ++ issues d program (f taken)) (stops d program (f taken)) (processor_phase c program (request_phase c m)) stepped
     stepped_machine = record {
       blocks = have_executed.frame.blocks.blocks;
+      runs = runs_after d partition 1 program taken stepped have_executed.frame.blocks taken_machine.runs;
       done = done_after d partition 1 n taken stepped have_executed.frame.blocks taken_machine.done;
       machine = step.stepped c n (f taken) (events ++ combinations d n (f there)) [] (request_phase c m) taken_machine.machine program (f stepped) have_executed.frame.frame;
     }

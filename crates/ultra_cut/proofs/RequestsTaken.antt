@@ -107,6 +107,7 @@ module _ (d : ℕ) (partition : List ℕ) (c : ℕ) (bs : List BlockState) (room
   same k within = record {
     shape = (after k within).shape;
     done = (after k within).done ∙ sym (done k within) ∙ no_more (block_at bs k).done;
+    program = kept (λ t. t.program) (λ n s k t w. refl) (λ i t x. refl) k within;
     switches = λ n h. still_there switches d partition bs blocks.cut take n h (on n h) (step n h) (acts n h) (λ l. refl) (λ w l. refl) k within;
     modules = λ m h. still_there modules d partition bs blocks.cut take m h (on_end m h) (step_end m h) (acts_end m h) (λ l. refl) (λ x l. refl) k within;
     elements = λ i h. ap (λ xs. is_some (element_at xs i)) (kept_elements k within);

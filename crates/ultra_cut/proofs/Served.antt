@@ -36,6 +36,7 @@ module _ (d : ℕ) (low : 1 ≤ d) (high : d ≤ 6) (b : BlockState) (shape : Is
   has_served = record {
     shaped = shape_after_serving d b shape;
     done = kept_by_serving d (λ t. t.done) (λ m t bank. refl) b shape ∙ (let same : b.done ≡ b.done + 0 = omega arith in same);
+    program = kept_by_serving d (λ t. t.program) (λ m t bank. refl) b shape;
     switches = kept_by_serving d (λ t. t.switches) (λ m t bank. refl) b shape;
     modules = λ m h.
         let few = few_units d low high in
@@ -84,4 +85,4 @@ pub serve_law : ServeLaw
 serve_law = have_served
 
 pub can_serve_law : CanServeLaw
-can_serve_law = λ bs room k h n within. room_for_half (block_at bs k) (room k h) n
+can_serve_law = λ program bs room k h n within. room_for_half (block_at bs k) (room k h) n

@@ -20,7 +20,7 @@ use Rattle.ultra_cut.proofs.Replied as replied
 use Rattle.ultra_cut.proofs.Requested as requested
 use Rattle.ultra_cut.proofs.Requested.{AreServed}
 
-module _ (c : Settings) (partition : List ℕ) (n : ℕ) (program : List Instr) (bs : List BlockState) (start : AreWhole c partition n bs)
+module _ (c : Settings) (partition : List ℕ) (n : ℕ) (program : List Instr) (bs : List BlockState) (start : AreWhole c program partition n bs)
     (first : BlockRooms) (first_room : AreRooms c.stages (frame_of c.stages partition bs) (noted c.stages first)) where
   abbrev d : ℕ
   d = c.stages
@@ -42,13 +42,13 @@ module _ (c : Settings) (partition : List ℕ) (n : ℕ) (program : List Instr) 
   sent_single = (replied.are_sent c partition n (events_of d bs) (stops_of d bs) m program bs start.machine start.clear first first_room).single
 
   module _ (replies : List BlockState) (replies_moved : OnlyRepliesMove sent replies) (replies_there : AreRepliesThere d partition replies) where
-    pub can_take_replies : AllCanMake TakeReplies replies
+    pub can_take_replies : AllCanMake program TakeReplies replies
     can_take_replies = replied.all_can_take c partition n (events_of d bs) (stops_of d bs) m program bs start.machine start.clear first first_room replies replies_moved replies_there
 
     abbrev taken : List BlockState
     taken = all_made TakeReplies first program replies
 
-    pub can_serve : AllCanMake Serve taken
+    pub can_serve : AllCanMake program Serve taken
     can_serve = replied.all_can_serve c partition n (events_of d bs) (stops_of d bs) m program bs start.machine start.clear first first_room replies replies_moved replies_there
 
     abbrev served : List BlockState
@@ -68,7 +68,7 @@ module _ (c : Settings) (partition : List ℕ) (n : ℕ) (program : List Instr) 
       abbrev sent_on : List BlockState
       sent_on = all_made SendRequests second program served
 
-      abbrev next : AreServed c partition n so_far middle served second
+      abbrev next : AreServed c program partition n so_far middle served second
       next = whole_cycle.are_served c partition n (events_of d bs) (stops_of d bs) m program bs start.machine start.clear first first_room replies replies_moved replies_there second second_room
 
       pub sent_on_cut : IsCut d partition sent_on
@@ -78,19 +78,19 @@ module _ (c : Settings) (partition : List ℕ) (n : ℕ) (program : List Instr) 
       sent_on_single = (requested.are_sent c partition n so_far middle program served second next).single
 
       module _ (requests : List BlockState) (requests_moved : OnlyRequestsMove sent_on requests) (requests_there : AreRequestsThere d partition requests) where
-        pub can_take_requests : AllCanMake TakeRequests requests
+        pub can_take_requests : AllCanMake program TakeRequests requests
         can_take_requests = requested.all_can_take c partition n so_far middle program served second next requests requests_moved requests_there
 
         abbrev waiting : List BlockState
         waiting = all_made TakeRequests second program requests
 
-        pub can_execute : n < 2 ^ 32 - 1 → AllCanMake Execute waiting
+        pub can_execute : n < 2 ^ 32 - 1 → AllCanMake program Execute waiting
         can_execute early = requested.all_can_execute c partition n so_far middle program served second next requests requests_moved requests_there early
 
         abbrev stepped : List BlockState
         stepped = all_made Execute second program waiting
 
-        cycled : AreMachine c partition (n + 1) (events_of d stepped) (stops_of d stepped) (cycle c program m) stepped
+        cycled : AreMachine c program partition (n + 1) (events_of d stepped) (stops_of d stepped) (cycle c program m) stepped
         cycled =
             whole_cycle.cycled c partition n (events_of d bs) (stops_of d bs) m program bs start.machine start.clear first first_room replies replies_moved replies_there
             second second_room requests requests_moved requests_there
@@ -99,9 +99,9 @@ module _ (c : Settings) (partition : List ℕ) (n : ℕ) (program : List Instr) 
         pub next_machine : machine_in c partition (n + 1) stepped ≡ cycle c program m
         next_machine = cycled.machine.machine
 
-        pub next_whole : AreWhole c partition (n + 1) stepped
+        pub next_whole : AreWhole c program partition (n + 1) stepped
         next_whole = record {
-          machine = subst (λ x. AreMachine c partition (n + 1) (events_of d stepped) (stops_of d stepped) x stepped) (sym next_machine) cycled;
+          machine = subst (λ x. AreMachine c program partition (n + 1) (events_of d stepped) (stops_of d stepped) x stepped) (sym next_machine) cycled;
           clear =
               whole_cycle.stepped_clear c partition n (events_of d bs) (stops_of d bs) m program bs start.machine start.clear first first_room replies replies_moved replies_there
               second second_room requests requests_moved requests_there;

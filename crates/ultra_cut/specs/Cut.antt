@@ -27,6 +27,7 @@ abbrev pub no_block : BlockState
 no_block = record {
   stages = 0;
   done = 0;
+  program = [];
   switches = [];
   modules = [];
   elements = [];

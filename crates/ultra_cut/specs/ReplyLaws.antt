@@ -47,7 +47,7 @@ RepliesTakenLaw =
 
 abbrev pub CanTakeRepliesLaw : Type 0
 CanTakeRepliesLaw =
-    (d : ℕ) (partition : List ℕ) (bs : List BlockState)
+    (d : ℕ) (partition : List ℕ) (program : List Instr) (bs : List BlockState)
     → AreBlocks d partition bs → AreRepliesThere d partition bs → AreSingleReplies bs
     → CanTakeReplies d (frame_of d partition bs) → OfEach HasHalfRoom bs
-    → AllCanMake TakeReplies bs
+    → AllCanMake program TakeReplies bs

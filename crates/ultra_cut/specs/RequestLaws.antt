@@ -50,7 +50,7 @@ RequestsTakenLaw =
 
 abbrev pub CanTakeRequestsLaw : Type 0
 CanTakeRequestsLaw =
-    (d : ℕ) (partition : List ℕ) (bs : List BlockState)
+    (d : ℕ) (partition : List ℕ) (program : List Instr) (bs : List BlockState)
     → AreBlocks d partition bs → AreRequestsThere d partition bs → AreSingleRequests bs
     → CanTakeRequests d (frame_of d partition bs) → OfEach HasHalfRoom bs
-    → AllCanMake TakeRequests bs
+    → AllCanMake program TakeRequests bs

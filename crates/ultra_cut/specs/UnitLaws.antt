@@ -22,7 +22,9 @@ ServeLaw =
     → AreBlocks d partition bs → HaveServed d partition bs (all_made Serve rooms program bs)
 
 abbrev pub CanServeLaw : Type 0
-CanServeLaw = (bs : List BlockState) → OfEach HasHalfRoom bs → AllCanMake Serve bs
+CanServeLaw =
+    (program : List Instr) (bs : List BlockState)
+    → OfEach HasHalfRoom bs → AllCanMake program Serve bs
 
 -- ---- processing elements make a step
 module _ (d : ℕ) (partition : List ℕ) (program : List Instr) where
@@ -46,6 +48,7 @@ ExecuteLaw =
 
 abbrev pub CanExecuteLaw : Type 0
 CanExecuteLaw =
-    (d : ℕ) (partition : List ℕ) (bs : List BlockState)
-    → AreBlocks d partition bs → OfEach CanCount bs → CanExecute d (frame_of d partition bs)
-    → OfEach HasHalfRoom bs → OfEach HasNoStops bs → AllCanMake Execute bs
+    (d : ℕ) (partition : List ℕ) (program : List Instr) (bs : List BlockState)
+    → AreBlocks d partition bs → OfEach (λ b. b.program ≡ program) bs → OfEach CanCount bs
+    → CanExecute d (frame_of d partition bs) → OfEach HasHalfRoom bs → OfEach HasNoStops bs
+    → AllCanMake program Execute bs

@@ -42,5 +42,9 @@ HasRoom n team = n ≤ vec_capacity team
 abbrev pub task_made : Half → Rooms → List Instr → Task → Task
 task_made h rooms program t = record t { block = made h rooms program t.block }
 
-abbrev pub CanBeMade : Half → Task → Type 0
-CanBeMade h t = CanMake h t.block
+-- by the program of its block
+abbrev pub own_task_made : Half → Rooms → Task → Task
+own_task_made h rooms t = task_made h rooms t.block.program t
+
+abbrev pub CanBeMade : List Instr → Half → Task → Type 0
+CanBeMade program h t = CanMake program h t.block

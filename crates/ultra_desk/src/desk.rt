@@ -1,7 +1,6 @@
 //! A worker's thread, with the way to it and the way back.
 
 ghost use Rattle.std.specs.Prelude.{◌≡◌, All, IfOk, map};
-ghost use Rattle.std.specs.Arc.{arc_value};
 ghost use Rattle.ultra_desk.specs.Tasks.{CanBeMade, task_made};
 
 use crate::course::Course;
@@ -13,9 +12,8 @@ use crossbeam_channel::{Receiver, SendError, Sender, TryRecvError, bounded};
 use std::alloc::Global;
 use std::hint;
 use std::marker::PhantomData;
-use std::sync::{Arc, Wait};
+use std::sync::Wait;
 use std::thread::{JoinHandle, Scope, Threads};
-use ultra_isa::Program;
 use ultra_section::Rooms;
 
 /// A worker's thread, which waits for orders and gives results back until the desk is closed.
@@ -26,13 +24,11 @@ pub struct Desk<J: Course> {
     thread: JoinHandle<()>,
 }
 
-/// What a worker's thread holds as long as its desk is open: the program that the machine runs, and the ways by which orders come and results go.
+/// What a worker's thread holds as long as its desk is open: the ways by which orders come and results go.
 #[derive(Drop)]
 struct Hand<J: Course> {
-    program: Arc<Program, Global>,
     orders: Receiver<Order<J>>,
     results: Sender<Results<J>>,
-    ghost settled: { arc_value program ≡ J.program },
 }
 
 /// How often a thread looks for a message before it sleeps until one comes: for about the time that a half of a cycle takes.
@@ -64,7 +60,7 @@ impl<J: Course> Hand<J> {
     fn answers<R: Wait, G: Gate>(&self, rt: &R, gate: &G) -> bool {
         match next(rt, &self.orders) {
             Some(order) => {
-                let made = order.make(rt, gate, &self.program);
+                let made = order.make(rt, gate);
                 self.results.send(rt, made).is_ok()
             }
             None => false,
@@ -89,22 +85,19 @@ impl<J: Course> Hand<J> {
 }
 
 impl<J: Course> Desk<J> {
-    /// Starts a worker's thread. It makes halves of blocks whose processing elements run this program, and calls this gate before each half of a block. `NoThread` says that it could not be started, `NoMemory` that memory was refused.
+    /// Starts a worker's thread. It makes halves of blocks, and calls this gate before each half of a block. `NoThread` says that it could not be started, `NoMemory` that memory was refused.
     pub fn open<'s, E, R: Threads + Wait + Sync, G: Gate + Sync>(
         scope: &Scope<'s, E>,
         rt: &'s R,
         alloc: Global,
         gate: &'s G,
-        program: Arc<Program, Global>,
     ) -> Result<Desk<J>, CrewFault>
     where
         J: Send + 's,
-        requires { arc_value program ≡ J.program }
     {
         let (orders, to_make) = bounded(alloc, 1)?;
         let (made, results) = bounded(alloc, 1)?;
         let hand = Hand {
-            program,
             orders: to_make,
             results: made,
         };
@@ -124,7 +117,7 @@ impl<J: Course> Desk<J> {
         team: Vec<Task>,
         rooms: &Rooms,
     ) -> Result<(), CrewFault>
-        requires ready { All (CanBeMade name.half) team.items }
+        requires ready { All (CanBeMade J.program name.half) team.items }
         requires settled { map (task_made name.half rooms.now J.program) team.items ≡ J.results name.cycle name.half name.worker }
     {
         let order = Order {

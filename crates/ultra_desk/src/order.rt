@@ -8,7 +8,6 @@ use crate::gate::Gate;
 use crate::task::{Name, Task, make_all};
 use std::marker::{Model, PhantomData};
 use std::sync::Wait;
-use ultra_isa::Program;
 use ultra_section::Rooms;
 
 /// The team of a worker for a half, and the rooms that were noted before it. They are those of the machine's course.
@@ -25,7 +24,7 @@ impl<J: Course> Model for Order<J> {
 
     ghost view = { λ _. tt };
 
-    ghost invariant = { λ o. All (CanBeMade o.name.half) o.team.items × (map (task_made o.name.half o.rooms J.program) o.team.items ≡ J.results o.name.cycle o.name.half o.name.worker) };
+    ghost invariant = { λ o. All (CanBeMade J.program o.name.half) o.team.items × (map (task_made o.name.half o.rooms J.program) o.team.items ≡ J.results o.name.cycle o.name.half o.name.worker) };
 }
 
 /// The team of a worker after a half.
@@ -39,16 +38,14 @@ pub(crate) struct Results<J: Course> {
 
 impl<J: Course> Order<J> {
     /// The worker calls the gate for each task, and then does it.
-    pub(crate) fn make<R: Wait, G: Gate>(self, rt: &R, gate: &G, program: &Program) -> Results<J>
-        requires { program.now ≡ J.program }
-    {
+    pub(crate) fn make<R: Wait, G: Gate>(self, rt: &R, gate: &G) -> Results<J> {
         let Order {
             name,
             mut team,
             rooms,
             course,
         } = self;
-        make_all(rt, gate, name, team.as_mut_slice(), &rooms, program);
+        make_all(rt, gate, name, team.as_mut_slice(), &rooms);
         Results { name, team, course }
     }
 }

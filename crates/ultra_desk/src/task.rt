@@ -1,11 +1,11 @@
 //! A worker's task: a block that makes a half.
 
-ghost use Rattle.std.specs.Prelude.{◌≡◌, All, map};
-ghost use Rattle.ultra_desk.specs.Tasks.{CanBeMade, task_made};
+ghost use Rattle.std.specs.Prelude.{◌≡◌, List, All, map};
+ghost use Rattle.ultra_isa.specs.declared.Instr.{Instr};
+ghost use Rattle.ultra_desk.specs.Tasks.{CanBeMade, own_task_made};
 
 use crate::gate::Gate;
 use std::sync::Wait;
-use ultra_isa::Program;
 use ultra_section::{Block, Half, Rooms};
 
 /// A cycle, a half and a worker: the name of what goes to the worker, and of what comes back.
@@ -35,23 +35,22 @@ pub(crate) fn make_all<R: Wait, G: Gate>(
     name: Name,
     team: &mut [Task],
     rooms: &Rooms,
-    program: &Program,
 )
-    requires { All (CanBeMade name.half) team.old }
-    ensures { team.new ≡ map (task_made name.half rooms.now program.now) team.old }
+    requires { (program : List Instr) × All (CanBeMade program name.half) team.old }
+    ensures { team.new ≡ map (own_task_made name.half rooms.now) team.old }
 {
     for task in team.iter_mut() {
         gate.before(rt, name.cycle, name.half, task.number);
-        task.make(name.half, rooms, program);
+        task.make(name.half, rooms);
     }
 }
 
 impl Task {
     /// The block makes this half.
-    fn make(&mut self, half: Half, rooms: &Rooms, program: &Program)
-        requires { CanBeMade half self.old }
-        ensures { self.new ≡ task_made half rooms.now program.now self.old }
+    fn make(&mut self, half: Half, rooms: &Rooms)
+        requires { CanBeMade self.old.block.program half self.old }
+        ensures { self.new ≡ own_task_made half rooms.now self.old }
     {
-        self.block.make(half, rooms, program);
+        self.block.make(half, rooms);
     }
 }

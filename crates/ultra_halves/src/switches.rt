@@ -1,6 +1,6 @@
 //! What the halves of a cycle do to a switch.
 
-ghost use Rattle.std.specs.Prelude.{◌≡◌, ℕ, ◌+◌, ◌-◌, ◌^◌, ◌<◌, ◌≤◌, ◌++◌, [], false, length, vec_capacity};
+ghost use Rattle.std.specs.Prelude.{◌≡◌, ◌↔◌, ℕ, ◌+◌, ◌-◌, ◌^◌, ◌<◌, ◌≤◌, ◌++◌, [], false, length, vec_capacity};
 ghost use Rattle.ultra_halves.specs.Switches.{CanTakeReplies, CanTakeRequests, after_replies, after_requests, combinations_of, has_reply_room, has_request_room, holds_replies, holds_requests, keeps_records, quiet_switch, replies_leaving, request_heads, requests_leaving, without_replies, without_requests};
 
 use crate::replies::{self, take_reply};
@@ -58,7 +58,7 @@ pub fn send_requests(switch: &mut Switch, goes: Ports<bool>) -> Ports<Option<Req
 
 /// The requests that came, by the PE-side port, go to the queues by which they leave this stage, in the order of this cycle: port 0 first in even cycles, port 1 in odd ones. `index` is the number of the switch in its stage. Where a request came, the queue that it goes to has at least 2 free places.
 ///
-/// Their combinations are appended to `events`: by position, and at one position in the order of the arrivals. `false` says that there are none.
+/// Their combinations are appended to `events`: by position, and at one position in the order of the arrivals. Answers whether there are any.
 #[inline(always)]
 pub fn take_requests(
     switch: &mut Switch,
@@ -77,7 +77,7 @@ pub fn take_requests(
     ensures events { events.new.items ≡ events.old.items ++ combinations_of net stage index cycle switch.old came }
     ensures places { vec_capacity events.old ≤ vec_capacity events.new }
     ensures few { length events.new.items ≤ length events.old.items + 2 }
-    ensures none { result ≡ false → combinations_of net stage index cycle switch.old came ≡ [] }
+    ensures none { (result ≡ false) ↔ (combinations_of net stage index cycle switch.old came ≡ []) }
 {
     let (first, second) = in_turn(cycle, came);
     let to_mm = &mut switch.to_mm;

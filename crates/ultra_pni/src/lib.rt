@@ -1,7 +1,7 @@
 //! A processing element's network interface: its requests that are not yet in the network, and its open cells.
 #![tactic(auto)]
 
-ghost use Rattle.std.specs.Prelude.{◌≡◌, ℕ, ◌-◌, ◌<◌, ◌≤◌, ◌==◌, ◌&&◌, [], true, false, length, drop, slice_get};
+ghost use Rattle.std.specs.Prelude.{◌≡◌, ℕ, ◌-◌, ◌<◌, ◌≤◌, ◌↔◌, ◌==◌, ◌&&◌, [], true, false, length, drop, slice_get};
 ghost use Rattle.std.specs.List.{position};
 ghost use Rattle.ultra_pni.specs.Interface.{empty_interface, is_open, is_awaited, issue_of, after_issue, target_of, closed, IsWithin};
 
@@ -150,10 +150,10 @@ impl Pni {
         self.awaited.has(register)
     }
 
-    /// `true` says that no register is awaited.
+    /// Whether no register is awaited.
     #[inline(always)]
     pub fn awaits_none(&self) -> bool
-        ensures { result ≡ true → (r : ℕ) → is_awaited r self.now.interface.opened ≡ false }
+        ensures { (result ≡ true) ↔ ((r : ℕ) → is_awaited r self.now.interface.opened ≡ false) }
     {
         self.awaited.is_empty()
     }

@@ -1,6 +1,6 @@
 //! Sets of registers.
 
-ghost use Rattle.std.specs.Prelude.{◌≡◌, ℕ, ◌<◌, ◌==◌, ◌||◌, true, false};
+ghost use Rattle.std.specs.Prelude.{◌≡◌, ℕ, ◌<◌, ◌↔◌, ◌==◌, ◌||◌, true, false};
 ghost use Rattle.ultra_pni.specs.Interface.{goes_to, is_awaited};
 ghost use Rattle.ultra_pni.specs.Registers.{has_register};
 
@@ -42,10 +42,10 @@ impl Registers {
         (self.word >> register.index()) % 2 == 1
     }
 
-    /// `true` says that there is none.
+    /// Whether there is none.
     #[inline(always)]
     pub(crate) fn is_empty(self) -> bool
-        ensures { result ≡ true → (r : ℕ) → has_register self r ≡ false }
+        ensures { (result ≡ true) ↔ ((r : ℕ) → has_register self r ≡ false) }
     {
         self.word == 0
     }

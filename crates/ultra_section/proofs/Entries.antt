@@ -8,6 +8,7 @@ use Rattle.ultra_msg.specs.declared.Request.{Request}
 use Rattle.ultra_msg.specs.declared.ReplyMessage.{ReplyMessage}
 use Rattle.ultra_switch.specs.declared.Switch.{Switch}
 use Rattle.ultra_mem.specs.Serve.{Bank}
+use Rattle.ultra_isa.specs.declared.Instr.{Instr}
 use Rattle.ultra_model.specs.Places.{present}
 use Rattle.ultra_units.specs.Numbers.{switch_count}
 use Rattle.ultra_halves.specs.declared.elements.ProcessingElement.{ProcessingElement}
@@ -45,17 +46,17 @@ pub one_more : {X : Type 0} (xs : List X) (o : Option X) (x : X) → o ≡ Some 
 one_more xs o x is = sym (ap (λ p. xs ++ present (p ∷ [])) is)
 
 -- ---- what is kept of a block stays so
-module _ {d numbering : ℕ} {s : Sets} {ws : List (Option Switch)} {bs : List (Option Bank)} {es : List (Option ProcessingElement)}
+module _ {d numbering : ℕ} {program : List Instr} {s : Sets} {awake : List ℕ} {ws : List (Option Switch)} {bs : List (Option Bank)} {es : List (Option ProcessingElement)}
     {for_replies : Links ReplyMessage} {for_requests : Links Request} {event_places stop_places : ℕ}
-    (kept : IsKept d numbering s ws bs es for_replies for_requests event_places stop_places) where
-  pub switches_kept : (vs : List (Option Switch)) → vs ≡ ws → IsKept d numbering s vs bs es for_replies for_requests event_places stop_places
-  switches_kept vs same = subst (λ ws. IsKept d numbering s ws bs es for_replies for_requests event_places stop_places) (sym same) kept
+    (kept : IsKept d numbering program s awake ws bs es for_replies for_requests event_places stop_places) where
+  pub switches_kept : (vs : List (Option Switch)) → vs ≡ ws → IsKept d numbering program s awake vs bs es for_replies for_requests event_places stop_places
+  switches_kept vs same = subst (λ ws. IsKept d numbering program s awake ws bs es for_replies for_requests event_places stop_places) (sym same) kept
 
-  pub modules_kept : (cs : List (Option Bank)) → cs ≡ bs → IsKept d numbering s ws cs es for_replies for_requests event_places stop_places
-  modules_kept cs same = subst (λ bs. IsKept d numbering s ws bs es for_replies for_requests event_places stop_places) (sym same) kept
+  pub modules_kept : (cs : List (Option Bank)) → cs ≡ bs → IsKept d numbering program s awake ws cs es for_replies for_requests event_places stop_places
+  modules_kept cs same = subst (λ bs. IsKept d numbering program s awake ws bs es for_replies for_requests event_places stop_places) (sym same) kept
 
-  pub elements_kept : (fs : List (Option ProcessingElement)) → fs ≡ es → IsKept d numbering s ws bs fs for_replies for_requests event_places stop_places
-  elements_kept fs same = subst (λ es. IsKept d numbering s ws bs es for_replies for_requests event_places stop_places) (sym same) kept
+  pub elements_kept : (fs : List (Option ProcessingElement)) → fs ≡ es → IsKept d numbering program s awake ws bs fs for_replies for_requests event_places stop_places
+  elements_kept fs same = subst (λ es. IsKept d numbering program s awake ws bs es for_replies for_requests event_places stop_places) (sym same) kept
 
 -- ---- a half at one unit of a block, which is `inside` before: `act` is what the half does to a unit that stands there
 module _ {inside b : BlockState} (same : inside ≡ b) where

@@ -7,6 +7,7 @@ use Rattle.ultra_switch.specs.declared.Switch.{Switch}
 use Rattle.ultra_switch.specs.declared.Ports.{Ports}
 use Rattle.ultra_mem.specs.Serve.{Bank}
 use Rattle.ultra_isa.specs.Step.{has_stopped}
+use Rattle.ultra_isa.specs.declared.Instr.{Instr}
 use Rattle.ultra_units.specs.Numbers.{switch_count, module_number, element_number}
 use Rattle.ultra_halves.specs.Switches.{has_reply_room, has_request_room, holds_replies, holds_requests, keeps_records}
 use Rattle.ultra_halves.specs.Elements.{holds_request}
@@ -18,7 +19,7 @@ use Rattle.ultra_msg.specs.declared.Request.{Request}
 use Rattle.ultra_msg.specs.declared.ReplyMessage.{ReplyMessage}
 use Rattle.ultra_units.specs.declared.links.Links.{Links}
 use Rattle.ultra_units.specs.Marks.{RepliesAreKnown, RequestsAreKnown}
-use Rattle.ultra_section.specs.BlockState.{IsKept, UnitsAreKnown}
+use Rattle.ultra_section.specs.BlockState.{AreOthersAtRest, IsKept, UnitsAreKnown}
 
 -- the sets agree on all units but one
 abbrev pub AgreeBut : ℕ → Sets → Sets → Type 0
@@ -118,9 +119,9 @@ module_noted f g b c known is =
     rw is record { here = known.here; holds_replies = refl; holds_requests = refl; no_room_zero = refl; to_serve = refl; keeps_records = known.keeps_records }
 
 pub element_noted : (f g : UnitFacts) (e v : ProcessingElement) → KnowsElement f (Some e)
-    → g ≡ record f { holds_requests = holds_request v; to_step = not (has_stopped v.processor.core.activity) } → KnowsElement g (Some v)
+    → g ≡ record f { holds_requests = holds_request v; running = not (has_stopped v.processor.core.activity) } → KnowsElement g (Some v)
 element_noted f g e v known is =
-    rw is record { here = known.here; holds_replies = known.holds_replies; holds_requests = refl; to_step = refl; keeps_records = known.keeps_records }
+    rw is record { here = known.here; holds_replies = known.holds_replies; holds_requests = refl; running = refl; keeps_records = known.keeps_records }
 
 -- what a read of an entry gives
 pub stands : {X : Type 0} (xs : List (Option X)) (n : ℕ) (o : Option X) (x : X) → n < length xs → o ≡ get_or xs n o → o ≡ Some x → slice_index_or xs n None ≡ Some x
@@ -173,7 +174,7 @@ module _ (d : ℕ) (old now : Sets) (ws : List (Option Switch)) (bs : List (Opti
       (subst (λ k. KnowsModule (facts_at now k) (Some c)) own.number (module_noted (facts_at old n) (facts_at now n) b c was noted))
 
   pub element_changed : (n p : ℕ) (o : Option ProcessingElement) (e v : ProcessingElement) → IsElement d n p → o ≡ get_or es p o → o ≡ Some e → AgreeBut n old now
-      → facts_at now n ≡ record (facts_at old n) { holds_requests = holds_request v; to_step = not (has_stopped v.processor.core.activity) }
+      → facts_at now n ≡ record (facts_at old n) { holds_requests = holds_request v; running = not (has_stopped v.processor.core.activity) }
       → UnitsAreKnown d now ws bs (set es p (Some v))
   element_changed n p o e v own read is agree noted =
       let was = subst (λ k. KnowsElement (facts_at old k) (Some e)) (sym own.number)
@@ -187,16 +188,17 @@ module _ (d : ℕ) (old now : Sets) (ws : List (Option Switch)) (bs : List (Opti
   element_same n p o e v own read is pending stopped =
       let was = subst (λ x. KnowsElement (facts_at old (element_number d p)) x) (stands es p o e (omega (arith, known.element_entries, own.small)) read is) (known.elements p own.small) in
       element_known d old old ws bs es known p (Some v) own.small (λ k _. refl)
-      record { here = was.here; holds_replies = was.holds_replies; holds_requests = was.holds_requests ∙ sym pending; to_step = was.to_step ∙ ap (λ b. not b) (sym stopped); keeps_records = was.keeps_records }
+      record { here = was.here; holds_replies = was.holds_replies; holds_requests = was.holds_requests ∙ sym pending; running = was.running ∙ ap (λ b. not b) (sym stopped); keeps_records = was.keeps_records }
 
 -- ---- a block whose units have changed, and not what is on its links
-pub units_changed : (d numbering : ℕ) (old now : Sets) (ws vs : List (Option Switch)) (bs cs : List (Option Bank)) (es fs : List (Option ProcessingElement))
+pub units_changed : {program : List Instr} {awake woken : List ℕ} (d numbering : ℕ) (old now : Sets) (ws vs : List (Option Switch)) (bs cs : List (Option Bank)) (es fs : List (Option ProcessingElement))
     (for_replies : Links ReplyMessage) (for_requests : Links Request) (event_places stop_places more_event_places more_stop_places : ℕ)
-    → IsKept d numbering old ws bs es for_replies for_requests event_places stop_places → now.here ≡ old.here → UnitsAreKnown d now vs cs fs
-    → event_places ≤ more_event_places → stop_places ≤ more_stop_places → IsKept d numbering now vs cs fs for_replies for_requests more_event_places more_stop_places
-units_changed d numbering old now ws vs bs cs es fs rs qs e s e' s' kept same units more_events more_stops = record {
+    → IsKept d numbering program old awake ws bs es for_replies for_requests event_places stop_places → now.here ≡ old.here → UnitsAreKnown d now vs cs fs → AreOthersAtRest d program woken fs
+    → event_places ≤ more_event_places → stop_places ≤ more_stop_places → IsKept d numbering program now woken vs cs fs for_replies for_requests more_event_places more_stop_places
+units_changed d numbering old now ws vs bs cs es fs rs qs e s e' s' kept same units rests more_events more_stops = record {
   numbers = kept.numbers;
   units = units;
+  rests = rests;
   replies = subst (λ h. RepliesAreKnown d h rs) (sym same) kept.replies;
   requests = subst (λ h. RequestsAreKnown d h qs) (sym same) kept.requests;
   events_fit = omega (arith, kept.events_fit);

@@ -2,6 +2,7 @@ pub use Rattle.ultra_units.proofs.Readers
 pub use Rattle.ultra_units.proofs.Standing
 pub use Rattle.ultra_units.proofs.Marks
 pub use Rattle.ultra_units.proofs.Put
+mod Awake
 pub mod Records
 pub mod Known
 pub mod Entries
@@ -27,3 +28,4 @@ pub mod RepliesAway
 pub mod RequestsAway
 pub mod Holding
 pub mod OwnRooms
+pub mod OwnProgram

@@ -7,6 +7,7 @@ use Rattle.ultra_msg.specs.declared.ReplyMessage.{ReplyMessage}
 use Rattle.ultra_switch.specs.declared.Switch.{Switch}
 use Rattle.ultra_mem.specs.Serve.{Bank}
 use Rattle.ultra_isa.specs.Step.{has_stopped}
+use Rattle.ultra_isa.specs.declared.Instr.{Instr}
 use Rattle.ultra_units.specs.Set.{has_unit}
 use Rattle.ultra_units.specs.Numbers.{switch_count, module_number, element_number}
 use Rattle.ultra_halves.specs.Switches.{has_reply_room, has_request_room, holds_replies, holds_requests, keeps_records}
@@ -16,21 +17,23 @@ use Rattle.ultra_section.specs.declared.sets.Sets.{Sets}
 use Rattle.ultra_units.specs.declared.links.Links.{Links}
 use Rattle.ultra_section.specs.Sets.{UnitFacts, no_facts, facts_at, would_serve, KnowsSwitch, KnowsModule, KnowsElement}
 use Rattle.ultra_units.specs.Marks.{RepliesAreKnown, RequestsAreKnown}
-use Rattle.ultra_section.specs.BlockState.{IsKept, UnitsAreKnown, most_events, most_stops}
+use Rattle.ultra_section.specs.BlockState.{AreOthersAtRest, IsKept, UnitsAreKnown, most_events, most_stops}
 use Rattle.ultra_units.proofs.Renewed.{no_entry, no_replies, no_requests}
 use Rattle.ultra_section.proofs.Known.{AgreeBut}
+use Rattle.ultra_section.proofs.Awake.{IsAtRest, none_rests}
 
 -- ---- the block
 pub others_here : (n : ℕ) (old now : Sets) → AgreeBut n old now → (k : ℕ) → k ≢ n → has_unit now.here k ≡ has_unit old.here k
 others_here n old now agree k other = ap (λ (f : UnitFacts). f.here) (agree k other)
 
-pub unit_moved : (d numbering : ℕ) (old now : Sets) (ws vs : List (Option Switch)) (bs cs : List (Option Bank)) (es fs : List (Option ProcessingElement))
+pub unit_moved : {program : List Instr} {awake woken : List ℕ} (d numbering : ℕ) (old now : Sets) (ws vs : List (Option Switch)) (bs cs : List (Option Bank)) (es fs : List (Option ProcessingElement))
     (rl rm : Links ReplyMessage) (ql qm : Links Request) (event_places stop_places : ℕ)
-    → IsKept d numbering old ws bs es rl ql event_places stop_places → UnitsAreKnown d now vs cs fs → RepliesAreKnown d now.here rm → RequestsAreKnown d now.here qm
-    → IsKept d numbering now vs cs fs rm qm event_places stop_places
-unit_moved d numbering old now ws vs bs cs es fs rl rm ql qm e s kept units replies requests = record {
+    → IsKept d numbering program old awake ws bs es rl ql event_places stop_places → UnitsAreKnown d now vs cs fs → AreOthersAtRest d program woken fs → RepliesAreKnown d now.here rm → RequestsAreKnown d now.here qm
+    → IsKept d numbering program now woken vs cs fs rm qm event_places stop_places
+unit_moved d numbering old now ws vs bs cs es fs rl rm ql qm e s kept units rests replies requests = record {
   numbers = kept.numbers;
   units = units;
+  rests = rests;
   replies = replies;
   requests = requests;
   events_fit = kept.events_fit;
@@ -57,9 +60,9 @@ module_put f g h o b was stands noted =
     rw (noted, stands) record { here = refl; holds_replies = refl; holds_requests = refl; no_room_zero = refl; to_serve = refl; keeps_records = was.keeps_records }
 
 pub element_put : (f g h : UnitFacts) (o : Option ProcessingElement) (e : ProcessingElement) → KnowsElement f o → g ≡ record f { here = true }
-    → h ≡ record g { holds_requests = holds_request e; to_step = not (has_stopped e.processor.core.activity) } → KnowsElement h (Some e)
+    → h ≡ record g { holds_requests = holds_request e; running = not (has_stopped e.processor.core.activity) } → KnowsElement h (Some e)
 element_put f g h o e was stands noted =
-    rw (noted, stands) record { here = refl; holds_replies = was.holds_replies; holds_requests = refl; to_step = refl; keeps_records = was.keeps_records }
+    rw (noted, stands) record { here = refl; holds_replies = was.holds_replies; holds_requests = refl; running = refl; keeps_records = was.keeps_records }
 
 pub switch_gone : (f : UnitFacts) → f ≡ no_facts → KnowsSwitch f None
 switch_gone f none = rw none record { here = refl; holds_replies = refl; no_reply_room = refl; holds_requests = refl; no_room_zero = refl; no_room_one = refl; keeps_records = refl }
@@ -68,14 +71,14 @@ pub module_gone : (f : UnitFacts) → f ≡ no_facts → KnowsModule f None
 module_gone f none = rw none record { here = refl; holds_replies = refl; holds_requests = refl; no_room_zero = refl; to_serve = refl; keeps_records = refl }
 
 pub element_gone : (f : UnitFacts) → f ≡ no_facts → KnowsElement f None
-element_gone f none = rw none record { here = refl; holds_replies = refl; holds_requests = refl; to_step = refl; keeps_records = refl }
+element_gone f none = rw none record { here = refl; holds_replies = refl; holds_requests = refl; running = refl; keeps_records = refl }
 
 -- ---- a block without units
-pub nothing_kept : (d numbering : ℕ) (s : Sets) (ws : List (Option Switch)) (bs : List (Option Bank)) (es : List (Option ProcessingElement)) (rl : Links ReplyMessage) (ql : Links Request) (event_places stop_places : ℕ)
+pub nothing_kept : (d numbering : ℕ) (program : List Instr) (s : Sets) (awake : List ℕ) (ws : List (Option Switch)) (bs : List (Option Bank)) (es : List (Option ProcessingElement)) (rl : Links ReplyMessage) (ql : Links Request) (event_places stop_places : ℕ)
     → numbering ≡ d → ((k : ℕ) → facts_at s k ≡ no_facts) → ws ≡ replicate (switch_count d) None → bs ≡ replicate (2 ^ d) None → es ≡ replicate (2 ^ d) None
     → rl.table.items ≡ replicate ((d + 1) * 2 ^ d) None → ql.table.items ≡ replicate ((d + 1) * 2 ^ d) None
-    → most_events ≤ event_places → most_stops ≤ stop_places → IsKept d numbering s ws bs es rl ql event_places stop_places
-nothing_kept d numbering s ws bs es rl ql e t numbers none switches modules elements replies requests events stops = record {
+    → most_events ≤ event_places → most_stops ≤ stop_places → IsKept d numbering program s awake ws bs es rl ql event_places stop_places
+nothing_kept d numbering program s awake ws bs es rl ql e t numbers none switches modules elements replies requests events stops = record {
   numbers = numbers;
   units = record {
     switch_entries = ap length switches ∙ length-replicate (switch_count d) None;
@@ -86,6 +89,7 @@ nothing_kept d numbering s ws bs es rl ql e t numbers none switches modules elem
     elements = λ p h. subst (λ o. KnowsElement (facts_at s (element_number d p)) o) (sym (no_entry es (2 ^ d) p elements)) (element_gone (facts_at s (element_number d p)) (none (element_number d p)));
     others = λ n h. none n;
   };
+  rests = λ p h asleep. subst (IsAtRest program) (sym (no_entry es (2 ^ d) p elements)) (none_rests program);
   replies = no_replies d s.here rl replies;
   requests = no_requests d s.here ql requests;
   events_fit = events;

@@ -1,22 +1,28 @@
 -- a block: some of the units of a machine, and the links
-use Rattle.std.specs.Prelude.{◌≡◌, ℕ, ◌+◌, ◌*◌, ◌^◌, ◌<◌, ◌≤◌, List, length, Option, None, slice_index_or}
+use Rattle.std.specs.Prelude.{◌≡◌, ℕ, ◌+◌, ◌*◌, ◌^◌, ◌<◌, ◌≤◌, List, length, false, IsTrue, Option, None, slice_index_or}
+use Rattle.std.specs.Option.{ForSome}
 use Rattle.ultra_msg.specs.declared.Request.{Request}
 use Rattle.ultra_msg.specs.declared.ReplyMessage.{ReplyMessage}
 use Rattle.ultra_msg.specs.declared.Event.{Event}
 use Rattle.ultra_switch.specs.declared.Switch.{Switch}
 use Rattle.ultra_mem.specs.Serve.{Bank}
+use Rattle.ultra_isa.specs.declared.Instr.{Instr}
 use Rattle.ultra_model.specs.declared.Stop.{Stop}
 use Rattle.ultra_units.specs.Numbers.{switch_count, module_number, element_number, unit_count}
+use Rattle.ultra_units.specs.Set.{has_unit}
+use Rattle.ultra_halves.specs.Elements.{is_at_rest}
 use Rattle.ultra_halves.specs.declared.elements.ProcessingElement.{ProcessingElement}
 use Rattle.ultra_section.specs.declared.sets.Sets.{Sets}
 use Rattle.ultra_units.specs.declared.links.Links.{Links}
 use Rattle.ultra_section.specs.Sets.{facts_at, no_facts, KnowsSwitch, KnowsModule, KnowsElement}
 use Rattle.ultra_units.specs.Marks.{RepliesAreKnown, RequestsAreKnown}
 
--- the units that stand there, by their numbers, what is on each link, and what has happened in the cycle
+-- the program that its processing elements run, the units that stand there, by their numbers, what is
+-- on each link, and what has happened in the cycle
 pub record BlockState : Type 0 where
   pub stages : ℕ
   pub done : ℕ
+  pub program : List Instr
   pub switches : List (Option Switch)
   pub modules : List (Option Bank)
   pub elements : List (Option ProcessingElement)
@@ -44,6 +50,12 @@ pub record UnitsAreKnown (d : ℕ) (s : Sets) (ws : List (Option Switch)) (bs : 
   pub elements : (p : ℕ) → p < 2 ^ d → KnowsElement (facts_at s (element_number d p)) (element_at es p)
   pub others : (n : ℕ) → unit_count d ≤ n → facts_at s n ≡ no_facts
 
+-- the processing elements outside a set are at rest: a step of the program leaves each as it is
+abbrev pub AreOthersAtRest : ℕ → List Instr → List ℕ → List (Option ProcessingElement) → Type 0
+AreOthersAtRest d program awake es =
+    (p : ℕ) → p < 2 ^ d → has_unit awake (element_number d p) ≡ false
+    → ForSome (element_at es p) (λ e. IsTrue (is_at_rest program e))
+
 -- how many events there is memory for, and how many stops
 abbrev pub most_events : ℕ
 most_events = 2560
@@ -51,9 +63,10 @@ most_events = 2560
 abbrev pub most_stops : ℕ
 most_stops = 320
 
-pub record IsKept (d numbering : ℕ) (s : Sets) (ws : List (Option Switch)) (bs : List (Option Bank)) (es : List (Option ProcessingElement)) (for_replies : Links ReplyMessage) (for_requests : Links Request) (event_places stop_places : ℕ) : Type 0 where
+pub record IsKept (d numbering : ℕ) (program : List Instr) (s : Sets) (awake : List ℕ) (ws : List (Option Switch)) (bs : List (Option Bank)) (es : List (Option ProcessingElement)) (for_replies : Links ReplyMessage) (for_requests : Links Request) (event_places stop_places : ℕ) : Type 0 where
   pub numbers : numbering ≡ d
   pub units : UnitsAreKnown d s ws bs es
+  pub rests : AreOthersAtRest d program awake es
   pub replies : RepliesAreKnown d s.here for_replies
   pub requests : RequestsAreKnown d s.here for_requests
   pub events_fit : most_events ≤ event_places

@@ -32,6 +32,10 @@ module _ (program : List Instr) where
     | unit.Nothing ↦ b
   ]
 
+-- by the block's own program
+abbrev pub executes_own : ℕ → BlockState → BlockState
+executes_own n b = executes b.program n b
+
 -- a processing element has issued few requests so far
 abbrev pub ElementCanExecute : ℕ → BlockState → Type 0
 ElementCanExecute p b = ForSome (element_at b.elements p) (λ e. e.issued < 2 ^ 32 - 1)

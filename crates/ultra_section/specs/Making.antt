@@ -1,5 +1,5 @@
 -- a half of a cycle, whichever it is, made by a block
-use Rattle.std.specs.Prelude.{ℕ, ◌-◌, ◌^◌, ◌<◌, List}
+use Rattle.std.specs.Prelude.{◌≡◌, ℕ, ◌-◌, ◌^◌, ◌<◌, List}
 use Rattle.ultra_isa.specs.declared.Instr.{Instr}
 use Rattle.ultra_units.specs.Visits.{after_units}
 use Rattle.ultra_section.specs.declared.half.Half.{Half}
@@ -17,19 +17,21 @@ use Rattle.ultra_section.specs.Execution.{CanExecuteAt, counted, executes}
 abbrev pub AtUnits : (ℕ → BlockState → Type 0) → BlockState → Type 0
 AtUnits P b = (k : ℕ) → k < 320 → P k b
 
--- fewer than 2^32 - 1 cycles are done, and each processing element has issued few requests
-pub record CanExecute (b : BlockState) : Type 0 where
+-- the program is the block's, fewer than 2^32 - 1 cycles are done, and each processing element has
+-- issued few requests
+pub record CanExecute (program : List Instr) (b : BlockState) : Type 0 where
+  pub runs : b.program ≡ program
   pub few : b.done < 2 ^ 32 - 1
   pub units : AtUnits CanExecuteAt b
 
--- the conditions of the half
-abbrev pub CanMake : Half → BlockState → Type 0
-CanMake SendReplies b = Unit {0}
-CanMake TakeReplies b = AtUnits CanTakeRepliesAt b
-CanMake Serve b = AtUnits HasEventRoom b
-CanMake SendRequests b = Unit {0}
-CanMake TakeRequests b = AtUnits CanTakeRequestsAt b
-CanMake Execute b = CanExecute b
+-- the conditions of the half, in a machine that runs the program
+abbrev pub CanMake : List Instr → Half → BlockState → Type 0
+CanMake program SendReplies b = Unit {0}
+CanMake program TakeReplies b = AtUnits CanTakeRepliesAt b
+CanMake program Serve b = AtUnits HasEventRoom b
+CanMake program SendRequests b = Unit {0}
+CanMake program TakeRequests b = AtUnits CanTakeRequestsAt b
+CanMake program Execute b = CanExecute program b
 
 -- the block after it
 abbrev pub made : Half → Rooms → List Instr → BlockState → BlockState
@@ -39,3 +41,7 @@ made Serve rooms program b = after_units serves 320 b
 made SendRequests rooms program b = after_units (sends_requests rooms.no_request_room) 320 b
 made TakeRequests rooms program b = after_units takes_requests 320 b
 made Execute rooms program b = counted (after_units (executes program) 320 b)
+
+-- by the program that it has
+abbrev pub own_made : Half → Rooms → BlockState → BlockState
+own_made half rooms b = made half rooms b.program b

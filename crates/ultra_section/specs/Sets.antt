@@ -20,7 +20,7 @@ pub record UnitFacts : Type 0 where
   pub no_room_zero : Bool
   pub no_room_one : Bool
   pub to_serve : Bool
-  pub to_step : Bool
+  pub running : Bool
   pub keeps_records : Bool
 
 -- what they say of the unit with a number
@@ -33,7 +33,7 @@ facts_at s k = record {
   no_room_zero = has_unit s.no_request_room.zero k;
   no_room_one = has_unit s.no_request_room.one k;
   to_serve = has_unit s.to_serve k;
-  to_step = has_unit s.to_step k;
+  running = has_unit s.running k;
   keeps_records = has_unit s.keeps_records k;
 }
 
@@ -47,7 +47,7 @@ no_facts = record {
   no_room_zero = false;
   no_room_one = false;
   to_serve = false;
-  to_step = false;
+  running = false;
   keeps_records = false;
 }
 
@@ -90,5 +90,5 @@ pub record KnowsElement (f : UnitFacts) (o : Option ProcessingElement) : Type 0 
   pub here : f.here ≡ is_some o
   pub holds_replies : f.holds_replies ≡ false
   pub holds_requests : f.holds_requests ≡ if_here holds_request o
-  pub to_step : f.to_step ≡ if_here (λ e. not (has_stopped e.processor.core.activity)) o
+  pub running : f.running ≡ if_here (λ e. not (has_stopped e.processor.core.activity)) o
   pub keeps_records : f.keeps_records ≡ false

@@ -6,12 +6,13 @@ ghost use Rattle.ultra_units.specs.Units.{IsUnit, unit_of};
 use crate::sets::Sets;
 use std::marker::Model;
 use ultra_halves::ProcessingElement;
+use ultra_isa::Program;
 use ultra_mem::Module;
 use ultra_model::Stop;
 use ultra_msg::{Event, ReplyMessage, Request};
 use ultra_route::Net;
 use ultra_switch::Switch;
-use ultra_units::{Links, Numbering, Unit};
+use ultra_units::{Links, Numbering, Unit, UnitSet};
 
 /// Some of the units of a machine, by their numbers: any switches, modules and processing elements, or none. A link has the number of the position, module or processing element from which it leads. What a unit of this block sends is put on its link, and what comes to a unit of this block is taken from there.
 ///
@@ -22,6 +23,8 @@ pub struct Block {
     /// Where the numbers of each kind of unit begin.
     pub(crate) numbering: Numbering,
     pub(crate) done: u32,
+    /// What the machine's processing elements run.
+    pub(crate) program: Program,
     /// By the number of the switch, each that stands here.
     pub(crate) switches: Vec<Option<Switch>>,
     /// By the number of the module, each that stands here.
@@ -29,6 +32,8 @@ pub struct Block {
     /// By the number of the processing element, each that stands here.
     pub(crate) elements: Vec<Option<ProcessingElement>>,
     pub(crate) sets: Sets,
+    /// At least the processing elements that may do something in a step. All others are at rest until a reply is delivered.
+    pub(crate) awake: UnitSet,
     pub(crate) replies: Links<ReplyMessage>,
     pub(crate) requests: Links<Request>,
     /// What has happened in the cycle, in the order of the rules.
@@ -46,6 +51,7 @@ impl Model for Block {
     ghost view = { λ b. record {
       stages = b.net;
       done = b.done;
+      program = b.program;
       switches = b.switches.items;
       modules = b.modules.items;
       elements = b.elements.items;
@@ -55,7 +61,7 @@ impl Model for Block {
       stops = b.stops.items;
     } };
 
-    ghost invariant = { λ b. IsKept b.net b.numbering b.sets b.switches.items b.modules.items b.elements.items b.replies b.requests (vec_capacity b.events) (vec_capacity b.stops) };
+    ghost invariant = { λ b. IsKept b.net b.numbering b.program b.sets b.awake b.switches.items b.modules.items b.elements.items b.replies b.requests (vec_capacity b.events) (vec_capacity b.stops) };
 }
 
 impl Block {

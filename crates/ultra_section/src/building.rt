@@ -11,13 +11,14 @@ use crate::sets::Sets;
 use std::alloc::{AllocError, Global};
 use std::mem::swap;
 use ultra_halves::ProcessingElement;
+use ultra_isa::Program;
 use ultra_mem::Module;
 use ultra_model::Stop;
 use ultra_msg::{Event, ReplyMessage, Request};
 use ultra_route::Net;
 use ultra_switch::Switch;
 use ultra_units::{
-    Links, Numbering, Unit, element_number, module_number, no_entries, switch_count,
+    Links, Numbering, Unit, UnitSet, element_number, module_number, no_entries, switch_count,
 };
 
 /// For how many events a block has memory: at most two of each of 320 units in each of four halves.
@@ -63,10 +64,11 @@ fn no_story(alloc: Global) -> Result<(Vec<Event>, Vec<Stop>), AllocError>
 }
 
 impl Block {
-    /// A block without units, of a machine with this network, before its first cycle. An error says that memory was refused.
-    pub fn empty(alloc: Global, net: Net) -> Result<Block, AllocError>
-        ensures { IfOk result (λ b. b ≡ empty_block net) }
+    /// A block without units, of a machine with this network that runs this program, before its first cycle. It keeps a copy of the program. An error says that memory was refused.
+    pub fn empty(alloc: Global, net: Net, program: &Program) -> Result<Block, AllocError>
+        ensures { IfOk result (λ b. b ≡ empty_block net program.now) }
     {
+        let program = program.try_clone(alloc)?;
         let (switches, modules, elements) = no_units(alloc, net)?;
         let (replies, requests) = no_messages(alloc, net)?;
         let (events, stops) = no_story(alloc)?;
@@ -74,10 +76,12 @@ impl Block {
             net,
             numbering: Numbering::of(net),
             done: 0,
+            program,
             switches,
             modules,
             elements,
             sets: Sets::empty(),
+            awake: UnitSet::empty(),
             replies,
             requests,
             events,
@@ -85,11 +89,16 @@ impl Block {
         })
     }
 
-    /// A block without units, of a machine with this network, after this many cycles. An error says that memory was refused.
-    pub fn empty_after(alloc: Global, net: Net, done: u32) -> Result<Block, AllocError>
-        ensures { IfOk result (λ b. b ≡ record (empty_block net) { done = done }) }
+    /// A block without units, of a machine with this network that runs this program, after this many cycles. It keeps a copy of the program. An error says that memory was refused.
+    pub fn empty_after(
+        alloc: Global,
+        net: Net,
+        program: &Program,
+        done: u32,
+    ) -> Result<Block, AllocError>
+        ensures { IfOk result (λ b. b ≡ record (empty_block net program.now) { done = done }) }
     {
-        let mut block = Block::empty(alloc, net)?;
+        let mut block = Block::empty(alloc, net, program)?;
         block.done = done;
         Ok(block)
     }
@@ -126,6 +135,7 @@ impl Block {
         let unit = element_number(self.net, pe);
         self.sets.stand(unit);
         self.sets.note_element(unit, &element);
+        self.awake.insert(unit);
         self.replies.renew(unit, true);
         self.elements[pe as usize] = Some(element);
     }
@@ -163,6 +173,7 @@ impl Block {
     {
         let unit = element_number(self.net, pe);
         self.sets.leave(unit);
+        self.awake.remove(unit);
         self.replies.renew(unit, false);
         self.elements[pe as usize].take()
     }

@@ -3,29 +3,29 @@
 ghost use Rattle.std.specs.Prelude.{◌≡◌, ℕ, ◌+◌, ◌-◌, ◌^◌, ◌<◌, length};
 ghost use Rattle.ultra_units.specs.Visits.{after_units};
 ghost use Rattle.ultra_section.specs.BlockState.{most_events, most_stops};
-ghost use Rattle.ultra_section.specs.Execution.{CanExecuteAt, ElementCanExecute, counted, element_executes, executes};
+ghost use Rattle.ultra_section.specs.Execution.{CanExecuteAt, ElementCanExecute, counted, element_executes, executes, executes_own};
 ghost use Rattle.ultra_units.specs.Units.{IsElement};
 
 use crate::block::Block;
 use ultra_halves::{Outcome, append};
-use ultra_isa::Program;
 use ultra_units::{Unit, UnitSet, Visit, visit_all};
 
 impl Block {
-    /// A processing element makes a step.
-    fn execute_element(&mut self, program: &Program, number: usize, pe: u32)
+    /// A processing element makes a step of the program.
+    fn execute_element(&mut self, number: usize, pe: u32)
         requires is { IsElement self.old.stages number pe }
         requires issued { ElementCanExecute pe self.old }
         requires event_room { length self.old.events < most_events }
         requires stop_room { length self.old.stops < most_stops }
         requires small { number < 320 }
-        ensures { self.new ≡ element_executes program.now pe self.old }
+        ensures { self.new ≡ element_executes self.old.program pe self.old }
     {
         let Some(element) = &mut self.elements[pe as usize] else {
             return;
         };
-        let outcome = element.execute(program, pe);
+        let outcome = element.execute(&self.program, pe);
         if let Outcome::AtRest = outcome {
+            self.awake.remove(number);
             return;
         }
         if let Outcome::Done = outcome
@@ -45,24 +45,22 @@ impl Block {
 
 /// A visit in which a processing element makes a step of the program.
 #[derive(Clone, Copy, Drop)]
-struct Execute<'a> {
-    program: &'a Program,
-}
+struct Execute;
 
-impl Visit<Block> for Execute<'_> {
+impl Visit<Block> for Execute {
     ghost can_visit = { λ v n b. CanExecuteAt n b };
 
-    ghost visited = { λ v n b. executes v.program.now n b };
+    ghost visited = { λ v n b. executes_own n b };
 
     #[inline(always)]
     fn units<'t>(&self, block: &'t Block) -> &'t UnitSet {
-        &block.sets.to_step
+        &block.awake
     }
 
     #[inline(always)]
     fn visit(&self, block: &mut Block, unit: usize) {
         match block.unit(unit) {
-            Unit::Element(pe) => block.execute_element(self.program, unit, pe),
+            Unit::Element(pe) => block.execute_element(unit, pe),
             Unit::Switch { .. } | Unit::Module(_) | Unit::Nothing => {}
         }
     }
@@ -71,12 +69,12 @@ impl Visit<Block> for Execute<'_> {
 impl Block {
     /// The last half of a cycle: each processing element makes one step of the program. The cycles that are done are fewer than `2^32 - 1`.
     #[inline(always)]
-    pub fn execute(&mut self, program: &Program)
+    pub fn execute(&mut self)
         requires can { (k : ℕ) → k < 320 → CanExecuteAt k self.old }
         requires few { self.old.done < 2 ^ 32 - 1 }
-        ensures { self.new ≡ counted (after_units (executes program.now) 320 self.old) }
+        ensures { self.new ≡ counted (after_units (executes self.old.program) 320 self.old) }
     {
-        visit_all(&Execute { program }, self);
+        visit_all(&Execute, self);
         self.done += 1;
     }
 }

@@ -11,7 +11,8 @@
 //! | `holds_requests` | exactly the units that hold a request | each half that moves requests, `serve` and `execute` | `send_requests`, which skips modules |
 //! | `no_request_room` | exactly the switches whose queue at that port has no room for requests, and modules that hold one | each half that moves requests, and `serve` | `rooms`, `send_requests_here` |
 //! | `to_serve` | exactly the modules that hold a request and no reply | `send_replies`, `serve`, `take_requests` | `serve` |
-//! | `to_step` | exactly the processing elements that haven't stopped | `execute` | `execute` |
+//! | `running` | exactly the processing elements that haven't stopped | `execute` | `is_stepping` |
+//! | `awake` | at least the processing elements that aren't at rest; those that are have stopped, or can only stall until a reply is delivered | `take_replies` adds, `execute` removes | `execute` |
 //! | `keeps_records` | exactly the switches that keep a record of a combination | `take_requests` and `take_replies` | `next_holding` |
 //! | `came`, of each kind of message | at least the units here to which a message leads | a half that sends adds, the one that takes removes | the half that takes |
 //! | `away`, of each kind of message | at least the units elsewhere to which one leads | a half that sends adds, the exchange of messages removes | the exchange of messages between blocks |

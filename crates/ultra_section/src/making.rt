@@ -1,7 +1,7 @@
 //! A half of a cycle, whichever it is, and what has happened in the cycle.
 
 ghost use Rattle.std.specs.Prelude.{◌≡◌};
-ghost use Rattle.ultra_section.specs.Making.{CanMake, made};
+ghost use Rattle.ultra_section.specs.Making.{CanMake, own_made};
 ghost use Rattle.ultra_section.specs.Shape.{IsShaped};
 
 use crate::block::Block;
@@ -13,11 +13,11 @@ use ultra_msg::Event;
 use ultra_route::Net;
 
 impl Block {
-    /// Makes this half of a cycle, with the rooms that were noted before it and the machine's program. The half's conditions have to be met.
+    /// Makes this half of a cycle, with the rooms that were noted before it. The half's conditions have to be met.
     #[inline(always)]
-    pub fn make(&mut self, half: Half, rooms: &Rooms, program: &Program)
-        requires { CanMake half self.old }
-        ensures { self.new ≡ made half rooms.now program.now self.old }
+    pub fn make(&mut self, half: Half, rooms: &Rooms)
+        requires { CanMake self.old.program half self.old }
+        ensures { self.new ≡ own_made half rooms.now self.old }
     {
         match half {
             Half::SendReplies => self.send_replies(rooms),
@@ -25,7 +25,7 @@ impl Block {
             Half::Serve => self.serve(),
             Half::SendRequests => self.send_requests(rooms),
             Half::TakeRequests => self.take_requests(),
-            Half::Execute => self.execute(program),
+            Half::Execute => self.execute(),
         }
     }
 
@@ -49,6 +49,13 @@ impl Block {
         ensures shape { IsShaped result self.now }
     {
         self.net
+    }
+
+    /// What the machine's processing elements run.
+    pub fn program(&self) -> &Program
+        ensures { result.now ≡ self.now.program }
+    {
+        &self.program
     }
 
     /// How many cycles are done.

@@ -70,7 +70,7 @@ impl Block {
     pub fn is_stepping(&self) -> bool
         ensures { result ≡ true → quiet_block self.now ≡ false }
     {
-        match self.sets.to_step.next(0) {
+        match self.sets.running.next(0) {
             Some(number) => matches!(self.unit(number), Unit::Element(_)),
             None => false,
         }

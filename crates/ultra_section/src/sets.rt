@@ -29,7 +29,7 @@ pub(crate) struct Sets {
     /// Modules that hold a request and no reply.
     pub(crate) to_serve: UnitSet,
     /// Processing elements that haven't stopped.
-    pub(crate) to_step: UnitSet,
+    pub(crate) running: UnitSet,
     /// Switches that keep a record of a combination.
     pub(crate) keeps_records: UnitSet,
 }
@@ -50,7 +50,7 @@ impl Sets {
                 one: none,
             },
             to_serve: none,
-            to_step: none,
+            running: none,
             keeps_records: none,
         }
     }
@@ -88,7 +88,7 @@ impl Sets {
         self.no_request_room.zero.remove(number);
         self.no_request_room.one.remove(number);
         self.to_serve.remove(number);
-        self.to_step.remove(number);
+        self.running.remove(number);
         self.keeps_records.remove(number);
     }
 
@@ -195,11 +195,11 @@ impl Sets {
     #[inline(always)]
     pub(crate) fn note_element(&mut self, number: usize, element: &ProcessingElement)
         requires { number < 320 }
-        ensures there { facts_at self.new number ≡ record (facts_at self.old number) { holds_requests = holds_request element.now; to_step = not (has_stopped element.now.processor.core.activity) } }
+        ensures there { facts_at self.new number ≡ record (facts_at self.old number) { holds_requests = holds_request element.now; running = not (has_stopped element.now.processor.core.activity) } }
         ensures others { (k : ℕ) → k ≢ number → facts_at self.new k ≡ facts_at self.old k }
         ensures here { self.new.here ≡ self.old.here }
     {
         self.holds_requests.note(number, element.holds_request());
-        self.to_step.note(number, !element.has_stopped());
+        self.running.note(number, !element.has_stopped());
     }
 }

@@ -69,6 +69,7 @@ impl Block {
         let came = take_at_element(&mut self.replies, net, number, pe);
         if let Some(reply) = came {
             element.deliver(reply);
+            self.awake.insert(number);
             append(&mut self.events, Event::Delivered(reply));
         }
     }

@@ -1,6 +1,6 @@
 //! The half of a cycle in which requests come to switches and modules.
 
-ghost use Rattle.std.specs.Prelude.{◌≡◌, ℕ, ◌+◌, ◌<◌, ◌≤◌, ◌++◌, [], false, List, length, vec_capacity};
+ghost use Rattle.std.specs.Prelude.{◌≡◌, ℕ, ◌+◌, ◌<◌, ◌≤◌, ◌↔◌, ◌++◌, [], false, List, length, vec_capacity};
 ghost use Rattle.ultra_halves.specs.Switches.{CanTakeRequests, after_requests, combinations_of};
 ghost use Rattle.ultra_units.specs.Visits.{after_units};
 ghost use Rattle.ultra_section.specs.BlockState.{most_events};
@@ -16,7 +16,7 @@ use ultra_switch::Switch;
 use ultra_units::requests::{take_at_module, take_at_switch};
 use ultra_units::{Links, Unit, UnitSet, Visit, visit_all};
 
-/// What comes to a switch goes into its queues, where it may combine. `number` is the number of the unit. Combinations are appended to `events`; `false` says that there are none.
+/// What comes to a switch goes into its queues, where it may combine. `number` is the number of the unit. Combinations are appended to `events`. Answers whether there are any.
 #[inline(always)]
 fn take_into_switch(
     switch: &mut Switch,
@@ -37,7 +37,7 @@ fn take_into_switch(
     ensures events { events.new.items ≡ events.old.items ++ combinations_of net stage index cycle switch.old (on_both links.old.table.items (request_links net stage index)) }
     ensures places { vec_capacity events.old ≤ vec_capacity events.new }
     ensures few { length events.new.items ≤ length events.old.items + 2 }
-    ensures none { result ≡ false → combinations_of net stage index cycle switch.old (on_both links.old.table.items (request_links net stage index)) ≡ [] }
+    ensures none { (result ≡ false) ↔ (combinations_of net stage index cycle switch.old (on_both links.old.table.items (request_links net stage index)) ≡ []) }
     ensures table { links.new.table.items ≡ without_both links.old.table.items (request_links net stage index) }
     ensures known { (here : List ℕ) → RequestsAreKnown net here links.old → RequestsAreKnown net here links.new }
 {

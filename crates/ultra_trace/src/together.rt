@@ -71,7 +71,7 @@ fn write_by_workers<'s, J: Course + Send, R: Threads + Wait + Sync, G: Gate + Sy
             ensures err { OnErr result.1 (TakesPrefix (trace blocks.config blocks.program) (S.taken sink.entry.now) (S.taken result.0.now)) }
             ensures counted { IfErr result.1 (λ e. S.failures result.0.now ≡ S.failures sink.entry.now + sink_faults e) }
         {
-            match Shift::<J>::begin(scope, rt, alloc, workers, gate, blocks.program()) {
+            match Shift::<J>::begin(scope, rt, alloc, workers, gate) {
                 Ok(shift) => {
                     let result = write_by_shift(rt, alloc, blocks, &shift, sink);
                     shift.end(rt);

@@ -1,7 +1,7 @@
 //! The links of one kind of message, and the units to which messages lead.
 
-ghost use Rattle.std.specs.Prelude.{◌≡◌, ◌≢◌, ℕ, ◌<◌, true, not, IfOk, None, is_some, length, replicate, slice_index_or, slice_set};
-ghost use Rattle.ultra_units.specs.Set.{has_unit};
+ghost use Rattle.std.specs.Prelude.{◌≡◌, ◌≢◌, ℕ, ◌<◌, true, false, not, IfOk, None, is_some, length, replicate, slice_index_or, slice_set};
+ghost use Rattle.ultra_units.specs.Set.{HasNoneFrom, has_unit};
 ghost use Rattle.ultra_units.specs.Inlets.{taken_by_turns};
 ghost use Rattle.ultra_units.specs.Links.{leads, put_on};
 ghost use Rattle.ultra_units.specs.Marks.{without_both};
@@ -25,7 +25,9 @@ pub struct Links<M> {
 impl<M: Drop> Links<M> {
     /// Links with nothing on them. An error says that memory was refused.
     pub fn empty(alloc: Global, count: usize) -> Result<Links<M>, AllocError>
-        ensures { IfOk result (λ l. l.table.items ≡ replicate count None) }
+        ensures table { IfOk result (λ l. l.table.items ≡ replicate count None) }
+        ensures came { IfOk result (λ l. HasNoneFrom l.came 0) }
+        ensures away { IfOk result (λ l. HasNoneFrom l.away 0) }
     {
         Ok(Links {
             table: no_entries(alloc, count)?,
@@ -45,6 +47,7 @@ impl<M: Copy> Links<M> {
         ensures leads { is_some message ≡ true → leads (has_unit here.now target) (has_unit self.new.came target) (has_unit self.new.away target) ≡ true }
         ensures came { (k : ℕ) → has_unit self.old.came k ≡ true → has_unit self.new.came k ≡ true }
         ensures away { (k : ℕ) → has_unit self.old.away k ≡ true → has_unit self.new.away k ≡ true }
+        ensures others { (k : ℕ) → k ≢ target → (has_unit self.new.came k ≡ has_unit self.old.came k) × (has_unit self.new.away k ≡ has_unit self.old.away k) }
     {
         if message.is_none() {
             return;
@@ -93,6 +96,7 @@ impl<M: Copy> Links<M> {
         ensures table { self.new.table.items ≡ without_both self.old.table.items inlets }
         ensures came { self.new.came ≡ self.old.came }
         ensures others { (k : ℕ) → k ≢ unit → has_unit self.new.away k ≡ has_unit self.old.away k }
+        ensures gone { has_unit self.new.away unit ≡ false }
     {
         let zero = self.take(inlets.zero);
         let one = self.take(inlets.one);

@@ -8,9 +8,10 @@ use Rattle.ultra_block.proofs.building.fresh_block.Goals as goal
 pub returns : goal.returns
 returns c =
     let config = c.args.config.now in
-    let made : c.add_elements.new.block ≡ block_at_start config =
+    let program = c.args.program.now in
+    let made : c.add_elements.new.block ≡ block_at_start config program =
     c.add_elements.ensures
     ∙ ap (λ (b : BlockState). record b { elements = first_elements config }) (c.in_ok-add_modules.ensures
     ∙ ap (λ (b : BlockState). record b { modules = first_modules config }) (c.in_ok-add_switches.ensures
-    ∙ ap (λ (b : BlockState). record b { switches = first_switches config }) (c.in_ok-block.ensures ∙ ap empty_block c.net.ensures))) in
-    subst (λ b. IsFresh config b) (sym made) (is_fresh config c.initial-initial.ensures.valid.range)
+    ∙ ap (λ (b : BlockState). record b { switches = first_switches config }) (c.in_ok-block.ensures ∙ ap (λ d. empty_block d program) c.net.ensures))) in
+    subst (λ b. IsFresh config program b) (sym made) (is_fresh config program c.initial-initial.ensures.valid.range)

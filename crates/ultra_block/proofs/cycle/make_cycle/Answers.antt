@@ -1,54 +1,92 @@
+use Rattle.std.proofs.Common.{◌∙◌, arith}
+use Rattle.ultra_section.specs.declared.half.Half.TheVariants.{Execute}
+use Rattle.ultra_cut.proofs.OwnProgram.{all_by_own}
+use Rattle.ultra_block.proofs.TurnOfOne.{next_alone}
 use Rattle.ultra_block.proofs.Turn.{can_execute, can_serve, can_take_replies, can_take_requests, next_machine, next_whole, sent_cut, sent_on_cut, sent_on_single, sent_single}
 use Rattle.ultra_block.proofs.cycle.make_cycle.Goals as goal
 
 pub exchange_replies-requires-clause-cut : goal.exchange_replies-requires-clause-cut
 exchange_replies-requires-clause-cut c =
-    sent_cut c.args.config.now c.args.partition.now c.args.done c.args.program.now c.args.blocks.now c.requires.whole c.net-net.result c.net-net.ensures c.note_rooms-rooms.result c.note_rooms-rooms.ensures c.make.new.blocks c.make.ensures
+    let (program, whole) = c.requires.whole in
+    sent_cut c.args.config.now c.args.partition.now c.args.done program c.args.blocks.now whole c.net-net.result c.net-net.ensures c.note_rooms-rooms.result c.note_rooms-rooms.ensures c.make.new.blocks c.make.ensures
 
 pub exchange_replies-requires-clause-single : goal.exchange_replies-requires-clause-single
 exchange_replies-requires-clause-single c =
-    sent_single c.args.config.now c.args.partition.now c.args.done c.args.program.now c.args.blocks.now c.requires.whole c.net-net.result c.net-net.ensures c.note_rooms-rooms.result c.note_rooms-rooms.ensures c.make.new.blocks c.make.ensures
+    let (program, whole) = c.requires.whole in
+    sent_single c.args.config.now c.args.partition.now c.args.done program c.args.blocks.now whole c.net-net.result c.net-net.ensures c.note_rooms-rooms.result c.note_rooms-rooms.ensures c.make.new.blocks c.make.ensures
 
 pub make-requires-2 : goal.make-requires-2
 make-requires-2 c =
-    can_take_replies c.args.config.now c.args.partition.now c.args.done c.args.program.now c.args.blocks.now c.requires.whole c.net-net.result c.net-net.ensures c.note_rooms-rooms.result c.note_rooms-rooms.ensures c.make.new.blocks c.make.ensures
-    c.exchange_replies.new.blocks c.exchange_replies.ensures.only c.exchange_replies.ensures.there
+    let (program, whole) = c.requires.whole in (
+      program,
+      can_take_replies c.args.config.now c.args.partition.now c.args.done program c.args.blocks.now whole c.net-net.result c.net-net.ensures c.note_rooms-rooms.result c.note_rooms-rooms.ensures c.make.new.blocks c.make.ensures
+          c.exchange_replies.new.blocks c.exchange_replies.ensures.only c.exchange_replies.ensures.there,
+    )
 
 pub make-requires-3 : goal.make-requires-3
 make-requires-3 c =
-    can_serve c.args.config.now c.args.partition.now c.args.done c.args.program.now c.args.blocks.now c.requires.whole c.net-net.result c.net-net.ensures c.note_rooms-rooms.result c.note_rooms-rooms.ensures c.make.new.blocks c.make.ensures
-    c.exchange_replies.new.blocks c.exchange_replies.ensures.only c.exchange_replies.ensures.there c.make-2.new.blocks c.make-2.ensures
+    let (program, whole) = c.requires.whole in (
+      program,
+      can_serve c.args.config.now c.args.partition.now c.args.done program c.args.blocks.now whole c.net-net.result c.net-net.ensures c.note_rooms-rooms.result c.note_rooms-rooms.ensures c.make.new.blocks c.make.ensures
+          c.exchange_replies.new.blocks c.exchange_replies.ensures.only c.exchange_replies.ensures.there c.make-2.new.blocks c.make-2.ensures,
+    )
 
 pub exchange_requests-requires-clause-cut : goal.exchange_requests-requires-clause-cut
 exchange_requests-requires-clause-cut c =
-    sent_on_cut c.args.config.now c.args.partition.now c.args.done c.args.program.now c.args.blocks.now c.requires.whole c.net-net.result c.net-net.ensures c.note_rooms-rooms.result c.note_rooms-rooms.ensures c.make.new.blocks c.make.ensures
+    let (program, whole) = c.requires.whole in
+    sent_on_cut c.args.config.now c.args.partition.now c.args.done program c.args.blocks.now whole c.net-net.result c.net-net.ensures c.note_rooms-rooms.result c.note_rooms-rooms.ensures c.make.new.blocks c.make.ensures
     c.exchange_replies.new.blocks c.exchange_replies.ensures.only c.exchange_replies.ensures.there c.make-2.new.blocks c.make-2.ensures c.make-3.new.blocks c.make-3.ensures c.note_rooms-rooms-2.result c.note_rooms-rooms-2.ensures c.make-4.new.blocks c.make-4.ensures
 
 pub exchange_requests-requires-clause-single : goal.exchange_requests-requires-clause-single
 exchange_requests-requires-clause-single c =
-    sent_on_single c.args.config.now c.args.partition.now c.args.done c.args.program.now c.args.blocks.now c.requires.whole c.net-net.result c.net-net.ensures c.note_rooms-rooms.result c.note_rooms-rooms.ensures c.make.new.blocks c.make.ensures
+    let (program, whole) = c.requires.whole in
+    sent_on_single c.args.config.now c.args.partition.now c.args.done program c.args.blocks.now whole c.net-net.result c.net-net.ensures c.note_rooms-rooms.result c.note_rooms-rooms.ensures c.make.new.blocks c.make.ensures
     c.exchange_replies.new.blocks c.exchange_replies.ensures.only c.exchange_replies.ensures.there c.make-2.new.blocks c.make-2.ensures c.make-3.new.blocks c.make-3.ensures c.note_rooms-rooms-2.result c.note_rooms-rooms-2.ensures c.make-4.new.blocks c.make-4.ensures
 
 pub make-requires-5 : goal.make-requires-5
 make-requires-5 c =
-    can_take_requests c.args.config.now c.args.partition.now c.args.done c.args.program.now c.args.blocks.now c.requires.whole c.net-net.result c.net-net.ensures c.note_rooms-rooms.result c.note_rooms-rooms.ensures c.make.new.blocks c.make.ensures
-    c.exchange_replies.new.blocks c.exchange_replies.ensures.only c.exchange_replies.ensures.there c.make-2.new.blocks c.make-2.ensures c.make-3.new.blocks c.make-3.ensures c.note_rooms-rooms-2.result c.note_rooms-rooms-2.ensures c.make-4.new.blocks c.make-4.ensures
-    c.exchange_requests.new.blocks c.exchange_requests.ensures.only c.exchange_requests.ensures.there
+    let (program, whole) = c.requires.whole in (
+      program,
+      can_take_requests c.args.config.now c.args.partition.now c.args.done program c.args.blocks.now whole c.net-net.result c.net-net.ensures c.note_rooms-rooms.result c.note_rooms-rooms.ensures c.make.new.blocks c.make.ensures
+          c.exchange_replies.new.blocks c.exchange_replies.ensures.only c.exchange_replies.ensures.there c.make-2.new.blocks c.make-2.ensures c.make-3.new.blocks c.make-3.ensures c.note_rooms-rooms-2.result c.note_rooms-rooms-2.ensures c.make-4.new.blocks c.make-4.ensures
+          c.exchange_requests.new.blocks c.exchange_requests.ensures.only c.exchange_requests.ensures.there,
+    )
 
 pub make-requires-6 : goal.make-requires-6
 make-requires-6 c =
-    can_execute c.args.config.now c.args.partition.now c.args.done c.args.program.now c.args.blocks.now c.requires.whole c.net-net.result c.net-net.ensures c.note_rooms-rooms.result c.note_rooms-rooms.ensures c.make.new.blocks c.make.ensures
-    c.exchange_replies.new.blocks c.exchange_replies.ensures.only c.exchange_replies.ensures.there c.make-2.new.blocks c.make-2.ensures c.make-3.new.blocks c.make-3.ensures c.note_rooms-rooms-2.result c.note_rooms-rooms-2.ensures c.make-4.new.blocks c.make-4.ensures
-    c.exchange_requests.new.blocks c.exchange_requests.ensures.only c.exchange_requests.ensures.there c.requires.counted c.make-5.new.blocks c.make-5.ensures
+    let (program, whole) = c.requires.whole in (
+      program,
+      can_execute c.args.config.now c.args.partition.now c.args.done program c.args.blocks.now whole c.net-net.result c.net-net.ensures c.note_rooms-rooms.result c.note_rooms-rooms.ensures c.make.new.blocks c.make.ensures
+          c.exchange_replies.new.blocks c.exchange_replies.ensures.only c.exchange_replies.ensures.there c.make-2.new.blocks c.make-2.ensures c.make-3.new.blocks c.make-3.ensures c.note_rooms-rooms-2.result c.note_rooms-rooms-2.ensures c.make-4.new.blocks c.make-4.ensures
+          c.exchange_requests.new.blocks c.exchange_requests.ensures.only c.exchange_requests.ensures.there c.requires.counted c.make-5.new.blocks c.make-5.ensures,
+    )
 
 pub returns-clause-whole : goal.returns-clause-whole
-returns-clause-whole c =
-    next_whole c.args.config.now c.args.partition.now c.args.done c.args.program.now c.args.blocks.now c.requires.whole c.net-net.result c.net-net.ensures c.note_rooms-rooms.result c.note_rooms-rooms.ensures c.make.new.blocks c.make.ensures
+returns-clause-whole c = λ program whole.
+    let can = can_execute c.args.config.now c.args.partition.now c.args.done program c.args.blocks.now whole c.net-net.result c.net-net.ensures c.note_rooms-rooms.result c.note_rooms-rooms.ensures c.make.new.blocks c.make.ensures c.exchange_replies.new.blocks c.exchange_replies.ensures.only c.exchange_replies.ensures.there c.make-2.new.blocks c.make-2.ensures c.make-3.new.blocks c.make-3.ensures c.note_rooms-rooms-2.result c.note_rooms-rooms-2.ensures c.make-4.new.blocks c.make-4.ensures c.exchange_requests.new.blocks c.exchange_requests.ensures.only c.exchange_requests.ensures.there c.requires.counted c.make-5.new.blocks c.make-5.ensures in
+    next_whole c.args.config.now c.args.partition.now c.args.done program c.args.blocks.now whole c.net-net.result c.net-net.ensures c.note_rooms-rooms.result c.note_rooms-rooms.ensures c.make.new.blocks c.make.ensures
     c.exchange_replies.new.blocks c.exchange_replies.ensures.only c.exchange_replies.ensures.there c.make-2.new.blocks c.make-2.ensures c.make-3.new.blocks c.make-3.ensures c.note_rooms-rooms-2.result c.note_rooms-rooms-2.ensures c.make-4.new.blocks c.make-4.ensures
-    c.exchange_requests.new.blocks c.exchange_requests.ensures.only c.exchange_requests.ensures.there c.requires.counted c.make-5.new.blocks c.make-5.ensures c.make-6.new.blocks c.make-6.ensures
+    c.exchange_requests.new.blocks c.exchange_requests.ensures.only c.exchange_requests.ensures.there c.requires.counted c.make-5.new.blocks c.make-5.ensures c.make-6.new.blocks (c.make-6.ensures ∙ all_by_own program Execute c.note_rooms-rooms-2.result c.make-5.new.blocks can)
 
 pub returns-clause-state : goal.returns-clause-state
-returns-clause-state c =
-    next_machine c.args.config.now c.args.partition.now c.args.done c.args.program.now c.args.blocks.now c.requires.whole c.net-net.result c.net-net.ensures c.note_rooms-rooms.result c.note_rooms-rooms.ensures c.make.new.blocks c.make.ensures
+returns-clause-state c = λ program whole.
+    let can = can_execute c.args.config.now c.args.partition.now c.args.done program c.args.blocks.now whole c.net-net.result c.net-net.ensures c.note_rooms-rooms.result c.note_rooms-rooms.ensures c.make.new.blocks c.make.ensures c.exchange_replies.new.blocks c.exchange_replies.ensures.only c.exchange_replies.ensures.there c.make-2.new.blocks c.make-2.ensures c.make-3.new.blocks c.make-3.ensures c.note_rooms-rooms-2.result c.note_rooms-rooms-2.ensures c.make-4.new.blocks c.make-4.ensures c.exchange_requests.new.blocks c.exchange_requests.ensures.only c.exchange_requests.ensures.there c.requires.counted c.make-5.new.blocks c.make-5.ensures in
+    next_machine c.args.config.now c.args.partition.now c.args.done program c.args.blocks.now whole c.net-net.result c.net-net.ensures c.note_rooms-rooms.result c.note_rooms-rooms.ensures c.make.new.blocks c.make.ensures
     c.exchange_replies.new.blocks c.exchange_replies.ensures.only c.exchange_replies.ensures.there c.make-2.new.blocks c.make-2.ensures c.make-3.new.blocks c.make-3.ensures c.note_rooms-rooms-2.result c.note_rooms-rooms-2.ensures c.make-4.new.blocks c.make-4.ensures
-    c.exchange_requests.new.blocks c.exchange_requests.ensures.only c.exchange_requests.ensures.there c.requires.counted c.make-5.new.blocks c.make-5.ensures c.make-6.new.blocks c.make-6.ensures
+    c.exchange_requests.new.blocks c.exchange_requests.ensures.only c.exchange_requests.ensures.there c.requires.counted c.make-5.new.blocks c.make-5.ensures c.make-6.new.blocks (c.make-6.ensures ∙ all_by_own program Execute c.note_rooms-rooms-2.result c.make-5.new.blocks can)
+
+pub make-requires : goal.make-requires
+make-requires c = (c.requires.whole.0, λ k h. tt)
+
+pub make-requires-4 : goal.make-requires-4
+make-requires-4 c = (c.requires.whole.0, λ k h. tt)
+
+pub returns-in-len1-clause-whole : goal.returns-in-len1-clause-whole
+returns-in-len1-clause-whole c = λ program whole.
+    (next_alone c.args.config.now program c.args.partition.now c.args.done c.args.blocks.now c.index-blocks-0.result c.make_cycle_of_one.new.block (omega arith)
+    (λ start. c.make_cycle_of_one.ensures c.args.config.now program c.args.partition.now c.args.done start c.requires.counted) whole).0
+
+pub returns-in-len1-clause-state : goal.returns-in-len1-clause-state
+returns-in-len1-clause-state c = λ program whole.
+    (next_alone c.args.config.now program c.args.partition.now c.args.done c.args.blocks.now c.index-blocks-0.result c.make_cycle_of_one.new.block (omega arith)
+    (λ start. c.make_cycle_of_one.ensures c.args.config.now program c.args.partition.now c.args.done start c.requires.counted) whole).1

@@ -16,17 +16,16 @@ carry-requires-clause-empty c =
     let b = c.args.block.now in
     let count = c.count_blocks-count.result in
     let stages : b.stages ≡ c.args.net = c.requires.blocks.cut.stages 0 (omega arith) in
-    let all : c.as_mut_slice.result.now ≡ replicate count (empty_after b.stages b.done) =
+    let all : c.as_mut_slice.result.now ≡ replicate count (empty_after b.stages b.program b.done) =
     c.as_mut_slice.ensures.value ∙ c.in_ok-blocks.ensures
-    ∙ ap (λ d. replicate count (empty_after d c.done.result)) (sym stages)
-    ∙ ap (λ n. replicate count (empty_after b.stages n)) c.done.ensures in
-    let long : length c.as_mut_slice.result.now ≡ count = ap (λ (bs : List BlockState). length bs) all ∙ length-replicate count (empty_after b.stages b.done) in
-    all ∙ ap (λ n. replicate n (empty_after b.stages b.done)) (sym long)
+    ∙ ap (λ d. replicate count (empty_after d b.program b.done)) (sym stages) in
+    let long : length c.as_mut_slice.result.now ≡ count = ap (λ (bs : List BlockState). length bs) all ∙ length-replicate count (empty_after b.stages b.program b.done) in
+    all ∙ ap (λ n. replicate n (empty_after b.stages b.program b.done)) (sym long)
 
 pub carry-requires-clause-named : goal.carry-requires-clause-named
 carry-requires-clause-named c =
     let count = c.as_mut_slice.ensures.value ∙ c.in_ok-blocks.ensures in
-    let long = ap (λ (bs : List BlockState). length bs) count ∙ length-replicate c.count_blocks-count.result (empty_after c.args.net c.done.result) in
+    let long = ap (λ (bs : List BlockState). length bs) count ∙ length-replicate c.count_blocks-count.result (empty_after c.args.net c.args.block.now.program c.args.block.now.done) in
     λ k d within. subst (λ n. get_or c.args.partition.now k d < n) (sym long) (c.count_blocks-count.ensures.named k d within)
 
 pub returns-clause-dealt : goal.returns-clause-dealt
@@ -40,7 +39,7 @@ returns-clause-dealt c =
     let held : take c.in_ok-blocks.blocks.len (bs ++ drop (length bs) items) ≡ bs = take_at bs (drop (length bs) items) c.in_ok-blocks.blocks.len long in
     let count : length bs ≡ c.count_blocks-count.result =
     c.carry.ensures.count ∙ ap (λ (xs : List BlockState). length xs) (c.as_mut_slice.ensures.value ∙ c.in_ok-blocks.ensures)
-    ∙ length-replicate c.count_blocks-count.result (empty_after c.args.net c.done.result) in
+    ∙ length-replicate c.count_blocks-count.result (empty_after c.args.net c.args.block.now.program c.args.block.now.done) in
     let named : All (λ (k : ℕ). k < length bs) partition = λ k e h. let small = c.count_blocks-count.ensures.named k e h in omega (arith, small, count) in
     let some : 1 ≤ length bs = let one = c.count_blocks-count.ensures.some in omega (arith, count) in
     let few : length bs ≤ 64 = let most = c.count_blocks-count.ensures.few c.requires.named in omega (arith, count) in

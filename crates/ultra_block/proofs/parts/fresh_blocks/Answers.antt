@@ -31,8 +31,8 @@ returns-clause-whole c =
     let s = c.args.config.now in
     let b = c.in_ok-block.block in
     let partition = c.args.partition.now in
-    IfOk-weaker c.deal.result (λ bs. IsDealt c.net.result partition b bs.items) (λ bs. AreWhole s partition 0 bs.items)
-    (λ bs dealt. dealt_whole s 0 b (fresh_whole s b c.in_ok-block.ensures) partition bs.items (subst (λ d. IsDealt d partition b bs.items) c.net.ensures dealt))
+    IfOk-weaker c.deal.result (λ bs. IsDealt c.net.result partition b bs.items) (λ bs. AreWhole s c.args.program.now partition 0 bs.items)
+    (λ bs dealt. dealt_whole s c.args.program.now 0 b (fresh_whole s c.args.program.now b c.in_ok-block.ensures) partition bs.items (subst (λ d. IsDealt d partition b bs.items) c.net.ensures dealt))
     c.deal.ensures.dealt
 
 pub returns-clause-few : goal.returns-clause-few
@@ -50,6 +50,6 @@ returns-clause-state c =
     let partition = c.args.partition.now in
     IfOk-weaker c.deal.result (λ bs. IsDealt c.net.result partition b bs.items) _
     (λ bs dealt.
-    dealt_machine s 0 b (fresh_whole s b c.in_ok-block.ensures) partition bs.items (subst (λ d. IsDealt d partition b bs.items) c.net.ensures dealt)
-    ∙ fresh_machine s b c.in_ok-block.ensures)
+    dealt_machine s c.args.program.now 0 b (fresh_whole s c.args.program.now b c.in_ok-block.ensures) partition bs.items (subst (λ d. IsDealt d partition b bs.items) c.net.ensures dealt)
+    ∙ fresh_machine s c.args.program.now b c.in_ok-block.ensures)
     c.deal.ensures.dealt

@@ -1,11 +1,13 @@
 use Rattle.std.proofs.Common.{arith, refl}
-use Rattle.ultra_desk.specs.Tasks.{CanBeMade, task_made}
+use Rattle.ultra_desk.specs.Tasks.{CanBeMade, own_task_made}
+use Rattle.ultra_desk.specs.declared.task.Task.{Task}
+use Rattle.ultra_section.proofs.OwnProgram.{can_by_own}
 use Rattle.ultra_desk.proofs.Mapped.{all_done, holds_next, stepped}
 use Rattle.ultra_desk.proofs.task.make_all.Goals as goal
 
 pub loop-task-preserved : goal.loop-task-preserved
 loop-task-preserved g c =
-    stepped (task_made c.args.name.half c.args.rooms.now c.args.program.now) c.args.team.now c.loop-task.team c.loop-task.task-index c.make.new.self c.task-item.result
+    stepped (own_task_made c.args.name.half c.args.rooms.now) c.args.team.now c.loop-task.team c.loop-task.task-index c.make.new.self c.task-item.result
     (omega arith) c.loop-task.invariant c.make.ensures
 
 pub loop-task-init : goal.loop-task-init
@@ -13,10 +15,11 @@ loop-task-init g c = refl
 
 pub make-requires : goal.make-requires
 make-requires g c =
-    holds_next (task_made c.args.name.half c.args.rooms.now c.args.program.now) (CanBeMade c.args.name.half) c.args.team.now c.loop-task.team c.loop-task.task-index c.task-item.result
-    (omega arith) c.loop-task.invariant c.requires
+    let (program, can) = c.requires in
+    holds_next (own_task_made c.args.name.half c.args.rooms.now) (λ (t : Task). CanBeMade t.block.program c.args.name.half t) c.args.team.now c.loop-task.team c.loop-task.task-index c.task-item.result
+    (omega arith) c.loop-task.invariant (λ i d below. can_by_own program _ c.args.name.half (can i d below))
 
 pub returns : goal.returns
 returns g c =
-    all_done (task_made c.args.name.half c.args.rooms.now c.args.program.now) c.args.team.now c.loop-task.team c.loop-task.task-index
+    all_done (own_task_made c.args.name.half c.args.rooms.now) c.args.team.now c.loop-task.team c.loop-task.task-index
     (omega arith) c.loop-task.invariant

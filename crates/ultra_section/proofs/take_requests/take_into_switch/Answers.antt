@@ -21,7 +21,7 @@ returns c =
       events = c.take_requests.ensures.events ∙ ap (λ more. c.args.events.now.items ++ more) combined;
       places = c.take_requests.ensures.places;
       few = c.take_requests.ensures.few;
-      none = λ none. sym combined ∙ c.take_requests.ensures.none none;
+      none = (λ none. sym combined ∙ c.take_requests.ensures.none.0 none, λ none. c.take_requests.ensures.none.1 (combined ∙ none));
       table = c.take_at_switch-came.ensures.table;
       known = c.take_at_switch-came.ensures.known;
     }

@@ -1,10 +1,10 @@
-use Rattle.std.proofs.Common.{◌≡◌, ◌^◌, ◌+◌, ◌<◌, ◌≤◌, ◌++◌, List, length, take, drop, arith, ap, sym, subst, refl, ◌∙◌}
+use Rattle.std.proofs.Common.{◌≡◌, ℕ, ◌^◌, ◌+◌, ◌<◌, ◌≤◌, ◌++◌, List, length, take, drop, arith, ap, sym, subst, refl, ◌∙◌}
 use Rattle.std.specs.Prelude.{◌-◌}
 use Rattle.std.proofs.lemmas.List.{take_at}
 use Rattle.ultra_model.specs.Phases.{cycle}
 use Rattle.ultra_section.specs.BlockState.{BlockState}
 use Rattle.ultra_cut.specs.Moments.{AreWhole, machine_in}
-use Rattle.ultra_block.specs.State.{BlocksState, put_together}
+use Rattle.ultra_block.specs.State.{AreParts, BlocksState, put_together}
 use Rattle.ultra_block.specs.declared.parts.Parts.{Parts}
 use Rattle.ultra_block.proofs.Seen.{cycles_are}
 use Rattle.ultra_block.proofs.blocks.Blocks.cycle.Goals as goal
@@ -28,11 +28,13 @@ made p s now bs same held long state =
     subst (λ (s : BlocksState). record (put_together p) { count = length now; machine = machine_in p.config p.partition.items (p.done + 1) now } ≡ record s { machine = cycle s.config s.program s.machine }) same
     (rw (held, long, state) refl)
 
+-- its blocks and its partition, as they are lent
+lent_whole : (p : Parts) (homes : List ℕ) → homes ≡ p.partition.items → (bs : List BlockState) → bs ≡ p.blocks.items → AreParts p → AreWhole p.config p.program homes p.done bs
+lent_whole p homes same bs held are =
+    subst (λ q. AreWhole p.config p.program q p.done bs) (sym same) (subst (λ xs. AreWhole p.config p.program p.partition.items p.done xs) (sym held) are.whole)
+
 pub make_cycle-requires-clause-whole : goal.make_cycle-requires-clause-whole
-make_cycle-requires-clause-whole c =
-    let b = c.self.inside.parts in
-    subst (λ homes. AreWhole b.config homes b.done c.as_mut_slice.result.now) (sym c.as_slice.ensures.value)
-    (subst (λ bs. AreWhole b.config b.partition.items b.done bs) (sym c.as_mut_slice.ensures.value) c.self.invariant.whole)
+make_cycle-requires-clause-whole c = (c.self.inside.parts.program, lent_whole c.self.inside.parts c.as_slice.result.now c.as_slice.ensures.value c.as_mut_slice.result.now c.as_mut_slice.ensures.value c.self.invariant)
 
 pub invariant_of-self : goal.invariant_of-self
 invariant_of-self c =
@@ -42,8 +44,9 @@ invariant_of-self c =
     let held : take b.blocks.len (bs ++ drop (length bs) b.blocks.items) ≡ bs = take_at bs (drop (length bs) b.blocks.items) b.blocks.len long in
     record {
       whole =
-          subst (λ ws. AreWhole b.config b.partition.items (b.done + 1) ws) (sym held)
-          (subst (λ homes. AreWhole b.config homes (b.done + 1) bs) c.as_slice.ensures.value c.make_cycle.ensures.whole);
+          subst (λ ws. AreWhole b.config b.program b.partition.items (b.done + 1) ws) (sym held)
+          (subst (λ homes. AreWhole b.config b.program homes (b.done + 1) bs) c.as_slice.ensures.value
+          (c.make_cycle.ensures.whole b.program (lent_whole b c.as_slice.result.now c.as_slice.ensures.value c.as_mut_slice.result.now c.as_mut_slice.ensures.value c.self.invariant)));
       few = subst (λ (ws : List BlockState). length ws ≤ 64) (sym held) (subst (λ n. n ≤ 64) (sym (long ∙ b.blocks.ok.0)) c.self.invariant.few);
     }
 
@@ -55,6 +58,6 @@ returns c =
     let held : take b.blocks.len (bs ++ drop (length bs) b.blocks.items) ≡ bs = take_at bs (drop (length bs) b.blocks.items) b.blocks.len long in
     made b c.args.self.now _ bs c.self.view_is held (long ∙ b.blocks.ok.0)
     (ap (λ homes. machine_in b.config homes (b.done + 1) bs) (sym c.as_slice.ensures.value)
-    ∙ c.make_cycle.ensures.state
+    ∙ c.make_cycle.ensures.state b.program (lent_whole b c.as_slice.result.now c.as_slice.ensures.value c.as_mut_slice.result.now c.as_mut_slice.ensures.value c.self.invariant)
     ∙ ap (λ homes. cycle b.config b.program (machine_in b.config homes b.done c.as_mut_slice.result.now)) c.as_slice.ensures.value
     ∙ ap (λ ws. cycle b.config b.program (machine_in b.config b.partition.items b.done ws)) c.as_mut_slice.ensures.value)

@@ -13,6 +13,6 @@ returns c =
     let one : length p.blocks.items ≡ 1 = ap (λ (s : BlocksState). s.count) c.self.view_is ∙ c.requires in
     let first : c.index.result.now ≡ block_at p.blocks.items 0 = c.index.ensures ∙ get_or_default p.blocks.items 0 c.index.result.now no_block (omega (arith, one)) in
     c.stops.ensures ∙ ap (λ (b : BlockState). b.stops) first
-    ∙ sym (stops_alone p.config p.partition.items p.done p.blocks.items c.self.invariant.whole one)
+    ∙ sym (stops_alone p.config p.program p.partition.items p.done p.blocks.items c.self.invariant.whole one)
     ∙ sym (stops_are p.config p.partition.items p.done p.blocks.items)
     ∙ ap (λ (s : BlocksState). s.machine.stops) c.self.view_is

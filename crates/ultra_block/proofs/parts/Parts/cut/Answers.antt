@@ -19,7 +19,7 @@ deal-requires-clause-blocks c =
     let p = c.args.self.now in
     let bs = p.blocks.items in
     let first : c.index_mut.result.now ≡ block_at bs 0 = c.index_mut.ensures.value ∙ get_or_default bs 0 c.index_mut.result.now no_block (let one = c.requires.one in omega (arith, one)) in
-    let was = one_whole p.config p.partition.items p.done bs c.requires.whole.whole c.requires.one in
+    let was = one_whole p.config p.program p.partition.items p.done bs c.requires.whole.whole c.requires.one in
     subst (λ b. AreBlocks c.net.result (one_block c.net.result) (b ∷ [])) (sym first)
     (subst (λ d. AreBlocks d (one_block d) (block_at bs 0 ∷ [])) (sym c.net.ensures) was.machine.blocks)
 
@@ -28,7 +28,7 @@ deal-requires-clause-clear c =
     let p = c.args.self.now in
     let bs = p.blocks.items in
     let first : c.index_mut.result.now ≡ block_at bs 0 = c.index_mut.ensures.value ∙ get_or_default bs 0 c.index_mut.result.now no_block (let one = c.requires.one in omega (arith, one)) in
-    let was = one_whole p.config p.partition.items p.done bs c.requires.whole.whole c.requires.one in
+    let was = one_whole p.config p.program p.partition.items p.done bs c.requires.whole.whole c.requires.one in
     subst (λ b. IsClear c.net.result (frame_of c.net.result (one_block c.net.result) (b ∷ []))) (sym first)
     (subst (λ d. IsClear d (frame_of d (one_block d) (block_at bs 0 ∷ []))) (sym c.net.ensures) was.clear)
 
@@ -45,7 +45,7 @@ returns-in_err-blocks-clause-whole c =
     let same : set bs 0 c.deal.new.block ≡ bs =
     ap (λ b. set bs 0 b) (c.in_err-blocks.ensures.kept ∙ c.index_mut.ensures.value) ∙ set-get_or bs 0 c.index_mut.result.now in
     record {
-      whole = subst (λ xs. AreWhole p.config p.partition.items p.done xs) (sym same) c.requires.whole.whole;
+      whole = subst (λ xs. AreWhole p.config p.program p.partition.items p.done xs) (sym same) c.requires.whole.whole;
       few = subst (λ xs. length xs ≤ 64) (sym same) c.requires.whole.few;
     }
 
@@ -68,8 +68,8 @@ returns-clause-whole c =
     subst (λ d. IsDealt d homes (block_at bs 0) now) c.net.ensures (subst (λ x. IsDealt c.net.result homes x now) first c.in_ok-blocks.ensures.dealt) in
     record {
       whole =
-          subst (λ q. AreWhole p.config q p.done now) (sym c.in_ok-homes.ensures.items)
-          (recut_whole p.config p.partition.items p.done bs c.requires.whole.whole c.requires.one homes now dealt);
+          subst (λ q. AreWhole p.config p.program q p.done now) (sym c.in_ok-homes.ensures.items)
+          (recut_whole p.config p.program p.partition.items p.done bs c.requires.whole.whole c.requires.one homes now dealt);
       few = dealt.few;
     }
 
@@ -84,6 +84,6 @@ returns-clause-value c =
     subst (λ d. IsDealt d homes (block_at bs 0) now) c.net.ensures (subst (λ x. IsDealt c.net.result homes x now) first c.in_ok-blocks.ensures.dealt) in
     let machine : machine_in p.config c.in_ok-homes.homes.items p.done now ≡ machine_in p.config p.partition.items p.done bs =
     ap (λ q. machine_in p.config q p.done now) c.in_ok-homes.ensures.items
-    ∙ recut_machine p.config p.partition.items p.done bs c.requires.whole.whole c.requires.one homes now dealt in
+    ∙ recut_machine p.config p.program p.partition.items p.done bs c.requires.whole.whole c.requires.one homes now dealt in
     cut_anew p.config p.program c.in_ok-homes.homes.items homes (length now)
     (machine_in p.config c.in_ok-homes.homes.items p.done now) (machine_in p.config p.partition.items p.done bs) c.in_ok-homes.ensures.items machine

@@ -20,7 +20,8 @@ make_cycle-requires-clause-counted g c =
 pub make_cycle-requires-clause-whole : goal.make_cycle-requires-clause-whole
 make_cycle-requires-clause-whole g c =
     let p = c.into_parts-config.result in
-    subst (λ part. AreWhole p.config part p.done p.blocks.items) (sym c.as_slice.ensures.value) c.into_parts-config.ensures.whole.whole
+    subst (λ part. AreWhole p.config g.J.Course.program part p.done p.blocks.items) (sym c.as_slice.ensures.value)
+    (subst (λ q. AreWhole p.config q p.partition.items p.done p.blocks.items) (ap (λ (b : BlocksState). b.program) c.into_parts-config.ensures.value ∙ sym c.requires.course.program_is) c.into_parts-config.ensures.whole.whole)
 
 pub make_cycle-requires-clause-settled : goal.make_cycle-requires-clause-settled
 make_cycle-requires-clause-settled g c h w =
@@ -46,7 +47,9 @@ pub of_parts-requires : goal.of_parts-requires
 of_parts-requires g c =
     let p = c.into_parts-config.result in
     record {
-      whole = subst (λ part. AreWhole p.config part (p.done + 1) c.in_ok-blocks.blocks.items) c.as_slice.ensures.value c.in_ok-blocks.ensures.whole;
+      whole =
+          subst (λ q. AreWhole p.config q p.partition.items (p.done + 1) c.in_ok-blocks.blocks.items) (c.requires.course.program_is ∙ sym (ap (λ (b : BlocksState). b.program) c.into_parts-config.ensures.value))
+          (subst (λ part. AreWhole p.config g.J.Course.program part (p.done + 1) c.in_ok-blocks.blocks.items) c.as_slice.ensures.value c.in_ok-blocks.ensures.whole);
       few = subst (λ n. n ≤ 64) (sym c.in_ok-blocks.ensures.count) c.into_parts-config.ensures.whole.few;
     }
 

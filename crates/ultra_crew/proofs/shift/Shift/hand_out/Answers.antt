@@ -30,7 +30,7 @@ hand_out-requires-clause-ready g c =
     let whole : drain_items s ≡ teams = ap drain_items c.into_iter-team-iterator.ensures.into_iter_gives ∙ c.drain-team-items.ensures.rest ∙ take_all _ teams (omega (arith, c.args.teams.now.ok.0)) in
     let turn = YieldsList-turn (YieldsList-from_shown drain_steps (λ x. x) drain_items (λ _ _ h. ap length h.0) (λ _ _ _ h. h.0) s) c.loop-team.yielded _ c.loop-team.yielded_by _ _ c.in-Some.team c.in-Some.is c.next.ensures.steps in
     let here = next_of _ teams _ c.loop-team.worker _ whole c.loop-team.invariant turn in
-    subst (λ (v : Vec Task Global). All (CanBeMade c.args.half) v.items) (sym here.1) (c.requires.ready c.loop-team.worker c.in-Some.team here.0)
+    subst (λ (v : Vec Task Global). All (CanBeMade g.J.Course.program c.args.half) v.items) (sym here.1) (c.requires.ready c.loop-team.worker c.in-Some.team here.0)
 
 pub hand_out-requires-clause-settled : goal.hand_out-requires-clause-settled
 hand_out-requires-clause-settled g c =

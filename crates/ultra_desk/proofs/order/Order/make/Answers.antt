@@ -1,8 +1,11 @@
-use Rattle.std.proofs.Common.{◌≡◌, List, ◌++◌, length, take, drop, ap, sym, subst, ◌∙◌, Vec, Global}
+use Rattle.std.proofs.Common.{◌≡◌, suc, List, [], ◌∷◌, ◌++◌, length, take, drop, ap, refl, sym, subst, ◌∙◌, arith, Vec, Global}
 use Rattle.std.specs.Prelude.{All, map}
 use Rattle.std.proofs.lemmas.List.{take_at}
 use Rattle.ultra_isa.specs.declared.Instr.{Instr}
-use Rattle.ultra_desk.specs.Tasks.{CanBeMade, task_made}
+use Rattle.ultra_section.specs.declared.half.Half.{Half}
+use Rattle.ultra_section.specs.declared.rooms.Rooms.{Rooms}
+use Rattle.ultra_section.proofs.OwnProgram.{made_by_own}
+use Rattle.ultra_desk.specs.Tasks.{CanBeMade, own_task_made, task_made}
 use Rattle.ultra_desk.specs.declared.task.Task.{Task}
 use Rattle.ultra_desk.proofs.order.Order.make.Goals as goal
 
@@ -11,15 +14,22 @@ done_in : (team : Vec Task Global) (f : Task → Task) (before after results : L
     → take team.len (after ++ drop (length after) team.items) ≡ results
 done_in team f before after results kept len done whole settled = take_at after (drop (length after) team.items) team.len (kept ∙ len) ∙ done ∙ ap (map f) whole ∙ settled
 
+-- tasks of blocks that run a program are done by it
+tasks_by_own : (program : List Instr) (h : Half) (rooms : Rooms) (ts : List Task) → All (CanBeMade program h) ts → map (own_task_made h rooms) ts ≡ map (task_made h rooms program) ts
+tasks_by_own program h rooms [] can = refl
+tasks_by_own program h rooms (t ∷ ts) can =
+    ap (λ b. record t { block = b } ∷ map (own_task_made h rooms) ts) (made_by_own program t.block h rooms (can 0 t (omega arith)))
+    ∙ ap (λ xs. task_made h rooms program t ∷ xs) (tasks_by_own program h rooms ts (λ i d below. can (suc i) d (omega arith)))
+
 pub make_all-requires : goal.make_all-requires
-make_all-requires g c = subst (λ (ts : List Task). All (CanBeMade c.self.inside.name.half) ts) (sym c.as_mut_slice.ensures.value) c.self.invariant.0
+make_all-requires g c = (g.J.Course.program, subst (λ (ts : List Task). All (CanBeMade g.J.Course.program c.self.inside.name.half) ts) (sym c.as_mut_slice.ensures.value) c.self.invariant.0)
 
 pub invariant_of-result : goal.invariant_of-result
 invariant_of-result g c =
     let o = c.self.inside in
     record {
       settled =
-          done_in o.team (task_made o.name.half o.rooms c.args.program.now) c.as_mut_slice.result.now c.make_all.new.team (g.J.Course.results o.name.cycle o.name.half o.name.worker)
+          done_in o.team (own_task_made o.name.half o.rooms) c.as_mut_slice.result.now c.make_all.new.team (g.J.Course.results o.name.cycle o.name.half o.name.worker)
           c.make_all.auto.team c.as_mut_slice.ensures.len c.make_all.ensures c.as_mut_slice.ensures.value
-          (ap (λ (p : List Instr). map (task_made o.name.half o.rooms p) o.team.items) c.requires ∙ c.self.invariant.1);
+          (tasks_by_own g.J.Course.program o.name.half o.rooms o.team.items c.self.invariant.0 ∙ c.self.invariant.1);
     }

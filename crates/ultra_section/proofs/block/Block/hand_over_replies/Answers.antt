@@ -23,6 +23,7 @@ invariant_of-self c =
     let links = subst (λ (b : BlockState). reply_inlets b.stages c.args.unit ≡ Some c.args.inlets) (sym c.self.view_is) c.requires.links in
     record {
       units = known.units;
+      rests = known.rests;
       replies =
           known_left inside.net (omega arith) (omega arith) inside.sets.here inside.replies c.hand_over.new.self c.args.unit c.args.inlets links
           record { table = c.hand_over.ensures.table; came = c.hand_over.ensures.came; others = c.hand_over.ensures.others } known.replies;

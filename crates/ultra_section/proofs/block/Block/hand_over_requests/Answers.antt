@@ -26,6 +26,7 @@ invariant_of-self c =
       requests =
           known_left inside.net (omega arith) (omega arith) inside.sets.here inside.requests c.hand_over.new.self c.args.unit c.args.inlets links
           record { table = c.hand_over.ensures.table; came = c.hand_over.ensures.came; others = c.hand_over.ensures.others } known.requests;
+      rests = known.rests;
       replies = known.replies;
       events_fit = known.events_fit;
       stops_fit = known.stops_fit;

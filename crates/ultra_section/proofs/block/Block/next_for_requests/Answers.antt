@@ -24,7 +24,7 @@ returns-clause-some c =
     let known = c.self.invariant in
     next_unit inside.requests.away c.args.self.now c.args.from c.next.result
     (subst (λ (b : BlockState). (n : ℕ) → has_unit inside.requests.away n ≡ false → stands n b ≡ false → AreEmpty b.requests (request_inlets b.stages n)) c.self.view_is
-    (none_away record { stages = inside.net; done = inside.done; switches = inside.switches.items; modules = inside.modules.items; elements = inside.elements.items; replies = inside.replies.table.items; requests = inside.requests.table.items; events = inside.events.items; stops = inside.stops.items } inside.sets inside.requests refl known.units known.requests))
+    (none_away record { stages = inside.net; done = inside.done; program = inside.program; switches = inside.switches.items; modules = inside.modules.items; elements = inside.elements.items; replies = inside.replies.table.items; requests = inside.requests.table.items; events = inside.events.items; stops = inside.stops.items } inside.sets inside.requests refl known.units known.requests))
     c.next.ensures.some
 
 pub returns-clause-none : goal.returns-clause-none
@@ -33,7 +33,7 @@ returns-clause-none c =
     let known = c.self.invariant in
     no_unit inside.requests.away c.args.self.now c.args.from c.next.result
     (subst (λ (b : BlockState). (n : ℕ) → has_unit inside.requests.away n ≡ false → stands n b ≡ false → AreEmpty b.requests (request_inlets b.stages n)) c.self.view_is
-    (none_away record { stages = inside.net; done = inside.done; switches = inside.switches.items; modules = inside.modules.items; elements = inside.elements.items; replies = inside.replies.table.items; requests = inside.requests.table.items; events = inside.events.items; stops = inside.stops.items } inside.sets inside.requests refl known.units known.requests))
+    (none_away record { stages = inside.net; done = inside.done; program = inside.program; switches = inside.switches.items; modules = inside.modules.items; elements = inside.elements.items; replies = inside.replies.table.items; requests = inside.requests.table.items; events = inside.events.items; stops = inside.stops.items } inside.sets inside.requests refl known.units known.requests))
     c.next.ensures.none
 
 pub returns-then-is_empty-clause-none : goal.returns-then-is_empty-clause-none
@@ -42,5 +42,5 @@ returns-then-is_empty-clause-none c =
     let known = c.self.invariant in
     no_unit inside.requests.away c.args.self.now c.args.from None
     (subst (λ (b : BlockState). (n : ℕ) → has_unit inside.requests.away n ≡ false → stands n b ≡ false → AreEmpty b.requests (request_inlets b.stages n)) c.self.view_is
-    (none_away record { stages = inside.net; done = inside.done; switches = inside.switches.items; modules = inside.modules.items; elements = inside.elements.items; replies = inside.replies.table.items; requests = inside.requests.table.items; events = inside.events.items; stops = inside.stops.items } inside.sets inside.requests refl known.units known.requests))
+    (none_away record { stages = inside.net; done = inside.done; program = inside.program; switches = inside.switches.items; modules = inside.modules.items; elements = inside.elements.items; replies = inside.replies.table.items; requests = inside.requests.table.items; events = inside.events.items; stops = inside.stops.items } inside.sets inside.requests refl known.units known.requests))
     (λ k _. c.is_empty.ensures c.if-is_empty.true k (omega arith))

@@ -7,6 +7,6 @@ use Rattle.ultra_section.proofs.block.Block.next_holding.Goals as goal
 pub returns : goal.returns
 returns c =
     let inside = c.self.inside in
-    let b : BlockState = record { stages = inside.net; done = inside.done; switches = inside.switches.items; modules = inside.modules.items; elements = inside.elements.items; replies = inside.replies.table.items; requests = inside.requests.table.items; events = inside.events.items; stops = inside.stops.items } in
+    let b : BlockState = record { stages = inside.net; done = inside.done; program = inside.program; switches = inside.switches.items; modules = inside.modules.items; elements = inside.elements.items; replies = inside.replies.table.items; requests = inside.requests.table.items; events = inside.events.items; stops = inside.stops.items } in
     subst (λ (b : BlockState). IsNextWhere (holds_at b c.args.held) c.args.from c.next.result) c.self.view_is
     (next_is c.args.held b inside.sets c.self.invariant.units c.holding.result.now c.holding.ensures c.args.from c.next.result c.next.ensures.some c.next.ensures.none)

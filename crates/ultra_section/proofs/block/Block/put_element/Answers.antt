@@ -1,8 +1,11 @@
-use Rattle.std.proofs.Common.{◌^◌, ◌<◌, Some, sym, subst, ◌∙◌, true, arith}
+use Rattle.std.proofs.Common.{◌≡◌, ◌≢◌, ℕ, ◌^◌, ◌<◌, Some, sym, subst, ◌∙◌, true, arith}
+use Rattle.std.proofs.lemmas.Bool.{true≢false}
+use Rattle.ultra_units.specs.Set.{has_unit}
 use Rattle.ultra_section.specs.BlockState.{BlockState, element_at}
 use Rattle.ultra_section.specs.Sets.{facts_at, KnowsElement}
 use Rattle.ultra_section.proofs.Known.{AgreeBut, element_known}
 use Rattle.ultra_units.proofs.Renewed.{replies_anew, requests_beside}
+use Rattle.ultra_section.proofs.Awake.{rests_anew}
 use Rattle.ultra_section.proofs.Moved.{others_here, unit_moved, element_put}
 use Rattle.ultra_section.proofs.block.Block.put_element.Goals as goal
 
@@ -19,5 +22,8 @@ invariant_of-self c =
     known
     (element_known inside.net inside.sets now inside.switches.items inside.modules.items inside.elements.items known.units c.args.pe (Some c.args.element) within (subst (λ k. AgreeBut k inside.sets now) c.element_number-unit.ensures.value agree)
     (subst (λ k. KnowsElement (facts_at now k) (Some c.args.element)) c.element_number-unit.ensures.value noted))
+    (rests_anew inside.net inside.program inside.awake c.insert.new.self inside.elements.items known.rests c.args.pe (Some c.args.element) (omega (arith, known.units.element_entries, within))
+    (subst (λ j. (k : ℕ) → k ≢ j → has_unit c.insert.new.self k ≡ has_unit inside.awake k) c.element_number-unit.ensures.value c.insert.ensures.others)
+    (λ asleep. absurd (true≢false (sym (subst (λ j. has_unit c.insert.new.self j ≡ true) c.element_number-unit.ensures.value c.insert.ensures.there) ∙ asleep))))
     (replies_anew inside.net c.element_number-unit.result inside.sets.here now.here (others_here c.element_number-unit.result inside.sets now agree) true noted.here inside.replies c.renew.new.self record { table = c.renew.ensures.table; came = c.renew.ensures.came; away = c.renew.ensures.away; others_came = c.renew.ensures.others_came; others_away = c.renew.ensures.others_away } known.replies)
     (let is = c.element_number-unit.ensures.value in requests_beside inside.net c.element_number-unit.result inside.sets.here now.here (others_here c.element_number-unit.result inside.sets now agree) inside.requests (omega (arith, is)) known.requests)

@@ -19,5 +19,6 @@ invariant_of-self c =
     known
     (module_known inside.net inside.sets now inside.switches.items inside.modules.items inside.elements.items known.units c.args.number (Some c.args.bank) within (subst (λ k. AgreeBut k inside.sets now) c.module_number-unit.ensures.value agree)
     (subst (λ k. KnowsModule (facts_at now k) (Some c.args.bank)) c.module_number-unit.ensures.value noted))
+    known.rests
     (let is = c.module_number-unit.ensures.value in replies_beside inside.net c.module_number-unit.result inside.sets.here now.here (others_here c.module_number-unit.result inside.sets now agree) inside.replies (omega (arith, is)) (omega (arith, is, within)) known.replies)
     (requests_anew inside.net c.module_number-unit.result inside.sets.here now.here (others_here c.module_number-unit.result inside.sets now agree) true noted.here inside.requests c.renew.new.self record { table = c.renew.ensures.table; came = c.renew.ensures.came; away = c.renew.ensures.away; others_came = c.renew.ensures.others_came; others_away = c.renew.ensures.others_away } known.requests)

@@ -17,6 +17,7 @@ invariant_of-self c =
     unit_moved inside.net inside.numbering inside.sets now inside.switches.items _ inside.modules.items _ inside.elements.items _ inside.replies c.renew.new.self inside.requests c.renew-2.new.self _ _
     known
     (switch_known inside.net inside.sets now inside.switches.items inside.modules.items inside.elements.items known.units c.args.number (Some c.args.switch) within c.stand_switch.ensures.others there)
+    known.rests
     (replies_anew inside.net c.args.number inside.sets.here now.here beside true there.here inside.replies c.renew.new.self
     record { table = c.renew.ensures.table; came = c.renew.ensures.came; away = c.renew.ensures.away; others_came = c.renew.ensures.others_came; others_away = c.renew.ensures.others_away } known.replies)
     (requests_anew inside.net c.args.number inside.sets.here now.here beside true there.here inside.requests c.renew-2.new.self

@@ -30,6 +30,7 @@ invariant_of-self c =
     record { table = c.put.ensures.table; leads_there = c.put.ensures.leads; came = c.put.ensures.came; away = c.put.ensures.away } known.replies in
     record {
       units = known.units;
+      rests = known.rests;
       replies =
           known_put inside.net (omega arith) (omega arith) inside.sets.here c.put.new.self c.put-2.new.self c.args.inlets.one c.args.unit c.args.replies.one it.one_reader
           record { table = c.put-2.ensures.table; leads_there = c.put-2.ensures.leads; came = c.put-2.ensures.came; away = c.put-2.ensures.away } first;

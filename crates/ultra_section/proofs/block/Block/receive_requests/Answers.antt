@@ -33,6 +33,7 @@ invariant_of-self c =
       requests =
           known_put inside.net (omega arith) (omega arith) inside.sets.here c.put.new.self c.put-2.new.self c.args.inlets.one c.args.unit c.args.requests.one it.one_reader
           record { table = c.put-2.ensures.table; leads_there = c.put-2.ensures.leads; came = c.put-2.ensures.came; away = c.put-2.ensures.away } first;
+      rests = known.rests;
       replies = known.replies;
       events_fit = known.events_fit;
       stops_fit = known.stops_fit;

@@ -49,6 +49,7 @@ invariant_of-self-2 c =
           c.args.number c.index_mut.result.now c.in-Some.switch c.send_from_switch.new.switch is.within c.index_mut.ensures.value c.in-Some.is
           c.note_replies.ensures.others c.note_replies.ensures.there (ap holds_requests c.send_from_switch.ensures.switch) (ap has_request_room c.send_from_switch.ensures.switch)
           (ap keeps_records c.send_from_switch.ensures.switch);
+      rests = known.rests;
       replies = subst (λ h. RepliesAreKnown inside.net h c.send_from_switch.new.links) (sym c.note_replies.ensures.here) c.send_from_switch.ensures.known;
       requests = subst (λ h. RequestsAreKnown inside.net h inside.requests) (sym c.note_replies.ensures.here) known.requests;
       events_fit = known.events_fit;

@@ -43,6 +43,7 @@ invariant_of-self-2 c =
           module_changed inside.net inside.sets c.note_module.new.self inside.switches.items inside.modules.items inside.elements.items known.units
           c.args.number c.args.module_number c.index_mut.result.now c.in-Some.bank c.send_reply-out.new.bank is c.index_mut.ensures.value c.in-Some.is
           c.note_module.ensures.others c.note_module.ensures.there;
+      rests = known.rests;
       replies = c.leave_module.ensures.known;
       requests = subst (λ h. RequestsAreKnown inside.net h inside.requests) (sym c.note_module.ensures.here) known.requests;
       events_fit = known.events_fit;

@@ -1,11 +1,12 @@
-use Rattle.std.proofs.Common.{◌≡◌, ℕ, List, true, false, Option, Some, set, refl, sym, ◌∙◌, ap, subst}
+use Rattle.std.proofs.Common.{◌≡◌, ℕ, List, true, false, Option, Some, set, refl, sym, ◌∙◌, ap, subst, arith}
 use Rattle.std.specs.Prelude.{slice_get}
 use Rattle.ultra_msg.specs.declared.Request.{Request}
 use Rattle.ultra_switch.specs.declared.Ports.{Ports}
 use Rattle.ultra_units.specs.Numbers.{place_number}
 use Rattle.ultra_halves.specs.declared.elements.ProcessingElement.{ProcessingElement}
 use Rattle.ultra_halves.specs.Elements.{element_without}
-use Rattle.ultra_section.specs.BlockState.{BlockState}
+use Rattle.ultra_section.specs.BlockState.{AreOthersAtRest, BlockState}
+use Rattle.ultra_section.proofs.Awake.{rests_without}
 use Rattle.ultra_units.specs.Marks.{RepliesAreKnown, RequestsAreKnown}
 use Rattle.ultra_units.specs.Links.{put_on}
 use Rattle.ultra_section.specs.RequestsSent.{request_sent_by}
@@ -62,6 +63,9 @@ invariant_of-self-2 c =
           element_changed inside.net inside.sets c.note_element.new.self inside.switches.items inside.modules.items inside.elements.items known.units
           c.args.number c.args.pe c.index_mut.result.now c.in-Some.element c.send_request-out.new.self is c.index_mut.ensures.value c.in-Some.is
           c.note_element.ensures.others c.note_element.ensures.there;
+      rests =
+          subst (λ v. AreOthersAtRest inside.net inside.program inside.awake (set inside.elements.items c.args.pe (Some v))) (sym c.send_request-out.ensures.left)
+          (rests_without inside.net inside.program inside.awake inside.elements.items known.rests c.args.number c.args.pe c.index_mut.result.now c.in-Some.element is (omega (arith, known.units.element_entries, is.small)) c.index_mut.ensures.value c.in-Some.is c.send_request-out.result);
       replies = subst (λ h. RepliesAreKnown inside.net h inside.replies) (sym c.note_element.ensures.here) known.replies;
       requests = c.leave_element.ensures.known;
       events_fit = known.events_fit;

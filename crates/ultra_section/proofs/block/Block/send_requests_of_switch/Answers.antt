@@ -51,6 +51,7 @@ invariant_of-self-2 c =
           c.args.number c.index_mut.result.now c.in-Some.switch c.send_from_switch.new.switch is.within c.index_mut.ensures.value c.in-Some.is
           c.note_requests.ensures.others c.note_requests.ensures.there (ap holds_replies c.send_from_switch.ensures.switch) (ap has_reply_room c.send_from_switch.ensures.switch)
           (ap keeps_records c.send_from_switch.ensures.switch);
+      rests = known.rests;
       replies = subst (λ h. RepliesAreKnown inside.net h inside.replies) (sym c.note_requests.ensures.here) known.replies;
       requests = subst (λ h. RequestsAreKnown inside.net h c.send_from_switch.new.links) (sym c.note_requests.ensures.here) c.send_from_switch.ensures.known;
       events_fit = known.events_fit;

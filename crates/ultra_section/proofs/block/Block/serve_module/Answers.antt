@@ -43,6 +43,7 @@ invariant_of-self-in-Some-served c =
     (module_changed inside.net inside.sets c.note_module.new.self inside.switches.items inside.modules.items inside.elements.items known.units
     c.args.number c.args.module_number c.index_mut.result.now c.in-Some.bank c.serve-served.new.self is c.index_mut.ensures.value c.in-Some.is
     c.note_module.ensures.others c.note_module.ensures.there)
+    known.rests
     c.append.ensures.places (omega arith)
 
 pub invariant_of-self-in_default-served : goal.invariant_of-self-in_default-served
@@ -55,6 +56,7 @@ invariant_of-self-in_default-served c =
     (module_changed inside.net inside.sets c.note_module.new.self inside.switches.items inside.modules.items inside.elements.items known.units
     c.args.number c.args.module_number c.index_mut.result.now c.in-Some.bank c.serve-served.new.self is c.index_mut.ensures.value c.in-Some.is
     c.note_module.ensures.others c.note_module.ensures.there)
+    known.rests
     (omega arith) (omega arith)
 
 pub index_mut-requires : goal.index_mut-requires

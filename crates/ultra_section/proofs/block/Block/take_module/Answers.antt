@@ -19,5 +19,6 @@ invariant_of-self c =
     (module_known inside.net inside.sets now inside.switches.items inside.modules.items inside.elements.items known.units c.args.number c.take.new.self within (subst (λ k. AgreeBut k inside.sets now) c.module_number-unit.ensures.value agree)
     (subst (λ o. KnowsModule (facts_at now (module_number inside.net c.args.number)) o) (sym c.take.ensures.after)
     (subst (λ k. KnowsModule (facts_at now k) None) c.module_number-unit.ensures.value (module_gone (facts_at now c.module_number-unit.result) c.leave.ensures.there))))
+    known.rests
     (let is = c.module_number-unit.ensures.value in replies_beside inside.net c.module_number-unit.result inside.sets.here now.here (others_here c.module_number-unit.result inside.sets now agree) inside.replies (omega (arith, is)) (omega (arith, is, within)) known.replies)
     (requests_anew inside.net c.module_number-unit.result inside.sets.here now.here (others_here c.module_number-unit.result inside.sets now agree) false ((module_gone (facts_at now c.module_number-unit.result) c.leave.ensures.there).here) inside.requests c.renew.new.self record { table = c.renew.ensures.table; came = c.renew.ensures.came; away = c.renew.ensures.away; others_came = c.renew.ensures.others_came; others_away = c.renew.ensures.others_away } known.requests)

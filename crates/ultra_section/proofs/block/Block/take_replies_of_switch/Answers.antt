@@ -63,6 +63,7 @@ invariant_of-self-2 c =
           switch_replies_taken inside.net inside.sets c.note_replies_taken.new.self inside.switches.items inside.modules.items inside.elements.items known.units
           c.args.number c.index_mut.result.now c.in-Some.switch c.take_into_switch.new.switch is.within c.index_mut.ensures.value c.in-Some.is
           c.note_replies_taken.ensures.others c.note_replies_taken.ensures.there (ap holds_requests c.take_into_switch.ensures.switch) (ap has_request_room c.take_into_switch.ensures.switch);
+      rests = known.rests;
       replies = subst (λ h. RepliesAreKnown inside.net h c.take_into_switch.new.links) (sym c.note_replies_taken.ensures.here) (c.take_into_switch.ensures.known inside.sets.here known.replies);
       requests = subst (λ h. RequestsAreKnown inside.net h inside.requests) (sym c.note_replies_taken.ensures.here) known.requests;
       events_fit = known.events_fit;

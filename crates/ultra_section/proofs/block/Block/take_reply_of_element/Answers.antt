@@ -6,12 +6,13 @@ use Rattle.ultra_section.specs.BlockState.{BlockState}
 use Rattle.ultra_section.specs.RepliesTaken.{ElementCanTakeReply, reply_taken_by}
 use Rattle.ultra_units.specs.Units.{IsElement}
 use Rattle.ultra_section.proofs.Known.{element_same, stands}
+use Rattle.ultra_section.proofs.Awake.{rests_same, woken_up}
 use Rattle.ultra_msg.specs.declared.Event.{Event}
 use Rattle.ultra_msg.specs.declared.ReplyMessage.{ReplyMessage}
 use Rattle.ultra_model.specs.Places.{present}
 use Rattle.ultra_model.specs.Phases.{delivery}
 use Rattle.ultra_units.specs.Marks.{delivery_link, on_link}
-use Rattle.ultra_section.proofs.Entries.{element_entry, element_inside, element_passed, element_worked, elements_kept, none_more, one_more, put_back}
+use Rattle.ultra_section.proofs.Entries.{element_entry, element_inside, element_passed, element_worked, elements_kept, none_more, one_more, put_back, put_back_some}
 use Rattle.ultra_section.proofs.block.Block.take_reply_of_element.Goals as goal
 
 delivery_done : (b : BlockState) (p : ℕ) (e v : ProcessingElement) (came : Option ReplyMessage) (replies : List (Option ReplyMessage)) (events : List Event)
@@ -56,6 +57,7 @@ invariant_of-self-in-Some-came c =
           element_same inside.net inside.sets inside.sets inside.switches.items inside.modules.items inside.elements.items known.units
           c.args.number c.args.pe c.index_mut.result.now c.in-Some.element c.deliver.new.self is c.index_mut.ensures.value c.in-Some.is
           (ap holds_request c.deliver.ensures) (ap (λ (e : ProcessingElement). has_stopped e.processor.core.activity) c.deliver.ensures);
+      rests = woken_up inside.net inside.program inside.awake inside.elements.items known.rests c.args.number c.args.pe c.index_mut.result.now c.in-Some.element is (omega (arith, known.units.element_entries, is.small)) c.index_mut.ensures.value c.in-Some.is c.insert.new.self c.deliver.new.self c.insert.ensures.others c.insert.ensures.there;
       replies = c.take_at_element-came.ensures.known inside.sets.here known.replies;
       requests = known.requests;
       events_fit = let more = c.append.ensures.places in omega (arith, known.events_fit);
@@ -72,6 +74,7 @@ invariant_of-self-in_default-came c =
       units =
           element_same inside.net inside.sets inside.sets inside.switches.items inside.modules.items inside.elements.items known.units
           c.args.number c.args.pe c.index_mut.result.now c.in-Some.element c.in-Some.element is c.index_mut.ensures.value c.in-Some.is refl refl;
+      rests = rests_same inside.net inside.program inside.awake inside.awake inside.elements.items known.rests _ (put_back_some inside.elements.items c.args.pe c.index_mut.result.now c.index_mut.ensures.value c.in-Some.element c.in-Some.is);
       replies = c.take_at_element-came.ensures.known inside.sets.here known.replies;
       requests = known.requests;
       events_fit = known.events_fit;

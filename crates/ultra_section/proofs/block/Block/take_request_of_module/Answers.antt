@@ -54,6 +54,7 @@ invariant_of-self-2 c =
           module_changed inside.net inside.sets c.note_module.new.self inside.switches.items inside.modules.items inside.elements.items known.units
           c.args.number c.args.module_number c.index_mut.result.now c.in-Some.bank c.match-came.bank is c.index_mut.ensures.value c.in-Some.is
           c.note_module.ensures.others c.note_module.ensures.there;
+      rests = known.rests;
       replies = subst (λ h. RepliesAreKnown inside.net h inside.replies) (sym c.note_module.ensures.here) known.replies;
       requests = subst (λ h. RequestsAreKnown inside.net h c.take_at_module-came.new.links) (sym c.note_module.ensures.here) (c.take_at_module-came.ensures.known inside.sets.here known.requests);
       events_fit = known.events_fit;

@@ -50,7 +50,7 @@ note_requests_taken-requires c = record {
       let inside = c.self.inside in
       let is = switch_inside c.self.view_is c.args.number c.args.stage c.args.index c.requires.is in
       let was = switch_was inside.net inside.sets inside.sets inside.switches.items inside.modules.items inside.elements.items c.self.invariant.units c.args.number c.index_mut.result.now c.in-Some.switch is.within c.index_mut.ensures.value c.in-Some.is in
-      let nothing = c.take_into_switch-has_combined.ensures.none none in
+      let nothing = c.take_into_switch-has_combined.ensures.none.0 none in
       was.keeps_records ∙ sym (ap keeps_records c.take_into_switch-has_combined.ensures.switch ∙ keeps_as_before inside.net c.args.stage c.args.index inside.done c.in-Some.switch _ nothing);
 }
 
@@ -70,6 +70,7 @@ invariant_of-self-2 c =
           switch_requests_taken inside.net inside.sets c.note_requests_taken.new.self inside.switches.items inside.modules.items inside.elements.items known.units
           c.args.number c.index_mut.result.now c.in-Some.switch c.take_into_switch-has_combined.new.switch is.within c.index_mut.ensures.value c.in-Some.is
           c.note_requests_taken.ensures.others c.note_requests_taken.ensures.there (ap holds_replies c.take_into_switch-has_combined.ensures.switch) (ap has_reply_room c.take_into_switch-has_combined.ensures.switch);
+      rests = known.rests;
       replies = subst (λ h. RepliesAreKnown inside.net h inside.replies) (sym c.note_requests_taken.ensures.here) known.replies;
       requests = subst (λ h. RequestsAreKnown inside.net h c.take_into_switch-has_combined.new.links) (sym c.note_requests_taken.ensures.here) (c.take_into_switch-has_combined.ensures.known inside.sets.here known.requests);
       events_fit = let more = c.take_into_switch-has_combined.ensures.places in omega (arith, known.events_fit);

@@ -15,6 +15,7 @@ invariant_of-self c =
     record {
       numbers = known.numbers;
       units = known.units;
+      rests = known.rests;
       replies = known.replies;
       requests = known.requests;
       events_fit = subst (λ (v : Vec Event Global). most_events ≤ vec_capacity v) (sym c.swap.ensures.x_after) c.other.invariant.events_fit;
@@ -27,6 +28,7 @@ invariant_of-other c =
     record {
       numbers = known.numbers;
       units = known.units;
+      rests = known.rests;
       replies = known.replies;
       requests = known.requests;
       events_fit = subst (λ (v : Vec Event Global). most_events ≤ vec_capacity v) (sym c.swap.ensures.y_after) c.self.invariant.events_fit;

@@ -18,5 +18,6 @@ invariant_of-self c =
     known
     (switch_known inside.net inside.sets now inside.switches.items inside.modules.items inside.elements.items known.units c.args.number c.take.new.self within agree
     (subst (λ o. KnowsSwitch (facts_at now c.args.number) o) (sym c.take.ensures.after) (switch_gone (facts_at now c.args.number) c.leave.ensures.there)))
+    known.rests
     (replies_anew inside.net c.args.number inside.sets.here now.here (others_here c.args.number inside.sets now agree) false ((switch_gone (facts_at now c.args.number) c.leave.ensures.there).here) inside.replies c.renew.new.self record { table = c.renew.ensures.table; came = c.renew.ensures.came; away = c.renew.ensures.away; others_came = c.renew.ensures.others_came; others_away = c.renew.ensures.others_away } known.replies)
     (requests_anew inside.net c.args.number inside.sets.here now.here (others_here c.args.number inside.sets now agree) false ((switch_gone (facts_at now c.args.number) c.leave.ensures.there).here) inside.requests c.renew-2.new.self record { table = c.renew-2.ensures.table; came = c.renew-2.ensures.came; away = c.renew-2.ensures.away; others_came = c.renew-2.ensures.others_came; others_away = c.renew-2.ensures.others_away } known.requests)

@@ -9,4 +9,4 @@ returns-in-Element-clause-later c =
     let is : IsElement c.args.block.now.stages c.args.unit c.in-Element.pe = c.in-Element.ensures.is in
     λ k order can.
     subst (λ b. CanExecuteAt k b) (sym c.execute_element.ensures)
-    (later_element c.args.self.now.program.now c.args.block.now c.args.unit k c.in-Element.pe order is c.requires.can.event_room c.requires.can.stop_room can)
+    (later_element c.args.block.now.program c.args.block.now c.args.unit k c.in-Element.pe order is c.requires.can.event_room c.requires.can.stop_room can)
