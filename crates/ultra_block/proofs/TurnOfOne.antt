@@ -10,7 +10,6 @@ use Rattle.ultra_section.specs.declared.rooms.Rooms.{Rooms as BlockRooms}
 use Rattle.ultra_section.specs.BlockState.{BlockState}
 use Rattle.ultra_section.specs.Making.{CanMake, made}
 use Rattle.ultra_section.specs.Rooms.{AreOwnRooms}
-use Rattle.ultra_cut.specs.Cut.{IsCut}
 use Rattle.ultra_cut.specs.Exchange.{AreRepliesThere, AreRequestsThere, OnlyRepliesMove, OnlyRequestsMove}
 use Rattle.ultra_cut.specs.Halves.{AllCanMake, all_made}
 use Rattle.ultra_cut.specs.Whole.{AreRoomsOfAll}

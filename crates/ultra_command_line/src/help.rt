@@ -34,7 +34,7 @@ The trace is the same for every H. One worker is the fastest, and
 starts no thread: in each half of a cycle each worker is handed its
 part of the machine and gives it back, which costs more than it gains
 on machines of up to six stages. Measured at six stages, 2 workers
-took some 5 times as long as 1, and 8 workers some 67 times
+took some 5 times as long as 1, and 8 workers some 80 times
 (bench/README.md).";
 
 /// The short help of the workers of a sweep.

@@ -1,5 +1,5 @@
 -- A machine that stands in one block: the block's own rooms are all there are, and no message has to move.
-use Rattle.std.proofs.Common.{◌≡◌, ◌≢◌, ℕ, zero, suc, ◌+◌, ◌<◌, List, [], ◌∷◌, arith, refl}
+use Rattle.std.proofs.Common.{◌≡◌, ℕ, ◌<◌, List, [], ◌∷◌, arith, refl}
 use Rattle.ultra_units.specs.Numbers.{unit_count}
 use Rattle.ultra_units.proofs.Set.{none_there}
 use Rattle.ultra_section.specs.BlockState.{BlockState}
