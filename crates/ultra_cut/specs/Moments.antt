@@ -14,7 +14,8 @@ use Rattle.ultra_cut.specs.Events.{events_of, stops_of}
 
 -- each block runs the program and has made n cycles, and together they are the machine m, in which
 -- this has happened in the cycle so far
-pub record AreMachine (c : Settings) (program : List Instr) (partition : List ℕ) (n : ℕ) (events : List Event) (stops : List Stop) (m : Machine) (bs : List BlockState) : Type 0 where
+pub record AreMachine (c : Settings) (program : List Instr) (partition : List ℕ) (n : ℕ)
+    (events : List Event) (stops : List Stop) (m : Machine) (bs : List BlockState) : Type 0 where
   pub blocks : AreBlocks c.stages partition bs
   pub runs : OfEach (λ b. b.program ≡ program) bs
   pub done : OfEach (λ b. b.done ≡ n) bs
@@ -25,10 +26,12 @@ abbrev pub machine_in : Settings → List ℕ → ℕ → List BlockState → Ma
 machine_in c partition n bs =
     whole c (frame_of c.stages partition bs) n (events_of c.stages bs) (stops_of c.stages bs)
 
--- between two cycles: each block runs the program and has made n, they make up a machine that is sound, no message is on
--- a link, and each block lists what happened last in the order of the rules
-pub record AreWhole (c : Settings) (program : List Instr) (partition : List ℕ) (n : ℕ) (bs : List BlockState) : Type 0 where
+-- between two cycles: each block runs the program and has made n, they make up a machine that is
+-- sound, no message is on a link, and each block lists what happened last in the order of the rules
+pub record AreWhole (c : Settings) (program : List Instr) (partition : List ℕ) (n : ℕ)
+    (bs : List BlockState) : Type 0 where
   pub machine :
-      AreMachine c program partition n (events_of c.stages bs) (stops_of c.stages bs) (machine_in c partition n bs) bs
+      AreMachine c program partition n (events_of c.stages bs) (stops_of c.stages bs)
+      (machine_in c partition n bs) bs
   pub clear : IsClear c.stages (frame_of c.stages partition bs)
   pub in_order : OfEach (IsInOrder c.stages) bs
