@@ -45,8 +45,9 @@ def words_for(listed, name, jobs, library):
     return [*words, "--jobs", str(jobs), "--links", f"{name}="]
 
 
-def run(folder, words):
-    """Runs a command of the kit, and gives whether it ended well and what it said."""
+def run(folder, words, gives_way=False):
+    """Runs a command, which may give way to others, and gives whether it ended well and what it said."""
+    words = ["nice", *words] if gives_way else words
     ran = subprocess.run(
         [str(it) for it in words], cwd=folder, stdin=subprocess.DEVNULL, stdout=subprocess.PIPE,
         stderr=subprocess.STDOUT, text=True, errors="replace",
@@ -54,10 +55,10 @@ def run(folder, words):
     return ran.returncode == 0, ran.stdout
 
 
-def prove(listed, name, jobs):
+def prove(listed, name, jobs, gives_way=False):
     """Proves one crate and builds its library or program, and gives whether it is proved and what was said.
 
-    The tests of a crate are proved, built and run too.
+    The tests of a crate are proved, built and run too. Where it gives way, its proof leaves the processors to others.
     """
     folder = ROOT / "crates" / name
     built = folder / "out" / name if is_program(name) else library(name)
@@ -67,10 +68,11 @@ def prove(listed, name, jobs):
     shutil.rmtree(stamp.parent, ignore_errors=True)
     stamp.parent.mkdir(parents=True)
     words = words_for(listed, name, jobs, library)
-    is_well, said = build_program(folder, built, words) if is_program(name) else build_library(folder, built, words)
+    build = build_program if is_program(name) else build_library
+    is_well, said = build(folder, built, words, gives_way)
     if is_well and has_tests(name):
         tests = folder / "out" / f"{name}_tests"
-        is_well, said = build_program(folder, tests, [*words, "--test"])
+        is_well, said = build_program(folder, tests, [*words, "--test"], gives_way)
         if is_well:
             is_well, said = run(folder, [KIT / "bin" / "rattle-test", "--seconds", "60", tests])
     if is_well:
@@ -78,14 +80,15 @@ def prove(listed, name, jobs):
     return is_well, said
 
 
-def build_library(folder, built, words):
-    return run(folder, [KIT / "bin" / "rattle", "build", *words, "--statements", "-o", built])
+def build_library(folder, built, words, gives_way):
+    return run(folder, [KIT / "bin" / "rattle", "build", *words, "--statements", "-o", built], gives_way)
 
 
-def build_program(folder, built, words):
+def build_program(folder, built, words, gives_way):
     """Proves and links a program, or the tests of a crate, which are a program too."""
     toolchain, code = ["--toolchain", KIT / "toolchain"], built.with_suffix(".o")
-    is_proved, said = run(folder, [KIT / "bin" / "rattle", "build", *words, *toolchain, "--backend", "llvm", "-o", code])
+    proof = [KIT / "bin" / "rattle", "build", *words, *toolchain, "--backend", "llvm", "-o", code]
+    is_proved, said = run(folder, proof, gives_way)
     if not is_proved:
         return False, said
     system = [KIT / "c" / "libos_c.a", KIT / "c" / "liblibc_c.a"]

@@ -8,12 +8,12 @@ ghost use Rattle.ultra_cli.specs.Shown.{stream};
 ghost use Rattle.ultra_cli.specs.Outcome.{status_failures, IsRefusal, IsStatus, Obeyed, Failed};
 
 use std::env::Env;
-use std::io::ErrorKind;
 use std::process::ExitCode;
 use std::sync::Wait;
 use std::thread::Threads;
 use std::{env, io};
-use ultra_cli::{Failure, give_up, main_with};
+use ultra_cli::main_with;
+use ultra_inputs::{give_up, no_words};
 use ultra_io::{FileSource, Source, Stream};
 use ultra_msg::Sink;
 
@@ -59,12 +59,4 @@ fn main(rt: HostRuntime) -> ExitCode {
         Err(error) => give_up(&no_words(&error), &mut err),
     };
     ExitCode::from(status)
-}
-
-/// Why the words couldn't be had.
-fn no_words(error: &io::Error) -> Failure<'static> {
-    match error.kind() {
-        ErrorKind::OutOfMemory => Failure::NoMemory,
-        _ => Failure::NotWords,
-    }
 }

@@ -13,7 +13,7 @@ use std::sync::Wait;
 use std::thread::Threads;
 use sweep_command::{Plan, sweep};
 use ultra_command_line::{Command, Parsed, parse};
-pub use ultra_inputs::{Failure, give_up};
+use ultra_inputs::{Failure, give_up};
 use ultra_io::Source;
 use ultra_msg::{Sink, write_all};
 

@@ -1,5 +1,7 @@
 -- how a command that failed ends: its status, and its line; this project's profile
 use Rattle.std.specs.Prelude.{ℕ, List, ◌++◌, codes, decimal, string_bytes}
+use Rattle.std.specs.declared.io.ErrorKind.{ErrorKind}
+use Rattle.std.specs.declared.io.ErrorKind.TheVariants.{OutOfMemory}
 use Rattle.ultra_asm.specs.declared.AsmFaultKind.{AsmFaultKind}
 use Rattle.ultra_asm.specs.declared.AsmFaultKind.TheVariants as kind
 use Rattle.ultra_model.specs.Accepted.{name_of}
@@ -46,6 +48,11 @@ write_failures _ = 0
 -- how the line of a refused file begins
 abbrev pub path_text : List ℕ → List ℕ
 path_text path = codes "ultra: " ++ path ++ codes ": "
+
+-- why the words of the command line couldn't be had, by the kind of the error
+abbrev pub failure_of_words : ErrorKind → Failure
+failure_of_words OutOfMemory = NoMemory
+failure_of_words _ = NotWords
 
 -- what goes to standard error
 abbrev pub text_of : Failure → List ℕ

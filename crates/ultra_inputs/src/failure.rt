@@ -2,10 +2,13 @@
 
 ghost use Rattle.std.specs.Prelude.{◌≡◌, ◌+◌, ◌++◌, codes, decimal, OnOk, OnErr};
 ghost use Rattle.ultra_msg.specs.Bytes.{TakesPrefix, Writes};
-ghost use Rattle.ultra_inputs.specs.Failure.{kind_text, path_text, status_of, text_of};
+ghost use Rattle.std.specs.IoError.{error_kind};
+ghost use Rattle.ultra_inputs.specs.Failure.{failure_of_words, kind_text, path_text, status_of, text_of};
 
 use itoa::Buffer;
 use std::alloc::AllocError;
+use std::io;
+use std::io::ErrorKind;
 use ultra_asm::AsmFaultKind;
 use ultra_model::Field;
 use ultra_msg::{Sink, SinkFault, write_all, write_pieces};
@@ -127,6 +130,16 @@ pub fn give_up<E: Sink>(failure: &Failure, err: &mut E) -> u8
 {
     let _ = failure.write_to(err);
     failure.status()
+}
+
+/// Why the words that the program was called with couldn't be had.
+pub fn no_words(error: &io::Error) -> Failure<'static>
+    ensures { result ≡ failure_of_words (error_kind error.now) }
+{
+    match error.kind() {
+        ErrorKind::OutOfMemory => Failure::NoMemory,
+        _ => Failure::NotWords,
+    }
 }
 
 /// Writes the line of a file that can't be read.
