@@ -1,14 +1,15 @@
--- a request that arrives takes at most one place of a queue, and the record that is kept gives its partner
+-- a request that arrives takes at most one place of a queue, and the record that is kept gives its combination
 use Rattle.std.proofs.Common.{◌≡◌, ℕ, suc, ◌+◌, ◌-◌, ◌≤◌, List, [], ◌∷◌, ◌++◌, false, refl, arith, ap, length, length-append}
 use Rattle.std.specs.Prelude.{Option, Some, None, IfSome, slice_get, nat_lt, not}
 use Rattle.ultra_msg.specs.declared.Request.{Request}
+use Rattle.ultra_msg.specs.declared.Event.TheVariants.{Combined}
 use Rattle.ultra_msg.specs.Pair.{pair_of, is_fixed}
 use Rattle.ultra_msg.proofs.Pairs.{pair_first}
 use Rattle.ultra_switch.specs.declared.Entry.{Entry}
 use Rattle.ultra_switch.specs.declared.WaitRecord.{WaitRecord}
-use Rattle.ultra_switch.specs.declared.Arrived.TheVariants.{CombinedWith}
+use Rattle.ultra_switch.specs.declared.Arrived.TheVariants.{Appended, CombinedWith}
 use Rattle.ultra_switch.specs.Arrive.{Lane, Combination, entry, behind, can_combine, combine, combine_within, wait_record, after_arrival, arrive, outcome}
-use Rattle.ultra_halves.specs.Halves.{partner_in}
+use Rattle.ultra_halves.specs.Halves.{combination_event}
 use Rattle.ultra_model.proofs.Each.{if_tested}
 
 -- ---- how long the queue is
@@ -31,7 +32,7 @@ pub arrive_longer : (w : ℕ) (l : Lane) (r : Request) → length (arrive w l r)
 arrive_longer w l r = arrived_longer l r (combine_within w l r)
     (if_tested (nat_lt (length l.records) w) (λ o. KeepsLength l.queue o) _ _ (λ z. combine_keeps r l.queue) (λ z. tt))
 
--- ---- its partner
+-- ---- its combination
 at_end : {X : Type 0} (xs : List X) (y : X) → slice_get (xs ++ y ∷ []) (length xs) ≡ Some y
 at_end [] y = refl
 at_end (x ∷ xs) y = at_end xs y
@@ -41,14 +42,19 @@ last_of xs y =
     let e : length (xs ++ y ∷ []) - 1 ≡ length xs = omega (arith, length-append xs (y ∷ [])) in
     rw e (at_end xs y)
 
-pub partner_kept : (p : ℕ) (r : Request) (l : Lane) (o : Option Combination) (w : WaitRecord) → outcome o ≡ CombinedWith p
+pub combination_kept : (s x p : ℕ) (r : Request) (l : Lane) (o : Option Combination) (w : WaitRecord) → outcome o ≡ CombinedWith p
     → slice_get (after_arrival l r o).records (length (after_arrival l r o).records - 1) ≡ Some w
-    → Some (record { pe = p; goes_first = not (is_fixed w.give_old) }) ≡ partner_in r o
-partner_kept p r l None w e h = cc
-partner_kept p r l (Some c) w e h =
+    → combination_event s x r o ≡ Some (Combined s x r.cell p r.pe (not (is_fixed w.give_old)))
+combination_kept s x p r l None w e h = cc
+combination_kept s x p r l (Some c) w e h =
     let pe : c.old.request.pe ≡ p = cc in
     let last = last_of l.records (wait_record c.old r) in
     let same : wait_record c.old r ≡ w = cc in
     let give : (pair_of c.old.request.op r.op).give_old ≡ w.give_old = ap (λ (w : WaitRecord). w.give_old) same in
     let first = pair_first c.old.request.op r.op in
     rw (← give, ← pe, first) refl
+
+-- a request that stands at the end has none
+pub none_kept : (s x : ℕ) (r : Request) (o : Option Combination) → outcome o ≡ Appended → combination_event s x r o ≡ None
+none_kept s x r None e = refl
+none_kept s x r (Some c) e = cc

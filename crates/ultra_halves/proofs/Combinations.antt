@@ -1,17 +1,18 @@
 -- the combinations of two requests that come to a switch, in the order of the positions
-use Rattle.std.proofs.Common.{◌≡◌, ℕ, zero, suc, ◌+◌, ◌-◌, ◌*◌, ◌%◌, ◌^◌, ◌<◌, List, [], ◌∷◌, ◌++◌, Bool, true, false, refl, sym, ap, ◌∙◌, arith}
-use Rattle.std.specs.Prelude.{◌==◌, ◌&&◌, not, Option, Some, None}
+use Rattle.std.proofs.Common.{◌≡◌, ℕ, zero, suc, ◌+◌, ◌-◌, ◌*◌, ◌%◌, ◌^◌, ◌<◌, List, [], ◌∷◌, ◌++◌, Bool, true, false, append_assoc, get_or, length, length-append, set, refl, sym, ap, ◌∙◌, arith}
+use Rattle.std.specs.Prelude.{◌==◌, ◌&&◌, ◌||◌, ◌↔◌, is_some, not, Option, Some, None}
 use Rattle.std.proofs.lemmas.List.{append-nil}
 use Rattle.ultra_msg.specs.declared.Request.{Request}
 use Rattle.ultra_msg.specs.declared.Event.{Event}
 use Rattle.ultra_route.specs.Route.{bit_of}
 use Rattle.ultra_switch.specs.declared.Ports.{Ports}
+use Rattle.ultra_switch.specs.declared.Switch.{Switch}
 use Rattle.ultra_switch.specs.Arrive.{Combination, combine_within}
 use Rattle.ultra_switch.specs.Queues.{SizedLane}
 use Rattle.ultra_model.specs.Places.{present}
 use Rattle.ultra_model.specs.Phases.{combination}
-use Rattle.ultra_halves.specs.Halves.{ports, lane_with, leaves_by, coming_to, combination_event, combination_by, is_turned, in_order}
-use Rattle.ultra_halves.specs.Switches.{combinations_at}
+use Rattle.ultra_halves.specs.Halves.{ports, lane_with, leaves_by, coming_to, combination_event, combination_in, combination_by, is_turned, in_order}
+use Rattle.ultra_halves.specs.Switches.{combinations_at, combinations_of_both}
 
 -- a request leaves a stage by port 1 where it doesn't by port 0
 other_bit : (b : ℕ) → b < 2 → (b == 1) ≡ not (b == 0)
@@ -27,32 +28,29 @@ present_first : (s x : ℕ) (r : Request) (o : Option Combination) (rest : List 
 present_first s x r None rest = refl
 present_first s x r (Some c) rest = refl
 
-abbrev event_in : ℕ → ℕ → SizedLane → Request → Option Event
-event_in s x l r = combination_event s x r (combine_within l.wait_places l.lane r)
-
 abbrev listed : Bool → Request → List Request
 listed b r = elim b [ true ↦ r ∷ [] | false ↦ [] ]
 
-two_events : (s x y : ℕ) (l m : SizedLane) (r q : Request) → present (event_in s x l r ∷ event_in s y m q ∷ []) ≡ combinations_at s x l (r ∷ []) ++ combinations_at s y m (q ∷ [])
+two_events : (s x y : ℕ) (l m : SizedLane) (r q : Request) → present (combination_in s x l r ∷ combination_in s y m q ∷ []) ≡ combinations_at s x l (r ∷ []) ++ combinations_at s y m (q ∷ [])
 two_events s x y l m r q =
     let here = combine_within l.wait_places l.lane r in
     let there = combine_within m.wait_places m.lane q in
-    present_first s x r here (event_in s y m q ∷ [])
+    present_first s x r here (combination_in s y m q ∷ [])
     ∙ ap (λ es. combination s x r here ++ es) (present_first s y q there [])
     ∙ ap (λ es. es ++ combinations_at s y m (q ∷ [])) (sym (append-nil (combination s x r here)))
 
 -- two at one position
-two_there : (s x : ℕ) (l : SizedLane) (r q : Request) → present (event_in s x l r ∷ event_in s x (lane_with l (r ∷ [])) q ∷ []) ≡ combinations_at s x l (r ∷ q ∷ [])
+two_there : (s x : ℕ) (l : SizedLane) (r q : Request) → present (combination_in s x l r ∷ combination_in s x (lane_with l (r ∷ [])) q ∷ []) ≡ combinations_at s x l (r ∷ q ∷ [])
 two_there s x l r q =
     let here = combine_within l.wait_places l.lane r in
     let after = lane_with l (r ∷ []) in
-    present_first s x r here (event_in s x after q ∷ [])
+    present_first s x r here (combination_in s x after q ∷ [])
     ∙ ap (λ es. combination s x r here ++ es) (present_first s x q (combine_within after.wait_places after.lane q) [])
 
 module _ (s k : ℕ) (lanes : Ports SizedLane) where
   -- one request, which leaves by port 0 or by port 1
   one : (r : Request) (zero : Bool) (rest : List (Option Event)) → present rest ≡ []
-      → present (elim zero [ true ↦ event_in s (2 * k) lanes.zero r | false ↦ event_in s (2 * k + 1) lanes.one r ] ∷ rest)
+      → present (elim zero [ true ↦ combination_in s (2 * k) lanes.zero r | false ↦ combination_in s (2 * k + 1) lanes.one r ] ∷ rest)
       ≡ combinations_at s (2 * k) lanes.zero (listed zero r) ++ combinations_at s (2 * k + 1) lanes.one (listed (not zero) r)
   one r true rest none =
       let here = combine_within lanes.zero.wait_places lanes.zero.lane r in
@@ -64,10 +62,10 @@ module _ (s k : ℕ) (lanes : Ports SizedLane) where
   -- two requests: the second comes to the queues after the first
   two : (f g : Request) (zero next : Bool)
       → present (in_order (not zero && next)
-      (elim zero [ true ↦ event_in s (2 * k) lanes.zero f | false ↦ event_in s (2 * k + 1) lanes.one f ])
+      (elim zero [ true ↦ combination_in s (2 * k) lanes.zero f | false ↦ combination_in s (2 * k + 1) lanes.one f ])
       (elim next [
-        | true ↦ event_in s (2 * k) (lane_with lanes.zero (listed zero f)) g
-        | false ↦ event_in s (2 * k + 1) (lane_with lanes.one (listed (not zero) f)) g
+        | true ↦ combination_in s (2 * k) (lane_with lanes.zero (listed zero f)) g
+        | false ↦ combination_in s (2 * k + 1) (lane_with lanes.one (listed (not zero) f)) g
       ]))
       ≡ combinations_at s (2 * k) lanes.zero (listed zero f ++ listed next g) ++ combinations_at s (2 * k + 1) lanes.one (listed (not zero) f ++ listed (not next) g)
   two f g true true = two_there s (2 * k) lanes.zero f g ∙ sym (append-nil _)
@@ -85,3 +83,87 @@ module _ (s k : ℕ) (lanes : Ports SizedLane) where
   combined d None (Some g) = rw (other_port d s g, coming_to) (one g (leaves_by d s 0 g) [] refl)
   combined d (Some f) None = rw (other_port d s f, coming_to) (simp append-nil (one f (leaves_by d s 0 f) (None ∷ []) refl))
   combined d (Some f) (Some g) = rw (other_port d s f, other_port d s g, coming_to, is_turned) (two f g (leaves_by d s 0 f) (leaves_by d s 0 g))
+
+-- ---- two events that may be there, appended one after the other
+in_order_there : (turned : Bool) (a b : Event) → present (in_order turned (Some a) (Some b)) ≡ in_order turned a b
+in_order_there true a b = refl
+in_order_there false a b = refl
+
+alone : (turned : Bool) (a b : Option Event) → is_some a && is_some b ≡ false → present (a ∷ []) ++ present (b ∷ []) ≡ present (in_order turned a b)
+alone true None None e = refl
+alone true None (Some b) e = refl
+alone true (Some a) None e = refl
+alone true (Some a) (Some b) e = cc
+alone false None b e = refl
+alone false (Some a) b e = refl
+
+module _ (old items : List Event) (turned : Bool) where
+  -- they stand in order where one isn't there
+  left : (a b : Option Event) → is_some a && is_some b ≡ false → items ≡ (old ++ present (a ∷ [])) ++ present (b ∷ []) → items ≡ old ++ present (in_order turned a b)
+  left a b e are = are ∙ append_assoc old (present (a ∷ [])) (present (b ∷ [])) ∙ ap (λ es. old ++ es) (alone turned a b e)
+
+  -- else they are put in order
+  put : (now : List Event) (a b : Option Event) → is_some a && is_some b ≡ true → items ≡ (old ++ present (a ∷ [])) ++ present (b ∷ [])
+      → ((front : List Event) (x y : Event) → items ≡ front ++ x ∷ y ∷ [] → now ≡ front ++ in_order turned x y) → now ≡ old ++ present (in_order turned a b)
+  put now None b e are sorted = cc
+  put now (Some a) None e are sorted = cc
+  put now (Some a) (Some b) e are sorted =
+      sorted old a b (are ∙ append_assoc old (a ∷ []) (b ∷ [])) ∙ ap (λ es. old ++ es) (sym (in_order_there turned a b))
+
+none_of : (turned : Bool) (a b : Option Event) → (is_some a || is_some b ≡ false) ↔ (present (in_order turned a b) ≡ [])
+none_of true None None = (λ e. refl, λ e. refl)
+none_of true None (Some b) = (λ e. cc, λ e. cc)
+none_of true (Some a) None = (λ e. cc, λ e. cc)
+none_of true (Some a) (Some b) = (λ e. cc, λ e. cc)
+none_of false None None = (λ e. refl, λ e. refl)
+none_of false None (Some b) = (λ e. cc, λ e. cc)
+none_of false (Some a) b = (λ e. cc, λ e. cc)
+
+-- ---- the last two entries of a list change places
+module _ {X : Type 0} where
+  first_there : (front : List X) (a b x : X) → get_or (front ++ a ∷ b ∷ []) (length front) x ≡ a
+  first_there [] a b x = refl
+  first_there (z ∷ zs) a b x = first_there zs a b x
+
+  second_there : (front : List X) (a b x : X) → get_or (front ++ a ∷ b ∷ []) (suc (length front)) x ≡ b
+  second_there [] a b x = refl
+  second_there (z ∷ zs) a b x = second_there zs a b x
+
+  both_set : (front : List X) (a b x y : X) → set (set (front ++ a ∷ b ∷ []) (length front) y) (suc (length front)) x ≡ front ++ y ∷ x ∷ []
+  both_set [] a b x y = refl
+  both_set (z ∷ zs) a b x y = ap (λ (rest : List X). z ∷ rest) (both_set zs a b x y)
+
+  pub last_turned : (items front : List X) (a b x y : X) (n : ℕ) → items ≡ front ++ a ∷ b ∷ [] → n ≡ length items
+      → x ≡ get_or items (n - 2) x → y ≡ get_or items (n - 1) y → set (set items (n - 2) y) (n - 1) x ≡ front ++ b ∷ a ∷ []
+  last_turned items front a b x y n are count first second =
+      let size : length items ≡ length front + 2 = ap length are ∙ length-append front (a ∷ b ∷ []) in
+      let low : n - 2 ≡ length front = omega (arith, size, count) in
+      let high : n - 1 ≡ suc (length front) = omega (arith, size, count) in
+      let x_is : x ≡ a = first ∙ ap (λ i. get_or items i x) low ∙ ap (λ l. get_or l (length front) x) are ∙ first_there front a b x in
+      let y_is : y ≡ b = second ∙ ap (λ i. get_or items i y) high ∙ ap (λ l. get_or l (suc (length front)) y) are ∙ second_there front a b y in
+      ap (λ i. set (set items i y) (n - 1) x) low ∙ ap (λ i. set (set items (length front) y) i x) high
+      ∙ ap (λ l. set (set l (length front) y) (suc (length front)) x) are ∙ both_set front a b x y
+      ∙ ap (λ u. front ++ u ∷ x ∷ []) y_is ∙ ap (λ u. front ++ b ∷ u ∷ []) x_is
+
+-- ---- what two requests that came one after the other have combined
+module _ (d s k : ℕ) (w : Switch) (first second : Option Request) (lanes : Ports SizedLane) (zero : lanes.zero ≡ lane_with w.to_mm.zero (coming_to d s 0 first)) (one : lanes.one ≡ lane_with w.to_mm.one (coming_to d s 1 first)) where
+  abbrev pub a : Option Event
+  a = combination_by d s k w.to_mm first
+
+  abbrev pub b : Option Event
+  b = combination_by d s k lanes second
+
+  all : present (in_order (is_turned d s first second) a b) ≡ combinations_of_both d s k w first second
+  all = rw (zero, one) (combined s k w.to_mm d first second)
+
+  pub combined_alone : (old items : List Event) → items ≡ (old ++ present (a ∷ [])) ++ present (b ∷ []) → is_some a && is_some b ≡ false → items ≡ old ++ combinations_of_both d s k w first second
+  combined_alone old items are e = left old items (is_turned d s first second) a b e are ∙ ap (λ es. old ++ es) all
+
+  pub combined_both : (old items now : List Event) → items ≡ (old ++ present (a ∷ [])) ++ present (b ∷ []) → is_some a && is_some b ≡ true
+      → ((front : List Event) (x y : Event) → items ≡ front ++ x ∷ y ∷ [] → now ≡ front ++ in_order (is_turned d s first second) x y) → now ≡ old ++ combinations_of_both d s k w first second
+  combined_both old items now are e sorted = put old items (is_turned d s first second) now a b e are sorted ∙ ap (λ es. old ++ es) all
+
+  pub none_combined : (is_some a || is_some b ≡ false) ↔ (combinations_of_both d s k w first second ≡ [])
+  none_combined =
+      let e = none_of (is_turned d s first second) a b in
+      (λ h. sym all ∙ e.0 h, λ h. e.1 (all ∙ h))

@@ -10,7 +10,6 @@ use Rattle.ultra_route.specs.Route.{bit_of}
 use Rattle.ultra_switch.specs.declared.Ports.{Ports}
 use Rattle.ultra_switch.specs.Arrive.{Combination, combine_within}
 use Rattle.ultra_switch.specs.Queues.{SizedLane, SizedReplies}
-use Rattle.ultra_halves.specs.declared.requests.Partner.{Partner}
 use Rattle.ultra_model.specs.Places.{after_leaving}
 use Rattle.ultra_model.specs.Phases.{records_left, replies_made, arrive_all}
 
@@ -77,35 +76,28 @@ first_of n o = elim (n % 2 == 0) [ true ↦ o.zero | false ↦ o.one ]
 abbrev pub second_of : {X : Type 0} → ℕ → Ports X → X
 second_of n o = elim (n % 2 == 0) [ true ↦ o.one | false ↦ o.zero ]
 
--- of what came to the two ports, what leaves stage s by port j, in the order of cycle n
+-- of two requests that come one after the other, what leaves stage s by port j
+abbrev pub both_coming : ℕ → ℕ → ℕ → Option Request → Option Request → List Request
+both_coming d s j first second = coming_to d s j first ++ coming_to d s j second
+
+-- of what came to the two ports, the same in the order of cycle n
 abbrev pub arrivals : ℕ → ℕ → ℕ → ℕ → Ports (Option Request) → List Request
-arrivals d s j n came = coming_to d s j (first_of n came) ++ coming_to d s j (second_of n came)
+arrivals d s j n came = both_coming d s j (first_of n came) (second_of n came)
 
 -- a combination, where there was one
 abbrev pub combination_event : ℕ → ℕ → Request → Option Combination → Option Event
 combination_event s x r None = None
 combination_event s x r (Some c) = Some (Combined s x r.cell c.old.request.pe r.pe (pair_of c.old.request.op r.op).old_first)
 
+-- the combination that a request makes in a queue at position x of stage s
+abbrev pub combination_in : ℕ → ℕ → SizedLane → Request → Option Event
+combination_in s x l r = combination_event s x r (combine_within l.wait_places l.lane r)
+
 -- the combination of what came to a port of switch k of stage s, in the queue by which it leaves
 abbrev pub combination_by : ℕ → ℕ → ℕ → Ports SizedLane → Option Request → Option Event
 combination_by d s k lanes None = None
-combination_by d s k lanes (Some r) = elim (leaves_by d s 0 r) [
-  | true ↦ combination_event s (2 * k) r (combine_within lanes.zero.wait_places lanes.zero.lane r)
-  | false ↦ combination_event s (2 * k + 1) r (combine_within lanes.one.wait_places lanes.one.lane r)
-]
-
--- the request with which one has combined, if it has
-abbrev pub partner_in : Request → Option Combination → Option Partner
-partner_in r None = None
-partner_in r (Some c) = Some record { pe = c.old.request.pe; goes_first = (pair_of c.old.request.op r.op).old_first }
-
--- that of what came to a port of a switch of stage s, in the queue by which it leaves
-abbrev pub partner_of : ℕ → ℕ → Ports SizedLane → Option Request → Option Partner
-partner_of d s lanes None = None
-partner_of d s lanes (Some r) = elim (leaves_by d s 0 r) [
-  | true ↦ partner_in r (combine_within lanes.zero.wait_places lanes.zero.lane r)
-  | false ↦ partner_in r (combine_within lanes.one.wait_places lanes.one.lane r)
-]
+combination_by d s k lanes (Some r) =
+    elim (leaves_by d s 0 r) [ true ↦ combination_in s (2 * k) lanes.zero r | false ↦ combination_in s (2 * k + 1) lanes.one r ]
 
 -- whether of two requests the second leaves stage s by port 0, and the first by port 1
 abbrev pub is_turned : ℕ → ℕ → Option Request → Option Request → Bool

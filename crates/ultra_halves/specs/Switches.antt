@@ -8,7 +8,7 @@ use Rattle.ultra_switch.specs.declared.Ports.{Ports}
 use Rattle.ultra_switch.specs.declared.Switch.{Switch}
 use Rattle.ultra_switch.specs.Queues.{SizedLane, request_of}
 use Rattle.ultra_model.specs.Phases.{combinations}
-use Rattle.ultra_halves.specs.Halves.{ports, where_room, has_none, replies_without, has_room_for, lane_after_reply, with_arrived, lane_without, lane_with, has_place_for, leaves_by, arrivals}
+use Rattle.ultra_halves.specs.Halves.{ports, where_room, has_none, replies_without, has_room_for, lane_after_reply, with_arrived, lane_without, lane_with, has_place_for, leaves_by, both_coming, first_of, second_of}
 
 -- ---- replies
 -- the replies that leave: the first of each queue, where it goes on
@@ -62,18 +62,27 @@ pub record CanTakeRequests (d s : ℕ) (w : Switch) (came : Ports (Option Reques
   pub zero : ForSome came.zero (HasWay d s w)
   pub one : ForSome came.one (HasWay d s w)
 
--- after these requests came in cycle n
+-- after two requests came, one after the other, and after these requests came in cycle n
+abbrev pub after_both : ℕ → ℕ → Switch → Option Request → Option Request → Switch
+after_both d s w first second = record w {
+  to_mm = ports (lane_with w.to_mm.zero (both_coming d s 0 first second)) (lane_with w.to_mm.one (both_coming d s 1 first second));
+}
+
 abbrev pub after_requests : ℕ → ℕ → ℕ → Switch → Ports (Option Request) → Switch
-after_requests d s n w came = record w { to_mm = ports (lane_with w.to_mm.zero (arrivals d s 0 n came)) (lane_with w.to_mm.one (arrivals d s 1 n came)) }
+after_requests d s n w came = after_both d s w (first_of n came) (second_of n came)
 
 -- the combinations that they make in a queue toward memory, which is at position x
 abbrev pub combinations_at : ℕ → ℕ → SizedLane → List Request → List Event
 combinations_at s x l rs = combinations l.wait_places s x l.lane rs
 
--- the combinations that they make in switch k of the stage: those of port 0, and then those of port 1
+-- those that they make in switch k of the stage: those of port 0, and then those of port 1
+abbrev pub combinations_of_both : ℕ → ℕ → ℕ → Switch → Option Request → Option Request → List Event
+combinations_of_both d s k w first second =
+    combinations_at s (2 * k) w.to_mm.zero (both_coming d s 0 first second)
+    ++ combinations_at s (2 * k + 1) w.to_mm.one (both_coming d s 1 first second)
+
 abbrev pub combinations_of : ℕ → ℕ → ℕ → ℕ → Switch → Ports (Option Request) → List Event
-combinations_of d s k n w came =
-    combinations_at s (2 * k) w.to_mm.zero (arrivals d s 0 n came) ++ combinations_at s (2 * k + 1) w.to_mm.one (arrivals d s 1 n came)
+combinations_of d s k n w came = combinations_of_both d s k w (first_of n came) (second_of n came)
 
 -- ---- what it holds
 abbrev pub holds_replies : Switch → Bool

@@ -1,10 +1,11 @@
 //! What the halves of a cycle do to a switch.
 
-ghost use Rattle.std.specs.Prelude.{◌≡◌, ◌↔◌, ℕ, ◌+◌, ◌-◌, ◌^◌, ◌<◌, ◌≤◌, ◌++◌, [], false, length, vec_capacity};
-ghost use Rattle.ultra_halves.specs.Switches.{CanTakeReplies, CanTakeRequests, after_replies, after_requests, combinations_of, has_reply_room, has_request_room, holds_replies, holds_requests, keeps_records, quiet_switch, replies_leaving, request_heads, requests_leaving, without_replies, without_requests};
+ghost use Rattle.std.specs.Prelude.{◌≡◌, ◌↔◌, ◌+◌, ◌-◌, ◌^◌, ◌<◌, ◌≤◌, ◌++◌, [], false, length, vec_capacity};
+ghost use Rattle.std.specs.Option.{ForSome};
+ghost use Rattle.ultra_halves.specs.Switches.{CanTakeReplies, HasWay, after_both, after_replies, combinations_of_both, has_reply_room, has_request_room, holds_replies, holds_requests, keeps_records, quiet_switch, replies_leaving, request_heads, requests_leaving, without_replies, without_requests};
 
 use crate::replies::{self, take_reply};
-use crate::requests::{self, append_combinations, in_turn, take_request};
+use crate::requests::{self, is_turned, put_in_order, take_request};
 use ultra_msg::{Event, ReplyMessage, Request};
 use ultra_route::Net;
 use ultra_switch::{Ports, Switch};
@@ -56,7 +57,7 @@ pub fn send_requests(switch: &mut Switch, goes: Ports<bool>) -> Ports<Option<Req
     }
 }
 
-/// The requests that came, by the PE-side port, go to the queues by which they leave this stage, in the order of this cycle: port 0 first in even cycles, port 1 in odd ones. `index` is the number of the switch in its stage. Where a request came, the queue that it goes to has at least 2 free places.
+/// The requests that came to the two ports, one after the other, go to the queues by which they leave this stage. `index` is the number of the switch in its stage. Where a request came, the queue that it goes to has at least 2 free places.
 ///
 /// Their combinations are appended to `events`: by position, and at one position in the order of the arrivals. Answers whether there are any.
 #[inline(always)]
@@ -65,30 +66,28 @@ pub fn take_requests(
     net: Net,
     stage: u32,
     index: u32,
-    cycle: u32,
-    came: Ports<Option<Request>>,
+    first: Option<Request>,
+    second: Option<Request>,
     events: &mut Vec<Event>,
 ) -> bool
     requires stage { stage < net }
     requires index { index < 2 ^ (net - 1) }
-    requires room { CanTakeRequests net stage switch.old came }
+    requires first { ForSome first (HasWay net stage switch.old) }
+    requires second { ForSome second (HasWay net stage switch.old) }
     requires event_room { length events.old.items + 2 ≤ vec_capacity events.old }
-    ensures queues { switch.new ≡ after_requests net stage cycle switch.old came }
-    ensures events { events.new.items ≡ events.old.items ++ combinations_of net stage index cycle switch.old came }
+    ensures queues { switch.new ≡ after_both net stage switch.old first second }
+    ensures events { events.new.items ≡ events.old.items ++ combinations_of_both net stage index switch.old first second }
     ensures places { vec_capacity events.old ≤ vec_capacity events.new }
     ensures few { length events.new.items ≤ length events.old.items + 2 }
-    ensures none { (result ≡ false) ↔ (combinations_of net stage index cycle switch.old came ≡ []) }
+    ensures none { (result ≡ false) ↔ (combinations_of_both net stage index switch.old first second ≡ []) }
 {
-    let (first, second) = in_turn(cycle, came);
     let to_mm = &mut switch.to_mm;
-    let of_first = take_request(to_mm, net, stage, first);
-    let of_second = take_request(to_mm, net, stage, second);
-    let has_combined = of_first.is_some() || of_second.is_some();
-    if has_combined {
-        let (requests, partners) = ((first, second), (of_first, of_second));
-        append_combinations(events, net, stage, index, requests, partners);
+    let first_combines = take_request(to_mm, net, stage, index, first, events);
+    let second_combines = take_request(to_mm, net, stage, index, second, events);
+    if first_combines & second_combines {
+        put_in_order(events, is_turned(net, stage, first, second));
     }
-    has_combined
+    first_combines | second_combines
 }
 
 /// Whether a reply stands in one of the queues toward the processing elements.

@@ -16,7 +16,7 @@ use ultra_switch::Switch;
 use ultra_units::requests::{take_at_module, take_at_switch};
 use ultra_units::{Links, Unit, UnitSet, Visit, visit_all};
 
-/// What comes to a switch goes into its queues, where it may combine. `number` is the number of the unit. Combinations are appended to `events`. Answers whether there are any.
+/// What comes to a switch goes into its queues, where it may combine: port 0 goes first in even cycles, port 1 in odd ones. `number` is the number of the unit. Combinations are appended to `events`. Answers whether there are any.
 #[inline(always)]
 fn take_into_switch(
     switch: &mut Switch,
@@ -41,8 +41,9 @@ fn take_into_switch(
     ensures table { links.new.table.items ≡ without_both links.old.table.items (request_links net stage index) }
     ensures known { (here : List ℕ) → RequestsAreKnown net here links.old → RequestsAreKnown net here links.new }
 {
-    let came = take_at_switch(links, net, number, stage, index);
-    switches::take_requests(switch, net, stage, index, cycle, came, events)
+    let zero_first = cycle % 2 == 0;
+    let (first, second) = take_at_switch(links, net, number, stage, index, zero_first);
+    switches::take_requests(switch, net, stage, index, first, second, events)
 }
 
 impl Block {

@@ -1,7 +1,8 @@
 -- What is on links, after others or they themselves were emptied.
-use Rattle.std.proofs.Common.{◌≡◌, ◌≢◌, ℕ, ◌<◌, List, Option, None, length, set, get_or-set_other, refl, ◌∙◌}
+use Rattle.std.proofs.Common.{◌≡◌, ◌≢◌, ℕ, ◌<◌, List, Bool, true, false, Option, None, length, set, get_or-set_other, refl, sym, ◌∙◌}
+use Rattle.std.proofs.lemmas.List.{set_comm}
 use Rattle.ultra_switch.specs.declared.Ports.{Ports}
-use Rattle.ultra_units.specs.Marks.{on_link, on_both, without_both}
+use Rattle.ultra_units.specs.Marks.{ports_in_turn, on_link, on_both, without_both}
 use Rattle.ultra_units.proofs.Marks.{emptied_first, emptied_second}
 
 pub pair : {A B : Type 0} (a c : A) (b e : B) → a ≡ c → b ≡ e → ◌≡◌ {A = A × B} (a, b) (c, e)
@@ -22,3 +23,9 @@ module _ {M : Type 0} (t : List (Option M)) where
 
   pub both_emptied : (p : Ports ℕ) → p.zero < length t → p.one < length t → on_both (without_both t p) p ≡ record { zero = None; one = None }
   both_emptied p zero one = rw (emptied_first t p.zero p.one zero one, emptied_second t p.zero p.one one) refl
+
+-- ---- two links that are emptied one after the other
+module _ {M : Type 0} (t : List (Option M)) (p : Ports ℕ) where
+  pub emptied_in_turn : (zero_first : Bool) → p.zero ≢ p.one → set (set t (ports_in_turn zero_first p).0 None) (ports_in_turn zero_first p).1 None ≡ without_both t p
+  emptied_in_turn true apart = refl
+  emptied_in_turn false apart = set_comm t p.one p.zero None None (λ same. apart (sym same))

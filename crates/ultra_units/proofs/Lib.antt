@@ -1,6 +1,7 @@
 pub mod Set
 pub mod Visits
 pub mod Readers
+mod Neighbours
 pub mod Standing
 pub mod Marks
 pub mod ReplyMarks

@@ -8,7 +8,7 @@ use Rattle.ultra_route.proofs.Table.{all_below, all_below_at}
 use Rattle.ultra_units.specs.Numbers.{switch_count, switch_number, module_number, element_number, place_number, reply_source, reply_target, request_source, request_target}
 use Rattle.ultra_units.specs.Units.{stage_of, index_of}
 
-both : (a b : Bool) → (a && b) ≡ true → (a ≡ true) × (b ≡ true)
+pub both : (a b : Bool) → (a && b) ≡ true → (a ≡ true) × (b ≡ true)
 both true b h = (refl, h)
 both false b h = cc
 
@@ -26,7 +26,7 @@ pub record LeadTo (d : ℕ) (reader : ℕ → ℕ) (n a b : ℕ) : Type 0 where
 apart_from : (a b : ℕ) → not (a == b) ≡ true → a ≢ b
 apart_from a b h = grind (arith, nat_tests)
 
-lt_from : (a b : ℕ) → nat_lt a b ≡ true → a < b
+pub lt_from : (a b : ℕ) → nat_lt a b ≡ true → a < b
 lt_from a b h = grind (arith, nat_tests)
 
 lead_from : (d : ℕ) (reader : ℕ → ℕ) (n a b : ℕ) → leads_right d reader n a b ≡ true → LeadTo d reader n a b

@@ -1,5 +1,5 @@
 -- what is known of the links of a machine of d stages: to which units something is on its way
-use Rattle.std.specs.Prelude.{◌≡◌, ℕ, ◌+◌, ◌-◌, ◌*◌, ◌^◌, ◌<◌, true, List, length, Option, None, is_some, slice_index_or, slice_set}
+use Rattle.std.specs.Prelude.{◌≡◌, ℕ, ◌+◌, ◌-◌, ◌*◌, ◌^◌, ◌<◌, Bool, true, false, List, length, Option, None, is_some, slice_index_or, slice_set}
 use Rattle.ultra_msg.specs.declared.Request.{Request}
 use Rattle.ultra_msg.specs.declared.ReplyMessage.{ReplyMessage}
 use Rattle.ultra_route.specs.Route.{shuffled}
@@ -56,3 +56,7 @@ on_both table p = record { zero = on_link table p.zero; one = on_link table p.on
 -- with nothing on the links any more
 abbrev pub without_both : {M : Type 0} → List (Option M) → Ports ℕ → List (Option M)
 without_both table p = slice_set (slice_set table p.zero None) p.one None
+
+-- what stands at two ports, one after the other
+abbrev pub ports_in_turn : {X : Type 0} → Bool → Ports X → X × X
+ports_in_turn zero_first p = elim zero_first [ true ↦ (p.zero, p.one) | false ↦ (p.one, p.zero) ]

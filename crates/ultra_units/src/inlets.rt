@@ -3,7 +3,7 @@
 ghost use Rattle.std.specs.Prelude.{◌≡◌};
 ghost use Rattle.ultra_units.specs.Inlets.{reply_inlets as inlets_of_replies, request_inlets as inlets_of_requests};
 
-use crate::numbers::{place_number, reply_source, request_source};
+use crate::numbers::{place_number, reply_sources, request_source};
 use crate::unit::{Unit, unit_of};
 use ultra_route::Net;
 use ultra_switch::Ports;
@@ -14,10 +14,7 @@ pub fn reply_inlets(net: Net, unit: usize) -> Option<Ports<usize>>
 {
     let _even = net.size();
     match unit_of(net, unit) {
-        Unit::Switch { stage, index } => Some(Ports {
-            zero: reply_source(net, stage, 2 * index),
-            one: reply_source(net, stage, 2 * index + 1),
-        }),
+        Unit::Switch { stage, index } => Some(reply_sources(net, stage, index)),
         Unit::Element(pe) => {
             let link = place_number(net, 0, net.shuffle(pe));
             Some(Ports {

@@ -4,7 +4,7 @@ ghost use Rattle.std.specs.Prelude.{◌≡◌, ◌≢◌, ℕ, ◌<◌, true, fa
 ghost use Rattle.ultra_units.specs.Set.{HasNoneFrom, has_unit};
 ghost use Rattle.ultra_units.specs.Inlets.{taken_by_turns};
 ghost use Rattle.ultra_units.specs.Links.{leads, put_on};
-ghost use Rattle.ultra_units.specs.Marks.{without_both};
+ghost use Rattle.ultra_units.specs.Marks.{ports_in_turn, on_both, without_both};
 
 use crate::entries::no_entries;
 use crate::unit_set::UnitSet;
@@ -34,6 +34,18 @@ impl<M: Drop> Links<M> {
             came: UnitSet::empty(),
             away: UnitSet::empty(),
         })
+    }
+}
+
+/// The links at two ports, one after the other.
+#[inline(always)]
+fn ports_in_turn(links: Ports<usize>, zero_first: bool) -> (usize, usize)
+    ensures { result ≡ ports_in_turn zero_first links }
+{
+    if zero_first {
+        (links.zero, links.one)
+    } else {
+        (links.one, links.zero)
     }
 }
 
@@ -85,6 +97,27 @@ impl<M: Copy> Links<M> {
         let message = self.table[link];
         self.table[link] = None;
         message
+    }
+
+    /// Takes what is on two links, one after the other.
+    #[inline(always)]
+    pub(crate) fn take_both(
+        &mut self,
+        links: Ports<usize>,
+        zero_first: bool,
+    ) -> (Option<M>, Option<M>)
+        requires zero { links.zero < length self.old.table.items }
+        requires one { links.one < length self.old.table.items }
+        requires apart { links.zero ≢ links.one }
+        ensures value { result ≡ ports_in_turn zero_first (on_both self.old.table.items links) }
+        ensures table { self.new.table.items ≡ without_both self.old.table.items links }
+        ensures came { self.new.came ≡ self.old.came }
+        ensures away { self.new.away ≡ self.old.away }
+    {
+        let (first, second) = ports_in_turn(links, zero_first);
+        let first = self.take(first);
+        let second = self.take(second);
+        (first, second)
     }
 
     /// Takes what is on the links that lead to a unit elsewhere.

@@ -1,9 +1,11 @@
 //! The numbers of units and of the links between them.
 
 ghost use Rattle.std.specs.Prelude.{◌≡◌, ℕ, ◌+◌, ◌-◌, ◌*◌, ◌^◌, ◌<◌, ◌≤◌};
+ghost use Rattle.ultra_units.specs.Marks.{reply_links};
 ghost use Rattle.ultra_units.specs.Numbers.{element_number as number_of_element, module_number as number_of_module, place_number as number_of_place, reply_source as source_of_reply, reply_target as target_of_reply, request_source as source_of_request, request_target as target_of_request, switch_count as count_of_switches, switch_number as number_of_switch};
 
 use ultra_route::Net;
+use ultra_switch::Ports;
 
 /// How many switches a network has: at most 192.
 #[inline(always)]
@@ -71,6 +73,22 @@ pub fn reply_source(net: Net, stage: u32, position: u32) -> usize
         place_number(net, net.stages(), position)
     } else {
         place_number(net, stage + 1, net.shuffle(position))
+    }
+}
+
+/// The links by which replies come to a switch, by the memory-side port.
+#[inline(always)]
+pub(crate) fn reply_sources(net: Net, stage: u32, index: u32) -> Ports<usize>
+    requires stage { stage < net }
+    requires index { index < 2 ^ (net - 1) }
+    ensures { result ≡ reply_links net stage index }
+{
+    let _even = net.size();
+    let zero = reply_source(net, stage, 2 * index);
+    let step = if stage == net.stages() - 1 { 1 } else { 2 };
+    Ports {
+        zero,
+        one: zero + step,
     }
 }
 

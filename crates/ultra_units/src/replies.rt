@@ -7,7 +7,7 @@ ghost use Rattle.ultra_units.specs.Marks.{HasAllLinks, RepliesAreKnown, delivery
 ghost use Rattle.ultra_units.specs.Units.{IsElement, IsSwitch};
 
 use crate::links::Links;
-use crate::numbers::{place_number, reply_source, switch_number};
+use crate::numbers::{place_number, reply_sources, switch_number};
 use crate::unit_set::UnitSet;
 use ultra_msg::ReplyMessage;
 use ultra_route::Net;
@@ -73,9 +73,9 @@ pub fn take_at_switch(
     ensures table { links.new.table.items ≡ without_both links.old.table.items (reply_links net stage index) }
     ensures known { (here : List ℕ) → RepliesAreKnown net here links.old → RepliesAreKnown net here links.new }
 {
-    let _even = net.size();
-    let zero = links.take(reply_source(net, stage, 2 * index));
-    let one = links.take(reply_source(net, stage, 2 * index + 1));
+    let inlets = reply_sources(net, stage, index);
+    let zero = links.take(inlets.zero);
+    let one = links.take(inlets.one);
     links.came.remove(number);
     Ports { zero, one }
 }

@@ -40,9 +40,10 @@ fn request_targets(net: Net, stage: u32, index: u32) -> Ports<usize>
     ensures one { result.one < 320 }
 {
     let _even = net.size();
+    let zero = request_target(net, stage, 2 * index);
     Ports {
-        zero: request_target(net, stage, 2 * index),
-        one: request_target(net, stage, 2 * index + 1),
+        zero,
+        one: zero + 1,
     }
 }
 

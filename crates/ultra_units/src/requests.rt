@@ -3,7 +3,7 @@
 ghost use Rattle.std.specs.Prelude.{◌≡◌, ℕ, ◌^◌, ◌<◌, List, None, slice_set};
 ghost use Rattle.ultra_units.specs.Numbers.{place_number as number_of_place, request_target as target_of_request};
 ghost use Rattle.ultra_units.specs.Links.{put_on};
-ghost use Rattle.ultra_units.specs.Marks.{HasAllLinks, RequestsAreKnown, memory_link, on_both, on_link, request_links, without_both};
+ghost use Rattle.ultra_units.specs.Marks.{HasAllLinks, RequestsAreKnown, ports_in_turn, memory_link, on_both, on_link, request_links, without_both};
 ghost use Rattle.ultra_units.specs.Units.{IsModule, IsSwitch};
 
 use crate::links::Links;
@@ -56,7 +56,7 @@ pub fn leave_element(
     links.put(here, link, target, request);
 }
 
-/// Takes what comes to a switch, by the PE-side port. `number` is the number of the unit.
+/// Takes what comes to a switch, at one PE-side port after the other. `number` is the number of the unit.
 #[inline(always)]
 pub fn take_at_switch(
     links: &mut Links<Request>,
@@ -64,19 +64,23 @@ pub fn take_at_switch(
     number: usize,
     stage: u32,
     index: u32,
-) -> Ports<Option<Request>>
+    zero_first: bool,
+) -> (Option<Request>, Option<Request>)
     requires switch { IsSwitch net number stage index }
     requires small { number < 320 }
     requires all { HasAllLinks net links.old }
-    ensures came { result ≡ on_both links.old.table.items (request_links net stage index) }
+    ensures came { result ≡ ports_in_turn zero_first (on_both links.old.table.items (request_links net stage index)) }
     ensures table { links.new.table.items ≡ without_both links.old.table.items (request_links net stage index) }
     ensures known { (here : List ℕ) → RequestsAreKnown net here links.old → RequestsAreKnown net here links.new }
 {
     let _even = net.size();
-    let zero = links.take(request_source(net, stage, 2 * index));
-    let one = links.take(request_source(net, stage, 2 * index + 1));
+    let inlets = Ports {
+        zero: request_source(net, stage, 2 * index),
+        one: request_source(net, stage, 2 * index + 1),
+    };
+    let came = links.take_both(inlets, zero_first);
     links.came.remove(number);
-    Ports { zero, one }
+    came
 }
 
 /// Takes what comes to a memory module. `number` is the number of the unit.

@@ -1,7 +1,5 @@
-use Rattle.std.proofs.Common.{◌≡◌, ◌+◌, ◌*◌, ◌^◌, ◌<◌, None, arith, refl, sym, ◌∙◌, ap, subst, length, set, get_or-set_other}
-use Rattle.std.proofs.lemmas.List.{length-set}
+use Rattle.std.proofs.Common.{ℕ, ◌+◌, ◌*◌, ◌^◌, ◌<◌, arith, refl, sym, ◌∙◌, ap, subst}
 use Rattle.ultra_units.specs.Set.{has_unit}
-use Rattle.ultra_units.specs.Marks.{request_links, on_link}
 use Rattle.ultra_units.proofs.RequestMarks.{known_taken, both_links}
 use Rattle.ultra_units.proofs.requests.take_at_switch.Goals as goal
 
@@ -20,41 +18,32 @@ request_source-requires-clause-position c = let small = c.requires.switch.index_
 pub request_source-requires-2-clause-position : goal.request_source-requires-2-clause-position
 request_source-requires-2-clause-position c = let small = c.requires.switch.index_small in omega arith
 
-pub take-zero-requires : goal.take-zero-requires
-take-zero-requires c =
+pub take_both-came-requires : goal.take_both-came-requires
+take_both-came-requires c =
     let both = both_links c.args.net (omega arith) (omega arith) c.args.number c.args.stage c.args.index c.requires.switch in
-    subst (λ x. c.request_source.result < x) (sym c.requires.all) (subst (λ x. x < (c.args.net + 1) * 2 ^ c.args.net) (sym c.request_source.ensures.value) both.first_small)
-
-pub take-one-requires : goal.take-one-requires
-take-one-requires c =
-    let both = both_links c.args.net (omega arith) (omega arith) c.args.number c.args.stage c.args.index c.requires.switch in
-    subst (λ x. c.request_source-2.result < x) (sym (ap length c.take-zero.ensures.table ∙ length-set c.args.links.now.table.items c.request_source.result None ∙ c.requires.all))
-    (subst (λ x. x < (c.args.net + 1) * 2 ^ c.args.net) (sym c.request_source-2.ensures.value) both.second_small)
+    let all = sym c.requires.all in
+    let within : (x : ℕ) → x < (c.args.net + 1) * 2 ^ c.args.net → x < _ = λ x small. subst (λ n. x < n) all small in
+    record {
+      zero = within _ (subst (λ x. x < (c.args.net + 1) * 2 ^ c.args.net) (sym c.request_source.ensures.value) both.first_small);
+      one = within _ (subst (λ x. x < (c.args.net + 1) * 2 ^ c.args.net) (sym c.request_source-2.ensures.value) both.second_small);
+      apart = λ same. both.apart (sym c.request_source.ensures.value ∙ same ∙ c.request_source-2.ensures.value);
+    }
 
 pub returns-clause-came : goal.returns-clause-came
 returns-clause-came c =
-    let both = both_links c.args.net (omega arith) (omega arith) c.args.number c.args.stage c.args.index c.requires.switch in
-    let at = request_links c.args.net c.args.stage c.args.index in
-    let first : c.take-zero.result ≡ on_link c.args.links.now.table.items at.zero =
-    c.take-zero.ensures.value ∙ ap (on_link c.args.links.now.table.items) c.request_source.ensures.value in
-    let second : c.take-one.result ≡ on_link c.args.links.now.table.items at.one =
-    c.take-one.ensures.value ∙ ap (λ t. on_link t c.request_source-2.result) c.take-zero.ensures.table
-    ∙ ap (λ x. on_link (set c.args.links.now.table.items x None) c.request_source-2.result) c.request_source.ensures.value
-    ∙ ap (on_link (set c.args.links.now.table.items at.zero None)) c.request_source-2.ensures.value
-    ∙ get_or-set_other c.args.links.now.table.items at.zero at.one None None (λ same. both.apart (sym same)) in
-    rw (first, second) refl
+    c.take_both-came.ensures.value
+    ∙ rw (c.request_source.ensures.value, c.request_source-2.ensures.value) refl
 
 pub returns-clause-table : goal.returns-clause-table
 returns-clause-table c =
-    c.take-one.ensures.table ∙ ap (λ t. set t c.request_source-2.result None) c.take-zero.ensures.table
-    ∙ ap (λ x. set (set c.args.links.now.table.items x None) c.request_source-2.result None) c.request_source.ensures.value
-    ∙ ap (λ x. set (set c.args.links.now.table.items (request_links c.args.net c.args.stage c.args.index).zero None) x None) c.request_source-2.ensures.value
+    c.take_both-came.ensures.table
+    ∙ rw (c.request_source.ensures.value, c.request_source-2.ensures.value) refl
 
 pub returns-clause-known : goal.returns-clause-known
 returns-clause-known c =
     λ here known.
-    known_taken c.args.net (omega arith) (omega arith) here c.args.links.now record { table = c.take-one.new.self.table; came = c.remove.new.self; away = c.take-one.new.self.away }
+    known_taken c.args.net (omega arith) (omega arith) here c.args.links.now record { table = c.take_both-came.new.self.table; came = c.remove.new.self; away = c.take_both-came.new.self.away }
     c.args.number c.args.stage c.args.index c.requires.switch
     (returns-clause-table c)
-    (λ j other. c.remove.ensures.others j other ∙ ap (λ s. has_unit s j) (c.take-one.ensures.came ∙ c.take-zero.ensures.came))
-    (c.take-one.ensures.away ∙ c.take-zero.ensures.away) known
+    (λ j other. c.remove.ensures.others j other ∙ ap (λ s. has_unit s j) c.take_both-came.ensures.came)
+    c.take_both-came.ensures.away known
