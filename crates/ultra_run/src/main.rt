@@ -2,10 +2,11 @@
 //! fewer crates than `ultra`, so a fresh machine has it sooner.
 #![tactic(auto)]
 
-ghost use Rattle.std.specs.Prelude.{◌≡◌, IfErr, IfOk, List, OnErr, OnOk, map, string_bytes, ℕ};
+ghost use Rattle.std.specs.Prelude.{◌≡◌, ◌++◌, IfErr, IfOk, List, OnErr, OnOk, map, string_bytes, ℕ};
 ghost use Rattle.ultra_model.specs.Trace.{trace};
 ghost use Rattle.ultra_inputs.specs.Traffic.{traffic, IsStopped, WroteText, TextFails};
-ghost use Rattle.ultra_run.specs.Ending.{HasEnded, failure_of_run};
+ghost use Rattle.ultra_run.specs.Ending.{HasEnded, failure_of_run, stream, usage};
+ghost use Rattle.ultra_msg.specs.Bytes.{TakesPrefix};
 
 use std::alloc::Global;
 use std::env::Env;
@@ -51,6 +52,16 @@ fn failure_of_run<'p>(fault: RunFault) -> Failure<'p>
     }
 }
 
+/// Shows on `err` how the program is called, and answers the status of a usage fault.
+fn show_usage<E: Sink>(err: &mut E) -> u8
+    ensures status { result ≡ 2 }
+    ensures prefix { TakesPrefix usage (E.taken err.old) (E.taken err.new) }
+    ensures whole { E.failures err.new ≡ E.failures err.old → E.taken err.new ≡ E.taken err.old ++ usage }
+{
+    let _ = write_all(err, b"usage: ultra_run CONF PROG\n");
+    2
+}
+
 /// Runs what the two words after the program's name name, and answers the status that the program
 /// ends with: 0 done, 2 a usage fault, 3 refused input, 4 no memory, 5 a failed write. What is wrong
 /// goes to `err`.
@@ -63,11 +74,10 @@ fn run_words<F: Source, O: Sink, E: Sink>(
 ) -> u8
     ensures { HasEnded (map string_bytes words.now)
         (traffic (F.files source.old) (O.taken out.old)) (traffic (F.files source.new) (O.taken out.new))
-        (E.taken err.old) (E.taken err.new) result }
+        (stream (E.taken err.old) (E.failures err.old)) (stream (E.taken err.new) (E.failures err.new)) result }
 {
     let [_, settings, program] = words else {
-        let _ = write_all(err, b"usage: ultra_run CONF PROG\n");
-        return 2;
+        return show_usage(err);
     };
     match run(alloc, settings.as_str(), program.as_str(), source, out) {
         Ok(()) => 0,
@@ -85,9 +95,9 @@ fn start<R: AllocGlobal + Env, F: Source, O: Sink, E: Sink>(
 ) -> io::Result<u8>
     ensures ended { IfOk result (λ s. (words : List (List ℕ)) × HasEnded words
         (traffic (F.files source.old) (O.taken out.old)) (traffic (F.files source.new) (O.taken out.new))
-        (E.taken err.old) (E.taken err.new) s) }
+        (stream (E.taken err.old) (E.failures err.old)) (stream (E.taken err.new) (E.failures err.new)) s) }
     ensures nothing { OnErr result (traffic (F.files source.new) (O.taken out.new) ≡ traffic (F.files source.old) (O.taken out.old)) }
-    ensures nothing_shown { OnErr result (E.taken err.new ≡ E.taken err.old) }
+    ensures nothing_shown { OnErr result (stream (E.taken err.new) (E.failures err.new) ≡ stream (E.taken err.old) (E.failures err.old)) }
 {
     let words: Vec<String> = env::args(rt)?.collect(rt.alloc())?;
     Ok(run_words(rt.alloc(), words.as_slice(), source, out, err))

@@ -23,4 +23,5 @@ returns-in-Ok g c = done _ _ (are_paths string_bytes c.args.words.now c.settings
 
 pub returns-in-Err : goal.returns-in-Err
 returns-in-Err g c =
-    failed _ _ (are_paths string_bytes c.args.words.now c.settings-item.result c.program-item.result _ _ c.in-len3.len_at_least c.in-len3.len_below c.settings-item.is c.program-item.is c.as_str.ensures.value c.as_str-2.ensures.value) c.in-Err.failure c.give_up.ensures.status c.in-Err.ensures.err c.give_up.ensures.prefix
+    failed _ _ (are_paths string_bytes c.args.words.now c.settings-item.result c.program-item.result _ _ c.in-len3.len_at_least c.in-len3.len_below c.settings-item.is c.program-item.is c.as_str.ensures.value c.as_str-2.ensures.value) c.in-Err.failure c.give_up.ensures.status c.in-Err.ensures.err
+    (record { begun = c.give_up.ensures.prefix; whole = c.give_up.ensures.whole })
