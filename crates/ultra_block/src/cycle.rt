@@ -11,7 +11,7 @@ use ultra_cut::{exchange_replies, exchange_requests, note_rooms};
 use ultra_model::Config;
 use ultra_section::{Block, Half};
 
-/// The blocks of a machine, which has made `done` cycles, make one more: replies, memory, requests, processors. All blocks make a half before any makes the next, and between the two halves of a phase each message goes to the block of the unit to which it leads.
+/// The blocks of a machine, which has made `done` cycles, make one more: replies, memory, requests, processors.
 pub(crate) fn make_cycle(blocks: &mut [Block], config: &Config, partition: &[u8], done: u32)
     requires whole { (program : List Instr) × AreWhole config.now program partition.now done blocks.old }
     requires counted { done < 2 ^ 32 - 1 }
@@ -23,6 +23,18 @@ pub(crate) fn make_cycle(blocks: &mut [Block], config: &Config, partition: &[u8]
         make_cycle_of_one(block);
         return;
     }
+    make_cycle_of_several(blocks, config, partition, done);
+}
+
+/// Blocks, however many, make a cycle. All make a half before any makes the next, and between the two halves of a phase each message goes to the block of the unit to which it leads. It stands apart so that a machine in one block makes no room for what is noted here.
+#[inline(never)]
+fn make_cycle_of_several(blocks: &mut [Block], config: &Config, partition: &[u8], done: u32)
+    requires whole { (program : List Instr) × AreWhole config.now program partition.now done blocks.old }
+    requires counted { done < 2 ^ 32 - 1 }
+    ensures whole { (program : List Instr) → AreWhole config.now program partition.now done blocks.old → AreWhole config.now program partition.now (done + 1) blocks.new }
+    ensures state { (program : List Instr) → AreWhole config.now program partition.now done blocks.old
+        → machine_in config.now partition.now (done + 1) blocks.new ≡ next_cycle config.now program (machine_in config.now partition.now done blocks.old) }
+{
     let net = config.net();
     let rooms = note_rooms(blocks);
     make(blocks, Half::SendReplies, &rooms);

@@ -1,5 +1,5 @@
 -- An entry of a block is read, and what stands there is put back, or changed.
-use Rattle.std.proofs.Common.{◌≡◌, ℕ, ◌^◌, ◌<◌, List, [], ◌∷◌, ◌++◌, Option, Some, None, length, get_or, set, sym, ◌∙◌, ap, subst, arith, append-nil, true, inl, inr}
+use Rattle.std.proofs.Common.{◌≡◌, ℕ, ◌^◌, ◌<◌, List, [], ◌∷◌, ◌++◌, Option, Some, None, length, get_or, set, sym, ◌∙◌, ap, subst, arith, append-nil, true, inl, inr, refl}
 use Rattle.std.specs.Prelude.{is_some}
 use Rattle.std.proofs.lemmas.List.{set-get_or, get_or_default, get_or_past}
 use Rattle.std.proofs.lemmas.Bool.{true≢false}
@@ -14,7 +14,8 @@ use Rattle.ultra_units.specs.Numbers.{switch_count}
 use Rattle.ultra_halves.specs.declared.elements.ProcessingElement.{ProcessingElement}
 use Rattle.ultra_section.specs.declared.sets.Sets.{Sets}
 use Rattle.ultra_units.specs.declared.links.Links.{Links}
-use Rattle.ultra_units.specs.Units.{IsSwitch, IsModule, IsElement}
+use Rattle.ultra_switch.specs.declared.Ports.{Ports}
+use Rattle.ultra_units.specs.Units.{IsSwitch, IsModule, IsElement, stage_of, index_of}
 use Rattle.ultra_section.specs.BlockState.{BlockState, IsKept, switch_at, module_at, element_at}
 
 -- ---- `o` is what was read of entry i
@@ -46,17 +47,21 @@ pub one_more : {X : Type 0} (xs : List X) (o : Option X) (x : X) → o ≡ Some 
 one_more xs o x is = sym (ap (λ p. xs ++ present (p ∷ [])) is)
 
 -- ---- what is kept of a block stays so
-module _ {d numbering : ℕ} {program : List Instr} {s : Sets} {awake : List ℕ} {ws : List (Option Switch)} {bs : List (Option Bank)} {es : List (Option ProcessingElement)}
+module _ {d wiring : ℕ} {program : List Instr} {s : Sets} {awake : List ℕ} {ws : List (Option Switch)} {bs : List (Option Bank)} {es : List (Option ProcessingElement)}
     {for_replies : Links ReplyMessage} {for_requests : Links Request} {event_places stop_places : ℕ}
-    (kept : IsKept d numbering program s awake ws bs es for_replies for_requests event_places stop_places) where
-  pub switches_kept : (vs : List (Option Switch)) → vs ≡ ws → IsKept d numbering program s awake vs bs es for_replies for_requests event_places stop_places
-  switches_kept vs same = subst (λ ws. IsKept d numbering program s awake ws bs es for_replies for_requests event_places stop_places) (sym same) kept
+    (kept : IsKept d wiring program s awake ws bs es for_replies for_requests event_places stop_places) where
+  pub switches_kept : (vs : List (Option Switch)) → vs ≡ ws → IsKept d wiring program s awake vs bs es for_replies for_requests event_places stop_places
+  switches_kept vs same = subst (λ ws. IsKept d wiring program s awake ws bs es for_replies for_requests event_places stop_places) (sym same) kept
 
-  pub modules_kept : (cs : List (Option Bank)) → cs ≡ bs → IsKept d numbering program s awake ws cs es for_replies for_requests event_places stop_places
-  modules_kept cs same = subst (λ bs. IsKept d numbering program s awake ws bs es for_replies for_requests event_places stop_places) (sym same) kept
+  pub modules_kept : (cs : List (Option Bank)) → cs ≡ bs → IsKept d wiring program s awake ws cs es for_replies for_requests event_places stop_places
+  modules_kept cs same = subst (λ bs. IsKept d wiring program s awake ws bs es for_replies for_requests event_places stop_places) (sym same) kept
 
-  pub elements_kept : (fs : List (Option ProcessingElement)) → fs ≡ es → IsKept d numbering program s awake ws bs fs for_replies for_requests event_places stop_places
-  elements_kept fs same = subst (λ es. IsKept d numbering program s awake ws bs es for_replies for_requests event_places stop_places) (sym same) kept
+  pub elements_kept : (fs : List (Option ProcessingElement)) → fs ≡ es → IsKept d wiring program s awake ws bs fs for_replies for_requests event_places stop_places
+  elements_kept fs same = subst (λ es. IsKept d wiring program s awake ws bs es for_replies for_requests event_places stop_places) (sym same) kept
+
+-- ---- what is said of a switch by its number, in a wiring that is the network's
+pub by_number : (f : ℕ → ℕ → ℕ → Ports ℕ) (wiring d n : ℕ) → wiring ≡ d → f wiring (stage_of wiring n) (index_of wiring n) ≡ f d (stage_of d n) (index_of d n)
+by_number f wiring d n same = rw same refl
 
 -- ---- a half at one unit of a block, which is `inside` before: `act` is what the half does to a unit that stands there
 module _ {inside b : BlockState} (same : inside ≡ b) where
@@ -69,6 +74,14 @@ module _ {inside b : BlockState} (same : inside ≡ b) where
 
   pub element_inside : (n p : ℕ) → IsElement b.stages n p → IsElement inside.stages n p
   element_inside n p own = subst (λ (b : BlockState). IsElement b.stages n p) (sym same) own
+
+  pub switch_wired : (n s k wiring : ℕ) → IsSwitch b.stages n s k → wiring ≡ inside.stages → n < switch_count wiring
+  switch_wired n s k wiring own network = subst (λ d. n < switch_count d) (sym network) (switch_inside n s k own).within
+
+  pub beside_switch : (f : ℕ → ℕ → ℕ → Ports ℕ) (n s k wiring : ℕ) (p : Ports ℕ) → IsSwitch b.stages n s k → wiring ≡ inside.stages → p ≡ f wiring (stage_of wiring n) (index_of wiring n) → p ≡ f inside.stages s k
+  beside_switch f n s k wiring p own network is =
+      let own_inside = switch_inside n s k own in
+      rw (own_inside.stage, own_inside.index) (is ∙ by_number f wiring inside.stages n network)
 
   pub switch_within : (n s k : ℕ) → IsSwitch b.stages n s k → length inside.switches ≡ switch_count inside.stages → n < length inside.switches
   switch_within n s k own entries = subst (λ count. n < count) (sym entries) (switch_inside n s k own).within

@@ -191,12 +191,12 @@ module _ (d : ℕ) (old now : Sets) (ws : List (Option Switch)) (bs : List (Opti
       record { here = was.here; holds_replies = was.holds_replies; holds_requests = was.holds_requests ∙ sym pending; running = was.running ∙ ap (λ b. not b) (sym stopped); keeps_records = was.keeps_records }
 
 -- ---- a block whose units have changed, and not what is on its links
-pub units_changed : {program : List Instr} {awake woken : List ℕ} (d numbering : ℕ) (old now : Sets) (ws vs : List (Option Switch)) (bs cs : List (Option Bank)) (es fs : List (Option ProcessingElement))
+pub units_changed : {program : List Instr} {awake woken : List ℕ} (d wiring : ℕ) (old now : Sets) (ws vs : List (Option Switch)) (bs cs : List (Option Bank)) (es fs : List (Option ProcessingElement))
     (for_replies : Links ReplyMessage) (for_requests : Links Request) (event_places stop_places more_event_places more_stop_places : ℕ)
-    → IsKept d numbering program old awake ws bs es for_replies for_requests event_places stop_places → now.here ≡ old.here → UnitsAreKnown d now vs cs fs → AreOthersAtRest d program woken fs
-    → event_places ≤ more_event_places → stop_places ≤ more_stop_places → IsKept d numbering program now woken vs cs fs for_replies for_requests more_event_places more_stop_places
-units_changed d numbering old now ws vs bs cs es fs rs qs e s e' s' kept same units rests more_events more_stops = record {
-  numbers = kept.numbers;
+    → IsKept d wiring program old awake ws bs es for_replies for_requests event_places stop_places → now.here ≡ old.here → UnitsAreKnown d now vs cs fs → AreOthersAtRest d program woken fs
+    → event_places ≤ more_event_places → stop_places ≤ more_stop_places → IsKept d wiring program now woken vs cs fs for_replies for_requests more_event_places more_stop_places
+units_changed d wiring old now ws vs bs cs es fs rs qs e s e' s' kept same units rests more_events more_stops = record {
+  network = kept.network;
   units = units;
   rests = rests;
   replies = subst (λ h. RepliesAreKnown d h rs) (sym same) kept.replies;

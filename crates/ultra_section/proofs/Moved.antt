@@ -26,12 +26,12 @@ use Rattle.ultra_section.proofs.Awake.{IsAtRest, none_rests}
 pub others_here : (n : ℕ) (old now : Sets) → AgreeBut n old now → (k : ℕ) → k ≢ n → has_unit now.here k ≡ has_unit old.here k
 others_here n old now agree k other = ap (λ (f : UnitFacts). f.here) (agree k other)
 
-pub unit_moved : {program : List Instr} {awake woken : List ℕ} (d numbering : ℕ) (old now : Sets) (ws vs : List (Option Switch)) (bs cs : List (Option Bank)) (es fs : List (Option ProcessingElement))
+pub unit_moved : {program : List Instr} {awake woken : List ℕ} (d wiring : ℕ) (old now : Sets) (ws vs : List (Option Switch)) (bs cs : List (Option Bank)) (es fs : List (Option ProcessingElement))
     (rl rm : Links ReplyMessage) (ql qm : Links Request) (event_places stop_places : ℕ)
-    → IsKept d numbering program old awake ws bs es rl ql event_places stop_places → UnitsAreKnown d now vs cs fs → AreOthersAtRest d program woken fs → RepliesAreKnown d now.here rm → RequestsAreKnown d now.here qm
-    → IsKept d numbering program now woken vs cs fs rm qm event_places stop_places
-unit_moved d numbering old now ws vs bs cs es fs rl rm ql qm e s kept units rests replies requests = record {
-  numbers = kept.numbers;
+    → IsKept d wiring program old awake ws bs es rl ql event_places stop_places → UnitsAreKnown d now vs cs fs → AreOthersAtRest d program woken fs → RepliesAreKnown d now.here rm → RequestsAreKnown d now.here qm
+    → IsKept d wiring program now woken vs cs fs rm qm event_places stop_places
+unit_moved d wiring old now ws vs bs cs es fs rl rm ql qm e s kept units rests replies requests = record {
+  network = kept.network;
   units = units;
   rests = rests;
   replies = replies;
@@ -74,12 +74,12 @@ pub element_gone : (f : UnitFacts) → f ≡ no_facts → KnowsElement f None
 element_gone f none = rw none record { here = refl; holds_replies = refl; holds_requests = refl; running = refl; keeps_records = refl }
 
 -- ---- a block without units
-pub nothing_kept : (d numbering : ℕ) (program : List Instr) (s : Sets) (awake : List ℕ) (ws : List (Option Switch)) (bs : List (Option Bank)) (es : List (Option ProcessingElement)) (rl : Links ReplyMessage) (ql : Links Request) (event_places stop_places : ℕ)
-    → numbering ≡ d → ((k : ℕ) → facts_at s k ≡ no_facts) → ws ≡ replicate (switch_count d) None → bs ≡ replicate (2 ^ d) None → es ≡ replicate (2 ^ d) None
+pub nothing_kept : (d wiring : ℕ) (program : List Instr) (s : Sets) (awake : List ℕ) (ws : List (Option Switch)) (bs : List (Option Bank)) (es : List (Option ProcessingElement)) (rl : Links ReplyMessage) (ql : Links Request) (event_places stop_places : ℕ)
+    → wiring ≡ d → ((k : ℕ) → facts_at s k ≡ no_facts) → ws ≡ replicate (switch_count d) None → bs ≡ replicate (2 ^ d) None → es ≡ replicate (2 ^ d) None
     → rl.table.items ≡ replicate ((d + 1) * 2 ^ d) None → ql.table.items ≡ replicate ((d + 1) * 2 ^ d) None
-    → most_events ≤ event_places → most_stops ≤ stop_places → IsKept d numbering program s awake ws bs es rl ql event_places stop_places
-nothing_kept d numbering program s awake ws bs es rl ql e t numbers none switches modules elements replies requests events stops = record {
-  numbers = numbers;
+    → most_events ≤ event_places → most_stops ≤ stop_places → IsKept d wiring program s awake ws bs es rl ql event_places stop_places
+nothing_kept d wiring program s awake ws bs es rl ql e t network none switches modules elements replies requests events stops = record {
+  network = network;
   units = record {
     switch_entries = ap length switches ∙ length-replicate (switch_count d) None;
     module_entries = ap length modules ∙ length-replicate (2 ^ d) None;

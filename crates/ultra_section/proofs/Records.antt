@@ -8,8 +8,8 @@ use Rattle.ultra_switch.specs.declared.Switch.{Switch}
 use Rattle.ultra_switch.specs.declared.WaitRecord.{WaitRecord}
 use Rattle.ultra_switch.specs.Arrive.{Lane, Combination, after_arrival, arrive, combine_within}
 use Rattle.ultra_model.specs.Phases.{arrive_all, combination, combinations, records_left}
-use Rattle.ultra_halves.specs.Halves.{arrivals, has_none}
-use Rattle.ultra_halves.specs.Switches.{after_replies, after_requests, combinations_of, keeps_records}
+use Rattle.ultra_halves.specs.Halves.{both_coming, has_none}
+use Rattle.ultra_halves.specs.Switches.{after_both, after_replies, combinations_of_both, keeps_records}
 use Rattle.ultra_section.proofs.Empty.{both_none}
 
 -- ---- replies: no record comes
@@ -39,9 +39,9 @@ none_combined n s x l (r ∷ rs) h =
     let parts = both_empty (combination s x r o) (combinations n s x (arrive n l r) rs) h in
     none_combined n s x (arrive n l r) rs parts.1 ∙ not_combined s x r l o parts.0
 
-pub keeps_as_before : (d s k n : ℕ) (w : Switch) (came : Ports (Option Request)) → combinations_of d s k n w came ≡ [] → keeps_records (after_requests d s n w came) ≡ keeps_records w
-keeps_as_before d s k n w came h =
+pub keeps_as_before : (d s k : ℕ) (w : Switch) (first second : Option Request) → combinations_of_both d s k w first second ≡ [] → keeps_records (after_both d s w first second) ≡ keeps_records w
+keeps_as_before d s k w first second h =
     let parts = both_empty _ _ h in
-    let zero = none_combined w.to_mm.zero.wait_places s (2 * k) w.to_mm.zero.lane (arrivals d s 0 n came) parts.0 in
-    let one = none_combined w.to_mm.one.wait_places s (2 * k + 1) w.to_mm.one.lane (arrivals d s 1 n came) parts.1 in
+    let zero = none_combined w.to_mm.zero.wait_places s (2 * k) w.to_mm.zero.lane (both_coming d s 0 first second) parts.0 in
+    let one = none_combined w.to_mm.one.wait_places s (2 * k + 1) w.to_mm.one.lane (both_coming d s 1 first second) parts.1 in
     rw (zero, one) refl

@@ -63,8 +63,8 @@ most_events = 2560
 abbrev pub most_stops : ℕ
 most_stops = 320
 
-pub record IsKept (d numbering : ℕ) (program : List Instr) (s : Sets) (awake : List ℕ) (ws : List (Option Switch)) (bs : List (Option Bank)) (es : List (Option ProcessingElement)) (for_replies : Links ReplyMessage) (for_requests : Links Request) (event_places stop_places : ℕ) : Type 0 where
-  pub numbers : numbering ≡ d
+pub record IsKept (d wiring : ℕ) (program : List Instr) (s : Sets) (awake : List ℕ) (ws : List (Option Switch)) (bs : List (Option Bank)) (es : List (Option ProcessingElement)) (for_replies : Links ReplyMessage) (for_requests : Links Request) (event_places stop_places : ℕ) : Type 0 where
+  pub network : wiring ≡ d
   pub units : UnitsAreKnown d s ws bs es
   pub rests : AreOthersAtRest d program awake es
   pub replies : RepliesAreKnown d s.here for_replies

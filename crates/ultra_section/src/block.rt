@@ -12,7 +12,7 @@ use ultra_model::Stop;
 use ultra_msg::{Event, ReplyMessage, Request};
 use ultra_route::Net;
 use ultra_switch::Switch;
-use ultra_units::{Links, Numbering, Unit, UnitSet};
+use ultra_units::{Links, Unit, UnitSet, Wiring};
 
 /// Some of the units of a machine, by their numbers: any switches, modules and processing elements, or none. A link has the number of the position, module or processing element from which it leads. What a unit of this block sends is put on its link, and what comes to a unit of this block is taken from there.
 ///
@@ -20,8 +20,8 @@ use ultra_units::{Links, Numbering, Unit, UnitSet};
 #[derive(Drop)]
 pub struct Block {
     pub(crate) net: Net,
-    /// Where the numbers of each kind of unit begin.
-    pub(crate) numbering: Numbering,
+    /// Which unit has a number, and what is beside each switch.
+    pub(crate) wiring: Wiring,
     pub(crate) done: u32,
     /// What the machine's processing elements run.
     pub(crate) program: Program,
@@ -61,7 +61,7 @@ impl Model for Block {
       stops = b.stops.items;
     } };
 
-    ghost invariant = { λ b. IsKept b.net b.numbering b.program b.sets b.awake b.switches.items b.modules.items b.elements.items b.replies b.requests (vec_capacity b.events) (vec_capacity b.stops) };
+    ghost invariant = { λ b. IsKept b.net b.wiring b.program b.sets b.awake b.switches.items b.modules.items b.elements.items b.replies b.requests (vec_capacity b.events) (vec_capacity b.stops) };
 }
 
 impl Block {
@@ -71,6 +71,6 @@ impl Block {
         ensures value { result ≡ unit_of self.now.stages number }
         ensures is { IsUnit self.now.stages number result }
     {
-        self.numbering.unit(number)
+        self.wiring.unit(number)
     }
 }

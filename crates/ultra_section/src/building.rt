@@ -18,7 +18,7 @@ use ultra_msg::{Event, ReplyMessage, Request};
 use ultra_route::Net;
 use ultra_switch::Switch;
 use ultra_units::{
-    Links, Numbering, Unit, UnitSet, element_number, module_number, no_entries, switch_count,
+    Links, Unit, UnitSet, Wiring, element_number, module_number, no_entries, switch_count,
 };
 
 /// For how many events a block has memory: at most two of each of 320 units in each of four halves.
@@ -69,12 +69,13 @@ impl Block {
         ensures { IfOk result (λ b. b ≡ empty_block net program.now) }
     {
         let program = program.try_clone(alloc)?;
+        let wiring = Wiring::of(alloc, net)?;
         let (switches, modules, elements) = no_units(alloc, net)?;
         let (replies, requests) = no_messages(alloc, net)?;
         let (events, stops) = no_story(alloc)?;
         Ok(Block {
             net,
-            numbering: Numbering::of(net),
+            wiring,
             done: 0,
             program,
             switches,

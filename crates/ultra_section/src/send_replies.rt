@@ -1,51 +1,17 @@
 //! The half of a cycle in which replies leave switches and modules.
 
-ghost use Rattle.std.specs.Prelude.{◌≡◌, ◌-◌, ◌^◌, ◌<◌};
-ghost use Rattle.ultra_halves.specs.Switches.{replies_leaving, without_replies};
-ghost use Rattle.ultra_units.specs.Marks.{RepliesAreKnown};
+ghost use Rattle.std.specs.Prelude.{◌≡◌, ◌<◌};
 ghost use Rattle.ultra_section.specs.Rooms.{AreOwnRooms};
 ghost use Rattle.ultra_section.specs.declared.rooms.Rooms.{Rooms};
 ghost use Rattle.ultra_section.specs.RepliesSent.{begun, module_sends_reply, sends_replies, switch_sends_replies};
-ghost use Rattle.ultra_units.specs.Ways.{replies_put, reply_ways};
 ghost use Rattle.ultra_units.specs.Visits.{after_units};
 ghost use Rattle.ultra_units.specs.Units.{IsModule, IsSwitch};
 
 use crate::block::Block;
 use crate::rooms::Rooms;
 use ultra_halves::{modules, switches};
-use ultra_msg::ReplyMessage;
-use ultra_route::Net;
-use ultra_switch::Switch;
-use ultra_units::replies::{leave_module, leave_stage};
-use ultra_units::{
-    Links, Unit, UnitSet, Visit, find_reply_ways, reply_targets, switch_number, visit_all,
-};
-
-/// The first reply of each queue of a switch goes onto its link, where there is a way. `here` are the units that stand here, and `closed` the switches without room for replies.
-#[inline(always)]
-fn send_from_switch(
-    switch: &mut Switch,
-    links: &mut Links<ReplyMessage>,
-    here: &UnitSet,
-    closed: &UnitSet,
-    net: Net,
-    stage: u32,
-    index: u32,
-)
-    requires stage { stage < net }
-    requires index { index < 2 ^ (net - 1) }
-    requires known { RepliesAreKnown net here.now links.old }
-    ensures switch { switch.new ≡ without_replies switch.old (replies_leaving (reply_ways closed.now net stage index) switch.old) }
-    ensures table { links.new.table.items ≡ replies_put net stage index (replies_leaving (reply_ways closed.now net stage index) switch.old) links.old.table.items }
-    ensures known { RepliesAreKnown net here.now links.new }
-{
-    let _even = net.size();
-    let targets = reply_targets(net, stage, index);
-    let out = switches::send_replies(switch, find_reply_ways(closed, stage, targets));
-    let (zero, one) = (2 * index, 2 * index + 1);
-    leave_stage(links, here, net, stage, zero, targets.zero, out.zero);
-    leave_stage(links, here, net, stage, one, targets.one, out.one);
-}
+use ultra_units::replies::{leave_module, leave_switch};
+use ultra_units::{Unit, UnitSet, Visit, find_reply_ways, switch_number, visit_all};
 
 impl Block {
     /// The first reply of each queue of a switch goes onto its link, where there is a way.
@@ -55,11 +21,14 @@ impl Block {
         ensures { self.new ≡ switch_sends_replies closed.now number stage index self.old }
     {
         let net = self.net;
+        let targets = self.wiring.reply_targets(number);
         let Some(switch) = &mut self.switches[number] else {
             return;
         };
-        let here = &self.sets.here;
-        send_from_switch(switch, &mut self.replies, here, closed, net, stage, index);
+        let ways = find_reply_ways(closed, stage, targets);
+        let out = switches::send_replies(switch, ways);
+        let (links, here) = (&mut self.replies, &self.sets.here);
+        leave_switch(links, here, net, number, targets, out);
         self.sets.note_replies(number, switch);
     }
 

@@ -1,52 +1,18 @@
 //! The half of a cycle in which requests leave switches and processing elements.
 
-ghost use Rattle.std.specs.Prelude.{◌≡◌, ◌-◌, ◌^◌, ◌<◌};
+ghost use Rattle.std.specs.Prelude.{◌≡◌, ◌<◌};
 ghost use Rattle.ultra_units.specs.Visits.{after_units};
-ghost use Rattle.ultra_halves.specs.Switches.{request_heads, requests_leaving, without_requests};
-ghost use Rattle.ultra_units.specs.Marks.{RequestsAreKnown};
 ghost use Rattle.ultra_section.specs.Rooms.{AreOwnRooms};
 ghost use Rattle.ultra_section.specs.declared.rooms.Rooms.{Rooms};
 ghost use Rattle.ultra_section.specs.RequestsSent.{element_sends_request, sends_requests, switch_sends_requests};
-ghost use Rattle.ultra_units.specs.Ways.{request_ways, requests_put};
 ghost use Rattle.ultra_units.specs.Units.{IsElement, IsSwitch};
 
 use crate::block::Block;
 use crate::rooms::Rooms;
 use ultra_halves::switches;
-use ultra_msg::Request;
-use ultra_route::Net;
-use ultra_switch::{Ports, Switch};
-use ultra_units::requests::{leave_element, leave_stage};
-use ultra_units::{
-    Links, Unit, UnitSet, Visit, find_request_ways, has_way_from_element, visit_all,
-};
-
-/// The first request of each queue of a switch goes onto its link, where there is a way. `here` are the units that stand here.
-#[inline(always)]
-fn send_from_switch(
-    switch: &mut Switch,
-    links: &mut Links<Request>,
-    here: &UnitSet,
-    closed: &Ports<UnitSet>,
-    net: Net,
-    stage: u32,
-    index: u32,
-)
-    requires stage { stage < net }
-    requires index { index < 2 ^ (net - 1) }
-    requires known { RequestsAreKnown net here.now links.old }
-    ensures switch { switch.new ≡ without_requests switch.old (requests_leaving (request_ways closed.now net stage index (request_heads switch.old)) switch.old) }
-    ensures table { links.new.table.items ≡ requests_put net stage index (requests_leaving (request_ways closed.now net stage index (request_heads switch.old)) switch.old) links.old.table.items }
-    ensures known { RequestsAreKnown net here.now links.new }
-{
-    let _even = net.size();
-    let heads = switches::request_heads(switch);
-    let (targets, ways) = find_request_ways(net, closed, stage, index, heads);
-    let out = switches::send_requests(switch, ways);
-    let (zero, one) = (2 * index, 2 * index + 1);
-    leave_stage(links, here, net, stage, zero, targets.zero, out.zero);
-    leave_stage(links, here, net, stage, one, targets.one, out.one);
-}
+use ultra_switch::Ports;
+use ultra_units::requests::{leave_element, leave_switch};
+use ultra_units::{Unit, UnitSet, Visit, find_request_ways, has_way_from_element, visit_all};
 
 impl Block {
     /// The first request of each queue of a switch goes onto its link, where there is a way.
@@ -62,11 +28,15 @@ impl Block {
         ensures { self.new ≡ switch_sends_requests closed.now number stage index self.old }
     {
         let net = self.net;
+        let targets = self.wiring.request_targets(number);
         let Some(switch) = &mut self.switches[number] else {
             return;
         };
-        let here = &self.sets.here;
-        send_from_switch(switch, &mut self.requests, here, closed, net, stage, index);
+        let heads = switches::request_heads(switch);
+        let ways = find_request_ways(net, closed, stage, targets, heads);
+        let out = switches::send_requests(switch, ways);
+        let (links, here) = (&mut self.requests, &self.sets.here);
+        leave_switch(links, here, net, number, targets, out);
         self.sets.note_requests(number, switch);
     }
 

@@ -1,42 +1,16 @@
 //! The half of a cycle in which replies come to switches and processing elements.
 
-ghost use Rattle.std.specs.Prelude.{◌≡◌, ℕ, ◌<◌, List, length};
-ghost use Rattle.ultra_halves.specs.Switches.{CanTakeReplies, after_replies};
+ghost use Rattle.std.specs.Prelude.{◌≡◌, ℕ, ◌<◌, length};
 ghost use Rattle.ultra_units.specs.Visits.{after_units};
 ghost use Rattle.ultra_section.specs.BlockState.{most_events};
-ghost use Rattle.ultra_units.specs.Marks.{HasAllLinks, RepliesAreKnown, on_both, reply_links, without_both};
 ghost use Rattle.ultra_section.specs.RepliesTaken.{CanTakeRepliesAt, ElementCanTakeReply, SwitchCanTakeReplies, element_takes_reply, switch_takes_replies, takes_replies};
 ghost use Rattle.ultra_units.specs.Units.{IsElement, IsSwitch};
 
 use crate::block::Block;
 use ultra_halves::{append, switches};
-use ultra_msg::{Event, ReplyMessage};
-use ultra_route::Net;
-use ultra_switch::Switch;
+use ultra_msg::Event;
 use ultra_units::replies::{take_at_element, take_at_switch};
-use ultra_units::{Links, Unit, UnitSet, Visit, visit_all};
-
-/// What comes to a switch goes through its wait buffers into its queues. `number` is the number of the unit.
-#[inline(always)]
-fn take_into_switch(
-    switch: &mut Switch,
-    links: &mut Links<ReplyMessage>,
-    net: Net,
-    number: usize,
-    stage: u32,
-    index: u32,
-)
-    requires is { IsSwitch net number stage index }
-    requires small { number < 320 }
-    requires all { HasAllLinks net links.old }
-    requires room { CanTakeReplies switch.old (on_both links.old.table.items (reply_links net stage index)) }
-    ensures switch { switch.new ≡ after_replies net stage switch.old (on_both links.old.table.items (reply_links net stage index)) }
-    ensures table { links.new.table.items ≡ without_both links.old.table.items (reply_links net stage index) }
-    ensures known { (here : List ℕ) → RepliesAreKnown net here links.old → RepliesAreKnown net here links.new }
-{
-    let came = take_at_switch(links, net, number, stage, index);
-    switches::take_replies(switch, net, stage, came);
-}
+use ultra_units::{Unit, UnitSet, Visit, visit_all};
 
 impl Block {
     /// What comes to a switch goes through its wait buffers into its queues.
@@ -47,10 +21,12 @@ impl Block {
         ensures { self.new ≡ switch_takes_replies number stage index self.old }
     {
         let net = self.net;
+        let inlets = self.wiring.reply_links(number);
         let Some(switch) = &mut self.switches[number] else {
             return;
         };
-        take_into_switch(switch, &mut self.replies, net, number, stage, index);
+        let came = take_at_switch(&mut self.replies, net, number, inlets);
+        switches::take_replies(switch, net, stage, came);
         self.sets.note_replies_taken(number, switch);
     }
 

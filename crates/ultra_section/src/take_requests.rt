@@ -1,53 +1,18 @@
 //! The half of a cycle in which requests come to switches and modules.
 
-ghost use Rattle.std.specs.Prelude.{◌≡◌, ℕ, ◌+◌, ◌<◌, ◌≤◌, ◌↔◌, ◌++◌, [], false, List, length, vec_capacity};
-ghost use Rattle.ultra_halves.specs.Switches.{CanTakeRequests, after_requests, combinations_of};
+ghost use Rattle.std.specs.Prelude.{◌≡◌, ℕ, ◌+◌, ◌<◌, ◌≤◌, length};
 ghost use Rattle.ultra_units.specs.Visits.{after_units};
 ghost use Rattle.ultra_section.specs.BlockState.{most_events};
-ghost use Rattle.ultra_units.specs.Marks.{HasAllLinks, RequestsAreKnown, on_both, request_links, without_both};
 ghost use Rattle.ultra_section.specs.RequestsTaken.{CanTakeRequestsAt, ModuleCanTakeRequest, SwitchCanTakeRequests, module_takes_request, switch_takes_requests, takes_requests};
 ghost use Rattle.ultra_units.specs.Units.{IsModule, IsSwitch};
 
 use crate::block::Block;
 use ultra_halves::{modules, switches};
-use ultra_msg::{Event, Request};
-use ultra_route::Net;
-use ultra_switch::Switch;
 use ultra_units::requests::{take_at_module, take_at_switch};
-use ultra_units::{Links, Unit, UnitSet, Visit, visit_all};
-
-/// What comes to a switch goes into its queues, where it may combine: port 0 goes first in even cycles, port 1 in odd ones. `number` is the number of the unit. Combinations are appended to `events`. Answers whether there are any.
-#[inline(always)]
-fn take_into_switch(
-    switch: &mut Switch,
-    links: &mut Links<Request>,
-    net: Net,
-    number: usize,
-    stage: u32,
-    index: u32,
-    cycle: u32,
-    events: &mut Vec<Event>,
-) -> bool
-    requires is { IsSwitch net number stage index }
-    requires small { number < 320 }
-    requires all { HasAllLinks net links.old }
-    requires room { CanTakeRequests net stage switch.old (on_both links.old.table.items (request_links net stage index)) }
-    requires event_room { length events.old.items + 2 ≤ vec_capacity events.old }
-    ensures switch { switch.new ≡ after_requests net stage cycle switch.old (on_both links.old.table.items (request_links net stage index)) }
-    ensures events { events.new.items ≡ events.old.items ++ combinations_of net stage index cycle switch.old (on_both links.old.table.items (request_links net stage index)) }
-    ensures places { vec_capacity events.old ≤ vec_capacity events.new }
-    ensures few { length events.new.items ≤ length events.old.items + 2 }
-    ensures none { (result ≡ false) ↔ (combinations_of net stage index cycle switch.old (on_both links.old.table.items (request_links net stage index)) ≡ []) }
-    ensures table { links.new.table.items ≡ without_both links.old.table.items (request_links net stage index) }
-    ensures known { (here : List ℕ) → RequestsAreKnown net here links.old → RequestsAreKnown net here links.new }
-{
-    let zero_first = cycle % 2 == 0;
-    let (first, second) = take_at_switch(links, net, number, stage, index, zero_first);
-    switches::take_requests(switch, net, stage, index, first, second, events)
-}
+use ultra_units::{Unit, UnitSet, Visit, visit_all};
 
 impl Block {
-    /// What comes to a switch goes into its queues.
+    /// What comes to a switch goes into its queues, where it may combine: port 0 goes first in even cycles, port 1 in odd ones.
     fn take_requests_of_switch(&mut self, number: usize, stage: u32, index: u32)
         requires is { IsSwitch self.old.stages number stage index }
         requires can { SwitchCanTakeRequests number stage index self.old }
@@ -57,13 +22,15 @@ impl Block {
         ensures few { length self.new.events ≤ length self.old.events + 2 }
     {
         let net = self.net;
-        let cycle = self.done;
+        let zero_first = self.done % 2 == 0;
+        let inlets = self.wiring.request_links(number);
         let Some(switch) = &mut self.switches[number] else {
             return;
         };
-        let (links, events) = (&mut self.requests, &mut self.events);
-        let has_combined = take_into_switch(
-            switch, links, net, number, stage, index, cycle, events,
+        let (first, second) = take_at_switch(&mut self.requests, net, number, inlets, zero_first);
+        let events = &mut self.events;
+        let has_combined = switches::take_requests(
+            switch, net, stage, index, first, second, events,
         );
         self.sets.note_requests_taken(number, switch, has_combined);
     }

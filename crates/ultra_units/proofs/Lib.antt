@@ -1,7 +1,8 @@
 pub mod Set
 pub mod Visits
 pub mod Readers
-mod Neighbours
+mod Small
+mod Beside
 pub mod Standing
 pub mod Marks
 pub mod ReplyMarks

@@ -6,3 +6,4 @@ pub mod Units
 pub mod Marks
 pub mod Inlets
 pub mod Ways
+pub mod Wiring

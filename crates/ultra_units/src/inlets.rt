@@ -3,7 +3,7 @@
 ghost use Rattle.std.specs.Prelude.{◌≡◌};
 ghost use Rattle.ultra_units.specs.Inlets.{reply_inlets as inlets_of_replies, request_inlets as inlets_of_requests};
 
-use crate::numbers::{place_number, reply_sources, request_source};
+use crate::numbers::{place_number, reply_sources, request_sources};
 use crate::unit::{Unit, unit_of};
 use ultra_route::Net;
 use ultra_switch::Ports;
@@ -32,10 +32,7 @@ pub fn request_inlets(net: Net, unit: usize) -> Option<Ports<usize>>
 {
     let _even = net.size();
     match unit_of(net, unit) {
-        Unit::Switch { stage, index } => Some(Ports {
-            zero: request_source(net, stage, 2 * index),
-            one: request_source(net, stage, 2 * index + 1),
-        }),
+        Unit::Switch { stage, index } => Some(request_sources(net, stage, index)),
         Unit::Module(number) => {
             let link = place_number(net, net.stages() - 1, number);
             Some(Ports {

@@ -1,6 +1,6 @@
 //! The units of a machine by their numbers: sets of them, and the links between them.
 //!
-//! `Numbering` says which unit has a number, and `Links` has the message on each link. Messages leave a unit and come to one by the functions of `replies` and `requests`. Others say to which units messages go, whether there is room for them, and by which links they come.
+//! `Wiring` says which unit has a number and what is beside each switch, and `Links` has the message on each link. Messages leave a unit and come to one by the functions of `replies` and `requests`. Others say whether there is room for them where they go, and by which links they come.
 #![tactic(auto)]
 
 mod entries;
@@ -14,16 +14,15 @@ mod request_ways;
 pub mod requests;
 mod unit;
 mod unit_set;
+mod wiring;
 
 pub use entries::no_entries;
 pub use inlets::{reply_inlets, request_inlets};
 pub use links::Links;
-pub use numbers::{
-    element_number, module_number, place_number, reply_source, reply_target, request_source,
-    request_target, switch_count, switch_number,
-};
+pub use numbers::{element_number, module_number, switch_count, switch_number};
 pub use pass::{Visit, visit_all};
-pub use reply_ways::{find_reply_ways, reply_targets};
+pub use reply_ways::find_reply_ways;
 pub use request_ways::{find_request_ways, has_way_from_element};
-pub use unit::{Numbering, Unit};
+pub use unit::Unit;
 pub use unit_set::UnitSet;
+pub use wiring::Wiring;

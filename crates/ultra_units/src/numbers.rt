@@ -1,7 +1,7 @@
 //! The numbers of units and of the links between them.
 
 ghost use Rattle.std.specs.Prelude.{◌≡◌, ℕ, ◌+◌, ◌-◌, ◌*◌, ◌^◌, ◌<◌, ◌≤◌};
-ghost use Rattle.ultra_units.specs.Marks.{reply_links};
+ghost use Rattle.ultra_units.specs.Marks.{reply_links, request_links};
 ghost use Rattle.ultra_units.specs.Numbers.{element_number as number_of_element, module_number as number_of_module, place_number as number_of_place, reply_source as source_of_reply, reply_target as target_of_reply, request_source as source_of_request, request_target as target_of_request, switch_count as count_of_switches, switch_number as number_of_switch};
 
 use ultra_route::Net;
@@ -51,7 +51,7 @@ pub fn element_number(net: Net, pe: u32) -> usize
 
 /// The number of a link: of the position of a stage from which it leads, counted over all stages; or, where `stage` is the number of stages, of the module or the processing element from which it leads.
 #[inline(always)]
-pub fn place_number(net: Net, stage: u32, position: u32) -> usize
+pub(crate) fn place_number(net: Net, stage: u32, position: u32) -> usize
     requires stage { stage ≤ net }
     requires position { position < 2 ^ net }
     ensures value { result ≡ number_of_place net stage position }
@@ -61,9 +61,23 @@ pub fn place_number(net: Net, stage: u32, position: u32) -> usize
     (stage * net.size() + position) as usize
 }
 
+/// The positions of a switch in its stage, by the port.
+pub(crate) fn positions(net: Net, index: u32) -> Ports<u32>
+    requires { index < 2 ^ (net - 1) }
+    ensures zero { result.zero ≡ 2 * index }
+    ensures one { result.one ≡ 2 * index + 1 }
+    ensures zero_small { result.zero < 2 ^ net }
+    ensures one_small { result.one < 2 ^ net }
+{
+    let _even = net.size();
+    Ports {
+        zero: 2 * index,
+        one: 2 * index + 1,
+    }
+}
+
 /// The link by which a reply comes to a memory-side position of a stage.
-#[inline(always)]
-pub fn reply_source(net: Net, stage: u32, position: u32) -> usize
+fn reply_source(net: Net, stage: u32, position: u32) -> usize
     requires stage { stage < net }
     requires position { position < 2 ^ net }
     ensures value { result ≡ source_of_reply net stage position }
@@ -77,24 +91,22 @@ pub fn reply_source(net: Net, stage: u32, position: u32) -> usize
 }
 
 /// The links by which replies come to a switch, by the memory-side port.
-#[inline(always)]
 pub(crate) fn reply_sources(net: Net, stage: u32, index: u32) -> Ports<usize>
     requires stage { stage < net }
     requires index { index < 2 ^ (net - 1) }
-    ensures { result ≡ reply_links net stage index }
+    ensures value { result ≡ reply_links net stage index }
+    ensures zero { result.zero < 448 }
+    ensures one { result.one < 448 }
 {
-    let _even = net.size();
-    let zero = reply_source(net, stage, 2 * index);
-    let step = if stage == net.stages() - 1 { 1 } else { 2 };
+    let Ports { zero, one } = positions(net, index);
     Ports {
-        zero,
-        one: zero + step,
+        zero: reply_source(net, stage, zero),
+        one: reply_source(net, stage, one),
     }
 }
 
 /// The unit to which a reply goes from a PE-side position of a stage.
-#[inline(always)]
-pub fn reply_target(net: Net, stage: u32, position: u32) -> usize
+pub(crate) fn reply_target(net: Net, stage: u32, position: u32) -> usize
     requires stage { stage < net }
     requires position { position < 2 ^ net }
     ensures value { result ≡ target_of_reply net stage position }
@@ -110,8 +122,7 @@ pub fn reply_target(net: Net, stage: u32, position: u32) -> usize
 }
 
 /// The link by which a request comes to a PE-side position of a stage.
-#[inline(always)]
-pub fn request_source(net: Net, stage: u32, position: u32) -> usize
+fn request_source(net: Net, stage: u32, position: u32) -> usize
     requires stage { stage < net }
     requires position { position < 2 ^ net }
     ensures value { result ≡ source_of_request net stage position }
@@ -125,9 +136,23 @@ pub fn request_source(net: Net, stage: u32, position: u32) -> usize
     }
 }
 
+/// The links by which requests come to a switch, by the PE-side port.
+pub(crate) fn request_sources(net: Net, stage: u32, index: u32) -> Ports<usize>
+    requires stage { stage < net }
+    requires index { index < 2 ^ (net - 1) }
+    ensures value { result ≡ request_links net stage index }
+    ensures zero { result.zero < 448 }
+    ensures one { result.one < 448 }
+{
+    let Ports { zero, one } = positions(net, index);
+    Ports {
+        zero: request_source(net, stage, zero),
+        one: request_source(net, stage, one),
+    }
+}
+
 /// The unit to which a request goes from a memory-side position of a stage.
-#[inline(always)]
-pub fn request_target(net: Net, stage: u32, position: u32) -> usize
+pub(crate) fn request_target(net: Net, stage: u32, position: u32) -> usize
     requires stage { stage < net }
     requires position { position < 2 ^ net }
     ensures value { result ≡ target_of_request net stage position }

@@ -1,39 +1,41 @@
 //! Replies on the links between units.
 
 ghost use Rattle.std.specs.Prelude.{◌≡◌, ℕ, ◌^◌, ◌<◌, List, None, slice_set};
-ghost use Rattle.ultra_units.specs.Numbers.{place_number as number_of_place, reply_target as target_of_reply};
+ghost use Rattle.ultra_units.specs.Numbers.{place_number as number_of_place, switch_count};
 ghost use Rattle.ultra_units.specs.Links.{put_on};
 ghost use Rattle.ultra_units.specs.Marks.{HasAllLinks, RepliesAreKnown, delivery_link, on_both, on_link, reply_links, without_both};
-ghost use Rattle.ultra_units.specs.Units.{IsElement, IsSwitch};
+ghost use Rattle.ultra_units.specs.Ways.{replies_put, reply_targets as targets_of_replies};
+ghost use Rattle.ultra_units.specs.Units.{IsElement, index_of, stage_of};
 
 use crate::links::Links;
-use crate::numbers::{place_number, reply_sources, switch_number};
+use crate::numbers::{place_number, switch_number};
 use crate::unit_set::UnitSet;
 use ultra_msg::ReplyMessage;
 use ultra_route::Net;
 use ultra_switch::Ports;
 
-/// A reply, if there is one, leaves a PE-side position of a stage, for the unit `target`. `here` are the units that stand here.
+/// What leaves a switch, by the PE-side port, for the units `targets`. `number` is the number of the unit, and `here` are the units that stand here.
 #[inline(always)]
-pub fn leave_stage(
+pub fn leave_switch(
     links: &mut Links<ReplyMessage>,
     here: &UnitSet,
     net: Net,
-    stage: u32,
-    position: u32,
-    target: usize,
-    reply: Option<ReplyMessage>,
+    number: usize,
+    targets: Ports<usize>,
+    out: Ports<Option<ReplyMessage>>,
 )
-    requires stage { stage < net }
-    requires position { position < 2 ^ net }
-    requires target { target ≡ target_of_reply net stage position }
-    requires small { target < 320 }
+    requires switch { number < switch_count net }
+    requires small { number < 320 }
+    requires targets { targets ≡ targets_of_replies net (stage_of net number) (index_of net number) }
+    requires zero { targets.zero < 320 }
+    requires one { targets.one < 320 }
     requires known { RepliesAreKnown net here.now links.old }
-    ensures table { links.new.table.items ≡ put_on links.old.table.items (number_of_place net stage position) reply }
+    ensures table { links.new.table.items ≡ replies_put net (stage_of net number) (index_of net number) out links.old.table.items }
     ensures known { RepliesAreKnown net here.now links.new }
 {
-    let link = place_number(net, stage, position);
-    links.put(here, link, target, reply);
+    let link = 2 * number;
+    links.put(here, link, targets.zero, out.zero);
+    links.put(here, link + 1, targets.one, out.one);
 }
 
 /// A reply, if there is one, leaves a memory module.
@@ -57,23 +59,22 @@ pub fn leave_module(
     links.put(here, link, target, reply);
 }
 
-/// Takes what comes to a switch, by the memory-side port. `number` is the number of the unit.
+/// Takes what comes to a switch by its links `inlets`, by the memory-side port. `number` is the number of the unit.
 #[inline(always)]
 pub fn take_at_switch(
     links: &mut Links<ReplyMessage>,
     net: Net,
     number: usize,
-    stage: u32,
-    index: u32,
+    inlets: Ports<usize>,
 ) -> Ports<Option<ReplyMessage>>
-    requires switch { IsSwitch net number stage index }
+    requires switch { number < switch_count net }
+    requires inlets { inlets ≡ reply_links net (stage_of net number) (index_of net number) }
     requires small { number < 320 }
     requires all { HasAllLinks net links.old }
-    ensures came { result ≡ on_both links.old.table.items (reply_links net stage index) }
-    ensures table { links.new.table.items ≡ without_both links.old.table.items (reply_links net stage index) }
+    ensures came { result ≡ on_both links.old.table.items inlets }
+    ensures table { links.new.table.items ≡ without_both links.old.table.items inlets }
     ensures known { (here : List ℕ) → RepliesAreKnown net here links.old → RepliesAreKnown net here links.new }
 {
-    let inlets = reply_sources(net, stage, index);
     let zero = links.take(inlets.zero);
     let one = links.take(inlets.one);
     links.came.remove(number);

@@ -1,28 +1,10 @@
 //! Where replies go from a switch, and whether they may.
 
-ghost use Rattle.std.specs.Prelude.{◌≡◌, ℕ, ◌-◌, ◌^◌, ◌<◌};
+ghost use Rattle.std.specs.Prelude.{◌≡◌, ℕ, ◌<◌};
 ghost use Rattle.ultra_units.specs.Ways.{reply_targets as targets_of_replies, reply_ways};
 
-use crate::numbers::reply_target;
 use crate::unit_set::UnitSet;
-use ultra_route::Net;
 use ultra_switch::Ports;
-
-/// The units to which replies go from a switch, by the PE-side port.
-#[inline(always)]
-pub fn reply_targets(net: Net, stage: u32, index: u32) -> Ports<usize>
-    requires stage { stage < net }
-    requires index { index < 2 ^ (net - 1) }
-    ensures value { result ≡ targets_of_replies net stage index }
-    ensures zero { result.zero < 320 }
-    ensures one { result.one < 320 }
-{
-    let _even = net.size();
-    Ports {
-        zero: reply_target(net, stage, 2 * index),
-        one: reply_target(net, stage, 2 * index + 1),
-    }
-}
 
 /// Whether replies may go on from a switch, by the PE-side port, to the units `targets`. `closed` are the switches without room for replies.
 #[inline(always)]

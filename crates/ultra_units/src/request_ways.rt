@@ -4,7 +4,7 @@ ghost use Rattle.std.specs.Prelude.{◌≡◌, ℕ, ◌-◌, ◌^◌, ◌<◌};
 ghost use Rattle.ultra_units.specs.Numbers.{request_target as target_of_request};
 ghost use Rattle.ultra_units.specs.Ways.{has_request_way as way_of_request, has_room_at as room_at, has_way_from_element as way_from_element, request_targets as targets_of_requests, request_ways};
 
-use crate::numbers::{request_target, switch_number};
+use crate::numbers::switch_number;
 use crate::unit_set::UnitSet;
 use ultra_msg::Request;
 use ultra_route::Net;
@@ -27,23 +27,6 @@ fn has_room_at(
         !closed.zero.has(switch)
     } else {
         !closed.one.has(switch)
-    }
-}
-
-/// The units to which requests go from a switch, by the memory-side port.
-#[inline(always)]
-fn request_targets(net: Net, stage: u32, index: u32) -> Ports<usize>
-    requires stage { stage < net }
-    requires index { index < 2 ^ (net - 1) }
-    ensures value { result ≡ targets_of_requests net stage index }
-    ensures zero { result.zero < 320 }
-    ensures one { result.one < 320 }
-{
-    let _even = net.size();
-    let zero = request_target(net, stage, 2 * index);
-    Ports {
-        zero,
-        one: zero + 1,
     }
 }
 
@@ -70,28 +53,24 @@ fn has_request_way(
     }
 }
 
-/// The units to which requests go from a switch, and whether its first requests may go on there, by the memory-side port.
+/// Whether the first requests of a switch may go on, by the memory-side port, to the units `targets`.
 #[inline(always)]
 pub fn find_request_ways(
     net: Net,
     closed: &Ports<UnitSet>,
     stage: u32,
-    index: u32,
+    targets: Ports<usize>,
     heads: Ports<Option<Request>>,
-) -> (Ports<usize>, Ports<bool>)
+) -> Ports<bool>
     requires stage { stage < net }
-    requires index { index < 2 ^ (net - 1) }
-    ensures targets { result.0 ≡ targets_of_requests net stage index }
-    ensures zero { result.0.zero < 320 }
-    ensures one { result.0.one < 320 }
-    ensures ways { result.1 ≡ request_ways closed.now net stage index heads }
+    requires zero { targets.zero < 320 }
+    requires one { targets.one < 320 }
+    ensures { (index : ℕ) → targets ≡ targets_of_requests net stage index → result ≡ request_ways closed.now net stage index heads }
 {
-    let targets = request_targets(net, stage, index);
-    let ways = Ports {
+    Ports {
         zero: has_request_way(net, closed, stage, targets.zero, heads.zero),
         one: has_request_way(net, closed, stage, targets.one, heads.one),
-    };
-    (targets, ways)
+    }
 }
 
 /// Whether the first request of a processing element may go on.

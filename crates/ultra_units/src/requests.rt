@@ -1,39 +1,41 @@
 //! Requests on the links between units.
 
 ghost use Rattle.std.specs.Prelude.{◌≡◌, ℕ, ◌^◌, ◌<◌, List, None, slice_set};
-ghost use Rattle.ultra_units.specs.Numbers.{place_number as number_of_place, request_target as target_of_request};
+ghost use Rattle.ultra_units.specs.Numbers.{place_number as number_of_place, switch_count};
 ghost use Rattle.ultra_units.specs.Links.{put_on};
 ghost use Rattle.ultra_units.specs.Marks.{HasAllLinks, RequestsAreKnown, ports_in_turn, memory_link, on_both, on_link, request_links, without_both};
-ghost use Rattle.ultra_units.specs.Units.{IsModule, IsSwitch};
+ghost use Rattle.ultra_units.specs.Ways.{requests_put, request_targets as targets_of_requests};
+ghost use Rattle.ultra_units.specs.Units.{IsModule, index_of, stage_of};
 
 use crate::links::Links;
-use crate::numbers::{place_number, request_source, switch_number};
+use crate::numbers::{place_number, switch_number};
 use crate::unit_set::UnitSet;
 use ultra_msg::Request;
 use ultra_route::Net;
 use ultra_switch::Ports;
 
-/// A request, if there is one, leaves a memory-side position of a stage, for the unit `target`. `here` are the units that stand here.
+/// What leaves a switch, by the memory-side port, for the units `targets`. `number` is the number of the unit, and `here` are the units that stand here.
 #[inline(always)]
-pub fn leave_stage(
+pub fn leave_switch(
     links: &mut Links<Request>,
     here: &UnitSet,
     net: Net,
-    stage: u32,
-    position: u32,
-    target: usize,
-    request: Option<Request>,
+    number: usize,
+    targets: Ports<usize>,
+    out: Ports<Option<Request>>,
 )
-    requires stage { stage < net }
-    requires position { position < 2 ^ net }
-    requires target { target ≡ target_of_request net stage position }
-    requires small { target < 320 }
+    requires switch { number < switch_count net }
+    requires small { number < 320 }
+    requires targets { targets ≡ targets_of_requests net (stage_of net number) (index_of net number) }
+    requires zero { targets.zero < 320 }
+    requires one { targets.one < 320 }
     requires known { RequestsAreKnown net here.now links.old }
-    ensures table { links.new.table.items ≡ put_on links.old.table.items (number_of_place net stage position) request }
+    ensures table { links.new.table.items ≡ requests_put net (stage_of net number) (index_of net number) out links.old.table.items }
     ensures known { RequestsAreKnown net here.now links.new }
 {
-    let link = place_number(net, stage, position);
-    links.put(here, link, target, request);
+    let link = 2 * number;
+    links.put(here, link, targets.zero, out.zero);
+    links.put(here, link + 1, targets.one, out.one);
 }
 
 /// A request, if there is one, leaves a processing element.
@@ -56,28 +58,23 @@ pub fn leave_element(
     links.put(here, link, target, request);
 }
 
-/// Takes what comes to a switch, at one PE-side port after the other. `number` is the number of the unit.
+/// Takes what comes to a switch by its links `inlets`, at one PE-side port after the other. `number` is the number of the unit.
 #[inline(always)]
 pub fn take_at_switch(
     links: &mut Links<Request>,
     net: Net,
     number: usize,
-    stage: u32,
-    index: u32,
+    inlets: Ports<usize>,
     zero_first: bool,
 ) -> (Option<Request>, Option<Request>)
-    requires switch { IsSwitch net number stage index }
+    requires switch { number < switch_count net }
+    requires inlets { inlets ≡ request_links net (stage_of net number) (index_of net number) }
     requires small { number < 320 }
     requires all { HasAllLinks net links.old }
-    ensures came { result ≡ ports_in_turn zero_first (on_both links.old.table.items (request_links net stage index)) }
-    ensures table { links.new.table.items ≡ without_both links.old.table.items (request_links net stage index) }
+    ensures came { result ≡ ports_in_turn zero_first (on_both links.old.table.items inlets) }
+    ensures table { links.new.table.items ≡ without_both links.old.table.items inlets }
     ensures known { (here : List ℕ) → RequestsAreKnown net here links.old → RequestsAreKnown net here links.new }
 {
-    let _even = net.size();
-    let inlets = Ports {
-        zero: request_source(net, stage, 2 * index),
-        one: request_source(net, stage, 2 * index + 1),
-    };
     let came = links.take_both(inlets, zero_first);
     links.came.remove(number);
     came

@@ -1,7 +1,8 @@
 //! Which unit has a number.
 
-ghost use Rattle.std.specs.Prelude.{◌≡◌, ℕ};
-ghost use Rattle.ultra_units.specs.Units.{IsUnit, unit_of};
+ghost use Rattle.std.specs.Prelude.{◌≡◌, ℕ, ◌<◌};
+ghost use Rattle.ultra_units.specs.Numbers.{switch_count as count_of_switches};
+ghost use Rattle.ultra_units.specs.Units.{IsSwitch, IsUnit, unit_of};
 
 use crate::numbers::switch_count;
 use std::marker::Model;
@@ -22,7 +23,7 @@ pub enum Unit {
 
 /// Where the numbers of each kind of unit begin: switches come first, then modules, then processing elements.
 #[derive(Drop)]
-pub struct Numbering {
+pub(crate) struct Numbering {
     net: Net,
     /// The number of the first module.
     modules: usize,
@@ -45,7 +46,7 @@ impl Model for Numbering {
 
 impl Numbering {
     /// That of a machine with this network.
-    pub fn of(net: Net) -> Numbering
+    pub(crate) fn of(net: Net) -> Numbering
         ensures { result ≡ net }
     {
         let modules = switch_count(net);
@@ -58,19 +59,24 @@ impl Numbering {
         }
     }
 
+    /// The network.
+    #[inline(always)]
+    pub(crate) fn net(&self) -> Net
+        ensures { result ≡ self.now }
+    {
+        self.net
+    }
+
     /// The unit with this number.
     #[inline(always)]
-    pub fn unit(&self, number: usize) -> Unit
+    pub(crate) fn unit(&self, number: usize) -> Unit
         ensures value { result ≡ unit_of self.now number }
         ensures is { IsUnit self.now number result }
     {
         let _size = self.net.size();
         if number < self.modules {
-            let high = self.net.stages() - 1;
-            Unit::Switch {
-                stage: (number >> high) as u32,
-                index: (number % (1 << high)) as u32,
-            }
+            let (stage, index) = place_of(self.net, number);
+            Unit::Switch { stage, index }
         } else if number < self.elements {
             Unit::Module((number - self.modules) as u32)
         } else if number < self.units {
@@ -79,6 +85,17 @@ impl Numbering {
             Unit::Nothing
         }
     }
+}
+
+/// The stage of the switch with this number, and its index there.
+#[inline(always)]
+pub(crate) fn place_of(net: Net, number: usize) -> (u32, u32)
+    requires { number < count_of_switches net }
+    ensures { IsSwitch net number result.0 result.1 }
+{
+    let _size = net.size();
+    let high = net.stages() - 1;
+    ((number >> high) as u32, (number % (1 << high)) as u32)
 }
 
 /// The unit with this number in a machine with this network.

@@ -1,49 +1,24 @@
-use Rattle.std.proofs.Common.{ℕ, ◌+◌, ◌*◌, ◌^◌, ◌<◌, arith, refl, sym, ◌∙◌, ap, subst}
+use Rattle.std.proofs.Common.{◌≡◌, arith, ◌∙◌, ap, subst}
 use Rattle.ultra_units.specs.Set.{has_unit}
-use Rattle.ultra_units.proofs.RequestMarks.{known_taken, both_links}
+use Rattle.ultra_units.specs.Marks.{without_both}
+use Rattle.ultra_units.specs.Units.{stage_of, index_of}
+use Rattle.ultra_units.proofs.Standing.{is_switch}
+use Rattle.ultra_units.proofs.Readers.{requests_to_switch}
+use Rattle.ultra_units.proofs.RequestMarks.{known_taken}
 use Rattle.ultra_units.proofs.requests.take_at_switch.Goals as goal
-
-pub overflow_mul-index : goal.overflow_mul-index
-overflow_mul-index c = let small = c.requires.switch.index_small in omega arith
-
-pub overflow_mul-index-2 : goal.overflow_mul-index-2
-overflow_mul-index-2 c = let small = c.requires.switch.index_small in omega arith
-
-pub overflow_add-index : goal.overflow_add-index
-overflow_add-index c = let small = c.requires.switch.index_small in omega arith
-
-pub request_source-requires-clause-position : goal.request_source-requires-clause-position
-request_source-requires-clause-position c = let small = c.requires.switch.index_small in omega arith
-
-pub request_source-requires-2-clause-position : goal.request_source-requires-2-clause-position
-request_source-requires-2-clause-position c = let small = c.requires.switch.index_small in omega arith
 
 pub take_both-came-requires : goal.take_both-came-requires
 take_both-came-requires c =
-    let both = both_links c.args.net (omega arith) (omega arith) c.args.number c.args.stage c.args.index c.requires.switch in
-    let all = sym c.requires.all in
-    let within : (x : ℕ) → x < (c.args.net + 1) * 2 ^ c.args.net → x < _ = λ x small. subst (λ n. x < n) all small in
-    record {
-      zero = within _ (subst (λ x. x < (c.args.net + 1) * 2 ^ c.args.net) (sym c.request_source.ensures.value) both.first_small);
-      one = within _ (subst (λ x. x < (c.args.net + 1) * 2 ^ c.args.net) (sym c.request_source-2.ensures.value) both.second_small);
-      apart = λ same. both.apart (sym c.request_source.ensures.value ∙ same ∙ c.request_source-2.ensures.value);
-    }
-
-pub returns-clause-came : goal.returns-clause-came
-returns-clause-came c =
-    c.take_both-came.ensures.value
-    ∙ rw (c.request_source.ensures.value, c.request_source-2.ensures.value) refl
-
-pub returns-clause-table : goal.returns-clause-table
-returns-clause-table c =
-    c.take_both-came.ensures.table
-    ∙ rw (c.request_source.ensures.value, c.request_source-2.ensures.value) refl
+    let lead = requests_to_switch c.args.net (omega arith) (omega arith) c.args.number c.requires.switch in
+    rw (c.requires.all, c.requires.inlets) record { zero = lead.first_small; one = lead.second_small; apart = lead.apart }
 
 pub returns-clause-known : goal.returns-clause-known
 returns-clause-known c =
+    let d = c.args.net in
+    let n = c.args.number in
     λ here known.
-    known_taken c.args.net (omega arith) (omega arith) here c.args.links.now record { table = c.take_both-came.new.self.table; came = c.remove.new.self; away = c.take_both-came.new.self.away }
-    c.args.number c.args.stage c.args.index c.requires.switch
-    (returns-clause-table c)
+    known_taken d (omega arith) (omega arith) here c.args.links.now record { table = c.take_both-came.new.self.table; came = c.remove.new.self; away = c.take_both-came.new.self.away }
+    n (stage_of d n) (index_of d n) (is_switch d n c.requires.switch)
+    (subst (λ p. c.take_both-came.new.self.table.items ≡ without_both c.args.links.now.table.items p) c.requires.inlets c.take_both-came.ensures.table)
     (λ j other. c.remove.ensures.others j other ∙ ap (λ s. has_unit s j) c.take_both-came.ensures.came)
     c.take_both-came.ensures.away known

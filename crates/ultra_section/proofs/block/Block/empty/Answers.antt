@@ -6,5 +6,5 @@ invariant_of-result c =
     let units = c.in_ok-switches.ensures in
     let messages = c.in_ok-replies.ensures in
     let story = c.in_ok-events.ensures in
-    nothing_kept c.args.net c.of.result _ c.empty.result c.empty-2.result _ _ _ _ _ _ _ c.of.ensures c.empty.ensures
+    nothing_kept c.args.net _ _ c.empty.result c.empty-2.result _ _ _ _ _ _ _ c.in_ok-wiring.ensures c.empty.ensures
     units.0 units.1 units.2 messages.0 messages.1 story.2 story.3

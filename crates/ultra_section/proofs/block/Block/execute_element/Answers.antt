@@ -53,7 +53,7 @@ invariant_of-self-in-AtRest c =
       requests = known.requests;
       events_fit = known.events_fit;
       stops_fit = known.stops_fit;
-      numbers = known.numbers;
+      network = known.network;
     }
 
 pub returns-in-AtRest : goal.returns-in-AtRest
@@ -103,7 +103,7 @@ invariant_of-self-2 c =
       requests = known.requests;
       events_fit = known.events_fit;
       stops_fit = known.stops_fit;
-      numbers = known.numbers;
+      network = known.network;
     }
 
 pub invariant_of-self-in-Issued : goal.invariant_of-self-in-Issued
@@ -111,7 +111,7 @@ invariant_of-self-in-Issued c =
     let inside = c.self.inside in
     let known = c.self.invariant in
     let is : IsElement inside.net c.args.number c.args.pe = subst (λ (b : BlockState). IsElement b.stages c.args.number c.args.pe) (sym c.self.view_is) c.requires.is in
-    units_changed inside.net inside.numbering inside.sets c.note_element.new.self inside.switches.items _ inside.modules.items _ inside.elements.items _ inside.replies inside.requests _ _ _ _
+    units_changed inside.net inside.wiring inside.sets c.note_element.new.self inside.switches.items _ inside.modules.items _ inside.elements.items _ inside.replies inside.requests _ _ _ _
     known c.note_element.ensures.here
     (element_changed inside.net inside.sets c.note_element.new.self inside.switches.items inside.modules.items inside.elements.items known.units
     c.args.number c.args.pe c.index_mut.result.now c.in-Some.element c.execute-outcome.new.self is c.index_mut.ensures.value c.in-Some.is
@@ -124,7 +124,7 @@ invariant_of-self-in-Faulted c =
     let inside = c.self.inside in
     let known = c.self.invariant in
     let is : IsElement inside.net c.args.number c.args.pe = subst (λ (b : BlockState). IsElement b.stages c.args.number c.args.pe) (sym c.self.view_is) c.requires.is in
-    units_changed inside.net inside.numbering inside.sets c.note_element.new.self inside.switches.items _ inside.modules.items _ inside.elements.items _ inside.replies inside.requests _ _ _ _
+    units_changed inside.net inside.wiring inside.sets c.note_element.new.self inside.switches.items _ inside.modules.items _ inside.elements.items _ inside.replies inside.requests _ _ _ _
     known c.note_element.ensures.here
     (element_changed inside.net inside.sets c.note_element.new.self inside.switches.items inside.modules.items inside.elements.items known.units
     c.args.number c.args.pe c.index_mut.result.now c.in-Some.element c.execute-outcome.new.self is c.index_mut.ensures.value c.in-Some.is
@@ -137,7 +137,7 @@ invariant_of-self-in-Done-outcome c =
     let inside = c.self.inside in
     let known = c.self.invariant in
     let is : IsElement inside.net c.args.number c.args.pe = subst (λ (b : BlockState). IsElement b.stages c.args.number c.args.pe) (sym c.self.view_is) c.requires.is in
-    units_changed inside.net inside.numbering inside.sets c.note_element.new.self inside.switches.items _ inside.modules.items _ inside.elements.items _ inside.replies inside.requests _ _ _ _
+    units_changed inside.net inside.wiring inside.sets c.note_element.new.self inside.switches.items _ inside.modules.items _ inside.elements.items _ inside.replies inside.requests _ _ _ _
     known c.note_element.ensures.here
     (element_changed inside.net inside.sets c.note_element.new.self inside.switches.items inside.modules.items inside.elements.items known.units
     c.args.number c.args.pe c.index_mut.result.now c.in-Some.element c.execute-outcome.new.self is c.index_mut.ensures.value c.in-Some.is

@@ -18,7 +18,7 @@ invariant_of-self c =
     let agree : AgreeBut c.element_number-unit.result inside.sets now = λ k other. c.note_element.ensures.others k other ∙ c.stand.ensures.others k other in
     let was = subst (λ k. KnowsElement (facts_at inside.sets k) (element_at inside.elements.items c.args.pe)) (sym c.element_number-unit.ensures.value) (known.units.elements c.args.pe within) in
     let noted = element_put (facts_at inside.sets c.element_number-unit.result) (facts_at c.stand.new.self c.element_number-unit.result) (facts_at now c.element_number-unit.result) (element_at inside.elements.items c.args.pe) c.args.element was c.stand.ensures.there c.note_element.ensures.there in
-    unit_moved inside.net inside.numbering inside.sets now inside.switches.items _ inside.modules.items _ inside.elements.items _ inside.replies c.renew.new.self inside.requests inside.requests _ _
+    unit_moved inside.net inside.wiring inside.sets now inside.switches.items _ inside.modules.items _ inside.elements.items _ inside.replies c.renew.new.self inside.requests inside.requests _ _
     known
     (element_known inside.net inside.sets now inside.switches.items inside.modules.items inside.elements.items known.units c.args.pe (Some c.args.element) within (subst (λ k. AgreeBut k inside.sets now) c.element_number-unit.ensures.value agree)
     (subst (λ k. KnowsElement (facts_at now k) (Some c.args.element)) c.element_number-unit.ensures.value noted))

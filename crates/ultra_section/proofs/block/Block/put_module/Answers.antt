@@ -15,7 +15,7 @@ invariant_of-self c =
     let agree : AgreeBut c.module_number-unit.result inside.sets now = λ k other. c.note_module.ensures.others k other ∙ c.stand.ensures.others k other in
     let was = subst (λ k. KnowsModule (facts_at inside.sets k) (module_at inside.modules.items c.args.number)) (sym c.module_number-unit.ensures.value) (known.units.modules c.args.number within) in
     let noted = module_put (facts_at inside.sets c.module_number-unit.result) (facts_at c.stand.new.self c.module_number-unit.result) (facts_at now c.module_number-unit.result) (module_at inside.modules.items c.args.number) c.args.bank was c.stand.ensures.there c.note_module.ensures.there in
-    unit_moved inside.net inside.numbering inside.sets now inside.switches.items _ inside.modules.items _ inside.elements.items _ inside.replies inside.replies inside.requests c.renew.new.self _ _
+    unit_moved inside.net inside.wiring inside.sets now inside.switches.items _ inside.modules.items _ inside.elements.items _ inside.replies inside.replies inside.requests c.renew.new.self _ _
     known
     (module_known inside.net inside.sets now inside.switches.items inside.modules.items inside.elements.items known.units c.args.number (Some c.args.bank) within (subst (λ k. AgreeBut k inside.sets now) c.module_number-unit.ensures.value agree)
     (subst (λ k. KnowsModule (facts_at now k) (Some c.args.bank)) c.module_number-unit.ensures.value noted))

@@ -14,7 +14,7 @@ invariant_of-self c =
     let now = c.stand_switch.new.self in
     let there = c.stand_switch.ensures.there in
     let beside = others_here c.args.number inside.sets now c.stand_switch.ensures.others in
-    unit_moved inside.net inside.numbering inside.sets now inside.switches.items _ inside.modules.items _ inside.elements.items _ inside.replies c.renew.new.self inside.requests c.renew-2.new.self _ _
+    unit_moved inside.net inside.wiring inside.sets now inside.switches.items _ inside.modules.items _ inside.elements.items _ inside.replies c.renew.new.self inside.requests c.renew-2.new.self _ _
     known
     (switch_known inside.net inside.sets now inside.switches.items inside.modules.items inside.elements.items known.units c.args.number (Some c.args.switch) within c.stand_switch.ensures.others there)
     known.rests

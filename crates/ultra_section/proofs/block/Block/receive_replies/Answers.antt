@@ -37,5 +37,5 @@ invariant_of-self c =
       requests = known.requests;
       events_fit = known.events_fit;
       stops_fit = known.stops_fit;
-      numbers = known.numbers;
+      network = known.network;
     }

@@ -48,7 +48,7 @@ invariant_of-self-2 c =
       requests = subst (λ h. RequestsAreKnown inside.net h inside.requests) (sym c.note_module.ensures.here) known.requests;
       events_fit = known.events_fit;
       stops_fit = known.stops_fit;
-      numbers = known.numbers;
+      network = known.network;
     }
 
 pub index_mut-requires : goal.index_mut-requires

@@ -70,7 +70,7 @@ invariant_of-self-2 c =
       requests = c.leave_element.ensures.known;
       events_fit = known.events_fit;
       stops_fit = known.stops_fit;
-      numbers = known.numbers;
+      network = known.network;
     }
 
 pub index_mut-requires : goal.index_mut-requires

@@ -16,7 +16,7 @@ invariant_of-self c =
     let within : c.args.pe < 2 ^ inside.net = subst (λ (b : BlockState). c.args.pe < 2 ^ b.stages) (sym c.self.view_is) c.requires in
     let now = c.leave.new.self in
     let agree : AgreeBut c.element_number-unit.result inside.sets now = c.leave.ensures.others in
-    unit_moved inside.net inside.numbering inside.sets now inside.switches.items _ inside.modules.items _ inside.elements.items _ inside.replies c.renew.new.self inside.requests inside.requests _ _
+    unit_moved inside.net inside.wiring inside.sets now inside.switches.items _ inside.modules.items _ inside.elements.items _ inside.replies c.renew.new.self inside.requests inside.requests _ _
     known
     (element_known inside.net inside.sets now inside.switches.items inside.modules.items inside.elements.items known.units c.args.pe c.take.new.self within (subst (λ k. AgreeBut k inside.sets now) c.element_number-unit.ensures.value agree)
     (subst (λ o. KnowsElement (facts_at now (element_number inside.net c.args.pe)) o) (sym c.take.ensures.after)

@@ -14,7 +14,7 @@ invariant_of-self c =
     let within : c.args.number < 2 ^ inside.net = subst (λ (b : BlockState). c.args.number < 2 ^ b.stages) (sym c.self.view_is) c.requires in
     let now = c.leave.new.self in
     let agree : AgreeBut c.module_number-unit.result inside.sets now = c.leave.ensures.others in
-    unit_moved inside.net inside.numbering inside.sets now inside.switches.items _ inside.modules.items _ inside.elements.items _ inside.replies inside.replies inside.requests c.renew.new.self _ _
+    unit_moved inside.net inside.wiring inside.sets now inside.switches.items _ inside.modules.items _ inside.elements.items _ inside.replies inside.replies inside.requests c.renew.new.self _ _
     known
     (module_known inside.net inside.sets now inside.switches.items inside.modules.items inside.elements.items known.units c.args.number c.take.new.self within (subst (λ k. AgreeBut k inside.sets now) c.module_number-unit.ensures.value agree)
     (subst (λ o. KnowsModule (facts_at now (module_number inside.net c.args.number)) o) (sym c.take.ensures.after)

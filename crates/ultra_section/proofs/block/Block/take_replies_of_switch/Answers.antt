@@ -1,19 +1,20 @@
-use Rattle.std.proofs.Common.{◌∙◌, sym, ap, subst, ◌≡◌, ℕ, List, Option, Some, set, refl}
-use Rattle.ultra_halves.specs.Switches.{has_request_room, holds_requests, keeps_records, after_replies}
+use Rattle.std.proofs.Common.{◌∙◌, sym, ap, subst, ◌≡◌, ◌<◌, ℕ, List, Option, Some, set, refl}
+use Rattle.ultra_halves.specs.Switches.{CanTakeReplies, has_request_room, holds_requests, keeps_records, after_replies}
 use Rattle.ultra_section.specs.BlockState.{BlockState}
 use Rattle.ultra_units.specs.Marks.{RepliesAreKnown, RequestsAreKnown, on_both, reply_links, without_both}
 use Rattle.ultra_section.specs.RepliesTaken.{SwitchCanTakeReplies, replies_taken_by}
 use Rattle.ultra_section.proofs.Known.{switch_replies_taken, switch_was, stands}
 use Rattle.ultra_section.proofs.Records.{keeps_none}
 use Rattle.ultra_msg.specs.declared.ReplyMessage.{ReplyMessage}
+use Rattle.ultra_switch.specs.declared.Ports.{Ports}
 use Rattle.ultra_switch.specs.declared.Switch.{Switch}
-use Rattle.ultra_section.proofs.Entries.{put_back, switch_entry, switch_inside, switch_within, switches_kept, switch_passed, switch_worked}
+use Rattle.ultra_section.proofs.Entries.{beside_switch, by_number, put_back, switch_entry, switch_inside, switch_within, switch_wired, switches_kept, switch_passed, switch_worked}
 use Rattle.ultra_section.proofs.block.Block.take_replies_of_switch.Goals as goal
 
-taking_done : (b : BlockState) (n s k : ℕ) (w v : Switch) (replies : List (Option ReplyMessage))
-    → v ≡ after_replies b.stages s w (on_both b.replies (reply_links b.stages s k)) → replies ≡ without_both b.replies (reply_links b.stages s k)
+taking_done : (b : BlockState) (n s k : ℕ) (w v : Switch) (inlets : Ports ℕ) (came : Ports (Option ReplyMessage)) (replies : List (Option ReplyMessage))
+    → inlets ≡ reply_links b.stages s k → came ≡ on_both b.replies inlets → v ≡ after_replies b.stages s w came → replies ≡ without_both b.replies inlets
     → record b { switches = set b.switches n (Some v); replies = replies } ≡ replies_taken_by n s k b w
-taking_done b n s k w v replies taken left = rw (taken, left) refl
+taking_done b n s k w v inlets came replies are come taken left = rw (taken, left, come, are) refl
 
 pub invariant_of-self : goal.invariant_of-self
 invariant_of-self c = switches_kept c.self.invariant _ (put_back c.self.inside.switches.items c.args.number c.index_mut.result.now c.index_mut.ensures.value)
@@ -22,20 +23,32 @@ pub returns-in_default : goal.returns-in_default
 returns-in_default c =
     switch_passed c.self.view_is (replies_taken_by c.args.number c.args.stage c.args.index) c.args.number c.index_mut.result.now c.index_mut.ensures.value c.in_default.is
 
+pub reply_links-inlets-requires : goal.reply_links-inlets-requires
+reply_links-inlets-requires c = switch_wired c.self.view_is c.args.number c.args.stage c.args.index c.self.inside.wiring c.requires.is c.self.invariant.network
+
 pub index_mut-requires : goal.index_mut-requires
 index_mut-requires c = switch_entry c.self.view_is c.args.number c.args.stage c.args.index c.self.inside.switches.len c.requires.is c.self.inside.switches.ok.0 c.self.invariant.units.switch_entries
 
-pub take_into_switch-requires : goal.take_into_switch-requires
-take_into_switch-requires c =
+pub take_at_switch-came-requires : goal.take_at_switch-came-requires
+take_at_switch-came-requires c = record {
+  switch = (switch_inside c.self.view_is c.args.number c.args.stage c.args.index c.requires.is).within;
+  inlets = c.reply_links-inlets.ensures ∙ by_number reply_links c.self.inside.wiring c.self.inside.net c.args.number c.self.invariant.network;
+  small = c.requires.small;
+  all = c.self.invariant.replies.all;
+}
+
+pub take_replies-requires : goal.take_replies-requires
+take_replies-requires c =
     let inside = c.self.inside in
+    let is = switch_inside c.self.view_is c.args.number c.args.stage c.args.index c.requires.is in
     let can = subst (λ (b : BlockState). SwitchCanTakeReplies c.args.number c.args.stage c.args.index b) (sym c.self.view_is) c.requires.room in
+    let inlets = beside_switch c.self.view_is reply_links c.args.number c.args.stage c.args.index inside.wiring c.reply_links-inlets.result c.requires.is c.self.invariant.network c.reply_links-inlets.ensures in
     record {
-      is = switch_inside c.self.view_is c.args.number c.args.stage c.args.index c.requires.is;
-      small = c.requires.small;
-      all = c.self.invariant.replies.all;
-      room =
-          can c.in-Some.switch (stands inside.switches.items c.args.number c.index_mut.result.now c.in-Some.switch (switch_within c.self.view_is c.args.number c.args.stage c.args.index c.requires.is c.self.invariant.units.switch_entries)
-          c.index_mut.ensures.value c.in-Some.is);
+      stage = is.stage_small;
+      room = subst (CanTakeReplies c.in-Some.switch)
+          (sym (c.take_at_switch-came.ensures.came ∙ ap (on_both inside.replies.table.items) inlets))
+          (can c.in-Some.switch (stands inside.switches.items c.args.number c.index_mut.result.now c.in-Some.switch (switch_within c.self.view_is c.args.number c.args.stage c.args.index c.requires.is c.self.invariant.units.switch_entries)
+          c.index_mut.ensures.value c.in-Some.is));
     }
 
 pub note_replies_taken-requires : goal.note_replies_taken-requires
@@ -45,12 +58,14 @@ note_replies_taken-requires c = record {
       let inside = c.self.inside in
       let is = switch_inside c.self.view_is c.args.number c.args.stage c.args.index c.requires.is in
       let was = switch_was inside.net inside.sets inside.sets inside.switches.items inside.modules.items inside.elements.items c.self.invariant.units c.args.number c.index_mut.result.now c.in-Some.switch is.within c.index_mut.ensures.value c.in-Some.is in
-      ap keeps_records c.take_into_switch.ensures.switch ∙ keeps_none inside.net c.args.stage c.in-Some.switch (on_both inside.replies.table.items (reply_links inside.net c.args.stage c.args.index)) (sym was.keeps_records ∙ none);
+      ap keeps_records c.take_replies.ensures ∙ keeps_none inside.net c.args.stage c.in-Some.switch c.take_at_switch-came.result (sym was.keeps_records ∙ none);
 }
 
 pub returns : goal.returns
 returns c =
-    taking_done _ c.args.number c.args.stage c.args.index c.in-Some.switch c.take_into_switch.new.switch _ c.take_into_switch.ensures.switch c.take_into_switch.ensures.table
+    let inside = c.self.inside in
+    let inlets = beside_switch c.self.view_is reply_links c.args.number c.args.stage c.args.index inside.wiring c.reply_links-inlets.result c.requires.is c.self.invariant.network c.reply_links-inlets.ensures in
+    taking_done _ c.args.number c.args.stage c.args.index c.in-Some.switch c.take_replies.new.switch c.reply_links-inlets.result c.take_at_switch-came.result _ inlets c.take_at_switch-came.ensures.came c.take_replies.ensures c.take_at_switch-came.ensures.table
     ∙ switch_worked c.self.view_is (replies_taken_by c.args.number c.args.stage c.args.index) c.args.number c.args.stage c.args.index c.index_mut.result.now c.in-Some.switch c.requires.is c.self.invariant.units.switch_entries c.index_mut.ensures.value c.in-Some.is
 
 pub invariant_of-self-2 : goal.invariant_of-self-2
@@ -61,12 +76,12 @@ invariant_of-self-2 c =
     record {
       units =
           switch_replies_taken inside.net inside.sets c.note_replies_taken.new.self inside.switches.items inside.modules.items inside.elements.items known.units
-          c.args.number c.index_mut.result.now c.in-Some.switch c.take_into_switch.new.switch is.within c.index_mut.ensures.value c.in-Some.is
-          c.note_replies_taken.ensures.others c.note_replies_taken.ensures.there (ap holds_requests c.take_into_switch.ensures.switch) (ap has_request_room c.take_into_switch.ensures.switch);
+          c.args.number c.index_mut.result.now c.in-Some.switch c.take_replies.new.switch is.within c.index_mut.ensures.value c.in-Some.is
+          c.note_replies_taken.ensures.others c.note_replies_taken.ensures.there (ap holds_requests c.take_replies.ensures) (ap has_request_room c.take_replies.ensures);
       rests = known.rests;
-      replies = subst (λ h. RepliesAreKnown inside.net h c.take_into_switch.new.links) (sym c.note_replies_taken.ensures.here) (c.take_into_switch.ensures.known inside.sets.here known.replies);
+      replies = subst (λ h. RepliesAreKnown inside.net h c.take_at_switch-came.new.links) (sym c.note_replies_taken.ensures.here) (c.take_at_switch-came.ensures.known inside.sets.here known.replies);
       requests = subst (λ h. RequestsAreKnown inside.net h inside.requests) (sym c.note_replies_taken.ensures.here) known.requests;
       events_fit = known.events_fit;
       stops_fit = known.stops_fit;
-      numbers = known.numbers;
+      network = known.network;
     }

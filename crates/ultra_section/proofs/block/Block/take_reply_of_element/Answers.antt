@@ -62,7 +62,7 @@ invariant_of-self-in-Some-came c =
       requests = known.requests;
       events_fit = let more = c.append.ensures.places in omega (arith, known.events_fit);
       stops_fit = known.stops_fit;
-      numbers = known.numbers;
+      network = known.network;
     }
 
 pub invariant_of-self-in_default-came : goal.invariant_of-self-in_default-came
@@ -79,7 +79,7 @@ invariant_of-self-in_default-came c =
       requests = known.requests;
       events_fit = known.events_fit;
       stops_fit = known.stops_fit;
-      numbers = known.numbers;
+      network = known.network;
     }
 
 pub index_mut-requires : goal.index_mut-requires

@@ -59,7 +59,7 @@ invariant_of-self-2 c =
       requests = subst (λ h. RequestsAreKnown inside.net h c.take_at_module-came.new.links) (sym c.note_module.ensures.here) (c.take_at_module-came.ensures.known inside.sets.here known.requests);
       events_fit = known.events_fit;
       stops_fit = known.stops_fit;
-      numbers = known.numbers;
+      network = known.network;
     }
 
 pub index_mut-requires : goal.index_mut-requires

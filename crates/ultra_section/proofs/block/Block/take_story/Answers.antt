@@ -13,7 +13,7 @@ pub invariant_of-self : goal.invariant_of-self
 invariant_of-self c =
     let known = c.self.invariant in
     record {
-      numbers = known.numbers;
+      network = known.network;
       units = known.units;
       rests = known.rests;
       replies = known.replies;
@@ -26,7 +26,7 @@ pub invariant_of-other : goal.invariant_of-other
 invariant_of-other c =
     let known = c.other.invariant in
     record {
-      numbers = known.numbers;
+      network = known.network;
       units = known.units;
       rests = known.rests;
       replies = known.replies;

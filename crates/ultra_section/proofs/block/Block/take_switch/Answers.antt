@@ -14,7 +14,7 @@ invariant_of-self c =
     let within : c.args.number < switch_count inside.net = subst (λ (b : BlockState). c.args.number < switch_count b.stages) (sym c.self.view_is) c.requires in
     let now = c.leave.new.self in
     let agree : AgreeBut c.args.number inside.sets now = c.leave.ensures.others in
-    unit_moved inside.net inside.numbering inside.sets now inside.switches.items _ inside.modules.items _ inside.elements.items _ inside.replies c.renew.new.self inside.requests c.renew-2.new.self _ _
+    unit_moved inside.net inside.wiring inside.sets now inside.switches.items _ inside.modules.items _ inside.elements.items _ inside.replies c.renew.new.self inside.requests c.renew-2.new.self _ _
     known
     (switch_known inside.net inside.sets now inside.switches.items inside.modules.items inside.elements.items known.units c.args.number c.take.new.self within agree
     (subst (λ o. KnowsSwitch (facts_at now c.args.number) o) (sym c.take.ensures.after) (switch_gone (facts_at now c.args.number) c.leave.ensures.there)))

@@ -1,0 +1,9 @@
+use Rattle.std.proofs.Common.{arith}
+use Rattle.ultra_units.proofs.Small.{request_one, request_zero}
+use Rattle.ultra_units.proofs.wiring.Wiring.request_targets.Goals as goal
+
+pub returns-clause-zero : goal.returns-clause-zero
+returns-clause-zero c = rw (c.widen.ensures.zero, c.beside.ensures) (request_zero c.args.self.now c.args.number (omega arith) (omega arith) c.requires)
+
+pub returns-clause-one : goal.returns-clause-one
+returns-clause-one c = rw (c.widen.ensures.one, c.beside.ensures) (request_one c.args.self.now c.args.number (omega arith) (omega arith) c.requires)

@@ -1,0 +1,20 @@
+-- what is beside each switch of a network of d stages
+use Rattle.std.specs.Prelude.{◌≡◌, ℕ, ◌<◌, List, length, slice_index_or}
+use Rattle.ultra_units.specs.Units.{index_of, stage_of}
+use Rattle.ultra_units.specs.Marks.{reply_links, request_links}
+use Rattle.ultra_units.specs.Ways.{reply_targets, request_targets}
+use Rattle.ultra_units.specs.declared.wiring.Neighbours.{Neighbours}
+
+-- beside switch k of stage s
+abbrev pub neighbours : ℕ → ℕ → ℕ → Neighbours
+neighbours d s k = record {
+  request_links = request_links d s k;
+  request_targets = request_targets d s k;
+  reply_links = reply_links d s k;
+  reply_targets = reply_targets d s k;
+}
+
+-- the entries are of the first switches, by their numbers
+pub record AreNeighbours (d count : ℕ) (entries : List Neighbours) : Type 0 where
+  pub all : length entries ≡ count
+  pub each : (n : ℕ) (x : Neighbours) → n < count → slice_index_or entries n x ≡ neighbours d (stage_of d n) (index_of d n)

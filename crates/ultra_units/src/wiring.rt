@@ -1,0 +1,186 @@
+//! What is beside each switch of a network.
+
+ghost use Rattle.std.specs.Prelude.{◌≡◌, ◌-◌, ◌^◌, ◌<◌, IfOk};
+ghost use Rattle.ultra_units.specs.Marks.{reply_links as links_of_replies, request_links as links_of_requests};
+ghost use Rattle.ultra_units.specs.Numbers.{switch_count as count_of_switches};
+ghost use Rattle.ultra_units.specs.Units.{IsUnit, index_of, stage_of, unit_of};
+ghost use Rattle.ultra_units.specs.Ways.{reply_targets as targets_of_replies, request_targets as targets_of_requests};
+ghost use Rattle.ultra_units.specs.Wiring.{neighbours};
+
+use crate::numbers::{
+    positions, reply_sources, reply_target, request_sources, request_target, switch_count,
+};
+use crate::unit::{Numbering, Unit, place_of};
+use std::alloc::{AllocError, Global};
+use std::marker::Model;
+use ultra_route::Net;
+use ultra_switch::Ports;
+
+/// What is beside a switch: links and units, by their numbers.
+#[derive(Clone, Copy, Drop)]
+pub(crate) struct Neighbours {
+    /// The links by which requests come, by the PE-side port.
+    request_links: Ports<u16>,
+    /// The units to which requests go, by the memory-side port.
+    request_targets: Ports<u16>,
+    /// The links by which replies come, by the memory-side port.
+    reply_links: Ports<u16>,
+    /// The units to which replies go, by the PE-side port.
+    reply_targets: Ports<u16>,
+}
+
+impl Neighbours {
+    /// Those of a switch, by its stage and its index there.
+    fn of(net: Net, stage: u32, index: u32) -> Neighbours
+        requires stage { stage < net }
+        requires index { index < 2 ^ (net - 1) }
+        ensures { result ≡ neighbours net stage index }
+    {
+        let Ports { zero, one } = positions(net, index);
+        let requests = request_sources(net, stage, index);
+        let replies = reply_sources(net, stage, index);
+        Neighbours {
+            request_links: narrow(requests.zero, requests.one),
+            request_targets: narrow(
+                request_target(net, stage, zero),
+                request_target(net, stage, one),
+            ),
+            reply_links: narrow(replies.zero, replies.one),
+            reply_targets: narrow(
+                reply_target(net, stage, zero),
+                reply_target(net, stage, one),
+            ),
+        }
+    }
+}
+
+/// Two numbers in little memory, by the port.
+fn narrow(zero: usize, one: usize) -> Ports<u16>
+    requires zero { zero < 2 ^ 16 }
+    requires one { one < 2 ^ 16 }
+    ensures zero { result.zero ≡ zero }
+    ensures one { result.one ≡ one }
+{
+    Ports {
+        zero: zero as u16,
+        one: one as u16,
+    }
+}
+
+/// The numbers as indices.
+#[inline(always)]
+fn widen(numbers: Ports<u16>) -> Ports<usize>
+    ensures zero { result.zero ≡ numbers.zero }
+    ensures one { result.one ≡ numbers.one }
+{
+    Ports {
+        zero: numbers.zero as usize,
+        one: numbers.one as usize,
+    }
+}
+
+/// The wiring of a network: which unit has a number, and what is beside each switch.
+#[derive(Drop)]
+pub struct Wiring {
+    numbering: Numbering,
+    /// By the number of the switch, what is beside it.
+    switches: Vec<Neighbours>,
+}
+
+impl Model for Wiring {
+    ghost use Rattle.std.specs.Prelude.{ℕ};
+    ghost use Rattle.ultra_units.specs.Numbers.{switch_count};
+    ghost use Rattle.ultra_units.specs.Wiring.{AreNeighbours};
+
+    ghost Value = { ℕ };
+
+    ghost view = { λ w. w.numbering };
+
+    ghost invariant = { λ w. AreNeighbours w.numbering (switch_count w.numbering) w.switches.items };
+}
+
+impl Wiring {
+    /// That of a network. An error says that memory was refused.
+    pub fn of(alloc: Global, net: Net) -> Result<Wiring, AllocError>
+        ensures { IfOk result (λ w. w ≡ net) }
+    {
+        let count = switch_count(net);
+        let mut switches = Vec::with_capacity(alloc, count)?;
+        for number in 0..count {
+            let (stage, index) = place_of(net, number);
+            switches.push(Neighbours::of(net, stage, index))?;
+        }
+        Ok(Wiring {
+            numbering: Numbering::of(net),
+            switches,
+        })
+    }
+
+    /// The network.
+    #[inline(always)]
+    pub fn net(&self) -> Net
+        ensures { result ≡ self.now }
+    {
+        self.numbering.net()
+    }
+
+    /// The unit with this number.
+    #[inline(always)]
+    pub fn unit(&self, number: usize) -> Unit
+        ensures value { result ≡ unit_of self.now number }
+        ensures is { IsUnit self.now number result }
+    {
+        self.numbering.unit(number)
+    }
+
+    /// What is beside a switch.
+    #[inline(always)]
+    fn beside(&self, number: usize) -> Neighbours
+        requires { number < count_of_switches self.now }
+        ensures { result ≡ neighbours self.now (stage_of self.now number) (index_of self.now number) }
+    {
+        self.switches[number]
+    }
+
+    /// The links by which requests come to a switch, by the PE-side port.
+    #[inline(always)]
+    pub fn request_links(&self, number: usize) -> Ports<usize>
+        requires { number < count_of_switches self.now }
+        ensures { result ≡ links_of_requests self.now (stage_of self.now number) (index_of self.now number) }
+    {
+        widen(self.beside(number).request_links)
+    }
+
+    /// The units to which requests go from a switch, by the memory-side port.
+    #[inline(always)]
+    pub fn request_targets(&self, number: usize) -> Ports<usize>
+        requires { number < count_of_switches self.now }
+        ensures value { result ≡ targets_of_requests self.now (stage_of self.now number) (index_of self.now number) }
+        ensures zero { result.zero < 320 }
+        ensures one { result.one < 320 }
+    {
+        let _stages = self.net().stages();
+        widen(self.beside(number).request_targets)
+    }
+
+    /// The links by which replies come to a switch, by the memory-side port.
+    #[inline(always)]
+    pub fn reply_links(&self, number: usize) -> Ports<usize>
+        requires { number < count_of_switches self.now }
+        ensures { result ≡ links_of_replies self.now (stage_of self.now number) (index_of self.now number) }
+    {
+        widen(self.beside(number).reply_links)
+    }
+
+    /// The units to which replies go from a switch, by the PE-side port.
+    #[inline(always)]
+    pub fn reply_targets(&self, number: usize) -> Ports<usize>
+        requires { number < count_of_switches self.now }
+        ensures value { result ≡ targets_of_replies self.now (stage_of self.now number) (index_of self.now number) }
+        ensures zero { result.zero < 320 }
+        ensures one { result.one < 320 }
+    {
+        let _stages = self.net().stages();
+        widen(self.beside(number).reply_targets)
+    }
+}
