@@ -7,8 +7,8 @@
 mod elements;
 mod lists;
 pub mod modules;
-mod replies;
-mod requests;
+pub mod replies;
+pub mod requests;
 pub mod switches;
 
 pub use elements::{Outcome, ProcessingElement};

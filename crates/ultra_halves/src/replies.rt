@@ -9,8 +9,9 @@ use ultra_msg::ReplyMessage;
 use ultra_route::Net;
 use ultra_switch::{Ports, Split, ToMm, ToPe};
 
-/// The first reply of a queue leaves, if there is room for it where it goes.
-pub(crate) fn leave_where(has_room: bool, queue: &mut ToPe) -> Option<ReplyMessage>
+/// The first reply of a queue leaves, if there is room for it where it goes. `None` stands where nothing leaves.
+#[inline(always)]
+pub fn leave_where(has_room: bool, queue: &mut ToPe) -> Option<ReplyMessage>
     ensures sent { result ≡ where_room has_room (slice_get queue.old.replies 0) }
     ensures left { queue.new ≡ replies_without queue.old result }
 {
@@ -33,9 +34,9 @@ fn put_reply(to_pe: &mut Ports<ToPe>, net: Net, stage: u32, reply: ReplyMessage)
     }
 }
 
-/// A reply comes to a memory-side position of a stage: it is split by the wait buffer there, and what comes of it goes on.
+/// A reply, if there is one, comes to a memory-side port of a switch: it is split by the wait buffer there, and what comes of it goes to the queues by which it leaves this stage. Where a reply came, both have at least 2 free places.
 #[inline(always)]
-pub(crate) fn take_reply(
+pub fn take_reply(
     to_mm: &mut ToMm,
     to_pe: &mut Ports<ToPe>,
     net: Net,

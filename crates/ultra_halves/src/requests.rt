@@ -14,8 +14,9 @@ use ultra_msg::{Cell, Event, Pe, Request};
 use ultra_route::Net;
 use ultra_switch::{Arrived, Ports, ToMm};
 
-/// The first request of a queue toward memory leaves, if there is room for it where it goes.
-pub(crate) fn leave_where(has_room: bool, queue: &mut ToMm) -> Option<Request>
+/// The first request of a queue toward memory leaves, if there is room for it where it goes. `None` stands where nothing leaves.
+#[inline(always)]
+pub fn leave_where(has_room: bool, queue: &mut ToMm) -> Option<Request>
     ensures sent { result ≡ where_room has_room (request_of (slice_get queue.old.lane.queue 0)) }
     ensures left { queue.new ≡ lane_without queue.old result }
 {

@@ -2,36 +2,12 @@
 
 ghost use Rattle.std.specs.Prelude.{◌≡◌, ◌↔◌, ◌+◌, ◌-◌, ◌^◌, ◌<◌, ◌≤◌, ◌++◌, [], false, length, vec_capacity};
 ghost use Rattle.std.specs.Option.{ForSome};
-ghost use Rattle.ultra_halves.specs.Switches.{CanTakeReplies, HasWay, after_both, after_replies, combinations_of_both, has_reply_room, has_request_room, holds_replies, holds_requests, keeps_records, quiet_switch, replies_leaving, request_heads, requests_leaving, without_replies, without_requests};
+ghost use Rattle.ultra_halves.specs.Switches.{HasWay, after_both, combinations_of_both, has_reply_room, has_request_room, holds_replies, holds_requests, keeps_records, quiet_switch, request_heads};
 
-use crate::replies::{self, take_reply};
-use crate::requests::{self, is_turned, put_in_order, take_request};
-use ultra_msg::{Event, ReplyMessage, Request};
+use crate::requests::{is_turned, put_in_order, take_request};
+use ultra_msg::{Event, Request};
 use ultra_route::Net;
 use ultra_switch::{Ports, Switch};
-
-/// The first reply of each queue toward the processing elements leaves where `goes` says so, by the PE-side port. `None` stands where nothing leaves.
-pub fn send_replies(switch: &mut Switch, goes: Ports<bool>) -> Ports<Option<ReplyMessage>>
-    ensures sent { result ≡ replies_leaving goes switch.old }
-    ensures left { switch.new ≡ without_replies switch.old result }
-{
-    let to_pe = &mut switch.to_pe;
-    Ports {
-        zero: replies::leave_where(goes.zero, &mut to_pe.zero),
-        one: replies::leave_where(goes.one, &mut to_pe.one),
-    }
-}
-
-/// The replies that came, by the memory-side port, are split by the wait buffers there, and what comes of them goes to the queues by which it leaves this stage. Where a reply came, both queues have at least 4 free places.
-pub fn take_replies(switch: &mut Switch, net: Net, stage: u32, came: Ports<Option<ReplyMessage>>)
-    requires stage { stage < net }
-    requires room { CanTakeReplies switch.old came }
-    ensures { switch.new ≡ after_replies net stage switch.old came }
-{
-    let Switch { to_mm, to_pe } = switch;
-    take_reply(&mut to_mm.zero, to_pe, net, stage, came.zero);
-    take_reply(&mut to_mm.one, to_pe, net, stage, came.one);
-}
 
 /// The first request of each queue toward memory, by the memory-side port, or `None` where the queue is empty.
 #[inline(always)]
@@ -42,18 +18,6 @@ pub fn request_heads(switch: &Switch) -> Ports<Option<Request>>
     Ports {
         zero: zero.head(),
         one: one.head(),
-    }
-}
-
-/// The first request of each queue toward memory leaves where `goes` says so, by the memory-side port. `None` stands where nothing leaves.
-pub fn send_requests(switch: &mut Switch, goes: Ports<bool>) -> Ports<Option<Request>>
-    ensures sent { result ≡ requests_leaving goes switch.old }
-    ensures left { switch.new ≡ without_requests switch.old result }
-{
-    let to_mm = &mut switch.to_mm;
-    Ports {
-        zero: requests::leave_where(goes.zero, &mut to_mm.zero),
-        one: requests::leave_where(goes.one, &mut to_mm.one),
     }
 }
 

@@ -1,6 +1,10 @@
 //! The half of a cycle in which replies leave switches and modules.
 
-ghost use Rattle.std.specs.Prelude.{◌≡◌, ◌<◌};
+ghost use Rattle.std.specs.Prelude.{◌≡◌, ◌+◌, ◌<◌};
+ghost use Rattle.ultra_halves.specs.Switches.{replies_leaving, without_replies};
+ghost use Rattle.ultra_units.specs.Links.{put_on};
+ghost use Rattle.ultra_units.specs.Marks.{RepliesAreKnown};
+ghost use Rattle.ultra_units.specs.Ways.{IsReplyWay};
 ghost use Rattle.ultra_section.specs.Rooms.{AreOwnRooms};
 ghost use Rattle.ultra_section.specs.declared.rooms.Rooms.{Rooms};
 ghost use Rattle.ultra_section.specs.RepliesSent.{begun, module_sends_reply, sends_replies, switch_sends_replies};
@@ -9,9 +13,41 @@ ghost use Rattle.ultra_units.specs.Units.{IsModule, IsSwitch};
 
 use crate::block::Block;
 use crate::rooms::Rooms;
-use ultra_halves::{modules, switches};
+use ultra_halves::modules;
+use ultra_halves::replies::leave_where;
+use ultra_msg::ReplyMessage;
+use ultra_route::Net;
+use ultra_switch::{Ports, Switch};
 use ultra_units::replies::{leave_module, leave_switch};
-use ultra_units::{Unit, UnitSet, Visit, find_reply_ways, switch_number, visit_all};
+use ultra_units::{Links, Unit, UnitSet, Visit, find_reply_ways, switch_number, visit_all};
+
+/// The first reply of each queue of a switch goes onto its link, where there is a way. One port is done with before the other: `link` is the link of port 0, and that of port 1 comes after it. `here` are the units that stand here.
+#[inline(always)]
+fn send_from_switch(
+    switch: &mut Switch,
+    links: &mut Links<ReplyMessage>,
+    here: &UnitSet,
+    net: Net,
+    link: usize,
+    targets: Ports<usize>,
+    ways: Ports<bool>,
+)
+    requires zero { IsReplyWay net link targets.zero }
+    requires one { IsReplyWay net (link + 1) targets.one }
+    requires zero_small { targets.zero < 320 }
+    requires one_small { targets.one < 320 }
+    requires link { link < 640 }
+    requires known { RepliesAreKnown net here.now links.old }
+    ensures switch { switch.new ≡ without_replies switch.old (replies_leaving ways switch.old) }
+    ensures table { links.new.table.items ≡ put_on (put_on links.old.table.items link (replies_leaving ways switch.old).zero) (link + 1) (replies_leaving ways switch.old).one }
+    ensures known { RepliesAreKnown net here.now links.new }
+{
+    let to_pe = &mut switch.to_pe;
+    let zero = leave_where(ways.zero, &mut to_pe.zero);
+    leave_switch(links, here, net, link, targets.zero, zero);
+    let one = leave_where(ways.one, &mut to_pe.one);
+    leave_switch(links, here, net, link + 1, targets.one, one);
+}
 
 impl Block {
     /// The first reply of each queue of a switch goes onto its link, where there is a way.
@@ -21,14 +57,14 @@ impl Block {
         ensures { self.new ≡ switch_sends_replies closed.now number stage index self.old }
     {
         let net = self.net;
+        let _stages = net.stages();
         let targets = self.wiring.reply_targets(number);
         let Some(switch) = &mut self.switches[number] else {
             return;
         };
         let ways = find_reply_ways(closed, stage, targets);
-        let out = switches::send_replies(switch, ways);
         let (links, here) = (&mut self.replies, &self.sets.here);
-        leave_switch(links, here, net, number, targets, out);
+        send_from_switch(switch, links, here, net, 2 * number, targets, ways);
         self.sets.note_replies(number, switch);
     }
 

@@ -1,6 +1,10 @@
 //! The half of a cycle in which requests leave switches and processing elements.
 
-ghost use Rattle.std.specs.Prelude.{◌≡◌, ◌<◌};
+ghost use Rattle.std.specs.Prelude.{◌≡◌, ◌+◌, ◌<◌};
+ghost use Rattle.ultra_halves.specs.Switches.{requests_leaving, without_requests};
+ghost use Rattle.ultra_units.specs.Links.{put_on};
+ghost use Rattle.ultra_units.specs.Marks.{RequestsAreKnown};
+ghost use Rattle.ultra_units.specs.Ways.{IsRequestWay};
 ghost use Rattle.ultra_units.specs.Visits.{after_units};
 ghost use Rattle.ultra_section.specs.Rooms.{AreOwnRooms};
 ghost use Rattle.ultra_section.specs.declared.rooms.Rooms.{Rooms};
@@ -9,10 +13,43 @@ ghost use Rattle.ultra_units.specs.Units.{IsElement, IsSwitch};
 
 use crate::block::Block;
 use crate::rooms::Rooms;
+use ultra_halves::requests::leave_where;
 use ultra_halves::switches;
-use ultra_switch::Ports;
+use ultra_msg::Request;
+use ultra_route::Net;
+use ultra_switch::{Ports, Switch};
 use ultra_units::requests::{leave_element, leave_switch};
-use ultra_units::{Unit, UnitSet, Visit, find_request_ways, has_way_from_element, visit_all};
+use ultra_units::{
+    Links, Unit, UnitSet, Visit, find_request_ways, has_way_from_element, visit_all,
+};
+
+/// The first request of each queue of a switch goes onto its link, where there is a way. One port is done with before the other: `link` is the link of port 0, and that of port 1 comes after it. `here` are the units that stand here.
+#[inline(always)]
+fn send_from_switch(
+    switch: &mut Switch,
+    links: &mut Links<Request>,
+    here: &UnitSet,
+    net: Net,
+    link: usize,
+    targets: Ports<usize>,
+    ways: Ports<bool>,
+)
+    requires zero { IsRequestWay net link targets.zero }
+    requires one { IsRequestWay net (link + 1) targets.one }
+    requires zero_small { targets.zero < 320 }
+    requires one_small { targets.one < 320 }
+    requires link { link < 640 }
+    requires known { RequestsAreKnown net here.now links.old }
+    ensures switch { switch.new ≡ without_requests switch.old (requests_leaving ways switch.old) }
+    ensures table { links.new.table.items ≡ put_on (put_on links.old.table.items link (requests_leaving ways switch.old).zero) (link + 1) (requests_leaving ways switch.old).one }
+    ensures known { RequestsAreKnown net here.now links.new }
+{
+    let to_mm = &mut switch.to_mm;
+    let zero = leave_where(ways.zero, &mut to_mm.zero);
+    leave_switch(links, here, net, link, targets.zero, zero);
+    let one = leave_where(ways.one, &mut to_mm.one);
+    leave_switch(links, here, net, link + 1, targets.one, one);
+}
 
 impl Block {
     /// The first request of each queue of a switch goes onto its link, where there is a way.
@@ -28,15 +65,15 @@ impl Block {
         ensures { self.new ≡ switch_sends_requests closed.now number stage index self.old }
     {
         let net = self.net;
+        let _stages = net.stages();
         let targets = self.wiring.request_targets(number);
         let Some(switch) = &mut self.switches[number] else {
             return;
         };
         let heads = switches::request_heads(switch);
         let ways = find_request_ways(net, closed, stage, targets, heads);
-        let out = switches::send_requests(switch, ways);
         let (links, here) = (&mut self.requests, &self.sets.here);
-        leave_switch(links, here, net, number, targets, out);
+        send_from_switch(switch, links, here, net, 2 * number, targets, ways);
         self.sets.note_requests(number, switch);
     }
 

@@ -1,16 +1,50 @@
 //! The half of a cycle in which replies come to switches and processing elements.
 
-ghost use Rattle.std.specs.Prelude.{◌≡◌, ℕ, ◌<◌, length};
+ghost use Rattle.std.specs.Prelude.{◌≡◌, ℕ, ◌<◌, List, length};
+ghost use Rattle.ultra_halves.specs.Switches.{CanTakeReplies, after_replies};
+ghost use Rattle.ultra_units.specs.Marks.{HasAllLinks, RepliesAreKnown, on_both, reply_links, without_both};
+ghost use Rattle.ultra_units.specs.Numbers.{switch_count};
 ghost use Rattle.ultra_units.specs.Visits.{after_units};
 ghost use Rattle.ultra_section.specs.BlockState.{most_events};
 ghost use Rattle.ultra_section.specs.RepliesTaken.{CanTakeRepliesAt, ElementCanTakeReply, SwitchCanTakeReplies, element_takes_reply, switch_takes_replies, takes_replies};
-ghost use Rattle.ultra_units.specs.Units.{IsElement, IsSwitch};
+ghost use Rattle.ultra_units.specs.Units.{IsElement, IsSwitch, index_of, stage_of};
 
 use crate::block::Block;
-use ultra_halves::{append, switches};
-use ultra_msg::Event;
-use ultra_units::replies::{take_at_element, take_at_switch};
-use ultra_units::{Unit, UnitSet, Visit, visit_all};
+use ultra_halves::append;
+use ultra_halves::replies::take_reply;
+use ultra_msg::{Event, ReplyMessage};
+use ultra_route::Net;
+use ultra_switch::{Ports, Switch};
+use ultra_units::replies::take_at_element;
+use ultra_units::{Links, Unit, UnitSet, Visit, visit_all};
+
+/// What comes to a switch by its links `inlets` goes through its wait buffers into its queues. One port is done with before the other. `number` is the number of the unit.
+#[inline(always)]
+fn take_into_switch(
+    switch: &mut Switch,
+    links: &mut Links<ReplyMessage>,
+    net: Net,
+    number: usize,
+    stage: u32,
+    inlets: Ports<usize>,
+)
+    requires switch { number < switch_count net }
+    requires small { number < 320 }
+    requires stage { stage < net }
+    requires inlets { inlets ≡ reply_links net (stage_of net number) (index_of net number) }
+    requires all { HasAllLinks net links.old }
+    requires room { CanTakeReplies switch.old (on_both links.old.table.items inlets) }
+    ensures switch { switch.new ≡ after_replies net stage switch.old (on_both links.old.table.items inlets) }
+    ensures table { links.new.table.items ≡ without_both links.old.table.items inlets }
+    ensures known { (here : List ℕ) → RepliesAreKnown net here links.old → RepliesAreKnown net here links.new }
+{
+    let Switch { to_mm, to_pe } = switch;
+    let zero = links.take(inlets.zero);
+    take_reply(&mut to_mm.zero, to_pe, net, stage, zero);
+    let one = links.take(inlets.one);
+    take_reply(&mut to_mm.one, to_pe, net, stage, one);
+    links.came.remove(number);
+}
 
 impl Block {
     /// What comes to a switch goes through its wait buffers into its queues.
@@ -25,8 +59,7 @@ impl Block {
         let Some(switch) = &mut self.switches[number] else {
             return;
         };
-        let came = take_at_switch(&mut self.replies, net, number, inlets);
-        switches::take_replies(switch, net, stage, came);
+        take_into_switch(switch, &mut self.replies, net, number, stage, inlets);
         self.sets.note_replies_taken(number, switch);
     }
 

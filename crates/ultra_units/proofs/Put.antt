@@ -6,6 +6,7 @@ use Rattle.ultra_switch.specs.declared.Ports.{Ports}
 use Rattle.ultra_units.specs.Numbers.{switch_count, place_number}
 use Rattle.ultra_units.specs.Units.{IsSwitch}
 use Rattle.ultra_units.specs.Links.{put_on}
+use Rattle.ultra_units.specs.Ways.{IsReplyWay, IsRequestWay, reply_targets, request_targets}
 use Rattle.ultra_units.specs.Marks.{on_link, on_both}
 use Rattle.ultra_units.proofs.Marks.{length-put_on}
 
@@ -61,6 +62,9 @@ pub place_twice : (d n s k : ℕ) → 1 ≤ d → d ≤ 6 → IsSwitch d n s k �
 place_twice d n s k low high is =
     subst (λ x. s * x + 2 * k ≡ 2 * n) (sizes d low high).0 (twice s (2 ^ (d - 1)) k ∙ ap (λ x. 2 * x) (sym is.number))
 
+pub place_small : (d m s x : ℕ) → s < d → x < m → s * m + x < (d + 1) * m
+place_small d m s x stage within = grind arith
+
 pub places_twice : (d : ℕ) → 1 ≤ d → d ≤ 6 → d * 2 ^ d ≡ 2 * switch_count d
 places_twice d low high = let e = subst (λ x. d * x + 2 * 0 ≡ 2 * (d * 2 ^ (d - 1) + 0)) (sizes d low high).0 (twice d (2 ^ (d - 1)) 0) in omega arith
 
@@ -85,3 +89,21 @@ place_behind d m low high = let whole = places_twice d low high in omega arith
 
 pub place_behind_small : (d m : ℕ) → m < 2 ^ d → place_number d d m < (d + 1) * 2 ^ d
 place_behind_small d m h = let more = row d (2 ^ d) in omega arith
+
+-- where the two links of switch n lead
+module _ (d n s k : ℕ) (low : 1 ≤ d) (high : d ≤ 6) (is : IsSwitch d n s k) where
+  even : 2 * k < 2 ^ d
+  even = omega (arith, is.index_small, (sizes d low high).0)
+
+  odd : 2 * k + 1 < 2 ^ d
+  odd = omega (arith, is.index_small, (sizes d low high).0)
+
+  pub request_ways_of : IsRequestWay d (2 * n) (request_targets d s k).zero × IsRequestWay d (2 * n + 1) (request_targets d s k).one
+  request_ways_of =
+      let places = has_places d n s k low high is in
+      ((s, 2 * k, is.stage_small, even, sym places.first, refl), (s, 2 * k + 1, is.stage_small, odd, sym places.second, refl))
+
+  pub reply_ways_of : IsReplyWay d (2 * n) (reply_targets d s k).zero × IsReplyWay d (2 * n + 1) (reply_targets d s k).one
+  reply_ways_of =
+      let places = has_places d n s k low high is in
+      ((s, 2 * k, is.stage_small, even, sym places.first, refl), (s, 2 * k + 1, is.stage_small, odd, sym places.second, refl))

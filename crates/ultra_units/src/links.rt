@@ -87,7 +87,7 @@ impl<M: Copy> Links<M> {
 
     /// Takes what is on a link.
     #[inline(always)]
-    pub(crate) fn take(&mut self, link: usize) -> Option<M>
+    pub fn take(&mut self, link: usize) -> Option<M>
         requires { link < length self.old.table.items }
         ensures value { result ≡ slice_index_or self.old.table.items link None }
         ensures table { self.new.table.items ≡ slice_set self.old.table.items link None }

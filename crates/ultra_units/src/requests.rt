@@ -4,7 +4,7 @@ ghost use Rattle.std.specs.Prelude.{◌≡◌, ℕ, ◌^◌, ◌<◌, List, None
 ghost use Rattle.ultra_units.specs.Numbers.{place_number as number_of_place, switch_count};
 ghost use Rattle.ultra_units.specs.Links.{put_on};
 ghost use Rattle.ultra_units.specs.Marks.{HasAllLinks, RequestsAreKnown, ports_in_turn, memory_link, on_both, on_link, request_links, without_both};
-ghost use Rattle.ultra_units.specs.Ways.{requests_put, request_targets as targets_of_requests};
+ghost use Rattle.ultra_units.specs.Ways.{IsRequestWay};
 ghost use Rattle.ultra_units.specs.Units.{IsModule, index_of, stage_of};
 
 use crate::links::Links;
@@ -14,28 +14,23 @@ use ultra_msg::Request;
 use ultra_route::Net;
 use ultra_switch::Ports;
 
-/// What leaves a switch, by the memory-side port, for the units `targets`. `number` is the number of the unit, and `here` are the units that stand here.
+/// A request, if there is one, leaves a switch by a link, which leads to the unit `target`. `here` are the units that stand here.
 #[inline(always)]
 pub fn leave_switch(
     links: &mut Links<Request>,
     here: &UnitSet,
     net: Net,
-    number: usize,
-    targets: Ports<usize>,
-    out: Ports<Option<Request>>,
+    link: usize,
+    target: usize,
+    request: Option<Request>,
 )
-    requires switch { number < switch_count net }
-    requires small { number < 320 }
-    requires targets { targets ≡ targets_of_requests net (stage_of net number) (index_of net number) }
-    requires zero { targets.zero < 320 }
-    requires one { targets.one < 320 }
+    requires leads { IsRequestWay net link target }
+    requires small { target < 320 }
     requires known { RequestsAreKnown net here.now links.old }
-    ensures table { links.new.table.items ≡ requests_put net (stage_of net number) (index_of net number) out links.old.table.items }
+    ensures table { links.new.table.items ≡ put_on links.old.table.items link request }
     ensures known { RequestsAreKnown net here.now links.new }
 {
-    let link = 2 * number;
-    links.put(here, link, targets.zero, out.zero);
-    links.put(here, link + 1, targets.one, out.one);
+    links.put(here, link, target, request);
 }
 
 /// A request, if there is one, leaves a processing element.

@@ -1,5 +1,8 @@
-use Rattle.std.proofs.Common.{sym, ap, subst, ◌≡◌, ◌<◌, ℕ, List, Bool, Option, Some, set, refl, ◌∙◌}
+use Rattle.std.proofs.Common.{sym, ap, subst, arith, ◌≡◌, ◌<◌, ◌≤◌, ◌+◌, ◌*◌, ℕ, List, Bool, Option, Some, set, refl, ◌∙◌}
 use Rattle.ultra_halves.specs.Switches.{has_request_room, holds_requests, keeps_records, replies_leaving, without_replies}
+use Rattle.ultra_units.specs.Links.{put_on}
+use Rattle.ultra_units.specs.Units.{IsSwitch}
+use Rattle.ultra_units.proofs.Put.{has_places, reply_ways_of}
 use Rattle.ultra_section.specs.BlockState.{BlockState}
 use Rattle.ultra_units.specs.Marks.{RepliesAreKnown, RequestsAreKnown}
 use Rattle.ultra_section.proofs.Known.{switch_replies_changed}
@@ -7,14 +10,17 @@ use Rattle.ultra_msg.specs.declared.ReplyMessage.{ReplyMessage}
 use Rattle.ultra_switch.specs.declared.Ports.{Ports}
 use Rattle.ultra_switch.specs.declared.Switch.{Switch}
 use Rattle.ultra_section.specs.RepliesSent.{replies_sent_by}
-use Rattle.ultra_units.specs.Ways.{reply_targets, reply_ways, replies_put}
-use Rattle.ultra_section.proofs.Entries.{beside_switch, by_number, put_back, switches_kept, switch_entry, switch_inside, switch_passed, switch_wired, switch_worked}
+use Rattle.ultra_units.specs.Ways.{IsReplyWay, reply_targets, reply_ways}
+use Rattle.ultra_section.proofs.Entries.{beside_switch, put_back, switches_kept, switch_entry, switch_inside, switch_passed, switch_wired, switch_worked}
 use Rattle.ultra_section.proofs.block.Block.send_replies_of_switch.Goals as goal
 
-sending_done : (closed : List ℕ) (b : BlockState) (n s k : ℕ) (w v : Switch) (ways : Ports Bool) (out : Ports (Option ReplyMessage)) (replies : List (Option ReplyMessage))
-    → ways ≡ reply_ways closed b.stages s k → out ≡ replies_leaving ways w → v ≡ without_replies w out → replies ≡ replies_put b.stages s k out b.replies
+sending_done : (closed : List ℕ) (b : BlockState) (n s k : ℕ) (w v : Switch) (ways : Ports Bool) (replies : List (Option ReplyMessage)) → IsSwitch b.stages n s k → 1 ≤ b.stages → b.stages ≤ 6
+    → ways ≡ reply_ways closed b.stages s k → v ≡ without_replies w (replies_leaving ways w)
+    → replies ≡ put_on (put_on b.replies (2 * n) (replies_leaving ways w).zero) (2 * n + 1) (replies_leaving ways w).one
     → record b { switches = set b.switches n (Some v); replies = replies } ≡ replies_sent_by closed n s k b w
-sending_done closed b n s k w v ways out replies are sent left put = rw (left, put, sent, are) refl
+sending_done closed b n s k w v ways replies own low high are left put =
+    let places = has_places b.stages n s k low high own in
+    rw (left, put, places.first, places.second, are) refl
 
 pub invariant_of-self : goal.invariant_of-self
 invariant_of-self c = switches_kept c.self.invariant _ (put_back c.self.inside.switches.items c.args.number c.index_mut.result.now c.index_mut.ensures.value)
@@ -35,15 +41,20 @@ find_reply_ways-ways-requires c = record {
   one = c.reply_targets-targets.ensures.one;
 }
 
-pub leave_switch-requires : goal.leave_switch-requires
-leave_switch-requires c = record {
-  switch = (switch_inside c.self.view_is c.args.number c.args.stage c.args.index c.requires.is).within;
-  targets = c.reply_targets-targets.ensures.value ∙ by_number reply_targets c.self.inside.wiring c.self.inside.net c.args.number c.self.invariant.network;
-  small = c.requires.small;
-  zero = c.reply_targets-targets.ensures.zero;
-  one = c.reply_targets-targets.ensures.one;
-  known = c.self.invariant.replies;
-}
+pub send_from_switch-requires : goal.send_from_switch-requires
+send_from_switch-requires c =
+    let inside = c.self.inside in
+    let is = switch_inside c.self.view_is c.args.number c.args.stage c.args.index c.requires.is in
+    let targets = beside_switch c.self.view_is reply_targets c.args.number c.args.stage c.args.index inside.wiring c.reply_targets-targets.result c.requires.is c.self.invariant.network c.reply_targets-targets.ensures.value in
+    let lead = reply_ways_of inside.net c.args.number c.args.stage c.args.index (omega arith) (omega arith) is in
+    record {
+      zero = subst (IsReplyWay inside.net (2 * c.args.number)) (sym (ap (λ (p : Ports ℕ). p.zero) targets)) lead.0;
+      one = subst (IsReplyWay inside.net (2 * c.args.number + 1)) (sym (ap (λ (p : Ports ℕ). p.one) targets)) lead.1;
+      zero_small = c.reply_targets-targets.ensures.zero;
+      one_small = c.reply_targets-targets.ensures.one;
+      link = omega (arith, c.requires.small);
+      known = c.self.invariant.replies;
+    }
 
 pub note_replies-requires : goal.note_replies-requires
 note_replies-requires c = c.requires.small
@@ -54,9 +65,7 @@ returns c =
     let is = switch_inside c.self.view_is c.args.number c.args.stage c.args.index c.requires.is in
     let targets = beside_switch c.self.view_is reply_targets c.args.number c.args.stage c.args.index inside.wiring c.reply_targets-targets.result c.requires.is c.self.invariant.network c.reply_targets-targets.ensures.value in
     let ways = c.find_reply_ways-ways.ensures inside.net c.args.index targets in
-    let out = c.send_replies-out.result in
-    let put : c.leave_switch.new.links.table.items ≡ replies_put inside.net c.args.stage c.args.index out inside.replies.table.items = rw (is.stage, is.index) c.leave_switch.ensures.table in
-    sending_done c.args.closed.now _ c.args.number c.args.stage c.args.index c.in-Some.switch c.send_replies-out.new.switch _ out _ ways c.send_replies-out.ensures.sent c.send_replies-out.ensures.left put
+    sending_done c.args.closed.now _ c.args.number c.args.stage c.args.index c.in-Some.switch c.send_from_switch.new.switch _ _ is (omega arith) (omega arith) ways c.send_from_switch.ensures.switch c.send_from_switch.ensures.table
     ∙ switch_worked c.self.view_is (replies_sent_by c.args.closed.now c.args.number c.args.stage c.args.index) c.args.number c.args.stage c.args.index c.index_mut.result.now c.in-Some.switch c.requires.is c.self.invariant.units.switch_entries c.index_mut.ensures.value c.in-Some.is
 
 pub invariant_of-self-2 : goal.invariant_of-self-2
@@ -64,15 +73,15 @@ invariant_of-self-2 c =
     let inside = c.self.inside in
     let known = c.self.invariant in
     let is = switch_inside c.self.view_is c.args.number c.args.stage c.args.index c.requires.is in
-    let left = c.send_replies-out.ensures.left in
+    let left = c.send_from_switch.ensures.switch in
     record {
       units =
           switch_replies_changed inside.net inside.sets c.note_replies.new.self inside.switches.items inside.modules.items inside.elements.items known.units
-          c.args.number c.index_mut.result.now c.in-Some.switch c.send_replies-out.new.switch is.within c.index_mut.ensures.value c.in-Some.is
+          c.args.number c.index_mut.result.now c.in-Some.switch c.send_from_switch.new.switch is.within c.index_mut.ensures.value c.in-Some.is
           c.note_replies.ensures.others c.note_replies.ensures.there (ap holds_requests left) (ap has_request_room left) (ap keeps_records left);
       rests = known.rests;
       requests = subst (λ h. RequestsAreKnown inside.net h inside.requests) (sym c.note_replies.ensures.here) known.requests;
-      replies = subst (λ h. RepliesAreKnown inside.net h c.leave_switch.new.links) (sym c.note_replies.ensures.here) c.leave_switch.ensures.known;
+      replies = subst (λ h. RepliesAreKnown inside.net h c.send_from_switch.new.links) (sym c.note_replies.ensures.here) c.send_from_switch.ensures.known;
       events_fit = known.events_fit;
       stops_fit = known.stops_fit;
       network = known.network;

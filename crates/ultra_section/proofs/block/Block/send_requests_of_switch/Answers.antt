@@ -1,5 +1,8 @@
-use Rattle.std.proofs.Common.{sym, ap, subst, ◌≡◌, ◌<◌, ℕ, List, Bool, Option, Some, set, refl, ◌∙◌}
-use Rattle.ultra_halves.specs.Switches.{has_reply_room, holds_replies, keeps_records, request_heads, requests_leaving, without_requests}
+use Rattle.std.proofs.Common.{sym, ap, subst, arith, ◌≡◌, ◌<◌, ◌≤◌, ◌+◌, ◌*◌, ℕ, List, Bool, Option, Some, set, refl, ◌∙◌}
+use Rattle.ultra_halves.specs.Switches.{has_reply_room, holds_replies, keeps_records, first_request, request_heads, requests_leaving, without_requests}
+use Rattle.ultra_units.specs.Links.{put_on}
+use Rattle.ultra_units.specs.Units.{IsSwitch}
+use Rattle.ultra_units.proofs.Put.{has_places, request_ways_of}
 use Rattle.ultra_section.specs.BlockState.{BlockState}
 use Rattle.ultra_units.specs.Marks.{RepliesAreKnown, RequestsAreKnown}
 use Rattle.ultra_section.proofs.Known.{switch_requests_changed}
@@ -7,14 +10,17 @@ use Rattle.ultra_msg.specs.declared.Request.{Request}
 use Rattle.ultra_switch.specs.declared.Ports.{Ports}
 use Rattle.ultra_switch.specs.declared.Switch.{Switch}
 use Rattle.ultra_section.specs.RequestsSent.{requests_sent_by}
-use Rattle.ultra_units.specs.Ways.{request_targets, request_ways, requests_put}
-use Rattle.ultra_section.proofs.Entries.{beside_switch, by_number, put_back, switches_kept, switch_entry, switch_inside, switch_passed, switch_wired, switch_worked}
+use Rattle.ultra_units.specs.Ways.{IsRequestWay, request_targets, request_ways}
+use Rattle.ultra_section.proofs.Entries.{beside_switch, put_back, switches_kept, switch_entry, switch_inside, switch_passed, switch_wired, switch_worked}
 use Rattle.ultra_section.proofs.block.Block.send_requests_of_switch.Goals as goal
 
-sending_done : (closed : Ports (List ℕ)) (b : BlockState) (n s k : ℕ) (w v : Switch) (ways : Ports Bool) (out : Ports (Option Request)) (requests : List (Option Request))
-    → ways ≡ request_ways closed b.stages s k (request_heads w) → out ≡ requests_leaving ways w → v ≡ without_requests w out → requests ≡ requests_put b.stages s k out b.requests
+sending_done : (closed : Ports (List ℕ)) (b : BlockState) (n s k : ℕ) (w v : Switch) (ways : Ports Bool) (requests : List (Option Request)) → IsSwitch b.stages n s k → 1 ≤ b.stages → b.stages ≤ 6
+    → ways ≡ request_ways closed b.stages s k (request_heads w) → v ≡ without_requests w (requests_leaving ways w)
+    → requests ≡ put_on (put_on b.requests (2 * n) (requests_leaving ways w).zero) (2 * n + 1) (requests_leaving ways w).one
     → record b { switches = set b.switches n (Some v); requests = requests } ≡ requests_sent_by closed n s k b w
-sending_done closed b n s k w v ways out requests are sent left put = rw (left, put, sent, are) refl
+sending_done closed b n s k w v ways requests own low high are left put =
+    let places = has_places b.stages n s k low high own in
+    rw (left, put, places.first, places.second, are) refl
 
 pub invariant_of-self : goal.invariant_of-self
 invariant_of-self c = switches_kept c.self.invariant _ (put_back c.self.inside.switches.items c.args.number c.index_mut.result.now c.index_mut.ensures.value)
@@ -36,15 +42,20 @@ find_request_ways-ways-requires c = record {
   one = c.request_targets-targets.ensures.one;
 }
 
-pub leave_switch-requires : goal.leave_switch-requires
-leave_switch-requires c = record {
-  switch = (switch_inside c.self.view_is c.args.number c.args.stage c.args.index c.requires.is).within;
-  targets = c.request_targets-targets.ensures.value ∙ by_number request_targets c.self.inside.wiring c.self.inside.net c.args.number c.self.invariant.network;
-  small = c.requires.small;
-  zero = c.request_targets-targets.ensures.zero;
-  one = c.request_targets-targets.ensures.one;
-  known = c.self.invariant.requests;
-}
+pub send_from_switch-requires : goal.send_from_switch-requires
+send_from_switch-requires c =
+    let inside = c.self.inside in
+    let is = switch_inside c.self.view_is c.args.number c.args.stage c.args.index c.requires.is in
+    let targets = beside_switch c.self.view_is request_targets c.args.number c.args.stage c.args.index inside.wiring c.request_targets-targets.result c.requires.is c.self.invariant.network c.request_targets-targets.ensures.value in
+    let lead = request_ways_of inside.net c.args.number c.args.stage c.args.index (omega arith) (omega arith) is in
+    record {
+      zero = subst (IsRequestWay inside.net (2 * c.args.number)) (sym (ap (λ (p : Ports ℕ). p.zero) targets)) lead.0;
+      one = subst (IsRequestWay inside.net (2 * c.args.number + 1)) (sym (ap (λ (p : Ports ℕ). p.one) targets)) lead.1;
+      zero_small = c.request_targets-targets.ensures.zero;
+      one_small = c.request_targets-targets.ensures.one;
+      link = omega (arith, c.requires.small);
+      known = c.self.invariant.requests;
+    }
 
 pub note_requests-requires : goal.note_requests-requires
 note_requests-requires c = c.requires.small
@@ -55,9 +66,7 @@ returns c =
     let is = switch_inside c.self.view_is c.args.number c.args.stage c.args.index c.requires.is in
     let targets = beside_switch c.self.view_is request_targets c.args.number c.args.stage c.args.index inside.wiring c.request_targets-targets.result c.requires.is c.self.invariant.network c.request_targets-targets.ensures.value in
     let ways = c.find_request_ways-ways.ensures c.args.index targets ∙ ap (request_ways c.args.closed.now inside.net c.args.stage c.args.index) c.request_heads-heads.ensures in
-    let out = c.send_requests-out.result in
-    let put : c.leave_switch.new.links.table.items ≡ requests_put inside.net c.args.stage c.args.index out inside.requests.table.items = rw (is.stage, is.index) c.leave_switch.ensures.table in
-    sending_done c.args.closed.now _ c.args.number c.args.stage c.args.index c.in-Some.switch c.send_requests-out.new.switch _ out _ ways c.send_requests-out.ensures.sent c.send_requests-out.ensures.left put
+    sending_done c.args.closed.now _ c.args.number c.args.stage c.args.index c.in-Some.switch c.send_from_switch.new.switch _ _ is (omega arith) (omega arith) ways c.send_from_switch.ensures.switch c.send_from_switch.ensures.table
     ∙ switch_worked c.self.view_is (requests_sent_by c.args.closed.now c.args.number c.args.stage c.args.index) c.args.number c.args.stage c.args.index c.index_mut.result.now c.in-Some.switch c.requires.is c.self.invariant.units.switch_entries c.index_mut.ensures.value c.in-Some.is
 
 pub invariant_of-self-2 : goal.invariant_of-self-2
@@ -65,15 +74,15 @@ invariant_of-self-2 c =
     let inside = c.self.inside in
     let known = c.self.invariant in
     let is = switch_inside c.self.view_is c.args.number c.args.stage c.args.index c.requires.is in
-    let left = c.send_requests-out.ensures.left in
+    let left = c.send_from_switch.ensures.switch in
     record {
       units =
           switch_requests_changed inside.net inside.sets c.note_requests.new.self inside.switches.items inside.modules.items inside.elements.items known.units
-          c.args.number c.index_mut.result.now c.in-Some.switch c.send_requests-out.new.switch is.within c.index_mut.ensures.value c.in-Some.is
+          c.args.number c.index_mut.result.now c.in-Some.switch c.send_from_switch.new.switch is.within c.index_mut.ensures.value c.in-Some.is
           c.note_requests.ensures.others c.note_requests.ensures.there (ap holds_replies left) (ap has_reply_room left) (ap keeps_records left);
       rests = known.rests;
       replies = subst (λ h. RepliesAreKnown inside.net h inside.replies) (sym c.note_requests.ensures.here) known.replies;
-      requests = subst (λ h. RequestsAreKnown inside.net h c.leave_switch.new.links) (sym c.note_requests.ensures.here) c.leave_switch.ensures.known;
+      requests = subst (λ h. RequestsAreKnown inside.net h c.send_from_switch.new.links) (sym c.note_requests.ensures.here) c.send_from_switch.ensures.known;
       events_fit = known.events_fit;
       stops_fit = known.stops_fit;
       network = known.network;

@@ -11,10 +11,10 @@ use Rattle.ultra_switch.specs.declared.Switch.{Switch}
 use Rattle.ultra_section.proofs.Entries.{beside_switch, by_number, put_back, switch_entry, switch_inside, switch_within, switch_wired, switches_kept, switch_passed, switch_worked}
 use Rattle.ultra_section.proofs.block.Block.take_replies_of_switch.Goals as goal
 
-taking_done : (b : BlockState) (n s k : ℕ) (w v : Switch) (inlets : Ports ℕ) (came : Ports (Option ReplyMessage)) (replies : List (Option ReplyMessage))
-    → inlets ≡ reply_links b.stages s k → came ≡ on_both b.replies inlets → v ≡ after_replies b.stages s w came → replies ≡ without_both b.replies inlets
+taking_done : (b : BlockState) (n s k : ℕ) (w v : Switch) (inlets : Ports ℕ) (replies : List (Option ReplyMessage))
+    → inlets ≡ reply_links b.stages s k → v ≡ after_replies b.stages s w (on_both b.replies inlets) → replies ≡ without_both b.replies inlets
     → record b { switches = set b.switches n (Some v); replies = replies } ≡ replies_taken_by n s k b w
-taking_done b n s k w v inlets came replies are come taken left = rw (taken, left, come, are) refl
+taking_done b n s k w v inlets replies are taken left = rw (taken, left, are) refl
 
 pub invariant_of-self : goal.invariant_of-self
 invariant_of-self c = switches_kept c.self.invariant _ (put_back c.self.inside.switches.items c.args.number c.index_mut.result.now c.index_mut.ensures.value)
@@ -29,24 +29,19 @@ reply_links-inlets-requires c = switch_wired c.self.view_is c.args.number c.args
 pub index_mut-requires : goal.index_mut-requires
 index_mut-requires c = switch_entry c.self.view_is c.args.number c.args.stage c.args.index c.self.inside.switches.len c.requires.is c.self.inside.switches.ok.0 c.self.invariant.units.switch_entries
 
-pub take_at_switch-came-requires : goal.take_at_switch-came-requires
-take_at_switch-came-requires c = record {
-  switch = (switch_inside c.self.view_is c.args.number c.args.stage c.args.index c.requires.is).within;
-  inlets = c.reply_links-inlets.ensures ∙ by_number reply_links c.self.inside.wiring c.self.inside.net c.args.number c.self.invariant.network;
-  small = c.requires.small;
-  all = c.self.invariant.replies.all;
-}
-
-pub take_replies-requires : goal.take_replies-requires
-take_replies-requires c =
+pub take_into_switch-requires : goal.take_into_switch-requires
+take_into_switch-requires c =
     let inside = c.self.inside in
     let is = switch_inside c.self.view_is c.args.number c.args.stage c.args.index c.requires.is in
-    let can = subst (λ (b : BlockState). SwitchCanTakeReplies c.args.number c.args.stage c.args.index b) (sym c.self.view_is) c.requires.room in
     let inlets = beside_switch c.self.view_is reply_links c.args.number c.args.stage c.args.index inside.wiring c.reply_links-inlets.result c.requires.is c.self.invariant.network c.reply_links-inlets.ensures in
+    let can = subst (λ (b : BlockState). SwitchCanTakeReplies c.args.number c.args.stage c.args.index b) (sym c.self.view_is) c.requires.room in
     record {
+      switch = is.within;
+      small = c.requires.small;
       stage = is.stage_small;
-      room = subst (CanTakeReplies c.in-Some.switch)
-          (sym (c.take_at_switch-came.ensures.came ∙ ap (on_both inside.replies.table.items) inlets))
+      inlets = c.reply_links-inlets.ensures ∙ by_number reply_links inside.wiring inside.net c.args.number c.self.invariant.network;
+      all = c.self.invariant.replies.all;
+      room = subst (λ p. CanTakeReplies c.in-Some.switch (on_both inside.replies.table.items p)) (sym inlets)
           (can c.in-Some.switch (stands inside.switches.items c.args.number c.index_mut.result.now c.in-Some.switch (switch_within c.self.view_is c.args.number c.args.stage c.args.index c.requires.is c.self.invariant.units.switch_entries)
           c.index_mut.ensures.value c.in-Some.is));
     }
@@ -58,14 +53,15 @@ note_replies_taken-requires c = record {
       let inside = c.self.inside in
       let is = switch_inside c.self.view_is c.args.number c.args.stage c.args.index c.requires.is in
       let was = switch_was inside.net inside.sets inside.sets inside.switches.items inside.modules.items inside.elements.items c.self.invariant.units c.args.number c.index_mut.result.now c.in-Some.switch is.within c.index_mut.ensures.value c.in-Some.is in
-      ap keeps_records c.take_replies.ensures ∙ keeps_none inside.net c.args.stage c.in-Some.switch c.take_at_switch-came.result (sym was.keeps_records ∙ none);
+      ap keeps_records c.take_into_switch.ensures.switch
+      ∙ keeps_none inside.net c.args.stage c.in-Some.switch (on_both inside.replies.table.items c.reply_links-inlets.result) (sym was.keeps_records ∙ none);
 }
 
 pub returns : goal.returns
 returns c =
     let inside = c.self.inside in
     let inlets = beside_switch c.self.view_is reply_links c.args.number c.args.stage c.args.index inside.wiring c.reply_links-inlets.result c.requires.is c.self.invariant.network c.reply_links-inlets.ensures in
-    taking_done _ c.args.number c.args.stage c.args.index c.in-Some.switch c.take_replies.new.switch c.reply_links-inlets.result c.take_at_switch-came.result _ inlets c.take_at_switch-came.ensures.came c.take_replies.ensures c.take_at_switch-came.ensures.table
+    taking_done _ c.args.number c.args.stage c.args.index c.in-Some.switch c.take_into_switch.new.switch c.reply_links-inlets.result _ inlets c.take_into_switch.ensures.switch c.take_into_switch.ensures.table
     ∙ switch_worked c.self.view_is (replies_taken_by c.args.number c.args.stage c.args.index) c.args.number c.args.stage c.args.index c.index_mut.result.now c.in-Some.switch c.requires.is c.self.invariant.units.switch_entries c.index_mut.ensures.value c.in-Some.is
 
 pub invariant_of-self-2 : goal.invariant_of-self-2
@@ -73,13 +69,14 @@ invariant_of-self-2 c =
     let inside = c.self.inside in
     let known = c.self.invariant in
     let is = switch_inside c.self.view_is c.args.number c.args.stage c.args.index c.requires.is in
+    let taken = c.take_into_switch.ensures.switch in
     record {
       units =
           switch_replies_taken inside.net inside.sets c.note_replies_taken.new.self inside.switches.items inside.modules.items inside.elements.items known.units
-          c.args.number c.index_mut.result.now c.in-Some.switch c.take_replies.new.switch is.within c.index_mut.ensures.value c.in-Some.is
-          c.note_replies_taken.ensures.others c.note_replies_taken.ensures.there (ap holds_requests c.take_replies.ensures) (ap has_request_room c.take_replies.ensures);
+          c.args.number c.index_mut.result.now c.in-Some.switch c.take_into_switch.new.switch is.within c.index_mut.ensures.value c.in-Some.is
+          c.note_replies_taken.ensures.others c.note_replies_taken.ensures.there (ap holds_requests taken) (ap has_request_room taken);
       rests = known.rests;
-      replies = subst (λ h. RepliesAreKnown inside.net h c.take_at_switch-came.new.links) (sym c.note_replies_taken.ensures.here) (c.take_at_switch-came.ensures.known inside.sets.here known.replies);
+      replies = subst (λ h. RepliesAreKnown inside.net h c.take_into_switch.new.links) (sym c.note_replies_taken.ensures.here) (c.take_into_switch.ensures.known inside.sets.here known.replies);
       requests = subst (λ h. RequestsAreKnown inside.net h inside.requests) (sym c.note_replies_taken.ensures.here) known.requests;
       events_fit = known.events_fit;
       stops_fit = known.stops_fit;
