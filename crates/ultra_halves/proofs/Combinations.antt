@@ -147,23 +147,23 @@ module _ {X : Type 0} where
 
 -- ---- what two requests that came one after the other have combined
 module _ (d s k : ℕ) (w : Switch) (first second : Option Request) (lanes : Ports SizedLane) (zero : lanes.zero ≡ lane_with w.to_mm.zero (coming_to d s 0 first)) (one : lanes.one ≡ lane_with w.to_mm.one (coming_to d s 1 first)) where
-  abbrev pub a : Option Event
-  a = combination_by d s k w.to_mm first
+  abbrev pub first_combination : Option Event
+  first_combination = combination_by d s k w.to_mm first
 
-  abbrev pub b : Option Event
-  b = combination_by d s k lanes second
+  abbrev pub second_combination : Option Event
+  second_combination = combination_by d s k lanes second
 
-  all : present (in_order (is_turned d s first second) a b) ≡ combinations_of_both d s k w first second
-  all = rw (zero, one) (combined s k w.to_mm d first second)
+  all_in_order : present (in_order (is_turned d s first second) first_combination second_combination) ≡ combinations_of_both d s k w first second
+  all_in_order = rw (zero, one) (combined s k w.to_mm d first second)
 
-  pub combined_alone : (old items : List Event) → items ≡ (old ++ present (a ∷ [])) ++ present (b ∷ []) → is_some a && is_some b ≡ false → items ≡ old ++ combinations_of_both d s k w first second
-  combined_alone old items are e = left old items (is_turned d s first second) a b e are ∙ ap (λ es. old ++ es) all
+  pub combined_alone : (old items : List Event) → items ≡ (old ++ present (first_combination ∷ [])) ++ present (second_combination ∷ []) → is_some first_combination && is_some second_combination ≡ false → items ≡ old ++ combinations_of_both d s k w first second
+  combined_alone old items are e = left old items (is_turned d s first second) first_combination second_combination e are ∙ ap (λ es. old ++ es) all_in_order
 
-  pub combined_both : (old items now : List Event) → items ≡ (old ++ present (a ∷ [])) ++ present (b ∷ []) → is_some a && is_some b ≡ true
+  pub combined_both : (old items now : List Event) → items ≡ (old ++ present (first_combination ∷ [])) ++ present (second_combination ∷ []) → is_some first_combination && is_some second_combination ≡ true
       → ((front : List Event) (x y : Event) → items ≡ front ++ x ∷ y ∷ [] → now ≡ front ++ in_order (is_turned d s first second) x y) → now ≡ old ++ combinations_of_both d s k w first second
-  combined_both old items now are e sorted = put old items (is_turned d s first second) now a b e are sorted ∙ ap (λ es. old ++ es) all
+  combined_both old items now are e sorted = put old items (is_turned d s first second) now first_combination second_combination e are sorted ∙ ap (λ es. old ++ es) all_in_order
 
-  pub none_combined : (is_some a || is_some b ≡ false) ↔ (combinations_of_both d s k w first second ≡ [])
+  pub none_combined : (is_some first_combination || is_some second_combination ≡ false) ↔ (combinations_of_both d s k w first second ≡ [])
   none_combined =
-      let e = none_of (is_turned d s first second) a b in
-      (λ h. sym all ∙ e.0 h, λ h. e.1 (all ∙ h))
+      let e = none_of (is_turned d s first second) first_combination second_combination in
+      (λ h. sym all_in_order ∙ e.0 h, λ h. e.1 (all_in_order ∙ h))

@@ -97,7 +97,7 @@ fn arrive(
 
 /// What came to a port of the switch goes to the queue by which it leaves the stage. `index` is the number of the switch in its stage. Its combination is appended to `events`. Answers whether there is one.
 #[inline(always)]
-pub(crate) fn take_request(
+pub fn take_request(
     to_mm: &mut Ports<ToMm>,
     net: Net,
     stage: u32,
@@ -132,7 +132,7 @@ pub(crate) fn take_request(
 
 /// The last two events change places, if `is_turned`.
 #[inline(never)]
-pub(crate) fn put_in_order(events: &mut Vec<Event>, is_turned: bool)
+pub fn put_in_order(events: &mut Vec<Event>, is_turned: bool)
     requires { 2 ≤ length events.old.items }
     ensures entries { (front : List Event) (a b : Event) → events.old.items ≡ front ++ a ∷ b ∷ [] → events.new.items ≡ front ++ in_order is_turned a b }
     ensures places { vec_capacity events.old ≤ vec_capacity events.new }
@@ -148,12 +148,7 @@ pub(crate) fn put_in_order(events: &mut Vec<Event>, is_turned: bool)
 
 /// Whether of two requests the second leaves the stage by port 0, and the first by port 1.
 #[inline(always)]
-pub(crate) fn is_turned(
-    net: Net,
-    stage: u32,
-    first: Option<Request>,
-    second: Option<Request>,
-) -> bool
+pub fn is_turned(net: Net, stage: u32, first: Option<Request>, second: Option<Request>) -> bool
     requires { stage < net }
     ensures { result ≡ is_turned net stage first second }
 {

@@ -1,12 +1,9 @@
-//! What the halves of a cycle do to a switch.
+//! What is true of a switch.
 
-ghost use Rattle.std.specs.Prelude.{◌≡◌, ◌↔◌, ◌+◌, ◌-◌, ◌^◌, ◌<◌, ◌≤◌, ◌++◌, [], false, length, vec_capacity};
-ghost use Rattle.std.specs.Option.{ForSome};
-ghost use Rattle.ultra_halves.specs.Switches.{HasWay, after_both, combinations_of_both, has_reply_room, has_request_room, holds_replies, holds_requests, keeps_records, quiet_switch, request_heads};
+ghost use Rattle.std.specs.Prelude.{◌≡◌};
+ghost use Rattle.ultra_halves.specs.Switches.{has_reply_room, has_request_room, holds_replies, holds_requests, keeps_records, quiet_switch, request_heads};
 
-use crate::requests::{is_turned, put_in_order, take_request};
-use ultra_msg::{Event, Request};
-use ultra_route::Net;
+use ultra_msg::Request;
 use ultra_switch::{Ports, Switch};
 
 /// The first request of each queue toward memory, by the memory-side port, or `None` where the queue is empty.
@@ -19,39 +16,6 @@ pub fn request_heads(switch: &Switch) -> Ports<Option<Request>>
         zero: zero.head(),
         one: one.head(),
     }
-}
-
-/// The requests that came to the two ports, one after the other, go to the queues by which they leave this stage. `index` is the number of the switch in its stage. Where a request came, the queue that it goes to has at least 2 free places.
-///
-/// Their combinations are appended to `events`: by position, and at one position in the order of the arrivals. Answers whether there are any.
-#[inline(always)]
-pub fn take_requests(
-    switch: &mut Switch,
-    net: Net,
-    stage: u32,
-    index: u32,
-    first: Option<Request>,
-    second: Option<Request>,
-    events: &mut Vec<Event>,
-) -> bool
-    requires stage { stage < net }
-    requires index { index < 2 ^ (net - 1) }
-    requires first { ForSome first (HasWay net stage switch.old) }
-    requires second { ForSome second (HasWay net stage switch.old) }
-    requires event_room { length events.old.items + 2 ≤ vec_capacity events.old }
-    ensures queues { switch.new ≡ after_both net stage switch.old first second }
-    ensures events { events.new.items ≡ events.old.items ++ combinations_of_both net stage index switch.old first second }
-    ensures places { vec_capacity events.old ≤ vec_capacity events.new }
-    ensures few { length events.new.items ≤ length events.old.items + 2 }
-    ensures none { (result ≡ false) ↔ (combinations_of_both net stage index switch.old first second ≡ []) }
-{
-    let to_mm = &mut switch.to_mm;
-    let first_combines = take_request(to_mm, net, stage, index, first, events);
-    let second_combines = take_request(to_mm, net, stage, index, second, events);
-    if first_combines & second_combines {
-        put_in_order(events, is_turned(net, stage, first, second));
-    }
-    first_combines | second_combines
 }
 
 /// Whether a reply stands in one of the queues toward the processing elements.

@@ -1,15 +1,61 @@
 //! The half of a cycle in which requests come to switches and modules.
 
-ghost use Rattle.std.specs.Prelude.{◌≡◌, ℕ, ◌+◌, ◌<◌, ◌≤◌, length};
+ghost use Rattle.std.specs.Prelude.{◌≡◌, ℕ, ◌+◌, ◌<◌, ◌≤◌, ◌↔◌, ◌++◌, [], Bool, false, List, length, vec_capacity};
+ghost use Rattle.std.specs.Option.{ForSome};
+ghost use Rattle.ultra_halves.specs.Switches.{HasWay, after_both, combinations_of_both};
+ghost use Rattle.ultra_units.specs.Marks.{HasAllLinks, RequestsAreKnown, on_link, ports_in_turn, request_links, without_both};
 ghost use Rattle.ultra_units.specs.Visits.{after_units};
 ghost use Rattle.ultra_section.specs.BlockState.{most_events};
 ghost use Rattle.ultra_section.specs.RequestsTaken.{CanTakeRequestsAt, ModuleCanTakeRequest, SwitchCanTakeRequests, module_takes_request, switch_takes_requests, takes_requests};
 ghost use Rattle.ultra_units.specs.Units.{IsModule, IsSwitch};
 
 use crate::block::Block;
-use ultra_halves::{modules, switches};
-use ultra_units::requests::{take_at_module, take_at_switch};
-use ultra_units::{Unit, UnitSet, Visit, visit_all};
+use ultra_halves::modules;
+use ultra_halves::requests::{is_turned, put_in_order, take_request};
+use ultra_msg::{Event, Request};
+use ultra_route::Net;
+use ultra_switch::Switch;
+use ultra_units::requests::take_at_module;
+use ultra_units::{Links, Unit, UnitSet, Visit, ports_in_turn, visit_all};
+
+/// What comes to a switch by two links, one after the other, goes into its queues, where it may combine. One request is done with before the other. `number` is the number of the unit. Combinations are appended to `events`: by position, and at one position in the order of the arrivals. Answers whether there are any.
+#[inline(always)]
+fn take_into_switch(
+    switch: &mut Switch,
+    links: &mut Links<Request>,
+    net: Net,
+    number: usize,
+    stage: u32,
+    index: u32,
+    in_turn: (usize, usize),
+    events: &mut Vec<Event>,
+) -> bool
+    requires is { IsSwitch net number stage index }
+    requires small { number < 320 }
+    requires turn { (zero_first : Bool) × (in_turn ≡ ports_in_turn zero_first (request_links net stage index)) }
+    requires all { HasAllLinks net links.old }
+    requires first { ForSome (on_link links.old.table.items in_turn.0) (HasWay net stage switch.old) }
+    requires second { ForSome (on_link links.old.table.items in_turn.1) (HasWay net stage switch.old) }
+    requires event_room { length events.old.items + 2 ≤ vec_capacity events.old }
+    ensures switch { switch.new ≡ after_both net stage switch.old (on_link links.old.table.items in_turn.0) (on_link links.old.table.items in_turn.1) }
+    ensures events { events.new.items ≡ events.old.items ++ combinations_of_both net stage index switch.old (on_link links.old.table.items in_turn.0) (on_link links.old.table.items in_turn.1) }
+    ensures places { vec_capacity events.old ≤ vec_capacity events.new }
+    ensures few { length events.new.items ≤ length events.old.items + 2 }
+    ensures none { (result ≡ false) ↔ (combinations_of_both net stage index switch.old (on_link links.old.table.items in_turn.0) (on_link links.old.table.items in_turn.1) ≡ []) }
+    ensures table { links.new.table.items ≡ without_both links.old.table.items (request_links net stage index) }
+    ensures known { (here : List ℕ) → RequestsAreKnown net here links.old → RequestsAreKnown net here links.new }
+{
+    let to_mm = &mut switch.to_mm;
+    let first = links.take(in_turn.0);
+    let first_combines = take_request(to_mm, net, stage, index, first, events);
+    let second = links.take(in_turn.1);
+    let second_combines = take_request(to_mm, net, stage, index, second, events);
+    links.came.remove(number);
+    if first_combines & second_combines {
+        put_in_order(events, is_turned(net, stage, first, second));
+    }
+    first_combines | second_combines
+}
 
 impl Block {
     /// What comes to a switch goes into its queues, where it may combine: port 0 goes first in even cycles, port 1 in odd ones.
@@ -22,15 +68,13 @@ impl Block {
         ensures few { length self.new.events ≤ length self.old.events + 2 }
     {
         let net = self.net;
-        let zero_first = self.done % 2 == 0;
-        let inlets = self.wiring.request_links(number);
+        let in_turn = ports_in_turn(self.wiring.request_links(number), self.done % 2 == 0);
         let Some(switch) = &mut self.switches[number] else {
             return;
         };
-        let (first, second) = take_at_switch(&mut self.requests, net, number, inlets, zero_first);
-        let events = &mut self.events;
-        let has_combined = switches::take_requests(
-            switch, net, stage, index, first, second, events,
+        let (links, events) = (&mut self.requests, &mut self.events);
+        let has_combined = take_into_switch(
+            switch, links, net, number, stage, index, in_turn, events,
         );
         self.sets.note_requests_taken(number, switch, has_combined);
     }

@@ -18,7 +18,7 @@ mod wiring;
 
 pub use entries::no_entries;
 pub use inlets::{reply_inlets, request_inlets};
-pub use links::Links;
+pub use links::{Links, ports_in_turn};
 pub use numbers::{element_number, module_number, switch_count, switch_number};
 pub use pass::{Visit, visit_all};
 pub use reply_ways::find_reply_ways;

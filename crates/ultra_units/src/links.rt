@@ -39,7 +39,7 @@ impl<M: Drop> Links<M> {
 
 /// The links at two ports, one after the other.
 #[inline(always)]
-fn ports_in_turn(links: Ports<usize>, zero_first: bool) -> (usize, usize)
+pub fn ports_in_turn(links: Ports<usize>, zero_first: bool) -> (usize, usize)
     ensures { result ≡ ports_in_turn zero_first links }
 {
     if zero_first {
@@ -97,27 +97,6 @@ impl<M: Copy> Links<M> {
         let message = self.table[link];
         self.table[link] = None;
         message
-    }
-
-    /// Takes what is on two links, one after the other.
-    #[inline(always)]
-    pub(crate) fn take_both(
-        &mut self,
-        links: Ports<usize>,
-        zero_first: bool,
-    ) -> (Option<M>, Option<M>)
-        requires zero { links.zero < length self.old.table.items }
-        requires one { links.one < length self.old.table.items }
-        requires apart { links.zero ≢ links.one }
-        ensures value { result ≡ ports_in_turn zero_first (on_both self.old.table.items links) }
-        ensures table { self.new.table.items ≡ without_both self.old.table.items links }
-        ensures came { self.new.came ≡ self.old.came }
-        ensures away { self.new.away ≡ self.old.away }
-    {
-        let (first, second) = ports_in_turn(links, zero_first);
-        let first = self.take(first);
-        let second = self.take(second);
-        (first, second)
     }
 
     /// Takes what is on the links that lead to a unit elsewhere.

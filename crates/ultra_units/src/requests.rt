@@ -1,18 +1,17 @@
 //! Requests on the links between units.
 
 ghost use Rattle.std.specs.Prelude.{◌≡◌, ℕ, ◌^◌, ◌<◌, List, None, slice_set};
-ghost use Rattle.ultra_units.specs.Numbers.{place_number as number_of_place, switch_count};
+ghost use Rattle.ultra_units.specs.Numbers.{place_number as number_of_place};
 ghost use Rattle.ultra_units.specs.Links.{put_on};
-ghost use Rattle.ultra_units.specs.Marks.{HasAllLinks, RequestsAreKnown, ports_in_turn, memory_link, on_both, on_link, request_links, without_both};
+ghost use Rattle.ultra_units.specs.Marks.{HasAllLinks, RequestsAreKnown, memory_link, on_link};
 ghost use Rattle.ultra_units.specs.Ways.{IsRequestWay};
-ghost use Rattle.ultra_units.specs.Units.{IsModule, index_of, stage_of};
+ghost use Rattle.ultra_units.specs.Units.{IsModule};
 
 use crate::links::Links;
 use crate::numbers::{place_number, switch_number};
 use crate::unit_set::UnitSet;
 use ultra_msg::Request;
 use ultra_route::Net;
-use ultra_switch::Ports;
 
 /// A request, if there is one, leaves a switch by a link, which leads to the unit `target`. `here` are the units that stand here.
 #[inline(always)]
@@ -51,28 +50,6 @@ pub fn leave_element(
     let link = place_number(net, net.stages(), pe);
     let target = switch_number(net, 0, net.shuffle(pe) / 2);
     links.put(here, link, target, request);
-}
-
-/// Takes what comes to a switch by its links `inlets`, at one PE-side port after the other. `number` is the number of the unit.
-#[inline(always)]
-pub fn take_at_switch(
-    links: &mut Links<Request>,
-    net: Net,
-    number: usize,
-    inlets: Ports<usize>,
-    zero_first: bool,
-) -> (Option<Request>, Option<Request>)
-    requires switch { number < switch_count net }
-    requires inlets { inlets ≡ request_links net (stage_of net number) (index_of net number) }
-    requires small { number < 320 }
-    requires all { HasAllLinks net links.old }
-    ensures came { result ≡ ports_in_turn zero_first (on_both links.old.table.items inlets) }
-    ensures table { links.new.table.items ≡ without_both links.old.table.items inlets }
-    ensures known { (here : List ℕ) → RequestsAreKnown net here links.old → RequestsAreKnown net here links.new }
-{
-    let came = links.take_both(inlets, zero_first);
-    links.came.remove(number);
-    came
 }
 
 /// Takes what comes to a memory module. `number` is the number of the unit.

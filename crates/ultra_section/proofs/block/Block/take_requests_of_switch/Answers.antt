@@ -4,7 +4,7 @@ use Rattle.std.specs.Option.{ForSome}
 use Rattle.ultra_halves.specs.Halves.{first_of, second_of}
 use Rattle.ultra_halves.specs.Switches.{CanTakeRequests, HasWay, has_reply_room, holds_replies, keeps_records, after_both, combinations_of_both}
 use Rattle.ultra_section.specs.BlockState.{BlockState, most_events}
-use Rattle.ultra_units.specs.Marks.{RepliesAreKnown, RequestsAreKnown, on_both, ports_in_turn, request_links, without_both}
+use Rattle.ultra_units.specs.Marks.{RepliesAreKnown, RequestsAreKnown, on_both, on_link, ports_in_turn, request_links, without_both}
 use Rattle.ultra_section.specs.RequestsTaken.{SwitchCanTakeRequests, requests_taken_by}
 use Rattle.ultra_section.proofs.Known.{switch_requests_taken, switch_was, stands}
 use Rattle.ultra_section.proofs.Records.{keeps_as_before}
@@ -12,7 +12,7 @@ use Rattle.ultra_msg.specs.declared.Event.{Event}
 use Rattle.ultra_msg.specs.declared.Request.{Request}
 use Rattle.ultra_switch.specs.declared.Ports.{Ports}
 use Rattle.ultra_switch.specs.declared.Switch.{Switch}
-use Rattle.ultra_section.proofs.Entries.{beside_switch, by_number, put_back, switch_entry, switch_inside, switch_within, switches_kept, switch_passed, switch_wired, switch_worked}
+use Rattle.ultra_section.proofs.Entries.{beside_switch, put_back, switch_entry, switch_inside, switch_within, switches_kept, switch_passed, switch_wired, switch_worked}
 use Rattle.ultra_section.proofs.block.Block.take_requests_of_switch.Goals as goal
 
 -- what came in its turn finds room too
@@ -29,30 +29,33 @@ second_in_turn : (came : Ports (Option Request)) (zero_first : Bool) → (ports_
 second_in_turn came true = refl
 second_in_turn came false = refl
 
--- `pair` came to switch k of stage s by its two links, in the order of cycle n
-module _ (d n s k : ℕ) (requests : List (Option Request)) (inlets : Ports ℕ) (pair : Option Request × Option Request) (are : inlets ≡ request_links d s k)
-    (come : pair ≡ ports_in_turn (n % 2 == 0) (on_both requests inlets)) where
+-- what is on the links of switch k of stage s is taken in the order of cycle n
+module _ (d n s k : ℕ) (requests : List (Option Request)) (in_turn : ℕ × ℕ) (turn : in_turn ≡ ports_in_turn (n % 2 == 0) (request_links d s k)) where
   abbrev came : Ports (Option Request)
   came = on_both requests (request_links d s k)
 
-  in_turn : pair ≡ ports_in_turn (n % 2 == 0) came
-  in_turn = come ∙ ap (λ p. ports_in_turn (n % 2 == 0) (on_both requests p)) are
+  links_turned : (zero_first : Bool) → (on_link requests (ports_in_turn zero_first (request_links d s k)).0, on_link requests (ports_in_turn zero_first (request_links d s k)).1) ≡ ports_in_turn zero_first came
+  links_turned true = refl
+  links_turned false = refl
 
-  first : pair.0 ≡ first_of n came
-  first = ap (λ p. p.0) in_turn ∙ first_in_turn came (n % 2 == 0)
+  taken : (on_link requests in_turn.0, on_link requests in_turn.1) ≡ ports_in_turn (n % 2 == 0) came
+  taken = ap (λ (links : ℕ × ℕ). (on_link requests links.0, on_link requests links.1)) turn ∙ links_turned (n % 2 == 0)
 
-  second : pair.1 ≡ second_of n came
-  second = ap (λ p. p.1) in_turn ∙ second_in_turn came (n % 2 == 0)
+  first : on_link requests in_turn.0 ≡ first_of n came
+  first = ap (λ p. p.0) taken ∙ first_in_turn came (n % 2 == 0)
 
-  both_fit : (w : Switch) → CanTakeRequests d s w came → ForSome pair.0 (HasWay d s w) × ForSome pair.1 (HasWay d s w)
-  both_fit w can = subst (λ p. ForSome p.0 (HasWay d s w) × ForSome p.1 (HasWay d s w)) (sym in_turn) (both_can d s w came (n % 2 == 0) can)
+  second : on_link requests in_turn.1 ≡ second_of n came
+  second = ap (λ p. p.1) taken ∙ second_in_turn came (n % 2 == 0)
 
-taking_done : (b : BlockState) (n s k : ℕ) (w v : Switch) (inlets : Ports ℕ) (pair : Option Request × Option Request) (requests : List (Option Request)) (events : List Event)
-    → inlets ≡ request_links b.stages s k → pair ≡ ports_in_turn (b.done % 2 == 0) (on_both b.requests inlets) → v ≡ after_both b.stages s w pair.0 pair.1
-    → requests ≡ without_both b.requests inlets → events ≡ b.events ++ combinations_of_both b.stages s k w pair.0 pair.1
+  both_fit : (w : Switch) → CanTakeRequests d s w came → ForSome (on_link requests in_turn.0) (HasWay d s w) × ForSome (on_link requests in_turn.1) (HasWay d s w)
+  both_fit w can = subst (λ p. ForSome p.0 (HasWay d s w) × ForSome p.1 (HasWay d s w)) (sym taken) (both_can d s w came (n % 2 == 0) can)
+
+taking_done : (b : BlockState) (n s k : ℕ) (w v : Switch) (in_turn : ℕ × ℕ) (requests : List (Option Request)) (events : List Event)
+    → in_turn ≡ ports_in_turn (b.done % 2 == 0) (request_links b.stages s k) → v ≡ after_both b.stages s w (on_link b.requests in_turn.0) (on_link b.requests in_turn.1)
+    → requests ≡ without_both b.requests (request_links b.stages s k) → events ≡ b.events ++ combinations_of_both b.stages s k w (on_link b.requests in_turn.0) (on_link b.requests in_turn.1)
     → record b { switches = set b.switches n (Some v); requests = requests; events = events } ≡ requests_taken_by n s k b w
-taking_done b n s k w v inlets pair requests events are come taken left more =
-    rw (taken, left, more, first b.stages b.done s k b.requests inlets pair are come, second b.stages b.done s k b.requests inlets pair are come, are) refl
+taking_done b n s k w v in_turn requests events turn taken left more =
+    rw (taken, left, more, first b.stages b.done s k b.requests in_turn turn, second b.stages b.done s k b.requests in_turn turn) refl
 
 pub invariant_of-self : goal.invariant_of-self
 invariant_of-self c = switches_kept c.self.invariant _ (put_back c.self.inside.switches.items c.args.number c.index_mut.result.now c.index_mut.ensures.value)
@@ -64,29 +67,24 @@ returns-in_default-clause-value c =
 pub index_mut-requires : goal.index_mut-requires
 index_mut-requires c = switch_entry c.self.view_is c.args.number c.args.stage c.args.index c.self.inside.switches.len c.requires.is c.self.inside.switches.ok.0 c.self.invariant.units.switch_entries
 
-pub request_links-inlets-requires : goal.request_links-inlets-requires
-request_links-inlets-requires c = switch_wired c.self.view_is c.args.number c.args.stage c.args.index c.self.inside.wiring c.requires.is c.self.invariant.network
+pub request_links-requires : goal.request_links-requires
+request_links-requires c = switch_wired c.self.view_is c.args.number c.args.stage c.args.index c.self.inside.wiring c.requires.is c.self.invariant.network
 
-pub take_at_switch-first-requires : goal.take_at_switch-first-requires
-take_at_switch-first-requires c = record {
-  switch = (switch_inside c.self.view_is c.args.number c.args.stage c.args.index c.requires.is).within;
-  inlets = c.request_links-inlets.ensures ∙ by_number request_links c.self.inside.wiring c.self.inside.net c.args.number c.self.invariant.network;
-  small = c.requires.small;
-  all = c.self.invariant.requests.all;
-}
-
-pub take_requests-has_combined-requires : goal.take_requests-has_combined-requires
-take_requests-has_combined-requires c =
+pub take_into_switch-has_combined-requires : goal.take_into_switch-has_combined-requires
+take_into_switch-has_combined-requires c =
     let inside = c.self.inside in
     let is = switch_inside c.self.view_is c.args.number c.args.stage c.args.index c.requires.is in
-    let inlets = beside_switch c.self.view_is request_links c.args.number c.args.stage c.args.index inside.wiring c.request_links-inlets.result c.requires.is c.self.invariant.network c.request_links-inlets.ensures in
+    let turn = c.ports_in_turn-in_turn.ensures
+    ∙ ap (ports_in_turn (inside.done % 2 == 0)) (beside_switch c.self.view_is request_links c.args.number c.args.stage c.args.index inside.wiring c.request_links.result c.requires.is c.self.invariant.network c.request_links.ensures) in
     let can = subst (λ (b : BlockState). SwitchCanTakeRequests c.args.number c.args.stage c.args.index b) (sym c.self.view_is) c.requires.can in
-    let both = both_fit inside.net inside.done c.args.stage c.args.index inside.requests.table.items c.request_links-inlets.result c.take_at_switch-first.result inlets c.take_at_switch-first.ensures.came c.in-Some.switch
+    let both = both_fit inside.net inside.done c.args.stage c.args.index inside.requests.table.items c.ports_in_turn-in_turn.result turn c.in-Some.switch
     (can c.in-Some.switch (stands inside.switches.items c.args.number c.index_mut.result.now c.in-Some.switch (switch_within c.self.view_is c.args.number c.args.stage c.args.index c.requires.is c.self.invariant.units.switch_entries)
     c.index_mut.ensures.value c.in-Some.is)) in
     record {
-      stage = is.stage_small;
-      index = is.index_small;
+      is = is;
+      small = c.requires.small;
+      turn = (inside.done % 2 == 0, turn);
+      all = c.self.invariant.requests.all;
       first = both.0;
       second = both.1;
       event_room =
@@ -101,16 +99,17 @@ note_requests_taken-requires c = record {
       let inside = c.self.inside in
       let is = switch_inside c.self.view_is c.args.number c.args.stage c.args.index c.requires.is in
       let was = switch_was inside.net inside.sets inside.sets inside.switches.items inside.modules.items inside.elements.items c.self.invariant.units c.args.number c.index_mut.result.now c.in-Some.switch is.within c.index_mut.ensures.value c.in-Some.is in
-      let nothing = c.take_requests-has_combined.ensures.none.0 none in
-      was.keeps_records ∙ sym (ap keeps_records c.take_requests-has_combined.ensures.queues ∙ keeps_as_before inside.net c.args.stage c.args.index c.in-Some.switch _ _ nothing);
+      let nothing = c.take_into_switch-has_combined.ensures.none.0 none in
+      was.keeps_records ∙ sym (ap keeps_records c.take_into_switch-has_combined.ensures.switch ∙ keeps_as_before inside.net c.args.stage c.args.index c.in-Some.switch _ _ nothing);
 }
 
 pub returns-clause-value : goal.returns-clause-value
 returns-clause-value c =
     let inside = c.self.inside in
-    let inlets = beside_switch c.self.view_is request_links c.args.number c.args.stage c.args.index inside.wiring c.request_links-inlets.result c.requires.is c.self.invariant.network c.request_links-inlets.ensures in
-    taking_done _ c.args.number c.args.stage c.args.index c.in-Some.switch c.take_requests-has_combined.new.switch c.request_links-inlets.result c.take_at_switch-first.result _ _ inlets c.take_at_switch-first.ensures.came
-    c.take_requests-has_combined.ensures.queues c.take_at_switch-first.ensures.table c.take_requests-has_combined.ensures.events
+    let turn = c.ports_in_turn-in_turn.ensures
+    ∙ ap (ports_in_turn (inside.done % 2 == 0)) (beside_switch c.self.view_is request_links c.args.number c.args.stage c.args.index inside.wiring c.request_links.result c.requires.is c.self.invariant.network c.request_links.ensures) in
+    taking_done _ c.args.number c.args.stage c.args.index c.in-Some.switch c.take_into_switch-has_combined.new.switch c.ports_in_turn-in_turn.result _ _ turn
+    c.take_into_switch-has_combined.ensures.switch c.take_into_switch-has_combined.ensures.table c.take_into_switch-has_combined.ensures.events
     ∙ switch_worked c.self.view_is (requests_taken_by c.args.number c.args.stage c.args.index) c.args.number c.args.stage c.args.index c.index_mut.result.now c.in-Some.switch c.requires.is c.self.invariant.units.switch_entries c.index_mut.ensures.value c.in-Some.is
 
 pub invariant_of-self-2 : goal.invariant_of-self-2
@@ -121,12 +120,12 @@ invariant_of-self-2 c =
     record {
       units =
           switch_requests_taken inside.net inside.sets c.note_requests_taken.new.self inside.switches.items inside.modules.items inside.elements.items known.units
-          c.args.number c.index_mut.result.now c.in-Some.switch c.take_requests-has_combined.new.switch is.within c.index_mut.ensures.value c.in-Some.is
-          c.note_requests_taken.ensures.others c.note_requests_taken.ensures.there (ap holds_replies c.take_requests-has_combined.ensures.queues) (ap has_reply_room c.take_requests-has_combined.ensures.queues);
+          c.args.number c.index_mut.result.now c.in-Some.switch c.take_into_switch-has_combined.new.switch is.within c.index_mut.ensures.value c.in-Some.is
+          c.note_requests_taken.ensures.others c.note_requests_taken.ensures.there (ap holds_replies c.take_into_switch-has_combined.ensures.switch) (ap has_reply_room c.take_into_switch-has_combined.ensures.switch);
       rests = known.rests;
       replies = subst (λ h. RepliesAreKnown inside.net h inside.replies) (sym c.note_requests_taken.ensures.here) known.replies;
-      requests = subst (λ h. RequestsAreKnown inside.net h c.take_at_switch-first.new.links) (sym c.note_requests_taken.ensures.here) (c.take_at_switch-first.ensures.known inside.sets.here known.requests);
-      events_fit = let more = c.take_requests-has_combined.ensures.places in omega (arith, known.events_fit);
+      requests = subst (λ h. RequestsAreKnown inside.net h c.take_into_switch-has_combined.new.links) (sym c.note_requests_taken.ensures.here) (c.take_into_switch-has_combined.ensures.known inside.sets.here known.requests);
+      events_fit = let more = c.take_into_switch-has_combined.ensures.places in omega (arith, known.events_fit);
       stops_fit = known.stops_fit;
       network = known.network;
     }
