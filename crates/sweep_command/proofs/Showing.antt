@@ -7,7 +7,7 @@ use Rattle.ultra_msg.specs.Bytes.{TakesPrefix, Writes}
 use Rattle.ultra_msg.proofs.Prefixes.{takes_all, takes_behind, takes_more, takes_none}
 use Rattle.ultra_io.specs.Account.{SinkState}
 use Rattle.sweep_command.specs.declared.meter.Meter.{Meter}
-use Rattle.sweep_command.specs.Shown.{GrowTo, progress_line, progress_text, Shows, IsShown, HasShown}
+use Rattle.sweep_command.specs.Shown.{GrowTo, progress_line, progress_text, Shows, IsProgressShown, HasShown}
 
 pub grow-more : (first : ℕ) (ks : List ℕ) (last k : ℕ) → GrowTo first ks last → last < k → GrowTo first (ks ++ k ∷ []) k
 grow-more first [] last k same more = (subst (λ n. n < k) same more, refl)
@@ -96,6 +96,6 @@ shown-first m s none sound = record {
 }
 
 -- what a meter has shown where progress is asked for; else nothing was
-pub is-shown : (progress : Bool) (n : ℕ) (m : Meter) (before after : SinkState) → m.count ≡ n → HasShown m before after → (progress ≡ false → after ≡ before) → IsShown progress n m.last before after
+pub is-shown : (progress : Bool) (n : ℕ) (m : Meter) (before after : SinkState) → m.count ≡ n → HasShown m before after → (progress ≡ false → after ≡ before) → IsProgressShown progress n m.last before after
 is-shown true n m before after count shown quiet = subst (λ k. Shows k m.last before after) count shown.shows
 is-shown false n m before after count shown quiet = quiet refl

@@ -3,13 +3,7 @@ use Rattle.std.specs.Prelude.{◌≡◌, ◌<◌, ◌≤◌, ℕ, Bool, true, fa
 use Rattle.std.specs.List.{flat_map}
 use Rattle.ultra_msg.specs.Bytes.{TakesPrefix}
 use Rattle.ultra_io.specs.Account.{SinkState}
-use Rattle.ultra_inputs.specs.Failure.{text_of}
-use Rattle.ultra_inputs.specs.declared.failure.Failure.{Failure}
 use Rattle.sweep_command.specs.declared.meter.Meter.{Meter}
-
--- a stream: what it has taken, and how often it has failed
-abbrev pub stream : List ℕ → ℕ → SinkState
-stream taken failures = record { taken = taken; failures = failures }
 
 -- numbers that grow from one above the first to the last of them, or none where the two are the same
 abbrev pub GrowTo : ℕ → List ℕ → ℕ → Type 0
@@ -34,17 +28,12 @@ pub record Shows (n last : ℕ) (before after : SinkState) : Type 0 where
   pub whole : after.failures ≡ before.failures → after.taken ≡ before.taken ++ progress_text n counts
 
 -- the same where progress is asked for, and else nothing
-abbrev pub IsShown : Bool → ℕ → ℕ → SinkState → SinkState → Type 0
-IsShown true n last before after = Shows n last before after
-IsShown false n last before after = after ≡ before
+abbrev pub IsProgressShown : Bool → ℕ → ℕ → SinkState → SinkState → Type 0
+IsProgressShown true n last before after = Shows n last before after
+IsProgressShown false n last before after = after ≡ before
 
 -- what a meter has shown so far
 pub record HasShown (m : Meter) (before after : SinkState) : Type 0 where
   pub shows : Shows m.count m.last before after
   pub failed : m.broken ≡ true → before.failures < after.failures
   pub sound : m.broken ≡ false → after.failures ≡ before.failures
-
--- a failure was reported on a stream
-pub record IsReported (f : Failure) (before after : SinkState) : Type 0 where
-  pub begun : TakesPrefix (text_of f) before.taken after.taken
-  pub whole : after.failures ≡ before.failures → after.taken ≡ before.taken ++ text_of f

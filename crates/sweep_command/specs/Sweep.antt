@@ -15,7 +15,8 @@ use Rattle.ultra_sweep.specs.Report.{report_text}
 use Rattle.sweep_command.specs.declared.fault.SweepFault.{SweepFault}
 use Rattle.sweep_command.specs.declared.fault.SweepFault.TheVariants as fault
 use Rattle.sweep_command.specs.Jobs.{ExplainsJobs, GaveJobs, GaveNoJobs}
-use Rattle.sweep_command.specs.Shown.{IsShown, IsReported}
+use Rattle.ultra_inputs.specs.Shown.{IsReported}
+use Rattle.sweep_command.specs.Shown.{IsProgressShown}
 
 -- for each job in order the line `job I`, and its trace
 abbrev pub report_of : List Job → List ℕ
@@ -36,14 +37,14 @@ pub record SweptJobs (paths : List Paths) (progress : Bool) (old new : Traffic) 
   pub jobs : List Job
   pub gave : GaveJobs paths old.files new.files jobs
   pub written : new.written ≡ old.written ++ report_of jobs
-  pub shown : IsShown progress (length jobs) (length jobs) before after
+  pub shown : IsProgressShown progress (length jobs) (length jobs) before after
 
 -- how that fails: all files are accepted before a byte is written, and all jobs are run. So a report is not begun, or
 -- the last count shown is that of all jobs and the report is cut
 pub data JobsFail (paths : List Paths) (progress : Bool) (old new : Traffic) (before after : SinkState) (f : Failure) : Type 0 where
   refused : GaveNoJobs paths old.files new.files f → new.written ≡ old.written → after ≡ before → JobsFail paths progress old new before after f
-  not_run : (jobs : List Job) (last : ℕ) → GaveJobs paths old.files new.files jobs → StopsJobs f → new.written ≡ old.written → IsShown progress (length jobs) last before after → JobsFail paths progress old new before after f
-  unwritten : (jobs : List Job) → GaveJobs paths old.files new.files jobs → f ≡ NotWritten → TakesPrefix (report_of jobs) old.written new.written → IsShown progress (length jobs) (length jobs) before after → JobsFail paths progress old new before after f
+  not_run : (jobs : List Job) (last : ℕ) → GaveJobs paths old.files new.files jobs → StopsJobs f → new.written ≡ old.written → IsProgressShown progress (length jobs) last before after → JobsFail paths progress old new before after f
+  unwritten : (jobs : List Job) → GaveJobs paths old.files new.files jobs → f ≡ NotWritten → TakesPrefix (report_of jobs) old.written new.written → IsProgressShown progress (length jobs) (length jobs) before after → JobsFail paths progress old new before after f
 
 -- a file of jobs was read, and its jobs were swept
 pub record Swept (path : List ℕ) (progress : Bool) (old new : Traffic) (before after : SinkState) : Type 0 where

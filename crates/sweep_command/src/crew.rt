@@ -3,7 +3,8 @@
 ghost use Rattle.std.specs.Prelude.{◌≡◌, ◌≤◌, ◌<◌, ℕ, ◌+◌, min, max, length, IfOk, IfErr, All};
 ghost use Rattle.ultra_io.specs.Account.{SinkState};
 ghost use Rattle.sweep_command.specs.Share.{IsFresh, IsShare, IsWhole, IsTask, IsCrew, HasRead};
-ghost use Rattle.sweep_command.specs.Shown.{stream, HasShown};
+ghost use Rattle.ultra_inputs.specs.Shown.{stream};
+ghost use Rattle.sweep_command.specs.Shown.{HasShown};
 ghost use Rattle.sweep_command.specs.declared.fault.SweepFault.TheVariants.{NoThread};
 
 use crate::fault::SweepFault;

@@ -6,7 +6,7 @@ ghost use Rattle.ultra_inputs.specs.declared.failure.Failure.{Failure};
 ghost use Rattle.ultra_inputs.specs.Failure.{status_of, read_failures, write_failures};
 ghost use Rattle.ultra_inputs.specs.Traffic.{traffic};
 ghost use Rattle.ultra_settings.specs.JobsText.{all_paths};
-ghost use Rattle.sweep_command.specs.Shown.{stream};
+ghost use Rattle.ultra_inputs.specs.Shown.{stream};
 ghost use Rattle.sweep_command.specs.Sweep.{Swept, HasFailed, SweptJobs, JobsFail};
 
 mod bell;

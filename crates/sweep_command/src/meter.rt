@@ -3,7 +3,8 @@
 ghost use Rattle.std.specs.Prelude.{◌≡◌, false, min, max};
 ghost use Rattle.ultra_msg.specs.Bytes.{Writes};
 ghost use Rattle.ultra_io.specs.Account.{SinkState};
-ghost use Rattle.sweep_command.specs.Shown.{stream, progress_line, HasShown};
+ghost use Rattle.ultra_inputs.specs.Shown.{stream};
+ghost use Rattle.sweep_command.specs.Shown.{progress_line, HasShown};
 
 use itoa::Buffer;
 use ultra_msg::{Sink, SinkFault, write_pieces};

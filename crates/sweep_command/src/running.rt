@@ -4,7 +4,8 @@ ghost use Rattle.std.specs.Prelude.{◌≡◌, ◌<◌, ℕ, ◌+◌, false, map
 ghost use Rattle.ultra_io.specs.Account.{SinkState};
 ghost use Rattle.ultra_sweep.specs.Job.{trace_of};
 ghost use Rattle.sweep_command.specs.Share.{threads_of, IsTask, IsFresh, IsWhole};
-ghost use Rattle.sweep_command.specs.Shown.{stream, HasShown, IsShown};
+ghost use Rattle.ultra_inputs.specs.Shown.{stream};
+ghost use Rattle.sweep_command.specs.Shown.{HasShown, IsProgressShown};
 
 use crate::Plan;
 use crate::bell::Bell;
@@ -60,10 +61,10 @@ pub(crate) fn run_jobs<R: Threads + Wait + Sync, E: Sink>(
     err: &mut E,
 ) -> Result<Gathered, SweepFault>
     ensures ok { IfOk result (λ g. g ≡ map trace_of jobs.now) }
-    ensures all_shown { OnOk result (IsShown plan.progress (length jobs.now) (length jobs.now)
+    ensures all_shown { OnOk result (IsProgressShown plan.progress (length jobs.now) (length jobs.now)
         (stream (E.taken err.old) (E.failures err.old))
         (stream (E.taken err.new) (E.failures err.new))) }
-    ensures some_shown { OnErr result ((last : ℕ) × IsShown plan.progress (length jobs.now) last
+    ensures some_shown { OnErr result ((last : ℕ) × IsProgressShown plan.progress (length jobs.now) last
         (stream (E.taken err.old) (E.failures err.old))
         (stream (E.taken err.new) (E.failures err.new))) }
 {

@@ -17,7 +17,7 @@ use Rattle.basic_commands.specs.Coordination as lib
 use Rattle.basic_commands.specs.Coordination.{LibFails}
 use Rattle.ultra_command_line.specs.declared.Coordination.{Coordination}
 use Rattle.ultra_command_line.specs.declared.Parsed.{Parsed}
-use Rattle.sweep_command.specs.Shown.{IsReported}
+use Rattle.ultra_inputs.specs.Shown.{IsReported}
 use Rattle.sweep_command.specs.Sweep as sweep
 use Rattle.sweep_command.specs.Sweep.{Swept, SweepFails, HasFailed, JobsFail}
 use Rattle.ultra_cli.specs.Outcome.{IsStatus, IsRefusal, status_failures, ExplainFails, Obeyed, NotObeyed, HasReported, HasEnded}

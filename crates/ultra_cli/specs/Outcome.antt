@@ -14,7 +14,7 @@ use Rattle.basic_commands.specs.Stops.{IsStoppedBy}
 use Rattle.basic_commands.specs.Order.{order_of}
 use Rattle.explain_command.specs.Explanation.{explanation_of, EndsFull, IsCutShort}
 use Rattle.basic_commands.specs.Coordination.{WroteProgram, LibFails}
-use Rattle.sweep_command.specs.Shown.{IsReported}
+use Rattle.ultra_inputs.specs.Shown.{IsReported}
 use Rattle.sweep_command.specs.Sweep.{Swept, SweepFails}
 use Rattle.basic_commands.specs.Trace.{trace}
 

@@ -5,7 +5,7 @@
 ghost use Rattle.std.specs.Prelude.{◌≡◌, ◌≢◌, ◌+◌, map};
 ghost use Rattle.ultra_command_line.specs.Asked.{IsAskedBy};
 ghost use Rattle.ultra_command_line.specs.declared.Parsed.{Parsed};
-ghost use Rattle.sweep_command.specs.Shown.{stream};
+ghost use Rattle.ultra_inputs.specs.Shown.{stream};
 ghost use Rattle.ultra_inputs.specs.Traffic.{traffic};
 ghost use Rattle.ultra_cli.specs.Outcome.{status_failures, IsRefusal, IsStatus, Obeyed, Failed, HasEnded, HasReported};
 

@@ -1,3 +1,4 @@
 pub mod Failure
 pub mod Inputs
 pub mod Traffic
+pub mod Shown

@@ -1,11 +1,11 @@
 -- how the program ends; this project's profile
-use Rattle.std.specs.Prelude.{◌≡◌, ◌≢◌, ℕ, List, ◌++◌, Some, codes, length, slice_get}
-use Rattle.ultra_msg.specs.Bytes.{TakesPrefix}
+use Rattle.std.specs.Prelude.{◌≡◌, ◌≢◌, ℕ, List, Some, codes, length, slice_get}
 use Rattle.ultra_model.specs.Trace.{trace}
 use Rattle.ultra_io.specs.Account.{SinkState}
 use Rattle.ultra_alone.specs.declared.fault.RunFault.{RunFault}
 use Rattle.ultra_alone.specs.declared.fault.RunFault.TheVariants as fault
-use Rattle.ultra_inputs.specs.Failure.{status_of, text_of}
+use Rattle.ultra_inputs.specs.Failure.{status_of}
+use Rattle.ultra_inputs.specs.Shown.{IsReported, IsShown}
 use Rattle.ultra_inputs.specs.Traffic.{Traffic, IsStopped, WroteText, TextFails}
 use Rattle.ultra_inputs.specs.declared.failure.Failure.{Failure}
 use Rattle.ultra_inputs.specs.declared.failure.Failure.TheVariants.{NoMemory, NoThread, NotWritten}
@@ -26,15 +26,6 @@ pub record ArePaths (words : List (List ℕ)) (conf prog : List ℕ) : Type 0 wh
   pub second : slice_get words 1 ≡ Some conf
   pub third : slice_get words 2 ≡ Some prog
 
--- standard error: what it has taken, and how often it has failed
-abbrev pub stream : List ℕ → ℕ → SinkState
-stream taken failures = record { taken = taken; failures = failures }
-
--- it was shown a text, and took all of it unless it failed
-pub record IsShown (text : List ℕ) (before after : SinkState) : Type 0 where
-  pub begun : TakesPrefix text before.taken after.taken
-  pub whole : after.failures ≡ before.failures → after.taken ≡ before.taken ++ text
-
 -- standard error is `before` when the program begins, and `after` when it ends
 pub data HasEnded (words : List (List ℕ)) (old new : Traffic) (before after : SinkState)
     (status : ℕ) : Type 0 where
@@ -44,7 +35,7 @@ pub data HasEnded (words : List (List ℕ)) (old new : Traffic) (before after : 
       → HasEnded words old new before after status
   -- it wasn't, or a prefix of it, and why is reported
   failed : (conf prog : List ℕ) → ArePaths words conf prog → (f : Failure) → status ≡ status_of f
-      → TextFails trace IsStopped conf prog old new f → IsShown (text_of f) before after
+      → TextFails trace IsStopped conf prog old new f → IsReported f before after
       → HasEnded words old new before after status
   -- the words aren't that: nothing was read or written
   misused : length words ≢ 3 → status ≡ 2 → new ≡ old → IsShown usage before after

@@ -5,7 +5,8 @@
 ghost use Rattle.std.specs.Prelude.{◌≡◌, ◌++◌, IfErr, IfOk, List, OnErr, OnOk, map, string_bytes, ℕ};
 ghost use Rattle.ultra_model.specs.Trace.{trace};
 ghost use Rattle.ultra_inputs.specs.Traffic.{traffic, IsStopped, WroteText, TextFails};
-ghost use Rattle.ultra_run.specs.Ending.{HasEnded, failure_of_run, stream, usage};
+ghost use Rattle.ultra_inputs.specs.Shown.{stream};
+ghost use Rattle.ultra_run.specs.Ending.{HasEnded, failure_of_run, usage};
 ghost use Rattle.ultra_msg.specs.Bytes.{TakesPrefix};
 
 use std::alloc::Global;

@@ -1,7 +1,7 @@
 -- how a sweep that fails is reported
 use Rattle.std.proofs.Common.{arith, ◌∙◌, refl, sym}
 use Rattle.ultra_settings.specs.JobsText.{all_paths}
-use Rattle.sweep_command.specs.Shown.{stream}
+use Rattle.ultra_inputs.specs.Shown.{stream}
 use Rattle.sweep_command.specs.Sweep.{unlisted, listed}
 use Rattle.sweep_command.proofs.Counted.{unlisted_none, never_done}
 use Rattle.sweep_command.proofs.sweep.Goals as goal

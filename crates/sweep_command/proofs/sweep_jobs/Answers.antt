@@ -5,7 +5,8 @@ use Rattle.ultra_msg.specs.Bytes.{TakesPrefix}
 use Rattle.ultra_sweep.specs.Report.{report_text}
 use Rattle.sweep_command.specs.declared.fault.SweepFault.{SweepFault}
 use Rattle.sweep_command.specs.declared.fault.SweepFault.TheVariants.{NoMemory, NoThread}
-use Rattle.sweep_command.specs.Shown.{stream, IsShown}
+use Rattle.ultra_inputs.specs.Shown.{stream}
+use Rattle.sweep_command.specs.Shown.{IsProgressShown}
 use Rattle.sweep_command.specs.Sweep.{report_of, failure_of, StopsJobs, refused, not_run, unwritten}
 use Rattle.sweep_command.proofs.sweep_jobs.Goals as goal
 
@@ -27,7 +28,7 @@ returns-in-Ok-clause-err g c =
     let after = stream (g.E.Sink.taken c.run_jobs.new.err) (g.E.Sink.failures c.run_jobs.new.err) in
     unwritten jobs c.in_ok-jobs.ensures.ok refl
     (subst (λ t. TakesPrefix t (g.O.Sink.taken c.args.out.now) (g.O.Sink.taken c.report.new.sink)) text (rw c.in-Err-report.is at c.report.ensures.err))
-    (subst (λ js. IsShown c.args.plan.progress (length js) (length js) before after) same c.in-Ok.ensures.all_shown)
+    (subst (λ js. IsProgressShown c.args.plan.progress (length js) (length js) before after) same c.in-Ok.ensures.all_shown)
 
 pub returns-clause-err : goal.returns-clause-err
 returns-clause-err g c =
@@ -37,4 +38,4 @@ returns-clause-err g c =
     let before = stream (g.E.Sink.taken c.args.err.now) (g.E.Sink.failures c.args.err.now) in
     let after = stream (g.E.Sink.taken c.run_jobs.new.err) (g.E.Sink.failures c.run_jobs.new.err) in
     not_run jobs some.0 c.in_ok-jobs.ensures.ok (subst StopsJobs (sym c.failure.ensures) (stops_jobs c.in-Err.fault)) refl
-    (subst (λ js. IsShown c.args.plan.progress (length js) some.0 before after) same some.1)
+    (subst (λ js. IsProgressShown c.args.plan.progress (length js) some.0 before after) same some.1)

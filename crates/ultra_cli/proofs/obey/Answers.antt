@@ -2,7 +2,7 @@
 use Rattle.std.proofs.Common.{refl, arith, inl, inr}
 use Rattle.ultra_command_line.specs.declared.Parsed.TheVariants as parsed
 use Rattle.ultra_inputs.specs.declared.failure.Failure.TheVariants.{Usage, NoMemory, NotWritten}
-use Rattle.sweep_command.specs.Shown.{stream}
+use Rattle.ultra_inputs.specs.Shown.{stream}
 use Rattle.ultra_cli.proofs.Endings.{not_five, failure_ended}
 use Rattle.ultra_cli.proofs.obey.Goals as goal
 

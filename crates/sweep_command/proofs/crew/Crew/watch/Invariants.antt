@@ -1,7 +1,8 @@
 use Rattle.std.proofs.Common.{◌≡◌}
 use Rattle.ultra_io.specs.Account.{SinkState}
 use Rattle.sweep_command.specs.Share.{IsCrew}
-use Rattle.sweep_command.specs.Shown.{stream, HasShown}
+use Rattle.ultra_inputs.specs.Shown.{stream}
+use Rattle.sweep_command.specs.Shown.{HasShown}
 use Rattle.sweep_command.proofs.crew.Crew.watch.Given as goal
 
 abbrev pub invariant-loop : goal.invariant-loop

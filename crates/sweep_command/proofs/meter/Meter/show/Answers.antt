@@ -1,5 +1,5 @@
 use Rattle.std.proofs.Common.{◌≤◌, arith}
-use Rattle.sweep_command.specs.Shown.{stream}
+use Rattle.ultra_inputs.specs.Shown.{stream}
 use Rattle.sweep_command.proofs.Showing.{shown-unwritten, shown-more}
 use Rattle.sweep_command.proofs.meter.Meter.show.Goals as goal
 

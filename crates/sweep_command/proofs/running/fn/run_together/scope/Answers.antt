@@ -1,5 +1,5 @@
 use Rattle.std.proofs.Common.{◌∙◌, refl}
-use Rattle.sweep_command.specs.Shown.{stream}
+use Rattle.ultra_inputs.specs.Shown.{stream}
 use Rattle.sweep_command.proofs.Showing.{shown-first}
 use Rattle.sweep_command.proofs.running.fn.run_together.scope.Goals as goal
 
