@@ -4,7 +4,7 @@
 ghost use Rattle.std.specs.Prelude.{◌≡◌, ◌≢◌, ◌+◌, IfOk, OnErr};
 ghost use Rattle.ultra_command_line.specs.declared.Parsed.{Parsed};
 ghost use Rattle.ultra_inputs.specs.Traffic.{traffic};
-ghost use Rattle.ultra_cli.specs.Shown.{stream};
+ghost use Rattle.ultra_inputs.specs.Shown.{stream};
 ghost use Rattle.ultra_cli.specs.Outcome.{status_failures, IsRefusal, IsStatus, Obeyed, Failed};
 
 use std::env::Env;

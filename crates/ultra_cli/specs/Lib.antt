@@ -1,2 +1,1 @@
 pub mod Outcome
-pub use Rattle.sweep_command.specs.Shown
