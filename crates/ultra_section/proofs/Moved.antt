@@ -1,5 +1,5 @@
 -- A unit is put into a block, or taken out of it.
-use Rattle.std.proofs.Common.{◌≡◌, ◌≢◌, ℕ, ◌+◌, ◌*◌, ◌^◌, ◌≤◌, List, replicate, true, Option, Some, None, length, refl, sym, ◌∙◌, ap, subst}
+use Rattle.std.proofs.Common.{◌≡◌, ℕ, ◌+◌, ◌*◌, ◌^◌, ◌≤◌, List, replicate, true, Option, Some, None, length, refl, sym, ◌∙◌, ap, subst}
 use Rattle.std.specs.Prelude.{not, is_some}
 use Rattle.std.proofs.lemmas.List.{length-replicate}
 use Rattle.ultra_msg.specs.declared.Request.{Request}
@@ -8,7 +8,6 @@ use Rattle.ultra_switch.specs.declared.Switch.{Switch}
 use Rattle.ultra_mem.specs.Serve.{Bank}
 use Rattle.ultra_isa.specs.Step.{has_stopped}
 use Rattle.ultra_isa.specs.declared.Instr.{Instr}
-use Rattle.ultra_units.specs.Set.{has_unit}
 use Rattle.ultra_units.specs.Numbers.{switch_count, module_number, element_number}
 use Rattle.ultra_halves.specs.Switches.{has_reply_room, has_request_room, holds_replies, holds_requests, keeps_records}
 use Rattle.ultra_halves.specs.Elements.{holds_request}
@@ -16,29 +15,11 @@ use Rattle.ultra_halves.specs.declared.elements.ProcessingElement.{ProcessingEle
 use Rattle.ultra_section.specs.declared.sets.Sets.{Sets}
 use Rattle.ultra_units.specs.declared.links.Links.{Links}
 use Rattle.ultra_section.specs.Sets.{UnitFacts, no_facts, facts_at, would_serve, KnowsSwitch, KnowsModule, KnowsElement}
-use Rattle.ultra_units.specs.Marks.{RepliesAreKnown, RequestsAreKnown}
-use Rattle.ultra_section.specs.BlockState.{AreOthersAtRest, IsKept, UnitsAreKnown, most_events, most_stops}
-use Rattle.ultra_units.proofs.Renewed.{no_entry, no_replies, no_requests}
-use Rattle.ultra_section.proofs.Known.{AgreeBut}
+use Rattle.ultra_section.specs.BlockState.{IsKept, most_events, most_stops}
+use Rattle.ultra_units.proofs.Marks.{no_entry}
+use Rattle.ultra_units.proofs.ReplyMarks.{no_replies}
+use Rattle.ultra_units.proofs.RequestMarks.{no_requests}
 use Rattle.ultra_section.proofs.Awake.{IsAtRest, none_rests}
-
--- ---- the block
-pub others_here : (n : ℕ) (old now : Sets) → AgreeBut n old now → (k : ℕ) → k ≢ n → has_unit now.here k ≡ has_unit old.here k
-others_here n old now agree k other = ap (λ (f : UnitFacts). f.here) (agree k other)
-
-pub unit_moved : {program : List Instr} {awake woken : List ℕ} (d wiring : ℕ) (old now : Sets) (ws vs : List (Option Switch)) (bs cs : List (Option Bank)) (es fs : List (Option ProcessingElement))
-    (rl rm : Links ReplyMessage) (ql qm : Links Request) (event_places stop_places : ℕ)
-    → IsKept d wiring program old awake ws bs es rl ql event_places stop_places → UnitsAreKnown d now vs cs fs → AreOthersAtRest d program woken fs → RepliesAreKnown d now.here rm → RequestsAreKnown d now.here qm
-    → IsKept d wiring program now woken vs cs fs rm qm event_places stop_places
-unit_moved d wiring old now ws vs bs cs es fs rl rm ql qm e s kept units rests replies requests = record {
-  network = kept.network;
-  units = units;
-  rests = rests;
-  replies = replies;
-  requests = requests;
-  events_fit = kept.events_fit;
-  stops_fit = kept.stops_fit;
-}
 
 -- ---- what is noted of a unit that has come, and of one that has gone
 pub switch_put : (f g h k : UnitFacts) (w : Switch) → g ≡ record f { here = true } → h ≡ record g { holds_replies = holds_replies w; no_reply_room = not (has_reply_room w) }
@@ -90,8 +71,8 @@ nothing_kept d wiring program s awake ws bs es rl ql e t network none switches m
     others = λ n h. none n;
   };
   rests = λ p h asleep. subst (IsAtRest program) (sym (no_entry es (2 ^ d) p elements)) (none_rests program);
-  replies = no_replies d s.here rl replies;
-  requests = no_requests d s.here ql requests;
+  replies = no_replies d rl replies;
+  requests = no_requests d ql requests;
   events_fit = events;
   stops_fit = stops;
 }

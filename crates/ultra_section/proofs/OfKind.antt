@@ -1,16 +1,19 @@
 -- The unit with a number by its kind: whether it stands in a block, and a block without it or with it.
-use Rattle.std.proofs.Common.{◌≡◌, ℕ, ◌+◌, ◌-◌, ◌^◌, ◌<◌, ◌≤◌, Bool, false, None, refl, ◌∙◌, ap, subst, set, inl, inr, arith, le-ltb}
-use Rattle.std.specs.Prelude.{is_some}
+use Rattle.std.proofs.Common.{◌≡◌, ℕ, ◌+◌, ◌-◌, ◌^◌, ◌<◌, ◌≤◌, Bool, true, false, ◌&&◌, None, refl, ◌∙◌, ap, subst, set, inl, inr, arith, le-ltb}
+use Rattle.std.specs.Prelude.{is_some, not}
 use Rattle.std.proofs.lemmas.Bool.{cases_lt}
 use Rattle.ultra_units.specs.Numbers.{switch_count, unit_count, module_number, element_number}
 use Rattle.ultra_units.specs.declared.unit.Unit.{Unit}
 use Rattle.ultra_units.specs.declared.unit.Unit.TheVariants as unit
-use Rattle.ultra_units.specs.Units.{unit_of, stage_of, index_of}
+use Rattle.ultra_units.specs.Set.{has_unit}
+use Rattle.ultra_units.specs.Units.{unit_of, stage_of, index_of, IsUnit}
 use Rattle.ultra_units.specs.Links.{put_on}
-use Rattle.ultra_section.specs.BlockState.{BlockState, switch_at, module_at, element_at}
+use Rattle.ultra_section.specs.BlockState.{BlockState, UnitsAreKnown, switch_at, module_at, element_at}
 use Rattle.ultra_section.specs.Away.{stands}
+use Rattle.ultra_section.specs.Sets.{UnitFacts}
+use Rattle.ultra_section.specs.declared.sets.Sets.{Sets}
 use Rattle.ultra_section.specs.Building.{with_unit, without_unit}
-use Rattle.ultra_units.proofs.Standing.{unit_of_switch, unit_of_module, unit_of_element}
+use Rattle.ultra_units.proofs.Standing.{unit_is, unit_of_switch, unit_of_module, unit_of_element}
 
 -- what holds of each switch, each module, each processing element, and of what is none of them
 pub by_kind : (d : ℕ) (P : ℕ → Type 0) → ((n : ℕ) → n < switch_count d → P n)
@@ -35,6 +38,28 @@ by_kind d P switches modules elements others n = elim (cases_lt n (switch_count 
 pub unit_of_none : (d n : ℕ) → unit_count d ≤ n → unit_of d n ≡ unit.Nothing
 unit_of_none d n past =
     rw (unit_of, le-ltb n (switch_count d) (omega arith), le-ltb n (switch_count d + 2 ^ d) (omega arith), le-ltb n (unit_count d) past) refl
+
+-- one that isn't here, and isn't among those of some units that aren't
+pub not_among : (among here : Bool) → here ≡ false → (among && not here) ≡ false → among ≡ false
+not_among among true h none = cc
+not_among true false h none = none
+not_among false false h none = refl
+
+-- the units here by the sets of a block are those that stand there
+module _ (b : BlockState) (s : Sets) (known : UnitsAreKnown b.stages s b.switches b.modules b.elements) where
+  here_as : (n : ℕ) (u : Unit) → IsUnit b.stages n u → has_unit s.here n ≡ elim u [
+    | unit.Switch t k ↦ is_some (switch_at b.switches n)
+    | unit.Module m ↦ is_some (module_at b.modules m)
+    | unit.Element p ↦ is_some (element_at b.elements p)
+    | unit.Nothing ↦ false
+  ]
+  here_as n (unit.Switch t k) is = (known.switches n is.within).here
+  here_as n (unit.Module m) is = ap (has_unit s.here) is.number ∙ (known.modules m is.small).here
+  here_as n (unit.Element p) is = ap (has_unit s.here) is.number ∙ (known.elements p is.small).here
+  here_as n unit.Nothing is = ap (λ (f : UnitFacts). f.here) (known.others n is)
+
+  pub here_stands : (n : ℕ) → has_unit s.here n ≡ stands n b
+  here_stands n = here_as n (unit_of b.stages n) (unit_is b.stages n)
 
 module _ (d : ℕ) (b : BlockState) (stages : b.stages ≡ d) where
   abbrev stands_as : ℕ → Unit → Bool

@@ -1,42 +1,23 @@
 -- What leads from a block to units elsewhere: replies.
-use Rattle.std.proofs.Common.{◌≡◌, ℕ, false, Some, None, sym, ◌∙◌, ap, refl}
-use Rattle.std.specs.Prelude.{is_some}
+use Rattle.std.proofs.Common.{◌≡◌, ℕ, List, false, ◌&&◌, sym, ◌∙◌, subst}
+use Rattle.std.specs.Prelude.{not}
 use Rattle.ultra_msg.specs.declared.ReplyMessage.{ReplyMessage}
 use Rattle.ultra_units.specs.Set.{has_unit}
-use Rattle.ultra_units.specs.Numbers.{element_number}
-use Rattle.ultra_section.specs.declared.sets.Sets.{Sets}
 use Rattle.ultra_units.specs.declared.links.Links.{Links}
-use Rattle.ultra_units.specs.declared.unit.Unit.{Unit as UnitName}
-use Rattle.ultra_units.specs.declared.unit.Unit.TheVariants as unit
-use Rattle.ultra_units.specs.Units.{unit_of, stage_of, index_of, IsUnit}
-use Rattle.ultra_units.specs.Marks.{RepliesAreKnown, on_link, reply_links, delivery_link}
-use Rattle.ultra_section.specs.BlockState.{BlockState, UnitsAreKnown, switch_at, module_at, element_at}
-use Rattle.ultra_section.specs.Away.{stands}
-use Rattle.ultra_units.specs.Inlets.{AreEmpty, at_both, reply_inlets}
-use Rattle.ultra_units.proofs.Standing.{unit_is}
+use Rattle.ultra_units.specs.Inlets.{AreEmpty, reply_inlets}
+use Rattle.ultra_units.specs.Marks.{RepliesAreKnown}
+use Rattle.ultra_units.proofs.ReplyInlets.{none_lead}
 pub use Rattle.ultra_units.proofs.ReplyInlets.{inlets}
-use Rattle.ultra_units.proofs.Left.{nothing_left}
+use Rattle.ultra_section.specs.declared.sets.Sets.{Sets}
+use Rattle.ultra_section.specs.Away.{stands}
+use Rattle.ultra_section.specs.BlockState.{BlockState, UnitsAreKnown}
+use Rattle.ultra_section.proofs.OfKind.{here_stands, not_among}
 
 -- a unit elsewhere that isn't among those to which something is known to lead
-module _ (b : BlockState) (s : Sets) (l : Links ReplyMessage) (table : l.table.items ≡ b.replies) (known : UnitsAreKnown b.stages s b.switches b.modules b.elements) (marked : RepliesAreKnown b.stages s.here l) where
-  none_at : (n : ℕ) (u : UnitName) → IsUnit b.stages n u → has_unit l.away n ≡ false
-      → elim u [ unit.Switch t k ↦ is_some (switch_at b.switches n) | unit.Module m ↦ is_some (module_at b.modules m) | unit.Element p ↦ is_some (element_at b.elements p) | unit.Nothing ↦ false ] ≡ false
-      → AreEmpty b.replies (elim u [ unit.Switch s k ↦ Some (reply_links b.stages s k) | unit.Module m ↦ None | unit.Element p ↦ Some (at_both (delivery_link b.stages p)) | unit.Nothing ↦ None ])
-  none_at n (unit.Switch t k) is away elsewhere =
-      let here : has_unit s.here n ≡ false = (known.switches n is.within).here ∙ elsewhere in
-      let own : reply_links b.stages t k ≡ reply_links b.stages (stage_of b.stages n) (index_of b.stages n) = rw (is.stage, is.index) refl in (
-        ap (λ p. on_link b.replies p.zero) own ∙ ap (λ t. on_link t (reply_links b.stages (stage_of b.stages n) (index_of b.stages n)).zero) (sym table)
-            ∙ nothing_left s.here l n _ (marked.switches_zero n is.within) here away,
-        ap (λ p. on_link b.replies p.one) own ∙ ap (λ t. on_link t (reply_links b.stages (stage_of b.stages n) (index_of b.stages n)).one) (sym table)
-            ∙ nothing_left s.here l n _ (marked.switches_one n is.within) here away,
-      )
-  none_at n (unit.Element p) is away elsewhere =
-      let here : has_unit s.here (element_number b.stages p) ≡ false = (known.elements p is.small).here ∙ elsewhere in
-      let empty : on_link b.replies (delivery_link b.stages p) ≡ None =
-      ap (λ t. on_link t (delivery_link b.stages p)) (sym table)
-      ∙ nothing_left s.here l (element_number b.stages p) _ (marked.elements p is.small) here (ap (has_unit l.away) (sym is.number) ∙ away) in (empty, empty)
-  none_at n (unit.Module m) is away elsewhere = tt
-  none_at n unit.Nothing is away elsewhere = tt
-
-  pub none_away : (n : ℕ) → has_unit l.away n ≡ false → stands n b ≡ false → AreEmpty b.replies (reply_inlets b.stages n)
-  none_away n away elsewhere = none_at n (unit_of b.stages n) (unit_is b.stages n) away elsewhere
+pub none_away : {inside b : BlockState} → inside ≡ b → (s : Sets) (l : Links ReplyMessage) (away : List ℕ) → l.table.items ≡ inside.replies → UnitsAreKnown inside.stages s inside.switches inside.modules inside.elements
+    → RepliesAreKnown inside.stages l → ((k : ℕ) → has_unit away k ≡ has_unit l.targets k && not (has_unit s.here k))
+    → (n : ℕ) → has_unit away n ≡ false → stands n b ≡ false → AreEmpty b.replies (reply_inlets b.stages n)
+none_away {inside} same s l away table known marked is n none elsewhere =
+    let here : has_unit s.here n ≡ false = here_stands inside s known n ∙ subst (λ b. stands n b ≡ false) (sym same) elsewhere in
+    subst (λ (b : BlockState). AreEmpty b.replies (reply_inlets b.stages n)) same
+    (subst (λ t. AreEmpty t (reply_inlets inside.stages n)) table (none_lead inside.stages l marked n (not_among _ _ here (sym (is n) ∙ none))))

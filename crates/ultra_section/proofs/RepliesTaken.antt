@@ -1,30 +1,27 @@
 -- A unit to which no reply comes takes none, and what a unit takes, the later ones don't miss.
-use Rattle.std.proofs.Common.{◌≡◌, ℕ, ◌-◌, ◌/◌, ◌%◌, ◌^◌, ◌<◌, ◌≤◌, List, [], ◌∷◌, ◌++◌, true, false, Option, Some, None, length, length-append, set, get_or-set_other, refl, sym, ◌∙◌, ap, subst, arith}
-use Rattle.std.specs.Prelude.{is_some, slice_set}
+use Rattle.std.proofs.Common.{◌≡◌, ℕ, ◌<◌, ◌≤◌, List, [], ◌∷◌, ◌++◌, Option, Some, None, length, length-append, set, get_or-set_other, refl, sym, ◌∙◌, ap, subst, arith}
+use Rattle.std.specs.Prelude.{slice_set}
 use Rattle.std.specs.Option.{ForSome}
 use Rattle.std.proofs.lemmas.List.{append-nil}
 use Rattle.ultra_msg.specs.declared.ReplyMessage.{ReplyMessage}
 use Rattle.ultra_switch.specs.declared.Switch.{Switch}
 use Rattle.ultra_switch.specs.declared.Ports.{Ports}
-use Rattle.ultra_units.specs.Set.{has_unit}
-use Rattle.ultra_units.specs.Numbers.{element_number}
 use Rattle.ultra_model.specs.Places.{present}
 use Rattle.ultra_model.specs.Phases.{delivery}
 use Rattle.ultra_halves.specs.declared.elements.ProcessingElement.{ProcessingElement}
 use Rattle.ultra_halves.specs.Halves.{ports}
 use Rattle.ultra_halves.specs.Switches.{CanTakeReplies, after_replies}
 use Rattle.ultra_halves.specs.Elements.{delivered_to}
-use Rattle.ultra_section.specs.declared.sets.Sets.{Sets}
-use Rattle.ultra_units.specs.declared.links.Links.{Links}
 use Rattle.ultra_units.specs.declared.unit.Unit.{Unit as UnitName}
 use Rattle.ultra_units.specs.declared.unit.Unit.TheVariants as unit
 use Rattle.ultra_units.specs.Units.{unit_of, IsUnit, IsElement}
-use Rattle.ultra_units.specs.Marks.{RepliesAreKnown, reply_links, delivery_link, on_link, on_both, without_both}
-use Rattle.ultra_section.specs.BlockState.{BlockState, HasEventRoom, UnitsAreKnown, switch_at, element_at}
+use Rattle.ultra_units.specs.Marks.{reply_links, delivery_link, on_link, on_both, without_both}
+use Rattle.ultra_section.specs.BlockState.{BlockState, HasEventRoom, switch_at, element_at}
 use Rattle.ultra_section.specs.RepliesTaken.{replies_at_switch, replies_taken_by, switch_takes_replies, reply_at_element, reply_taken_by, element_takes_reply, takes_replies, UnitCanTakeReplies, CanTakeRepliesAt}
 use Rattle.ultra_units.proofs.Standing.{unit_is}
+use Rattle.ultra_units.specs.Inlets.{AreEmpty, at_both, reply_inlets}
 use Rattle.ultra_section.proofs.Empty.{same_entry}
-use Rattle.ultra_units.proofs.Marks.{Fewer, fewer_set, fewer_both, for_fewer, nothing_came}
+use Rattle.ultra_units.proofs.Marks.{Fewer, fewer_set, fewer_both, for_fewer}
 
 -- ---- where nothing comes
 after_none : (d s : ℕ) (w : Switch) → after_replies d s w (ports None None) ≡ w
@@ -32,11 +29,10 @@ after_none d s w = simp append-nil refl
 
 module _ (b : BlockState) where
   switch_idle : (n s k : ℕ) (o : Option Switch) → switch_at b.switches n ≡ o
-      → ((w : Switch) → o ≡ Some w → (on_link b.replies (reply_links b.stages s k).zero ≡ None) × (on_link b.replies (reply_links b.stages s k).one ≡ None))
+      → AreEmpty b.replies (Some (reply_links b.stages s k))
       → elim o [ None ↦ b | Some w ↦ replies_taken_by n s k b w ] ≡ b
-  switch_idle n s k None is none = refl
-  switch_idle n s k (Some w) is none =
-      let empty = none w refl in
+  switch_idle n s k None is empty = refl
+  switch_idle n s k (Some w) is empty =
       let at = reply_links b.stages s k in
       let came : replies_at_switch s k b ≡ ports None None = rw (empty.0, empty.1) refl in
       let first : set b.replies at.zero None ≡ b.replies = same_entry b.replies at.zero None empty.0 in
@@ -46,12 +42,11 @@ module _ (b : BlockState) where
       ap (λ x. set b.switches n (Some x)) left ∙ same_entry b.switches n (Some w) is in
       ap (λ ws. record b { switches = ws; replies = without_both b.replies at }) put ∙ ap (λ t. record b { replies = t }) links
 
-  element_idle : (p : ℕ) (o : Option ProcessingElement) → element_at b.elements p ≡ o → ((e : ProcessingElement) → o ≡ Some e → reply_at_element p b ≡ None)
+  element_idle : (p : ℕ) (o : Option ProcessingElement) → element_at b.elements p ≡ o → reply_at_element p b ≡ None
       → elim o [ None ↦ b | Some e ↦ reply_taken_by p b e ] ≡ b
-  element_idle p None is none = refl
-  element_idle p (Some e) is none =
+  element_idle p None is empty = refl
+  element_idle p (Some e) is empty =
       let at = delivery_link b.stages p in
-      let empty = none e refl in
       ap (λ (o : Option ReplyMessage). record b {
         elements = slice_set b.elements p (Some (delivered_to e o));
         replies = slice_set b.replies at None;
@@ -61,28 +56,16 @@ module _ (b : BlockState) where
       ∙ ap (λ t. record b { replies = t; events = b.events ++ [] }) (same_entry b.replies at None empty)
       ∙ ap (λ es. record b { events = es }) (append-nil b.events)
 
-  module _ (s : Sets) (l : Links ReplyMessage) (same : l.table.items ≡ b.replies) (known : UnitsAreKnown b.stages s b.switches b.modules b.elements) (marked : RepliesAreKnown b.stages s.here l) where
-    idle_at : (n : ℕ) (u : UnitName) → IsUnit b.stages n u → has_unit l.came n ≡ false
-        → elim u [ unit.Switch t k ↦ switch_takes_replies n t k b | unit.Module m ↦ b | unit.Element p ↦ element_takes_reply p b | unit.Nothing ↦ b ] ≡ b
-    idle_at n (unit.Switch t k) is h =
-        switch_idle n t k (switch_at b.switches n) refl (λ w stands.
-        let here : has_unit s.here n ≡ true = (known.switches n is.within).here ∙ ap is_some stands in
-        let own : reply_links b.stages t k ≡ reply_links b.stages (n / 2 ^ (b.stages - 1)) (n % 2 ^ (b.stages - 1)) = rw (is.stage, is.index) refl in (
-          ap (λ p. on_link b.replies p.zero) own ∙ ap (λ t. on_link t (reply_links b.stages (n / 2 ^ (b.stages - 1)) (n % 2 ^ (b.stages - 1))).zero) (sym same)
-              ∙ nothing_came s.here l n _ (marked.switches_zero n is.within) here h,
-          ap (λ p. on_link b.replies p.one) own ∙ ap (λ t. on_link t (reply_links b.stages (n / 2 ^ (b.stages - 1)) (n % 2 ^ (b.stages - 1))).one) (sym same)
-              ∙ nothing_came s.here l n _ (marked.switches_one n is.within) here h,
-        ))
-    idle_at n (unit.Module m) is h = refl
-    idle_at n (unit.Element p) is h =
-        element_idle p (element_at b.elements p) refl (λ e stands.
-        let here : has_unit s.here (element_number b.stages p) ≡ true = (known.elements p is.small).here ∙ ap is_some stands in
-        ap (λ t. on_link t (delivery_link b.stages p)) (sym same)
-        ∙ nothing_came s.here l (element_number b.stages p) _ (marked.elements p is.small) here (ap (has_unit l.came) (sym is.number) ∙ h))
-    idle_at n unit.Nothing is h = refl
+  idle_at : (n : ℕ) (u : UnitName)
+      → AreEmpty b.replies (elim u [ unit.Switch t k ↦ Some (reply_links b.stages t k) | unit.Module m ↦ None | unit.Element p ↦ Some (at_both (delivery_link b.stages p)) | unit.Nothing ↦ None ])
+      → elim u [ unit.Switch t k ↦ switch_takes_replies n t k b | unit.Module m ↦ b | unit.Element p ↦ element_takes_reply p b | unit.Nothing ↦ b ] ≡ b
+  idle_at n (unit.Switch t k) empty = switch_idle n t k (switch_at b.switches n) refl empty
+  idle_at n (unit.Module m) empty = refl
+  idle_at n (unit.Element p) empty = element_idle p (element_at b.elements p) refl empty.0
+  idle_at n unit.Nothing empty = refl
 
-    pub takes_none : (n : ℕ) → has_unit l.came n ≡ false → takes_replies n b ≡ b
-    takes_none n h = idle_at n (unit_of b.stages n) (unit_is b.stages n) h
+  pub takes_none : (n : ℕ) → AreEmpty b.replies (reply_inlets b.stages n) → takes_replies n b ≡ b
+  takes_none n empty = idle_at n (unit_of b.stages n) empty
 
 -- ---- what the later units ask is kept
 module _ (b : BlockState) (k : ℕ) where

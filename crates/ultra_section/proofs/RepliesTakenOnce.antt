@@ -79,14 +79,14 @@ module _ (d : ℕ) (low : 1 ≤ d) (high : d ≤ 6) where
   abbrev at_switch : ℕ → ℕ → ℕ → BlockState → Option Switch × Ports (Option ReplyMessage)
   at_switch n s k t = (switch_at t.switches n, on_both t.replies (reply_links d s k))
 
-  switch_own : (n s k : ℕ) (t : BlockState) (o : Option Switch) → IsShaped d t → n < length t.switches → (reply_links d s k).zero < length t.replies → (reply_links d s k).one < length t.replies
+  switch_own : (n s k : ℕ) (t : BlockState) (o : Option Switch) → IsShaped d t → n < length t.switches
       → switch_at t.switches n ≡ o
       → or_same replies_taken_by no_module reply_taken_by d (at_switch n s k) (at_switch n s k t) (λ w. at_switch n s k (replies_taken_by n s k t w)) o ≡ after_taking_switch s k (at_switch n s k t)
-  switch_own n s k t None p within zero one is =
+  switch_own n s k t None p within is =
       let empty = ap (λ o. (o, on_both t.replies (reply_links d s k))) is in empty ∙ sym (ap (after_taking_switch s k) empty)
-  switch_own n s k t (Some w) p within zero one is =
+  switch_own n s k t (Some w) p within is =
       ap (λ e. (switch_at (set t.switches n (Some (after_replies e s w (on_both t.replies (reply_links e s k))))) n, on_both (without_both t.replies (reply_links e s k)) (reply_links d s k))) p.stages
-      ∙ pair _ _ _ _ (get_or-set_same t.switches n _ None within) (both_emptied t.replies (reply_links d s k) zero one)
+      ∙ pair _ _ _ _ (get_or-set_same t.switches n _ None within) (both_emptied t.replies (reply_links d s k))
       ∙ sym (ap (after_taking_switch s k) (ap (λ o. (o, on_both t.replies (reply_links d s k))) is))
 
   switch_others : (n s k : ℕ) → IsSwitch d n s k → (j : ℕ) (t : BlockState) → IsShaped d t → j ≢ n → at_switch n s k (taking_visit j t) ≡ at_switch n s k t
@@ -111,12 +111,10 @@ module _ (d : ℕ) (low : 1 ≤ d) (high : d ≤ 6) where
       let s = stage_of d n in
       let k = index_of d n in
       let own = is_switch d n h in
-      let lead = both_links d low high n s k own in
       ap (at_switch n s k) (all_visits b)
       ∙ changed_once taking_visit (IsShaped d) kept (at_switch n s k) n (switch_others n s k own) (after_taking_switch s k)
       (λ t p. own_switch replies_taken_by no_module reply_taken_by d (at_switch n s k) n h t p.stages
-      ∙ switch_own n s k t (switch_at t.switches n) p (omega (arith, p.switches))
-      (subst (λ x. (reply_links d s k).zero < x) (sym p.replies) lead.first_small) (subst (λ x. (reply_links d s k).one < x) (sym p.replies) lead.second_small) refl) 320 b shape small
+      ∙ switch_own n s k t (switch_at t.switches n) p (omega (arith, p.switches)) refl) 320 b shape small
 
   -- ---- a processing element, and what is on its link
   abbrev pub after_taking_element : Option ProcessingElement × Option ReplyMessage → Option ProcessingElement × Option ReplyMessage
@@ -126,13 +124,13 @@ module _ (d : ℕ) (low : 1 ≤ d) (high : d ≤ 6) where
   abbrev at_element : ℕ → BlockState → Option ProcessingElement × Option ReplyMessage
   at_element p t = (element_at t.elements p, on_link t.replies (delivery_link d p))
 
-  element_own : (p : ℕ) (t : BlockState) (o : Option ProcessingElement) → IsShaped d t → p < length t.elements → delivery_link d p < length t.replies → element_at t.elements p ≡ o
+  element_own : (p : ℕ) (t : BlockState) (o : Option ProcessingElement) → IsShaped d t → p < length t.elements → element_at t.elements p ≡ o
       → or_same replies_taken_by no_module reply_taken_by d (at_element p) (at_element p t) (λ x. at_element p (reply_taken_by p t x)) o ≡ after_taking_element (at_element p t)
-  element_own p t None q within small is =
+  element_own p t None q within is =
       let empty = ap (λ o. (o, on_link t.replies (delivery_link d p))) is in empty ∙ sym (ap after_taking_element empty)
-  element_own p t (Some x) q within small is =
+  element_own p t (Some x) q within is =
       ap (λ e. (element_at (set t.elements p (Some (delivered_to x (on_link t.replies (delivery_link e p))))) p, on_link (set t.replies (delivery_link e p) None) (delivery_link d p))) q.stages
-      ∙ pair _ _ _ _ (get_or-set_same t.elements p _ None within) (emptied t.replies (delivery_link d p) small)
+      ∙ pair _ _ _ _ (get_or-set_same t.elements p _ None within) (emptied t.replies (delivery_link d p))
       ∙ sym (ap after_taking_element (ap (λ o. (o, on_link t.replies (delivery_link d p))) is))
 
   element_others : (p : ℕ) → p < 2 ^ d → (j : ℕ) (t : BlockState) → IsShaped d t → j ≢ element_number d p → at_element p (taking_visit j t) ≡ at_element p t
@@ -156,7 +154,7 @@ module _ (d : ℕ) (low : 1 ≤ d) (high : d ≤ 6) where
       ap (at_element p) (all_visits b)
       ∙ changed_once taking_visit (IsShaped d) kept (at_element p) (element_number d p) (element_others p h) after_taking_element
       (λ t q. own_element replies_taken_by no_module reply_taken_by d (at_element p) p h t q.stages
-      ∙ element_own p t (element_at t.elements p) q (omega (arith, q.elements)) (subst (λ x. delivery_link d p < x) (sym q.replies) link) refl) 320 b shape small
+      ∙ element_own p t (element_at t.elements p) q (omega (arith, q.elements)) refl) 320 b shape small
 
   -- ---- what nobody changes
   pub shape_after_taking : (b : BlockState) → IsShaped d b → IsShaped d (after_units takes_replies 320 b)

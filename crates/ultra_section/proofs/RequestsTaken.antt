@@ -1,28 +1,25 @@
 -- A unit to which no request comes takes none, and what a unit takes, the later ones don't miss.
-use Rattle.std.proofs.Common.{◌≡◌, ℕ, ◌+◌, ◌-◌, ◌/◌, ◌%◌, ◌^◌, ◌<◌, ◌≤◌, List, [], ◌++◌, Bool, true, false, Option, Some, None, length, set, get_or-set_other, refl, sym, ◌∙◌, ap, subst, arith}
-use Rattle.std.specs.Prelude.{is_some, slice_set, ◌==◌}
+use Rattle.std.proofs.Common.{◌≡◌, ℕ, ◌+◌, ◌/◌, ◌%◌, ◌^◌, ◌<◌, ◌≤◌, List, [], ◌++◌, Bool, true, false, Option, Some, None, length, set, get_or-set_other, refl, sym, ◌∙◌, ap, subst, arith}
+use Rattle.std.specs.Prelude.{slice_set, ◌==◌}
 use Rattle.std.specs.Option.{ForSome}
 use Rattle.std.proofs.lemmas.List.{append-nil}
 use Rattle.ultra_msg.specs.declared.Request.{Request}
 use Rattle.ultra_switch.specs.declared.Switch.{Switch}
 use Rattle.ultra_switch.specs.declared.Ports.{Ports}
 use Rattle.ultra_mem.specs.Serve.{Bank}
-use Rattle.ultra_units.specs.Set.{has_unit}
-use Rattle.ultra_units.specs.Numbers.{module_number}
 use Rattle.ultra_halves.specs.Halves.{ports, coming_to, arrivals}
 use Rattle.ultra_halves.specs.Switches.{CanTakeRequests, HasWay, after_requests, combinations_of}
 use Rattle.ultra_halves.specs.Modules.{bank_with}
-use Rattle.ultra_section.specs.declared.sets.Sets.{Sets}
-use Rattle.ultra_units.specs.declared.links.Links.{Links}
 use Rattle.ultra_units.specs.declared.unit.Unit.{Unit as UnitName}
 use Rattle.ultra_units.specs.declared.unit.Unit.TheVariants as unit
 use Rattle.ultra_units.specs.Units.{unit_of, IsUnit, IsModule}
-use Rattle.ultra_units.specs.Marks.{RequestsAreKnown, request_links, memory_link, on_link, on_both, without_both}
-use Rattle.ultra_section.specs.BlockState.{BlockState, HasEventRoom, UnitsAreKnown, switch_at, module_at}
+use Rattle.ultra_units.specs.Marks.{request_links, memory_link, on_link, on_both, without_both}
+use Rattle.ultra_section.specs.BlockState.{BlockState, HasEventRoom, switch_at, module_at}
 use Rattle.ultra_section.specs.RequestsTaken.{requests_at_switch, requests_taken_by, switch_takes_requests, request_at_module, request_taken_by, module_takes_request, takes_requests, UnitCanTakeRequests, CanTakeRequestsAt}
 use Rattle.ultra_units.proofs.Standing.{unit_is}
+use Rattle.ultra_units.specs.Inlets.{AreEmpty, at_both, request_inlets}
 use Rattle.ultra_section.proofs.Empty.{same_entry}
-use Rattle.ultra_units.proofs.Marks.{Fewer, fewer_set, fewer_both, for_fewer, nothing_came}
+use Rattle.ultra_units.proofs.Marks.{Fewer, fewer_set, fewer_both, for_fewer}
 
 -- ---- where nothing comes
 none_arrive_as : (d s j : ℕ) (even : Bool) → coming_to d s j (elim even [ true ↦ None | false ↦ None ]) ++ coming_to d s j (elim even [ true ↦ None | false ↦ None ]) ≡ []
@@ -40,11 +37,10 @@ none_combine d s k n w = rw (none_arrive d s 0 n, none_arrive d s 1 n) refl
 
 module _ (b : BlockState) where
   switch_idle : (n s k : ℕ) (o : Option Switch) → switch_at b.switches n ≡ o
-      → ((w : Switch) → o ≡ Some w → (on_link b.requests (request_links b.stages s k).zero ≡ None) × (on_link b.requests (request_links b.stages s k).one ≡ None))
+      → AreEmpty b.requests (Some (request_links b.stages s k))
       → elim o [ None ↦ b | Some w ↦ requests_taken_by n s k b w ] ≡ b
-  switch_idle n s k None is none = refl
-  switch_idle n s k (Some w) is none =
-      let empty = none w refl in
+  switch_idle n s k None is empty = refl
+  switch_idle n s k (Some w) is empty =
       let at = request_links b.stages s k in
       let came : requests_at_switch s k b ≡ ports None None = rw (empty.0, empty.1) refl in
       let first : set b.requests at.zero None ≡ b.requests = same_entry b.requests at.zero None empty.0 in
@@ -58,38 +54,25 @@ module _ (b : BlockState) where
       ∙ ap (λ t. record b { requests = t; events = b.events ++ combinations_of b.stages s k b.done w (requests_at_switch s k b) }) links
       ∙ ap (λ es. record b { events = es }) entries
 
-  module_idle : (m : ℕ) (o : Option Bank) → module_at b.modules m ≡ o → ((bank : Bank) → o ≡ Some bank → request_at_module m b ≡ None)
+  module_idle : (m : ℕ) (o : Option Bank) → module_at b.modules m ≡ o → request_at_module m b ≡ None
       → elim o [ None ↦ b | Some bank ↦ request_taken_by m b bank ] ≡ b
-  module_idle m None is none = refl
-  module_idle m (Some bank) is none =
+  module_idle m None is empty = refl
+  module_idle m (Some bank) is empty =
       let at = memory_link b.stages m in
-      let empty = none bank refl in
       ap (λ (o : Option Request). record b { modules = slice_set b.modules m (Some (bank_with (2 ^ b.stages) bank o)); requests = slice_set b.requests at None }) empty
       ∙ ap (λ bs. record b { modules = bs; requests = slice_set b.requests at None }) (same_entry b.modules m (Some bank) is)
       ∙ ap (λ t. record b { requests = t }) (same_entry b.requests at None empty)
 
-  module _ (s : Sets) (l : Links Request) (same : l.table.items ≡ b.requests) (known : UnitsAreKnown b.stages s b.switches b.modules b.elements) (marked : RequestsAreKnown b.stages s.here l) where
-    idle_at : (n : ℕ) (u : UnitName) → IsUnit b.stages n u → has_unit l.came n ≡ false
-        → elim u [ unit.Switch t k ↦ switch_takes_requests n t k b | unit.Module m ↦ module_takes_request m b | unit.Element p ↦ b | unit.Nothing ↦ b ] ≡ b
-    idle_at n (unit.Switch t k) is h =
-        switch_idle n t k (switch_at b.switches n) refl (λ w stands.
-        let here : has_unit s.here n ≡ true = (known.switches n is.within).here ∙ ap is_some stands in
-        let own : request_links b.stages t k ≡ request_links b.stages (n / 2 ^ (b.stages - 1)) (n % 2 ^ (b.stages - 1)) = rw (is.stage, is.index) refl in (
-          ap (λ p. on_link b.requests p.zero) own ∙ ap (λ t. on_link t (request_links b.stages (n / 2 ^ (b.stages - 1)) (n % 2 ^ (b.stages - 1))).zero) (sym same)
-              ∙ nothing_came s.here l n _ (marked.switches_zero n is.within) here h,
-          ap (λ p. on_link b.requests p.one) own ∙ ap (λ t. on_link t (request_links b.stages (n / 2 ^ (b.stages - 1)) (n % 2 ^ (b.stages - 1))).one) (sym same)
-              ∙ nothing_came s.here l n _ (marked.switches_one n is.within) here h,
-        ))
-    idle_at n (unit.Module m) is h =
-        module_idle m (module_at b.modules m) refl (λ bank stands.
-        let here : has_unit s.here (module_number b.stages m) ≡ true = (known.modules m is.small).here ∙ ap is_some stands in
-        ap (λ t. on_link t (memory_link b.stages m)) (sym same)
-        ∙ nothing_came s.here l (module_number b.stages m) _ (marked.modules m is.small) here (ap (has_unit l.came) (sym is.number) ∙ h))
-    idle_at n (unit.Element p) is h = refl
-    idle_at n unit.Nothing is h = refl
+  idle_at : (n : ℕ) (u : UnitName)
+      → AreEmpty b.requests (elim u [ unit.Switch t k ↦ Some (request_links b.stages t k) | unit.Module m ↦ Some (at_both (memory_link b.stages m)) | unit.Element p ↦ None | unit.Nothing ↦ None ])
+      → elim u [ unit.Switch t k ↦ switch_takes_requests n t k b | unit.Module m ↦ module_takes_request m b | unit.Element p ↦ b | unit.Nothing ↦ b ] ≡ b
+  idle_at n (unit.Switch t k) empty = switch_idle n t k (switch_at b.switches n) refl empty
+  idle_at n (unit.Module m) empty = module_idle m (module_at b.modules m) refl empty.0
+  idle_at n (unit.Element p) empty = refl
+  idle_at n unit.Nothing empty = refl
 
-    pub takes_none : (n : ℕ) → has_unit l.came n ≡ false → takes_requests n b ≡ b
-    takes_none n h = idle_at n (unit_of b.stages n) (unit_is b.stages n) h
+  pub takes_none : (n : ℕ) → AreEmpty b.requests (request_inlets b.stages n) → takes_requests n b ≡ b
+  takes_none n empty = idle_at n (unit_of b.stages n) empty
 
 -- ---- what the later units ask is kept
 module _ (b : BlockState) (k : ℕ) where

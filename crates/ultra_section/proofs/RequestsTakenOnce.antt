@@ -85,14 +85,14 @@ module _ (d c : ℕ) (low : 1 ≤ d) (high : d ≤ 6) where
   abbrev at_switch : ℕ → ℕ → ℕ → BlockState → Option Switch × Ports (Option Request)
   at_switch n s k t = (switch_at t.switches n, on_both t.requests (request_links d s k))
 
-  switch_own : (n s k : ℕ) (t : BlockState) (o : Option Switch) → InCycle d c t → n < length t.switches → (request_links d s k).zero < length t.requests → (request_links d s k).one < length t.requests
+  switch_own : (n s k : ℕ) (t : BlockState) (o : Option Switch) → InCycle d c t → n < length t.switches
       → switch_at t.switches n ≡ o
       → or_same requests_taken_by request_taken_by no_element d (at_switch n s k) (at_switch n s k t) (λ w. at_switch n s k (requests_taken_by n s k t w)) o ≡ after_taking_switch s k (at_switch n s k t)
-  switch_own n s k t None p within zero one is =
+  switch_own n s k t None p within is =
       let empty = ap (λ o. (o, on_both t.requests (request_links d s k))) is in empty ∙ sym (ap (after_taking_switch s k) empty)
-  switch_own n s k t (Some w) p within zero one is =
+  switch_own n s k t (Some w) p within is =
       ap (λ e. (switch_at (set t.switches n (Some (after_requests e s t.done w (on_both t.requests (request_links e s k))))) n, on_both (without_both t.requests (request_links e s k)) (request_links d s k))) p.shape.stages
-      ∙ pair _ _ _ _ (get_or-set_same t.switches n _ None within ∙ ap (λ dn. Some (after_requests d s dn w (on_both t.requests (request_links d s k)))) p.done) (both_emptied t.requests (request_links d s k) zero one)
+      ∙ pair _ _ _ _ (get_or-set_same t.switches n _ None within ∙ ap (λ dn. Some (after_requests d s dn w (on_both t.requests (request_links d s k)))) p.done) (both_emptied t.requests (request_links d s k))
       ∙ sym (ap (after_taking_switch s k) (ap (λ o. (o, on_both t.requests (request_links d s k))) is))
 
   switch_others : (n s k : ℕ) → IsSwitch d n s k → (j : ℕ) (t : BlockState) → InCycle d c t → j ≢ n → at_switch n s k (taking_visit j t) ≡ at_switch n s k t
@@ -117,12 +117,10 @@ module _ (d c : ℕ) (low : 1 ≤ d) (high : d ≤ 6) where
       let s = stage_of d n in
       let k = index_of d n in
       let own = is_switch d n h in
-      let lead = both_links d low high n s k own in
       ap (at_switch n s k) (all_visits b)
       ∙ changed_once taking_visit (InCycle d c) kept (at_switch n s k) n (switch_others n s k own) (after_taking_switch s k)
       (λ t p. own_switch requests_taken_by request_taken_by no_element d (at_switch n s k) n h t p.shape.stages
-      ∙ switch_own n s k t (switch_at t.switches n) p (omega (arith, p.shape.switches))
-      (subst (λ x. (request_links d s k).zero < x) (sym p.shape.requests) lead.first_small) (subst (λ x. (request_links d s k).one < x) (sym p.shape.requests) lead.second_small) refl) 320 b shape small
+      ∙ switch_own n s k t (switch_at t.switches n) p (omega (arith, p.shape.switches)) refl) 320 b shape small
 
   -- ---- a module, and what is on its link
   abbrev pub after_taking_module : Option Bank × Option Request → Option Bank × Option Request
@@ -132,13 +130,13 @@ module _ (d c : ℕ) (low : 1 ≤ d) (high : d ≤ 6) where
   abbrev at_module : ℕ → BlockState → Option Bank × Option Request
   at_module p t = (module_at t.modules p, on_link t.requests (memory_link d p))
 
-  module_own : (p : ℕ) (t : BlockState) (o : Option Bank) → InCycle d c t → p < length t.modules → memory_link d p < length t.requests → module_at t.modules p ≡ o
+  module_own : (p : ℕ) (t : BlockState) (o : Option Bank) → InCycle d c t → p < length t.modules → module_at t.modules p ≡ o
       → or_same requests_taken_by request_taken_by no_element d (at_module p) (at_module p t) (λ x. at_module p (request_taken_by p t x)) o ≡ after_taking_module (at_module p t)
-  module_own p t None q within small is =
+  module_own p t None q within is =
       let empty = ap (λ o. (o, on_link t.requests (memory_link d p))) is in empty ∙ sym (ap after_taking_module empty)
-  module_own p t (Some x) q within small is =
+  module_own p t (Some x) q within is =
       ap (λ e. (module_at (set t.modules p (Some (bank_with (2 ^ e) x (on_link t.requests (memory_link e p))))) p, on_link (set t.requests (memory_link e p) None) (memory_link d p))) q.shape.stages
-      ∙ pair _ _ _ _ (get_or-set_same t.modules p _ None within) (emptied t.requests (memory_link d p) small)
+      ∙ pair _ _ _ _ (get_or-set_same t.modules p _ None within) (emptied t.requests (memory_link d p))
       ∙ sym (ap after_taking_module (ap (λ o. (o, on_link t.requests (memory_link d p))) is))
 
   module_others : (p : ℕ) → p < 2 ^ d → (j : ℕ) (t : BlockState) → InCycle d c t → j ≢ module_number d p → at_module p (taking_visit j t) ≡ at_module p t
@@ -162,7 +160,7 @@ module _ (d c : ℕ) (low : 1 ≤ d) (high : d ≤ 6) where
       ap (at_module p) (all_visits b)
       ∙ changed_once taking_visit (InCycle d c) kept (at_module p) (module_number d p) (module_others p h) after_taking_module
       (λ t q. own_module requests_taken_by request_taken_by no_element d (at_module p) p h t q.shape.stages
-      ∙ module_own p t (module_at t.modules p) q (omega (arith, q.shape.modules)) (subst (λ x. memory_link d p < x) (sym q.shape.requests) link) refl) 320 b shape small
+      ∙ module_own p t (module_at t.modules p) q (omega (arith, q.shape.modules)) refl) 320 b shape small
 
   -- ---- what nobody changes
   pub shape_after_taking : (b : BlockState) → InCycle d c b → InCycle d c (after_units takes_requests 320 b)

@@ -67,8 +67,8 @@ pub record IsKept (d wiring : ℕ) (program : List Instr) (s : Sets) (awake : Li
   pub network : wiring ≡ d
   pub units : UnitsAreKnown d s ws bs es
   pub rests : AreOthersAtRest d program awake es
-  pub replies : RepliesAreKnown d s.here for_replies
-  pub requests : RequestsAreKnown d s.here for_requests
+  pub replies : RepliesAreKnown d for_replies
+  pub requests : RequestsAreKnown d for_requests
   pub events_fit : most_events ≤ event_places
   pub stops_fit : most_stops ≤ stop_places
 

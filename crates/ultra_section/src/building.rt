@@ -111,8 +111,6 @@ impl Block {
     {
         let _count = switch_count(self.net);
         self.sets.stand_switch(number, &switch);
-        self.replies.renew(number, true);
-        self.requests.renew(number, true);
         self.switches[number] = Some(switch);
     }
 
@@ -124,7 +122,6 @@ impl Block {
         let unit = module_number(self.net, number);
         self.sets.stand(unit);
         self.sets.note_module(unit, &bank);
-        self.requests.renew(unit, true);
         self.modules[number as usize] = Some(bank);
     }
 
@@ -137,7 +134,6 @@ impl Block {
         self.sets.stand(unit);
         self.sets.note_element(unit, &element);
         self.awake.insert(unit);
-        self.replies.renew(unit, true);
         self.elements[pe as usize] = Some(element);
     }
 
@@ -149,8 +145,6 @@ impl Block {
     {
         let _count = switch_count(self.net);
         self.sets.leave(number);
-        self.replies.renew(number, false);
-        self.requests.renew(number, false);
         self.switches[number].take()
     }
 
@@ -162,7 +156,6 @@ impl Block {
     {
         let unit = module_number(self.net, number);
         self.sets.leave(unit);
-        self.requests.renew(unit, false);
         self.modules[number as usize].take()
     }
 
@@ -175,7 +168,6 @@ impl Block {
         let unit = element_number(self.net, pe);
         self.sets.leave(unit);
         self.awake.remove(unit);
-        self.replies.renew(unit, false);
         self.elements[pe as usize].take()
     }
 

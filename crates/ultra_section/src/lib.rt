@@ -5,7 +5,7 @@
 //!
 //! | Set | Its units | Who notes it | Who reads it |
 //! |---|---|---|---|
-//! | `here` | exactly those that stand here | `put_switch`, `take_switch` and the like | each half that sends, which notes a message in `came` if its unit stands here, and else in `away` |
+//! | `here` | exactly those that stand here | `put_switch`, `take_switch` and the like | the exchange of messages between blocks |
 //! | `holds_replies` | exactly the switches and modules that hold a reply | each half that moves replies, and `serve` | `send_replies` |
 //! | `no_reply_room` | exactly the switches without room for replies | each half that moves replies | `rooms`, `send_replies_here` |
 //! | `holds_requests` | exactly the units that hold a request | each half that moves requests, `serve` and `execute` | `send_requests`, which skips modules |
@@ -14,8 +14,7 @@
 //! | `running` | exactly the processing elements that haven't stopped | `execute` | `is_stepping` |
 //! | `awake` | at least the processing elements that aren't at rest; those that are have stopped, or can only stall until a reply is delivered | `take_replies` adds, `execute` removes | `execute` |
 //! | `keeps_records` | exactly the switches that keep a record of a combination | `take_requests` and `take_replies` | `next_holding` |
-//! | `came`, of each kind of message | at least the units here to which a message leads | a half that sends adds, the one that takes removes | the half that takes |
-//! | `away`, of each kind of message | at least the units elsewhere to which one leads | a half that sends adds, the exchange of messages removes | the exchange of messages between blocks |
+//! | `targets`, of each kind of message | at least the units, here or elsewhere, to which a message leads | a half that sends adds, the one that takes and the exchange remove | the half that takes, and the exchange of messages between blocks |
 #![tactic(auto)]
 
 mod block;

@@ -15,7 +15,7 @@ impl Block {
         ensures some { IfSome result (λ k. IsNextForReplies self.now from k) }
         ensures none { IfNone result (NoReplyLeavesWithin self.now from 320) }
     {
-        let away = &self.replies.away;
+        let away = self.replies.targets.without(&self.sets.here);
         if away.is_empty() {
             return None;
         }
@@ -50,8 +50,7 @@ impl Block {
         ensures links { length self.old.replies ≡ (self.old.stages + 1) * 2 ^ self.old.stages }
     {
         let _stages = self.net.stages();
-        let here = &self.sets.here;
-        self.replies.put(here, inlets.zero, unit, replies.zero);
-        self.replies.put(here, inlets.one, unit, replies.one);
+        self.replies.put(inlets.zero, unit, replies.zero);
+        self.replies.put(inlets.one, unit, replies.one);
     }
 }

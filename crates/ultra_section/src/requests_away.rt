@@ -15,7 +15,7 @@ impl Block {
         ensures some { IfSome result (λ k. IsNextForRequests self.now from k) }
         ensures none { IfNone result (NoRequestLeavesWithin self.now from 320) }
     {
-        let away = &self.requests.away;
+        let away = self.requests.targets.without(&self.sets.here);
         if away.is_empty() {
             return None;
         }
@@ -50,8 +50,7 @@ impl Block {
         ensures links { length self.old.requests ≡ (self.old.stages + 1) * 2 ^ self.old.stages }
     {
         let _stages = self.net.stages();
-        let here = &self.sets.here;
-        self.requests.put(here, inlets.zero, unit, requests.zero);
-        self.requests.put(here, inlets.one, unit, requests.one);
+        self.requests.put(inlets.zero, unit, requests.zero);
+        self.requests.put(inlets.one, unit, requests.one);
     }
 }

@@ -21,12 +21,11 @@ use ultra_switch::{Ports, Switch};
 use ultra_units::replies::{leave_module, leave_switch};
 use ultra_units::{Links, Unit, UnitSet, Visit, find_reply_ways, switch_number, visit_all};
 
-/// The first reply of each queue of a switch goes onto its link, where there is a way. One port is done with before the other: `link` is the link of port 0, and that of port 1 comes after it. `here` are the units that stand here.
+/// The first reply of each queue of a switch goes onto its link, where there is a way. One port is done with before the other: `link` is the link of port 0, and that of port 1 comes after it.
 #[inline(always)]
 fn send_from_switch(
     switch: &mut Switch,
     links: &mut Links<ReplyMessage>,
-    here: &UnitSet,
     net: Net,
     link: usize,
     targets: Ports<usize>,
@@ -37,16 +36,16 @@ fn send_from_switch(
     requires zero_small { targets.zero < 320 }
     requires one_small { targets.one < 320 }
     requires link { link < 640 }
-    requires known { RepliesAreKnown net here.now links.old }
+    requires known { RepliesAreKnown net links.old }
     ensures switch { switch.new ≡ without_replies switch.old (replies_leaving ways switch.old) }
     ensures table { links.new.table.items ≡ put_on (put_on links.old.table.items link (replies_leaving ways switch.old).zero) (link + 1) (replies_leaving ways switch.old).one }
-    ensures known { RepliesAreKnown net here.now links.new }
+    ensures known { RepliesAreKnown net links.new }
 {
     let to_pe = &mut switch.to_pe;
     let zero = leave_where(ways.zero, &mut to_pe.zero);
-    leave_switch(links, here, net, link, targets.zero, zero);
+    leave_switch(links, net, link, targets.zero, zero);
     let one = leave_where(ways.one, &mut to_pe.one);
-    leave_switch(links, here, net, link + 1, targets.one, one);
+    leave_switch(links, net, link + 1, targets.one, one);
 }
 
 impl Block {
@@ -63,8 +62,7 @@ impl Block {
             return;
         };
         let ways = find_reply_ways(closed, stage, targets);
-        let (links, here) = (&mut self.replies, &self.sets.here);
-        send_from_switch(switch, links, here, net, 2 * number, targets, ways);
+        send_from_switch(switch, &mut self.replies, net, 2 * number, targets, ways);
         self.sets.note_replies(number, switch);
     }
 
@@ -82,7 +80,7 @@ impl Block {
         let target = switch_number(net, net.stages() - 1, module_number / 2);
         let out = modules::send_reply(bank, !closed.has(target));
         self.sets.note_module(number, bank);
-        leave_module(&mut self.replies, &self.sets.here, net, module_number, out);
+        leave_module(&mut self.replies, net, module_number, out);
     }
 }
 

@@ -23,12 +23,11 @@ use ultra_units::{
     Links, Unit, UnitSet, Visit, find_request_ways, has_way_from_element, visit_all,
 };
 
-/// The first request of each queue of a switch goes onto its link, where there is a way. One port is done with before the other: `link` is the link of port 0, and that of port 1 comes after it. `here` are the units that stand here.
+/// The first request of each queue of a switch goes onto its link, where there is a way. One port is done with before the other: `link` is the link of port 0, and that of port 1 comes after it.
 #[inline(always)]
 fn send_from_switch(
     switch: &mut Switch,
     links: &mut Links<Request>,
-    here: &UnitSet,
     net: Net,
     link: usize,
     targets: Ports<usize>,
@@ -39,16 +38,16 @@ fn send_from_switch(
     requires zero_small { targets.zero < 320 }
     requires one_small { targets.one < 320 }
     requires link { link < 640 }
-    requires known { RequestsAreKnown net here.now links.old }
+    requires known { RequestsAreKnown net links.old }
     ensures switch { switch.new ≡ without_requests switch.old (requests_leaving ways switch.old) }
     ensures table { links.new.table.items ≡ put_on (put_on links.old.table.items link (requests_leaving ways switch.old).zero) (link + 1) (requests_leaving ways switch.old).one }
-    ensures known { RequestsAreKnown net here.now links.new }
+    ensures known { RequestsAreKnown net links.new }
 {
     let to_mm = &mut switch.to_mm;
     let zero = leave_where(ways.zero, &mut to_mm.zero);
-    leave_switch(links, here, net, link, targets.zero, zero);
+    leave_switch(links, net, link, targets.zero, zero);
     let one = leave_where(ways.one, &mut to_mm.one);
-    leave_switch(links, here, net, link + 1, targets.one, one);
+    leave_switch(links, net, link + 1, targets.one, one);
 }
 
 impl Block {
@@ -72,8 +71,7 @@ impl Block {
         };
         let heads = switches::request_heads(switch);
         let ways = find_request_ways(net, closed, stage, targets, heads);
-        let (links, here) = (&mut self.requests, &self.sets.here);
-        send_from_switch(switch, links, here, net, 2 * number, targets, ways);
+        send_from_switch(switch, &mut self.requests, net, 2 * number, targets, ways);
         self.sets.note_requests(number, switch);
     }
 
@@ -93,7 +91,7 @@ impl Block {
         }
         let out = element.send_request();
         self.sets.note_element(number, element);
-        leave_element(&mut self.requests, &self.sets.here, net, pe, out);
+        leave_element(&mut self.requests, net, pe, out);
     }
 }
 

@@ -110,7 +110,6 @@ impl Sets {
         requires { number < 320 }
         ensures there { facts_at self.new number ≡ record (facts_at self.old number) { holds_replies = holds_replies switch.now; no_reply_room = not (has_reply_room switch.now) } }
         ensures others { (k : ℕ) → k ≢ number → facts_at self.new k ≡ facts_at self.old k }
-        ensures here { self.new.here ≡ self.old.here }
     {
         self.holds_replies
             .note(number, switches::holds_replies(switch));
@@ -124,7 +123,6 @@ impl Sets {
         requires { number < 320 }
         ensures there { facts_at self.new number ≡ record (facts_at self.old number) { holds_requests = holds_requests switch.now; no_room_zero = not (has_request_room switch.now).zero; no_room_one = not (has_request_room switch.now).one } }
         ensures others { (k : ℕ) → k ≢ number → facts_at self.new k ≡ facts_at self.old k }
-        ensures here { self.new.here ≡ self.old.here }
     {
         let room = switches::has_request_room(switch);
         self.holds_requests
@@ -140,7 +138,6 @@ impl Sets {
         requires noted { may_differ ≡ false → (facts_at self.old number).keeps_records ≡ keeps_records switch.now }
         ensures there { facts_at self.new number ≡ record (facts_at self.old number) { keeps_records = keeps_records switch.now } }
         ensures others { (k : ℕ) → k ≢ number → facts_at self.new k ≡ facts_at self.old k }
-        ensures here { self.new.here ≡ self.old.here }
     {
         if may_differ {
             self.keeps_records
@@ -155,7 +152,6 @@ impl Sets {
         requires fewer { (facts_at self.old number).keeps_records ≡ false → keeps_records switch.now ≡ false }
         ensures there { facts_at self.new number ≡ record (facts_at self.old number) { holds_replies = holds_replies switch.now; no_reply_room = not (has_reply_room switch.now); keeps_records = keeps_records switch.now } }
         ensures others { (k : ℕ) → k ≢ number → facts_at self.new k ≡ facts_at self.old k }
-        ensures here { self.new.here ≡ self.old.here }
     {
         let kept_records = self.keeps_records.has(number);
         self.note_replies(number, switch);
@@ -169,7 +165,6 @@ impl Sets {
         requires noted { may_differ ≡ false → (facts_at self.old number).keeps_records ≡ keeps_records switch.now }
         ensures there { facts_at self.new number ≡ record (facts_at self.old number) { holds_requests = holds_requests switch.now; no_room_zero = not (has_request_room switch.now).zero; no_room_one = not (has_request_room switch.now).one; keeps_records = keeps_records switch.now } }
         ensures others { (k : ℕ) → k ≢ number → facts_at self.new k ≡ facts_at self.old k }
-        ensures here { self.new.here ≡ self.old.here }
     {
         self.note_requests(number, switch);
         self.note_records(number, switch, may_differ);
@@ -181,7 +176,6 @@ impl Sets {
         requires { number < 320 }
         ensures there { facts_at self.new number ≡ record (facts_at self.old number) { holds_replies = is_some bank.now.out; holds_requests = is_some bank.now.inp; no_room_zero = is_some bank.now.inp; to_serve = would_serve bank.now } }
         ensures others { (k : ℕ) → k ≢ number → facts_at self.new k ≡ facts_at self.old k }
-        ensures here { self.new.here ≡ self.old.here }
     {
         let holds_reply = modules::holds_reply(bank);
         let holds_request = modules::holds_request(bank);
@@ -197,7 +191,6 @@ impl Sets {
         requires { number < 320 }
         ensures there { facts_at self.new number ≡ record (facts_at self.old number) { holds_requests = holds_request element.now; running = not (has_stopped element.now.processor.core.activity) } }
         ensures others { (k : ℕ) → k ≢ number → facts_at self.new k ≡ facts_at self.old k }
-        ensures here { self.new.here ≡ self.old.here }
     {
         self.holds_requests.note(number, element.holds_request());
         self.running.note(number, !element.has_stopped());

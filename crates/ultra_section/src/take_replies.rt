@@ -36,14 +36,14 @@ fn take_into_switch(
     requires room { CanTakeReplies switch.old (on_both links.old.table.items inlets) }
     ensures switch { switch.new ≡ after_replies net stage switch.old (on_both links.old.table.items inlets) }
     ensures table { links.new.table.items ≡ without_both links.old.table.items inlets }
-    ensures known { (here : List ℕ) → RepliesAreKnown net here links.old → RepliesAreKnown net here links.new }
+    ensures known { RepliesAreKnown net links.old → RepliesAreKnown net links.new }
 {
     let Switch { to_mm, to_pe } = switch;
     let zero = links.take(inlets.zero);
     take_reply(&mut to_mm.zero, to_pe, net, stage, zero);
     let one = links.take(inlets.one);
     take_reply(&mut to_mm.one, to_pe, net, stage, one);
-    links.came.remove(number);
+    links.targets.remove(number);
 }
 
 impl Block {
@@ -95,7 +95,7 @@ impl Visit<Block> for TakeReplies {
 
     #[inline(always)]
     fn units<'t>(&self, block: &'t Block) -> &'t UnitSet {
-        &block.replies.came
+        &block.replies.targets
     }
 
     #[inline(always)]

@@ -43,14 +43,14 @@ fn take_into_switch(
     ensures few { length events.new.items ≤ length events.old.items + 2 }
     ensures none { (result ≡ false) ↔ (combinations_of_both net stage index switch.old (on_link links.old.table.items in_turn.0) (on_link links.old.table.items in_turn.1) ≡ []) }
     ensures table { links.new.table.items ≡ without_both links.old.table.items (request_links net stage index) }
-    ensures known { (here : List ℕ) → RequestsAreKnown net here links.old → RequestsAreKnown net here links.new }
+    ensures known { RequestsAreKnown net links.old → RequestsAreKnown net links.new }
 {
     let to_mm = &mut switch.to_mm;
     let first = links.take(in_turn.0);
     let first_combines = take_request(to_mm, net, stage, index, first, events);
     let second = links.take(in_turn.1);
     let second_combines = take_request(to_mm, net, stage, index, second, events);
-    links.came.remove(number);
+    links.targets.remove(number);
     if first_combines & second_combines {
         put_in_order(events, is_turned(net, stage, first, second));
     }
@@ -109,7 +109,7 @@ impl Visit<Block> for TakeRequests {
 
     #[inline(always)]
     fn units<'t>(&self, block: &'t Block) -> &'t UnitSet {
-        &block.requests.came
+        &block.requests.targets
     }
 
     #[inline(always)]

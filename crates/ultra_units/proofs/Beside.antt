@@ -1,5 +1,5 @@
 -- The entries of a wiring, one after another.
-use Rattle.std.proofs.Common.{◌≡◌, ℕ, ◌+◌, ◌<◌, List, [], ◌∷◌, ◌++◌, inl, inr, refl, sym, ◌∙◌, ap, arith}
+use Rattle.std.proofs.Common.{◌≡◌, ℕ, ◌+◌, List, [], ◌∷◌, ◌++◌, inl, inr, ◌∙◌, ap, arith}
 use Rattle.std.proofs.lemmas.List.{length-append, get_or_append_left, get_or_at}
 use Rattle.std.proofs.lemmas.Bool.{cases_lt}
 use Rattle.ultra_units.specs.Units.{IsSwitch}

@@ -1,9 +1,9 @@
 -- What is on links, after others or they themselves were emptied.
-use Rattle.std.proofs.Common.{◌≡◌, ◌≢◌, ℕ, ◌<◌, List, Bool, true, false, Option, None, length, set, get_or-set_other, refl, sym, ◌∙◌}
+use Rattle.std.proofs.Common.{◌≡◌, ◌≢◌, ℕ, List, Bool, true, false, Option, None, set, get_or-set_other, refl, sym, ◌∙◌}
 use Rattle.std.proofs.lemmas.List.{set_comm}
 use Rattle.ultra_switch.specs.declared.Ports.{Ports}
 use Rattle.ultra_units.specs.Marks.{ports_in_turn, on_link, on_both, without_both}
-use Rattle.ultra_units.proofs.Marks.{emptied_first, emptied_second}
+use Rattle.ultra_units.proofs.Marks.{emptied, emptied_first}
 
 pub pair : {A B : Type 0} (a c : A) (b e : B) → a ≡ c → b ≡ e → ◌≡◌ {A = A × B} (a, b) (c, e)
 pair a c b e p q = rw (p, q) refl
@@ -21,8 +21,8 @@ module _ {M : Type 0} (t : List (Option M)) where
   pub both_apart_one : (a : ℕ) (q : Ports ℕ) → q.zero ≢ a → q.one ≢ a → on_both (set t a None) q ≡ on_both t q
   both_apart_one a q zero one = rw (link_apart a q.zero zero, link_apart a q.one one) refl
 
-  pub both_emptied : (p : Ports ℕ) → p.zero < length t → p.one < length t → on_both (without_both t p) p ≡ record { zero = None; one = None }
-  both_emptied p zero one = rw (emptied_first t p.zero p.one zero one, emptied_second t p.zero p.one one) refl
+  pub both_emptied : (p : Ports ℕ) → on_both (without_both t p) p ≡ record { zero = None; one = None }
+  both_emptied p = rw (emptied_first t p.zero p.one, emptied (set t p.zero None) p.one) refl
 
 -- ---- two links that are emptied one after the other
 module _ {M : Type 0} (t : List (Option M)) (p : Ports ℕ) where

@@ -1,22 +1,24 @@
 -- The links by which replies come to a unit.
-use Rattle.std.proofs.Common.{◌≡◌, ℕ, ◌+◌, ◌*◌, ◌^◌, ◌<◌, ◌≤◌, List, Some, None, length, set, sym, ◌∙◌, ap, subst, arith, refl, inl, inr}
+use Rattle.std.proofs.Common.{◌≡◌, ℕ, ◌+◌, ◌*◌, ◌^◌, ◌<◌, ◌≤◌, Some, None, length, set, sym, ◌∙◌, ap, subst, arith, refl, inl, inr, false}
 use Rattle.std.specs.Prelude.{◌⊎◌}
 use Rattle.std.proofs.lemmas.List.{length-set}
+use Rattle.std.proofs.lemmas.Option.{same_Some}
 use Rattle.ultra_msg.specs.declared.ReplyMessage.{ReplyMessage}
 use Rattle.ultra_route.specs.Route.{shuffled}
 use Rattle.ultra_route.proofs.Table.{back}
 use Rattle.ultra_switch.specs.declared.Ports.{Ports}
+use Rattle.ultra_units.specs.Set.{has_unit}
 use Rattle.ultra_units.specs.Numbers.{switch_count, element_number}
 use Rattle.ultra_units.specs.declared.links.Links.{Links}
 use Rattle.ultra_units.specs.declared.unit.Unit.{Unit as UnitName}
 use Rattle.ultra_units.specs.declared.unit.Unit.TheVariants as unit
 use Rattle.ultra_units.specs.Units.{unit_of, stage_of, index_of, IsUnit, IsSwitch, IsElement}
 use Rattle.ultra_units.specs.Marks.{RepliesAreKnown, reply_links, delivery_link}
-use Rattle.ultra_units.specs.Inlets.{at_both, reply_inlets}
+use Rattle.ultra_units.specs.Inlets.{AreEmpty, at_both, reply_inlets}
 use Rattle.ultra_units.proofs.Readers.{reply_reader, reply_to_element}
 use Rattle.ultra_units.proofs.Standing.{unit_is}
 use Rattle.ultra_units.proofs.ReplyMarks.{both_links}
-use Rattle.ultra_units.proofs.Left.{HasLeft, left_marked, some_same}
+use Rattle.ultra_units.proofs.Marks.{HasTaken, nothing_there, taken_marked}
 
 -- the inlets of unit n: they lead to it, and no other link does
 pub record Inlets (d n : ℕ) (p : Ports ℕ) : Type 0 where
@@ -29,7 +31,7 @@ pub record Inlets (d n : ℕ) (p : Ports ℕ) : Type 0 where
   pub elements : (q : ℕ) → q < 2 ^ d → element_number d q ≡ n → (delivery_link d q ≡ p.zero) ⊎ (delivery_link d q ≡ p.one)
 
 module _ (d : ℕ) (low : 1 ≤ d) (high : d ≤ 6) where
-  at_switch : (n s k : ℕ) → IsSwitch d n s k → Inlets d n (reply_links d s k)
+  pub at_switch : (n s k : ℕ) → IsSwitch d n s k → Inlets d n (reply_links d s k)
   at_switch n s k is =
       let lead = both_links d low high n s k is in
       let own : reply_links d s k ≡ reply_links d (stage_of d n) (index_of d n) = rw (is.stage, is.index) refl in
@@ -43,7 +45,7 @@ module _ (d : ℕ) (low : 1 ≤ d) (high : d ≤ 6) where
         elements = λ q h same. absurd (let within = is.within in omega arith);
       }
 
-  at_end : (n p : ℕ) → IsElement d n p → Inlets d n (at_both (delivery_link d p))
+  pub at_end : (n p : ℕ) → IsElement d n p → Inlets d n (at_both (delivery_link d p))
   at_end n p is =
       let small : delivery_link d p < (d + 1) * 2 ^ d = (let entry : shuffled d p < 2 ^ d = (back d p low high is.small).entry_small in grind arith) in
       let reader : reply_reader d (delivery_link d p) ≡ n = reply_to_element d low high p is.small ∙ sym is.number in
@@ -59,23 +61,32 @@ module _ (d : ℕ) (low : 1 ≤ d) (high : d ≤ 6) where
 
   at_unit : (n : ℕ) (u : UnitName) (p : Ports ℕ) → IsUnit d n u
       → elim u [ unit.Switch s k ↦ Some (reply_links d s k) | unit.Module m ↦ None | unit.Element p ↦ Some (at_both (delivery_link d p)) | unit.Nothing ↦ None ] ≡ Some p → Inlets d n p
-  at_unit n (unit.Switch s k) p is same = subst (Inlets d n) (some_same _ _ same) (at_switch n s k is)
-  at_unit n (unit.Element m) p is same = subst (Inlets d n) (some_same _ _ same) (at_end n m is)
+  at_unit n (unit.Switch s k) p is same = subst (Inlets d n) (same_Some _ _ same) (at_switch n s k is)
+  at_unit n (unit.Element m) p is same = subst (Inlets d n) (same_Some _ _ same) (at_end n m is)
   at_unit n (unit.Module m) p is same = cc
   at_unit n unit.Nothing p is same = cc
 
   pub inlets : (n : ℕ) (p : Ports ℕ) → reply_inlets d n ≡ Some p → Inlets d n p
   inlets n p same = at_unit n (unit_of d n) p (unit_is d n) same
 
-  -- what is known of links is kept when what leads to a unit elsewhere is handed over
-  pub known_left : (here : List ℕ) (l m : Links ReplyMessage) (n : ℕ) (p : Ports ℕ) → reply_inlets d n ≡ Some p → HasLeft here l m n p → RepliesAreKnown d here l → RepliesAreKnown d here m
-  known_left here l m n p same left known =
-      let it = inlets n p same in
-      let zero_small : p.zero < length l.table.items = subst (λ x. p.zero < x) (sym known.all) it.zero_small in
-      let one_small : p.one < length l.table.items = subst (λ x. p.one < x) (sym known.all) it.one_small in
-      record {
-        all = ap length left.table ∙ length-set (set l.table.items p.zero None) p.one None ∙ length-set l.table.items p.zero None ∙ known.all;
-        switches_zero = λ j h. left_marked here l m n p left zero_small one_small j (reply_links d (stage_of d j) (index_of d j)).zero (it.switches_zero j h) (known.switches_zero j h);
-        switches_one = λ j h. left_marked here l m n p left zero_small one_small j (reply_links d (stage_of d j) (index_of d j)).one (it.switches_one j h) (known.switches_one j h);
-        elements = λ q h. left_marked here l m n p left zero_small one_small (element_number d q) (delivery_link d q) (it.elements q h) (known.elements q h);
-      }
+  -- what is known of links is kept when what leads to a unit is taken
+  pub known_taken : (l m : Links ReplyMessage) (n : ℕ) (p : Ports ℕ) → Inlets d n p → HasTaken l m n p → RepliesAreKnown d l → RepliesAreKnown d m
+  known_taken l m n p it taken known = record {
+    all = ap length taken.table ∙ length-set (set l.table.items p.zero None) p.one None ∙ length-set l.table.items p.zero None ∙ known.all;
+    switches_zero = λ j h. taken_marked l m n p taken j (reply_links d (stage_of d j) (index_of d j)).zero (it.switches_zero j h) (known.switches_zero j h);
+    switches_one = λ j h. taken_marked l m n p taken j (reply_links d (stage_of d j) (index_of d j)).one (it.switches_one j h) (known.switches_one j h);
+    elements = λ q h. taken_marked l m n p taken (element_number d q) (delivery_link d q) (it.elements q h) (known.elements q h);
+  }
+
+-- nothing is on the links of a unit that isn't among those to which something is known to lead
+module _ (d : ℕ) (l : Links ReplyMessage) (known : RepliesAreKnown d l) (n : ℕ) (none : has_unit l.targets n ≡ false) where
+  none_at : (u : UnitName) → IsUnit d n u → AreEmpty l.table.items (elim u [ unit.Switch s k ↦ Some (reply_links d s k) | unit.Module m ↦ None | unit.Element p ↦ Some (at_both (delivery_link d p)) | unit.Nothing ↦ None ])
+  none_at (unit.Switch s k) is =
+      rw (is.stage, is.index) (nothing_there l n _ (known.switches_zero n is.within) none, nothing_there l n _ (known.switches_one n is.within) none)
+  none_at (unit.Element p) is =
+      let empty = nothing_there l (element_number d p) _ (known.elements p is.small) (ap (has_unit l.targets) (sym is.number) ∙ none) in (empty, empty)
+  none_at (unit.Module m) is = tt
+  none_at unit.Nothing is = tt
+
+  pub none_lead : AreEmpty l.table.items (reply_inlets d n)
+  none_lead = none_at (unit_of d n) (unit_is d n)

@@ -1,12 +1,12 @@
 -- Units and the bits of their words.
-use Rattle.std.proofs.Common.{◌≡◌, ℕ, zero, suc, max, ◌||◌, ◌+◌, ◌-◌, ◌*◌, ◌/◌, ◌%◌, ◌^◌, ◌<◌, ◌≤◌, true, false, List, length, get_or, set, eqb, refl, sym, ◌∙◌, ap, inl, inr, arith, eq-eqb, get_or-set_same, get_or-set_other, replicate, w64}
+use Rattle.std.proofs.Common.{◌≡◌, ℕ, zero, suc, max, min, Bool, ◌&&◌, ◌||◌, ◌+◌, ◌-◌, ◌*◌, ◌/◌, ◌%◌, ◌^◌, ◌<◌, ◌≤◌, true, false, List, length, get_or, set, eqb, refl, sym, ◌∙◌, ap, inl, inr, arith, eq-eqb, get_or-set_same, get_or-set_other, replicate, w64}
 use Rattle.std.proofs.lemmas.Bool.{cases_eq, cases_lt}
 use Rattle.std.proofs.lemmas.List.{get_or-replicate, get_or_past, length-replicate}
 use Rattle.std.proofs.lemmas.Nat.{shr-shr, shr_le, le_or_l, le_or_r}
-use Rattle.std.proofs.lemmas.Nat.Bits.{bit_at-zero, bit_at-lt, shr_and_one, bit_at_above, bit_at_or, bit_at_set_same, bit_at_set_other, bit_at_clear_same, bit_at_clear_other, bit_at-trailing_zeros}
-use Rattle.std.specs.Prelude.{bit_and, bit_or, ◌≢◌, Option, Some, None, IfSome, IfNone}
+use Rattle.std.proofs.lemmas.Nat.Bits.{bit_at-zero, bit_at-lt, shr_and_one, bit_at_above, bit_at_and, bit_at_not, bit_at_or, bit_at_set_same, bit_at_set_other, bit_at_clear_same, bit_at_clear_other, bit_at-trailing_zeros}
+use Rattle.std.specs.Prelude.{bit_and, bit_or, not, ◌≢◌, Option, Some, None, IfSome, IfNone}
 use Rattle.std.specs.Int.{bit_at, bit_not, trailing_zeros}
-use Rattle.ultra_units.specs.Set.{has_unit, HasNoneWithin, HasNoneFrom, IsFirstFrom, HasNoBitFrom, IsFirstBit}
+use Rattle.ultra_units.specs.Set.{has_bit, has_unit, HasNoneWithin, HasNoneFrom, IsFirstFrom, HasNoBitFrom, IsFirstBit}
 
 -- ---- bits of one word
 
@@ -155,7 +155,7 @@ pub not_found_after : (words : List ℕ) (a b : ℕ) (o : Option ℕ) → HasNon
 not_found_after words a b None low none = none_after words a b low none
 not_found_after words a b (Some k) low none = none
 
--- ---- reading and uniting
+-- ---- reading, uniting and taking away
 
 -- the bit of a unit, as the code reads it
 pub read_bit : (words : List ℕ) (number : ℕ) → eqb (bit_and (get_or words (number / 64) 0 / 2 ^ (number % 64)) 1) 1 ≡ has_unit words number
@@ -172,25 +172,33 @@ one_of (suc (suc a)) b small _ = absurd (omega arith)
 one_of zero (suc (suc b)) _ small = absurd (omega arith)
 one_of (suc zero) (suc (suc b)) _ small = absurd (omega arith)
 
--- a word of a set into which all of another was put
-pub added : (a b c : List ℕ) (k : ℕ) → get_or c (k / 64) 0 ≡ bit_or (get_or a (k / 64) 0) (get_or b (k / 64) 0)
-    → has_unit c k ≡ has_unit a k || has_unit b k
-unfolding has_unit
-added a b c k word =
-    ap (λ x. eqb (bit_at x (k % 64)) 1) word
-    ∙ ap (λ x. eqb x 1) (bit_at_or (get_or a (k / 64) 0) (get_or b (k / 64) 0) (k % 64))
-    ∙ one_of (bit_at (get_or a (k / 64) 0) (k % 64)) (bit_at (get_or b (k / 64) 0) (k % 64)) (bit_at-lt _ _) (bit_at-lt _ _)
+pub or_bits : (a b i : ℕ) → has_bit (bit_or a b) i ≡ has_bit a i || has_bit b i
+or_bits a b i = ap (λ x. eqb x 1) (bit_at_or a b i) ∙ one_of (bit_at a i) (bit_at b i) (bit_at-lt _ _) (bit_at-lt _ _)
 
--- five words, each united with the other's word
-pub united : (a b c : List ℕ) (n : ℕ) → length a ≡ 5 → length b ≡ 5 → length c ≡ 5 → 5 ≤ n
-    → ((i : ℕ) → i < n → get_or c i 0 ≡ bit_or (get_or a i 0) (get_or b i 0)) → ((i : ℕ) → n ≤ i → get_or c i 0 ≡ get_or a i 0)
-    → (k : ℕ) → has_unit c k ≡ has_unit a k || has_unit b k
-united a b c n five_a five_b five_c all words same k =
-    elim (cases_lt (k / 64) n) [
-      | inl below ↦ added a b c k (words (k / 64) below)
-      | inr past ↦
-          past_words c k (omega arith)
-          ∙ rw (past_words a k (omega arith), past_words b k (omega arith)) refl
+-- one is 1 and the other isn't
+one_without : (a b : ℕ) → a < 2 → b < 2 → eqb (min a (1 - b)) 1 ≡ eqb a 1 && not (eqb b 1)
+one_without zero zero _ _ = refl
+one_without zero (suc zero) _ _ = refl
+one_without (suc zero) zero _ _ = refl
+one_without (suc zero) (suc zero) _ _ = refl
+one_without (suc (suc a)) b small _ = absurd (omega arith)
+one_without zero (suc (suc b)) _ small = absurd (omega arith)
+one_without (suc zero) (suc (suc b)) _ small = absurd (omega arith)
+
+pub bits_left : (a b : ℕ) → b < 2 ^ 64 → (i : ℕ) → i < 64 → has_bit (bit_and a (bit_not w64 b)) i ≡ has_bit a i && not (has_bit b i)
+bits_left a b fits i within =
+    ap (λ x. eqb x 1) (bit_at_and a (bit_not w64 b) i ∙ ap (min (bit_at a i)) (bit_at_not w64 b i fits within))
+    ∙ one_without (bit_at a i) (bit_at b i) (bit_at-lt _ _) (bit_at-lt _ _)
+
+-- five words, each made of two others bit by bit
+pub bit_by_bit : (f : Bool → Bool → Bool) → f false false ≡ false → (a b c : List ℕ) → length a ≡ 5 → length b ≡ 5 → length c ≡ 5
+    → ((i : ℕ) → i < 5 → (j : ℕ) → j < 64 → has_bit (get_or c i 0) j ≡ f (has_bit (get_or a i 0) j) (has_bit (get_or b i 0) j))
+    → (k : ℕ) → has_unit c k ≡ f (has_unit a k) (has_unit b k)
+unfolding has_unit
+bit_by_bit f none a b c five_a five_b five_c words k =
+    elim (cases_lt (k / 64) 5) [
+      | inl below ↦ words (k / 64) below (k % 64) (omega arith)
+      | inr past ↦ past_words c k (omega arith) ∙ sym none ∙ rw (past_words a k (omega arith), past_words b k (omega arith)) refl
     ]
 
 -- ---- a set without any unit

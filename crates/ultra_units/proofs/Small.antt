@@ -1,5 +1,5 @@
 -- The units to which messages go from a switch have numbers below 320: computed over every network of at most six stages.
-use Rattle.std.proofs.Common.{◌≡◌, ℕ, ◌+◌, ◌-◌, ◌*◌, ◌<◌, ◌≤◌, Bool, true, ◌&&◌, refl, subst, arith}
+use Rattle.std.proofs.Common.{◌≡◌, ℕ, ◌+◌, ◌-◌, ◌<◌, ◌≤◌, Bool, true, ◌&&◌, refl, subst, arith}
 use Rattle.std.specs.Prelude.{nat_lt}
 use Rattle.ultra_switch.specs.declared.Ports.{Ports}
 use Rattle.ultra_route.proofs.Table.{all_below, all_below_at}

@@ -7,15 +7,14 @@ use Rattle.ultra_switch.specs.declared.Ports.{Ports}
 use Rattle.ultra_units.specs.Set.{has_unit}
 use Rattle.ultra_units.specs.Numbers.{switch_count, place_number, reply_source, request_source, module_number, element_number}
 use Rattle.ultra_units.specs.Units.{stage_of, index_of}
-use Rattle.ultra_units.specs.Links.{leads}
 use Rattle.ultra_units.specs.declared.links.Links.{Links}
 
 abbrev pub on_link : {M : Type 0} → List (Option M) → ℕ → Option M
 on_link table link = slice_index_or table link None
 
 -- where something is on the link, it is known to lead to the unit
-abbrev pub IsMarked : {M : Type 0} → List ℕ → Links M → ℕ → ℕ → Type 0
-IsMarked here l unit link = is_some (on_link l.table.items link) ≡ true → leads (has_unit here unit) (has_unit l.came unit) (has_unit l.away unit) ≡ true
+abbrev pub IsMarked : {M : Type 0} → Links M → ℕ → ℕ → Type 0
+IsMarked l unit link = is_some (on_link l.table.items link) ≡ true → has_unit l.targets unit ≡ true
 
 -- there is a link for each position of a stage, and one for each module or processing element
 abbrev pub HasAllLinks : {M : Type 0} → ℕ → Links M → Type 0
@@ -29,11 +28,11 @@ reply_links d s k = record { zero = reply_source d s (2 * k); one = reply_source
 abbrev pub delivery_link : ℕ → ℕ → ℕ
 delivery_link d p = place_number d 0 (shuffled d p)
 
-pub record RepliesAreKnown (d : ℕ) (here : List ℕ) (l : Links ReplyMessage) : Type 0 where
+pub record RepliesAreKnown (d : ℕ) (l : Links ReplyMessage) : Type 0 where
   pub all : HasAllLinks d l
-  pub switches_zero : (n : ℕ) → n < switch_count d → IsMarked here l n (reply_links d (stage_of d n) (index_of d n)).zero
-  pub switches_one : (n : ℕ) → n < switch_count d → IsMarked here l n (reply_links d (stage_of d n) (index_of d n)).one
-  pub elements : (p : ℕ) → p < 2 ^ d → IsMarked here l (element_number d p) (delivery_link d p)
+  pub switches_zero : (n : ℕ) → n < switch_count d → IsMarked l n (reply_links d (stage_of d n) (index_of d n)).zero
+  pub switches_one : (n : ℕ) → n < switch_count d → IsMarked l n (reply_links d (stage_of d n) (index_of d n)).one
+  pub elements : (p : ℕ) → p < 2 ^ d → IsMarked l (element_number d p) (delivery_link d p)
 
 -- ---- requests
 -- the links by which requests come to switch k of stage s, and to module m
@@ -43,11 +42,11 @@ request_links d s k = record { zero = request_source d s (2 * k); one = request_
 abbrev pub memory_link : ℕ → ℕ → ℕ
 memory_link d m = place_number d (d - 1) m
 
-pub record RequestsAreKnown (d : ℕ) (here : List ℕ) (l : Links Request) : Type 0 where
+pub record RequestsAreKnown (d : ℕ) (l : Links Request) : Type 0 where
   pub all : HasAllLinks d l
-  pub switches_zero : (n : ℕ) → n < switch_count d → IsMarked here l n (request_links d (stage_of d n) (index_of d n)).zero
-  pub switches_one : (n : ℕ) → n < switch_count d → IsMarked here l n (request_links d (stage_of d n) (index_of d n)).one
-  pub modules : (m : ℕ) → m < 2 ^ d → IsMarked here l (module_number d m) (memory_link d m)
+  pub switches_zero : (n : ℕ) → n < switch_count d → IsMarked l n (request_links d (stage_of d n) (index_of d n)).zero
+  pub switches_one : (n : ℕ) → n < switch_count d → IsMarked l n (request_links d (stage_of d n) (index_of d n)).one
+  pub modules : (m : ℕ) → m < 2 ^ d → IsMarked l (module_number d m) (memory_link d m)
 
 -- ---- what is taken
 abbrev pub on_both : {M : Type 0} → List (Option M) → Ports ℕ → Ports (Option M)

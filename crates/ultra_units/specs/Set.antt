@@ -2,9 +2,13 @@
 use Rattle.std.specs.Prelude.{◌≡◌, ℕ, ◌/◌, ◌%◌, ◌<◌, ◌≤◌, Bool, true, false, List, ◌==◌, slice_index}
 use Rattle.std.specs.Int.{bit_at}
 
+-- bit i of the word is set
+abbrev pub has_bit : ℕ → ℕ → Bool
+has_bit word i = bit_at word i == 1
+
 -- unit k is in the set: bit k % 64 of word k / 64 is set
 unfoldable pub has_unit : List ℕ → ℕ → Bool
-has_unit words k = bit_at (slice_index words (k / 64)) (k % 64) == 1
+has_unit words k = has_bit (slice_index words (k / 64)) (k % 64)
 
 -- no unit from `from` on, below `to`, is in the set
 abbrev pub HasNoneWithin : List ℕ → ℕ → ℕ → Type 0

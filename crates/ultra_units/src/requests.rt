@@ -1,6 +1,6 @@
 //! Requests on the links between units.
 
-ghost use Rattle.std.specs.Prelude.{◌≡◌, ℕ, ◌^◌, ◌<◌, List, None, slice_set};
+ghost use Rattle.std.specs.Prelude.{◌≡◌, ◌^◌, ◌<◌, None, slice_set};
 ghost use Rattle.ultra_units.specs.Numbers.{place_number as number_of_place};
 ghost use Rattle.ultra_units.specs.Links.{put_on};
 ghost use Rattle.ultra_units.specs.Marks.{HasAllLinks, RequestsAreKnown, memory_link, on_link};
@@ -9,15 +9,13 @@ ghost use Rattle.ultra_units.specs.Units.{IsModule};
 
 use crate::links::Links;
 use crate::numbers::{place_number, switch_number};
-use crate::unit_set::UnitSet;
 use ultra_msg::Request;
 use ultra_route::Net;
 
-/// A request, if there is one, leaves a switch by a link, which leads to the unit `target`. `here` are the units that stand here.
+/// A request, if there is one, leaves a switch by a link, which leads to the unit `target`.
 #[inline(always)]
 pub fn leave_switch(
     links: &mut Links<Request>,
-    here: &UnitSet,
     net: Net,
     link: usize,
     target: usize,
@@ -25,31 +23,25 @@ pub fn leave_switch(
 )
     requires leads { IsRequestWay net link target }
     requires small { target < 320 }
-    requires known { RequestsAreKnown net here.now links.old }
+    requires known { RequestsAreKnown net links.old }
     ensures table { links.new.table.items ≡ put_on links.old.table.items link request }
-    ensures known { RequestsAreKnown net here.now links.new }
+    ensures known { RequestsAreKnown net links.new }
 {
-    links.put(here, link, target, request);
+    links.put(link, target, request);
 }
 
 /// A request, if there is one, leaves a processing element.
 #[inline(always)]
-pub fn leave_element(
-    links: &mut Links<Request>,
-    here: &UnitSet,
-    net: Net,
-    pe: u32,
-    request: Option<Request>,
-)
+pub fn leave_element(links: &mut Links<Request>, net: Net, pe: u32, request: Option<Request>)
     requires pe { pe < 2 ^ net }
-    requires known { RequestsAreKnown net here.now links.old }
+    requires known { RequestsAreKnown net links.old }
     ensures table { links.new.table.items ≡ put_on links.old.table.items (number_of_place net net pe) request }
-    ensures known { RequestsAreKnown net here.now links.new }
+    ensures known { RequestsAreKnown net links.new }
 {
     let _even = net.size();
     let link = place_number(net, net.stages(), pe);
     let target = switch_number(net, 0, net.shuffle(pe) / 2);
-    links.put(here, link, target, request);
+    links.put(link, target, request);
 }
 
 /// Takes what comes to a memory module. `number` is the number of the unit.
@@ -65,9 +57,9 @@ pub fn take_at_module(
     requires all { HasAllLinks net links.old }
     ensures came { result ≡ on_link links.old.table.items (memory_link net module_number) }
     ensures table { links.new.table.items ≡ slice_set links.old.table.items (memory_link net module_number) None }
-    ensures known { (here : List ℕ) → RequestsAreKnown net here links.old → RequestsAreKnown net here links.new }
+    ensures known { RequestsAreKnown net links.old → RequestsAreKnown net links.new }
 {
     let request = links.take(place_number(net, net.stages() - 1, module_number));
-    links.came.remove(number);
+    links.targets.remove(number);
     request
 }

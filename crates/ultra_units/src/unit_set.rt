@@ -1,7 +1,7 @@
 //! Sets of units.
 
-ghost use Rattle.std.specs.Prelude.{◌≡◌, ◌≢◌, ℕ, ◌+◌, ◌*◌, ◌<◌, ◌≤◌, ◌↔◌, Bool, ◌||◌, true, false, IfNone, IfSome};
-ghost use Rattle.ultra_units.specs.Set.{HasNoBitFrom, HasNoneFrom, IsFirstBit, IsFirstFrom, has_unit};
+ghost use Rattle.std.specs.Prelude.{◌≡◌, ◌≢◌, ℕ, ◌+◌, ◌*◌, ◌<◌, ◌≤◌, ◌↔◌, Bool, ◌&&◌, ◌||◌, true, false, not, IfNone, IfSome};
+ghost use Rattle.ultra_units.specs.Set.{HasNoBitFrom, HasNoneFrom, IsFirstBit, IsFirstFrom, has_bit, has_unit};
 
 use std::marker::Model;
 
@@ -96,6 +96,18 @@ impl UnitSet {
         }
     }
 
+    /// The units of this set that aren't in the other.
+    #[inline(always)]
+    pub fn without(&self, other: &UnitSet) -> UnitSet
+        ensures { (k : ℕ) → has_unit result k ≡ has_unit self.now k && not (has_unit other.now k) }
+    {
+        let mut rest = *self;
+        for word in 0..WORDS {
+            rest.words[word] = bits_without(rest.words[word], other.words[word]);
+        }
+        rest
+    }
+
     /// The first unit of the set whose number is at least `from`.
     #[inline(always)]
     pub fn next(&self, from: usize) -> Option<usize>
@@ -137,6 +149,14 @@ impl UnitSet {
         }
         None
     }
+}
+
+/// The bits of a word that aren't set in the other.
+#[inline(always)]
+fn bits_without(word: u64, other: u64) -> u64
+    ensures { (i : ℕ) → i < 64 → has_bit result i ≡ has_bit word i && not (has_bit other i) }
+{
+    word & !other
 }
 
 /// The first bit of the word from `from` on that is set.

@@ -1,4 +1,4 @@
-use Rattle.std.proofs.Common.{◌≡◌, ◌+◌, Bool, List, ℕ, Option, refl, arith}
+use Rattle.std.proofs.Common.{◌≡◌, ◌+◌, Bool, List, ℕ, Option, refl}
 use Rattle.std.specs.Prelude.{slice_get}
 use Rattle.ultra_msg.specs.declared.ReplyMessage.{ReplyMessage}
 use Rattle.ultra_switch.specs.declared.Ports.{Ports}

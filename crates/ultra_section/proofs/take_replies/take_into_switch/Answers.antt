@@ -10,11 +10,11 @@ use Rattle.ultra_model.specs.Phases.{replies_made}
 use Rattle.ultra_halves.specs.Halves.{going_by, lane_after_reply, ports, with_replies}
 use Rattle.ultra_halves.specs.Switches.{after_replies, has_reply_room}
 use Rattle.ultra_halves.proofs.Going.{both_rooms, room_left, room_of}
-use Rattle.ultra_units.specs.Marks.{on_both, on_link, without_both}
+use Rattle.ultra_units.specs.Marks.{on_link}
 use Rattle.ultra_units.specs.Set.{has_unit}
 use Rattle.ultra_units.specs.Units.{stage_of, index_of}
 use Rattle.ultra_units.proofs.Readers.{replies_to_switch}
-use Rattle.ultra_units.proofs.ReplyMarks.{known_taken}
+use Rattle.ultra_units.proofs.ReplyInlets.{at_switch, known_taken}
 use Rattle.ultra_units.proofs.Standing.{is_switch}
 use Rattle.ultra_section.proofs.take_replies.take_into_switch.Goals as goal
 
@@ -90,9 +90,8 @@ pub returns-clause-known : goal.returns-clause-known
 returns-clause-known c =
     let d = c.args.net in
     let n = c.args.number in
-    λ here known.
-    known_taken d (omega arith) (omega arith) here c.args.links.now record { table = c.take-one.new.self.table; came = c.remove.new.self; away = c.take-one.new.self.away }
-    n (stage_of d n) (index_of d n) (is_switch d n c.requires.switch)
-    (subst (λ p. c.take-one.new.self.table.items ≡ without_both c.args.links.now.table.items p) c.requires.inlets (returns-clause-table c))
-    (λ j other. c.remove.ensures.others j other ∙ ap (λ s. has_unit s j) (c.take-one.ensures.came ∙ c.take-zero.ensures.came))
-    (c.take-one.ensures.away ∙ c.take-zero.ensures.away) known
+    known_taken d (omega arith) (omega arith) c.args.links.now _ n c.args.inlets
+    (rw (c.requires.inlets) (at_switch d (omega arith) (omega arith) n (stage_of d n) (index_of d n) (is_switch d n c.requires.switch))) record {
+      table = returns-clause-table c;
+      others = λ j other. c.remove.ensures.others j other ∙ ap (λ s. has_unit s j) (c.take-one.ensures.targets ∙ c.take-zero.ensures.targets);
+    }

@@ -1,5 +1,5 @@
 use Rattle.std.proofs.Common.{◌∙◌, sym, ap, subst, arith, ◌≡◌, ◌≢◌, ◌<◌, ◌≤◌, ◌+◌, ◌*◌, ◌^◌, ◌++◌, [], ◌∷◌, ℕ, Bool, true, false, List, Option, None, length, set, refl, get_or-set_other}
-use Rattle.std.specs.Prelude.{◌↔◌, IsTrue}
+use Rattle.std.specs.Prelude.{IsTrue}
 use Rattle.std.specs.Option.{ForSome}
 use Rattle.std.proofs.lemmas.List.{length-set}
 use Rattle.ultra_msg.specs.declared.Request.{Request}
@@ -9,14 +9,15 @@ use Rattle.ultra_switch.specs.Arrive.{Lane, arrive}
 use Rattle.ultra_switch.specs.Queues.{SizedLane}
 use Rattle.ultra_model.specs.Places.{present}
 use Rattle.ultra_model.specs.Phases.{arrive_all}
-use Rattle.ultra_halves.specs.Halves.{combination_by, coming_to, has_place_for, in_order, lane_with, leaves_by, ports}
+use Rattle.ultra_halves.specs.Halves.{combination_by, coming_to, has_place_for, in_order, lane_with, ports}
 use Rattle.ultra_halves.specs.Switches.{HasWay, after_both, combinations_of_both}
 use Rattle.ultra_halves.proofs.Combinations.{combined_alone, combined_both, none_combined}
 use Rattle.ultra_halves.proofs.Going.{room_of}
-use Rattle.ultra_units.specs.Marks.{on_link, ports_in_turn, request_links, without_both}
+use Rattle.ultra_units.specs.Marks.{on_link, ports_in_turn, request_links}
 use Rattle.ultra_units.specs.Set.{has_unit}
 use Rattle.ultra_units.proofs.Emptied.{emptied_in_turn}
-use Rattle.ultra_units.proofs.RequestMarks.{both_links, known_taken}
+use Rattle.ultra_units.proofs.RequestInlets.{at_switch, known_taken}
+use Rattle.ultra_units.proofs.RequestMarks.{both_links}
 use Rattle.ultra_section.proofs.take_requests.take_into_switch.Goals as goal
 use Rattle.ultra_section.proofs.take_requests.take_into_switch.Goals.{then-first_combines-second_combines, else-first_combines-second_combines}
 
@@ -166,9 +167,7 @@ returns-clause-table c =
 
 pub returns-clause-known : goal.returns-clause-known
 returns-clause-known c =
-    λ here known.
-    known_taken c.args.net (omega arith) (omega arith) here c.args.links.now record { table = c.take-second.new.self.table; came = c.remove.new.self; away = c.take-second.new.self.away }
-    c.args.number c.args.stage c.args.index c.requires.is
-    (returns-clause-table c)
-    (λ j other. c.remove.ensures.others j other ∙ ap (λ s. has_unit s j) (c.take-second.ensures.came ∙ c.take-first.ensures.came))
-    (c.take-second.ensures.away ∙ c.take-first.ensures.away) known
+    known_taken c.args.net (omega arith) (omega arith) c.args.links.now _ c.args.number _ (at_switch c.args.net (omega arith) (omega arith) c.args.number c.args.stage c.args.index c.requires.is) record {
+      table = returns-clause-table c;
+      others = λ j other. c.remove.ensures.others j other ∙ ap (λ s. has_unit s j) (c.take-second.ensures.targets ∙ c.take-first.ensures.targets);
+    }

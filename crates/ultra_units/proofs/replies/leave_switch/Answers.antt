@@ -1,4 +1,4 @@
-use Rattle.std.proofs.Common.{◌≡◌, ◌+◌, ◌*◌, ◌^◌, ◌<◌, arith, ◌∙◌, ap, sym}
+use Rattle.std.proofs.Common.{◌^◌, arith, ◌∙◌, ap, sym}
 use Rattle.ultra_units.proofs.Put.{place_small}
 use Rattle.ultra_units.proofs.Readers.{reply_reader, reply_of_stage}
 use Rattle.ultra_units.proofs.ReplyMarks.{known_put}
@@ -12,7 +12,7 @@ put-requires c =
 pub returns-clause-known : goal.returns-clause-known
 returns-clause-known c =
     let (s, x, stage, within, link, target) = c.requires.leads in
-    known_put c.args.net (omega arith) (omega arith) c.args.here.now c.args.links.now c.put.new.self c.args.link c.args.target c.args.reply
+    known_put c.args.net (omega arith) (omega arith) c.args.links.now c.put.new.self c.args.link c.args.target c.args.reply
     (ap (reply_reader c.args.net) link ∙ reply_of_stage c.args.net (omega arith) (omega arith) s x stage within ∙ sym target)
-    record { table = c.put.ensures.table; leads_there = c.put.ensures.leads; came = c.put.ensures.came; away = c.put.ensures.away }
+    record { table = c.put.ensures.table; there = c.put.ensures.there; kept = c.put.ensures.kept }
     c.requires.known

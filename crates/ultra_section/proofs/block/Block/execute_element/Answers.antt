@@ -112,7 +112,7 @@ invariant_of-self-in-Issued c =
     let known = c.self.invariant in
     let is : IsElement inside.net c.args.number c.args.pe = subst (λ (b : BlockState). IsElement b.stages c.args.number c.args.pe) (sym c.self.view_is) c.requires.is in
     units_changed inside.net inside.wiring inside.sets c.note_element.new.self inside.switches.items _ inside.modules.items _ inside.elements.items _ inside.replies inside.requests _ _ _ _
-    known c.note_element.ensures.here
+    known
     (element_changed inside.net inside.sets c.note_element.new.self inside.switches.items inside.modules.items inside.elements.items known.units
     c.args.number c.args.pe c.index_mut.result.now c.in-Some.element c.execute-outcome.new.self is c.index_mut.ensures.value c.in-Some.is
     c.note_element.ensures.others c.note_element.ensures.there)
@@ -125,7 +125,7 @@ invariant_of-self-in-Faulted c =
     let known = c.self.invariant in
     let is : IsElement inside.net c.args.number c.args.pe = subst (λ (b : BlockState). IsElement b.stages c.args.number c.args.pe) (sym c.self.view_is) c.requires.is in
     units_changed inside.net inside.wiring inside.sets c.note_element.new.self inside.switches.items _ inside.modules.items _ inside.elements.items _ inside.replies inside.requests _ _ _ _
-    known c.note_element.ensures.here
+    known
     (element_changed inside.net inside.sets c.note_element.new.self inside.switches.items inside.modules.items inside.elements.items known.units
     c.args.number c.args.pe c.index_mut.result.now c.in-Some.element c.execute-outcome.new.self is c.index_mut.ensures.value c.in-Some.is
     c.note_element.ensures.others c.note_element.ensures.there)
@@ -138,7 +138,7 @@ invariant_of-self-in-Done-outcome c =
     let known = c.self.invariant in
     let is : IsElement inside.net c.args.number c.args.pe = subst (λ (b : BlockState). IsElement b.stages c.args.number c.args.pe) (sym c.self.view_is) c.requires.is in
     units_changed inside.net inside.wiring inside.sets c.note_element.new.self inside.switches.items _ inside.modules.items _ inside.elements.items _ inside.replies inside.requests _ _ _ _
-    known c.note_element.ensures.here
+    known
     (element_changed inside.net inside.sets c.note_element.new.self inside.switches.items inside.modules.items inside.elements.items known.units
     c.args.number c.args.pe c.index_mut.result.now c.in-Some.element c.execute-outcome.new.self is c.index_mut.ensures.value c.in-Some.is
     c.note_element.ensures.others c.note_element.ensures.there)

@@ -1,7 +1,7 @@
 use Rattle.std.proofs.Common.{◌≡◌, ◌<◌, Some, sym, subst, arith}
 use Rattle.ultra_section.specs.BlockState.{BlockState}
 use Rattle.ultra_units.specs.Inlets.{request_inlets}
-use Rattle.ultra_units.proofs.RequestInlets.{inlets, known_left}
+use Rattle.ultra_units.proofs.RequestInlets.{inlets, known_taken}
 use Rattle.ultra_section.proofs.block.Block.hand_over_requests.Goals as goal
 
 pub hand_over-requires-clause-zero : goal.hand_over-requires-clause-zero
@@ -24,8 +24,8 @@ invariant_of-self c =
     record {
       units = known.units;
       requests =
-          known_left inside.net (omega arith) (omega arith) inside.sets.here inside.requests c.hand_over.new.self c.args.unit c.args.inlets links
-          record { table = c.hand_over.ensures.table; came = c.hand_over.ensures.came; others = c.hand_over.ensures.others } known.requests;
+          known_taken inside.net (omega arith) (omega arith) inside.requests c.hand_over.new.self c.args.unit c.args.inlets (inlets inside.net (omega arith) (omega arith) c.args.unit c.args.inlets links)
+          record { table = c.hand_over.ensures.table; others = c.hand_over.ensures.others } known.requests;
       rests = known.rests;
       replies = known.replies;
       events_fit = known.events_fit;

@@ -1,4 +1,4 @@
-use Rattle.std.proofs.Common.{◌≡◌, ℕ, List, false, Option, Some, None, refl, subst, arith}
+use Rattle.std.proofs.Common.{◌≡◌, ℕ, List, false, Option, Some, None, refl, arith}
 use Rattle.std.specs.Prelude.{IfSome, IfNone}
 use Rattle.ultra_units.specs.Set.{has_unit, HasNoneFrom, IsFirstFrom}
 use Rattle.ultra_section.specs.BlockState.{BlockState}
@@ -22,25 +22,20 @@ pub returns-clause-some : goal.returns-clause-some
 returns-clause-some c =
     let inside = c.self.inside in
     let known = c.self.invariant in
-    next_unit inside.requests.away c.args.self.now c.args.from c.next.result
-    (subst (λ (b : BlockState). (n : ℕ) → has_unit inside.requests.away n ≡ false → stands n b ≡ false → AreEmpty b.requests (request_inlets b.stages n)) c.self.view_is
-    (none_away record { stages = inside.net; done = inside.done; program = inside.program; switches = inside.switches.items; modules = inside.modules.items; elements = inside.elements.items; replies = inside.replies.table.items; requests = inside.requests.table.items; events = inside.events.items; stops = inside.stops.items } inside.sets inside.requests refl known.units known.requests))
-    c.next.ensures.some
+    next_unit c.without-away.result c.args.self.now c.args.from c.next.result
+    (none_away c.self.view_is inside.sets inside.requests c.without-away.result refl known.units known.requests c.without-away.ensures) c.next.ensures.some
 
 pub returns-clause-none : goal.returns-clause-none
 returns-clause-none c =
     let inside = c.self.inside in
     let known = c.self.invariant in
-    no_unit inside.requests.away c.args.self.now c.args.from c.next.result
-    (subst (λ (b : BlockState). (n : ℕ) → has_unit inside.requests.away n ≡ false → stands n b ≡ false → AreEmpty b.requests (request_inlets b.stages n)) c.self.view_is
-    (none_away record { stages = inside.net; done = inside.done; program = inside.program; switches = inside.switches.items; modules = inside.modules.items; elements = inside.elements.items; replies = inside.replies.table.items; requests = inside.requests.table.items; events = inside.events.items; stops = inside.stops.items } inside.sets inside.requests refl known.units known.requests))
-    c.next.ensures.none
+    no_unit c.without-away.result c.args.self.now c.args.from c.next.result
+    (none_away c.self.view_is inside.sets inside.requests c.without-away.result refl known.units known.requests c.without-away.ensures) c.next.ensures.none
 
 pub returns-then-is_empty-clause-none : goal.returns-then-is_empty-clause-none
 returns-then-is_empty-clause-none c =
     let inside = c.self.inside in
     let known = c.self.invariant in
-    no_unit inside.requests.away c.args.self.now c.args.from None
-    (subst (λ (b : BlockState). (n : ℕ) → has_unit inside.requests.away n ≡ false → stands n b ≡ false → AreEmpty b.requests (request_inlets b.stages n)) c.self.view_is
-    (none_away record { stages = inside.net; done = inside.done; program = inside.program; switches = inside.switches.items; modules = inside.modules.items; elements = inside.elements.items; replies = inside.replies.table.items; requests = inside.requests.table.items; events = inside.events.items; stops = inside.stops.items } inside.sets inside.requests refl known.units known.requests))
+    no_unit c.without-away.result c.args.self.now c.args.from None
+    (none_away c.self.view_is inside.sets inside.requests c.without-away.result refl known.units known.requests c.without-away.ensures)
     (λ k _. c.is_empty.ensures c.if-is_empty.true k (omega arith))

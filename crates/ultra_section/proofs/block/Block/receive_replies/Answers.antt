@@ -26,14 +26,14 @@ invariant_of-self c =
     let links = subst (λ (b : BlockState). reply_inlets b.stages c.args.unit ≡ Some c.args.inlets) (sym c.self.view_is) c.requires.links in
     let it = inlets inside.net (omega arith) (omega arith) c.args.unit c.args.inlets links in
     let first =
-    known_put inside.net (omega arith) (omega arith) inside.sets.here inside.replies c.put.new.self c.args.inlets.zero c.args.unit c.args.replies.zero it.zero_reader
-    record { table = c.put.ensures.table; leads_there = c.put.ensures.leads; came = c.put.ensures.came; away = c.put.ensures.away } known.replies in
+    known_put inside.net (omega arith) (omega arith) inside.replies c.put.new.self c.args.inlets.zero c.args.unit c.args.replies.zero it.zero_reader
+    record { table = c.put.ensures.table; there = c.put.ensures.there; kept = c.put.ensures.kept } known.replies in
     record {
       units = known.units;
       rests = known.rests;
       replies =
-          known_put inside.net (omega arith) (omega arith) inside.sets.here c.put.new.self c.put-2.new.self c.args.inlets.one c.args.unit c.args.replies.one it.one_reader
-          record { table = c.put-2.ensures.table; leads_there = c.put-2.ensures.leads; came = c.put-2.ensures.came; away = c.put-2.ensures.away } first;
+          known_put inside.net (omega arith) (omega arith) c.put.new.self c.put-2.new.self c.args.inlets.one c.args.unit c.args.replies.one it.one_reader
+          record { table = c.put-2.ensures.table; there = c.put-2.ensures.there; kept = c.put-2.ensures.kept } first;
       requests = known.requests;
       events_fit = known.events_fit;
       stops_fit = known.stops_fit;

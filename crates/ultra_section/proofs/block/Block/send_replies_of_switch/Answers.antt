@@ -1,10 +1,9 @@
-use Rattle.std.proofs.Common.{sym, ap, subst, arith, ◌≡◌, ◌<◌, ◌≤◌, ◌+◌, ◌*◌, ℕ, List, Bool, Option, Some, set, refl, ◌∙◌}
+use Rattle.std.proofs.Common.{sym, ap, subst, arith, ◌≡◌, ◌≤◌, ◌+◌, ◌*◌, ℕ, List, Bool, Option, Some, set, refl, ◌∙◌}
 use Rattle.ultra_halves.specs.Switches.{has_request_room, holds_requests, keeps_records, replies_leaving, without_replies}
 use Rattle.ultra_units.specs.Links.{put_on}
 use Rattle.ultra_units.specs.Units.{IsSwitch}
 use Rattle.ultra_units.proofs.Put.{has_places, reply_ways_of}
 use Rattle.ultra_section.specs.BlockState.{BlockState}
-use Rattle.ultra_units.specs.Marks.{RepliesAreKnown, RequestsAreKnown}
 use Rattle.ultra_section.proofs.Known.{switch_replies_changed}
 use Rattle.ultra_msg.specs.declared.ReplyMessage.{ReplyMessage}
 use Rattle.ultra_switch.specs.declared.Ports.{Ports}
@@ -80,8 +79,8 @@ invariant_of-self-2 c =
           c.args.number c.index_mut.result.now c.in-Some.switch c.send_from_switch.new.switch is.within c.index_mut.ensures.value c.in-Some.is
           c.note_replies.ensures.others c.note_replies.ensures.there (ap holds_requests left) (ap has_request_room left) (ap keeps_records left);
       rests = known.rests;
-      requests = subst (λ h. RequestsAreKnown inside.net h inside.requests) (sym c.note_replies.ensures.here) known.requests;
-      replies = subst (λ h. RepliesAreKnown inside.net h c.send_from_switch.new.links) (sym c.note_replies.ensures.here) c.send_from_switch.ensures.known;
+      requests = known.requests;
+      replies = c.send_from_switch.ensures.known;
       events_fit = known.events_fit;
       stops_fit = known.stops_fit;
       network = known.network;

@@ -1,6 +1,5 @@
 use Rattle.std.proofs.Common.{sym, subst, ◌≡◌, ℕ, ◌-◌, ◌/◌, List, Bool, Option, Some, set, refl, ◌∙◌}
 use Rattle.ultra_section.specs.BlockState.{BlockState}
-use Rattle.ultra_units.specs.Marks.{RepliesAreKnown, RequestsAreKnown}
 use Rattle.ultra_units.specs.Units.{IsModule}
 use Rattle.ultra_section.proofs.Known.{module_changed}
 use Rattle.std.specs.Prelude.{not}
@@ -45,7 +44,7 @@ invariant_of-self-2 c =
           c.note_module.ensures.others c.note_module.ensures.there;
       rests = known.rests;
       replies = c.leave_module.ensures.known;
-      requests = subst (λ h. RequestsAreKnown inside.net h inside.requests) (sym c.note_module.ensures.here) known.requests;
+      requests = known.requests;
       events_fit = known.events_fit;
       stops_fit = known.stops_fit;
       network = known.network;
@@ -60,5 +59,5 @@ note_module-requires c = c.requires.small
 pub leave_module-requires : goal.leave_module-requires
 leave_module-requires c = record {
   number = (module_inside c.self.view_is c.args.number c.args.module_number c.requires.is).small;
-  known = subst (λ h. RepliesAreKnown c.self.inside.net h c.self.inside.replies) (sym c.note_module.ensures.here) c.self.invariant.replies;
+  known = c.self.invariant.replies;
 }

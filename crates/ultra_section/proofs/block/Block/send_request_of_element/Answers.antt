@@ -7,7 +7,6 @@ use Rattle.ultra_halves.specs.declared.elements.ProcessingElement.{ProcessingEle
 use Rattle.ultra_halves.specs.Elements.{element_without}
 use Rattle.ultra_section.specs.BlockState.{AreOthersAtRest, BlockState}
 use Rattle.ultra_section.proofs.Awake.{rests_without}
-use Rattle.ultra_units.specs.Marks.{RepliesAreKnown, RequestsAreKnown}
 use Rattle.ultra_units.specs.Links.{put_on}
 use Rattle.ultra_section.specs.RequestsSent.{request_sent_by}
 use Rattle.ultra_units.specs.Ways.{has_way_from_element}
@@ -66,7 +65,7 @@ invariant_of-self-2 c =
       rests =
           subst (λ v. AreOthersAtRest inside.net inside.program inside.awake (set inside.elements.items c.args.pe (Some v))) (sym c.send_request-out.ensures.left)
           (rests_without inside.net inside.program inside.awake inside.elements.items known.rests c.args.number c.args.pe c.index_mut.result.now c.in-Some.element is (omega (arith, known.units.element_entries, is.small)) c.index_mut.ensures.value c.in-Some.is c.send_request-out.result);
-      replies = subst (λ h. RepliesAreKnown inside.net h inside.replies) (sym c.note_element.ensures.here) known.replies;
+      replies = known.replies;
       requests = c.leave_element.ensures.known;
       events_fit = known.events_fit;
       stops_fit = known.stops_fit;
@@ -85,5 +84,5 @@ note_element-requires c = c.requires.small
 pub leave_element-requires : goal.leave_element-requires
 leave_element-requires c = record {
   pe = (element_inside c.self.view_is c.args.number c.args.pe c.requires.is).small;
-  known = subst (λ h. RequestsAreKnown c.self.inside.net h c.self.inside.requests) (sym c.note_element.ensures.here) c.self.invariant.requests;
+  known = c.self.invariant.requests;
 }

@@ -1,10 +1,9 @@
-use Rattle.std.proofs.Common.{sym, ap, subst, arith, ◌≡◌, ◌<◌, ◌≤◌, ◌+◌, ◌*◌, ℕ, List, Bool, Option, Some, set, refl, ◌∙◌}
-use Rattle.ultra_halves.specs.Switches.{has_reply_room, holds_replies, keeps_records, first_request, request_heads, requests_leaving, without_requests}
+use Rattle.std.proofs.Common.{sym, ap, subst, arith, ◌≡◌, ◌≤◌, ◌+◌, ◌*◌, ℕ, List, Bool, Option, Some, set, refl, ◌∙◌}
+use Rattle.ultra_halves.specs.Switches.{has_reply_room, holds_replies, keeps_records, request_heads, requests_leaving, without_requests}
 use Rattle.ultra_units.specs.Links.{put_on}
 use Rattle.ultra_units.specs.Units.{IsSwitch}
 use Rattle.ultra_units.proofs.Put.{has_places, request_ways_of}
 use Rattle.ultra_section.specs.BlockState.{BlockState}
-use Rattle.ultra_units.specs.Marks.{RepliesAreKnown, RequestsAreKnown}
 use Rattle.ultra_section.proofs.Known.{switch_requests_changed}
 use Rattle.ultra_msg.specs.declared.Request.{Request}
 use Rattle.ultra_switch.specs.declared.Ports.{Ports}
@@ -81,8 +80,8 @@ invariant_of-self-2 c =
           c.args.number c.index_mut.result.now c.in-Some.switch c.send_from_switch.new.switch is.within c.index_mut.ensures.value c.in-Some.is
           c.note_requests.ensures.others c.note_requests.ensures.there (ap holds_replies left) (ap has_reply_room left) (ap keeps_records left);
       rests = known.rests;
-      replies = subst (λ h. RepliesAreKnown inside.net h inside.replies) (sym c.note_requests.ensures.here) known.replies;
-      requests = subst (λ h. RequestsAreKnown inside.net h c.send_from_switch.new.links) (sym c.note_requests.ensures.here) c.send_from_switch.ensures.known;
+      replies = known.replies;
+      requests = c.send_from_switch.ensures.known;
       events_fit = known.events_fit;
       stops_fit = known.stops_fit;
       network = known.network;

@@ -1,10 +1,9 @@
-use Rattle.std.proofs.Common.{◌^◌, ◌<◌, None, sym, subst, false, arith}
+use Rattle.std.proofs.Common.{◌^◌, ◌<◌, None, sym, subst, arith}
 use Rattle.ultra_units.specs.Numbers.{module_number}
 use Rattle.ultra_section.specs.BlockState.{BlockState}
 use Rattle.ultra_section.specs.Sets.{facts_at, KnowsModule}
-use Rattle.ultra_section.proofs.Known.{AgreeBut, module_known}
-use Rattle.ultra_units.proofs.Renewed.{replies_beside, requests_anew}
-use Rattle.ultra_section.proofs.Moved.{others_here, unit_moved, module_gone}
+use Rattle.ultra_section.proofs.Known.{AgreeBut, module_known, units_changed}
+use Rattle.ultra_section.proofs.Moved.{module_gone}
 use Rattle.ultra_section.proofs.block.Block.take_module.Goals as goal
 
 pub invariant_of-self : goal.invariant_of-self
@@ -14,11 +13,10 @@ invariant_of-self c =
     let within : c.args.number < 2 ^ inside.net = subst (λ (b : BlockState). c.args.number < 2 ^ b.stages) (sym c.self.view_is) c.requires in
     let now = c.leave.new.self in
     let agree : AgreeBut c.module_number-unit.result inside.sets now = c.leave.ensures.others in
-    unit_moved inside.net inside.wiring inside.sets now inside.switches.items _ inside.modules.items _ inside.elements.items _ inside.replies inside.replies inside.requests c.renew.new.self _ _
+    units_changed inside.net inside.wiring inside.sets now inside.switches.items _ inside.modules.items _ inside.elements.items _ inside.replies inside.requests _ _ _ _
     known
     (module_known inside.net inside.sets now inside.switches.items inside.modules.items inside.elements.items known.units c.args.number c.take.new.self within (subst (λ k. AgreeBut k inside.sets now) c.module_number-unit.ensures.value agree)
     (subst (λ o. KnowsModule (facts_at now (module_number inside.net c.args.number)) o) (sym c.take.ensures.after)
     (subst (λ k. KnowsModule (facts_at now k) None) c.module_number-unit.ensures.value (module_gone (facts_at now c.module_number-unit.result) c.leave.ensures.there))))
     known.rests
-    (let is = c.module_number-unit.ensures.value in replies_beside inside.net c.module_number-unit.result inside.sets.here now.here (others_here c.module_number-unit.result inside.sets now agree) inside.replies (omega (arith, is)) (omega (arith, is, within)) known.replies)
-    (requests_anew inside.net c.module_number-unit.result inside.sets.here now.here (others_here c.module_number-unit.result inside.sets now agree) false ((module_gone (facts_at now c.module_number-unit.result) c.leave.ensures.there).here) inside.requests c.renew.new.self record { table = c.renew.ensures.table; came = c.renew.ensures.came; away = c.renew.ensures.away; others_came = c.renew.ensures.others_came; others_away = c.renew.ensures.others_away } known.requests)
+    (omega arith) (omega arith)

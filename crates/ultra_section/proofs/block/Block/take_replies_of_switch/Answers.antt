@@ -1,7 +1,7 @@
-use Rattle.std.proofs.Common.{◌∙◌, sym, ap, subst, ◌≡◌, ◌<◌, ℕ, List, Option, Some, set, refl}
+use Rattle.std.proofs.Common.{◌∙◌, sym, ap, subst, ◌≡◌, ℕ, List, Option, Some, set, refl}
 use Rattle.ultra_halves.specs.Switches.{CanTakeReplies, has_request_room, holds_requests, keeps_records, after_replies}
 use Rattle.ultra_section.specs.BlockState.{BlockState}
-use Rattle.ultra_units.specs.Marks.{RepliesAreKnown, RequestsAreKnown, on_both, reply_links, without_both}
+use Rattle.ultra_units.specs.Marks.{on_both, reply_links, without_both}
 use Rattle.ultra_section.specs.RepliesTaken.{SwitchCanTakeReplies, replies_taken_by}
 use Rattle.ultra_section.proofs.Known.{switch_replies_taken, switch_was, stands}
 use Rattle.ultra_section.proofs.Records.{keeps_none}
@@ -76,8 +76,8 @@ invariant_of-self-2 c =
           c.args.number c.index_mut.result.now c.in-Some.switch c.take_into_switch.new.switch is.within c.index_mut.ensures.value c.in-Some.is
           c.note_replies_taken.ensures.others c.note_replies_taken.ensures.there (ap holds_requests taken) (ap has_request_room taken);
       rests = known.rests;
-      replies = subst (λ h. RepliesAreKnown inside.net h c.take_into_switch.new.links) (sym c.note_replies_taken.ensures.here) (c.take_into_switch.ensures.known inside.sets.here known.replies);
-      requests = subst (λ h. RequestsAreKnown inside.net h inside.requests) (sym c.note_replies_taken.ensures.here) known.requests;
+      replies = c.take_into_switch.ensures.known known.replies;
+      requests = known.requests;
       events_fit = known.events_fit;
       stops_fit = known.stops_fit;
       network = known.network;

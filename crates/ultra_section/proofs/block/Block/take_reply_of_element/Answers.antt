@@ -58,7 +58,7 @@ invariant_of-self-in-Some-came c =
           c.args.number c.args.pe c.index_mut.result.now c.in-Some.element c.deliver.new.self is c.index_mut.ensures.value c.in-Some.is
           (ap holds_request c.deliver.ensures) (ap (λ (e : ProcessingElement). has_stopped e.processor.core.activity) c.deliver.ensures);
       rests = woken_up inside.net inside.program inside.awake inside.elements.items known.rests c.args.number c.args.pe c.index_mut.result.now c.in-Some.element is (omega (arith, known.units.element_entries, is.small)) c.index_mut.ensures.value c.in-Some.is c.insert.new.self c.deliver.new.self c.insert.ensures.others c.insert.ensures.there;
-      replies = c.take_at_element-came.ensures.known inside.sets.here known.replies;
+      replies = c.take_at_element-came.ensures.known known.replies;
       requests = known.requests;
       events_fit = let more = c.append.ensures.places in omega (arith, known.events_fit);
       stops_fit = known.stops_fit;
@@ -75,7 +75,7 @@ invariant_of-self-in_default-came c =
           element_same inside.net inside.sets inside.sets inside.switches.items inside.modules.items inside.elements.items known.units
           c.args.number c.args.pe c.index_mut.result.now c.in-Some.element c.in-Some.element is c.index_mut.ensures.value c.in-Some.is refl refl;
       rests = rests_same inside.net inside.program inside.awake inside.awake inside.elements.items known.rests _ (put_back_some inside.elements.items c.args.pe c.index_mut.result.now c.index_mut.ensures.value c.in-Some.element c.in-Some.is);
-      replies = c.take_at_element-came.ensures.known inside.sets.here known.replies;
+      replies = c.take_at_element-came.ensures.known known.replies;
       requests = known.requests;
       events_fit = known.events_fit;
       stops_fit = known.stops_fit;

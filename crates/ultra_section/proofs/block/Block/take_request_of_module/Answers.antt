@@ -1,6 +1,6 @@
 use Rattle.std.proofs.Common.{sym, subst, ◌∙◌, arith, ◌≡◌, ℕ, ◌^◌, List, Option, Some, None, set, ap, refl}
 use Rattle.ultra_section.specs.BlockState.{BlockState}
-use Rattle.ultra_units.specs.Marks.{RepliesAreKnown, RequestsAreKnown, memory_link, on_link}
+use Rattle.ultra_units.specs.Marks.{memory_link, on_link}
 use Rattle.ultra_section.specs.RequestsTaken.{ModuleCanTakeRequest, request_taken_by}
 use Rattle.ultra_units.specs.Units.{IsModule}
 use Rattle.ultra_section.proofs.Known.{module_changed, stands}
@@ -55,8 +55,8 @@ invariant_of-self-2 c =
           c.args.number c.args.module_number c.index_mut.result.now c.in-Some.bank c.match-came.bank is c.index_mut.ensures.value c.in-Some.is
           c.note_module.ensures.others c.note_module.ensures.there;
       rests = known.rests;
-      replies = subst (λ h. RepliesAreKnown inside.net h inside.replies) (sym c.note_module.ensures.here) known.replies;
-      requests = subst (λ h. RequestsAreKnown inside.net h c.take_at_module-came.new.links) (sym c.note_module.ensures.here) (c.take_at_module-came.ensures.known inside.sets.here known.requests);
+      replies = known.replies;
+      requests = c.take_at_module-came.ensures.known known.requests;
       events_fit = known.events_fit;
       stops_fit = known.stops_fit;
       network = known.network;

@@ -1,10 +1,10 @@
-use Rattle.std.proofs.Common.{◌∙◌, sym, ap, subst, arith, ◌≡◌, ◌≤◌, ◌<◌, ◌+◌, ◌%◌, ℕ, Bool, true, false, List, ◌++◌, Option, Some, length, set, refl}
+use Rattle.std.proofs.Common.{◌∙◌, sym, ap, subst, arith, ◌≡◌, ◌≤◌, ◌+◌, ◌%◌, ℕ, Bool, true, false, List, ◌++◌, Option, Some, length, set, refl}
 use Rattle.std.specs.Prelude.{◌==◌}
 use Rattle.std.specs.Option.{ForSome}
 use Rattle.ultra_halves.specs.Halves.{first_of, second_of}
 use Rattle.ultra_halves.specs.Switches.{CanTakeRequests, HasWay, has_reply_room, holds_replies, keeps_records, after_both, combinations_of_both}
 use Rattle.ultra_section.specs.BlockState.{BlockState, most_events}
-use Rattle.ultra_units.specs.Marks.{RepliesAreKnown, RequestsAreKnown, on_both, on_link, ports_in_turn, request_links, without_both}
+use Rattle.ultra_units.specs.Marks.{on_both, on_link, ports_in_turn, request_links, without_both}
 use Rattle.ultra_section.specs.RequestsTaken.{SwitchCanTakeRequests, requests_taken_by}
 use Rattle.ultra_section.proofs.Known.{switch_requests_taken, switch_was, stands}
 use Rattle.ultra_section.proofs.Records.{keeps_as_before}
@@ -123,8 +123,8 @@ invariant_of-self-2 c =
           c.args.number c.index_mut.result.now c.in-Some.switch c.take_into_switch-has_combined.new.switch is.within c.index_mut.ensures.value c.in-Some.is
           c.note_requests_taken.ensures.others c.note_requests_taken.ensures.there (ap holds_replies c.take_into_switch-has_combined.ensures.switch) (ap has_reply_room c.take_into_switch-has_combined.ensures.switch);
       rests = known.rests;
-      replies = subst (λ h. RepliesAreKnown inside.net h inside.replies) (sym c.note_requests_taken.ensures.here) known.replies;
-      requests = subst (λ h. RequestsAreKnown inside.net h c.take_into_switch-has_combined.new.links) (sym c.note_requests_taken.ensures.here) (c.take_into_switch-has_combined.ensures.known inside.sets.here known.requests);
+      replies = known.replies;
+      requests = c.take_into_switch-has_combined.ensures.known known.requests;
       events_fit = let more = c.take_into_switch-has_combined.ensures.places in omega (arith, known.events_fit);
       stops_fit = known.stops_fit;
       network = known.network;

@@ -17,6 +17,3 @@ returns-clause-there c = c.note_records.ensures.there ∙ ap (λ (f : UnitFacts)
 
 pub returns-clause-others : goal.returns-clause-others
 returns-clause-others c = λ k other. c.note_records.ensures.others k other ∙ c.note_requests.ensures.others k other
-
-pub returns-clause-here : goal.returns-clause-here
-returns-clause-here c = c.note_records.ensures.here ∙ c.note_requests.ensures.here
