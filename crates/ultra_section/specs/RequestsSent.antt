@@ -1,11 +1,13 @@
 -- the half of a cycle in which requests leave switches and processing elements
-use Rattle.std.specs.Prelude.{ℕ, List, Some, None, slice_get, slice_set}
+use Rattle.std.specs.Prelude.{ℕ, List, Option, Some, None, slice_get, slice_set}
 use Rattle.ultra_switch.specs.declared.Ports.{Ports}
 use Rattle.ultra_switch.specs.declared.Switch.{Switch}
+use Rattle.ultra_switch.specs.Queues.{SizedLane}
+use Rattle.ultra_msg.specs.declared.Request.{Request}
 use Rattle.ultra_units.specs.Numbers.{place_number}
 use Rattle.ultra_halves.specs.declared.elements.ProcessingElement.{ProcessingElement}
 use Rattle.ultra_halves.specs.Halves.{where_room}
-use Rattle.ultra_halves.specs.Switches.{requests_leaving, request_heads, without_requests}
+use Rattle.ultra_halves.specs.Switches.{first_request, requests_leaving, request_heads, without_requests}
 use Rattle.ultra_halves.specs.Elements.{element_without}
 use Rattle.ultra_units.specs.declared.unit.Unit.TheVariants as unit
 use Rattle.ultra_units.specs.Units.{unit_of}
@@ -15,6 +17,10 @@ use Rattle.ultra_section.specs.BlockState.{BlockState, switch_at, element_at}
 
 -- `closed` are, by the memory-side port, the switches whose queue there has no room for requests; in `zero` also the modules whose register holds one
 module _ (closed : Ports (List ℕ)) where
+  -- what leaves the queue at memory-side position x of stage s: the first request, if there is a way
+  abbrev pub request_leaving : ℕ → ℕ → ℕ → SizedLane → Option Request
+  request_leaving d s x q = where_room (has_request_way closed d s x (first_request q)) (first_request q)
+
   -- ---- from switch k of stage s, which has number n
   abbrev pub requests_sent_by : ℕ → ℕ → ℕ → BlockState → Switch → BlockState
   requests_sent_by n s k b w =

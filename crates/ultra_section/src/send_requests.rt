@@ -1,53 +1,78 @@
 //! The half of a cycle in which requests leave switches and processing elements.
 
-ghost use Rattle.std.specs.Prelude.{◌≡◌, ◌+◌, ◌<◌};
-ghost use Rattle.ultra_halves.specs.Switches.{requests_leaving, without_requests};
+ghost use Rattle.std.specs.Prelude.{◌≡◌, ℕ, ◌<◌};
+ghost use Rattle.ultra_halves.specs.Halves.{lane_without};
+ghost use Rattle.ultra_halves.specs.Switches.{request_heads, requests_leaving, without_requests};
 ghost use Rattle.ultra_units.specs.Links.{put_on};
 ghost use Rattle.ultra_units.specs.Marks.{RequestsAreKnown};
-ghost use Rattle.ultra_units.specs.Ways.{IsRequestWay};
+ghost use Rattle.ultra_units.specs.Numbers.{request_target};
+ghost use Rattle.ultra_units.specs.Ways.{IsRequestWay, request_targets, request_ways, requests_put};
 ghost use Rattle.ultra_units.specs.Visits.{after_units};
 ghost use Rattle.ultra_section.specs.Rooms.{AreOwnRooms};
 ghost use Rattle.ultra_section.specs.declared.rooms.Rooms.{Rooms};
-ghost use Rattle.ultra_section.specs.RequestsSent.{element_sends_request, sends_requests, switch_sends_requests};
+ghost use Rattle.ultra_section.specs.RequestsSent.{element_sends_request, request_leaving, sends_requests, switch_sends_requests};
 ghost use Rattle.ultra_units.specs.Units.{IsElement, IsSwitch};
 
 use crate::block::Block;
 use crate::rooms::Rooms;
 use ultra_halves::requests::leave_where;
-use ultra_halves::switches;
 use ultra_msg::Request;
 use ultra_route::Net;
-use ultra_switch::{Ports, Switch};
+use ultra_switch::{Ports, Switch, ToMm};
 use ultra_units::requests::{leave_element, leave_switch};
-use ultra_units::{
-    Links, Unit, UnitSet, Visit, find_request_ways, has_way_from_element, visit_all,
-};
+use ultra_units::{Links, Unit, UnitSet, Visit, has_request_way, has_way_from_element, visit_all};
 
-/// The first request of each queue of a switch goes onto its link, where there is a way. One port is done with before the other: `link` is the link of port 0, and that of port 1 comes after it.
+/// The first request of a queue of a switch of this stage goes onto its link, if there is a way to the unit `target`, to which the link leads.
+#[inline(always)]
+fn send_from_queue(
+    queue: &mut ToMm,
+    links: &mut Links<Request>,
+    net: Net,
+    closed: &Ports<UnitSet>,
+    stage: u32,
+    link: usize,
+    target: usize,
+)
+    requires stage { stage < net }
+    requires leads { IsRequestWay net link target }
+    requires small { target < 320 }
+    requires known { RequestsAreKnown net links.old }
+    ensures queue { (x : ℕ) → target ≡ request_target net stage x → queue.new ≡ lane_without queue.old (request_leaving closed.now net stage x queue.old) }
+    ensures table { (x : ℕ) → target ≡ request_target net stage x → links.new.table.items ≡ put_on links.old.table.items link (request_leaving closed.now net stage x queue.old) }
+    ensures known { RequestsAreKnown net links.new }
+{
+    let goes = has_request_way(net, closed, stage, target, queue.head());
+    let out = leave_where(goes, queue);
+    leave_switch(links, net, link, target, out);
+}
+
+/// The first request of each queue of a switch goes onto its link, where there is a way to the unit in `targets`. One port is done with before the other. `number` is the number of the unit.
 #[inline(always)]
 fn send_from_switch(
     switch: &mut Switch,
     links: &mut Links<Request>,
     net: Net,
-    link: usize,
+    closed: &Ports<UnitSet>,
+    number: usize,
+    stage: u32,
+    index: u32,
     targets: Ports<usize>,
-    ways: Ports<bool>,
 )
-    requires zero { IsRequestWay net link targets.zero }
-    requires one { IsRequestWay net (link + 1) targets.one }
-    requires zero_small { targets.zero < 320 }
-    requires one_small { targets.one < 320 }
-    requires link { link < 640 }
+    requires is { IsSwitch net number stage index }
+    requires small { number < 320 }
+    requires targets { targets ≡ request_targets net stage index }
+    requires zero { targets.zero < 320 }
+    requires one { targets.one < 320 }
     requires known { RequestsAreKnown net links.old }
-    ensures switch { switch.new ≡ without_requests switch.old (requests_leaving ways switch.old) }
-    ensures table { links.new.table.items ≡ put_on (put_on links.old.table.items link (requests_leaving ways switch.old).zero) (link + 1) (requests_leaving ways switch.old).one }
+    ensures switch { switch.new ≡ without_requests switch.old (requests_leaving (request_ways closed.now net stage index (request_heads switch.old)) switch.old) }
+    ensures table { links.new.table.items ≡ requests_put net stage index (requests_leaving (request_ways closed.now net stage index (request_heads switch.old)) switch.old) links.old.table.items }
     ensures known { RequestsAreKnown net links.new }
 {
-    let to_mm = &mut switch.to_mm;
-    let zero = leave_where(ways.zero, &mut to_mm.zero);
-    leave_switch(links, net, link, targets.zero, zero);
-    let one = leave_where(ways.one, &mut to_mm.one);
-    leave_switch(links, net, link + 1, targets.one, one);
+    let _stages = net.stages();
+    let Ports { zero, one } = &mut switch.to_mm;
+    let link = 2 * number;
+    send_from_queue(zero, links, net, closed, stage, link, targets.zero);
+    send_from_queue(one, links, net, closed, stage, link + 1, targets.one);
 }
 
 impl Block {
@@ -64,14 +89,12 @@ impl Block {
         ensures { self.new ≡ switch_sends_requests closed.now number stage index self.old }
     {
         let net = self.net;
-        let _stages = net.stages();
         let targets = self.wiring.request_targets(number);
         let Some(switch) = &mut self.switches[number] else {
             return;
         };
-        let heads = switches::request_heads(switch);
-        let ways = find_request_ways(net, closed, stage, targets, heads);
-        send_from_switch(switch, &mut self.requests, net, 2 * number, targets, ways);
+        let links = &mut self.requests;
+        send_from_switch(switch, links, net, closed, number, stage, index, targets);
         self.sets.note_requests(number, switch);
     }
 

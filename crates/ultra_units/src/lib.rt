@@ -22,7 +22,7 @@ pub use links::{Links, ports_in_turn};
 pub use numbers::{element_number, module_number, switch_count, switch_number};
 pub use pass::{Visit, visit_all};
 pub use reply_ways::find_reply_ways;
-pub use request_ways::{find_request_ways, has_way_from_element};
+pub use request_ways::{has_request_way, has_way_from_element};
 pub use unit::Unit;
 pub use unit_set::UnitSet;
 pub use wiring::Wiring;

@@ -2,7 +2,7 @@
 
 ghost use Rattle.std.specs.Prelude.{◌≡◌, ℕ, ◌-◌, ◌^◌, ◌<◌};
 ghost use Rattle.ultra_units.specs.Numbers.{request_target as target_of_request};
-ghost use Rattle.ultra_units.specs.Ways.{has_request_way as way_of_request, has_room_at as room_at, has_way_from_element as way_from_element, request_targets as targets_of_requests, request_ways};
+ghost use Rattle.ultra_units.specs.Ways.{has_request_way as way_of_request, has_room_at as room_at, has_way_from_element as way_from_element};
 
 use crate::numbers::switch_number;
 use crate::unit_set::UnitSet;
@@ -32,7 +32,7 @@ fn has_room_at(
 
 /// Whether the first request of a queue may go on from a stage to the unit `target`. In `zero`, `closed` has also the modules whose register holds a request.
 #[inline(always)]
-fn has_request_way(
+pub fn has_request_way(
     net: Net,
     closed: &Ports<UnitSet>,
     stage: u32,
@@ -50,26 +50,6 @@ fn has_request_way(
         !closed.zero.has(target)
     } else {
         has_room_at(net, closed, stage + 1, target, request)
-    }
-}
-
-/// Whether the first requests of a switch may go on, by the memory-side port, to the units `targets`.
-#[inline(always)]
-pub fn find_request_ways(
-    net: Net,
-    closed: &Ports<UnitSet>,
-    stage: u32,
-    targets: Ports<usize>,
-    heads: Ports<Option<Request>>,
-) -> Ports<bool>
-    requires stage { stage < net }
-    requires zero { targets.zero < 320 }
-    requires one { targets.one < 320 }
-    ensures { (index : ℕ) → targets ≡ targets_of_requests net stage index → result ≡ request_ways closed.now net stage index heads }
-{
-    Ports {
-        zero: has_request_way(net, closed, stage, targets.zero, heads.zero),
-        one: has_request_way(net, closed, stage, targets.one, heads.one),
     }
 }
 

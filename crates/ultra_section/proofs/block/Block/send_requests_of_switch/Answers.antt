@@ -1,25 +1,19 @@
-use Rattle.std.proofs.Common.{sym, ap, subst, arith, ◌≡◌, ◌≤◌, ◌+◌, ◌*◌, ℕ, List, Bool, Option, Some, set, refl, ◌∙◌}
+use Rattle.std.proofs.Common.{ap, ◌≡◌, ℕ, List, Option, Some, set, refl, ◌∙◌}
 use Rattle.ultra_halves.specs.Switches.{has_reply_room, holds_replies, keeps_records, request_heads, requests_leaving, without_requests}
-use Rattle.ultra_units.specs.Links.{put_on}
-use Rattle.ultra_units.specs.Units.{IsSwitch}
-use Rattle.ultra_units.proofs.Put.{has_places, request_ways_of}
 use Rattle.ultra_section.specs.BlockState.{BlockState}
 use Rattle.ultra_section.proofs.Known.{switch_requests_changed}
 use Rattle.ultra_msg.specs.declared.Request.{Request}
 use Rattle.ultra_switch.specs.declared.Ports.{Ports}
 use Rattle.ultra_switch.specs.declared.Switch.{Switch}
 use Rattle.ultra_section.specs.RequestsSent.{requests_sent_by}
-use Rattle.ultra_units.specs.Ways.{IsRequestWay, request_targets, request_ways}
+use Rattle.ultra_units.specs.Ways.{request_targets, request_ways, requests_put}
 use Rattle.ultra_section.proofs.Entries.{beside_switch, put_back, switches_kept, switch_entry, switch_inside, switch_passed, switch_wired, switch_worked}
 use Rattle.ultra_section.proofs.block.Block.send_requests_of_switch.Goals as goal
 
-sending_done : (closed : Ports (List ℕ)) (b : BlockState) (n s k : ℕ) (w v : Switch) (ways : Ports Bool) (requests : List (Option Request)) → IsSwitch b.stages n s k → 1 ≤ b.stages → b.stages ≤ 6
-    → ways ≡ request_ways closed b.stages s k (request_heads w) → v ≡ without_requests w (requests_leaving ways w)
-    → requests ≡ put_on (put_on b.requests (2 * n) (requests_leaving ways w).zero) (2 * n + 1) (requests_leaving ways w).one
+sending_done : (closed : Ports (List ℕ)) (b : BlockState) (n s k : ℕ) (w v : Switch) (requests : List (Option Request))
+    → v ≡ without_requests w (requests_leaving (request_ways closed b.stages s k (request_heads w)) w) → requests ≡ requests_put b.stages s k (requests_leaving (request_ways closed b.stages s k (request_heads w)) w) b.requests
     → record b { switches = set b.switches n (Some v); requests = requests } ≡ requests_sent_by closed n s k b w
-sending_done closed b n s k w v ways requests own low high are left put =
-    let places = has_places b.stages n s k low high own in
-    rw (left, put, places.first, places.second, are) refl
+sending_done closed b n s k w v requests left put = rw (left, put) refl
 
 pub invariant_of-self : goal.invariant_of-self
 invariant_of-self c = switches_kept c.self.invariant _ (put_back c.self.inside.switches.items c.args.number c.index_mut.result.now c.index_mut.ensures.value)
@@ -34,38 +28,22 @@ request_targets-targets-requires c = switch_wired c.self.view_is c.args.number c
 pub index_mut-requires : goal.index_mut-requires
 index_mut-requires c = switch_entry c.self.view_is c.args.number c.args.stage c.args.index c.self.inside.switches.len c.requires.is c.self.inside.switches.ok.0 c.self.invariant.units.switch_entries
 
-pub find_request_ways-ways-requires : goal.find_request_ways-ways-requires
-find_request_ways-ways-requires c = record {
-  stage = (switch_inside c.self.view_is c.args.number c.args.stage c.args.index c.requires.is).stage_small;
+pub send_from_switch-requires : goal.send_from_switch-requires
+send_from_switch-requires c = record {
+  is = switch_inside c.self.view_is c.args.number c.args.stage c.args.index c.requires.is;
+  small = c.requires.small;
+  targets = beside_switch c.self.view_is request_targets c.args.number c.args.stage c.args.index c.self.inside.wiring c.request_targets-targets.result c.requires.is c.self.invariant.network c.request_targets-targets.ensures.value;
   zero = c.request_targets-targets.ensures.zero;
   one = c.request_targets-targets.ensures.one;
+  known = c.self.invariant.requests;
 }
-
-pub send_from_switch-requires : goal.send_from_switch-requires
-send_from_switch-requires c =
-    let inside = c.self.inside in
-    let is = switch_inside c.self.view_is c.args.number c.args.stage c.args.index c.requires.is in
-    let targets = beside_switch c.self.view_is request_targets c.args.number c.args.stage c.args.index inside.wiring c.request_targets-targets.result c.requires.is c.self.invariant.network c.request_targets-targets.ensures.value in
-    let lead = request_ways_of inside.net c.args.number c.args.stage c.args.index (omega arith) (omega arith) is in
-    record {
-      zero = subst (IsRequestWay inside.net (2 * c.args.number)) (sym (ap (λ (p : Ports ℕ). p.zero) targets)) lead.0;
-      one = subst (IsRequestWay inside.net (2 * c.args.number + 1)) (sym (ap (λ (p : Ports ℕ). p.one) targets)) lead.1;
-      zero_small = c.request_targets-targets.ensures.zero;
-      one_small = c.request_targets-targets.ensures.one;
-      link = omega (arith, c.requires.small);
-      known = c.self.invariant.requests;
-    }
 
 pub note_requests-requires : goal.note_requests-requires
 note_requests-requires c = c.requires.small
 
 pub returns : goal.returns
 returns c =
-    let inside = c.self.inside in
-    let is = switch_inside c.self.view_is c.args.number c.args.stage c.args.index c.requires.is in
-    let targets = beside_switch c.self.view_is request_targets c.args.number c.args.stage c.args.index inside.wiring c.request_targets-targets.result c.requires.is c.self.invariant.network c.request_targets-targets.ensures.value in
-    let ways = c.find_request_ways-ways.ensures c.args.index targets ∙ ap (request_ways c.args.closed.now inside.net c.args.stage c.args.index) c.request_heads-heads.ensures in
-    sending_done c.args.closed.now _ c.args.number c.args.stage c.args.index c.in-Some.switch c.send_from_switch.new.switch _ _ is (omega arith) (omega arith) ways c.send_from_switch.ensures.switch c.send_from_switch.ensures.table
+    sending_done c.args.closed.now _ c.args.number c.args.stage c.args.index c.in-Some.switch c.send_from_switch.new.switch _ c.send_from_switch.ensures.switch c.send_from_switch.ensures.table
     ∙ switch_worked c.self.view_is (requests_sent_by c.args.closed.now c.args.number c.args.stage c.args.index) c.args.number c.args.stage c.args.index c.index_mut.result.now c.in-Some.switch c.requires.is c.self.invariant.units.switch_entries c.index_mut.ensures.value c.in-Some.is
 
 pub invariant_of-self-2 : goal.invariant_of-self-2
