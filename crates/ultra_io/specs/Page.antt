@@ -1,5 +1,5 @@
 -- text on its way to a sink, some of it waiting on a page; this project's profile
-use Rattle.std.specs.Prelude.{ℕ, ◌≡◌, ◌+◌, ◌/◌, ◌%◌, List, [], ◌∷◌, ◌++◌, Bool, true, false}
+use Rattle.std.specs.Prelude.{ℕ, ◌≡◌, ◌+◌, List, [], ◌++◌, take, Bool, true, false}
 use Rattle.std.specs.Borrow.{MutBor}
 use Rattle.ultra_msg.specs.Bytes.{AreTakenOrWait, IsPrefix, TakesPrefix}
 use Rattle.ultra_io.specs.declared.page.Page.{Page}
@@ -28,10 +28,6 @@ pub record Wrote (bytes : List ℕ) (old new : State) : Type 0 where
   pub prefix : old.failed ≡ false → new.failed ≡ true
       → TakesPrefix (old.waiting ++ bytes) old.taken new.taken
       × (new.failures ≡ old.failures + 1)
-
--- the two decimal digits of a number below 100
-abbrev pub two_digits : ℕ → List ℕ
-two_digits n = (48 + n / 10) ∷ (48 + n % 10) ∷ []
 
 module _ {S : Type 0} where
   -- the sink that a page writes to
@@ -65,3 +61,9 @@ module _ {S : Type 0} (taken : S → List ℕ) (failures : S → ℕ) where
   -- a prefix of the bytes was written
   abbrev pub WritesPrefix : List ℕ → Page S → Page S → Type 0
   WritesPrefix bytes old new = (part : List ℕ) × IsPrefix part bytes × Writes part old new
+
+  -- bytes were written: the first of them on the page, and the others in a piece, before the place `at`
+  pub record IsUnderWay (bytes : List ℕ) (old new : Page S) (piece : List ℕ) (at : ℕ) : Type 0 where
+    pub on_page : List ℕ
+    pub writes : Writes on_page old new
+    pub all : on_page ++ take at piece ≡ bytes

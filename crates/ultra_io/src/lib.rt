@@ -4,10 +4,12 @@
 
 mod account;
 mod page;
+mod piece;
 mod source;
 mod stream;
 
 pub use account::Account;
 pub use page::Page;
+pub use piece::{PIECE_BYTES, write, write_count, write_number};
 pub use source::{FileSource, Source, SourceFault};
 pub use stream::Stream;

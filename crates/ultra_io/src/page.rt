@@ -1,8 +1,9 @@
 //! Pages, on which text goes to a sink in large pieces.
 
-ghost use Rattle.std.specs.Prelude.{◌≡◌, ◌+◌, ◌<◌, ◌∷◌, [], true, OnOk, OnErr, decimal};
-ghost use Rattle.ultra_io.specs.Page.{IsBlank, Writes, has_failed, sink_of, two_digits};
+ghost use Rattle.std.specs.Prelude.{◌≡◌, ℕ, ◌+◌, ◌≤◌, List, [], true, OnOk, OnErr, decimal};
+ghost use Rattle.ultra_io.specs.Page.{IsBlank, IsUnderWay, Writes, has_failed, sink_of};
 
+use crate::piece::{PIECE_BYTES, write_count};
 use arrayvec::ArrayVec;
 use ultra_msg::{Sink, SinkFault, write_all};
 
@@ -48,14 +49,7 @@ impl<'s, S: Sink> Page<'s, S> {
     pub fn put_number(&mut self, number: u32)
         ensures { Writes S.taken S.failures (decimal number) self.old self.new }
     {
-        // most numbers have one digit or two, which go onto the page without a call
-        if number < 10 {
-            self.put_digit(number as u8);
-        } else if number < 100 {
-            self.put_pair(number as u8);
-        } else {
-            self.put_count(number as usize);
-        }
+        self.put_count(number as usize);
     }
 
     /// Writes a count or a place in decimal digits.
@@ -63,32 +57,23 @@ impl<'s, S: Sink> Page<'s, S> {
     pub fn put_count(&mut self, count: usize)
         ensures { Writes S.taken S.failures (decimal count) self.old self.new }
     {
-        if count < 10 {
-            self.put_digit(count as u8);
-        } else if count < 100 {
-            self.put_pair(count as u8);
-        } else {
-            self.put_count(count / 100);
-            self.put_pair((count % 100) as u8);
+        let mut piece = [0; PIECE_BYTES];
+        let end = write_count(&mut piece, 0, count);
+        self.put(&piece[..end]);
+    }
+
+    /// Puts the first `at` bytes of a piece on the page, unless at least 68 of its bytes are free behind them. Answers the place in the piece where the text goes on, from where at least 68 are free.
+    #[inline(always)]
+    pub fn make_room(&mut self, piece: &[u8; PIECE_BYTES], at: usize) -> usize
+        requires { at ≤ 128 }
+        ensures under_way { (bytes : List ℕ) (before : Page S) → IsUnderWay S.taken S.failures bytes before self.old piece.now at → IsUnderWay S.taken S.failures bytes before self.new piece.now result }
+        ensures room { result + 68 ≤ 128 }
+    {
+        if at + 68 <= PIECE_BYTES {
+            return at;
         }
-    }
-
-    /// Writes a digit.
-    #[inline(always)]
-    fn put_digit(&mut self, digit: u8)
-        requires { digit < 10 }
-        ensures { Writes S.taken S.failures ((48 + digit) ∷ []) self.old self.new }
-    {
-        self.put(&[b'0' + digit]);
-    }
-
-    /// Writes the two digits of a number below 100.
-    #[inline(always)]
-    fn put_pair(&mut self, number: u8)
-        requires { number < 100 }
-        ensures { Writes S.taken S.failures (two_digits number) self.old self.new }
-    {
-        self.put(&[b'0' + number / 10, b'0' + number % 10]);
+        self.put(&piece[..at]);
+        0
     }
 
     /// Whether the sink has failed.

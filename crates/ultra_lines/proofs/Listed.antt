@@ -26,9 +26,15 @@ module _ {X : Type 0} (text : X → List ℕ) where
   more (y ∷ ys) (suc i) x e =
       ap (λ t. text y ++ t) (others_more ys i x e) ∙ sym (append_assoc (text y) (others (take i ys)) (codes ", " ++ text x)) ∙ sym (append_assoc (text y ++ others (take i ys)) (codes ", ") (text x))
 
-  -- the list up to an index, and the one there
-  pub listed_more : (xs : List X) (i : ℕ) (x : X) → slice_get xs i ≡ Some x → listed text (take (i + 1) xs) ≡ listed text (take i xs) ++ separator i ++ text x
-  listed_more xs i x e = rw add-one (more xs i x e)
+  -- a line up to an index, and the one there
+  pub line_more : (front : List ℕ) (xs : List X) (i : ℕ) (x : X) → slice_get xs i ≡ Some x → front ++ listed text (take (i + 1) xs) ≡ front ++ listed text (take i xs) ++ separator i ++ text x
+  line_more front xs i x e =
+      ap (λ t. front ++ t) (rw add-one (more xs i x e))
+      ∙ sym (append_assoc front (listed text (take i xs) ++ separator i) (text x))
+      ∙ ap (λ t. t ++ text x) (sym (append_assoc front (listed text (take i xs)) (separator i)))
+
+  pub line_begun : (front : List ℕ) (xs : List X) → front ++ listed text (take 0 xs) ≡ front
+  line_begun front xs = append-nil front
 
   pub line_is : (name : List ℕ) (xs : List X) → 0 < length xs → place_line name text xs ≡ name ++ codes ": " ++ listed text xs ++ newline
   line_is name [] h = absurd (omega arith)

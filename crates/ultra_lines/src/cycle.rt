@@ -1,15 +1,16 @@
 //! The lines of a cycle.
 
-ghost use Rattle.std.specs.Prelude.{◌≡◌, ◌+◌, ◌<◌, ◌++◌, OnOk, OnErr};
+ghost use Rattle.std.specs.Prelude.{◌≡◌, ◌+◌, ◌<◌, ◌++◌, OnOk, OnErr, codes, decimal};
+ghost use Rattle.ultra_model.specs.Text.{newline};
 ghost use Rattle.ultra_msg.specs.Bytes.{TakesPrefix};
 ghost use Rattle.ultra_io.specs.Page.{Writes};
 ghost use Rattle.ultra_model.specs.Trace.{cycle_text};
 
 use crate::events::put_events;
 use crate::state::put_state;
-use crate::texts::put_with_word;
+use crate::texts::write_with_word;
 use ultra_block::Blocks;
-use ultra_io::Page;
+use ultra_io::{PIECE_BYTES, Page, write};
 use ultra_msg::{Sink, SinkFault};
 
 /// Writes the lines of the last cycle to the sink. After a fault the sink has taken a prefix of them.
@@ -32,8 +33,17 @@ pub fn put_cycle<S: Sink>(page: &mut Page<'_, S>, blocks: &Blocks)
     requires { 0 < blocks.now.machine.cycles }
     ensures { Writes S.taken S.failures (cycle_text blocks.now.config blocks.now.machine) page.old page.new }
 {
-    put_with_word(page, b"cycle ", blocks.done() - 1);
-    page.put(b"\n");
+    put_number(page, blocks.done() - 1);
     put_events(page, blocks);
     put_state(page, blocks);
+}
+
+/// Writes the first line of a cycle, as `cycle 0`.
+fn put_number<S: Sink>(page: &mut Page<'_, S>, number: u32)
+    ensures { Writes S.taken S.failures (codes "cycle " ++ decimal number ++ newline) page.old page.new }
+{
+    let mut piece = [0; PIECE_BYTES];
+    let at = write_with_word(&mut piece, 0, b"cycle ", number);
+    let end = write(&mut piece, at, b"\n");
+    page.put(&piece[..end]);
 }

@@ -4,9 +4,11 @@ ghost use Rattle.std.specs.List.{flat_map};
 ghost use Rattle.ultra_io.specs.Page.{Writes};
 ghost use Rattle.ultra_model.specs.Trace.{got_line, act_line, fault_line, events_text};
 
-use crate::texts::{put_fault, put_message, put_reply, put_request, put_with_word};
+use crate::texts::{
+    put_fault, put_with_word, write_message, write_reply, write_request, write_with_word,
+};
 use ultra_block::Blocks;
-use ultra_io::Page;
+use ultra_io::{PIECE_BYTES, Page, write, write_number};
 use ultra_model::Stop;
 use ultra_msg::{Event, Sink};
 
@@ -69,9 +71,11 @@ fn put_got<S: Sink>(page: &mut Page<'_, S>, event: Event)
     ensures { Writes S.taken S.failures (got_line event) page.old page.new }
 {
     if let Event::Delivered(message) = event {
-        page.put(b"got ");
-        put_message(page, message);
-        page.put(b"\n");
+        let mut piece = [0; PIECE_BYTES];
+        let at = write(&mut piece, 0, b"got ");
+        let at = write_message(&mut piece, at, message);
+        let end = write(&mut piece, at, b"\n");
+        page.put(&piece[..end]);
     }
 }
 
@@ -86,14 +90,16 @@ fn put_act<S: Sink>(page: &mut Page<'_, S>, event: Event)
         now,
     } = event
     {
-        put_with_word(page, b"act ", module);
-        page.put(b" ");
-        put_request(page, request);
-        page.put(b" = ");
-        put_reply(page, reply);
-        page.put(b" now ");
-        page.put_number(now);
-        page.put(b"\n");
+        let mut piece = [0; PIECE_BYTES];
+        let at = write_with_word(&mut piece, 0, b"act ", module);
+        let at = write(&mut piece, at, b" ");
+        let at = write_request(&mut piece, at, request);
+        let at = write(&mut piece, at, b" = ");
+        let at = write_reply(&mut piece, at, reply);
+        let at = write(&mut piece, at, b" now ");
+        let at = write_number(&mut piece, at, now);
+        let end = write(&mut piece, at, b"\n");
+        page.put(&piece[..end]);
     }
 }
 

@@ -1,12 +1,13 @@
 //! The lines of what waits in a machine: in interfaces, queues, wait buffers and the registers of modules. What is empty has no line.
 
-ghost use Rattle.std.specs.Prelude.{◌++◌, codes};
-ghost use Rattle.ultra_model.specs.Text.{separator};
-ghost use Rattle.ultra_model.specs.Trace.{unit_name, stage_name, pni_line, req_line, wait_line, inp_line, out_line, rep_line};
+ghost use Rattle.ultra_model.specs.Trace.{pni_line, req_line, wait_line, inp_line, out_line, rep_line};
 ghost use Rattle.ultra_io.specs.Page.{Writes};
 
-use crate::texts::{put_entry, put_message, put_record, put_request};
-use ultra_io::Page;
+use crate::texts::{
+    write_entry, write_message, write_place, write_record, write_request, write_separator,
+    write_unit,
+};
+use ultra_io::{PIECE_BYTES, Page, write};
 use ultra_mem::Module;
 use ultra_msg::Sink;
 use ultra_pni::Pni;
@@ -18,12 +19,16 @@ pub(crate) fn put_pni<S: Sink>(page: &mut Page<'_, S>, pe: u32, interface: &Pni)
 {
     let count = interface.pending_count();
     if count > 0 {
-        put_unit(page, b"pni", pe);
+        let mut piece = [0; PIECE_BYTES];
+        let mut at = write_unit(&mut piece, b"pni", pe);
         for index in 0..count {
-            put_separator(page, index);
-            put_request(page, interface.pending(index));
+            at = page.make_room(&piece, at);
+            at = write_separator(&mut piece, at, index);
+            at = write_request(&mut piece, at, interface.pending(index));
         }
-        page.put(b"\n");
+        at = page.make_room(&piece, at);
+        let end = write(&mut piece, at, b"\n");
+        page.put(&piece[..end]);
     }
 }
 
@@ -33,12 +38,16 @@ pub(crate) fn put_req<S: Sink>(page: &mut Page<'_, S>, stage: u32, position: u32
 {
     let count = queue.len();
     if count > 0 {
-        put_place(page, b"req", stage, position);
+        let mut piece = [0; PIECE_BYTES];
+        let mut at = write_place(&mut piece, b"req", stage, position);
         for index in 0..count {
-            put_separator(page, index);
-            put_entry(page, queue.entry(index));
+            at = page.make_room(&piece, at);
+            at = write_separator(&mut piece, at, index);
+            at = write_entry(&mut piece, at, queue.entry(index));
         }
-        page.put(b"\n");
+        at = page.make_room(&piece, at);
+        let end = write(&mut piece, at, b"\n");
+        page.put(&piece[..end]);
     }
 }
 
@@ -48,12 +57,16 @@ pub(crate) fn put_wait<S: Sink>(page: &mut Page<'_, S>, stage: u32, position: u3
 {
     let count = queue.record_count();
     if count > 0 {
-        put_place(page, b"wait", stage, position);
+        let mut piece = [0; PIECE_BYTES];
+        let mut at = write_place(&mut piece, b"wait", stage, position);
         for index in 0..count {
-            put_separator(page, index);
-            put_record(page, queue.record(index));
+            at = page.make_room(&piece, at);
+            at = write_separator(&mut piece, at, index);
+            at = write_record(&mut piece, at, queue.record(index));
         }
-        page.put(b"\n");
+        at = page.make_room(&piece, at);
+        let end = write(&mut piece, at, b"\n");
+        page.put(&piece[..end]);
     }
 }
 
@@ -62,9 +75,11 @@ pub(crate) fn put_inp<S: Sink>(page: &mut Page<'_, S>, module: u32, bank: &Modul
     ensures { Writes S.taken S.failures (inp_line «module» bank.now.inp) page.old page.new }
 {
     if let Some(request) = bank.request() {
-        put_unit(page, b"inp", module);
-        put_request(page, request);
-        page.put(b"\n");
+        let mut piece = [0; PIECE_BYTES];
+        let at = write_unit(&mut piece, b"inp", module);
+        let at = write_request(&mut piece, at, request);
+        let end = write(&mut piece, at, b"\n");
+        page.put(&piece[..end]);
     }
 }
 
@@ -73,9 +88,11 @@ pub(crate) fn put_out<S: Sink>(page: &mut Page<'_, S>, module: u32, bank: &Modul
     ensures { Writes S.taken S.failures (out_line «module» bank.now.out) page.old page.new }
 {
     if let Some(message) = bank.reply() {
-        put_unit(page, b"out", module);
-        put_message(page, message);
-        page.put(b"\n");
+        let mut piece = [0; PIECE_BYTES];
+        let at = write_unit(&mut piece, b"out", module);
+        let at = write_message(&mut piece, at, message);
+        let end = write(&mut piece, at, b"\n");
+        page.put(&piece[..end]);
     }
 }
 
@@ -85,45 +102,15 @@ pub(crate) fn put_rep<S: Sink>(page: &mut Page<'_, S>, stage: u32, position: u32
 {
     let count = queue.len();
     if count > 0 {
-        put_place(page, b"rep", stage, position);
+        let mut piece = [0; PIECE_BYTES];
+        let mut at = write_place(&mut piece, b"rep", stage, position);
         for index in 0..count {
-            put_separator(page, index);
-            put_message(page, queue.reply(index));
+            at = page.make_room(&piece, at);
+            at = write_separator(&mut piece, at, index);
+            at = write_message(&mut piece, at, queue.reply(index));
         }
-        page.put(b"\n");
-    }
-}
-
-/// Writes the start of a line that belongs to a module or a processing element, as `inp 0: `.
-#[inline(always)]
-fn put_unit<S: Sink>(page: &mut Page<'_, S>, word: &[u8], unit: u32)
-    ensures { Writes S.taken S.failures (unit_name word.now unit ++ codes ": ") page.old page.new }
-{
-    page.put(word);
-    page.put(b" ");
-    page.put_number(unit);
-    page.put(b": ");
-}
-
-/// Writes the start of a line that belongs to a position of a stage, as `req 0 1: `.
-#[inline(always)]
-fn put_place<S: Sink>(page: &mut Page<'_, S>, word: &[u8], stage: u32, position: u32)
-    ensures { Writes S.taken S.failures (stage_name word.now stage position ++ codes ": ") page.old page.new }
-{
-    page.put(word);
-    page.put(b" ");
-    page.put_number(stage);
-    page.put(b" ");
-    page.put_number(position);
-    page.put(b": ");
-}
-
-/// Writes what stands before the entry at an index of a line: nothing before the first, and a comma before the others.
-#[inline(always)]
-fn put_separator<S: Sink>(page: &mut Page<'_, S>, index: usize)
-    ensures { Writes S.taken S.failures (separator index) page.old page.new }
-{
-    if index > 0 {
-        page.put(b", ");
+        at = page.make_room(&piece, at);
+        let end = write(&mut piece, at, b"\n");
+        page.put(&piece[..end]);
     }
 }

@@ -5,5 +5,5 @@ use Rattle.ultra_lines.proofs.cycle.put_cycle.Goals as goal
 pub returns : goal.returns
 unfolding cycle_text
 returns g c =
-    let number = rw c.done.ensures at c.put_with_word.ensures in
-    number then c.put.ensures then c.put_events.ensures then c.put_state.ensures
+    let number = rw c.done.ensures at c.put_number.ensures in
+    number then c.put_events.ensures then c.put_state.ensures

@@ -1,7 +1,8 @@
-use Rattle.ultra_io.proofs.Writing.{◌then◌}
+use Rattle.ultra_io.proofs.Pieces.{◌with◌, begun, ended}
 use Rattle.ultra_lines.proofs.events.put_act.Goals as goal
 
 pub returns-in-Served : goal.returns-in-Served
 returns-in-Served g c =
-    rw c.in-Served.is
-    (c.put_with_word.ensures then c.put.ensures then c.put_request.ensures then c.put-in-Served.ensures then c.put_reply.ensures then c.put-in-Served-2.ensures then c.put_number.ensures then c.put-in-Served-3.ensures)
+    let act = begun c.write_with_word-at.ensures.written with c.write-at.ensures.written with c.write_request-at.ensures.written with c.write-at-in-Served.ensures.written in
+    let now = act with c.write_reply-at.ensures.written with c.write-at-in-Served-2.ensures.written with c.write_number-at.ensures.written in
+    rw c.in-Served.is (ended (now with c.write-end.ensures.written) c.put.ensures)
