@@ -1,22 +1,9 @@
 //! What is true of a switch.
 
 ghost use Rattle.std.specs.Prelude.{◌≡◌};
-ghost use Rattle.ultra_halves.specs.Switches.{has_reply_room, has_request_room, holds_replies, holds_requests, keeps_records, quiet_switch, request_heads};
+ghost use Rattle.ultra_halves.specs.Switches.{has_reply_room, has_request_room, holds_replies, holds_requests, keeps_records, quiet_switch};
 
-use ultra_msg::Request;
 use ultra_switch::{Ports, Switch};
-
-/// The first request of each queue toward memory, by the memory-side port, or `None` where the queue is empty.
-#[inline(always)]
-pub fn request_heads(switch: &Switch) -> Ports<Option<Request>>
-    ensures { result ≡ request_heads switch.now }
-{
-    let Ports { zero, one } = &switch.to_mm;
-    Ports {
-        zero: zero.head(),
-        one: one.head(),
-    }
-}
 
 /// Whether a reply stands in one of the queues toward the processing elements.
 #[inline(always)]
@@ -42,7 +29,7 @@ pub fn holds_requests(switch: &Switch) -> bool
     ensures { result ≡ holds_requests switch.now }
 {
     let Ports { zero, one } = &switch.to_mm;
-    !(zero.len() == 0 && one.len() == 0)
+    !zero.is_empty() || !one.is_empty()
 }
 
 /// Whether a record is in one of its wait buffers.

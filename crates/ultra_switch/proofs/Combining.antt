@@ -1,16 +1,14 @@
 -- where a request combines, by the places of the entries
-use Rattle.std.proofs.Common.{◌≡◌, ℕ, zero, suc, ◌<◌, ◌≤◌, length, List, [], ◌∷◌, Bool, true, false, refl, arith, ap, get_or, ◌++◌, ◌-◌, length-append}
-use Rattle.std.specs.Prelude.{Option, Some, None, slice_set, slice_get, nat_lt}
+use Rattle.std.proofs.Common.{◌≡◌, ℕ, zero, suc, ◌<◌, ◌≤◌, length, List, [], ◌∷◌, Bool, true, false, refl, arith, ap, get_or}
+use Rattle.std.specs.Prelude.{Option, Some, None, slice_get, nat_lt}
 use Rattle.std.specs.List.{position, position_or_len}
 use Rattle.std.proofs.lemmas.Grind.{common_steps}
-use Rattle.std.proofs.lemmas.List.Quantifiers.{position-Some}
 use Rattle.std.proofs.lemmas.List.Sums.{fails_before_first}
 use Rattle.std.proofs.lemmas.Option.{get_or_from_slice_get}
-use Rattle.circular_buffer.specs.Buffer.{keep_last}
 use Rattle.ultra_msg.specs.declared.Request.{Request}
 use Rattle.ultra_switch.specs.declared.Entry.{Entry}
 use Rattle.ultra_switch.specs.Partner.{IsFirst, IsPartner, combination_at}
-use Rattle.ultra_switch.specs.Arrive.{Lane, Combination, combine, combine_within, behind, can_combine, combined_entry}
+use Rattle.ultra_switch.specs.Arrive.{Lane, combine, combine_within, behind, can_combine}
 
 module _ {X : Type 0} where
   -- where no item passes, each of them fails
@@ -18,12 +16,6 @@ module _ {X : Type 0} where
   fails_at_each p xs none k d within =
       let first : length xs ≤ position_or_len p xs = grind (arith, common_steps) in
       fails_before_first p xs k d (omega arith)
-
-  -- where there is a free place, nothing is pushed out
-  pub keeps_all : (xs : List X) (x : X) (n : ℕ) → length xs < n → keep_last n (xs ++ x ∷ []) ≡ xs ++ x ∷ []
-  keeps_all xs x n room =
-      let none : length (xs ++ x ∷ []) - n ≡ 0 = omega (arith, length-append xs (x ∷ [])) in
-      rw none refl
 
 abbrev NoneBefore : Request → List Entry → ℕ → Type 0
 NoneBefore r es n = (k : ℕ) (d : Entry) → k < n → can_combine r (get_or es k d) ≡ false

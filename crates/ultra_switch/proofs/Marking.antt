@@ -1,9 +1,8 @@
 -- requests with the marks of a word
-use Rattle.std.proofs.Common.{◌≡◌, ◌≢◌, ℕ, zero, suc, ◌+◌, ◌≤◌, ◌<◌, length, List, [], ◌∷◌, ◌++◌, Bool, true, false, refl, arith, ap, sym, ◌∙◌, length-append}
+use Rattle.std.proofs.Common.{◌≡◌, ◌≢◌, ℕ, zero, suc, ◌+◌, ◌≤◌, ◌<◌, length, List, [], ◌∷◌, ◌++◌, true, false, refl, arith, ap, sym, ◌∙◌, length-append}
 use Rattle.std.proofs.lemmas.List.{length-set}
-use Rattle.std.specs.Prelude.{Option, Some, None, slice_get, slice_set, drop}
+use Rattle.std.specs.Prelude.{Some, slice_get, slice_set, drop}
 use Rattle.ultra_msg.specs.declared.Request.{Request}
-use Rattle.ultra_switch.specs.declared.Entry.{Entry}
 use Rattle.ultra_switch.specs.Arrive.{entry}
 use Rattle.ultra_switch.specs.Queues.{request_of}
 use Rattle.ultra_switch.specs.Marks.{has_mark, marked_from, marked_by, AreOf}

@@ -3,3 +3,4 @@ pub mod Split
 pub mod Queues
 pub mod Marks
 pub mod Partner
+pub mod InPlace

@@ -8,6 +8,7 @@ ghost use Rattle.ultra_switch.specs.Queues.{empty_requests, empty_replies};
 
 mod marked_queue;
 mod marks;
+mod queue;
 mod reply_queue;
 mod request_queue;
 

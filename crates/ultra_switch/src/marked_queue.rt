@@ -1,4 +1,4 @@
-//! Rings of requests with marks.
+//! Queues of requests with marks.
 
 ghost use Rattle.std.specs.Prelude.{◌≡◌, ℕ, ◌+◌, ◌<◌, ◌≤◌, ◌==◌, ◌++◌, ◌∷◌, [], length, drop, slice_get, slice_set, IfOk, IfSome, Some, true, false};
 ghost use Rattle.std.specs.List.{position};
@@ -7,7 +7,7 @@ ghost use Rattle.ultra_switch.specs.Queues.{request_of};
 
 use crate::Entry;
 use crate::marks::Marks;
-use circular_buffer::HeapCircularBuffer;
+use crate::queue::Queue;
 use std::alloc::{AllocError, Global};
 use std::marker::Model;
 use ultra_msg::Request;
@@ -15,10 +15,10 @@ use ultra_msg::Request;
 /// The most places that a queue toward memory can have: the bits of a word.
 pub(crate) const MOST_REQUEST_PLACES: usize = 32;
 
-/// A queue of requests, each with a mark, in a ring of a fixed number of places.
+/// A queue of requests, each with a mark, of a fixed number of places.
 #[derive(Drop)]
 pub(crate) struct MarkedQueue {
-    requests: HeapCircularBuffer<Request>,
+    requests: Queue<Request>,
     marks: Marks,
 }
 
@@ -42,7 +42,7 @@ impl MarkedQueue {
         ensures { IfOk result (λ q. q ≡ record { entries = []; places = places }) }
     {
         Ok(MarkedQueue {
-            requests: HeapCircularBuffer::with_capacity(alloc, places)?,
+            requests: Queue::with_capacity(alloc, places)?,
             marks: Marks::none(),
         })
     }
@@ -76,7 +76,7 @@ impl MarkedQueue {
         ensures { slice_get self.now.entries place ≡ Some result }
     {
         Entry {
-            request: request_at(&self.requests, place),
+            request: self.requests.get(place),
             combined: self.marks.has(place),
         }
     }
@@ -85,7 +85,7 @@ impl MarkedQueue {
     pub(crate) fn front(&self) -> Option<Request>
         ensures { result ≡ request_of (slice_get self.now.entries 0) }
     {
-        self.requests.front().copied()
+        self.requests.front()
     }
 
     /// Puts a request without a mark at the end. There has to be a free place.
@@ -93,7 +93,7 @@ impl MarkedQueue {
         requires { length self.old.entries < self.old.places }
         ensures { self.new ≡ record self.old { entries = self.old.entries ++ entry request false ∷ [] } }
     {
-        self.requests.push_back(request);
+        self.requests.push(request);
     }
 
     /// Takes the request at the front out of the queue, or answers `None` where the queue is empty. The marks of the others move with them.
@@ -102,7 +102,7 @@ impl MarkedQueue {
         ensures entries { self.new ≡ record self.old { entries = drop 1 self.old.entries } }
     {
         self.marks = self.marks.moved();
-        self.requests.pop_front()
+        self.requests.pop()
     }
 
     /// Puts a marked request in the place of another.
@@ -110,7 +110,7 @@ impl MarkedQueue {
         requires { place < length self.old.entries }
         ensures { self.new ≡ record self.old { entries = slice_set self.old.entries place (entry request true) } }
     {
-        put_at(&mut self.requests, place, request);
+        self.requests.set(place, request);
         self.marks = self.marks.with(place);
     }
 
@@ -118,6 +118,9 @@ impl MarkedQueue {
     pub(crate) fn partner(&self, request: Request) -> Option<usize>
         ensures { IsFirst (can_combine request) self.now.entries result }
     {
+        if self.is_empty() {
+            return None;
+        }
         (0..self.len()).find(
             |&place|
                 requires { place < length self.now.entries }
@@ -125,23 +128,6 @@ impl MarkedQueue {
             { can_combine(request, self.entry(place)) },
         )
     }
-}
-
-/// The request at this place of a ring.
-fn request_at(requests: &HeapCircularBuffer<Request>, place: usize) -> Request
-    requires { place < length requests.now.items }
-    ensures { slice_get requests.now.items place ≡ Some result }
-{
-    *requests.get(place).unwrap()
-}
-
-/// Puts a request in the place of another in a ring.
-fn put_at(requests: &mut HeapCircularBuffer<Request>, place: usize, request: Request)
-    requires { place < length requests.old.items }
-    ensures items { requests.new.items ≡ slice_set requests.old.items place request }
-    ensures places { requests.new.capacity ≡ requests.old.capacity }
-{
-    *requests.get_mut(place).unwrap() = request;
 }
 
 /// Whether the request can combine with the entry: it has no mark and is for the same cell.

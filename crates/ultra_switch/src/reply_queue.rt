@@ -3,7 +3,7 @@
 ghost use Rattle.std.specs.Prelude.{◌≡◌, ℕ, ◌+◌, ◌<◌, ◌≤◌, ◌==◌, ◌++◌, ◌∷◌, [], length, drop, slice_get, nat_le, Some, IfOk};
 ghost use Rattle.ultra_switch.specs.Queues.{empty_replies};
 
-use circular_buffer::HeapCircularBuffer;
+use crate::queue::Queue;
 use std::alloc::{AllocError, Global};
 use std::marker::Model;
 use ultra_msg::ReplyMessage;
@@ -11,7 +11,7 @@ use ultra_msg::ReplyMessage;
 /// A queue toward the processing elements, of one PE-side port of a switch.
 #[derive(Drop)]
 pub struct ToPe {
-    queue: HeapCircularBuffer<ReplyMessage>,
+    queue: Queue<ReplyMessage>,
 }
 
 impl Model for ToPe {
@@ -31,7 +31,7 @@ impl ToPe {
         ensures { IfOk result (λ q. q ≡ empty_replies places) }
     {
         Ok(ToPe {
-            queue: HeapCircularBuffer::with_capacity(alloc, places)?,
+            queue: Queue::with_capacity(alloc, places)?,
         })
     }
 
@@ -62,14 +62,14 @@ impl ToPe {
         requires { index < length self.now.replies }
         ensures { slice_get self.now.replies index ≡ Some result }
     {
-        *self.queue.get(index).unwrap()
+        self.queue.get(index)
     }
 
     /// The reply at the front, or `None` where the queue is empty.
     pub fn head(&self) -> Option<ReplyMessage>
         ensures { result ≡ slice_get self.now.replies 0 }
     {
-        self.queue.front().copied()
+        self.queue.front()
     }
 
     /// A reply comes to the end of the queue.
@@ -77,7 +77,7 @@ impl ToPe {
         requires { length self.old.replies < self.old.places }
         ensures { self.new ≡ record self.old { replies = self.old.replies ++ reply ∷ [] } }
     {
-        self.queue.push_back(reply);
+        self.queue.push(reply);
     }
 
     /// Takes the reply at the front out of the queue, or answers `None` where the queue is empty.
@@ -85,6 +85,6 @@ impl ToPe {
         ensures value { result ≡ slice_get self.old.replies 0 }
         ensures queue { self.new ≡ record self.old { replies = drop 1 self.old.replies } }
     {
-        self.queue.pop_front()
+        self.queue.pop()
     }
 }

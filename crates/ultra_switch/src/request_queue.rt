@@ -68,6 +68,13 @@ impl ToMm {
         self.queue.len()
     }
 
+    /// Whether no request stands in the queue.
+    pub fn is_empty(&self) -> bool
+        ensures { result ≡ (length self.now.lane.queue == 0) }
+    {
+        self.queue.is_empty()
+    }
+
     /// The entry at this place of the queue, counted from 0 at the front.
     pub fn entry(&self, index: usize) -> Entry
         requires { index < length self.now.lane.queue }
@@ -97,7 +104,7 @@ impl ToMm {
     pub fn is_idle(&self) -> bool
         ensures { result ≡ (length self.now.lane.queue == 0) && (length self.now.lane.records == 0) }
     {
-        self.queue.is_empty() && self.records.is_empty()
+        self.is_empty() && self.records.is_empty()
     }
 
     /// The request at the front of the queue, or `None` where the queue is empty.

@@ -2,8 +2,8 @@ use Rattle.std.proofs.Common.{arith}
 use Rattle.ultra_switch.proofs.Marking.{length-marked_by, get-marked_by}
 use Rattle.ultra_switch.proofs.marked_queue.MarkedQueue.entry.Goals as goal
 
-pub request_at-requires : goal.request_at-requires
-request_at-requires c = rw (← c.self.view_is, length-marked_by c.self.inside.marks c.self.inside.requests.items) at c.requires
+pub get-requires : goal.get-requires
+get-requires c = rw (← c.self.view_is, length-marked_by c.self.inside.marks c.self.inside.requests.items) at c.requires
 
 pub has-requires : goal.has-requires
 has-requires c =
@@ -11,4 +11,4 @@ has-requires c =
     omega (arith, within, c.self.invariant.within, c.self.invariant.most)
 
 pub returns : goal.returns
-returns c = rw (← c.self.view_is, c.has.ensures) (get-marked_by c.self.inside.marks c.args.place c.self.inside.requests.items c.request_at.result c.request_at.ensures)
+returns c = rw (← c.self.view_is, c.has.ensures) (get-marked_by c.self.inside.marks c.args.place c.self.inside.requests.items c.get.result c.get.ensures)

@@ -1,4 +1,4 @@
-use Rattle.std.proofs.Common.{arith, rules}
+use Rattle.std.proofs.Common.{rules}
 use Rattle.ultra_switch.proofs.Marking.{length-marked_by}
 use Rattle.ultra_switch.proofs.marked_queue.MarkedQueue.is_empty.Goals as goal
 

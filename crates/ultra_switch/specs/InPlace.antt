@@ -1,0 +1,13 @@
+-- a queue whose first item lies apart from those behind it
+use Rattle.std.specs.Prelude.{◌≡◌, ℕ, ◌≤◌, List, [], ◌∷◌, length, Option, Some, None}
+
+module _ {X : Type 0} where
+  -- all items, the front first
+  abbrev pub with_front : Option X → List X → List X
+  with_front None rest = []
+  with_front (Some x) rest = x ∷ rest
+
+  -- nothing stands behind an empty front, and all items fit
+  pub record IsInPlace (front : Option X) (rest : List X) (places : ℕ) : Type 0 where
+    pub alone : front ≡ None → rest ≡ []
+    pub within : length (with_front front rest) ≤ places
