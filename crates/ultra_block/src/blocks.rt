@@ -5,7 +5,7 @@ ghost use Rattle.ultra_model.specs.Machine.{bank_at, element_at, is_quiet, lane_
 ghost use Rattle.ultra_model.specs.Phases.{cycle as next_cycle};
 ghost use Rattle.ultra_cut.specs.Cut.{is_partition};
 ghost use Rattle.ultra_block.specs.Dealt.{IsLastNamed};
-ghost use Rattle.ultra_section.specs.Holding.{IsNextWhere};
+ghost use Rattle.ultra_section.specs.Holding.{IsSetOf};
 ghost use Rattle.ultra_cut.specs.Holding.{holds};
 
 use crate::cycle::make_cycle;
@@ -16,7 +16,7 @@ use crate::parts::Parts;
 use crate::ranks::{ByElement, ByRules};
 use std::alloc::Global;
 use std::marker::Model;
-use ultra_cut::{are_quiet, next_holding};
+use ultra_cut::{are_quiet, holders};
 use ultra_halves::ProcessingElement;
 use ultra_isa::Program;
 use ultra_mem::Module;
@@ -25,7 +25,7 @@ use ultra_model::{Config, Stop};
 use ultra_msg::{Event, Pe};
 use ultra_section::Held;
 use ultra_switch::{ToMm, ToPe};
-use ultra_units::switch_number;
+use ultra_units::{UnitSet, switch_number};
 
 /// A whole machine, cut into blocks, between two cycles: its settings, its program, the block in which each unit stands, and the blocks. Switches come first in the partition, then modules, then processing elements.
 ///
@@ -165,12 +165,12 @@ impl Blocks {
         self.parts.partition.as_slice()
     }
 
-    /// The first unit from number `from` on that holds what is asked for. Switches are numbered first, by stage, then modules, then processing elements.
+    /// The units that hold what is asked for. Switches are numbered first, by stage, then modules, then processing elements.
     #[inline(always)]
-    pub fn next_holding(&self, held: Held, from: usize) -> Option<usize>
-        ensures { IsNextWhere (holds self.now.config.stages self.now.machine held) from result }
+    pub fn holding(&self, held: Held) -> UnitSet
+        ensures { IsSetOf (holds self.now.config.stages self.now.machine held) result }
     {
-        next_holding(self.parts.blocks.as_slice(), held, from)
+        holders(self.parts.blocks.as_slice(), held)
     }
 
     /// What happened in the last cycle, in the order of the rules: deliveries by processing element, servings by module, combinations by stage, position and arrival, issues by processing element.

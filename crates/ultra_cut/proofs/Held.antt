@@ -8,6 +8,7 @@ use Rattle.ultra_switch.specs.declared.Switch.{Switch}
 use Rattle.ultra_mem.specs.Serve.{empty_bank}
 use Rattle.ultra_model.specs.declared.Stop.{Stop}
 use Rattle.ultra_model.specs.Machine.{Settings, Machine, lane_at, replies_at, bank_at, element_at}
+use Rattle.ultra_units.specs.Set.{HasNoneFrom}
 use Rattle.ultra_units.specs.Numbers.{switch_count, switch_number, unit_count, module_number, element_number}
 use Rattle.ultra_halves.specs.Elements.{element_of}
 use Rattle.ultra_halves.specs.declared.elements.ProcessingElement.{ProcessingElement}
@@ -17,7 +18,7 @@ use Rattle.ultra_section.specs.Units.{of_unit, stage_of, index_of}
 use Rattle.ultra_section.specs.Sets.{if_here}
 use Rattle.ultra_section.specs.BlockState.{BlockState, switch_at, module_at}
 use Rattle.ultra_section.specs.BlockState.{element_at as own_element_at}
-use Rattle.ultra_section.specs.Holding.{IsNextWhere, holds_at, switch_holds, module_holds, element_holds}
+use Rattle.ultra_section.specs.Holding.{IsSetOf, holds_at, switch_holds, module_holds, element_holds}
 use Rattle.ultra_section.proofs.Standing.{is_switch}
 use Rattle.ultra_section.proofs.Holding.{at_switch, at_module, at_element, at_none}
 use Rattle.ultra_course.specs.Ports.{at_port}
@@ -36,17 +37,6 @@ use Rattle.ultra_cut.proofs.Noted.{next_is}
 and_false : (b : Bool) → false ≡ (b && false)
 and_false true = refl
 and_false false = refl
-
-pub same_next : (p q : ℕ → Bool) (from : ℕ) → ((n : ℕ) → p n ≡ q n) → (o : Option ℕ) → IsNextWhere p from o → IsNextWhere q from o
-same_next p q from same None next = record { some = tt; none = λ n after. sym (same n) ∙ next.none n after }
-same_next p q from same (Some k) next = record {
-  some = record {
-    after = next.some.after;
-    there = sym (same k) ∙ next.some.there;
-    between = λ n after before. sym (same n) ∙ next.some.between n after before;
-  };
-  none = tt;
-}
 
 -- ---- what a unit of the machine holds is what that of the frame does
 module _ (c : Settings) (low : 1 ≤ c.stages) (high : c.stages ≤ 6) (f : Frame) (n : ℕ) (events : List Event) (stops : List Stop) where
@@ -170,8 +160,8 @@ module _ (c : Settings) (partition : List ℕ) (bs : List BlockState) (are : Are
   abbrev pub below : ℕ → ℕ → Bool
   below i u = nat_lt (home partition u) i && whole_holds u
 
-  pub none_below : (from : ℕ) → IsNextWhere (below 0) from None
-  none_below from = record { some = tt; none = λ u after. ap (λ b. b && whole_holds u) (le-ltb (home partition u) 0 (omega arith)) }
+  pub none_below : (set : List ℕ) → HasNoneFrom set 0 → IsSetOf (below 0) set
+  none_below set none = λ u. none u (omega arith) ∙ sym (ap (λ b. b && whole_holds u) (le-ltb (home partition u) 0 (omega arith)))
 
   pub next_below : (i : ℕ) → i < length bs → (u : ℕ) → (below i u || holds_at (block_at bs i) held u) ≡ below (i + 1) u
   next_below i within u =

@@ -1,5 +1,5 @@
 -- which units of a whole machine of d stages hold something
-use Rattle.std.specs.Prelude.{ℕ, ◌+◌, ◌*◌, List, Bool, false, not, ◌&&◌, Option}
+use Rattle.std.specs.Prelude.{ℕ, ◌+◌, ◌*◌, List, Bool, false, not, ◌&&◌}
 use Rattle.ultra_msg.specs.declared.Event.{Event}
 use Rattle.ultra_model.specs.declared.Stop.{Stop}
 use Rattle.ultra_model.specs.Machine.{Settings, Machine, Element, lane_at, replies_at, bank_at, element_at}
@@ -7,7 +7,7 @@ use Rattle.ultra_halves.specs.Halves.{has_none}
 use Rattle.ultra_section.specs.declared.held.Held.{Held}
 use Rattle.ultra_section.specs.declared.held.Held.TheVariants.{Reply, Request, Record}
 use Rattle.ultra_section.specs.Units.{of_unit}
-use Rattle.ultra_section.specs.Holding.{IsNextWhere, module_holds}
+use Rattle.ultra_section.specs.Holding.{IsSetOf, module_holds}
 use Rattle.ultra_section.specs.BlockState.{BlockState}
 use Rattle.ultra_course.specs.Whole.{whole}
 use Rattle.ultra_cut.specs.Cut.{frame_of}
@@ -33,10 +33,9 @@ holds d m held n =
     (λ p. interface_holds held (element_at m p))
     false n
 
--- the first unit from number `from` on that holds it, or that there is none, however the machine is
--- cut
-abbrev pub IsNextOfAll : List BlockState → Held → ℕ → Option ℕ → Type 0
-IsNextOfAll bs held from next =
+-- the set has exactly the units that hold it, however the machine is cut
+abbrev pub IsSetOfAll : List BlockState → Held → List ℕ → Type 0
+IsSetOfAll bs held set =
     (c : Settings) (partition : List ℕ) (n : ℕ) (events : List Event) (stops : List Stop)
     → AreBlocks c.stages partition bs
-    → IsNextWhere (holds c.stages (whole c (frame_of c.stages partition bs) n events stops) held) from next
+    → IsSetOf (holds c.stages (whole c (frame_of c.stages partition bs) n events stops) held) set

@@ -1,31 +1,18 @@
 //! Which units of a machine hold something.
 
-ghost use Rattle.std.specs.Prelude.{ℕ, Bool, ◌||◌};
-ghost use Rattle.ultra_section.specs.Holding.{IsNextWhere};
-ghost use Rattle.ultra_cut.specs.Holding.{IsNextOfAll};
+ghost use Rattle.ultra_cut.specs.Holding.{IsSetOfAll};
 
 use ultra_section::{Block, Held};
+use ultra_units::UnitSet;
 
-/// The lesser of two numbers, or the one that is there, or `None`.
+/// The units of the machine that hold what is asked for, however it is cut.
 #[inline(always)]
-fn lesser(left: Option<usize>, right: Option<usize>) -> Option<usize>
-    ensures { (p q : ℕ → Bool) (from : ℕ) → IsNextWhere p from left → IsNextWhere q from right → IsNextWhere (λ n. p n || q n) from result }
+pub fn holders(blocks: &[Block], held: Held) -> UnitSet
+    ensures { IsSetOfAll blocks.now held result }
 {
-    match (left, right) {
-        (Some(a), Some(b)) => Some(if a < b { a } else { b }),
-        (Some(a), None) => Some(a),
-        (None, right) => right,
-    }
-}
-
-/// The first unit from number `from` on that holds what is asked for, of all units of the machine, however it is cut.
-#[inline(always)]
-pub fn next_holding(blocks: &[Block], held: Held, from: usize) -> Option<usize>
-    ensures { IsNextOfAll blocks.now held from result }
-{
-    let mut first = None;
+    let mut all = UnitSet::empty();
     for block in blocks {
-        first = lesser(first, block.next_holding(held, from));
+        all.add_all(block.holding(held));
     }
-    first
+    all
 }

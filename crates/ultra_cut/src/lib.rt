@@ -14,7 +14,7 @@ mod unit_laws;
 
 pub use exchange::{exchange_replies, exchange_requests};
 pub use happening_laws::{events_added_law, happenings_law, in_order_law};
-pub use holding::next_holding;
+pub use holding::holders;
 pub use quiet::are_quiet;
 pub use reply_laws::{can_take_replies_law, replies_sent_law, replies_taken_law};
 pub use request_laws::{can_take_requests_law, requests_sent_law, requests_taken_law};

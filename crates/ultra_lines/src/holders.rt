@@ -3,16 +3,15 @@
 ghost use Rattle.std.specs.Prelude.{◌≡◌, ◌^◌};
 ghost use Rattle.std.specs.Iterator.{YieldsFirst, item_count};
 ghost use Rattle.ultra_units.specs.Numbers.{switch_count as count_of_switches, module_number as number_of_module, element_number as number_of_element};
-ghost use Rattle.ultra_lines.specs.Holders.{holders_left, holding};
+ghost use Rattle.ultra_lines.specs.Holders.{holders_left, numbers_in};
 
-use ultra_block::{Blocks, Held};
-use ultra_units::{element_number, module_number, switch_count};
+use ultra_block::Blocks;
+use ultra_units::{UnitSet, element_number, module_number, switch_count};
 
-/// The units of one kind that hold what is asked for, by their numbers within the kind.
+/// The units of one kind that are in a set, by their numbers within the kind.
 #[derive(Drop)]
 pub(crate) struct Holders<'a> {
-    blocks: &'a Blocks,
-    held: Held,
+    units: &'a UnitSet,
     // the number of the kind's first unit among all units
     base: u32,
     // the number within the kind from which it goes on, and the bound of these numbers
@@ -33,9 +32,7 @@ impl Iterator for Holders<'_> {
             return None;
         }
         let base = self.base as usize;
-        let unit = self
-            .blocks
-            .next_holding(self.held, base + self.from as usize)?;
+        let unit = self.units.next(base + self.from as usize)?;
         let number = unit - base;
         if number >= self.end as usize {
             return None;
@@ -45,44 +42,43 @@ impl Iterator for Holders<'_> {
     }
 }
 
-/// The switches that hold what is asked for, by their numbers.
-pub(crate) fn switches_with(blocks: &Blocks, held: Held) -> Holders<'_>
-    ensures { holders_left result ≡ holding blocks.now held 0 0 (count_of_switches blocks.now.config.stages) }
+/// The switches in a set, by their numbers.
+#[inline(always)]
+pub(crate) fn switches_in<'a>(blocks: &Blocks, units: &'a UnitSet) -> Holders<'a>
+    ensures { holders_left result ≡ numbers_in units.now 0 (count_of_switches blocks.now.config.stages) }
 {
-    let end = switch_count(blocks.config().net()) as u32;
     Holders {
-        blocks,
-        held,
+        units,
         base: 0,
         from: 0,
-        end,
+        end: switch_count(blocks.config().net()) as u32,
     }
 }
 
-/// The modules that hold what is asked for, by their numbers.
-pub(crate) fn modules_with(blocks: &Blocks, held: Held) -> Holders<'_>
-    ensures { holders_left result ≡ holding blocks.now held (number_of_module blocks.now.config.stages 0) 0 (2 ^ blocks.now.config.stages) }
+/// The modules in a set, by their numbers.
+#[inline(always)]
+pub(crate) fn modules_in<'a>(blocks: &Blocks, units: &'a UnitSet) -> Holders<'a>
+    ensures { holders_left result ≡ numbers_in units.now (number_of_module blocks.now.config.stages 0) (2 ^ blocks.now.config.stages) }
 {
     let net = blocks.config().net();
     let end = net.size();
     Holders {
-        blocks,
-        held,
+        units,
         base: module_number(net, 0) as u32,
         from: 0,
         end,
     }
 }
 
-/// The processing elements that hold what is asked for, by their numbers.
-pub(crate) fn elements_with(blocks: &Blocks, held: Held) -> Holders<'_>
-    ensures { holders_left result ≡ holding blocks.now held (number_of_element blocks.now.config.stages 0) 0 (2 ^ blocks.now.config.stages) }
+/// The processing elements in a set, by their numbers.
+#[inline(always)]
+pub(crate) fn elements_in<'a>(blocks: &Blocks, units: &'a UnitSet) -> Holders<'a>
+    ensures { holders_left result ≡ numbers_in units.now (number_of_element blocks.now.config.stages 0) (2 ^ blocks.now.config.stages) }
 {
     let net = blocks.config().net();
     let end = net.size();
     Holders {
-        blocks,
-        held,
+        units,
         base: element_number(net, 0) as u32,
         from: 0,
         end,

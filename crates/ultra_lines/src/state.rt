@@ -4,43 +4,51 @@ ghost use Rattle.std.specs.Prelude.{◌≡◌, ◌+◌, ◌*◌, ◌-◌, ◌/�
 ghost use Rattle.ultra_model.specs.Machine.{size};
 ghost use Rattle.ultra_units.specs.Numbers.{switch_count};
 ghost use Rattle.ultra_io.specs.Page.{Writes};
+ghost use Rattle.ultra_block.specs.Held.TheVariants.{Reply, Request};
+ghost use Rattle.ultra_lines.specs.Holders.{AreHolders};
 ghost use Rattle.ultra_lines.specs.Ports.{port_line};
 ghost use Rattle.ultra_model.specs.Trace.{by_number, by_stage, pni_of, inp_of, out_of, state_text};
 
-use crate::holders::{elements_with, modules_with, switches_with};
+use crate::holders::{elements_in, modules_in, switches_in};
 use crate::places::{put_inp, put_out, put_pni, put_rep, put_req, put_wait};
 use ultra_block::{Blocks, Held};
 use ultra_io::Page;
 use ultra_msg::Sink;
+use ultra_units::UnitSet;
 
 /// Writes what stands where after the last cycle.
 pub(crate) fn put_state<S: Sink>(page: &mut Page<'_, S>, blocks: &Blocks)
     ensures { Writes S.taken S.failures (state_text blocks.now.config blocks.now.machine) page.old page.new }
 {
-    put_interfaces(page, blocks);
-    put_switches(page, blocks, Held::Request);
-    put_switches(page, blocks, Held::Record);
-    put_requests_to_serve(page, blocks);
-    put_replies_to_leave(page, blocks);
-    put_switches(page, blocks, Held::Reply);
+    let requests = blocks.holding(Held::Request);
+    let records = blocks.holding(Held::Record);
+    let replies = blocks.holding(Held::Reply);
+    put_interfaces(page, blocks, &requests);
+    put_switches(page, blocks, Held::Request, &requests);
+    put_switches(page, blocks, Held::Record, &records);
+    put_requests_to_serve(page, blocks, &requests);
+    put_replies_to_leave(page, blocks, &replies);
+    put_switches(page, blocks, Held::Reply, &replies);
 }
 
-/// Writes the lines of the requests that are not yet in the network, by processing element.
-fn put_interfaces<S: Sink>(page: &mut Page<'_, S>, blocks: &Blocks)
+/// Writes the lines of the requests that are not yet in the network, by processing element. `holders` are the units that hold requests.
+fn put_interfaces<S: Sink>(page: &mut Page<'_, S>, blocks: &Blocks, holders: &UnitSet)
+    requires { AreHolders blocks.now Request holders.now }
     ensures { Writes S.taken S.failures (by_number (size blocks.now.config) (pni_of blocks.now.machine)) page.old page.new }
 {
-    for pe in elements_with(blocks, Held::Request) {
+    for pe in elements_in(blocks, holders) {
         put_pni(page, pe, &blocks.element(pe).interface);
     }
 }
 
-/// Writes the lines of what switches hold of one kind, by stage, then position: the queues of requests or of replies, or the wait buffers.
+/// Writes the lines of what switches hold of one kind, by stage, then position: the queues of requests or of replies, or the wait buffers. `holders` are the units that hold it.
 #[inline(always)]
-fn put_switches<S: Sink>(page: &mut Page<'_, S>, blocks: &Blocks, held: Held)
+fn put_switches<S: Sink>(page: &mut Page<'_, S>, blocks: &Blocks, held: Held, holders: &UnitSet)
+    requires { AreHolders blocks.now held holders.now }
     ensures { Writes S.taken S.failures (by_stage blocks.now.config (port_line held blocks.now.machine)) page.old page.new }
 {
     let _even = positions(blocks);
-    for switch in switches_with(blocks, held) {
+    for switch in switches_in(blocks, holders) {
         let (stage, first) = place_of(blocks, switch);
         put_port(page, blocks, held, stage, first);
         put_port(page, blocks, held, stage, first + 1);
@@ -61,20 +69,22 @@ fn put_port<S: Sink>(page: &mut Page<'_, S>, blocks: &Blocks, held: Held, stage:
     }
 }
 
-/// Writes the lines of the requests that wait for their modules, by module.
-fn put_requests_to_serve<S: Sink>(page: &mut Page<'_, S>, blocks: &Blocks)
+/// Writes the lines of the requests that wait for their modules, by module. `holders` are the units that hold requests.
+fn put_requests_to_serve<S: Sink>(page: &mut Page<'_, S>, blocks: &Blocks, holders: &UnitSet)
+    requires { AreHolders blocks.now Request holders.now }
     ensures { Writes S.taken S.failures (by_number (size blocks.now.config) (inp_of blocks.now.machine)) page.old page.new }
 {
-    for number in modules_with(blocks, Held::Request) {
+    for number in modules_in(blocks, holders) {
         put_inp(page, number, blocks.bank(number));
     }
 }
 
-/// Writes the lines of the replies that wait to leave their modules, by module.
-fn put_replies_to_leave<S: Sink>(page: &mut Page<'_, S>, blocks: &Blocks)
+/// Writes the lines of the replies that wait to leave their modules, by module. `holders` are the units that hold replies.
+fn put_replies_to_leave<S: Sink>(page: &mut Page<'_, S>, blocks: &Blocks, holders: &UnitSet)
+    requires { AreHolders blocks.now Reply holders.now }
     ensures { Writes S.taken S.failures (by_number (size blocks.now.config) (out_of blocks.now.machine)) page.old page.new }
 {
-    for number in modules_with(blocks, Held::Reply) {
+    for number in modules_in(blocks, holders) {
         put_out(page, number, blocks.bank(number));
     }
 }

@@ -1,9 +1,8 @@
 -- What the sets of a block say of what a unit may hold is true of each number.
-use Rattle.std.proofs.Common.{◌≡◌, ℕ, ◌^◌, ◌<◌, ◌≤◌, List, Bool, false, Option, Some, None, refl, sym, ◌∙◌, ap}
-use Rattle.std.specs.Prelude.{IfSome, IfNone}
+use Rattle.std.proofs.Common.{◌≡◌, ℕ, ◌^◌, ◌<◌, ◌≤◌, List, false, Option, Some, None, refl, ◌∙◌, ap}
 use Rattle.ultra_mem.specs.Serve.{Bank}
 use Rattle.ultra_switch.specs.declared.Switch.{Switch}
-use Rattle.ultra_units.specs.Set.{has_unit, HasNoneFrom, IsFirstFrom}
+use Rattle.ultra_units.specs.Set.{has_unit}
 use Rattle.ultra_units.specs.Numbers.{switch_count, unit_count, module_number, element_number}
 use Rattle.ultra_halves.specs.declared.elements.ProcessingElement.{ProcessingElement}
 use Rattle.ultra_section.specs.declared.sets.Sets.{Sets}
@@ -14,7 +13,7 @@ use Rattle.ultra_units.specs.declared.unit.Unit.TheVariants as unit
 use Rattle.ultra_units.specs.Units.{unit_of, of_unit, stage_of, index_of, IsUnit}
 use Rattle.ultra_section.specs.Sets.{UnitFacts, fact_of, facts_at, no_facts, if_here, KnowsSwitch, KnowsModule, KnowsElement}
 use Rattle.ultra_section.specs.BlockState.{BlockState, UnitsAreKnown, switch_at, module_at, element_at}
-use Rattle.ultra_section.specs.Holding.{IsNextWhere, holds_at, switch_holds, module_holds, element_holds}
+use Rattle.ultra_section.specs.Holding.{IsSetOf, holds_at, switch_holds, module_holds, element_holds}
 use Rattle.ultra_units.proofs.Standing.{unit_is, unit_of_switch, unit_of_module, unit_of_element}
 use Rattle.ultra_section.proofs.OfKind.{unit_of_none}
 
@@ -59,22 +58,8 @@ module _ (held : Held) (b : BlockState) (s : Sets) (known : UnitsAreKnown b.stag
   pub fact_is : (n : ℕ) → fact_of held (facts_at s n) ≡ holds_at b held n
   fact_is n = fact_as n (unit_of b.stages n) (unit_is b.stages n)
 
--- the first of a set
-module _ (p : ℕ → Bool) (set : List ℕ) (same : (n : ℕ) → has_unit set n ≡ p n) (from : ℕ) where
-  first_is : (o : Option ℕ) → IfSome o (λ k. IsFirstFrom set from k) → IfNone o (HasNoneFrom set from) → IsNextWhere p from o
-  first_is None some none = record { some = tt; none = λ n after. sym (same n) ∙ none n after }
-  first_is (Some k) some none = record {
-    some = record {
-      after = some.after;
-      there = sym (same k) ∙ some.there;
-      between = λ n after before. sym (same n) ∙ some.between n after before;
-    };
-    none = tt;
-  }
-
-pub next_is : (held : Held) (b : BlockState) (s : Sets) → UnitsAreKnown b.stages s b.switches b.modules b.elements → (set : List ℕ) → ((k : ℕ) → has_unit set k ≡ fact_of held (facts_at s k))
-    → (from : ℕ) (o : Option ℕ) → IfSome o (λ k. IsFirstFrom set from k) → IfNone o (HasNoneFrom set from) → IsNextWhere (holds_at b held) from o
-next_is held b s known set is from = first_is (holds_at b held) set (λ n. is n ∙ fact_is held b s known n) from
+pub set_is : (held : Held) (b : BlockState) (s : Sets) → UnitsAreKnown b.stages s b.switches b.modules b.elements → (set : List ℕ) → ((k : ℕ) → has_unit set k ≡ fact_of held (facts_at s k)) → IsSetOf (holds_at b held) set
+set_is held b s known set is = λ n. is n ∙ fact_is held b s known n
 
 -- ---- what there is at the number of a unit of each kind
 module _ {X : Type 0} (d : ℕ) (switch : ℕ → ℕ → X) (bank element : ℕ → X) (x : X) where

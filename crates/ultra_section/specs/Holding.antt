@@ -1,5 +1,5 @@
 -- which units of a block hold something
-use Rattle.std.specs.Prelude.{◌≡◌, ℕ, ◌≤◌, ◌<◌, Bool, true, false, Option, is_some, IfNone, IfSome}
+use Rattle.std.specs.Prelude.{◌≡◌, ℕ, List, Bool, false, is_some}
 use Rattle.ultra_switch.specs.declared.Switch.{Switch}
 use Rattle.ultra_mem.specs.Serve.{Bank}
 use Rattle.ultra_halves.specs.declared.elements.ProcessingElement.{ProcessingElement}
@@ -7,6 +7,7 @@ use Rattle.ultra_halves.specs.Switches.{holds_replies, holds_requests, keeps_rec
 use Rattle.ultra_halves.specs.Elements.{holds_request}
 use Rattle.ultra_section.specs.declared.held.Held.{Held}
 use Rattle.ultra_section.specs.declared.held.Held.TheVariants.{Reply, Request, Record}
+use Rattle.ultra_units.specs.Set.{has_unit}
 use Rattle.ultra_units.specs.Units.{of_unit}
 use Rattle.ultra_section.specs.Sets.{if_here}
 use Rattle.ultra_section.specs.BlockState.{BlockState, switch_at, module_at, element_at}
@@ -36,14 +37,6 @@ holds_at b held n =
     (λ p. if_here (element_holds held) (element_at b.elements p))
     false n
 
--- ---- numbers from `from` on
--- k is the first number for which p is true
-pub record IsFirstWhere (p : ℕ → Bool) (from k : ℕ) : Type 0 where
-  pub after : from ≤ k
-  pub there : p k ≡ true
-  pub between : (n : ℕ) → from ≤ n → n < k → p n ≡ false
-
--- the first number for which p is true, or that there is none
-pub record IsNextWhere (p : ℕ → Bool) (from : ℕ) (next : Option ℕ) : Type 0 where
-  pub some : IfSome next (λ k. IsFirstWhere p from k)
-  pub none : IfNone next ((n : ℕ) → from ≤ n → p n ≡ false)
+-- the set has exactly the numbers for which p is true
+abbrev pub IsSetOf : (ℕ → Bool) → List ℕ → Type 0
+IsSetOf p set = (n : ℕ) → has_unit set n ≡ p n

@@ -55,14 +55,6 @@ fn no_messages(alloc: Global, net: Net) -> Result<(Links<ReplyMessage>, Links<Re
     Ok((Links::empty(alloc, links)?, Links::empty(alloc, links)?))
 }
 
-/// Memory for the events and the stops of a cycle in which nothing has happened. An error says that memory was refused.
-fn no_story(alloc: Global) -> Result<(Vec<Event>, Vec<Stop>), AllocError>
-    ensures { IfOk result (λ both. (both.0.items ≡ []) × (both.1.items ≡ []) × (most_events ≤ vec_capacity both.0) × (most_stops ≤ vec_capacity both.1)) }
-{
-    let events = Vec::with_capacity(alloc, MOST_EVENTS)?;
-    Ok((events, Vec::with_capacity(alloc, MOST_STOPS)?))
-}
-
 impl Block {
     /// A block without units, of a machine with this network that runs this program, before its first cycle. It keeps a copy of the program. An error says that memory was refused.
     pub fn empty(alloc: Global, net: Net, program: &Program) -> Result<Block, AllocError>
@@ -72,7 +64,8 @@ impl Block {
         let wiring = Wiring::of(alloc, net)?;
         let (switches, modules, elements) = no_units(alloc, net)?;
         let (replies, requests) = no_messages(alloc, net)?;
-        let (events, stops) = no_story(alloc)?;
+        let events = Vec::with_capacity(alloc, MOST_EVENTS)?;
+        let stops = Vec::with_capacity(alloc, MOST_STOPS)?;
         Ok(Block {
             net,
             wiring,

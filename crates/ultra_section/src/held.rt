@@ -1,8 +1,9 @@
 //! Which units hold something.
 
-ghost use Rattle.ultra_section.specs.Holding.{IsNextWhere, holds_at};
+ghost use Rattle.ultra_section.specs.Holding.{IsSetOf, holds_at};
 
 use crate::block::Block;
+use ultra_units::UnitSet;
 
 /// What a unit may hold.
 #[derive(Clone, Copy, Drop)]
@@ -16,11 +17,11 @@ pub enum Held {
 }
 
 impl Block {
-    /// The first unit from number `from` on that stands here and holds what is asked for. It reads one set.
+    /// The units that stand here and hold what is asked for.
     #[inline(always)]
-    pub fn next_holding(&self, held: Held, from: usize) -> Option<usize>
-        ensures { IsNextWhere (holds_at self.now held) from result }
+    pub fn holding(&self, held: Held) -> &UnitSet
+        ensures { IsSetOf (holds_at self.now held) result.now }
     {
-        self.sets.holding(held).next(from)
+        self.sets.holding(held)
     }
 }

@@ -13,7 +13,7 @@
 //! | `to_serve` | exactly the modules that hold a request and no reply | `send_replies`, `serve`, `take_requests` | `serve` |
 //! | `running` | exactly the processing elements that haven't stopped | `execute` | `is_stepping` |
 //! | `awake` | at least the processing elements that aren't at rest; those that are have stopped, or can only stall until a reply is delivered | `take_replies` adds, `execute` removes | `execute` |
-//! | `keeps_records` | exactly the switches that keep a record of a combination | `take_requests` and `take_replies` | `next_holding` |
+//! | `keeps_records` | exactly the switches that keep a record of a combination | `take_requests` and `take_replies` | `holding` |
 //! | `targets`, of each kind of message | at least the units, here or elsewhere, to which a message leads | a half that sends adds, the one that takes and the exchange remove | the half that takes, and the exchange of messages between blocks |
 #![tactic(auto)]
 

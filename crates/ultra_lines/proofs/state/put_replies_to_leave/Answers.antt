@@ -1,8 +1,6 @@
-use Rattle.std.proofs.Common.{ℕ, ◌+◌, ◌^◌, Bool, arith, ◌∙◌, ap}
+use Rattle.std.proofs.Common.{ℕ, ◌+◌, ◌^◌, List, Bool, arith, ap, sym, ◌∙◌}
 use Rattle.ultra_units.specs.Numbers.{module_number}
-use Rattle.ultra_block.specs.Held.TheVariants.{Reply}
-use Rattle.ultra_block.specs.Holding.{holds}
-use Rattle.ultra_block.specs.State.{BlocksState}
+use Rattle.ultra_units.specs.Set.{has_unit}
 use Rattle.ultra_model.specs.Trace.{out_of}
 use Rattle.ultra_io.proofs.Writing.{writes_nothing}
 use Rattle.ultra_lines.specs.Holders.{holders_left}
@@ -11,14 +9,14 @@ use Rattle.ultra_lines.proofs.Skipped.{next_small, skipped}
 use Rattle.ultra_lines.proofs.Empty.{no_out_line_of}
 use Rattle.ultra_lines.proofs.state.put_replies_to_leave.Goals as goal
 
--- whether unit k of the kind holds one
-abbrev there : BlocksState → ℕ → Bool
-there b k = holds b.config.stages b.machine Reply (module_number b.config.stages 0 + k)
+-- whether unit k of the kind is in a set
+abbrev there : ℕ → List ℕ → ℕ → Bool
+there d units k = has_unit units (module_number d 0 + k)
 
 pub bank-requires : goal.bank-requires
 bank-requires g c =
     let b = c.args.blocks.now in
-    record { number = next_small (there b) (2 ^ b.config.stages) c.loop-number.yielded _ _ c.in-Some.number c.loop-number.invariant.parts (rw c.in-Some.is at c.next.ensures.steps) }
+    record { number = next_small (there b.config.stages c.args.holders.now) (2 ^ b.config.stages) c.loop-number.yielded _ _ c.in-Some.number c.loop-number.invariant.parts (rw c.in-Some.is at c.next.ensures.steps) }
 
 pub loop-number-preserved : goal.loop-number-preserved
 loop-number-preserved g c =
@@ -34,11 +32,11 @@ returns g c =
     let m = b.machine in
     let none = rw c.in-None.is at c.next.ensures.steps in
     let written = rw (all_came c.loop-number.yielded _ _ c.loop-number.invariant.parts none.0) at c.loop-number.invariant.written in
-    let lines = skipped (there b) (out_of m) 0 (2 ^ b.config.stages) (λ k within holds_none. no_out_line_of b.config.stages m k (omega arith) holds_none) in
+    let lines = skipped (there b.config.stages c.args.holders.now) (out_of m) 0 (2 ^ b.config.stages) (λ k within outside. no_out_line_of b.config.stages m k (omega arith) (sym (c.requires (module_number b.config.stages 0 + k)) ∙ outside)) in
     rw lines at written
 
 pub loop-number-init : goal.loop-number-init
-loop-number-init g c = record { written = writes_nothing _; parts = ap holders_left c.into_iter-number-iterator.ensures.into_iter_gives ∙ c.modules_with-number-items.ensures }
+loop-number-init g c = record { written = writes_nothing _; parts = ap holders_left c.into_iter-number-iterator.ensures.into_iter_gives ∙ c.modules_in-number-items.ensures }
 
 pub loop-number-smaller : goal.loop-number-smaller
 loop-number-smaller g c = one_fewer _ _ c.in-Some.number (rw c.in-Some.is at c.next.ensures.steps)

@@ -9,7 +9,7 @@ use Rattle.ultra_lines.proofs.state.put_switches.Goals as goal
 
 pub place_of-stage-requires : goal.place_of-stage-requires
 place_of-stage-requires g c =
-    is_switch c.args.blocks.now c.args.held c.loop-switch.yielded _ _ c.in-Some.switch c.loop-switch.invariant.parts (rw c.in-Some.is at c.next.ensures.steps)
+    is_switch c.args.blocks.now c.args.held c.args.holders.now c.requires c.loop-switch.yielded _ _ c.in-Some.switch c.loop-switch.invariant.parts (rw c.in-Some.is at c.next.ensures.steps)
 
 pub loop-switch-preserved : goal.loop-switch-preserved
 loop-switch-preserved g c =
@@ -18,7 +18,7 @@ loop-switch-preserved g c =
     let one = rw (place.stage, place.first) at c.put_port.ensures in
     let two = rw (place.stage, place.first) at c.put_port-in-loop-switch.ensures in
     record {
-      written = writes_one (lines_of b c.args.held (port_line c.args.held b.machine)) c.loop-switch.yielded c.in-Some.switch c.loop-switch.invariant.written (one then two);
+      written = writes_one (lines_of b c.args.held c.args.holders.now c.requires (port_line c.args.held b.machine)) c.loop-switch.yielded c.in-Some.switch c.loop-switch.invariant.written (one then two);
       parts = one_came c.loop-switch.yielded _ _ _ c.in-Some.switch c.loop-switch.invariant.parts (rw c.in-Some.is at c.next.ensures.steps);
     }
 
@@ -26,11 +26,11 @@ pub returns : goal.returns
 returns g c =
     let b = c.args.blocks.now in
     let none = rw c.in-None.is at c.next.ensures.steps in
-    walked b c.args.held (port_line c.args.held b.machine) c.loop-switch.yielded _ c.loop-switch.invariant.parts none.0
+    walked b c.args.held c.args.holders.now c.requires (port_line c.args.held b.machine) c.loop-switch.yielded _ c.loop-switch.invariant.parts none.0
     (λ n within holds_none. no_port_lines b.config.stages b.machine n within c.args.held holds_none) (omega arith) c.loop-switch.invariant.written
 
 pub loop-switch-init : goal.loop-switch-init
-loop-switch-init g c = record { written = writes_nothing _; parts = ap holders_left c.into_iter-switch-iterator.ensures.into_iter_gives ∙ c.switches_with-switch-items.ensures }
+loop-switch-init g c = record { written = writes_nothing _; parts = ap holders_left c.into_iter-switch-iterator.ensures.into_iter_gives ∙ c.switches_in-switch-items.ensures }
 
 pub loop-switch-smaller : goal.loop-switch-smaller
 loop-switch-smaller g c = one_fewer _ _ c.in-Some.switch (rw c.in-Some.is at c.next.ensures.steps)
