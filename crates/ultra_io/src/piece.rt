@@ -8,6 +8,10 @@ ghost use Rattle.ultra_io.specs.Piece.{IsWritten, two_digits};
 /// How many bytes a piece holds.
 pub const PIECE_BYTES: usize = 128;
 
+/// The two digits of each number below 100, one number after another.
+const PAIRS: &[u8; 200] =
+    b"00010203040506070809101112131415161718192021222324252627282930313233343536373839404142434445464748495051525354555657585960616263646566676869707172737475767778798081828384858687888990919293949596979899";
+
 /// Writes bytes at a place of a piece, and answers the place behind them.
 #[inline(always)]
 pub fn write<const N: usize>(piece: &mut [u8; PIECE_BYTES], at: usize, bytes: &[u8; N]) -> usize
@@ -96,6 +100,18 @@ fn write_pair(piece: &mut [u8; PIECE_BYTES], at: usize, number: u8) -> usize
     requires room { at + 2 ≤ 128 }
     ensures { IsWritten (two_digits number) at piece.old piece.new result }
 {
-    let behind = write_digit(piece, at, number / 10);
-    write_digit(piece, behind, number % 10)
+    let [tens, ones] = pair_of(number);
+    piece[at] = tens;
+    piece[at + 1] = ones;
+    at + 2
+}
+
+/// The two digits of a number below 100.
+#[inline(always)]
+fn pair_of(number: u8) -> [u8; 2]
+    requires { number < 100 }
+    ensures { result ≡ two_digits number }
+{
+    let first = 2 * number as usize;
+    [PAIRS[first], PAIRS[first + 1]]
 }

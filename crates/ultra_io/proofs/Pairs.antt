@@ -1,0 +1,34 @@
+-- the table of the two digits of each number below 100
+use Rattle.std.proofs.Common.{ℕ, zero, suc, ◌≡◌, ◌+◌, ◌*◌, ◌/◌, ◌%◌, ◌<◌, List, [], ◌∷◌, get_or, Bool, true, false, ◌&&◌, codes, refl, ap₂}
+use Rattle.std.specs.Prelude.{◌==◌}
+use Rattle.std.proofs.lemmas.Bool.{eqb-true}
+use Rattle.std.proofs.lemmas.Bool.Decides.{Decides-below_and}
+use Rattle.ultra_io.specs.Piece.{two_digits}
+
+abbrev pub pairs : List ℕ
+pairs = codes "00010203040506070809101112131415161718192021222324252627282930313233343536373839404142434445464748495051525354555657585960616263646566676869707172737475767778798081828384858687888990919293949596979899"
+
+abbrev has_digits : ℕ → Bool
+has_digits n = (get_or pairs (2 * n) 0 == 48 + n / 10) && (get_or pairs (2 * n + 1) 0 == 48 + n % 10)
+
+all_have : ℕ → Bool
+all_have zero = true
+all_have (suc n) = has_digits n && all_have n
+
+all_right : all_have 100 ≡ true
+unfolding all_have
+all_right = refl
+
+each_has : (n : ℕ) → n < 100 → has_digits n ≡ true
+unfolding all_have
+each_has = (Decides-below_and has_digits (λ k. has_digits k ≡ true) all_have (λ k. (λ e. e, λ e. e)) refl (λ _. refl) 100).0 all_right
+
+both : (a b : Bool) → (a && b) ≡ true → (a ≡ true) × (b ≡ true)
+both true true e = (refl, refl)
+both true false e = absurd cc
+both false b e = absurd cc
+
+pub pair_is : (n : ℕ) → n < 100 → get_or pairs (2 * n) 0 ∷ get_or pairs (2 * n + 1) 0 ∷ [] ≡ two_digits n
+pair_is n within =
+    let e = both _ _ (each_has n within) in
+    ap₂ (λ x y. x ∷ y ∷ []) (eqb-true _ _ e.0) (eqb-true _ _ e.1)
