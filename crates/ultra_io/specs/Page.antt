@@ -62,7 +62,8 @@ module _ {S : Type 0} (taken : S → List ℕ) (failures : S → ℕ) where
   abbrev pub WritesPrefix : List ℕ → Page S → Page S → Type 0
   WritesPrefix bytes old new = (part : List ℕ) × IsPrefix part bytes × Writes part old new
 
-  -- bytes were written: the first of them on the page, and the others in a piece, before the place `at`
+  -- bytes were written: the first of them on the page, and the others in a piece, before the place
+  -- `at`
   pub record IsUnderWay (bytes : List ℕ) (old new : Page S) (piece : List ℕ) (at : ℕ) : Type 0 where
     pub on_page : List ℕ
     pub writes : Writes on_page old new

@@ -19,4 +19,5 @@ numbers_in units base n = filter (λ k. has_unit units (base + k)) (range_with_l
 
 -- those that are left
 abbrev pub holders_left : Holders → List ℕ
-holders_left h = filter (λ k. has_unit h.units.now (h.base + k)) (range_with_len h.from (h.end - h.from))
+holders_left h =
+    filter (λ k. has_unit h.units.now (h.base + k)) (range_with_len h.from (h.end - h.from))
