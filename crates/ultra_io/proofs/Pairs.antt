@@ -1,7 +1,7 @@
 -- the table of the two digits of each number below 100
-use Rattle.std.proofs.Common.{ℕ, zero, suc, ◌≡◌, ◌+◌, ◌*◌, ◌/◌, ◌%◌, ◌<◌, List, [], ◌∷◌, get_or, Bool, true, false, ◌&&◌, codes, refl, ap₂}
+use Rattle.std.proofs.Common.{ℕ, zero, suc, ◌≡◌, ◌+◌, ◌*◌, ◌/◌, ◌%◌, ◌<◌, List, [], ◌∷◌, get_or, Bool, true, ◌&&◌, codes, refl, ap₂}
 use Rattle.std.specs.Prelude.{◌==◌}
-use Rattle.std.proofs.lemmas.Bool.{eqb-true}
+use Rattle.std.proofs.lemmas.Bool.{and_parts, eqb-true}
 use Rattle.std.proofs.lemmas.Bool.Decides.{Decides-below_and}
 use Rattle.ultra_io.specs.Piece.{two_digits}
 
@@ -23,12 +23,7 @@ each_has : (n : ℕ) → n < 100 → has_digits n ≡ true
 unfolding all_have
 each_has = (Decides-below_and has_digits (λ k. has_digits k ≡ true) all_have (λ k. (λ e. e, λ e. e)) refl (λ _. refl) 100).0 all_right
 
-both : (a b : Bool) → (a && b) ≡ true → (a ≡ true) × (b ≡ true)
-both true true e = (refl, refl)
-both true false e = absurd cc
-both false b e = absurd cc
-
 pub pair_is : (n : ℕ) → n < 100 → get_or pairs (2 * n) 0 ∷ get_or pairs (2 * n + 1) 0 ∷ [] ≡ two_digits n
 pair_is n within =
-    let e = both _ _ (each_has n within) in
+    let e = and_parts _ _ (each_has n within) in
     ap₂ (λ x y. x ∷ y ∷ []) (eqb-true _ _ e.0) (eqb-true _ _ e.1)

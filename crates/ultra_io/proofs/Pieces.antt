@@ -1,16 +1,9 @@
 -- texts written in a piece, one after another
-use Rattle.std.proofs.Common.{ℕ, ◌+◌, ◌<◌, List, [], ◌∷◌, ◌++◌, length, take, set, refl, sym, ◌∙◌, ap, subst, arith, append_assoc, append-nil, length-append}
-use Rattle.std.proofs.lemmas.List.{take_more_set}
+use Rattle.std.proofs.Common.{ℕ, List, [], ◌++◌, take, sym, ◌∙◌, ap, subst, arith, append_assoc, append-nil, length-append}
 use Rattle.ultra_io.specs.declared.page.Page.{Page}
 use Rattle.ultra_io.specs.Page.{IsUnderWay, Writes}
 use Rattle.ultra_io.specs.Piece.{IsWritten}
 use Rattle.ultra_io.proofs.Writing.{◌then◌, writes_nothing}
-
-pub none_written : (at : ℕ) (old : List ℕ) → IsWritten [] at old old at
-none_written at old = record { longer = omega arith; text = sym (append-nil (take at old)) }
-
-pub one_written : (at x : ℕ) (old : List ℕ) → at < length old → IsWritten (x ∷ []) at old (set old at x) (at + 1)
-one_written at x old within = record { longer = refl; text = take_more_set old at x within }
 
 infixl 20 ◌next◌
 pub ◌next◌ : {a b : List ℕ} {at m n : ℕ} {s t u : List ℕ} → IsWritten a at s t m → IsWritten b m t u n → IsWritten (a ++ b) at s u n
