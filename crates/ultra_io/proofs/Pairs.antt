@@ -1,12 +1,13 @@
 -- the table of the two digits of each number below 100
-use Rattle.std.proofs.Common.{ℕ, zero, suc, ◌≡◌, ◌+◌, ◌*◌, ◌/◌, ◌%◌, ◌<◌, List, [], ◌∷◌, get_or, Bool, true, ◌&&◌, codes, refl, ap₂}
+use Rattle.std.proofs.Common.{ℕ, zero, suc, ◌≡◌, ◌+◌, ◌*◌, ◌/◌, ◌%◌, ◌<◌, List, [], ◌∷◌, get_or, Bool, true, ◌&&◌, refl, ap₂}
 use Rattle.std.specs.Prelude.{◌==◌}
 use Rattle.std.proofs.lemmas.Bool.{and_parts, eqb-true}
 use Rattle.std.proofs.lemmas.Bool.Decides.{Decides-below_and}
 use Rattle.ultra_io.specs.Piece.{two_digits}
+use Rattle.ultra_io.specs.declared.piece.TheConstants.{PAIRS}
 
 abbrev pub pairs : List ℕ
-pairs = codes "00010203040506070809101112131415161718192021222324252627282930313233343536373839404142434445464748495051525354555657585960616263646566676869707172737475767778798081828384858687888990919293949596979899"
+pairs = PAIRS.now
 
 abbrev has_digits : ℕ → Bool
 has_digits n = (get_or pairs (2 * n) 0 == 48 + n / 10) && (get_or pairs (2 * n + 1) 0 == 48 + n % 10)
