@@ -1,5 +1,5 @@
-//! Runs a machine without writing its trace, and prints how many cycles it made, how many memory
-//! acts there were in them, and a digest of the cells.
+//! Runs a machine without writing its trace, and prints how many cycles it made, and a digest of
+//! the cells.
 //!
 //! The words are the file of a program's text, the number of stages, the number of cycles, and
 //! which sizes the parts have: `default`, `narrow` or `deep`.
@@ -9,23 +9,15 @@ use crate::setup::{Setup, Sizes};
 use anyhow::bail;
 use std::rt::Files;
 use ultra_machine::Machine;
-use ultra_msg::Event;
 
-/// Makes `cycles` cycles, or as many as the machine can make, and counts the memory acts in them.
-pub(crate) fn make_cycles(machine: &mut Machine, cycles: u32) -> u64 {
-    let mut acts = 0u64;
+/// Makes `cycles` cycles, or as many as the machine can make.
+pub(crate) fn make_cycles(machine: &mut Machine, cycles: u32) {
     for _ in 0..cycles {
         if machine.done() == u32::MAX {
             break;
         }
         machine.cycle();
-        for event in machine.events() {
-            if let Event::Served { .. } = event {
-                acts = acts.saturating_add(1);
-            }
-        }
     }
-    acts
 }
 
 /// Makes the cycles that the words ask for.
@@ -41,10 +33,10 @@ pub(crate) fn measure(
     };
     let setup = Setup::read(rt, path, stages, cycles, sizes)?;
     let mut machine = Machine::new(rt.alloc(), &setup.config, &setup.program)?;
-    let acts = make_cycles(&mut machine, setup.cycles);
+    make_cycles(&mut machine, setup.cycles);
     let cells = of_machine(rt.alloc(), &machine)?;
     println!(rt;
-        "cycles {} acts {acts} digest {}",
+        "cycles {} digest {}",
         machine.done(),
         digest(cells.as_slice())
     )?;

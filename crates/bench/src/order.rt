@@ -20,7 +20,7 @@ const MOST_CYCLES: u32 = 1_000_000;
 /// All cells at the end of the run.
 fn last_cells(rt: &impl AllocGlobal, setup: &Setup) -> anyhow::Result<Vec<(Cell, Word)>> {
     let mut machine = Machine::new(rt.alloc(), &setup.config, &setup.program)?;
-    let _acts = make_cycles(&mut machine, setup.cycles);
+    make_cycles(&mut machine, setup.cycles);
     Ok(of_machine(rt.alloc(), &machine)?)
 }
 

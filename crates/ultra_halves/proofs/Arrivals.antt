@@ -1,4 +1,4 @@
--- a request that arrives takes at most one place of a queue, and the record that is kept gives its combination
+-- a request that arrives takes at most one place of a queue and frees none, and the record that is kept gives its combination
 use Rattle.std.proofs.Common.{◌≡◌, ℕ, suc, ◌+◌, ◌-◌, ◌≤◌, List, [], ◌∷◌, ◌++◌, false, refl, arith, ap, length, length-append}
 use Rattle.std.specs.Prelude.{Option, Some, None, IfSome, slice_get, nat_lt, not}
 use Rattle.ultra_msg.specs.declared.Request.{Request}
@@ -10,6 +10,7 @@ use Rattle.ultra_switch.specs.declared.WaitRecord.{WaitRecord}
 use Rattle.ultra_switch.specs.declared.Arrived.TheVariants.{Appended, CombinedWith}
 use Rattle.ultra_switch.specs.Arrive.{Lane, Combination, entry, behind, can_combine, combine, combine_within, wait_record, after_arrival, arrive, outcome}
 use Rattle.ultra_halves.specs.Halves.{combination_event}
+use Rattle.ultra_model.specs.Phases.{arrive_all}
 use Rattle.ultra_model.proofs.Each.{if_tested}
 
 -- ---- how long the queue is
@@ -28,9 +29,22 @@ arrived_longer : (l : Lane) (r : Request) (o : Option Combination) → KeepsLeng
 arrived_longer l r None h = omega (arith, length-append l.queue (entry r false ∷ []))
 arrived_longer l r (Some c) h = omega (arith, h)
 
+arrived_no_shorter : (l : Lane) (r : Request) (o : Option Combination) → KeepsLength l.queue o → length l.queue ≤ length (after_arrival l r o).queue
+arrived_no_shorter l r None h = omega (arith, length-append l.queue (entry r false ∷ []))
+arrived_no_shorter l r (Some c) h = omega (arith, h)
+
+combined_keeps : (w : ℕ) (l : Lane) (r : Request) → KeepsLength l.queue (combine_within w l r)
+combined_keeps w l r = if_tested (nat_lt (length l.records) w) (λ o. KeepsLength l.queue o) _ _ (λ z. combine_keeps r l.queue) (λ z. tt)
+
 pub arrive_longer : (w : ℕ) (l : Lane) (r : Request) → length (arrive w l r).queue ≤ length l.queue + 1
-arrive_longer w l r = arrived_longer l r (combine_within w l r)
-    (if_tested (nat_lt (length l.records) w) (λ o. KeepsLength l.queue o) _ _ (λ z. combine_keeps r l.queue) (λ z. tt))
+arrive_longer w l r = arrived_longer l r (combine_within w l r) (combined_keeps w l r)
+
+pub arrive_all_no_shorter : (w : ℕ) (l : Lane) (rs : List Request) → length l.queue ≤ length (arrive_all w l rs).queue
+arrive_all_no_shorter w l [] = omega arith
+arrive_all_no_shorter w l (r ∷ rs) =
+    let first = arrived_no_shorter l r (combine_within w l r) (combined_keeps w l r) in
+    let others = arrive_all_no_shorter w (arrive w l r) rs in
+    omega (arith, first, others)
 
 -- ---- its combination
 at_end : {X : Type 0} (xs : List X) (y : X) → slice_get (xs ++ y ∷ []) (length xs) ≡ Some y

@@ -112,9 +112,32 @@ requests_noted f g w v kept known is held room records = rw is record {
   keeps_records = records;
 }
 
-pub module_noted : (f g : UnitFacts) (b c : Bank) → KnowsModule f (Some b)
-    → g ≡ record f { holds_replies = is_some c.out; holds_requests = is_some c.inp; no_room_zero = is_some c.inp; to_serve = would_serve c } → KnowsModule g (Some c)
-module_noted f g b c known is =
+-- a module
+pub request_noted : (f g : UnitFacts) (b c : Bank) → c.out ≡ b.out → g ≡ record f { holds_requests = is_some c.inp; no_room_zero = is_some c.inp; to_serve = would_serve c }
+    → KnowsModule f (Some b) → KnowsModule g (Some c)
+request_noted f g b c out is known = rw is record {
+  here = known.here;
+  holds_replies = known.holds_replies ∙ sym (ap is_some out);
+  holds_requests = refl;
+  no_room_zero = refl;
+  to_serve = refl;
+  keeps_records = known.keeps_records;
+}
+
+pub reply_noted : (f g : UnitFacts) (b c : Bank) → c.inp ≡ b.inp → g ≡ record f { holds_replies = is_some c.out; to_serve = would_serve c }
+    → KnowsModule f (Some b) → KnowsModule g (Some c)
+reply_noted f g b c inp is known = rw is record {
+  here = known.here;
+  holds_replies = refl;
+  holds_requests = known.holds_requests ∙ sym (ap is_some inp);
+  no_room_zero = known.no_room_zero ∙ sym (ap is_some inp);
+  to_serve = refl;
+  keeps_records = known.keeps_records;
+}
+
+pub serving_noted : (f g : UnitFacts) (b c : Bank) → g ≡ record f { holds_replies = is_some c.out; holds_requests = is_some c.inp; no_room_zero = is_some c.inp; to_serve = would_serve c }
+    → KnowsModule f (Some b) → KnowsModule g (Some c)
+serving_noted f g b c is known =
     rw is record { here = known.here; holds_replies = refl; holds_requests = refl; no_room_zero = refl; to_serve = refl; keeps_records = known.keeps_records }
 
 pub element_noted : (f g : UnitFacts) (e v : ProcessingElement) → KnowsElement f (Some e)
@@ -163,14 +186,15 @@ module _ (d : ℕ) (old now : Sets) (ws : List (Option Switch)) (bs : List (Opti
       switch_known d old now ws bs es known n (Some v) within agree
       (requests_noted (facts_at old n) (facts_at now n) w v (keeps_records v) (switch_was n o w within read is) noted held room refl)
 
-  pub module_changed : (n m : ℕ) (o : Option Bank) (b c : Bank) → IsModule d n m → o ≡ get_or bs m o → o ≡ Some b → AgreeBut n old now
-      → facts_at now n ≡ record (facts_at old n) { holds_replies = is_some c.out; holds_requests = is_some c.inp; no_room_zero = is_some c.inp; to_serve = would_serve c }
-      → UnitsAreKnown d now ws (set bs m (Some c)) es
-  module_changed n m o b c own read is agree noted =
-      let was = subst (λ k. KnowsModule (facts_at old k) (Some b)) (sym own.number)
-      (subst (λ x. KnowsModule (facts_at old (module_number d m)) x) (stands bs m o b (omega (arith, known.module_entries, own.small)) read is) (known.modules m own.small)) in
+  pub module_was : (n m : ℕ) (o : Option Bank) (b : Bank) → IsModule d n m → o ≡ get_or bs m o → o ≡ Some b → KnowsModule (facts_at old n) (Some b)
+  module_was n m o b own read is =
+      subst (λ k. KnowsModule (facts_at old k) (Some b)) (sym own.number)
+      (subst (λ x. KnowsModule (facts_at old (module_number d m)) x) (stands bs m o b (omega (arith, known.module_entries, own.small)) read is) (known.modules m own.small))
+
+  pub module_changed : (n m : ℕ) (c : Bank) → IsModule d n m → AgreeBut n old now → KnowsModule (facts_at now n) (Some c) → UnitsAreKnown d now ws (set bs m (Some c)) es
+  module_changed n m c own agree there =
       module_known d old now ws bs es known m (Some c) own.small (subst (λ k. AgreeBut k old now) own.number agree)
-      (subst (λ k. KnowsModule (facts_at now k) (Some c)) own.number (module_noted (facts_at old n) (facts_at now n) b c was noted))
+      (subst (λ k. KnowsModule (facts_at now k) (Some c)) own.number there)
 
   pub element_changed : (n p : ℕ) (o : Option ProcessingElement) (e v : ProcessingElement) → IsElement d n p → o ≡ get_or es p o → o ≡ Some e → AgreeBut n old now
       → facts_at now n ≡ record (facts_at old n) { holds_requests = holds_request v; running = not (has_stopped v.processor.core.activity) }

@@ -5,6 +5,7 @@ pub use Rattle.ultra_units.proofs.Put
 mod Awake
 pub mod Records
 pub mod Known
+pub mod Noted
 pub mod Entries
 pub mod Moved
 pub mod OfKind

@@ -1,50 +1,23 @@
 -- A unit is put into a block, or taken out of it.
-use Rattle.std.proofs.Common.{◌≡◌, ℕ, ◌+◌, ◌*◌, ◌^◌, ◌≤◌, List, replicate, true, Option, Some, None, length, refl, sym, ◌∙◌, ap, subst}
-use Rattle.std.specs.Prelude.{not, is_some}
+use Rattle.std.proofs.Common.{◌≡◌, ℕ, ◌+◌, ◌*◌, ◌^◌, ◌≤◌, List, replicate, Option, None, length, refl, sym, ◌∙◌, ap, subst}
 use Rattle.std.proofs.lemmas.List.{length-replicate}
 use Rattle.ultra_msg.specs.declared.Request.{Request}
 use Rattle.ultra_msg.specs.declared.ReplyMessage.{ReplyMessage}
 use Rattle.ultra_switch.specs.declared.Switch.{Switch}
 use Rattle.ultra_mem.specs.Serve.{Bank}
-use Rattle.ultra_isa.specs.Step.{has_stopped}
 use Rattle.ultra_isa.specs.declared.Instr.{Instr}
 use Rattle.ultra_units.specs.Numbers.{switch_count, module_number, element_number}
-use Rattle.ultra_halves.specs.Switches.{has_reply_room, has_request_room, holds_replies, holds_requests, keeps_records}
-use Rattle.ultra_halves.specs.Elements.{holds_request}
 use Rattle.ultra_halves.specs.declared.elements.ProcessingElement.{ProcessingElement}
 use Rattle.ultra_section.specs.declared.sets.Sets.{Sets}
 use Rattle.ultra_units.specs.declared.links.Links.{Links}
-use Rattle.ultra_section.specs.Sets.{UnitFacts, no_facts, facts_at, would_serve, KnowsSwitch, KnowsModule, KnowsElement}
+use Rattle.ultra_section.specs.Sets.{UnitFacts, no_facts, facts_at, KnowsSwitch, KnowsModule, KnowsElement}
 use Rattle.ultra_section.specs.BlockState.{IsKept, most_events, most_stops}
 use Rattle.ultra_units.proofs.Marks.{no_entry}
 use Rattle.ultra_units.proofs.ReplyMarks.{no_replies}
 use Rattle.ultra_units.proofs.RequestMarks.{no_requests}
 use Rattle.ultra_section.proofs.Awake.{IsAtRest, none_rests}
 
--- ---- what is noted of a unit that has come, and of one that has gone
-pub switch_put : (f g h k : UnitFacts) (w : Switch) → g ≡ record f { here = true } → h ≡ record g { holds_replies = holds_replies w; no_reply_room = not (has_reply_room w) }
-    → k ≡ record h { holds_requests = holds_requests w; no_room_zero = not (has_request_room w).zero; no_room_one = not (has_request_room w).one; keeps_records = keeps_records w }
-    → KnowsSwitch k (Some w)
-switch_put f g h k w stands replies requests = rw (requests, replies, stands) record {
-  here = refl;
-  holds_replies = refl;
-  no_reply_room = refl;
-  holds_requests = refl;
-  no_room_zero = refl;
-  no_room_one = refl;
-  keeps_records = refl;
-}
-
-pub module_put : (f g h : UnitFacts) (o : Option Bank) (b : Bank) → KnowsModule f o → g ≡ record f { here = true }
-    → h ≡ record g { holds_replies = is_some b.out; holds_requests = is_some b.inp; no_room_zero = is_some b.inp; to_serve = would_serve b } → KnowsModule h (Some b)
-module_put f g h o b was stands noted =
-    rw (noted, stands) record { here = refl; holds_replies = refl; holds_requests = refl; no_room_zero = refl; to_serve = refl; keeps_records = was.keeps_records }
-
-pub element_put : (f g h : UnitFacts) (o : Option ProcessingElement) (e : ProcessingElement) → KnowsElement f o → g ≡ record f { here = true }
-    → h ≡ record g { holds_requests = holds_request e; running = not (has_stopped e.processor.core.activity) } → KnowsElement h (Some e)
-element_put f g h o e was stands noted =
-    rw (noted, stands) record { here = refl; holds_replies = was.holds_replies; holds_requests = refl; running = refl; keeps_records = was.keeps_records }
-
+-- ---- what is noted of a unit that has gone
 pub switch_gone : (f : UnitFacts) → f ≡ no_facts → KnowsSwitch f None
 switch_gone f none = rw none record { here = refl; holds_replies = refl; no_reply_room = refl; holds_requests = refl; no_room_zero = refl; no_room_one = refl; keeps_records = refl }
 

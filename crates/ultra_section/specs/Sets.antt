@@ -1,5 +1,5 @@
 -- what is known of one unit of a block
-use Rattle.std.specs.Prelude.{◌≡◌, ℕ, Bool, false, not, ◌&&◌, Option, Some, None, is_some}
+use Rattle.std.specs.Prelude.{◌≡◌, ℕ, Bool, true, false, not, ◌&&◌, Option, Some, None, is_some}
 use Rattle.ultra_switch.specs.declared.Switch.{Switch}
 use Rattle.ultra_mem.specs.Serve.{Bank}
 use Rattle.ultra_isa.specs.Step.{has_stopped}
@@ -92,3 +92,45 @@ pub record KnowsElement (f : UnitFacts) (o : Option ProcessingElement) : Type 0 
   pub holds_requests : f.holds_requests ≡ if_here holds_request o
   pub running : f.running ≡ if_here (λ e. not (has_stopped e.processor.core.activity)) o
   pub keeps_records : f.keeps_records ≡ false
+
+-- ---- how what is said of a switch changes
+-- a switch has no fewer requests than when this was noted
+pub record HasMoreRequests (f : UnitFacts) (w : Switch) : Type 0 where
+  pub holds : f.holds_requests ≡ true → holds_requests w ≡ true
+  pub full_zero : f.no_room_zero ≡ true → not (has_request_room w).zero ≡ true
+  pub full_one : f.no_room_one ≡ true → not (has_request_room w).one ≡ true
+
+-- no more requests
+pub record HasFewerRequests (f : UnitFacts) (w : Switch) : Type 0 where
+  pub holds : f.holds_requests ≡ false → holds_requests w ≡ false
+  pub full_zero : f.no_room_zero ≡ false → not (has_request_room w).zero ≡ false
+  pub full_one : f.no_room_one ≡ false → not (has_request_room w).one ≡ false
+
+-- no fewer replies
+pub record HasMoreReplies (f : UnitFacts) (w : Switch) : Type 0 where
+  pub holds : f.holds_replies ≡ true → holds_replies w ≡ true
+  pub full : f.no_reply_room ≡ true → not (has_reply_room w) ≡ true
+
+-- no more replies
+pub record HasFewerReplies (f : UnitFacts) (w : Switch) : Type 0 where
+  pub holds : f.holds_replies ≡ false → holds_replies w ≡ false
+  pub full : f.no_reply_room ≡ false → not (has_reply_room w) ≡ false
+
+-- ---- how what is said of a module changes
+-- a request has come to a module since this was noted
+pub record HasRequestMore (f : UnitFacts) (b : Bank) : Type 0 where
+  pub holds : f.holds_requests ≡ true → is_some b.inp ≡ true
+  pub full : f.no_room_zero ≡ true → is_some b.inp ≡ true
+  pub serves : f.to_serve ≡ true → would_serve b ≡ true
+
+-- it has served
+pub record HasServed (f : UnitFacts) (b : Bank) : Type 0 where
+  pub holds_reply : f.holds_replies ≡ true → is_some b.out ≡ true
+  pub holds_request : f.holds_requests ≡ false → is_some b.inp ≡ false
+  pub full : f.no_room_zero ≡ false → is_some b.inp ≡ false
+  pub serves : f.to_serve ≡ false → would_serve b ≡ false
+
+-- a reply has left it
+pub record HasReplyLess (f : UnitFacts) (b : Bank) : Type 0 where
+  pub holds : f.holds_replies ≡ false → is_some b.out ≡ false
+  pub serves : f.to_serve ≡ true → would_serve b ≡ true

@@ -113,8 +113,7 @@ impl Block {
         ensures { self.new ≡ record self.old { modules = slice_set self.old.modules number (Some bank) } }
     {
         let unit = module_number(self.net, number);
-        self.sets.stand(unit);
-        self.sets.note_module(unit, &bank);
+        self.sets.stand_module(unit, &bank);
         self.modules[number as usize] = Some(bank);
     }
 
@@ -124,8 +123,7 @@ impl Block {
         ensures { self.new ≡ record self.old { elements = slice_set self.old.elements pe (Some element) } }
     {
         let unit = element_number(self.net, pe);
-        self.sets.stand(unit);
-        self.sets.note_element(unit, &element);
+        self.sets.stand_element(unit, &element);
         self.awake.insert(unit);
         self.elements[pe as usize] = Some(element);
     }

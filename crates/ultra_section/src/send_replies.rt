@@ -63,7 +63,7 @@ impl Block {
         };
         let ways = find_reply_ways(closed, stage, targets);
         send_from_switch(switch, &mut self.replies, net, 2 * number, targets, ways);
-        self.sets.note_replies(number, switch);
+        self.sets.note_replies_sent(number, switch);
     }
 
     /// The reply of a module goes onto its link, if there is a way.
@@ -79,7 +79,7 @@ impl Block {
         };
         let target = switch_number(net, net.stages() - 1, module_number / 2);
         let out = modules::send_reply(bank, !closed.has(target));
-        self.sets.note_module(number, bank);
+        self.sets.note_reply_left(number, bank);
         leave_module(&mut self.replies, net, module_number, out);
     }
 }

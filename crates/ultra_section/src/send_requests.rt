@@ -95,7 +95,7 @@ impl Block {
         };
         let links = &mut self.requests;
         send_from_switch(switch, links, net, closed, number, stage, index, targets);
-        self.sets.note_requests(number, switch);
+        self.sets.note_requests_sent(number, switch);
     }
 
     /// The first request of a processing element goes onto its link, if there is a way.

@@ -23,7 +23,7 @@ impl Block {
             return;
         };
         let served = bank.serve();
-        self.sets.note_module(number, bank);
+        self.sets.note_served(number, bank);
         if let Some(served) = served {
             let event = Event::Served {
                 module: module_number,

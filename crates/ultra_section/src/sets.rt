@@ -4,7 +4,7 @@ ghost use Rattle.std.specs.Prelude.{◌≡◌, ◌≢◌, ℕ, ◌<◌, true, fa
 ghost use Rattle.ultra_isa.specs.Step.{has_stopped};
 ghost use Rattle.ultra_halves.specs.Elements.{holds_request};
 ghost use Rattle.ultra_halves.specs.Switches.{has_reply_room, has_request_room, holds_replies, holds_requests, keeps_records};
-ghost use Rattle.ultra_section.specs.Sets.{KnowsSwitch, fact_of, facts_at, no_facts, would_serve};
+ghost use Rattle.ultra_section.specs.Sets.{HasFewerReplies, HasFewerRequests, HasMoreReplies, HasMoreRequests, HasReplyLess, HasRequestMore, HasServed, KnowsElement, KnowsModule, KnowsSwitch, fact_of, facts_at, no_facts, would_serve};
 ghost use Rattle.ultra_units.specs.Set.{has_unit};
 
 use crate::held::Held;
@@ -58,9 +58,10 @@ impl Sets {
     /// A unit stands here from now on. What is true of it is noted then.
     pub(crate) fn stand(&mut self, number: usize)
         requires { number < 320 }
-        ensures there { facts_at self.new number ≡ record (facts_at self.old number) { here = true } }
+        ensures there { facts_at self.new number ≡ record no_facts { here = true } }
         ensures others { (k : ℕ) → k ≢ number → facts_at self.new k ≡ facts_at self.old k }
     {
+        self.leave(number);
         self.here.insert(number);
     }
 
@@ -71,8 +72,30 @@ impl Sets {
         ensures others { (k : ℕ) → k ≢ number → facts_at self.new k ≡ facts_at self.old k }
     {
         self.stand(number);
-        self.note_replies(number, switch);
         self.note_requests_taken(number, switch, true);
+        self.note_replies_taken(number, switch);
+    }
+
+    /// A module stands here from now on, and what is true of it is noted.
+    pub(crate) fn stand_module(&mut self, number: usize, bank: &Module)
+        requires { number < 320 }
+        ensures there { KnowsModule (facts_at self.new number) (Some bank.now) }
+        ensures others { (k : ℕ) → k ≢ number → facts_at self.new k ≡ facts_at self.old k }
+    {
+        self.stand(number);
+        self.holds_replies
+            .insert_if(number, modules::holds_reply(bank));
+        self.note_request_came(number, bank);
+    }
+
+    /// A processing element stands here from now on, and what is true of it is noted.
+    pub(crate) fn stand_element(&mut self, number: usize, element: &ProcessingElement)
+        requires { number < 320 }
+        ensures there { KnowsElement (facts_at self.new number) (Some element.now) }
+        ensures others { (k : ℕ) → k ≢ number → facts_at self.new k ≡ facts_at self.old k }
+    {
+        self.stand(number);
+        self.note_element(number, element);
     }
 
     /// A unit doesn't stand here any more.
@@ -104,85 +127,120 @@ impl Sets {
         }
     }
 
-    /// Notes what is true of the replies of a switch that stands here.
+    /// Notes what is true of the replies of a switch that stands here, once replies have left it.
     #[inline(always)]
-    pub(crate) fn note_replies(&mut self, number: usize, switch: &Switch)
-        requires { number < 320 }
+    pub(crate) fn note_replies_sent(&mut self, number: usize, switch: &Switch)
+        requires small { number < 320 }
+        requires fewer { HasFewerReplies (facts_at self.old number) switch.now }
         ensures there { facts_at self.new number ≡ record (facts_at self.old number) { holds_replies = holds_replies switch.now; no_reply_room = not (has_reply_room switch.now) } }
         ensures others { (k : ℕ) → k ≢ number → facts_at self.new k ≡ facts_at self.old k }
     {
+        let is_full = !switches::has_reply_room(switch);
         self.holds_replies
-            .note(number, switches::holds_replies(switch));
-        self.no_reply_room
-            .note(number, !switches::has_reply_room(switch));
+            .remove_unless(number, switches::holds_replies(switch));
+        self.no_reply_room.remove_unless(number, is_full);
     }
 
-    /// Notes what is true of the requests of a switch that stands here.
+    /// Notes what is true of the requests of a switch that stands here, once requests have left it.
     #[inline(always)]
-    pub(crate) fn note_requests(&mut self, number: usize, switch: &Switch)
-        requires { number < 320 }
+    pub(crate) fn note_requests_sent(&mut self, number: usize, switch: &Switch)
+        requires small { number < 320 }
+        requires fewer { HasFewerRequests (facts_at self.old number) switch.now }
         ensures there { facts_at self.new number ≡ record (facts_at self.old number) { holds_requests = holds_requests switch.now; no_room_zero = not (has_request_room switch.now).zero; no_room_one = not (has_request_room switch.now).one } }
         ensures others { (k : ℕ) → k ≢ number → facts_at self.new k ≡ facts_at self.old k }
     {
         let room = switches::has_request_room(switch);
         self.holds_requests
-            .note(number, switches::holds_requests(switch));
-        self.no_request_room.zero.note(number, !room.zero);
-        self.no_request_room.one.note(number, !room.one);
-    }
-
-    /// Notes whether a switch that stands here keeps records. Unless it `may_differ`, that is noted already.
-    #[inline(always)]
-    pub(crate) fn note_records(&mut self, number: usize, switch: &Switch, may_differ: bool)
-        requires small { number < 320 }
-        requires noted { may_differ ≡ false → (facts_at self.old number).keeps_records ≡ keeps_records switch.now }
-        ensures there { facts_at self.new number ≡ record (facts_at self.old number) { keeps_records = keeps_records switch.now } }
-        ensures others { (k : ℕ) → k ≢ number → facts_at self.new k ≡ facts_at self.old k }
-    {
-        if may_differ {
-            self.keeps_records
-                .note(number, switches::keeps_records(switch));
-        }
+            .remove_unless(number, switches::holds_requests(switch));
+        self.no_request_room.zero.remove_unless(number, !room.zero);
+        self.no_request_room.one.remove_unless(number, !room.one);
     }
 
     /// Notes what is true of a switch that stands here, once replies have come to it. It keeps no record that it didn't keep before.
     #[inline(always)]
     pub(crate) fn note_replies_taken(&mut self, number: usize, switch: &Switch)
         requires small { number < 320 }
+        requires more { HasMoreReplies (facts_at self.old number) switch.now }
         requires fewer { (facts_at self.old number).keeps_records ≡ false → keeps_records switch.now ≡ false }
         ensures there { facts_at self.new number ≡ record (facts_at self.old number) { holds_replies = holds_replies switch.now; no_reply_room = not (has_reply_room switch.now); keeps_records = keeps_records switch.now } }
         ensures others { (k : ℕ) → k ≢ number → facts_at self.new k ≡ facts_at self.old k }
     {
-        let kept_records = self.keeps_records.has(number);
-        self.note_replies(number, switch);
-        self.note_records(number, switch, kept_records);
+        let is_full = !switches::has_reply_room(switch);
+        self.holds_replies
+            .insert_if(number, switches::holds_replies(switch));
+        self.no_reply_room.insert_if(number, is_full);
+        if self.keeps_records.has(number) {
+            self.keeps_records
+                .remove_unless(number, switches::keeps_records(switch));
+        }
     }
 
     /// Notes what is true of a switch that stands here, once requests have come to it. Unless its records `may_differ`, they are noted already.
     #[inline(always)]
     pub(crate) fn note_requests_taken(&mut self, number: usize, switch: &Switch, may_differ: bool)
         requires small { number < 320 }
+        requires more { HasMoreRequests (facts_at self.old number) switch.now }
         requires noted { may_differ ≡ false → (facts_at self.old number).keeps_records ≡ keeps_records switch.now }
         ensures there { facts_at self.new number ≡ record (facts_at self.old number) { holds_requests = holds_requests switch.now; no_room_zero = not (has_request_room switch.now).zero; no_room_one = not (has_request_room switch.now).one; keeps_records = keeps_records switch.now } }
         ensures others { (k : ℕ) → k ≢ number → facts_at self.new k ≡ facts_at self.old k }
     {
-        self.note_requests(number, switch);
-        self.note_records(number, switch, may_differ);
+        let room = switches::has_request_room(switch);
+        self.holds_requests
+            .insert_if(number, switches::holds_requests(switch));
+        self.no_request_room.zero.insert_if(number, !room.zero);
+        self.no_request_room.one.insert_if(number, !room.one);
+        if may_differ {
+            self.keeps_records
+                .note(number, switches::keeps_records(switch));
+        }
     }
 
-    /// Notes what is true of a module that stands here.
+    /// Notes what is true of a module that stands here, once a request has come to it.
     #[inline(always)]
-    pub(crate) fn note_module(&mut self, number: usize, bank: &Module)
-        requires { number < 320 }
+    pub(crate) fn note_request_came(&mut self, number: usize, bank: &Module)
+        requires small { number < 320 }
+        requires more { HasRequestMore (facts_at self.old number) bank.now }
+        ensures there { facts_at self.new number ≡ record (facts_at self.old number) { holds_requests = is_some bank.now.inp; no_room_zero = is_some bank.now.inp; to_serve = would_serve bank.now } }
+        ensures others { (k : ℕ) → k ≢ number → facts_at self.new k ≡ facts_at self.old k }
+    {
+        let holds_request = modules::holds_request(bank);
+        self.holds_requests.insert_if(number, holds_request);
+        self.no_request_room.zero.insert_if(number, holds_request);
+        self.to_serve
+            .insert_if(number, holds_request && !modules::holds_reply(bank));
+    }
+
+    /// Notes what is true of a module that stands here, once it has served.
+    #[inline(always)]
+    pub(crate) fn note_served(&mut self, number: usize, bank: &Module)
+        requires small { number < 320 }
+        requires served { HasServed (facts_at self.old number) bank.now }
         ensures there { facts_at self.new number ≡ record (facts_at self.old number) { holds_replies = is_some bank.now.out; holds_requests = is_some bank.now.inp; no_room_zero = is_some bank.now.inp; to_serve = would_serve bank.now } }
         ensures others { (k : ℕ) → k ≢ number → facts_at self.new k ≡ facts_at self.old k }
     {
         let holds_reply = modules::holds_reply(bank);
         let holds_request = modules::holds_request(bank);
-        self.holds_replies.note(number, holds_reply);
-        self.holds_requests.note(number, holds_request);
-        self.no_request_room.zero.note(number, holds_request);
-        self.to_serve.note(number, holds_request && !holds_reply);
+        self.holds_replies.insert_if(number, holds_reply);
+        self.holds_requests.remove_unless(number, holds_request);
+        self.no_request_room
+            .zero
+            .remove_unless(number, holds_request);
+        self.to_serve
+            .remove_unless(number, holds_request && !holds_reply);
+    }
+
+    /// Notes what is true of a module that stands here, once a reply has left it.
+    #[inline(always)]
+    pub(crate) fn note_reply_left(&mut self, number: usize, bank: &Module)
+        requires small { number < 320 }
+        requires less { HasReplyLess (facts_at self.old number) bank.now }
+        ensures there { facts_at self.new number ≡ record (facts_at self.old number) { holds_replies = is_some bank.now.out; to_serve = would_serve bank.now } }
+        ensures others { (k : ℕ) → k ≢ number → facts_at self.new k ≡ facts_at self.old k }
+    {
+        let holds_reply = modules::holds_reply(bank);
+        self.holds_replies.remove_unless(number, holds_reply);
+        self.to_serve
+            .insert_if(number, modules::holds_request(bank) && !holds_reply);
     }
 
     /// Notes what is true of a processing element that stands here.

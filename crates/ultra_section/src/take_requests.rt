@@ -94,7 +94,7 @@ impl Block {
         if let Some(request) = came {
             modules::take_request(bank, net, request);
         }
-        self.sets.note_module(number, bank);
+        self.sets.note_request_came(number, bank);
     }
 }
 

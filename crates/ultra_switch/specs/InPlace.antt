@@ -1,5 +1,5 @@
 -- a queue whose first item lies apart from those behind it
-use Rattle.std.specs.Prelude.{◌≡◌, ℕ, ◌≤◌, List, [], ◌∷◌, length, Option, Some, None}
+use Rattle.std.specs.Prelude.{◌≡◌, ℕ, ◌+◌, List, [], ◌∷◌, length, Option, Some, None}
 
 module _ {X : Type 0} where
   -- all items, the front first
@@ -7,7 +7,7 @@ module _ {X : Type 0} where
   with_front None rest = []
   with_front (Some x) rest = x ∷ rest
 
-  -- nothing stands behind an empty front, and all items fit
-  pub record IsInPlace (front : Option X) (rest : List X) (places : ℕ) : Type 0 where
+  -- nothing stands behind an empty front, and the places without an item are free
+  pub record IsInPlace (front : Option X) (rest : List X) (places free : ℕ) : Type 0 where
     pub alone : front ≡ None → rest ≡ []
-    pub within : length (with_front front rest) ≤ places
+    pub filled : length (with_front front rest) + free ≡ places

@@ -55,6 +55,13 @@ impl MarkedQueue {
         self.requests.len()
     }
 
+    /// How many places are free.
+    pub(crate) fn free(&self) -> usize
+        ensures { length self.now.entries + result ≡ self.now.places }
+    {
+        self.requests.free()
+    }
+
     /// How many places the queue has, at most 32.
     pub(crate) fn places(&self) -> usize
         ensures value { result ≡ self.now.places }

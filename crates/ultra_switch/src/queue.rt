@@ -1,6 +1,6 @@
 //! Queues whose first item lies in place.
 
-ghost use Rattle.std.specs.Prelude.{◌≡◌, ◌^◌, ◌<◌, ◌≤◌, ◌==◌, [], ◌∷◌, ◌++◌, length, drop, slice_get, slice_set, IfOk, Some};
+ghost use Rattle.std.specs.Prelude.{◌≡◌, ◌+◌, ◌^◌, ◌<◌, ◌≤◌, ◌==◌, [], ◌∷◌, ◌++◌, length, drop, slice_get, slice_set, IfOk, Some};
 ghost use Rattle.circular_buffer.specs.Buffer.{buffer};
 
 use circular_buffer::HeapCircularBuffer;
@@ -12,6 +12,8 @@ use std::marker::Model;
 pub(crate) struct Queue<T> {
     front: Option<T>,
     rest: HeapCircularBuffer<T>,
+    /// How many places are free.
+    free: usize,
 }
 
 impl<T> Model for Queue<T> {
@@ -24,7 +26,7 @@ impl<T> Model for Queue<T> {
 
     ghost view = { λ q. buffer (with_front q.front q.rest.items) q.rest.capacity };
 
-    ghost invariant = { λ q. IsInPlace q.front q.rest.items q.rest.capacity };
+    ghost invariant = { λ q. IsInPlace q.front q.rest.items q.rest.capacity q.free };
 }
 
 impl<T: Copy> Queue<T> {
@@ -35,6 +37,7 @@ impl<T: Copy> Queue<T> {
         Ok(Queue {
             front: None,
             rest: HeapCircularBuffer::with_capacity(alloc, capacity)?,
+            free: capacity,
         })
     }
 
@@ -43,7 +46,14 @@ impl<T: Copy> Queue<T> {
         ensures len { result ≡ length self.now.items }
         ensures within { (result ≤ self.now.capacity) × (self.now.capacity < 2 ^ 63) }
     {
-        usize::from(self.front.is_some()) + self.rest.len()
+        self.rest.capacity() - self.free
+    }
+
+    /// How many places are free.
+    pub(crate) fn free(&self) -> usize
+        ensures { length self.now.items + result ≡ self.now.capacity }
+    {
+        self.free
     }
 
     /// How many places the queue has.
@@ -102,6 +112,7 @@ impl<T: Copy> Queue<T> {
         } else {
             self.rest.push_back(item);
         }
+        self.free -= 1;
     }
 
     /// Takes the item at the front out of the queue, or answers `None` where the queue is empty.
@@ -109,9 +120,11 @@ impl<T: Copy> Queue<T> {
         ensures value { result ≡ slice_get self.old.items 0 }
         ensures items { self.new ≡ buffer (drop 1 self.old.items) self.old.capacity }
     {
-        let first = self.front;
+        let first = self.front?;
+        let _places = self.rest.capacity();
         self.front = self.rest.pop_front();
-        first
+        self.free += 1;
+        Some(first)
     }
 }
 

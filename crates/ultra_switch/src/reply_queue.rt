@@ -39,7 +39,7 @@ impl ToPe {
     pub fn has_room(&self) -> bool
         ensures { result ≡ nat_le (length self.now.replies + 4) self.now.places }
     {
-        self.queue.len() + 4 <= self.queue.capacity()
+        self.queue.free() >= 4
     }
 
     /// How many replies stand in the queue.

@@ -57,7 +57,7 @@ impl ToMm {
     pub fn has_room(&self) -> bool
         ensures { result ≡ nat_le (length self.now.lane.queue + 2) self.now.request_places }
     {
-        self.queue.len() + 2 <= self.queue.places()
+        self.queue.free() >= 2
     }
 
     /// How many requests stand in the queue.

@@ -116,12 +116,12 @@ module _ (words : List ℕ) (from w b : ℕ) (place : from ≡ w * 64 + b) where
   pub none_in_word : HasNoBitFrom (get_or words w 0) b → HasNoneWithin words from ((w + 1) * 64)
   none_in_word zeros k after before = clear_bits words w b 64 (omega arith) zeros k (omega arith) (omega arith)
 
-  pub first_in_word : (bit : ℕ) → w < 5 → IsFirstBit (get_or words w 0) b bit → IsFirstFrom words from (w * 64 + bit)
-  first_in_word bit small first = record {
-    after = omega (arith, first.after);
+  pub first_in_word : (distance : ℕ) → w < 5 → IsFirstBit (get_or words w 0) b (b + distance) → IsFirstFrom words from (from + distance)
+  first_in_word distance small first = let at : w * 64 + (b + distance) ≡ from + distance = omega arith in record {
+    after = omega arith;
     within = omega (arith, first.within);
-    there = at_bit words w bit first.within ∙ ap (λ x. eqb x 1) first.set;
-    between = rw place (clear_bits words w b bit (omega (arith, first.within)) first.between);
+    there = ap (has_unit words) (sym at) ∙ at_bit words w (b + distance) first.within ∙ ap (λ x. eqb x 1) first.set;
+    between = λ k after before. clear_bits words w b (b + distance) (omega (arith, first.within)) first.between k (omega arith) (omega arith);
   }
 
 -- ---- units one after another

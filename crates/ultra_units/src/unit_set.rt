@@ -86,6 +86,32 @@ impl UnitSet {
         self.words[number / 64] = if is_in { word | bit } else { word & !bit };
     }
 
+    /// Puts the unit of this number into the set, if `is_in`. A unit that is there already has to stay.
+    #[inline(always)]
+    pub fn insert_if(&mut self, number: usize, is_in: bool)
+        requires number { number < 320 }
+        requires stays { has_unit self.old number ≡ true → is_in ≡ true }
+        ensures others { (k : ℕ) → k ≢ number → has_unit self.new k ≡ has_unit self.old k }
+        ensures there { has_unit self.new number ≡ is_in }
+    {
+        if is_in {
+            self.insert(number);
+        }
+    }
+
+    /// Takes the unit of this number out of the set, unless `is_in`. A unit that isn't there has to stay away.
+    #[inline(always)]
+    pub fn remove_unless(&mut self, number: usize, is_in: bool)
+        requires number { number < 320 }
+        requires stays_away { has_unit self.old number ≡ false → is_in ≡ false }
+        ensures others { (k : ℕ) → k ≢ number → has_unit self.new k ≡ has_unit self.old k }
+        ensures there { has_unit self.new number ≡ is_in }
+    {
+        if !is_in {
+            self.remove(number);
+        }
+    }
+
     /// Puts all units of another set into this one.
     #[inline(always)]
     pub fn add_all(&mut self, other: &UnitSet)
@@ -120,7 +146,7 @@ impl UnitSet {
         }
         let word = from / 64;
         match first_bit(words[word], from % 64) {
-            Some(bit) => Some(word * 64 + bit),
+            Some(distance) => Some(from + distance),
             None if word == 0 && self.is_in_first_word() => None,
             None => self.next_of_words(word + 1),
         }
@@ -143,8 +169,8 @@ impl UnitSet {
         ensures none { IfNone result (HasNoneFrom self.now (first * 64)) }
     {
         for word in first..WORDS {
-            if let Some(bit) = first_bit(self.words[word], 0) {
-                return Some(word * 64 + bit);
+            if let Some(distance) = first_bit(self.words[word], 0) {
+                return Some(word * 64 + distance);
             }
         }
         None
@@ -159,16 +185,16 @@ fn bits_without(word: u64, other: u64) -> u64
     word & !other
 }
 
-/// The first bit of the word from `from` on that is set.
+/// How far from `from` the first bit of the word is that is set, of those from there on.
 #[inline(always)]
 fn first_bit(word: u64, from: usize) -> Option<usize>
     requires { from < 64 }
-    ensures some { IfSome result (λ bit. IsFirstBit word from bit) }
+    ensures some { IfSome result (λ distance. IsFirstBit word from (from + distance)) }
     ensures none { IfNone result (HasNoBitFrom word from) }
 {
     let rest = word >> from;
     if rest == 0 {
         return None;
     }
-    Some(from + rest.trailing_zeros() as usize)
+    Some(rest.trailing_zeros() as usize)
 }

@@ -1,11 +1,10 @@
 use Rattle.std.proofs.Common.{◌≡◌, ◌≢◌, ℕ, ◌^◌, ◌<◌, Some, sym, subst, ◌∙◌, true, arith}
 use Rattle.std.proofs.lemmas.Bool.{true≢false}
 use Rattle.ultra_units.specs.Set.{has_unit}
-use Rattle.ultra_section.specs.BlockState.{BlockState, element_at}
+use Rattle.ultra_section.specs.BlockState.{BlockState}
 use Rattle.ultra_section.specs.Sets.{facts_at, KnowsElement}
 use Rattle.ultra_section.proofs.Known.{AgreeBut, element_known, units_changed}
 use Rattle.ultra_section.proofs.Awake.{rests_anew}
-use Rattle.ultra_section.proofs.Moved.{element_put}
 use Rattle.ultra_section.proofs.block.Block.put_element.Goals as goal
 
 pub invariant_of-self : goal.invariant_of-self
@@ -13,14 +12,11 @@ invariant_of-self c =
     let inside = c.self.inside in
     let known = c.self.invariant in
     let within : c.args.pe < 2 ^ inside.net = subst (λ (b : BlockState). c.args.pe < 2 ^ b.stages) (sym c.self.view_is) c.requires in
-    let now = c.note_element.new.self in
-    let agree : AgreeBut c.element_number-unit.result inside.sets now = λ k other. c.note_element.ensures.others k other ∙ c.stand.ensures.others k other in
-    let was = subst (λ k. KnowsElement (facts_at inside.sets k) (element_at inside.elements.items c.args.pe)) (sym c.element_number-unit.ensures.value) (known.units.elements c.args.pe within) in
-    let noted = element_put (facts_at inside.sets c.element_number-unit.result) (facts_at c.stand.new.self c.element_number-unit.result) (facts_at now c.element_number-unit.result) (element_at inside.elements.items c.args.pe) c.args.element was c.stand.ensures.there c.note_element.ensures.there in
+    let now = c.stand_element.new.self in
     units_changed inside.net inside.wiring inside.sets now inside.switches.items _ inside.modules.items _ inside.elements.items _ inside.replies inside.requests _ _ _ _
     known
-    (element_known inside.net inside.sets now inside.switches.items inside.modules.items inside.elements.items known.units c.args.pe (Some c.args.element) within (subst (λ k. AgreeBut k inside.sets now) c.element_number-unit.ensures.value agree)
-    (subst (λ k. KnowsElement (facts_at now k) (Some c.args.element)) c.element_number-unit.ensures.value noted))
+    (element_known inside.net inside.sets now inside.switches.items inside.modules.items inside.elements.items known.units c.args.pe (Some c.args.element) within (subst (λ k. AgreeBut k inside.sets now) c.element_number-unit.ensures.value c.stand_element.ensures.others)
+    (subst (λ k. KnowsElement (facts_at now k) (Some c.args.element)) c.element_number-unit.ensures.value c.stand_element.ensures.there))
     (rests_anew inside.net inside.program inside.awake c.insert.new.self inside.elements.items known.rests c.args.pe (Some c.args.element) (omega (arith, known.units.element_entries, within))
     (subst (λ j. (k : ℕ) → k ≢ j → has_unit c.insert.new.self k ≡ has_unit inside.awake k) c.element_number-unit.ensures.value c.insert.ensures.others)
     (λ asleep. absurd (true≢false (sym (subst (λ j. has_unit c.insert.new.self j ≡ true) c.element_number-unit.ensures.value c.insert.ensures.there) ∙ asleep))))

@@ -4,7 +4,9 @@ use Rattle.ultra_units.specs.Links.{put_on}
 use Rattle.ultra_units.specs.Units.{IsSwitch}
 use Rattle.ultra_units.proofs.Put.{has_places, reply_ways_of}
 use Rattle.ultra_section.specs.BlockState.{BlockState}
-use Rattle.ultra_section.proofs.Known.{switch_replies_changed}
+use Rattle.ultra_section.specs.Sets.{HasFewerReplies, facts_at}
+use Rattle.ultra_section.proofs.Known.{switch_replies_changed, switch_was}
+use Rattle.ultra_section.proofs.Noted.{replies_left}
 use Rattle.ultra_msg.specs.declared.ReplyMessage.{ReplyMessage}
 use Rattle.ultra_switch.specs.declared.Ports.{Ports}
 use Rattle.ultra_switch.specs.declared.Switch.{Switch}
@@ -55,8 +57,15 @@ send_from_switch-requires c =
       known = c.self.invariant.replies;
     }
 
-pub note_replies-requires : goal.note_replies-requires
-note_replies-requires c = c.requires.small
+pub note_replies_sent-requires : goal.note_replies_sent-requires
+note_replies_sent-requires c =
+    let inside = c.self.inside in
+    let is = switch_inside c.self.view_is c.args.number c.args.stage c.args.index c.requires.is in
+    let was = switch_was inside.net inside.sets inside.sets inside.switches.items inside.modules.items inside.elements.items c.self.invariant.units c.args.number c.index_mut.result.now c.in-Some.switch is.within c.index_mut.ensures.value c.in-Some.is in
+    record {
+      small = c.requires.small;
+      fewer = subst (HasFewerReplies (facts_at inside.sets c.args.number)) (sym c.send_from_switch.ensures.switch) (replies_left _ c.in-Some.switch was _);
+    }
 
 pub returns : goal.returns
 returns c =
@@ -75,9 +84,9 @@ invariant_of-self-2 c =
     let left = c.send_from_switch.ensures.switch in
     record {
       units =
-          switch_replies_changed inside.net inside.sets c.note_replies.new.self inside.switches.items inside.modules.items inside.elements.items known.units
+          switch_replies_changed inside.net inside.sets c.note_replies_sent.new.self inside.switches.items inside.modules.items inside.elements.items known.units
           c.args.number c.index_mut.result.now c.in-Some.switch c.send_from_switch.new.switch is.within c.index_mut.ensures.value c.in-Some.is
-          c.note_replies.ensures.others c.note_replies.ensures.there (ap holds_requests left) (ap has_request_room left) (ap keeps_records left);
+          c.note_replies_sent.ensures.others c.note_replies_sent.ensures.there (ap holds_requests left) (ap has_request_room left) (ap keeps_records left);
       rests = known.rests;
       requests = known.requests;
       replies = c.send_from_switch.ensures.known;

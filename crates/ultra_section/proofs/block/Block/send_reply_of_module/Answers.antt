@@ -1,7 +1,9 @@
-use Rattle.std.proofs.Common.{sym, subst, ◌≡◌, ℕ, ◌-◌, ◌/◌, List, Bool, Option, Some, set, refl, ◌∙◌}
+use Rattle.std.proofs.Common.{ap, sym, subst, ◌≡◌, ℕ, ◌-◌, ◌/◌, List, Bool, Option, Some, set, refl, ◌∙◌}
 use Rattle.ultra_section.specs.BlockState.{BlockState}
 use Rattle.ultra_units.specs.Units.{IsModule}
-use Rattle.ultra_section.proofs.Known.{module_changed}
+use Rattle.ultra_section.specs.Sets.{HasReplyLess, facts_at}
+use Rattle.ultra_section.proofs.Known.{module_changed, module_was, reply_noted}
+use Rattle.ultra_section.proofs.Noted.{inp_kept, reply_left}
 use Rattle.std.specs.Prelude.{not}
 use Rattle.ultra_msg.specs.declared.ReplyMessage.{ReplyMessage}
 use Rattle.ultra_mem.specs.Serve.{Bank}
@@ -37,11 +39,12 @@ invariant_of-self-2 c =
     let inside = c.self.inside in
     let known = c.self.invariant in
     let is : IsModule inside.net c.args.number c.args.module_number = subst (λ (b : BlockState). IsModule b.stages c.args.number c.args.module_number) (sym c.self.view_is) c.requires.is in
+    let was = module_was inside.net inside.sets inside.sets inside.switches.items inside.modules.items inside.elements.items c.self.invariant.units c.args.number c.args.module_number c.index_mut.result.now c.in-Some.bank is c.index_mut.ensures.value c.in-Some.is in
     record {
       units =
-          module_changed inside.net inside.sets c.note_module.new.self inside.switches.items inside.modules.items inside.elements.items known.units
-          c.args.number c.args.module_number c.index_mut.result.now c.in-Some.bank c.send_reply-out.new.bank is c.index_mut.ensures.value c.in-Some.is
-          c.note_module.ensures.others c.note_module.ensures.there;
+          module_changed inside.net inside.sets c.note_reply_left.new.self inside.switches.items inside.modules.items inside.elements.items known.units
+          c.args.number c.args.module_number c.send_reply-out.new.bank is c.note_reply_left.ensures.others
+          (reply_noted _ _ c.in-Some.bank c.send_reply-out.new.bank (ap (λ (b : Bank). b.inp) c.send_reply-out.ensures.left ∙ inp_kept c.in-Some.bank c.send_reply-out.result) c.note_reply_left.ensures.there was);
       rests = known.rests;
       replies = c.leave_module.ensures.known;
       requests = known.requests;
@@ -53,8 +56,15 @@ invariant_of-self-2 c =
 pub index_mut-requires : goal.index_mut-requires
 index_mut-requires c = module_entry c.self.view_is c.args.number c.args.module_number c.self.inside.modules.len c.requires.is c.self.inside.modules.ok.0 c.self.invariant.units.module_entries
 
-pub note_module-requires : goal.note_module-requires
-note_module-requires c = c.requires.small
+pub note_reply_left-requires : goal.note_reply_left-requires
+note_reply_left-requires c =
+    let inside = c.self.inside in
+    let is : IsModule inside.net c.args.number c.args.module_number = subst (λ (b : BlockState). IsModule b.stages c.args.number c.args.module_number) (sym c.self.view_is) c.requires.is in
+    let was = module_was inside.net inside.sets inside.sets inside.switches.items inside.modules.items inside.elements.items c.self.invariant.units c.args.number c.args.module_number c.index_mut.result.now c.in-Some.bank is c.index_mut.ensures.value c.in-Some.is in
+    record {
+      small = c.requires.small;
+      less = subst (HasReplyLess (facts_at inside.sets c.args.number)) (sym (c.send_reply-out.ensures.left)) (reply_left _ c.in-Some.bank was c.send_reply-out.result);
+    }
 
 pub leave_module-requires : goal.leave_module-requires
 leave_module-requires c = record {

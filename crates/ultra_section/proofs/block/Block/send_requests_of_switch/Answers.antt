@@ -1,7 +1,9 @@
-use Rattle.std.proofs.Common.{ap, ◌≡◌, ℕ, List, Option, Some, set, refl, ◌∙◌}
+use Rattle.std.proofs.Common.{ap, subst, sym, ◌≡◌, ℕ, List, Option, Some, set, refl, ◌∙◌}
 use Rattle.ultra_halves.specs.Switches.{has_reply_room, holds_replies, keeps_records, request_heads, requests_leaving, without_requests}
 use Rattle.ultra_section.specs.BlockState.{BlockState}
-use Rattle.ultra_section.proofs.Known.{switch_requests_changed}
+use Rattle.ultra_section.specs.Sets.{HasFewerRequests, facts_at}
+use Rattle.ultra_section.proofs.Known.{switch_requests_changed, switch_was}
+use Rattle.ultra_section.proofs.Noted.{requests_left}
 use Rattle.ultra_msg.specs.declared.Request.{Request}
 use Rattle.ultra_switch.specs.declared.Ports.{Ports}
 use Rattle.ultra_switch.specs.declared.Switch.{Switch}
@@ -38,8 +40,15 @@ send_from_switch-requires c = record {
   known = c.self.invariant.requests;
 }
 
-pub note_requests-requires : goal.note_requests-requires
-note_requests-requires c = c.requires.small
+pub note_requests_sent-requires : goal.note_requests_sent-requires
+note_requests_sent-requires c =
+    let inside = c.self.inside in
+    let is = switch_inside c.self.view_is c.args.number c.args.stage c.args.index c.requires.is in
+    let was = switch_was inside.net inside.sets inside.sets inside.switches.items inside.modules.items inside.elements.items c.self.invariant.units c.args.number c.index_mut.result.now c.in-Some.switch is.within c.index_mut.ensures.value c.in-Some.is in
+    record {
+      small = c.requires.small;
+      fewer = subst (HasFewerRequests (facts_at inside.sets c.args.number)) (sym c.send_from_switch.ensures.switch) (requests_left _ c.in-Some.switch was _);
+    }
 
 pub returns : goal.returns
 returns c =
@@ -54,9 +63,9 @@ invariant_of-self-2 c =
     let left = c.send_from_switch.ensures.switch in
     record {
       units =
-          switch_requests_changed inside.net inside.sets c.note_requests.new.self inside.switches.items inside.modules.items inside.elements.items known.units
+          switch_requests_changed inside.net inside.sets c.note_requests_sent.new.self inside.switches.items inside.modules.items inside.elements.items known.units
           c.args.number c.index_mut.result.now c.in-Some.switch c.send_from_switch.new.switch is.within c.index_mut.ensures.value c.in-Some.is
-          c.note_requests.ensures.others c.note_requests.ensures.there (ap holds_replies left) (ap has_reply_room left) (ap keeps_records left);
+          c.note_requests_sent.ensures.others c.note_requests_sent.ensures.there (ap holds_replies left) (ap has_reply_room left) (ap keeps_records left);
       rests = known.rests;
       replies = known.replies;
       requests = c.send_from_switch.ensures.known;

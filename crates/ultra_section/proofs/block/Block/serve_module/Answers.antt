@@ -1,7 +1,9 @@
 use Rattle.std.proofs.Common.{refl, sym, subst, arith, ◌≡◌, ℕ, List, [], ◌∷◌, ◌++◌, Some, set, ◌∙◌, ap}
 use Rattle.ultra_section.specs.BlockState.{BlockState}
 use Rattle.ultra_units.specs.Units.{IsModule}
-use Rattle.ultra_section.proofs.Known.{module_changed, units_changed}
+use Rattle.ultra_section.specs.Sets.{HasServed, facts_at}
+use Rattle.ultra_section.proofs.Known.{module_changed, module_was, serving_noted, units_changed}
+use Rattle.ultra_section.proofs.Noted.{has_served}
 use Rattle.ultra_msg.specs.declared.Event.{Event}
 use Rattle.ultra_mem.specs.Serve.{Bank, serve, served}
 use Rattle.ultra_model.specs.Places.{present}
@@ -38,11 +40,12 @@ invariant_of-self-in-Some-served c =
     let inside = c.self.inside in
     let known = c.self.invariant in
     let is : IsModule inside.net c.args.number c.args.module_number = subst (λ (b : BlockState). IsModule b.stages c.args.number c.args.module_number) (sym c.self.view_is) c.requires.is in
-    units_changed inside.net inside.wiring inside.sets c.note_module.new.self inside.switches.items _ inside.modules.items _ inside.elements.items _ inside.replies inside.requests _ _ _ _
+    let was = module_was inside.net inside.sets inside.sets inside.switches.items inside.modules.items inside.elements.items c.self.invariant.units c.args.number c.args.module_number c.index_mut.result.now c.in-Some.bank is c.index_mut.ensures.value c.in-Some.is in
+    units_changed inside.net inside.wiring inside.sets c.note_served.new.self inside.switches.items _ inside.modules.items _ inside.elements.items _ inside.replies inside.requests _ _ _ _
     known
-    (module_changed inside.net inside.sets c.note_module.new.self inside.switches.items inside.modules.items inside.elements.items known.units
-    c.args.number c.args.module_number c.index_mut.result.now c.in-Some.bank c.serve-served.new.self is c.index_mut.ensures.value c.in-Some.is
-    c.note_module.ensures.others c.note_module.ensures.there)
+    (module_changed inside.net inside.sets c.note_served.new.self inside.switches.items inside.modules.items inside.elements.items known.units
+    c.args.number c.args.module_number c.serve-served.new.self is c.note_served.ensures.others
+    (serving_noted _ _ c.in-Some.bank c.serve-served.new.self c.note_served.ensures.there was))
     known.rests
     c.append.ensures.places (omega arith)
 
@@ -51,16 +54,24 @@ invariant_of-self-in_default-served c =
     let inside = c.self.inside in
     let known = c.self.invariant in
     let is : IsModule inside.net c.args.number c.args.module_number = subst (λ (b : BlockState). IsModule b.stages c.args.number c.args.module_number) (sym c.self.view_is) c.requires.is in
-    units_changed inside.net inside.wiring inside.sets c.note_module.new.self inside.switches.items _ inside.modules.items _ inside.elements.items _ inside.replies inside.requests _ _ _ _
+    let was = module_was inside.net inside.sets inside.sets inside.switches.items inside.modules.items inside.elements.items c.self.invariant.units c.args.number c.args.module_number c.index_mut.result.now c.in-Some.bank is c.index_mut.ensures.value c.in-Some.is in
+    units_changed inside.net inside.wiring inside.sets c.note_served.new.self inside.switches.items _ inside.modules.items _ inside.elements.items _ inside.replies inside.requests _ _ _ _
     known
-    (module_changed inside.net inside.sets c.note_module.new.self inside.switches.items inside.modules.items inside.elements.items known.units
-    c.args.number c.args.module_number c.index_mut.result.now c.in-Some.bank c.serve-served.new.self is c.index_mut.ensures.value c.in-Some.is
-    c.note_module.ensures.others c.note_module.ensures.there)
+    (module_changed inside.net inside.sets c.note_served.new.self inside.switches.items inside.modules.items inside.elements.items known.units
+    c.args.number c.args.module_number c.serve-served.new.self is c.note_served.ensures.others
+    (serving_noted _ _ c.in-Some.bank c.serve-served.new.self c.note_served.ensures.there was))
     known.rests
     (omega arith) (omega arith)
 
 pub index_mut-requires : goal.index_mut-requires
 index_mut-requires c = module_entry c.self.view_is c.args.number c.args.module_number c.self.inside.modules.len c.requires.is c.self.inside.modules.ok.0 c.self.invariant.units.module_entries
 
-pub note_module-requires : goal.note_module-requires
-note_module-requires c = c.requires.small
+pub note_served-requires : goal.note_served-requires
+note_served-requires c =
+    let inside = c.self.inside in
+    let is : IsModule inside.net c.args.number c.args.module_number = subst (λ (b : BlockState). IsModule b.stages c.args.number c.args.module_number) (sym c.self.view_is) c.requires.is in
+    let was = module_was inside.net inside.sets inside.sets inside.switches.items inside.modules.items inside.elements.items c.self.invariant.units c.args.number c.args.module_number c.index_mut.result.now c.in-Some.bank is c.index_mut.ensures.value c.in-Some.is in
+    record {
+      small = c.requires.small;
+      served = subst (HasServed (facts_at inside.sets c.args.number)) (sym (c.serve-served.ensures.state)) (has_served _ c.in-Some.bank was);
+    }

@@ -3,7 +3,9 @@ use Rattle.ultra_halves.specs.Switches.{CanTakeReplies, has_request_room, holds_
 use Rattle.ultra_section.specs.BlockState.{BlockState}
 use Rattle.ultra_units.specs.Marks.{on_both, reply_links, without_both}
 use Rattle.ultra_section.specs.RepliesTaken.{SwitchCanTakeReplies, replies_taken_by}
+use Rattle.ultra_section.specs.Sets.{HasMoreReplies, facts_at}
 use Rattle.ultra_section.proofs.Known.{switch_replies_taken, switch_was, stands}
+use Rattle.ultra_section.proofs.Noted.{replies_came}
 use Rattle.ultra_section.proofs.Records.{keeps_none}
 use Rattle.ultra_msg.specs.declared.ReplyMessage.{ReplyMessage}
 use Rattle.ultra_switch.specs.declared.Ports.{Ports}
@@ -47,15 +49,17 @@ take_into_switch-requires c =
     }
 
 pub note_replies_taken-requires : goal.note_replies_taken-requires
-note_replies_taken-requires c = record {
-  small = c.requires.small;
-  fewer = λ none.
-      let inside = c.self.inside in
-      let is = switch_inside c.self.view_is c.args.number c.args.stage c.args.index c.requires.is in
-      let was = switch_was inside.net inside.sets inside.sets inside.switches.items inside.modules.items inside.elements.items c.self.invariant.units c.args.number c.index_mut.result.now c.in-Some.switch is.within c.index_mut.ensures.value c.in-Some.is in
-      ap keeps_records c.take_into_switch.ensures.switch
-      ∙ keeps_none inside.net c.args.stage c.in-Some.switch (on_both inside.replies.table.items c.reply_links-inlets.result) (sym was.keeps_records ∙ none);
-}
+note_replies_taken-requires c =
+    let inside = c.self.inside in
+    let is = switch_inside c.self.view_is c.args.number c.args.stage c.args.index c.requires.is in
+    let was = switch_was inside.net inside.sets inside.sets inside.switches.items inside.modules.items inside.elements.items c.self.invariant.units c.args.number c.index_mut.result.now c.in-Some.switch is.within c.index_mut.ensures.value c.in-Some.is in
+    let taken = c.take_into_switch.ensures.switch in
+    record {
+      small = c.requires.small;
+      more = subst (HasMoreReplies (facts_at inside.sets c.args.number)) (sym taken) (replies_came _ c.in-Some.switch was inside.net c.args.stage _);
+      fewer = λ none. ap keeps_records taken
+          ∙ keeps_none inside.net c.args.stage c.in-Some.switch (on_both inside.replies.table.items c.reply_links-inlets.result) (sym was.keeps_records ∙ none);
+    }
 
 pub returns : goal.returns
 returns c =

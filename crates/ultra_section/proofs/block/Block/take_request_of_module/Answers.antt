@@ -3,7 +3,9 @@ use Rattle.ultra_section.specs.BlockState.{BlockState}
 use Rattle.ultra_units.specs.Marks.{memory_link, on_link}
 use Rattle.ultra_section.specs.RequestsTaken.{ModuleCanTakeRequest, request_taken_by}
 use Rattle.ultra_units.specs.Units.{IsModule}
-use Rattle.ultra_section.proofs.Known.{module_changed, stands}
+use Rattle.ultra_section.specs.Sets.{HasRequestMore, facts_at}
+use Rattle.ultra_section.proofs.Known.{module_changed, module_was, request_noted, stands}
+use Rattle.ultra_section.proofs.Noted.{out_kept, request_came}
 use Rattle.ultra_msg.specs.declared.Request.{Request}
 use Rattle.ultra_mem.specs.Serve.{Bank}
 use Rattle.ultra_halves.specs.Modules.{bank_with}
@@ -49,11 +51,17 @@ invariant_of-self-2 c =
     let inside = c.self.inside in
     let known = c.self.invariant in
     let is : IsModule inside.net c.args.number c.args.module_number = subst (λ (b : BlockState). IsModule b.stages c.args.number c.args.module_number) (sym c.self.view_is) c.requires.is in
+    let was = module_was inside.net inside.sets inside.sets inside.switches.items inside.modules.items inside.elements.items c.self.invariant.units c.args.number c.args.module_number c.index_mut.result.now c.in-Some.bank is c.index_mut.ensures.value c.in-Some.is in
+    let taken : c.match-came.bank ≡ bank_with (2 ^ inside.net) c.in-Some.bank c.take_at_module-came.result =
+    elim c.match-came.branch [
+      | in-Some-came w ↦ w.bank-is ∙ w.take_request.ensures ∙ ap (bank_with (2 ^ inside.net) c.in-Some.bank) (sym w.in-Some-came.is)
+      | in_default-came w ↦ w.bank-is ∙ ap (bank_with (2 ^ inside.net) c.in-Some.bank) (sym w.in_default-came.is)
+    ] in
     record {
       units =
-          module_changed inside.net inside.sets c.note_module.new.self inside.switches.items inside.modules.items inside.elements.items known.units
-          c.args.number c.args.module_number c.index_mut.result.now c.in-Some.bank c.match-came.bank is c.index_mut.ensures.value c.in-Some.is
-          c.note_module.ensures.others c.note_module.ensures.there;
+          module_changed inside.net inside.sets c.note_request_came.new.self inside.switches.items inside.modules.items inside.elements.items known.units
+          c.args.number c.args.module_number c.match-came.bank is c.note_request_came.ensures.others
+          (request_noted _ _ c.in-Some.bank c.match-came.bank (ap (λ (b : Bank). b.out) taken ∙ out_kept _ c.in-Some.bank c.take_at_module-came.result) c.note_request_came.ensures.there was);
       rests = known.rests;
       replies = known.replies;
       requests = c.take_at_module-came.ensures.known known.requests;
@@ -68,5 +76,17 @@ index_mut-requires c = module_entry c.self.view_is c.args.number c.args.module_n
 pub take_at_module-came-requires : goal.take_at_module-came-requires
 take_at_module-came-requires c = record { target = module_inside c.self.view_is c.args.number c.args.module_number c.requires.is; small = c.requires.small; all = c.self.invariant.requests.all }
 
-pub note_module-requires : goal.note_module-requires
-note_module-requires c = c.requires.small
+pub note_request_came-requires : goal.note_request_came-requires
+note_request_came-requires c =
+    let inside = c.self.inside in
+    let is : IsModule inside.net c.args.number c.args.module_number = subst (λ (b : BlockState). IsModule b.stages c.args.number c.args.module_number) (sym c.self.view_is) c.requires.is in
+    let was = module_was inside.net inside.sets inside.sets inside.switches.items inside.modules.items inside.elements.items c.self.invariant.units c.args.number c.args.module_number c.index_mut.result.now c.in-Some.bank is c.index_mut.ensures.value c.in-Some.is in
+    let taken : c.match-came.bank ≡ bank_with (2 ^ inside.net) c.in-Some.bank c.take_at_module-came.result =
+    elim c.match-came.branch [
+      | in-Some-came w ↦ w.bank-is ∙ w.take_request.ensures ∙ ap (bank_with (2 ^ inside.net) c.in-Some.bank) (sym w.in-Some-came.is)
+      | in_default-came w ↦ w.bank-is ∙ ap (bank_with (2 ^ inside.net) c.in-Some.bank) (sym w.in_default-came.is)
+    ] in
+    record {
+      small = c.requires.small;
+      more = subst (HasRequestMore (facts_at inside.sets c.args.number)) (sym taken) (request_came _ c.in-Some.bank was (2 ^ inside.net) c.take_at_module-came.result);
+    }

@@ -6,7 +6,9 @@ use Rattle.ultra_halves.specs.Switches.{CanTakeRequests, HasWay, has_reply_room,
 use Rattle.ultra_section.specs.BlockState.{BlockState, most_events}
 use Rattle.ultra_units.specs.Marks.{on_both, on_link, ports_in_turn, request_links, without_both}
 use Rattle.ultra_section.specs.RequestsTaken.{SwitchCanTakeRequests, requests_taken_by}
+use Rattle.ultra_section.specs.Sets.{HasMoreRequests, facts_at}
 use Rattle.ultra_section.proofs.Known.{switch_requests_taken, switch_was, stands}
+use Rattle.ultra_section.proofs.Noted.{requests_came}
 use Rattle.ultra_section.proofs.Records.{keeps_as_before}
 use Rattle.ultra_msg.specs.declared.Event.{Event}
 use Rattle.ultra_msg.specs.declared.Request.{Request}
@@ -93,15 +95,17 @@ take_into_switch-has_combined-requires c =
     }
 
 pub note_requests_taken-requires : goal.note_requests_taken-requires
-note_requests_taken-requires c = record {
-  small = c.requires.small;
-  noted = λ none.
-      let inside = c.self.inside in
-      let is = switch_inside c.self.view_is c.args.number c.args.stage c.args.index c.requires.is in
-      let was = switch_was inside.net inside.sets inside.sets inside.switches.items inside.modules.items inside.elements.items c.self.invariant.units c.args.number c.index_mut.result.now c.in-Some.switch is.within c.index_mut.ensures.value c.in-Some.is in
-      let nothing = c.take_into_switch-has_combined.ensures.none.0 none in
-      was.keeps_records ∙ sym (ap keeps_records c.take_into_switch-has_combined.ensures.switch ∙ keeps_as_before inside.net c.args.stage c.args.index c.in-Some.switch _ _ nothing);
-}
+note_requests_taken-requires c =
+    let inside = c.self.inside in
+    let is = switch_inside c.self.view_is c.args.number c.args.stage c.args.index c.requires.is in
+    let was = switch_was inside.net inside.sets inside.sets inside.switches.items inside.modules.items inside.elements.items c.self.invariant.units c.args.number c.index_mut.result.now c.in-Some.switch is.within c.index_mut.ensures.value c.in-Some.is in
+    let taken = c.take_into_switch-has_combined.ensures.switch in
+    record {
+      small = c.requires.small;
+      more = subst (HasMoreRequests (facts_at inside.sets c.args.number)) (sym taken) (requests_came _ c.in-Some.switch was inside.net c.args.stage _ _);
+      noted = λ none. was.keeps_records
+          ∙ sym (ap keeps_records taken ∙ keeps_as_before inside.net c.args.stage c.args.index c.in-Some.switch _ _ (c.take_into_switch-has_combined.ensures.none.0 none));
+    }
 
 pub returns-clause-value : goal.returns-clause-value
 returns-clause-value c =

@@ -9,7 +9,7 @@ returns-then-from-ge-UNITS-clause-none c =
 pub returns-in-Some-clause-some : goal.returns-in-Some-clause-some
 returns-in-Some-clause-some c =
     let from = c.args.from in
-    first_in_word c.args.self.now from (from / 64) (from % 64) (omega arith) c.in-Some.bit (omega arith)
+    first_in_word c.args.self.now from (from / 64) (from % 64) (omega arith) _ (omega arith)
     (rw (← c.self.view_is) c.in-Some.ensures.some)
 
 pub returns-in-None-clause-none : goal.returns-in-None-clause-none

@@ -7,7 +7,7 @@ returns-in-Some-clause-some c =
     let now = c.args.self.now in
     let word = c.loop-word.word in
     first_after now (c.args.first * 64) (word * 64) _ (omega arith) c.loop-word.invariant
-    (first_in_word now (word * 64) word 0 (omega arith) c.in-Some.bit (omega arith) (rw (← c.self.view_is) c.in-Some.ensures.some))
+    (first_in_word now (word * 64) word 0 (omega arith) _ (omega arith) (rw (← c.self.view_is) c.in-Some.ensures.some))
 
 pub loop-word-preserved : goal.loop-word-preserved
 loop-word-preserved c =

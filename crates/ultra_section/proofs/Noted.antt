@@ -1,0 +1,114 @@
+-- What is noted of a switch once messages have come to it or left it: its queues are longer then, or shorter. And what is noted of a module.
+use Rattle.std.proofs.Common.{◌≡◌, ℕ, ◌+◌, ◌≤◌, List, ◌++◌, Bool, true, false, Option, Some, None, length, length-append, length-drop, sym, refl, ap, ◌∙◌, arith}
+use Rattle.std.specs.Prelude.{not, nat_le, ◌==◌, ◌&&◌}
+use Rattle.std.proofs.lemmas.Bool.Decides.{nat_tests}
+use Rattle.ultra_msg.specs.declared.Request.{Request}
+use Rattle.ultra_msg.specs.declared.ReplyMessage.{ReplyMessage}
+use Rattle.ultra_mem.specs.declared.Placed.{Placed}
+use Rattle.ultra_mem.specs.Serve.{Bank, after_serving, serve, to_serve}
+use Rattle.ultra_switch.specs.declared.Ports.{Ports}
+use Rattle.ultra_switch.specs.declared.Switch.{Switch}
+use Rattle.ultra_model.specs.Places.{after_leaving}
+use Rattle.ultra_model.specs.Phases.{replies_made, without_reply}
+use Rattle.ultra_halves.specs.Modules.{bank_with}
+use Rattle.ultra_halves.specs.Halves.{both_coming, going_by}
+use Rattle.ultra_halves.specs.Switches.{after_both, after_replies, without_replies, without_requests}
+use Rattle.ultra_halves.proofs.Arrivals.{arrive_all_no_shorter}
+use Rattle.ultra_section.specs.Sets.{HasFewerReplies, HasFewerRequests, HasMoreReplies, HasMoreRequests, HasReplyLess, HasRequestMore, HasServed, KnowsModule, KnowsSwitch, UnitFacts}
+
+-- ---- of two queues at least one holds something, and a queue has no room
+held_more : (a b c d : ℕ) → a ≤ c → b ≤ d → not ((a == 0) && (b == 0)) ≡ true → not ((c == 0) && (d == 0)) ≡ true
+held_more a b c d first second h = grind (arith, nat_tests)
+
+full_more : (n a c p : ℕ) → a ≤ c → not (nat_le (a + n) p) ≡ true → not (nat_le (c + n) p) ≡ true
+full_more n a c p longer h = grind (arith, nat_tests)
+
+both_full_more : (n a b c d p q : ℕ) → a ≤ c → b ≤ d → not (nat_le (a + n) p && nat_le (b + n) q) ≡ true → not (nat_le (c + n) p && nat_le (d + n) q) ≡ true
+both_full_more n a b c d p q first second h = grind (arith, nat_tests)
+
+unless : (x y : Bool) → (x ≡ true → y ≡ true) → y ≡ false → x ≡ false
+unless true y h e = sym (h refl) ∙ e
+unless false y h e = refl
+
+-- ---- a queue that something leaves
+shorter : {X Y : Type 0} (o : Option Y) (xs : List X) → length (after_leaving o xs) ≤ length xs
+shorter None xs = omega arith
+shorter (Some y) xs = omega (arith, length-drop 1 xs)
+
+-- ---- a queue that something comes to, twice
+longer : {X : Type 0} (xs ys zs : List X) → length xs ≤ length ((xs ++ ys) ++ zs)
+longer xs ys zs = omega (arith, length-append xs ys, length-append (xs ++ ys) zs)
+
+-- ---- a switch of which facts are known
+module _ (f : UnitFacts) (w : Switch) (known : KnowsSwitch f (Some w)) where
+  pub requests_came : (d s : ℕ) (first second : Option Request) → HasMoreRequests f (after_both d s w first second)
+  requests_came d s first second =
+      let zero = arrive_all_no_shorter w.to_mm.zero.wait_places w.to_mm.zero.lane (both_coming d s 0 first second) in
+      let one = arrive_all_no_shorter w.to_mm.one.wait_places w.to_mm.one.lane (both_coming d s 1 first second) in
+      record {
+        holds = λ was. held_more _ _ _ _ zero one (sym known.holds_requests ∙ was);
+        full_zero = λ was. full_more 2 _ _ _ zero (sym known.no_room_zero ∙ was);
+        full_one = λ was. full_more 2 _ _ _ one (sym known.no_room_one ∙ was);
+      }
+
+  pub requests_left : {X : Type 0} (out : Ports (Option X)) → HasFewerRequests f (without_requests w out)
+  requests_left out =
+      let zero = shorter out.zero w.to_mm.zero.lane.queue in
+      let one = shorter out.one w.to_mm.one.lane.queue in
+      record {
+        holds = λ was. unless _ _ (held_more _ _ _ _ zero one) (sym known.holds_requests ∙ was);
+        full_zero = λ was. unless _ _ (full_more 2 _ _ _ zero) (sym known.no_room_zero ∙ was);
+        full_one = λ was. unless _ _ (full_more 2 _ _ _ one) (sym known.no_room_one ∙ was);
+      }
+
+  pub replies_came : (d s : ℕ) (came : Ports (Option ReplyMessage)) → HasMoreReplies f (after_replies d s w came)
+  replies_came d s came =
+      let zero = longer w.to_pe.zero.replies (going_by d s 0 (replies_made w.to_mm.zero.lane.records came.zero)) (going_by d s 0 (replies_made w.to_mm.one.lane.records came.one)) in
+      let one = longer w.to_pe.one.replies (going_by d s 1 (replies_made w.to_mm.zero.lane.records came.zero)) (going_by d s 1 (replies_made w.to_mm.one.lane.records came.one)) in
+      record {
+        holds = λ was. held_more _ _ _ _ zero one (sym known.holds_replies ∙ was);
+        full = λ was. both_full_more 4 _ _ _ _ _ _ zero one (sym known.no_reply_room ∙ was);
+      }
+
+  pub replies_left : {X : Type 0} (out : Ports (Option X)) → HasFewerReplies f (without_replies w out)
+  replies_left out =
+      let zero = shorter out.zero w.to_pe.zero.replies in
+      let one = shorter out.one w.to_pe.one.replies in
+      record {
+        holds = λ was. unless _ _ (held_more _ _ _ _ zero one) (sym known.holds_replies ∙ was);
+        full = λ was. unless _ _ (both_full_more 4 _ _ _ _ _ _ zero one) (sym known.no_reply_room ∙ was);
+      }
+
+-- ---- a module of which facts are known
+both_true : (x y : Bool) → (x && y) ≡ true → (x ≡ true) × (y ≡ true)
+both_true true y h = (refl, h)
+both_true false y h = cc
+
+pub out_kept : (n : ℕ) (b : Bank) (o : Option Request) → (bank_with n b o).out ≡ b.out
+out_kept n b None = refl
+out_kept n b (Some r) = refl
+
+pub inp_kept : (b : Bank) (o : Option ReplyMessage) → (without_reply b o).inp ≡ b.inp
+inp_kept b None = refl
+inp_kept b (Some r) = refl
+
+module _ (f : UnitFacts) (b : Bank) (known : KnowsModule f (Some b)) where
+  pub request_came : (n : ℕ) (o : Option Request) → HasRequestMore f (bank_with n b o)
+  request_came n None = record { holds = λ was. sym known.holds_requests ∙ was; full = λ was. sym known.no_room_zero ∙ was; serves = λ was. sym known.to_serve ∙ was }
+  request_came n (Some r) = record { holds = λ was. refl; full = λ was. refl; serves = λ was. (both_true _ _ (sym known.to_serve ∙ was)).1 }
+
+  pub reply_left : (o : Option ReplyMessage) → HasReplyLess f (without_reply b o)
+  reply_left None = record { holds = λ was. sym known.holds_replies ∙ was; serves = λ was. sym known.to_serve ∙ was }
+  reply_left (Some r) = record { holds = λ was. refl; serves = λ was. ap (λ x. x && true) (both_true _ _ (sym known.to_serve ∙ was)).0 }
+
+  served_as : (o : Option Placed) → HasServed f (after_serving b o)
+  served_as None = record {
+    holds_reply = λ was. sym known.holds_replies ∙ was;
+    holds_request = λ was. sym known.holds_requests ∙ was;
+    full = λ was. sym known.no_room_zero ∙ was;
+    serves = λ was. sym known.to_serve ∙ was;
+  }
+  served_as (Some p) = record { holds_reply = λ was. refl; holds_request = λ was. refl; full = λ was. refl; serves = λ was. refl }
+
+  pub has_served : HasServed f (serve b)
+  has_served = served_as (to_serve b)
