@@ -58,6 +58,7 @@ fn put_cycles<S: Sink>(page: &mut Page<'_, S>, blocks: &mut Blocks)
 }
 
 /// Writes the lines of the last cycle, and says whether the trace ends with it before the settings' limit: where the machine is quiet, or the sink has failed.
+#[inline(always)]
 pub fn put_and_judge<S: Sink>(page: &mut Page<'_, S>, blocks: &Blocks) -> bool
     requires { 0 < blocks.now.machine.cycles }
     ensures writes { Writes S.taken S.failures (cycle_text blocks.now.config blocks.now.machine) page.old page.new }

@@ -117,6 +117,7 @@ impl Blocks {
     /// The machine makes one cycle: replies, memory, requests, processors. It takes no memory and always succeeds.
     ///
     /// Its count of cycles has to be below `2^32 - 1`.
+    #[inline(always)]
     pub fn cycle(&mut self)
         requires { self.old.machine.cycles < 2 ^ 32 - 1 }
         ensures { self.new ≡ record self.old { machine = next_cycle self.old.config self.old.program self.old.machine } }

@@ -11,7 +11,7 @@ use crate::held::Held;
 use ultra_halves::{ProcessingElement, modules, switches};
 use ultra_mem::Module;
 use ultra_switch::{Ports, Switch};
-use ultra_units::UnitSet;
+use ultra_units::{UnitBit, UnitSet};
 
 /// What is known of the units that stand in a block, as sets of their numbers. Each is exactly the set of the units for which it is true.
 #[derive(Drop)]
@@ -84,7 +84,7 @@ impl Sets {
     {
         self.stand(number);
         self.holds_replies
-            .insert_if(number, modules::holds_reply(bank));
+            .insert_if(UnitBit::of(number), modules::holds_reply(bank));
         self.note_request_came(number, bank);
     }
 
@@ -135,10 +135,11 @@ impl Sets {
         ensures there { facts_at self.new number ≡ record (facts_at self.old number) { holds_replies = holds_replies switch.now; no_reply_room = not (has_reply_room switch.now) } }
         ensures others { (k : ℕ) → k ≢ number → facts_at self.new k ≡ facts_at self.old k }
     {
+        let unit = UnitBit::of(number);
         let is_full = !switches::has_reply_room(switch);
         self.holds_replies
-            .remove_unless(number, switches::holds_replies(switch));
-        self.no_reply_room.remove_unless(number, is_full);
+            .remove_unless(unit, switches::holds_replies(switch));
+        self.no_reply_room.remove_unless(unit, is_full);
     }
 
     /// Notes what is true of the requests of a switch that stands here, once requests have left it.
@@ -149,11 +150,12 @@ impl Sets {
         ensures there { facts_at self.new number ≡ record (facts_at self.old number) { holds_requests = holds_requests switch.now; no_room_zero = not (has_request_room switch.now).zero; no_room_one = not (has_request_room switch.now).one } }
         ensures others { (k : ℕ) → k ≢ number → facts_at self.new k ≡ facts_at self.old k }
     {
+        let unit = UnitBit::of(number);
         let room = switches::has_request_room(switch);
         self.holds_requests
-            .remove_unless(number, switches::holds_requests(switch));
-        self.no_request_room.zero.remove_unless(number, !room.zero);
-        self.no_request_room.one.remove_unless(number, !room.one);
+            .remove_unless(unit, switches::holds_requests(switch));
+        self.no_request_room.zero.remove_unless(unit, !room.zero);
+        self.no_request_room.one.remove_unless(unit, !room.one);
     }
 
     /// Notes what is true of a switch that stands here, once replies have come to it. It keeps no record that it didn't keep before.
@@ -165,13 +167,14 @@ impl Sets {
         ensures there { facts_at self.new number ≡ record (facts_at self.old number) { holds_replies = holds_replies switch.now; no_reply_room = not (has_reply_room switch.now); keeps_records = keeps_records switch.now } }
         ensures others { (k : ℕ) → k ≢ number → facts_at self.new k ≡ facts_at self.old k }
     {
+        let unit = UnitBit::of(number);
         let is_full = !switches::has_reply_room(switch);
         self.holds_replies
-            .insert_if(number, switches::holds_replies(switch));
-        self.no_reply_room.insert_if(number, is_full);
+            .insert_if(unit, switches::holds_replies(switch));
+        self.no_reply_room.insert_if(unit, is_full);
         if self.keeps_records.has(number) {
             self.keeps_records
-                .remove_unless(number, switches::keeps_records(switch));
+                .remove_unless(unit, switches::keeps_records(switch));
         }
     }
 
@@ -184,11 +187,12 @@ impl Sets {
         ensures there { facts_at self.new number ≡ record (facts_at self.old number) { holds_requests = holds_requests switch.now; no_room_zero = not (has_request_room switch.now).zero; no_room_one = not (has_request_room switch.now).one; keeps_records = keeps_records switch.now } }
         ensures others { (k : ℕ) → k ≢ number → facts_at self.new k ≡ facts_at self.old k }
     {
+        let unit = UnitBit::of(number);
         let room = switches::has_request_room(switch);
         self.holds_requests
-            .insert_if(number, switches::holds_requests(switch));
-        self.no_request_room.zero.insert_if(number, !room.zero);
-        self.no_request_room.one.insert_if(number, !room.one);
+            .insert_if(unit, switches::holds_requests(switch));
+        self.no_request_room.zero.insert_if(unit, !room.zero);
+        self.no_request_room.one.insert_if(unit, !room.one);
         if may_differ {
             self.keeps_records
                 .note(number, switches::keeps_records(switch));
@@ -203,11 +207,12 @@ impl Sets {
         ensures there { facts_at self.new number ≡ record (facts_at self.old number) { holds_requests = is_some bank.now.inp; no_room_zero = is_some bank.now.inp; to_serve = would_serve bank.now } }
         ensures others { (k : ℕ) → k ≢ number → facts_at self.new k ≡ facts_at self.old k }
     {
+        let unit = UnitBit::of(number);
         let holds_request = modules::holds_request(bank);
-        self.holds_requests.insert_if(number, holds_request);
-        self.no_request_room.zero.insert_if(number, holds_request);
+        self.holds_requests.insert_if(unit, holds_request);
+        self.no_request_room.zero.insert_if(unit, holds_request);
         self.to_serve
-            .insert_if(number, holds_request && !modules::holds_reply(bank));
+            .insert_if(unit, holds_request && !modules::holds_reply(bank));
     }
 
     /// Notes what is true of a module that stands here, once it has served.
@@ -218,15 +223,14 @@ impl Sets {
         ensures there { facts_at self.new number ≡ record (facts_at self.old number) { holds_replies = is_some bank.now.out; holds_requests = is_some bank.now.inp; no_room_zero = is_some bank.now.inp; to_serve = would_serve bank.now } }
         ensures others { (k : ℕ) → k ≢ number → facts_at self.new k ≡ facts_at self.old k }
     {
+        let unit = UnitBit::of(number);
         let holds_reply = modules::holds_reply(bank);
         let holds_request = modules::holds_request(bank);
-        self.holds_replies.insert_if(number, holds_reply);
-        self.holds_requests.remove_unless(number, holds_request);
-        self.no_request_room
-            .zero
-            .remove_unless(number, holds_request);
+        self.holds_replies.insert_if(unit, holds_reply);
+        self.holds_requests.remove_unless(unit, holds_request);
+        self.no_request_room.zero.remove_unless(unit, holds_request);
         self.to_serve
-            .remove_unless(number, holds_request && !holds_reply);
+            .remove_unless(unit, holds_request && !holds_reply);
     }
 
     /// Notes what is true of a module that stands here, once a reply has left it.
@@ -237,10 +241,11 @@ impl Sets {
         ensures there { facts_at self.new number ≡ record (facts_at self.old number) { holds_replies = is_some bank.now.out; to_serve = would_serve bank.now } }
         ensures others { (k : ℕ) → k ≢ number → facts_at self.new k ≡ facts_at self.old k }
     {
+        let unit = UnitBit::of(number);
         let holds_reply = modules::holds_reply(bank);
-        self.holds_replies.remove_unless(number, holds_reply);
+        self.holds_replies.remove_unless(unit, holds_reply);
         self.to_serve
-            .insert_if(number, modules::holds_request(bank) && !holds_reply);
+            .insert_if(unit, modules::holds_request(bank) && !holds_reply);
     }
 
     /// Notes what is true of a processing element that stands here.

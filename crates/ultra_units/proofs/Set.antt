@@ -2,11 +2,11 @@
 use Rattle.std.proofs.Common.{◌≡◌, ℕ, zero, suc, max, min, Bool, ◌&&◌, ◌||◌, ◌+◌, ◌-◌, ◌*◌, ◌/◌, ◌%◌, ◌^◌, ◌<◌, ◌≤◌, true, false, List, length, get_or, set, eqb, refl, sym, ◌∙◌, ap, inl, inr, arith, eq-eqb, get_or-set_same, get_or-set_other, replicate, w64}
 use Rattle.std.proofs.lemmas.Bool.{cases_eq, cases_lt}
 use Rattle.std.proofs.lemmas.List.{get_or-replicate, get_or_past, length-replicate}
-use Rattle.std.proofs.lemmas.Nat.{shr-shr, shr_le, le_or_l, le_or_r}
+use Rattle.std.proofs.lemmas.Nat.{pow_below, shr-shr, shr_le, le_or_l, le_or_r}
 use Rattle.std.proofs.lemmas.Nat.Bits.{bit_at-zero, bit_at-lt, shr_and_one, bit_at_above, bit_at_and, bit_at_not, bit_at_or, bit_at_set_same, bit_at_set_other, bit_at_clear_same, bit_at_clear_other, bit_at-trailing_zeros}
 use Rattle.std.specs.Prelude.{bit_and, bit_or, not, ◌≢◌, Option, Some, None, IfSome, IfNone}
 use Rattle.std.specs.Int.{bit_at, bit_not, trailing_zeros}
-use Rattle.ultra_units.specs.Set.{has_bit, has_unit, HasNoneWithin, HasNoneFrom, IsFirstFrom, HasNoBitFrom, IsFirstBit}
+use Rattle.ultra_units.specs.Set.{IsBitOf, has_bit, has_unit, HasNoneWithin, HasNoneFrom, IsFirstFrom, HasNoBitFrom, IsFirstBit}
 
 -- ---- bits of one word
 
@@ -39,6 +39,9 @@ module _ (word from : ℕ) (fits : word < 2 ^ 64) where
       }
 
 -- ---- one unit
+
+alone : (i : ℕ) → i < 64 → 1 * 2 ^ i % 2 ^ 64 ≡ 2 ^ i
+alone i within = let fits = pow_below i 64 within in omega (arith, fits)
 
 pub none_there : (n k : ℕ) → has_unit (replicate n 0) k ≡ false
 unfolding has_unit
@@ -93,6 +96,13 @@ module _ (words : List ℕ) (number : ℕ) (within : number < 64 * length words)
 
   pub removed_others : (k : ℕ) → k ≢ number → has_unit (set words (number / 64) unmarked) k ≡ has_unit words k
   removed_others = others_kept unmarked (λ i inside other. bit_at_clear_other w64 _ (number % 64) (omega arith) i inside other)
+
+  -- the same by where its bit is
+  pub bit_inserted : (w b : ℕ) → IsBitOf number w b → set words w (bit_or (get_or words w 0) b) ≡ set words (number / 64) marked
+  bit_inserted w b is = rw (is.row, is.alone) (ap (λ x. set words (number / 64) (bit_or (get_or words (number / 64) 0) x)) (sym (alone (number % 64) (omega arith))))
+
+  pub bit_removed : (w b : ℕ) → IsBitOf number w b → set words w (bit_and (get_or words w 0) (bit_not w64 b)) ≡ set words (number / 64) unmarked
+  bit_removed w b is = rw (is.row, is.alone) (ap (λ x. set words (number / 64) (bit_and (get_or words (number / 64) 0) (bit_not w64 x))) (sym (alone (number % 64) (omega arith))))
 
 -- ---- the units of a word
 
@@ -231,23 +241,5 @@ module _ (words : List ℕ) (five : length words ≡ 5) where
         ]
       ]
 
-  pub none_in_words : bit_or (bit_or (bit_or (bit_or (get_or words 0 0) (get_or words 1 0)) (get_or words 2 0)) (get_or words 3 0)) (get_or words 4 0) ≡ 0
-      → HasNoneFrom words 0
-  none_in_words none k _ =
-      let to_three = none_of_both _ _ none in
-      let to_two = none_of_both _ _ to_three.0 in
-      let to_one = none_of_both _ _ to_two.0 in
-      let to_zero = none_of_both _ _ to_one.0 in
-      elim (cases_lt k 64) [
-        | inl below ↦ row_at k 0 (omega arith) to_zero.0
-        | inr one ↦ elim (cases_lt k 128) [
-          | inl below ↦ row_at k 1 (omega arith) to_zero.1
-          | inr two ↦ elim (cases_lt k 192) [
-            | inl below ↦ row_at k 2 (omega arith) to_one.1
-            | inr three ↦ elim (cases_lt k 256) [
-              | inl below ↦ row_at k 3 (omega arith) to_two.1
-              | inr four ↦ elim (cases_lt k 320) [ inl below ↦ row_at k 4 (omega arith) to_three.1 | inr past ↦ past_words words k (omega arith) ]
-            ]
-          ]
-        ]
-      ]
+  pub none_in_words : get_or words 0 0 ≡ 0 → HasNoneFrom words 64 → HasNoneFrom words 0
+  none_in_words none others k _ = elim (cases_lt k 64) [ inl below ↦ row_at k 0 (omega arith) none | inr past ↦ others k past ]

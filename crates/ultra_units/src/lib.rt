@@ -24,5 +24,5 @@ pub use pass::{Visit, visit_all};
 pub use reply_ways::find_reply_ways;
 pub use request_ways::{has_request_way, has_way_from_element};
 pub use unit::Unit;
-pub use unit_set::UnitSet;
+pub use unit_set::{UnitBit, UnitSet};
 pub use wiring::Wiring;

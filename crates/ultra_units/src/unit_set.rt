@@ -28,6 +28,42 @@ impl Model for UnitSet {
     ghost inverse = { λ words. record { words = words } };
 }
 
+/// A unit, and where its bit is in a set. It is worked out once where several sets may change for the unit.
+#[derive(Clone, Copy, Drop)]
+pub struct UnitBit {
+    number: usize,
+    word: usize,
+    bit: u64,
+}
+
+impl Model for UnitBit {
+    ghost use Rattle.std.specs.Prelude.{ℕ, ◌/◌, ◌%◌, ◌^◌};
+    ghost use Rattle.ultra_units.specs.Set.{IsBitOf};
+
+    ghost Value = { ℕ };
+
+    ghost view = { λ u. u.number };
+
+    ghost invariant = { λ u. IsBitOf u.number u.word u.bit };
+
+    ghost inverse = { λ n. record { number = n; word = n / 64; bit = 2 ^ (n % 64) } };
+}
+
+impl UnitBit {
+    /// That of the unit of this number.
+    #[inline(always)]
+    pub fn of(number: usize) -> UnitBit
+        requires { number < 320 }
+        ensures { result ≡ number }
+    {
+        UnitBit {
+            number,
+            word: number / 64,
+            bit: 1 << (number % 64),
+        }
+    }
+}
+
 impl UnitSet {
     /// The set without any unit.
     pub fn empty() -> UnitSet
@@ -41,8 +77,7 @@ impl UnitSet {
     pub fn is_empty(&self) -> bool
         ensures { result ≡ true → HasNoneFrom self.now 0 }
     {
-        let words = &self.words;
-        words[0] | words[1] | words[2] | words[3] | words[4] == 0
+        self.words[0] == 0 && self.is_in_first_word()
     }
 
     /// Whether the unit of this number is in the set.
@@ -86,29 +121,27 @@ impl UnitSet {
         self.words[number / 64] = if is_in { word | bit } else { word & !bit };
     }
 
-    /// Puts the unit of this number into the set, if `is_in`. A unit that is there already has to stay.
+    /// Puts a unit into the set, if `is_in`. One that is there already has to stay.
     #[inline(always)]
-    pub fn insert_if(&mut self, number: usize, is_in: bool)
-        requires number { number < 320 }
-        requires stays { has_unit self.old number ≡ true → is_in ≡ true }
-        ensures others { (k : ℕ) → k ≢ number → has_unit self.new k ≡ has_unit self.old k }
-        ensures there { has_unit self.new number ≡ is_in }
+    pub fn insert_if(&mut self, unit: UnitBit, is_in: bool)
+        requires { has_unit self.old unit ≡ true → is_in ≡ true }
+        ensures others { (k : ℕ) → k ≢ unit → has_unit self.new k ≡ has_unit self.old k }
+        ensures there { has_unit self.new unit ≡ is_in }
     {
         if is_in {
-            self.insert(number);
+            self.words[unit.word] |= unit.bit;
         }
     }
 
-    /// Takes the unit of this number out of the set, unless `is_in`. A unit that isn't there has to stay away.
+    /// Takes a unit out of the set, unless `is_in`. One that isn't there has to stay away.
     #[inline(always)]
-    pub fn remove_unless(&mut self, number: usize, is_in: bool)
-        requires number { number < 320 }
-        requires stays_away { has_unit self.old number ≡ false → is_in ≡ false }
-        ensures others { (k : ℕ) → k ≢ number → has_unit self.new k ≡ has_unit self.old k }
-        ensures there { has_unit self.new number ≡ is_in }
+    pub fn remove_unless(&mut self, unit: UnitBit, is_in: bool)
+        requires { has_unit self.old unit ≡ false → is_in ≡ false }
+        ensures others { (k : ℕ) → k ≢ unit → has_unit self.new k ≡ has_unit self.old k }
+        ensures there { has_unit self.new unit ≡ is_in }
     {
         if !is_in {
-            self.remove(number);
+            self.words[unit.word] &= !unit.bit;
         }
     }
 
