@@ -1,4 +1,4 @@
--- what is beside each switch of a network of d stages
+-- where each switch of a network of d stages is, and what is beside it
 use Rattle.std.specs.Prelude.{◌≡◌, ℕ, ◌<◌, List, length, slice_index_or}
 use Rattle.ultra_units.specs.Units.{index_of, stage_of}
 use Rattle.ultra_units.specs.Marks.{reply_links, request_links}
@@ -8,6 +8,8 @@ use Rattle.ultra_units.specs.declared.wiring.Neighbours.{Neighbours}
 -- beside switch k of stage s
 abbrev pub neighbours : ℕ → ℕ → ℕ → Neighbours
 neighbours d s k = record {
+  stage = s;
+  index = k;
   request_links = request_links d s k;
   request_targets = request_targets d s k;
   reply_links = reply_links d s k;

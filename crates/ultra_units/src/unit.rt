@@ -1,6 +1,6 @@
 //! Which unit has a number.
 
-ghost use Rattle.std.specs.Prelude.{◌≡◌, ℕ, ◌<◌};
+ghost use Rattle.std.specs.Prelude.{◌≡◌, ℕ, ◌<◌, nat_lt};
 ghost use Rattle.ultra_units.specs.Numbers.{switch_count as count_of_switches};
 ghost use Rattle.ultra_units.specs.Units.{IsSwitch, IsUnit, unit_of};
 
@@ -65,6 +65,14 @@ impl Numbering {
         ensures { result ≡ self.now }
     {
         self.net
+    }
+
+    /// Whether the number is that of a switch.
+    #[inline(always)]
+    pub(crate) fn is_of_switch(&self, number: usize) -> bool
+        ensures { result ≡ nat_lt number (count_of_switches self.now) }
+    {
+        number < self.modules
     }
 
     /// The unit with this number.

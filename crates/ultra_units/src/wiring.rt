@@ -16,9 +16,13 @@ use std::marker::Model;
 use ultra_route::Net;
 use ultra_switch::Ports;
 
-/// What is beside a switch: links and units, by their numbers.
+/// Where a switch is, and what is beside it: links and units, by their numbers.
 #[derive(Clone, Copy, Drop)]
 pub(crate) struct Neighbours {
+    /// The stage of the switch.
+    stage: u16,
+    /// Its index in the stage.
+    index: u16,
     /// The links by which requests come, by the PE-side port.
     request_links: Ports<u16>,
     /// The units to which requests go, by the memory-side port.
@@ -40,6 +44,8 @@ impl Neighbours {
         let requests = request_sources(net, stage, index);
         let replies = reply_sources(net, stage, index);
         Neighbours {
+            stage: stage as u16,
+            index: index as u16,
             request_links: narrow(requests.zero, requests.one),
             request_targets: narrow(
                 request_target(net, stage, zero),
@@ -83,7 +89,7 @@ fn widen(numbers: Ports<u16>) -> Ports<usize>
 #[derive(Drop)]
 pub struct Wiring {
     numbering: Numbering,
-    /// By the number of the switch, what is beside it.
+    /// By the number of the switch, where it is, and what is beside it.
     switches: Vec<Neighbours>,
 }
 
@@ -130,6 +136,13 @@ impl Wiring {
         ensures value { result ≡ unit_of self.now number }
         ensures is { IsUnit self.now number result }
     {
+        if self.numbering.is_of_switch(number) {
+            let Neighbours { stage, index, .. } = self.beside(number);
+            return Unit::Switch {
+                stage: u32::from(stage),
+                index: u32::from(index),
+            };
+        }
         self.numbering.unit(number)
     }
 

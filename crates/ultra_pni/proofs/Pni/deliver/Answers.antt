@@ -27,16 +27,16 @@ invariant_of-self c =
     let opened = c.self.inside.opened.items in
     let place = c.in_ok-place.place in
     let at : position (is_of cell) opened ≡ Some place = rw (← c.as_slice.ensures.value) (sym c.place_of.ensures ∙ c.in_ok-place.was) in
-    let within : place < length opened = (position-Some (is_of cell) opened place c.remove-closed.result at).0 in
+    let within : place < length opened = (position-Some (is_of cell) opened place c.take_out-closed.result at).0 in
     let was = c.self.invariant.within in
     let left : length c.self.inside.pending < length opened = rw (← c.self.view_is) at c.requires in
     let shorter = length-remove opened place within in
     record {
       within = record {
         small = was.small;
-        opened = rw c.remove-closed.ensures.items (omega arith);
-        pending = rw c.remove-closed.ensures.items (omega arith);
-        different = rw c.remove-closed.ensures.items (all_pairs_remove (λ o p. o.cell ≢ p.cell) opened place within was.different);
+        opened = rw c.take_out-closed.ensures.items (omega arith);
+        pending = rw c.take_out-closed.ensures.items (omega arith);
+        different = rw c.take_out-closed.ensures.items (all_pairs_remove (λ o p. o.cell ≢ p.cell) opened place within was.different);
       };
       awaited = λ r. c.awaited_by-self-inside.ensures r ∙ ap (is_awaited r) c.as_slice-2.ensures.value;
     }
