@@ -35,8 +35,10 @@ pub record WroteProgram (c : Coordination) (old new : List ℕ) : Type 0 where
   pub taken : are_taken c ≡ true
   pub written : new ≡ old ++ lib_text c
 
--- how that fails: a parameter is out of its range, or memory was refused, and nothing was written; or a prefix was
+-- how that fails: a parameter is out of its range, or memory was refused, and nothing was written;
+-- or a prefix was
 pub data LibFails (c : Coordination) (old new : List ℕ) (f : Failure) : Type 0 where
   refused : are_taken c ≡ false → f ≡ BadParameter → new ≡ old → LibFails c old new f
   no_memory : are_taken c ≡ true → f ≡ NoMemory → new ≡ old → LibFails c old new f
-  unwritten : are_taken c ≡ true → f ≡ NotWritten → TakesPrefix (lib_text c) old new → LibFails c old new f
+  unwritten : are_taken c ≡ true → f ≡ NotWritten → TakesPrefix (lib_text c) old new
+      → LibFails c old new f

@@ -20,5 +20,8 @@ pub record WroteListing (prog : List ℕ) (old new : Traffic) : Type 0 where
 -- how a listing fails: its file is accepted before a byte is written
 pub data ListFails (prog : List ℕ) (old new : Traffic) (f : Failure) : Type 0 where
   unread_text : IsUnread prog f → new ≡ old → ListFails prog old new f
-  refused_text : (text : List ℕ) → ExplainsProgram prog text f → new ≡ with_files old (file_of prog text ∷ []) → ListFails prog old new f
-  unwritten : (text : List ℕ) (p : List Instr) → IsProgramOf text p → f ≡ NotWritten → new.files ≡ old.files ++ file_of prog text ∷ [] → TakesPrefix (listing_text p) old.written new.written → ListFails prog old new f
+  refused_text : (text : List ℕ) → ExplainsProgram prog text f
+      → new ≡ with_files old (file_of prog text ∷ []) → ListFails prog old new f
+  unwritten : (text : List ℕ) (p : List Instr) → IsProgramOf text p → f ≡ NotWritten
+      → new.files ≡ old.files ++ file_of prog text ∷ []
+      → TakesPrefix (listing_text p) old.written new.written → ListFails prog old new f

@@ -42,7 +42,8 @@ trees_after_all ks (e ∷ es) = trees_after_all (trees_after ks e) es
 -- the lines of the first n cycles of a run, and of the run, to its most cycles
 unfoldable pub lines_of_first : Settings → List Instr → ℕ → List ℕ
 lines_of_first c p zero = []
-lines_of_first c p (suc n) = lines_of_first c p n ++ event_lines n (history c p n).trees (after c p (suc n)).events
+lines_of_first c p (suc n) =
+    lines_of_first c p n ++ event_lines n (history c p n).trees (after c p (suc n)).events
 
 abbrev pub explanation_of : Settings → List Instr → List ℕ
 explanation_of c p = lines_of_first c p c.cycles
@@ -59,7 +60,8 @@ pub record StopsAtCombination (c : ℕ) (ks : List Kept) (es : List Event) (old 
   pub combines : IsCombination event
   pub lines : new ≡ old ++ event_lines c ks (take before es)
 
--- what comes to it where the heap is full: nothing where it has no room for an explainer, else all lines of the run before a combination
+-- what comes to it where the heap is full: nothing where it has no room for an explainer, else all
+-- lines of the run before a combination
 pub data StopsFull (c : Settings) (p : List Instr) (old new : List ℕ) : Type 0 where
   at_start : new ≡ old → StopsFull c p old new
   in_cycle : (n : ℕ) → n < c.cycles → StopsAtCombination n (history c p n).trees (after c p (n + 1)).events (old ++ lines_of_first c p n) new → StopsFull c p old new

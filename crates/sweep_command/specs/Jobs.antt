@@ -11,7 +11,8 @@ use Rattle.ultra_sweep.specs.declared.job.Job.{Job}
 
 -- why the text of a file lists no jobs
 abbrev pub ExplainsJobs : List ℕ → List ℕ → Failure → Type 0
-ExplainsJobs path text (NotToml p) = (p.now ≡ path) × jobs_text.ExplainsFault text jobs_fault.NotToml
+ExplainsJobs path text (NotToml p) =
+    (p.now ≡ path) × jobs_text.ExplainsFault text jobs_fault.NotToml
 ExplainsJobs path text (BadJob p) = (p.now ≡ path) × jobs_text.ExplainsFault text jobs_fault.BadJob
 ExplainsJobs path text NoMemory = ⊤
 ExplainsJobs path text _ = ⊥
@@ -27,4 +28,6 @@ GaveJobs (p ∷ ps) old new (job ∷ jobs) =
 -- why they don't: the files of the jobs before one were accepted, and one of its files wasn't
 pub data GaveNoJobs (paths : List Paths) (old new : List File) (f : Failure) : Type 0 where
   no_room : f ≡ NoMemory → new ≡ old → GaveNoJobs paths old new f
-  refused : (before rest : List Paths) (it : Paths) (jobs : List Job) (mid : List File) → before ++ it ∷ rest ≡ paths → GaveJobs before old mid jobs → GaveNothing it.0 it.1 mid new f → GaveNoJobs paths old new f
+  refused : (before rest : List Paths) (it : Paths) (jobs : List Job) (mid : List File)
+      → before ++ it ∷ rest ≡ paths → GaveJobs before old mid jobs → GaveNothing it.0 it.1 mid new f
+      → GaveNoJobs paths old new f

@@ -5,7 +5,8 @@ use Rattle.ultra_msg.specs.Bytes.{TakesPrefix}
 use Rattle.ultra_io.specs.Account.{SinkState}
 use Rattle.sweep_command.specs.declared.meter.Meter.{Meter}
 
--- numbers that grow from one above the first to the last of them, or none where the two are the same
+-- numbers that grow from one above the first to the last of them, or none where the two are the
+-- same
 abbrev pub GrowTo : ℕ → List ℕ → ℕ → Type 0
 GrowTo first [] last = last ≡ first
 GrowTo first (k ∷ ks) last = (first < k) × GrowTo k ks last
@@ -18,14 +19,15 @@ progress_line n k =
 abbrev pub progress_text : ℕ → List ℕ → List ℕ
 progress_text n counts = flat_map (progress_line n) counts
 
--- lines went to a stream that say how many of n jobs are finished, the last of them this many; where
--- the stream has failed, a prefix of them
+-- lines went to a stream that say how many of n jobs are finished, the last of them this many;
+-- where the stream has failed, a prefix of them
 pub record Shows (n last : ℕ) (before after : SinkState) : Type 0 where
   pub counts : List ℕ
   pub growing : GrowTo 0 counts last
   pub within : last ≤ n
   pub begun : TakesPrefix (progress_text n counts) before.taken after.taken
-  pub whole : after.failures ≡ before.failures → after.taken ≡ before.taken ++ progress_text n counts
+  pub whole : after.failures ≡ before.failures
+      → after.taken ≡ before.taken ++ progress_text n counts
 
 -- the same where progress is asked for, and else nothing
 abbrev pub IsProgressShown : Bool → ℕ → ℕ → SinkState → SinkState → Type 0

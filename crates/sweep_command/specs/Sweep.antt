@@ -39,12 +39,18 @@ pub record SweptJobs (paths : List Paths) (progress : Bool) (old new : Traffic) 
   pub written : new.written ≡ old.written ++ report_of jobs
   pub shown : IsProgressShown progress (length jobs) (length jobs) before after
 
--- how that fails: all files are accepted before a byte is written, and all jobs are run. So a report is not begun, or
--- the last count shown is that of all jobs and the report is cut
+-- how that fails: all files are accepted before a byte is written, and all jobs are run. So a
+-- report is not begun, or the last count shown is that of all jobs and the report is cut
 pub data JobsFail (paths : List Paths) (progress : Bool) (old new : Traffic) (before after : SinkState) (f : Failure) : Type 0 where
-  refused : GaveNoJobs paths old.files new.files f → new.written ≡ old.written → after ≡ before → JobsFail paths progress old new before after f
-  not_run : (jobs : List Job) (last : ℕ) → GaveJobs paths old.files new.files jobs → StopsJobs f → new.written ≡ old.written → IsProgressShown progress (length jobs) last before after → JobsFail paths progress old new before after f
-  unwritten : (jobs : List Job) → GaveJobs paths old.files new.files jobs → f ≡ NotWritten → TakesPrefix (report_of jobs) old.written new.written → IsProgressShown progress (length jobs) (length jobs) before after → JobsFail paths progress old new before after f
+  refused : GaveNoJobs paths old.files new.files f → new.written ≡ old.written → after ≡ before
+      → JobsFail paths progress old new before after f
+  not_run : (jobs : List Job) (last : ℕ) → GaveJobs paths old.files new.files jobs → StopsJobs f
+      → new.written ≡ old.written → IsProgressShown progress (length jobs) last before after
+      → JobsFail paths progress old new before after f
+  unwritten : (jobs : List Job) → GaveJobs paths old.files new.files jobs → f ≡ NotWritten
+      → TakesPrefix (report_of jobs) old.written new.written
+      → IsProgressShown progress (length jobs) (length jobs) before after
+      → JobsFail paths progress old new before after f
 
 -- a file of jobs was read, and its jobs were swept
 pub record Swept (path : List ℕ) (progress : Bool) (old new : Traffic) (before after : SinkState) : Type 0 where
@@ -55,11 +61,14 @@ pub record Swept (path : List ℕ) (progress : Bool) (old new : Traffic) (before
 
 -- how that fails: the file is accepted before those that it names are read
 pub data SweepFails (path : List ℕ) (progress : Bool) (old new : Traffic) (before after : SinkState) (f : Failure) : Type 0 where
-  unlisted : FileGaveNothing ExplainsJobs path old.files new.files f → new.written ≡ old.written → after ≡ before → SweepFails path progress old new before after f
-  listed : (text : List ℕ) (paths : List Paths) → Gives text paths → JobsFail paths progress (with_files old (file_of path text ∷ [])) new before after f → SweepFails path progress old new before after f
+  unlisted : FileGaveNothing ExplainsJobs path old.files new.files f → new.written ≡ old.written
+      → after ≡ before → SweepFails path progress old new before after f
+  listed : (text : List ℕ) (paths : List Paths) → Gives text paths
+      → JobsFail paths progress (with_files old (file_of path text ∷ [])) new before after f
+      → SweepFails path progress old new before after f
 
--- a sweep ended with this status: it failed so, and the failure was reported after what was shown. The
--- source of files has failed in it as often as the failure says
+-- a sweep ended with this status: it failed so, and the failure was reported after what was shown.
+-- The source of files has failed in it as often as the failure says
 pub record HasFailed (path : List ℕ) (progress : Bool) (old new : Traffic) (before after : SinkState)
     (source_failures source_failures_after status : ℕ) : Type 0 where
   pub failure : Failure

@@ -63,11 +63,14 @@ abbrev pub operands_of : Instr → List Operand
 operands_of (instr.Set d n) = operand.Register d ∷ operand.Number n ∷ []
 operands_of (instr.Add d a b) = operand.Register d ∷ operand.Register a ∷ operand.Register b ∷ []
 operands_of (instr.AddWord d a n) = operand.Register d ∷ operand.Register a ∷ operand.Number n ∷ []
-operands_of (instr.Subtract d a b) = operand.Register d ∷ operand.Register a ∷ operand.Register b ∷ []
+operands_of (instr.Subtract d a b) =
+    operand.Register d ∷ operand.Register a ∷ operand.Register b ∷ []
 operands_of (instr.And d a b) = operand.Register d ∷ operand.Register a ∷ operand.Register b ∷ []
 operands_of (instr.ShiftRight d a n) = operand.Register d ∷ operand.Register a ∷ operand.Bits n ∷ []
-operands_of (instr.IsBelow d a b) = operand.Register d ∷ operand.Register a ∷ operand.Register b ∷ []
-operands_of (instr.IsEqual d a b) = operand.Register d ∷ operand.Register a ∷ operand.Register b ∷ []
+operands_of (instr.IsBelow d a b) =
+    operand.Register d ∷ operand.Register a ∷ operand.Register b ∷ []
+operands_of (instr.IsEqual d a b) =
+    operand.Register d ∷ operand.Register a ∷ operand.Register b ∷ []
 operands_of (instr.JumpIfZero a target) = operand.Register a ∷ operand.Label target ∷ []
 operands_of (instr.JumpIfNotZero a target) = operand.Register a ∷ operand.Label target ∷ []
 operands_of (instr.Jump target) = operand.Label target ∷ []

@@ -41,7 +41,8 @@ is_named (Some n) name = bytes_eq n name
 abbrev pub defines : List (List ℕ) → List ℕ → Bool
 defines ws name = is_named (line_label ws) name
 
--- the first line that defines a name, and the place of the next instruction, counted from these numbers
+-- the first line that defines a name, and the place of the next instruction, counted from these
+-- numbers
 abbrev pub definition_from : ℕ → ℕ → List (List (List ℕ)) → List ℕ → Option Definition
 definition_from line place [] name = None
 definition_from line place (ws ∷ ls) name = if defines ws name then Some (record { line = line; place = place }) else definition_from (line + 1) (place + instructions_on ws) ls name

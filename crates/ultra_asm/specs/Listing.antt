@@ -82,7 +82,8 @@ label_if false k = []
 -- the lines from place k on, of a program that has these instructions left
 abbrev pub listing_from : List Instr → ℕ → List Instr → List ℕ
 listing_from all k [] = label_if (is_target all k) k
-listing_from all k (i ∷ is) = label_if (is_target all k) k ++ (instruction_line i ++ listing_from all (k + 1) is)
+listing_from all k (i ∷ is) =
+    label_if (is_target all k) k ++ (instruction_line i ++ listing_from all (k + 1) is)
 
 abbrev pub listing_text : List Instr → List ℕ
 listing_text is = listing_from is 0 is

@@ -100,12 +100,14 @@ module _ (places : List ℕ → Option ℕ) where
 
   -- the number of operands comes before them
   abbrev pub fault_of_operands : List Sort → List (List ℕ) → Option AsmFaultKind
-  fault_of_operands ss ws = or_else (fault_if (not (length ws == length ss)) WrongOperands) (operands_fault ss ws)
+  fault_of_operands ss ws =
+      or_else (fault_if (not (length ws == length ss)) WrongOperands) (operands_fault ss ws)
 
   -- of a word and its operands, where n instructions stand before
   abbrev pub instruction_fault : ℕ → Option Mnemonic → List (List ℕ) → Option AsmFaultKind
   instruction_fault before None ws = Some UnknownWord
-  instruction_fault before (Some m) ws = or_else (fault_if (nat_le 4096 before) TooLong) (fault_of_operands (sorts_of m) ws)
+  instruction_fault before (Some m) ws =
+      or_else (fault_if (nat_le 4096 before) TooLong) (fault_of_operands (sorts_of m) ws)
 
   abbrev pub statement_fault : ℕ → List (List ℕ) → Option AsmFaultKind
   statement_fault before [] = None

@@ -30,12 +30,14 @@ abbrev pub read_label : Places → List ℕ → Result ℕ AsmFaultKind
 read_label places w = ok_or (places w) UnknownLabel
 
 -- one, two or three operands: their number comes first, then the first that is wrong
-abbrev pub pair_of : {A B : Type 0} → Result A AsmFaultKind → Result B AsmFaultKind → Result (A × B) AsmFaultKind
+abbrev pub pair_of : {A B : Type 0} → Result A AsmFaultKind → Result B AsmFaultKind
+    → Result (A × B) AsmFaultKind
 pair_of (Err e) b = Err e
 pair_of (Ok a) (Err e) = Err e
 pair_of (Ok a) (Ok b) = Ok (a, b)
 
-abbrev pub triple_of : {A B C : Type 0} → Result A AsmFaultKind → Result B AsmFaultKind → Result C AsmFaultKind → Result (A × B × C) AsmFaultKind
+abbrev pub triple_of : {A B C : Type 0} → Result A AsmFaultKind → Result B AsmFaultKind
+    → Result C AsmFaultKind → Result (A × B × C) AsmFaultKind
 triple_of (Err e) b c = Err e
 triple_of (Ok a) (Err e) c = Err e
 triple_of (Ok a) (Ok b) (Err e) = Err e
@@ -45,18 +47,22 @@ abbrev pub none_in : List (List ℕ) → Result (Unit {0}) AsmFaultKind
 none_in [] = Ok tt
 none_in (w ∷ ws) = Err WrongOperands
 
-abbrev pub one_in : {A : Type 0} → (List ℕ → Result A AsmFaultKind) → List (List ℕ) → Result A AsmFaultKind
+abbrev pub one_in : {A : Type 0} → (List ℕ → Result A AsmFaultKind) → List (List ℕ)
+    → Result A AsmFaultKind
 one_in f [] = Err WrongOperands
 one_in f (a ∷ []) = f a
 one_in f (a ∷ b ∷ ws) = Err WrongOperands
 
-abbrev pub two_in : {A B : Type 0} → (List ℕ → Result A AsmFaultKind) → (List ℕ → Result B AsmFaultKind) → List (List ℕ) → Result (A × B) AsmFaultKind
+abbrev pub two_in : {A B : Type 0} → (List ℕ → Result A AsmFaultKind)
+    → (List ℕ → Result B AsmFaultKind) → List (List ℕ) → Result (A × B) AsmFaultKind
 two_in f g [] = Err WrongOperands
 two_in f g (a ∷ []) = Err WrongOperands
 two_in f g (a ∷ b ∷ []) = pair_of (f a) (g b)
 two_in f g (a ∷ b ∷ c ∷ ws) = Err WrongOperands
 
-abbrev pub three_in : {A B C : Type 0} → (List ℕ → Result A AsmFaultKind) → (List ℕ → Result B AsmFaultKind) → (List ℕ → Result C AsmFaultKind) → List (List ℕ) → Result (A × B × C) AsmFaultKind
+abbrev pub three_in : {A B C : Type 0} → (List ℕ → Result A AsmFaultKind)
+    → (List ℕ → Result B AsmFaultKind) → (List ℕ → Result C AsmFaultKind) → List (List ℕ)
+    → Result (A × B × C) AsmFaultKind
 three_in f g h [] = Err WrongOperands
 three_in f g h (a ∷ []) = Err WrongOperands
 three_in f g h (a ∷ b ∷ []) = Err WrongOperands
@@ -70,7 +76,8 @@ made f (Ok a) = Ok (f a)
 
 module _ (places : Places) where
   abbrev pub three_registers : List (List ℕ) → Result (ℕ × ℕ × ℕ) AsmFaultKind
-  three_registers ws = three_in (read_register places) (read_register places) (read_register places) ws
+  three_registers ws =
+      three_in (read_register places) (read_register places) (read_register places) ws
 
   abbrev pub two_registers : List (List ℕ) → Result (ℕ × ℕ) AsmFaultKind
   two_registers ws = two_in (read_register places) (read_register places) ws
@@ -80,11 +87,14 @@ module _ (places : Places) where
   read_instruction Set ws = made (λ (t : ℕ × ℕ). instr.Set t.0 t.1) (two_in (read_register places) (read_number places) ws)
   read_instruction Add ws = made (λ (t : ℕ × ℕ × ℕ). instr.Add t.0 t.1 t.2) (three_registers ws)
   read_instruction AddWord ws = made (λ (t : ℕ × ℕ × ℕ). instr.AddWord t.0 t.1 t.2) (three_in (read_register places) (read_register places) (read_number places) ws)
-  read_instruction Subtract ws = made (λ (t : ℕ × ℕ × ℕ). instr.Subtract t.0 t.1 t.2) (three_registers ws)
+  read_instruction Subtract ws =
+      made (λ (t : ℕ × ℕ × ℕ). instr.Subtract t.0 t.1 t.2) (three_registers ws)
   read_instruction And ws = made (λ (t : ℕ × ℕ × ℕ). instr.And t.0 t.1 t.2) (three_registers ws)
   read_instruction ShiftRight ws = made (λ (t : ℕ × ℕ × ℕ). instr.ShiftRight t.0 t.1 t.2) (three_in (read_register places) (read_register places) (read_shift places) ws)
-  read_instruction IsBelow ws = made (λ (t : ℕ × ℕ × ℕ). instr.IsBelow t.0 t.1 t.2) (three_registers ws)
-  read_instruction IsEqual ws = made (λ (t : ℕ × ℕ × ℕ). instr.IsEqual t.0 t.1 t.2) (three_registers ws)
+  read_instruction IsBelow ws =
+      made (λ (t : ℕ × ℕ × ℕ). instr.IsBelow t.0 t.1 t.2) (three_registers ws)
+  read_instruction IsEqual ws =
+      made (λ (t : ℕ × ℕ × ℕ). instr.IsEqual t.0 t.1 t.2) (three_registers ws)
   read_instruction JumpIfZero ws = made (λ (t : ℕ × ℕ). instr.JumpIfZero t.0 t.1) (two_in (read_register places) (read_label places) ws)
   read_instruction JumpIfNotZero ws = made (λ (t : ℕ × ℕ). instr.JumpIfNotZero t.0 t.1) (two_in (read_register places) (read_label places) ws)
   read_instruction Jump ws = made (λ (t : ℕ). instr.Jump t) (one_in (read_label places) ws)
@@ -106,7 +116,8 @@ module _ (places : Places) where
   -- the instruction that the words of a line without label are, if there are any
   abbrev pub read_statement : Bool → List (List ℕ) → Result (Option Instr) AsmFaultKind
   read_statement has_room [] = Ok None
-  read_statement has_room (w ∷ ws) = made (λ i. Some i) (next_instruction has_room (mnemonic_named w) ws)
+  read_statement has_room (w ∷ ws) =
+      made (λ i. Some i) (next_instruction has_room (mnemonic_named w) ws)
 
 -- ---- a line, where these names are defined
 -- a label must not be defined by a line before this one
@@ -115,20 +126,25 @@ check_definition k None = Ok tt
 check_definition k (Some d) = if nat_lt d.line k then Err DoubleLabel else Ok tt
 
 abbrev pub check_name : (List ℕ → Option Definition) → ℕ → List ℕ → Result (Unit {0}) AsmFaultKind
-check_name defined k name = if is_name name then check_definition k (defined name) else Err UnknownWord
+check_name defined k name =
+    if is_name name then check_definition k (defined name) else Err UnknownWord
 
-abbrev pub check_colon : (List ℕ → Option Definition) → ℕ → Option (List ℕ) → Result (Unit {0}) AsmFaultKind
+abbrev pub check_colon : (List ℕ → Option Definition) → ℕ → Option (List ℕ)
+    → Result (Unit {0}) AsmFaultKind
 check_colon defined k None = Ok tt
 check_colon defined k (Some name) = check_name defined k name
 
-abbrev pub check_label : (List ℕ → Option Definition) → ℕ → List (List ℕ) → Result (Unit {0}) AsmFaultKind
+abbrev pub check_label : (List ℕ → Option Definition) → ℕ → List (List ℕ)
+    → Result (Unit {0}) AsmFaultKind
 check_label defined k [] = Ok tt
 check_label defined k (w ∷ ws) = check_colon defined k (before_colon w)
 
-abbrev pub and_then : {A : Type 0} → Result (Unit {0}) AsmFaultKind → Result A AsmFaultKind → Result A AsmFaultKind
+abbrev pub and_then : {A : Type 0} → Result (Unit {0}) AsmFaultKind → Result A AsmFaultKind
+    → Result A AsmFaultKind
 and_then (Err e) r = Err e
 and_then (Ok t) r = r
 
 -- the instruction of line k, if it has one
-abbrev pub read_line : (List ℕ → Option Definition) → ℕ → Bool → List (List ℕ) → Result (Option Instr) AsmFaultKind
+abbrev pub read_line : (List ℕ → Option Definition) → ℕ → Bool → List (List ℕ)
+    → Result (Option Instr) AsmFaultKind
 read_line defined k has_room ws = and_then (check_label defined k ws) (read_statement (λ n. option_map near_place (defined n)) has_room (statement ws))

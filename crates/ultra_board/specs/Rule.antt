@@ -1,4 +1,5 @@
--- the rule of the board, which holds between any two atomic steps. All of it is this project's profile
+-- the rule of the board, which holds between any two atomic steps. All of it is this project's
+-- profile
 use Rattle.std.specs.Prelude.{◌≡◌, ◌<◌, ◌≤◌, ℕ, ◌+◌, [], true, length, min, slice_index}
 use lib.ListN.{get_elem?}
 use mathlib.Core.Option.{some}
@@ -50,4 +51,5 @@ pub record IsKept (k : Limits) (s : State ℕ View) : Type 0 where
   pub bounded : total (λ (v : View). v.held) s.views ≤ k.bound
   -- no place is lost or made
   pub places : total (λ (v : View). v.places) s.views ≡ k.seats
-  pub views : (place : ℕ) (v : View) → get_elem? s.views place ≡ some v → IsSoundView k (slice_index s.words CLAIM) (slice_index s.words DONE) v
+  pub views : (place : ℕ) (v : View) → get_elem? s.views place ≡ some v
+      → IsSoundView k (slice_index s.words CLAIM) (slice_index s.words DONE) v

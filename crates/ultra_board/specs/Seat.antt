@@ -17,7 +17,8 @@ pub record Opened : Type 0 where
   pub id : TableId
   pub limits : Limits
 
--- what a seat of the program keeps beside its token (the table knows the token as `me`): the token has no slot, and no try is under way
+-- what a seat of the program keeps beside its token (the table knows the token as `me`): the token
+-- has no slot, and no try is under way
 pub record IsSeat (limit bound places : ℕ) (spent : Bool) (me : Me ℕ View) : Type 0 where
   pub same_limit : me.0.limit ≡ limit
   pub same_bound : me.0.bound ≡ bound

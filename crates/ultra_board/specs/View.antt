@@ -1,4 +1,5 @@
--- what a seat knows, and how that changes when seats are split and joined. All of it is this project's profile
+-- what a seat knows, and how that changes when seats are split and joined. All of it is this
+-- project's profile
 use Rattle.std.specs.Prelude.{ℕ, ◌+◌, List, [], ◌∷◌, ◌++◌, Bool, true, false, ◌==◌, ◌||◌, nat_lt, max, if◌then◌else◌}
 use Rattle.ultra_board.specs.declared.rule.View.{View}
 use Rattle.ultra_board.specs.declared.rule.Limits.{Limits}
@@ -30,7 +31,8 @@ joined_view v u = record {
   places = v.places + u.places;
 }
 
--- what is left behind of the second seat of a join, which is no seat: it has no numbers, passes or places
+-- what is left behind of the second seat of a join, which is no seat: it has no numbers, passes or
+-- places
 abbrev pub no_view : View
 no_view = record { drawn = []; claims = 0; finished = []; seen = 0; reads = 0; full = 0; loads = 0; adds = 0; spent = false; held = 0; tries = 0; limit = 0; bound = 0; places = 0 }
 

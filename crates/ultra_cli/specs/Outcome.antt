@@ -18,7 +18,8 @@ use Rattle.ultra_inputs.specs.Shown.{IsReported}
 use Rattle.sweep_command.specs.Sweep.{Swept, SweepFails}
 use Rattle.basic_commands.specs.Trace.{trace}
 
--- one of the program's statuses: done, a usage fault, refused input, no memory or thread, a failed write
+-- one of the program's statuses: done, a usage fault, refused input, no memory or thread, a failed
+-- write
 abbrev pub IsStatus : ℕ → Type 0
 IsStatus s = (s ≡ 0) ⊎ (s ≡ 2) ⊎ (s ≡ 3) ⊎ (s ≡ 4) ⊎ (s ≡ 5)
 
@@ -46,34 +47,49 @@ AnswerFails text old new f =
 
 -- what was asked for was done. Standard error took nothing, but for the progress of a sweep
 abbrev pub Obeyed : Parsed → Traffic → Traffic → SinkState → SinkState → Type 0
-Obeyed (parsed.Command (Run conf prog workers)) old new before after = WroteText trace conf.now prog.now old new × (after ≡ before)
-Obeyed (parsed.Command (Order conf prog)) old new before after = WroteText order_of conf.now prog.now old new × (after ≡ before)
-Obeyed (parsed.Command (Explain conf prog heap)) old new before after = WroteText explanation_of conf.now prog.now old new × (after ≡ before)
-Obeyed (parsed.Command (ListOf prog)) old new before after = WroteListing prog.now old new × (after ≡ before)
-Obeyed (parsed.Command (Sweep jobs workers at_once progress)) old new before after = Swept jobs.now progress old new before after
-Obeyed (parsed.Command (Lib coordination)) old new before after = (new.files ≡ old.files) × WroteProgram coordination old.written new.written × (after ≡ before)
-Obeyed (parsed.Help text) old new before after = WroteAnswer (string_bytes text) old new × (after ≡ before)
-Obeyed (parsed.Version text) old new before after = WroteAnswer (string_bytes text) old new × (after ≡ before)
+Obeyed (parsed.Command (Run conf prog workers)) old new before after =
+    WroteText trace conf.now prog.now old new × (after ≡ before)
+Obeyed (parsed.Command (Order conf prog)) old new before after =
+    WroteText order_of conf.now prog.now old new × (after ≡ before)
+Obeyed (parsed.Command (Explain conf prog heap)) old new before after =
+    WroteText explanation_of conf.now prog.now old new × (after ≡ before)
+Obeyed (parsed.Command (ListOf prog)) old new before after =
+    WroteListing prog.now old new × (after ≡ before)
+Obeyed (parsed.Command (Sweep jobs workers at_once progress)) old new before after =
+    Swept jobs.now progress old new before after
+Obeyed (parsed.Command (Lib coordination)) old new before after =
+    (new.files ≡ old.files) × WroteProgram coordination old.written new.written × (after ≡ before)
+Obeyed (parsed.Help text) old new before after =
+    WroteAnswer (string_bytes text) old new × (after ≡ before)
+Obeyed (parsed.Version text) old new before after =
+    WroteAnswer (string_bytes text) old new × (after ≡ before)
 Obeyed (parsed.Usage text) old new before after = ⊥
 Obeyed parsed.NoMemory old new before after = ⊥
 
 -- how it wasn't done, before the failure was reported
 abbrev pub NotObeyed : Parsed → Traffic → Traffic → SinkState → SinkState → Failure → Type 0
-NotObeyed (parsed.Command (Run conf prog workers)) old new before after f = TextFails trace (IsStoppedBy workers.count) conf.now prog.now old new f × (after ≡ before)
-NotObeyed (parsed.Command (Order conf prog)) old new before after f = TextFails order_of IsStopped conf.now prog.now old new f × (after ≡ before)
-NotObeyed (parsed.Command (Explain conf prog heap)) old new before after f = ExplainFails conf.now prog.now old new f × (after ≡ before)
-NotObeyed (parsed.Command (ListOf prog)) old new before after f = ListFails prog.now old new f × (after ≡ before)
-NotObeyed (parsed.Command (Sweep jobs workers at_once progress)) old new before after f = SweepFails jobs.now progress old new before after f
-NotObeyed (parsed.Command (Lib coordination)) old new before after f = (new.files ≡ old.files) × LibFails coordination old.written new.written f × (after ≡ before)
+NotObeyed (parsed.Command (Run conf prog workers)) old new before after f =
+    TextFails trace (IsStoppedBy workers.count) conf.now prog.now old new f × (after ≡ before)
+NotObeyed (parsed.Command (Order conf prog)) old new before after f =
+    TextFails order_of IsStopped conf.now prog.now old new f × (after ≡ before)
+NotObeyed (parsed.Command (Explain conf prog heap)) old new before after f =
+    ExplainFails conf.now prog.now old new f × (after ≡ before)
+NotObeyed (parsed.Command (ListOf prog)) old new before after f =
+    ListFails prog.now old new f × (after ≡ before)
+NotObeyed (parsed.Command (Sweep jobs workers at_once progress)) old new before after f =
+    SweepFails jobs.now progress old new before after f
+NotObeyed (parsed.Command (Lib coordination)) old new before after f =
+    (new.files ≡ old.files) × LibFails coordination old.written new.written f × (after ≡ before)
 NotObeyed (parsed.Help text) old new before after f =
     AnswerFails (string_bytes text) old new f × (after ≡ before)
 NotObeyed (parsed.Version text) old new before after f =
     AnswerFails (string_bytes text) old new f × (after ≡ before)
-NotObeyed (parsed.Usage text) old new before after f = (f ≡ Usage text) × (new ≡ old) × (after ≡ before)
+NotObeyed (parsed.Usage text) old new before after f =
+    (f ≡ Usage text) × (new ≡ old) × (after ≡ before)
 NotObeyed parsed.NoMemory old new before after f = (f ≡ NoMemory) × (new ≡ old) × (after ≡ before)
 
--- the failure was reported, after what was shown before. The source of files has failed as often as the
--- failure says
+-- the failure was reported, after what was shown before. The source of files has failed as often as
+-- the failure says
 pub record Failed (p : Parsed) (old new : Traffic) (before after : SinkState)
     (source_failures source_failures_after status : ℕ) : Type 0 where
   pub failure : Failure

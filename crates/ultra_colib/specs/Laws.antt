@@ -15,13 +15,18 @@ use Rattle.ultra_coordination.specs.Queue.{queue, AreItemsOnce}
 abbrev pub words_of : Settings → Machine → Words
 words_of c m a = elim (nat_lt a (size c * c.cells)) [ true ↦ cells_of c m a | false ↦ 0 ]
 
--- for all settings in their ranges without initial values and every number of cycles, the law of n processing elements holds
+-- for all settings in their ranges without initial values and every number of cycles, the law of n
+-- processing elements holds
 abbrev pub IsKeptByMachine : List Instr → (ℕ → Words → Type 0) → Type 0
 IsKeptByMachine program Law = (c : Settings) → AreInRange c → c.initial ≡ [] → (n : ℕ) → Law (size c) (words_of c (after c program n))
 
--- the gate lets few in at once, a writer is inside alone, the rounds of the barrier are in step, and the queue gives each item once
+-- the gate lets few in at once, a writer is inside alone, the rounds of the barrier are in step,
+-- and the queue gives each item once
 pub record CoordinationLaw : Type 0 where
   pub gate : (bound rounds : ℕ) → IsKeptByMachine (gate bound rounds) (AreFewInside bound)
-  pub readers_writers : (writers rounds : ℕ) → IsKeptByMachine (readers_writers writers rounds) AreWritersAlone
-  pub barrier : (rounds : ℕ) → 1 ≤ rounds → rounds ≤ 1000 → IsKeptByMachine (barrier rounds) AreInStep
-  pub queue : (z rounds : ℕ) → z ≤ 6 → 1 ≤ rounds → rounds ≤ 1000 → IsKeptByMachine (queue z rounds) (AreItemsOnce z rounds)
+  pub readers_writers : (writers rounds : ℕ)
+      → IsKeptByMachine (readers_writers writers rounds) AreWritersAlone
+  pub barrier : (rounds : ℕ) → 1 ≤ rounds → rounds ≤ 1000
+      → IsKeptByMachine (barrier rounds) AreInStep
+  pub queue : (z rounds : ℕ) → z ≤ 6 → 1 ≤ rounds → rounds ≤ 1000
+      → IsKeptByMachine (queue z rounds) (AreItemsOnce z rounds)

@@ -1,4 +1,5 @@
--- the texts of the coordination programs, with their parameters put in as numbers; the programs are this project's profile
+-- the texts of the coordination programs, with their parameters put in as numbers; the programs are
+-- this project's profile
 use Rattle.std.specs.Prelude.{ℕ, ◌+◌, ◌-◌, ◌*◌, ◌^◌, List, [], ◌∷◌, ◌++◌, codes, decimal}
 
 -- the pieces of a text, with numbers between them

@@ -41,7 +41,8 @@ all_digits (c ∷ cs) = nat_lt (digit_value c) 10 && all_digits cs
 
 -- the number that digits write, below a limit
 abbrev pub number_below : ℕ → List ℕ → Option ℕ
-number_below limit ds = if nat_lt 0 (length ds) && (all_digits ds && nat_lt (digits_value 10 ds) limit)
+number_below limit ds =
+    if nat_lt 0 (length ds) && (all_digits ds && nat_lt (digits_value 10 ds) limit)
     then Some (digits_value 10 ds) else None
 
 -- a number of an option: a plus may stand first

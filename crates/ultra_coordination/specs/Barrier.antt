@@ -4,7 +4,8 @@ use Rattle.ultra_isa.specs.declared.Instr.{Instr}
 use Rattle.ultra_isa.specs.declared.Instr.TheVariants.{Set, Add, AddWord, Subtract, And, IsBelow, IsEqual, JumpIfZero, JumpIfNotZero, Number, Size, Load, Store, Faa, Fence, Halt}
 use Rattle.ultra_coordination.specs.Schedules.{Words, IsKept}
 
--- cell 0 counts the arrivals, cell 8 + p the rounds that processing element p has begun, cell 8 + N + p those that it has finished
+-- cell 0 counts the arrivals, cell 8 + p the rounds that processing element p has begun, cell 8 + N
+-- + p those that it has finished
 abbrev pub barrier : ℕ → List Instr
 barrier rounds =
     Number 1 ∷ AddWord 2 1 8 ∷ Size 3 ∷ Add 4 2 3 ∷ Set 5 1 ∷ Subtract 6 3 5 ∷ Set 7 0 ∷ Set 8 rounds

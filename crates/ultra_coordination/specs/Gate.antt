@@ -1,4 +1,5 @@
--- the gate: a bounded number of processing elements is inside at once. Its test, increment and retest are the 1983 paper's
+-- the gate: a bounded number of processing elements is inside at once. Its test, increment and
+-- retest are the 1983 paper's
 use Rattle.std.specs.Prelude.{ℕ, ◌+◌, ◌≤◌, List, [], ◌∷◌}
 use Rattle.ultra_isa.specs.declared.Instr.{Instr}
 use Rattle.ultra_isa.specs.declared.Instr.TheVariants.{Set, AddWord, Subtract, IsBelow, JumpIfZero, JumpIfNotZero, Jump, Number, Load, Store, Faa, Fence, Halt}

@@ -5,8 +5,9 @@ use Rattle.ultra_isa.specs.declared.Instr.{Instr}
 use Rattle.ultra_isa.specs.declared.Instr.TheVariants.{Set, Add, AddWord, Subtract, And, ShiftRight, IsBelow, IsEqual, JumpIfZero, JumpIfNotZero, Jump, Number, Size, Load, Store, Faa, Fence, Halt}
 use Rattle.ultra_coordination.specs.Schedules.{Words, IsKept}
 
--- cells 0 and 1 are the upper and the lower count of items, 2 and 3 the insert and the delete index;
--- 8 + i is the turn word of place i, 8 + 2 ^ z + i its data; the results stand from 8 + 2 * 2 ^ z on
+-- cells 0 and 1 are the upper and the lower count of items, 2 and 3 the insert and the delete
+-- index; 8 + i is the turn word of place i, 8 + 2 ^ z + i its data; the results stand from 8 + 2 *
+-- 2 ^ z on
 abbrev pub queue : ℕ → ℕ → List Instr
 queue z rounds =
     Number 1 ∷ AddWord 1 1 1 ∷ Size 2 ∷ Set 3 1 ∷ Set 4 (2 ^ z) ∷ Set 5 rounds ∷ Set 15 4294967295

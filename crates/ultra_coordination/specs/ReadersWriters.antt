@@ -4,7 +4,8 @@ use Rattle.ultra_isa.specs.declared.Instr.{Instr}
 use Rattle.ultra_isa.specs.declared.Instr.TheVariants.{Set, AddWord, Subtract, IsBelow, JumpIfZero, JumpIfNotZero, Jump, Number, Store, Faa, Fence, Halt}
 use Rattle.ultra_coordination.specs.Schedules.{Words, IsKept}
 
--- cell 0 counts, cell 8 + p is 1 while processing element p is inside as a reader, 2 while as a writer
+-- cell 0 counts, cell 8 + p is 1 while processing element p is inside as a reader, 2 while as a
+-- writer
 abbrev pub readers_writers : ℕ → ℕ → List Instr
 readers_writers writers rounds =
     Number 1 ∷ AddWord 2 1 8 ∷ Set 3 1 ∷ Set 4 65536 ∷ Set 5 rounds ∷ Set 6 writers ∷ Set 10 4294967295 ∷ Set 11 2 ∷ Subtract 12 0 4
@@ -16,7 +17,8 @@ readers_writers writers rounds =
 
 -- where a flag is 2, all others are 0
 abbrev pub AreWritersAlone : ℕ → Words → Type 0
-AreWritersAlone size word = (p q : ℕ) → p < size → q < size → p ≢ q → word (8 + p) ≡ 2 → word (8 + q) ≡ 0
+AreWritersAlone size word =
+    (p q : ℕ) → p < size → q < size → p ≢ q → word (8 + p) ≡ 2 → word (8 + q) ≡ 0
 
 abbrev pub ReadersWritersLaw : Type 0
 ReadersWritersLaw = (writers rounds : ℕ) → IsKept (readers_writers writers rounds) AreWritersAlone

@@ -14,6 +14,7 @@ abbrev pub total : ℕ → (ℕ → ℕ) → ℕ
 total zero f = 0
 total (suc n) f = f 0 + total n (λ k. f (suc k))
 
--- for all settings in their ranges without initial values and every schedule, the law of n processing elements holds
+-- for all settings in their ranges without initial values and every schedule, the law of n
+-- processing elements holds
 abbrev pub IsKept : List Instr → (ℕ → Words → Type 0) → Type 0
 IsKept program Law = (c : Settings) → AreInRange c → c.initial ≡ [] → (schedule : List ℕ) → All (λ p. p < size c) schedule → Law (size c) (slice_index (run_para c program (start_para c) schedule).cells)

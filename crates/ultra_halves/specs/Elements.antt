@@ -16,7 +16,8 @@ use Rattle.ultra_halves.specs.declared.elements.Outcome.TheVariants.{Done, Issue
 
 -- what the definition of the whole machine sees of it
 abbrev pub element_of : ProcessingElement → Element
-element_of e = record { core = e.processor.core; interface = e.interface.interface; issued = e.issued }
+element_of e =
+    record { core = e.processor.core; interface = e.interface.interface; issued = e.issued }
 
 -- one that it sees so
 abbrev pub with_element : ProcessingElement → Element → ProcessingElement
@@ -34,7 +35,8 @@ abbrev pub element_without : {X : Type 0} → ProcessingElement → Option X →
 element_without e o = record e { interface = record e.interface { interface = record e.interface.interface { pending = after_leaving o e.interface.interface.pending } } }
 
 abbrev pub step_at : List Instr → ProcessingElement → Stepped
-step_at program e = step_of e.processor.site e.interface.most_open program e.processor.core e.interface.interface
+step_at program e =
+    step_of e.processor.site e.interface.most_open program e.processor.core e.interface.interface
 
 abbrev pub executed : List Instr → ProcessingElement → ProcessingElement
 executed program e = with_element e (stepped (element_of e) (step_at program e))
@@ -52,7 +54,8 @@ stop_in (Issued e) = None
 stop_in (Faulted s) = Some s
 stop_in AtRest = None
 
--- whether a step of the program leaves it as it is; that doesn't go by the requests that wait in its interface
+-- whether a step of the program leaves it as it is; that doesn't go by the requests that wait in
+-- its interface
 abbrev pub is_at_rest : List Instr → ProcessingElement → Bool
 is_at_rest program e = can_only_stall e.processor.site e.interface.most_open e.interface.interface.opened program e.processor.core
 

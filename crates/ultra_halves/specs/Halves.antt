@@ -24,7 +24,8 @@ abbrev pub has_none : {X : Type 0} → List X → Bool
 has_none xs = length xs == 0
 
 -- ---- replies
--- a queue toward the processing elements with some replies more, and without its first where one leaves
+-- a queue toward the processing elements with some replies more, and without its first where one
+-- leaves
 abbrev pub with_replies : SizedReplies → List ReplyMessage → SizedReplies
 with_replies q rs = record q { replies = q.replies ++ rs }
 
@@ -44,7 +45,8 @@ abbrev pub lane_after_reply : SizedLane → Option ReplyMessage → SizedLane
 lane_after_reply l o = record l { lane = record l.lane { records = records_left l.lane.records o } }
 
 -- a queue toward the processing elements after what became of the replies that came to both ports
-abbrev pub with_arrived : ℕ → ℕ → ℕ → Ports SizedLane → Ports (Option ReplyMessage) → SizedReplies → SizedReplies
+abbrev pub with_arrived : ℕ → ℕ → ℕ → Ports SizedLane → Ports (Option ReplyMessage) → SizedReplies
+    → SizedReplies
 with_arrived d s j lanes came q =
     with_replies (with_replies q (going_by d s j (replies_made lanes.zero.lane.records came.zero))) (going_by d s j (replies_made lanes.one.lane.records came.one))
 
@@ -87,7 +89,8 @@ arrivals d s j n came = both_coming d s j (first_of n came) (second_of n came)
 -- a combination, where there was one
 abbrev pub combination_event : ℕ → ℕ → Request → Option Combination → Option Event
 combination_event s x r None = None
-combination_event s x r (Some c) = Some (Combined s x r.cell c.old.request.pe r.pe (pair_of c.old.request.op r.op).old_first)
+combination_event s x r (Some c) =
+    Some (Combined s x r.cell c.old.request.pe r.pe (pair_of c.old.request.op r.op).old_first)
 
 -- the combination that a request makes in a queue at position x of stage s
 abbrev pub combination_in : ℕ → ℕ → SizedLane → Request → Option Event

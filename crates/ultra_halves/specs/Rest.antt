@@ -13,7 +13,8 @@ module _ (s : Site) (most_open : ℕ) (opened : List OpenCell) where
   abbrev pub has_no_way : ℕ → Bool
   has_no_way a = is_open a opened || nat_le most_open (length opened)
 
-  -- a reference to a cell of the memory has to wait where it has no way, and a fence where a cell is open
+  -- a reference to a cell of the memory has to wait where it has no way, and a fence where a cell
+  -- is open
   abbrev pub has_to_wait : Effect → Bool
   has_to_wait (sets d v) = false
   has_to_wait (goes_on_at place) = false
@@ -24,7 +25,8 @@ module _ (s : Site) (most_open : ℕ) (opened : List OpenCell) where
   -- an instruction stalls where it names an awaited register or has to wait
   abbrev pub stalls : Core → Option Instr → Bool
   stalls c None = false
-  stalls c (Some n) = list_any (λ r. is_awaited r opened) (names n) || has_to_wait (effect s c.registers c.place n)
+  stalls c (Some n) =
+      list_any (λ r. is_awaited r opened) (names n) || has_to_wait (effect s c.registers c.place n)
 
   -- whatever requests wait in its interface
   abbrev pub can_only_stall : List Instr → Core → Bool

@@ -36,7 +36,8 @@ status_of NoThread = 4
 status_of HeapFull = 4
 status_of NotWritten = 5
 
--- how often the source of files failed, and how often standard output failed, in a command that failed so
+-- how often the source of files failed, and how often standard output failed, in a command that
+-- failed so
 abbrev pub read_failures : Failure → ℕ
 read_failures (NotRead p) = 1
 read_failures _ = 0
@@ -63,7 +64,8 @@ text_of (NotToml p) = path_text p.now ++ codes "not toml" ++ codes "\n"
 text_of (BadField p f) = path_text p.now ++ codes "bad " ++ name_of f ++ codes "\n"
 text_of (UnknownKey p) = path_text p.now ++ codes "unknown key" ++ codes "\n"
 text_of (NotUtf8 p) = path_text p.now ++ codes "not utf-8" ++ codes "\n"
-text_of (BadLine p l k) = path_text p.now ++ codes "line " ++ decimal l ++ codes ": " ++ kind_text k ++ codes "\n"
+text_of (BadLine p l k) =
+    path_text p.now ++ codes "line " ++ decimal l ++ codes ": " ++ kind_text k ++ codes "\n"
 text_of (BadJob p) = path_text p.now ++ codes "bad job" ++ codes "\n"
 text_of BadParameter = codes "ultra: bad parameter\n"
 text_of NoMemory = codes "ultra: no memory\n"

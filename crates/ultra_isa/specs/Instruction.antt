@@ -34,7 +34,8 @@ names (Swap d a b) = d ∷ a ∷ b ∷ []
 names Fence = []
 names Halt = []
 
--- what an instruction does: it sets a register, goes on at a place, refers to a cell with the register for its answer, waits for the open cells, or halts
+-- what an instruction does: it sets a register, goes on at a place, refers to a cell with the
+-- register for its answer, waits for the open cells, or halts
 pub data Effect : Type 0 where
   sets : ℕ → ℕ → Effect
   goes_on_at : ℕ → Effect
@@ -54,10 +55,13 @@ effect s r place (AddWord d a n) = sets d (plus (slice_index r a) n)
 effect s r place (Subtract d a b) = sets d (minus (slice_index r a) (slice_index r b))
 effect s r place (And d a b) = sets d (bit_and (slice_index r a) (slice_index r b))
 effect s r place (ShiftRight d a n) = sets d (slice_index r a / 2 ^ n)
-effect s r place (IsBelow d a b) = sets d (if nat_lt (slice_index r a) (slice_index r b) then 1 else 0)
+effect s r place (IsBelow d a b) =
+    sets d (if nat_lt (slice_index r a) (slice_index r b) then 1 else 0)
 effect s r place (IsEqual d a b) = sets d (if slice_index r a == slice_index r b then 1 else 0)
-effect s r place (JumpIfZero a target) = goes_on_at (if slice_index r a == 0 then target else place + 1)
-effect s r place (JumpIfNotZero a target) = goes_on_at (if slice_index r a == 0 then place + 1 else target)
+effect s r place (JumpIfZero a target) =
+    goes_on_at (if slice_index r a == 0 then target else place + 1)
+effect s r place (JumpIfNotZero a target) =
+    goes_on_at (if slice_index r a == 0 then place + 1 else target)
 effect s r place (Jump target) = goes_on_at target
 effect s r place (Number d) = sets d s.pe
 effect s r place (Size d) = sets d s.size

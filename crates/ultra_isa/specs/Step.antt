@@ -28,7 +28,8 @@ has_stopped activity.Running = false
 has_stopped activity.Halted = true
 has_stopped (activity.Faulted f) = true
 
--- what is true of every processor: it has 16 registers, and its place is at most the length of the longest program
+-- what is true of every processor: it has 16 registers, and its place is at most the length of the
+-- longest program
 pub record IsPlaced (c : Core) : Type 0 where
   pub registers : length c.registers ≡ 16
   pub place : c.place ≤ 4096
@@ -42,7 +43,8 @@ pub record Located : Type 0 where
 abbrev pub fresh_core : Core
 fresh_core = record { registers = replicate 16 0; place = 0; activity = activity.Running }
 
--- what a step gives: the processor and its interface after it, the request that it issued, and what it was
+-- what a step gives: the processor and its interface after it, the request that it issued, and what
+-- it was
 pub record Stepped : Type 0 where
   pub core : Core
   pub interface : Interface
@@ -78,9 +80,11 @@ module _ (s : Site) (most_open : ℕ) where
   refers_where false c i r target = faults AddressOutOfRange c i
 
   abbrev pub does : Core → Interface → Effect → Stepped
-  does c i (sets d v) = stays step.Done record c { registers = slice_set c.registers d v; place = c.place + 1 } i
+  does c i (sets d v) =
+      stays step.Done record c { registers = slice_set c.registers d v; place = c.place + 1 } i
   does c i (goes_on_at place) = stays step.Done record c { place = place } i
-  does c i (refers a o target) = refers_where (nat_lt a s.all_cells) c i record { pe = s.pe; cell = a; op = o } target
+  does c i (refers a o target) =
+      refers_where (nat_lt a s.all_cells) c i record { pe = s.pe; cell = a; op = o } target
   does c i waits = waits_where (length i.opened == 0) c i
   does c i halts = stays step.Done record c { activity = activity.Halted } i
 

@@ -18,12 +18,16 @@ abbrev pub held_by : ℕ → List Kept → ℕ
 held_by p [] = 0
 held_by p (k ∷ ks) = one_if (k.pe == p) + held_by p ks
 
--- these trees, of n processing elements (PEs) with at most m requests each, can absorb an event: the requests that are served or combined are held, and are of two PEs if they combine; a request that is issued isn't held yet, its PE is below n, and fewer than m of that PE's requests are held
+-- these trees, of n processing elements (PEs) with at most m requests each, can absorb an event:
+-- the requests that are served or combined are held, and are of two PEs if they combine; a request
+-- that is issued isn't held yet, its PE is below n, and fewer than m of that PE's requests are held
 abbrev pub IsAbsorbable : ℕ → ℕ → List Kept → Event → Type 0
 IsAbsorbable n m ks (Delivered r) = Unit {0}
 IsAbsorbable n m ks (Served k r reply now) = IsSome (tree_of r.pe r.cell ks)
-IsAbsorbable n m ks (Combined s x a p q f) = (p ≢ q) × IsSome (tree_of p a ks) × IsSome (tree_of q a ks)
-IsAbsorbable n m ks (Issued r i) = (tree_of r.pe r.cell ks ≡ None) × (r.pe < n) × (held_by r.pe ks < m)
+IsAbsorbable n m ks (Combined s x a p q f) =
+    (p ≢ q) × IsSome (tree_of p a ks) × IsSome (tree_of q a ks)
+IsAbsorbable n m ks (Issued r i) =
+    (tree_of r.pe r.cell ks ≡ None) × (r.pe < n) × (held_by r.pe ks < m)
 
 -- the tree of the request that an event's act serves
 abbrev pub served_tree : List Kept → Event → Option Tree
@@ -42,16 +46,19 @@ abbrev pub ServeTrees : (Tree → Type 0) → List Kept → List Event → Type 
 ServeTrees P ks [] = Unit {0}
 ServeTrees P ks (e ∷ es) = IfSome (served_tree ks e) P × ServeTrees P (trees_after ks e) es
 
--- a tree as a machine makes it: no higher than the stages, and with at most one leaf of each processing element
+-- a tree as a machine makes it: no higher than the stages, and with at most one leaf of each
+-- processing element
 pub record IsOfMachine (c : Settings) (t : Tree) : Type 0 where
   pub low : height t ≤ c.stages
   pub few : length (leaves t) ≤ size c
-  pub different : (j k : ℕ) (l r : Leaf) → slice_get (leaves t) j ≡ Some l → slice_get (leaves t) k ≡ Some r → l.pe ≡ r.pe → j ≡ k
+  pub different : (j k : ℕ) (l r : Leaf) → slice_get (leaves t) j ≡ Some l
+      → slice_get (leaves t) k ≡ Some r → l.pe ≡ r.pe → j ≡ k
 
 -- in every cycle the trees so far can absorb each event
 pub record AreExplicable (c : Settings) (program : List Instr) : Type 0 where
   pub absorbable : (n : ℕ) → AreAbsorbable (size c) c.most_open (history c program n).trees (after c program (n + 1)).events
-  pub served : (n : ℕ) → ServeTrees (IsOfMachine c) (history c program n).trees (after c program (n + 1)).events
+  pub served : (n : ℕ)
+      → ServeTrees (IsOfMachine c) (history c program n).trees (after c program (n + 1)).events
 
 -- for all settings in their ranges, every program and every number of cycles
 abbrev pub ExplainingLaw : Type 0

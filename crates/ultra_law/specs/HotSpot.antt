@@ -34,7 +34,8 @@ abbrev pub IsOf : Tree → ℕ → Type 0
 IsOf t p = Contains (map (λ (l : Leaf). l.pe) (leaves t)) p
 
 module _ (c : Settings) (program : List Instr) (n a : ℕ) where
-  -- one request is served for all. Its act takes one tree away, which is as high as there are stages and has one leaf for each processing element
+  -- one request is served for all. Its act takes one tree away, which is as high as there are
+  -- stages and has one leaf for each processing element
   pub record IsHotSpot (served : Request) (tree : Tree) : Type 0 where
     pub served_at_once : AreServedAtOnce c program n a served
     pub taken : trees_taken a (history c program (n + c.stages + 1)).trees (events_of c program n a (c.stages + 1)) ≡ tree ∷ []
@@ -42,8 +43,10 @@ module _ (c : Settings) (program : List Instr) (n a : ℕ) where
     pub leaves : length (leaves tree) ≡ size c
     pub of_all : (p : ℕ) → p < size c → IsOf tree p
 
--- for all settings in their ranges with a place in each wait buffer, every program, and whenever all processing elements have asked for one cell
+-- for all settings in their ranges with a place in each wait buffer, every program, and whenever
+-- all processing elements have asked for one cell
 abbrev pub HotSpotLaw : Type 0
 HotSpotLaw =
-    (c : Settings) → AreInRange c → 1 ≤ c.wait_places → (program : List Instr) (n a : ℕ) → AreAllAt c a (after c program n)
+    (c : Settings) → AreInRange c → 1 ≤ c.wait_places → (program : List Instr) (n a : ℕ)
+        → AreAllAt c a (after c program n)
     → (served : Request) × (tree : Tree) × IsHotSpot c program n a served tree

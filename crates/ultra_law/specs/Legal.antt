@@ -1,4 +1,5 @@
--- what it is for a list of requests to explain what a machine did: the serialization principle of the 1983 paper. It knows no network, and of operations only what they do to a cell
+-- what it is for a list of requests to explain what a machine did: the serialization principle of
+-- the 1983 paper. It knows no network, and of operations only what they do to a cell
 use Rattle.std.specs.Prelude.{◌≡◌, ◌<◌, ℕ, List, [], ◌∷◌, map, true, false, ◌==◌, Some, slice_get}
 use Rattle.ultra_msg.specs.declared.Reply.{Reply}
 use Rattle.ultra_msg.specs.Act.{act}
@@ -36,7 +37,8 @@ cells_after m (l ∷ ls) = cells_after (with_cell m l.cell (act l.op (m l.cell))
 
 abbrev pub replayed : Cells → List Leaf → List Entry
 replayed m [] = []
-replayed m (l ∷ ls) = answered_by l (act l.op (m l.cell)).1 ∷ replayed (with_cell m l.cell (act l.op (m l.cell)).0) ls
+replayed m (l ∷ ls) =
+    answered_by l (act l.op (m l.cell)).1 ∷ replayed (with_cell m l.cell (act l.op (m l.cell)).0) ls
 
 -- ---- legal
 -- x stands in the list
@@ -60,15 +62,18 @@ pub record IsLegal (initial : Cells) (log : Log) (final : Cells) (list : List En
   -- each entry was issued, with its cell and operation
   pub issued : (e : Entry) → Has list e → (i : Issue) × Has log.issues i × IsIssueOf e i
   -- no name stands twice
-  pub once : (j k : ℕ) (e f : Entry) → slice_get list j ≡ Some e → slice_get list k ≡ Some f → e.pe ≡ f.pe → e.number ≡ f.number → j ≡ k
+  pub once : (j k : ℕ) (e f : Entry) → slice_get list j ≡ Some e → slice_get list k ≡ Some f
+      → e.pe ≡ f.pe → e.number ≡ f.number → j ≡ k
   -- each name that was answered stands in the list
   pub answered : (a : Answer) → Has log.answers a → (e : Entry) × Has list e × IsAnswerTo e a
   -- the replies are those of the replay
   pub replies : replayed initial (map (λ (e : Entry). request_of e) list) ≡ list
   -- each answer to an entry is its reply
-  pub agreed : (e : Entry) (a : Answer) → Has list e → Has log.answers a → IsAnswerTo e a → a.reply ≡ e.reply
+  pub agreed : (e : Entry) (a : Answer) → Has list e → Has log.answers a → IsAnswerTo e a
+      → a.reply ≡ e.reply
   -- the replay ends with these cells
   pub cells : (a : ℕ) → cells_after initial (map (λ (e : Entry). request_of e) list) a ≡ final a
   -- where an entry was answered in a cycle, no entry before it was issued in that cycle or later
-  pub real_time : (j k : ℕ) (e f : Entry) (i : Issue) (a : Answer) → j < k → slice_get list j ≡ Some e → slice_get list k ≡ Some f
+  pub real_time : (j k : ℕ) (e f : Entry) (i : Issue) (a : Answer) → j < k
+      → slice_get list j ≡ Some e → slice_get list k ≡ Some f
       → Has log.issues i → IsIssueNamed e i → Has log.answers a → IsAnswerTo f a → i.cycle < a.cycle

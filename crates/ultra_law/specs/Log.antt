@@ -25,9 +25,11 @@ is_issue_for p a i = (i.pe == p) && (i.cell == a)
 -- the number of the latest issue of a processing element for a cell, or else n
 abbrev pub latest_number : ℕ → ℕ → List Issue → ℕ → ℕ
 latest_number p a [] n = n
-latest_number p a (i ∷ is) n = latest_number p a is (elim (is_issue_for p a i) [ true ↦ i.number | false ↦ n ])
+latest_number p a (i ∷ is) n =
+    latest_number p a is (elim (is_issue_for p a i) [ true ↦ i.number | false ↦ n ])
 
--- the log after an event of a cycle: a delivery answers the latest issue of its processing element for its cell
+-- the log after an event of a cycle: a delivery answers the latest issue of its processing element
+-- for its cell
 abbrev pub logged : ℕ → Log → Event → Log
 logged cycle l (Delivered r) = record l { answers = l.answers ++ record { pe = r.pe; number = latest_number r.pe r.cell l.issues 0; reply = r.reply; cycle = cycle } ∷ [] }
 logged cycle l (Served k r reply now) = l

@@ -1,4 +1,5 @@
--- the serial list of a run: what was served, by cycle and module, each served request as the leaves of its tree in serial order
+-- the serial list of a run: what was served, by cycle and module, each served request as the leaves
+-- of its tree in serial order
 use Rattle.std.specs.Prelude.{ℕ, zero, suc, ◌%◌, ◌/◌, List, [], ◌∷◌, ◌++◌, slice_index}
 use Rattle.ultra_msg.specs.declared.Event.{Event}
 use Rattle.ultra_isa.specs.declared.Instr.{Instr}
@@ -8,7 +9,8 @@ use Rattle.ultra_law.specs.Tree.{Leaf, Kept, trees_after, served_leaves}
 use Rattle.ultra_law.specs.Log.{Log, empty_log, logged}
 use Rattle.ultra_law.specs.Legal.{Cells, Entry, given, replayed}
 
--- what a run leaves behind: the trees that are kept, the requests that were served, in order, and the log
+-- what a run leaves behind: the trees that are kept, the requests that were served, in order, and
+-- the log
 pub record History : Type 0 where
   pub trees : List Kept
   pub order : List Leaf
@@ -39,6 +41,7 @@ module _ (c : Settings) where
   history program zero = empty_history
   history program (suc n) = noted n (after c program (suc n)).events (history program n)
 
-  -- the serial list of the first n cycles: each request with its reply in a replay from the initial cells
+  -- the serial list of the first n cycles: each request with its reply in a replay from the initial
+  -- cells
   abbrev pub serial_list : List Instr → ℕ → List Entry
   serial_list program n = replayed (given c.initial) (history program n).order

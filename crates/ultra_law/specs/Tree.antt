@@ -4,7 +4,8 @@ use Rattle.ultra_msg.specs.declared.Event.{Event}
 use Rattle.ultra_msg.specs.declared.Event.TheVariants.{Delivered, Served, Combined, Issued}
 pub use Rattle.ultra_law.specs.declared.records.Leaf.{Leaf}
 
--- a request as it was issued, or two trees that met at a stage and position, and whether the old one comes first
+-- a request as it was issued, or two trees that met at a stage and position, and whether the old
+-- one comes first
 pub data Tree : Type 0 where
   leaf : Leaf → Tree
   pair : (stage position : ℕ) → (old new : Tree) → (old_first : Bool) → Tree
@@ -45,12 +46,15 @@ paired s x a p f ks None n = ks
 paired s x a p f ks (Some o) None = ks
 paired s x a p f ks (Some o) (Some n) = kept p a (pair s x o n f) ∷ ks
 
--- the trees after an event: an issue makes a leaf, a combination a pair, and an act takes its tree away
+-- the trees after an event: an issue makes a leaf, a combination a pair, and an act takes its tree
+-- away
 abbrev pub trees_after : List Kept → Event → List Kept
 trees_after ks (Delivered r) = ks
 trees_after ks (Served k r reply now) = without r.pe r.cell ks
-trees_after ks (Combined s x a p q f) = paired s x a p f (without q a (without p a ks)) (tree_of p a ks) (tree_of q a (without p a ks))
-trees_after ks (Issued r n) = kept r.pe r.cell (leaf record { pe = r.pe; number = n; cell = r.cell; op = r.op }) ∷ ks
+trees_after ks (Combined s x a p q f) =
+    paired s x a p f (without q a (without p a ks)) (tree_of p a ks) (tree_of q a (without p a ks))
+trees_after ks (Issued r n) =
+    kept r.pe r.cell (leaf record { pe = r.pe; number = n; cell = r.cell; op = r.op }) ∷ ks
 
 abbrev pub leaves_of : Option Tree → List Leaf
 leaves_of None = []

@@ -1,4 +1,5 @@
--- what one memory module does. That the module adds is the 1983 paper's; its two registers are this project's profile
+-- what one memory module does. That the module adds is the 1983 paper's; its two registers are this
+-- project's profile
 use Rattle.std.specs.Prelude.{◌≡◌, ℕ, List, [], Option, Some, None, replicate, slice_index, slice_set}
 use Rattle.ultra_msg.specs.declared.ReplyMessage.{ReplyMessage}
 use Rattle.ultra_msg.specs.Act.{act}

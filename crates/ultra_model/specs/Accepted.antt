@@ -113,7 +113,8 @@ settings_of r = record {
   initial = initial_of r.initial;
 }
 
--- the fault names the first bad key. `NoMemory` comes only where all keys with a single number are accepted
+-- the fault names the first bad key. `NoMemory` comes only where all keys with a single number are
+-- accepted
 abbrev pub ExplainsRefusal : RawSettings → ConfigFault → Type 0
 ExplainsRefusal r NoMemory = first_bad_of r numbers ≡ None
 ExplainsRefusal r (BadConfig f) = first_bad r ≡ Some f

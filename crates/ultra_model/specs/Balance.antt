@@ -1,4 +1,5 @@
--- how many messages are on their way, and how many cells are open: what every phase keeps in balance
+-- how many messages are on their way, and how many cells are open: what every phase keeps in
+-- balance
 use Rattle.std.specs.Prelude.{◌≡◌, ℕ, zero, suc, ◌+◌, ◌<◌, ◌≤◌, List, [], ◌∷◌, Bool, true, false, ◌==◌, Option, Some, None}
 use Rattle.ultra_msg.specs.declared.Request.{Request}
 use Rattle.ultra_msg.specs.declared.ReplyMessage.{ReplyMessage}
@@ -60,7 +61,8 @@ module _ (t : ℕ → ℕ → Bool) where
   opened_by p e = count (λ (o : OpenCell). t p o.cell) e.interface.opened
 
   module _ (c : Settings) (m : Machine) where
-    -- the messages on their way in the whole machine, with the partners of the records, and the open cells
+    -- the messages on their way in the whole machine, with the partners of the records, and the
+    -- open cells
     abbrev pub on_way : ℕ
     on_way =
         total c.stages (λ s. total (size c) (λ x. lane_on_way (lane_at m s x)))
@@ -71,7 +73,10 @@ module _ (t : ℕ → ℕ → Bool) where
     abbrev pub all_opened : ℕ
     all_opened = total (size c) (λ p. opened_by p (element_at m p))
 
--- whatever references are counted, as many messages are on their way as cells are open: so each open cell of a processing element has exactly one message or one record in which it is the partner, and each message belongs to an open cell. No cell is open twice
+-- whatever references are counted, as many messages are on their way as cells are open: so each
+-- open cell of a processing element has exactly one message or one record in which it is the
+-- partner, and each message belongs to an open cell. No cell is open twice
 pub record IsBalanced (c : Settings) (m : Machine) : Type 0 where
   pub balanced : (t : ℕ → ℕ → Bool) → on_way t c m ≡ all_opened t c m
-  pub different : (p : ℕ) → p < size c → (a : ℕ) → count (λ (o : OpenCell). o.cell == a) (element_at m p).interface.opened ≤ 1
+  pub different : (p : ℕ) → p < size c → (a : ℕ)
+      → count (λ (o : OpenCell). o.cell == a) (element_at m p).interface.opened ≤ 1

@@ -1,4 +1,5 @@
--- the whole machine between two cycles. Its parts are those of the 1983 paper's enhanced Omega network; their registers and limits are this project's profile
+-- the whole machine between two cycles. Its parts are those of the 1983 paper's enhanced Omega
+-- network; their registers and limits are this project's profile
 use Rattle.std.specs.Prelude.{ℕ, ◌+◌, ◌-◌, ◌*◌, ◌%◌, ◌^◌, List, [], ◌∷◌, Bool, true, false, ◌&&◌, ◌==◌, Option, Some, None, slice_index_or}
 use Rattle.std.specs.List.{list_all}
 use Rattle.ultra_msg.specs.declared.Request.{Request}
@@ -13,7 +14,10 @@ use Rattle.ultra_isa.specs.Step.{Core, fresh_core, has_stopped}
 use Rattle.ultra_model.specs.declared.Stop.{Stop}
 use Rattle.ultra_model.specs.Places.{places, table, in_table}
 
--- the settings: the stages of the network, the places of each queue toward memory, of each queue toward the processing elements and of each wait buffer, the most open cells of a processing element, the cells of a module, the most cycles, and the cells that are not 0 at first, with their values
+-- the settings: the stages of the network, the places of each queue toward memory, of each queue
+-- toward the processing elements and of each wait buffer, the most open cells of a processing
+-- element, the cells of a module, the most cycles, and the cells that are not 0 at first, with
+-- their values
 pub record Settings : Type 0 where
   pub stages : ℕ
   pub request_places : ℕ
@@ -33,7 +37,9 @@ pub record Element : Type 0 where
 abbrev pub fresh_element : Element
 fresh_element = record { core = fresh_core; interface = empty_interface; issued = 0 }
 
--- the machine: the queue toward memory with its wait buffer for each stage and memory-side position, the queue toward the processing elements for each stage and PE-side position, the modules, the processing elements, the count of cycles, and what happened in the last cycle
+-- the machine: the queue toward memory with its wait buffer for each stage and memory-side
+-- position, the queue toward the processing elements for each stage and PE-side position, the
+-- modules, the processing elements, the count of cycles, and what happened in the last cycle
 pub record Machine : Type 0 where
   pub lanes : List (List Lane)
   pub replies : List (List (List ReplyMessage))
@@ -43,7 +49,8 @@ pub record Machine : Type 0 where
   pub events : List Event
   pub stops : List Stop
 
--- the value of an address in a list of addresses with their values: the last that is given, or else the default
+-- the value of an address in a list of addresses with their values: the last that is given, or else
+-- the default
 abbrev pub given_value : List (ℕ × ℕ) → ℕ → ℕ → ℕ
 given_value [] a v = v
 given_value (i ∷ is) a v = given_value is a (elim (i.0 == a) [ true ↦ i.1 | false ↦ v ])
@@ -59,7 +66,8 @@ module _ (c : Settings) where
   abbrev pub site : ℕ → Site
   site p = record { pe = p; size = size; all_cells = size * c.cells }
 
-  -- the memory-side position by which a request that entered a stage at y leaves it, and the PE-side position by which a reply that came at x does
+  -- the memory-side position by which a request that entered a stage at y leaves it, and the
+  -- PE-side position by which a reply that came at x does
   abbrev pub request_exit : ℕ → ℕ → Request → ℕ
   request_exit s y r = with_lowest y (bit_of (last_stage - s) (r.cell % size))
 
@@ -78,7 +86,8 @@ module _ (c : Settings) where
     stops = [];
   }
 
--- the parts of a machine: by stage and position, or by the number of a module or a processing element
+-- the parts of a machine: by stage and position, or by the number of a module or a processing
+-- element
 abbrev pub lane_at : Machine → ℕ → ℕ → Lane
 lane_at m s x = in_table empty_lane m.lanes s x
 

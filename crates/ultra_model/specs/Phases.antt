@@ -1,4 +1,6 @@
--- one cycle of the whole machine, as formulas over all parts at once; each phase reads the machine as it stands at the phase's start. The routes are the 1983 paper's Omega network; the phases, the room rules and their order are this project's profile
+-- one cycle of the whole machine, as formulas over all parts at once; each phase reads the machine
+-- as it stands at the phase's start. The routes are the 1983 paper's Omega network; the phases, the
+-- room rules and their order are this project's profile
 use Rattle.std.specs.Prelude.{ℕ, suc, zero, ◌+◌, ◌-◌, ◌*◌, ◌/◌, ◌%◌, List, [], ◌∷◌, ◌++◌, Bool, true, false, ◌&&◌, ◌==◌, nat_le, length, Option, Some, None, slice_get}
 use Rattle.std.specs.List.{filter}
 use Rattle.ultra_msg.specs.declared.Request.{Request}
@@ -27,7 +29,8 @@ abbrev pub delivery : Option ReplyMessage → Option Event
 delivery None = None
 delivery (Some r) = Some (Delivered r)
 
--- a reply is delivered to a processing element: its register is set, if it has one, and the cell is no longer open
+-- a reply is delivered to a processing element: its register is set, if it has one, and the cell is
+-- no longer open
 abbrev pub deliver : Element → Option ReplyMessage → Element
 deliver e None = e
 deliver e (Some r) = record e {
@@ -52,7 +55,8 @@ serving k None = None
 serving k (Some a) = Some (Served k a.request a.reply a.now)
 
 abbrev pub without_pending : Element → Option Request → Element
-without_pending e o = record e { interface = record e.interface { pending = after_leaving o e.interface.pending } }
+without_pending e o =
+    record e { interface = record e.interface { pending = after_leaving o e.interface.pending } }
 
 -- requests that arrive one after the other
 abbrev pub arrive_all : ℕ → Lane → List Request → Lane
@@ -62,7 +66,8 @@ arrive_all wait_places l (r ∷ rs) = arrive_all wait_places (arrive wait_places
 -- the combinations among them
 abbrev pub combination : ℕ → ℕ → Request → Option Combination → List Event
 combination s x r None = []
-combination s x r (Some c) = Combined s x r.cell c.old.request.pe r.pe (pair_of c.old.request.op r.op).old_first ∷ []
+combination s x r (Some c) =
+    Combined s x r.cell c.old.request.pe r.pe (pair_of c.old.request.op r.op).old_first ∷ []
 
 abbrev pub combinations : ℕ → ℕ → ℕ → Lane → List Request → List Event
 combinations wait_places s x l [] = []
@@ -73,7 +78,8 @@ issues_after n None = n
 issues_after n (Some r) = n + 1
 
 abbrev pub stepped : Element → Stepped → Element
-stepped e t = record { core = t.core; interface = t.interface; issued = issues_after e.issued t.sent }
+stepped e t =
+    record { core = t.core; interface = t.interface; issued = issues_after e.issued t.sent }
 
 abbrev pub issue_event : Element → Option Request → Option Event
 issue_event e None = None
@@ -100,7 +106,8 @@ module _ (c : Settings) where
 
   -- it arrives where its switch has room
   unfoldable pub arriving_reply : Machine → ℕ → ℕ → Option ReplyMessage
-  arriving_reply m s x = elim (has_reply_room m s (x / 2)) [ true ↦ reply_before m s x | false ↦ None ]
+  arriving_reply m s x =
+      elim (has_reply_room m s (x / 2)) [ true ↦ reply_before m s x | false ↦ None ]
 
   -- the reply that leaves the queue at PE-side position y of stage s
   abbrev pub leaving_reply : Machine → ℕ → ℕ → Option ReplyMessage
@@ -156,12 +163,14 @@ module _ (c : Settings) where
   -- it arrives where the queue that it goes to has room
   abbrev pub admitted : Machine → ℕ → ℕ → Option Request → Option Request
   admitted m s y None = None
-  admitted m s y (Some r) = elim (has_request_room m s (request_exit c s y r)) [ true ↦ Some r | false ↦ None ]
+  admitted m s y (Some r) =
+      elim (has_request_room m s (request_exit c s y r)) [ true ↦ Some r | false ↦ None ]
 
   unfoldable pub arriving_request : Machine → ℕ → ℕ → Option Request
   arriving_request m s y = admitted m s y (request_before m s y)
 
-  -- the request that goes into the register of module k: where that is empty, the head of the last queue
+  -- the request that goes into the register of module k: where that is empty, the head of the last
+  -- queue
   abbrev pub entering : Machine → ℕ → Option Request
   entering m k = elim (bank_at m k).inp [ None ↦ request_of (slice_get (lane_at m (last_stage c) k).queue 0) | Some r ↦ None ]
 
@@ -204,7 +213,8 @@ module _ (c : Settings) where
 
   -- ---- processors
   abbrev pub step_at : List Instr → Machine → ℕ → Stepped
-  step_at program m p = step_of (site c p) c.most_open program (element_at m p).core (element_at m p).interface
+  step_at program m p =
+      step_of (site c p) c.most_open program (element_at m p).core (element_at m p).interface
 
   unfoldable pub processor_phase : List Instr → Machine → Machine
   processor_phase program m = record m {

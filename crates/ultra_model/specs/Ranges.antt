@@ -3,7 +3,9 @@ use Rattle.std.specs.Prelude.{ℕ, ◌*◌, ◌<◌, ◌≤◌, All}
 use Rattle.ultra_route.specs.declared.TheConstants.{MOST_STAGES}
 use Rattle.ultra_model.specs.Machine.{Settings, size}
 
--- stages 1 to 6, places of a queue toward memory 2 to 32, of a queue toward the processing elements 4 to 64, of a wait buffer 0 to 16, open cells 1 to 8, cells of a module 1 to 4096; the initial cells are cells of the memory
+-- stages 1 to 6, places of a queue toward memory 2 to 32, of a queue toward the processing elements
+-- 4 to 64, of a wait buffer 0 to 16, open cells 1 to 8, cells of a module 1 to 4096; the initial
+-- cells are cells of the memory
 pub record AreInRange (c : Settings) : Type 0 where
   pub some_stages : 1 ≤ c.stages
   pub most_stages : c.stages ≤ MOST_STAGES

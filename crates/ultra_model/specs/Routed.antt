@@ -57,9 +57,12 @@ module _ (c : Settings) where
   IsOwn p r = (r.pe ≡ p) × (r.cell < size c * c.cells)
 
   pub record IsRouted (m : Machine) : Type 0 where
-    pub requests : (s x : ℕ) → s < c.stages → x < size c → AllByRecursion (IsEntryAt s x) (lane_at m s x).queue
-    pub records : (s x : ℕ) → s < c.stages → x < size c → AllByRecursion (IsRecordAt s x) (lane_at m s x).records
-    pub replies : (s y : ℕ) → s < c.stages → y < size c → AllByRecursion (IsReplyAt s y) (replies_at m s y)
+    pub requests : (s x : ℕ) → s < c.stages → x < size c
+        → AllByRecursion (IsEntryAt s x) (lane_at m s x).queue
+    pub records : (s x : ℕ) → s < c.stages → x < size c
+        → AllByRecursion (IsRecordAt s x) (lane_at m s x).records
+    pub replies : (s y : ℕ) → s < c.stages → y < size c
+        → AllByRecursion (IsReplyAt s y) (replies_at m s y)
     pub inputs : (k : ℕ) → k < size c → IfSome (bank_at m k).inp (IsPlacedAt k)
     pub outputs : (k : ℕ) → k < size c → IfSome (bank_at m k).out (IsReplyOf k)
     pub pending : (p : ℕ) → p < size c → AllByRecursion (IsOwn p) (element_at m p).interface.pending

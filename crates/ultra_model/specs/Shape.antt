@@ -2,7 +2,8 @@
 use Rattle.std.specs.Prelude.{◌≡◌, ℕ, ◌<◌, [], length, slice_index_or}
 use Rattle.ultra_model.specs.Machine.{Settings, Machine, size, bank_at}
 
--- a lane and a queue of replies for each stage and position, a module and a processing element for each number, and in each module its cells
+-- a lane and a queue of replies for each stage and position, a module and a processing element for
+-- each number, and in each module its cells
 pub record HasShape (c : Settings) (m : Machine) : Type 0 where
   pub lane_rows : length m.lanes ≡ c.stages
   pub lanes : (s : ℕ) → s < c.stages → length (slice_index_or m.lanes s []) ≡ size c

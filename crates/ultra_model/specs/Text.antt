@@ -1,4 +1,5 @@
--- the texts of messages, of records, of faults and of what processing elements are doing, as lists of bytes; this project's profile
+-- the texts of messages, of records, of faults and of what processing elements are doing, as lists
+-- of bytes; this project's profile
 use Rattle.std.specs.Prelude.{ℕ, zero, suc, List, [], ◌∷◌, ◌++◌, Bool, true, false, codes, decimal}
 use Rattle.std.specs.List.{flat_map}
 use Rattle.ultra_msg.specs.declared.Op.{Op}
@@ -58,7 +59,8 @@ give_text (give.Plus w) = codes "plus " ++ decimal w
 give_text (give.Fixed w) = codes "fixed " ++ decimal w
 give_text give.Ack = codes "ack"
 
--- a record of a wait buffer, `P@A GIVE Q GIVE`: the identity of old, old's way, new's processing element, new's way
+-- a record of a wait buffer, `P@A GIVE Q GIVE`: the identity of old, old's way, new's processing
+-- element, new's way
 abbrev pub record_text : WaitRecord → List ℕ
 record_text w = identity_text w.pe w.cell ++ codes " " ++ give_text w.give_old ++ codes " " ++ decimal w.partner ++ codes " " ++ give_text w.give_new
 

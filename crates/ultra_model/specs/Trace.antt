@@ -45,7 +45,8 @@ abbrev pub held : {X : Type 0} → Option X → List X
 held None = []
 held (Some x) = x ∷ []
 
--- how a line begins that belongs to a module or a processing element, and one that belongs to a position of a stage
+-- how a line begins that belongs to a module or a processing element, and one that belongs to a
+-- position of a stage
 abbrev pub unit_name : List ℕ → ℕ → List ℕ
 unit_name word k = word ++ codes " " ++ decimal k
 
@@ -62,7 +63,8 @@ abbrev pub wait_line : ℕ → ℕ → List WaitRecord → List ℕ
 wait_line s x ws = place_line (stage_name (codes "wait") s x) record_text ws
 
 abbrev pub inp_line : ℕ → Option Placed → List ℕ
-inp_line k o = place_line (unit_name (codes "inp") k) (λ (p : Placed). request_text p.request) (held o)
+inp_line k o =
+    place_line (unit_name (codes "inp") k) (λ (p : Placed). request_text p.request) (held o)
 
 abbrev pub out_line : ℕ → Option ReplyMessage → List ℕ
 out_line k o = place_line (unit_name (codes "out") k) message_text (held o)
@@ -99,7 +101,8 @@ rep_of m s y = rep_line s y (replies_at m s y)
 -- ---- one cycle, after which this is the machine
 -- what happened in the cycle
 abbrev pub events_text : List Event → List Stop → List ℕ
-events_text events stops = flat_map got_line events ++ flat_map act_line events ++ flat_map fault_line stops
+events_text events stops =
+    flat_map got_line events ++ flat_map act_line events ++ flat_map fault_line stops
 
 -- what stands where after the cycle
 abbrev pub state_text : Settings → Machine → List ℕ
@@ -155,9 +158,11 @@ end_text c m = ending_text (is_quiet m) ++ newline ++ by_number (size c * c.cell
 
 -- ---- the whole
 module _ (c : Settings) (program : List Instr) where
-  -- how many cycles the trace has: up to the first after which the machine is quiet, or else as many as the settings allow
+  -- how many cycles the trace has: up to the first after which the machine is quiet, or else as
+  -- many as the settings allow
   unfoldable pub cycle_count : ℕ
-  cycle_count = unwrap_or (find (λ n. is_quiet (after c program n)) (range_with_len 1 c.cycles)) c.cycles
+  cycle_count =
+      unwrap_or (find (λ n. is_quiet (after c program n)) (range_with_len 1 c.cycles)) c.cycles
 
   abbrev pub cycles_text : ℕ → List ℕ
   cycles_text n = by_number n (λ k. cycle_text c (after c program (k + 1)))

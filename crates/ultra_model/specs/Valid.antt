@@ -3,7 +3,8 @@ use Rattle.std.specs.Prelude.{◌≢◌, ℕ, ◌^◌, ◌<◌, ◌≤◌, All, 
 use Rattle.ultra_model.specs.Machine.{Settings}
 use Rattle.ultra_model.specs.Ranges.{AreInRange}
 
--- the machine's settings are in their ranges and cycles are 1 to 1,000,000; of the initial cells each is given a word, and none is given two
+-- the machine's settings are in their ranges and cycles are 1 to 1,000,000; of the initial cells
+-- each is given a word, and none is given two
 pub record IsValid (s : Settings) : Type 0 where
   pub range : AreInRange s
   pub some_cycles : 1 ≤ s.cycles

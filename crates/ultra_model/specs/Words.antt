@@ -60,11 +60,15 @@ NamesWord Halt = Unit {0}
 
 -- the cells, the registers, and what every message and record carries
 pub record HoldsWords (c : Settings) (m : Machine) : Type 0 where
-  pub requests : (s x : ℕ) → s < c.stages → x < size c → AllByRecursion (λ (e : Entry). OfWord e.request.op) (lane_at m s x).queue
+  pub requests : (s x : ℕ) → s < c.stages → x < size c
+      → AllByRecursion (λ (e : Entry). OfWord e.request.op) (lane_at m s x).queue
   pub records : (s x : ℕ) → s < c.stages → x < size c → AllByRecursion (λ (w : WaitRecord). AddsWord w.give_old × AddsWord w.give_new) (lane_at m s x).records
-  pub replies : (s y : ℕ) → s < c.stages → y < size c → AllByRecursion (λ (r : ReplyMessage). GivesWord r.reply) (replies_at m s y)
+  pub replies : (s y : ℕ) → s < c.stages → y < size c
+      → AllByRecursion (λ (r : ReplyMessage). GivesWord r.reply) (replies_at m s y)
   pub inputs : (k : ℕ) → k < size c → IfSome (bank_at m k).inp (λ (p : Placed). OfWord p.request.op)
-  pub outputs : (k : ℕ) → k < size c → IfSome (bank_at m k).out (λ (r : ReplyMessage). GivesWord r.reply)
+  pub outputs : (k : ℕ) → k < size c
+      → IfSome (bank_at m k).out (λ (r : ReplyMessage). GivesWord r.reply)
   pub cells : (k : ℕ) → k < size c → AllByRecursion IsWord (bank_at m k).cells
-  pub pending : (p : ℕ) → p < size c → AllByRecursion (λ (r : Request). OfWord r.op) (element_at m p).interface.pending
+  pub pending : (p : ℕ) → p < size c
+      → AllByRecursion (λ (r : Request). OfWord r.op) (element_at m p).interface.pending
   pub registers : (p : ℕ) → p < size c → AllByRecursion IsWord (element_at m p).core.registers

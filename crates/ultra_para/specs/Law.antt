@@ -1,4 +1,5 @@
--- careful programs see a paracomputer: the 1983 paper's claim for its machine, here for this project's profile of it
+-- careful programs see a paracomputer: the 1983 paper's claim for its machine, here for this
+-- project's profile of it
 use Rattle.std.specs.Prelude.{◌≡◌, ℕ, ◌*◌, ◌<◌, List, [], true, All, slice_index}
 use Rattle.ultra_pni.specs.declared.OpenCell.{OpenCell}
 use Rattle.ultra_isa.specs.declared.Instr.{Instr}
@@ -13,10 +14,12 @@ use Rattle.ultra_para.specs.Careful.{is_careful}
 abbrev pub WaitsForNothing : List OpenCell → Type 0
 WaitsForNothing os = os ≡ []
 
--- the machine looks like the paracomputer: they have the same cells and, for each processing element without an open cell, the same registers, place and state
+-- the machine looks like the paracomputer: they have the same cells and, for each processing
+-- element without an open cell, the same registers, place and state
 pub record LooksLike (c : Settings) (m : Machine) (v : Para) : Type 0 where
   pub cells : (a : ℕ) → a < size c * c.cells → slice_index v.cells a ≡ cells_of c m a
-  pub cores : (p : ℕ) → p < size c → WaitsForNothing (element_at m p).interface.opened → core_at v p ≡ (element_at m p).core
+  pub cores : (p : ℕ) → p < size c → WaitsForNothing (element_at m p).interface.opened
+      → core_at v p ≡ (element_at m p).core
 
 -- after some schedule of the paracomputer the machine looks like it
 pub record IsReached (c : Settings) (program : List Instr) (m : Machine) : Type 0 where

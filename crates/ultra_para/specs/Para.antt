@@ -1,4 +1,5 @@
--- the paracomputer: every request acts on its cell at once. The paracomputer is the 1983 paper's; its instructions are this project's profile
+-- the paracomputer: every request acts on its cell at once. The paracomputer is the 1983 paper's;
+-- its instructions are this project's profile
 use Rattle.std.specs.Prelude.{ℕ, ◌*◌, List, [], ◌∷◌, Option, Some, None, slice_index, slice_index_or, slice_set}
 use Rattle.ultra_msg.specs.declared.Request.{Request}
 use Rattle.ultra_msg.specs.Act.{act}
@@ -17,11 +18,13 @@ pub record Para : Type 0 where
 abbrev pub core_at : Para → ℕ → Core
 core_at m p = slice_index_or m.cores p fresh_core
 
--- a step of the machine's processing element while no cell is open: no register is awaited, no issue is refused, and a fence has nothing to wait for, so it never stalls
+-- a step of the machine's processing element while no cell is open: no register is awaited, no
+-- issue is refused, and a fence has nothing to wait for, so it never stalls
 abbrev pub alone_at : Site → List Instr → Core → Stepped
 alone_at s program core = step_of s 1 program core empty_interface
 
--- the request that it sent, if it sent one, acts at once: the cells afterwards, and the processor with its reply
+-- the request that it sent, if it sent one, acts at once: the cells afterwards, and the processor
+-- with its reply
 abbrev pub cells_acted : List ℕ → Option Request → List ℕ
 cells_acted cells None = cells
 cells_acted cells (Some r) = slice_set cells r.cell (act r.op (slice_index cells r.cell)).0
@@ -31,7 +34,8 @@ core_answered cells t None = t.core
 core_answered cells t (Some r) = record t.core { registers = received t.core.registers (target_of r.cell t.interface.opened) (act r.op (slice_index cells r.cell)).1 }
 
 module _ (c : Settings) where
-  -- at first the cells hold the initial values and else 0, as the machine's do, and the processing elements are fresh
+  -- at first the cells hold the initial values and else 0, as the machine's do, and the processing
+  -- elements are fresh
   abbrev pub start_para : Para
   start_para = record { cells = places (size c * c.cells) (λ a. given_value c.initial a 0); cores = places (size c) (λ p. fresh_core) }
 

@@ -1,4 +1,5 @@
--- a processing element's interface to the network. At most one outstanding reference to a cell is the 1983 paper's; the rest is this project's profile
+-- a processing element's interface to the network. At most one outstanding reference to a cell is
+-- the 1983 paper's; the rest is this project's profile
 use Rattle.std.specs.Prelude.{◌≢◌, ℕ, ◌≤◌, List, [], ◌∷◌, ◌++◌, Bool, true, false, ◌==◌, nat_lt, length, Option, Some, None, if◌then◌else◌}
 use Rattle.std.specs.List.{list_any, AllPairs}
 use Rattle.ultra_msg.specs.declared.Request.{Request}
@@ -6,7 +7,8 @@ use Rattle.ultra_pni.specs.declared.OpenCell.{OpenCell}
 use Rattle.ultra_pni.specs.declared.Issue.{Issue}
 use Rattle.ultra_pni.specs.declared.Issue.TheVariants.{Sent, CellOpen, Full}
 
--- the open cells in the order of their issues, and the requests that are not yet in the network, the first to leave first
+-- the open cells in the order of their issues, and the requests that are not yet in the network,
+-- the first to leave first
 pub record Interface : Type 0 where
   pub opened : List OpenCell
   pub pending : List Request
@@ -19,7 +21,8 @@ pub record SizedInterface : Type 0 where
   pub interface : Interface
   pub most_open : ℕ
 
--- what is true of every interface: at most `most_open` cells are open, which is at most 8, no more requests are pending than cells are open, and no cell is open twice
+-- what is true of every interface: at most `most_open` cells are open, which is at most 8, no more
+-- requests are pending than cells are open, and no cell is open twice
 pub record IsWithin (i : Interface) (most_open : ℕ) : Type 0 where
   pub small : most_open ≤ 8
   pub opened : length i.opened ≤ most_open

@@ -17,8 +17,8 @@ use Rattle.ultra_units.specs.declared.links.Links.{Links}
 use Rattle.ultra_section.specs.Sets.{facts_at, no_facts, KnowsSwitch, KnowsModule, KnowsElement}
 use Rattle.ultra_units.specs.Marks.{RepliesAreKnown, RequestsAreKnown}
 
--- the program that its processing elements run, the units that stand there, by their numbers, what is
--- on each link, and what has happened in the cycle
+-- the program that its processing elements run, the units that stand there, by their numbers, what
+-- is on each link, and what has happened in the cycle
 pub record BlockState : Type 0 where
   pub stages : ℕ
   pub done : ℕ
@@ -47,7 +47,8 @@ pub record UnitsAreKnown (d : ℕ) (s : Sets) (ws : List (Option Switch)) (bs : 
   pub element_entries : length es ≡ 2 ^ d
   pub switches : (n : ℕ) → n < switch_count d → KnowsSwitch (facts_at s n) (switch_at ws n)
   pub modules : (m : ℕ) → m < 2 ^ d → KnowsModule (facts_at s (module_number d m)) (module_at bs m)
-  pub elements : (p : ℕ) → p < 2 ^ d → KnowsElement (facts_at s (element_number d p)) (element_at es p)
+  pub elements : (p : ℕ) → p < 2 ^ d
+      → KnowsElement (facts_at s (element_number d p)) (element_at es p)
   pub others : (n : ℕ) → unit_count d ≤ n → facts_at s n ≡ no_facts
 
 -- the processing elements outside a set are at rest: a step of the program leaves each as it is
@@ -72,7 +73,8 @@ pub record IsKept (d wiring : ℕ) (program : List Instr) (s : Sets) (awake : Li
   pub events_fit : most_events ≤ event_places
   pub stops_fit : most_stops ≤ stop_places
 
--- there is memory for the events of the units from number n on, of 320: each has at most two in a half
+-- there is memory for the events of the units from number n on, of 320: each has at most two in a
+-- half
 abbrev pub HasEventRoom : ℕ → BlockState → Type 0
 HasEventRoom n b = length b.events + 640 ≤ most_events + 2 * n
 

@@ -24,7 +24,8 @@ module _ (closed : List ℕ) where
       }
 
   abbrev pub switch_sends_replies : ℕ → ℕ → ℕ → BlockState → BlockState
-  switch_sends_replies n s k b = elim (switch_at b.switches n) [ None ↦ b | Some w ↦ replies_sent_by n s k b w ]
+  switch_sends_replies n s k b =
+      elim (switch_at b.switches n) [ None ↦ b | Some w ↦ replies_sent_by n s k b w ]
 
   -- ---- from module m
   abbrev pub reply_sent_by : ℕ → BlockState → Bank → BlockState
@@ -36,7 +37,8 @@ module _ (closed : List ℕ) where
       }
 
   abbrev pub module_sends_reply : ℕ → BlockState → BlockState
-  module_sends_reply m b = elim (module_at b.modules m) [ None ↦ b | Some bank ↦ reply_sent_by m b bank ]
+  module_sends_reply m b =
+      elim (module_at b.modules m) [ None ↦ b | Some bank ↦ reply_sent_by m b bank ]
 
   -- ---- from the unit with number n
   abbrev pub sends_replies : ℕ → BlockState → BlockState

@@ -26,7 +26,8 @@ replies_taken_by n s k b w = record b {
 }
 
 abbrev pub switch_takes_replies : ℕ → ℕ → ℕ → BlockState → BlockState
-switch_takes_replies n s k b = elim (switch_at b.switches n) [ None ↦ b | Some w ↦ replies_taken_by n s k b w ]
+switch_takes_replies n s k b =
+    elim (switch_at b.switches n) [ None ↦ b | Some w ↦ replies_taken_by n s k b w ]
 
 -- ---- at processing element p
 abbrev pub reply_at_element : ℕ → BlockState → Option ReplyMessage
@@ -40,7 +41,8 @@ reply_taken_by p b e = record b {
 }
 
 abbrev pub element_takes_reply : ℕ → BlockState → BlockState
-element_takes_reply p b = elim (element_at b.elements p) [ None ↦ b | Some e ↦ reply_taken_by p b e ]
+element_takes_reply p b =
+    elim (element_at b.elements p) [ None ↦ b | Some e ↦ reply_taken_by p b e ]
 
 -- ---- at the unit with number n
 abbrev pub takes_replies : ℕ → BlockState → BlockState
@@ -53,7 +55,8 @@ takes_replies n b = elim (unit_of b.stages n) [
 
 -- where a reply has come to a switch there is room
 abbrev pub SwitchCanTakeReplies : ℕ → ℕ → ℕ → BlockState → Type 0
-SwitchCanTakeReplies n s k b = ForSome (switch_at b.switches n) (λ w. CanTakeReplies w (replies_at_switch s k b))
+SwitchCanTakeReplies n s k b =
+    ForSome (switch_at b.switches n) (λ w. CanTakeReplies w (replies_at_switch s k b))
 
 -- where a reply has come to a processing element, fewer of its requests wait than it has cells open
 abbrev pub ElementCanTakeReply : ℕ → BlockState → Type 0

@@ -15,11 +15,14 @@ use Rattle.ultra_units.specs.Links.{put_on}
 pub use Rattle.ultra_units.specs.Ways.{request_targets, requests_put, has_room_at, has_request_way, request_ways, has_way_from_element}
 use Rattle.ultra_section.specs.BlockState.{BlockState, switch_at, element_at}
 
--- `closed` are, by the memory-side port, the switches whose queue there has no room for requests; in `zero` also the modules whose register holds one
+-- `closed` are, by the memory-side port, the switches whose queue there has no room for requests;
+-- in `zero` also the modules whose register holds one
 module _ (closed : Ports (List ℕ)) where
-  -- what leaves the queue at memory-side position x of stage s: the first request, if there is a way
+  -- what leaves the queue at memory-side position x of stage s: the first request, if there is a
+  -- way
   abbrev pub request_leaving : ℕ → ℕ → ℕ → SizedLane → Option Request
-  request_leaving d s x q = where_room (has_request_way closed d s x (first_request q)) (first_request q)
+  request_leaving d s x q =
+      where_room (has_request_way closed d s x (first_request q)) (first_request q)
 
   -- ---- from switch k of stage s, which has number n
   abbrev pub requests_sent_by : ℕ → ℕ → ℕ → BlockState → Switch → BlockState
@@ -31,7 +34,8 @@ module _ (closed : Ports (List ℕ)) where
       }
 
   abbrev pub switch_sends_requests : ℕ → ℕ → ℕ → BlockState → BlockState
-  switch_sends_requests n s k b = elim (switch_at b.switches n) [ None ↦ b | Some w ↦ requests_sent_by n s k b w ]
+  switch_sends_requests n s k b =
+      elim (switch_at b.switches n) [ None ↦ b | Some w ↦ requests_sent_by n s k b w ]
 
   -- ---- from processing element p
   abbrev pub request_sent_by : ℕ → BlockState → ProcessingElement → BlockState
@@ -44,7 +48,8 @@ module _ (closed : Ports (List ℕ)) where
       }
 
   abbrev pub element_sends_request : ℕ → BlockState → BlockState
-  element_sends_request p b = elim (element_at b.elements p) [ None ↦ b | Some e ↦ request_sent_by p b e ]
+  element_sends_request p b =
+      elim (element_at b.elements p) [ None ↦ b | Some e ↦ request_sent_by p b e ]
 
   -- ---- from the unit with number n
   abbrev pub sends_requests : ℕ → BlockState → BlockState

@@ -25,7 +25,8 @@ requests_taken_by n s k b w = record b {
 }
 
 abbrev pub switch_takes_requests : ℕ → ℕ → ℕ → BlockState → BlockState
-switch_takes_requests n s k b = elim (switch_at b.switches n) [ None ↦ b | Some w ↦ requests_taken_by n s k b w ]
+switch_takes_requests n s k b =
+    elim (switch_at b.switches n) [ None ↦ b | Some w ↦ requests_taken_by n s k b w ]
 
 -- ---- at module m
 abbrev pub request_at_module : ℕ → BlockState → Option Request
@@ -38,7 +39,8 @@ request_taken_by m b bank = record b {
 }
 
 abbrev pub module_takes_request : ℕ → BlockState → BlockState
-module_takes_request m b = elim (module_at b.modules m) [ None ↦ b | Some bank ↦ request_taken_by m b bank ]
+module_takes_request m b =
+    elim (module_at b.modules m) [ None ↦ b | Some bank ↦ request_taken_by m b bank ]
 
 -- ---- at the unit with number n
 abbrev pub takes_requests : ℕ → BlockState → BlockState
@@ -51,7 +53,8 @@ takes_requests n b = elim (unit_of b.stages n) [
 
 -- where a request has come to a switch, the queue that it goes to has room for two
 abbrev pub SwitchCanTakeRequests : ℕ → ℕ → ℕ → BlockState → Type 0
-SwitchCanTakeRequests n s k b = ForSome (switch_at b.switches n) (λ w. CanTakeRequests b.stages s w (requests_at_switch s k b))
+SwitchCanTakeRequests n s k b =
+    ForSome (switch_at b.switches n) (λ w. CanTakeRequests b.stages s w (requests_at_switch s k b))
 
 -- where one has come to a module, its cell is one of the module's, and the register is empty
 abbrev pub ModuleCanTakeRequest : ℕ → BlockState → Type 0

@@ -17,7 +17,8 @@ abbrev pub AreIssuesByName : (ℕ → ℕ → List Issue) → List Issue → Typ
 AreIssuesByName lists whole = AreByName (λ (i : Issue). i.pe) (λ (i : Issue). i.number) lists whole
 
 abbrev pub AreAnswersByName : (ℕ → ℕ → List Answer) → List Answer → Type 0
-AreAnswersByName lists whole = AreByName (λ (a : Answer). a.pe) (λ (a : Answer). a.number) lists whole
+AreAnswersByName lists whole =
+    AreByName (λ (a : Answer). a.pe) (λ (a : Answer). a.number) lists whole
 
 abbrev pub AreEntriesByName : (ℕ → ℕ → List Entry) → List Entry → Type 0
 AreEntriesByName lists whole = AreByName (λ (e : Entry). e.pe) (λ (e : Entry). e.number) lists whole

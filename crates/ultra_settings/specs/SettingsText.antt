@@ -1,4 +1,5 @@
--- what the text of some settings gives: the keys, the kinds of their values and their defaults are this project's profile
+-- what the text of some settings gives: the keys, the kinds of their values and their defaults are
+-- this project's profile
 use Rattle.std.specs.Prelude.{◌≡◌, ℕ, ℤ, pos, Bool, true, false, not, ◌||◌, List, ◌++◌, [], ◌∷◌, bytes_eq, option_map, option_and_then, Option, Some, None, IsSomeAnd, ⊤}
 use Rattle.std.specs.List.{list_any}
 use Rattle.std.specs.Str.{IsUtf8}
@@ -81,5 +82,6 @@ Gives text r unknown = IsUtf8 text × IsSomeAnd (parse_document text) (λ ms. Is
 abbrev pub ExplainsFault : List ℕ → SettingsFault → Type 0
 ExplainsFault text NoMemory = ⊤
 ExplainsFault text NotToml = IsUtf8 text → parse_document text ≡ None
-ExplainsFault text (BadField f) = (r : RawSettings) × (unknown : Bool) × Gives text r unknown × (first_bad r ≡ Some f)
+ExplainsFault text (BadField f) =
+    (r : RawSettings) × (unknown : Bool) × Gives text r unknown × (first_bad r ≡ Some f)
 ExplainsFault text UnknownKey = (r : RawSettings) × Gives text r true × (first_bad r ≡ None)

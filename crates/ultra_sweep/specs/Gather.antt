@@ -61,8 +61,8 @@ ExplainsFault n results (Stranger i) =
 ExplainsFault n results (Missing i) = IsFirstMissing n results i
 ExplainsFault n results NoMemory = ⊤
 
--- the same where there is memory to put them together: `NoMemory` comes just where it was refused to
--- a job
+-- the same where there is memory to put them together: `NoMemory` comes just where it was refused
+-- to a job
 abbrev pub ExplainsEnd : ℕ → List JobResult → GatherFault → Type 0
 ExplainsEnd n results (Double i) = ExplainsFault n results (Double i)
 ExplainsEnd n results (Stranger i) = ExplainsFault n results (Stranger i)

@@ -1,4 +1,5 @@
--- a request arrives at a queue toward memory. Queues, wait buffers and pairwise combining are the 1983 paper's; which entry combines, and when, is this project's profile
+-- a request arrives at a queue toward memory. Queues, wait buffers and pairwise combining are the
+-- 1983 paper's; which entry combines, and when, is this project's profile
 use Rattle.std.specs.Prelude.{ℕ, List, [], ◌∷◌, ◌++◌, Bool, true, false, not, ◌&&◌, ◌==◌, nat_lt, length, Option, Some, None}
 use Rattle.ultra_msg.specs.declared.Request.{Request}
 use Rattle.ultra_msg.specs.Pair.{pair_of}
@@ -18,11 +19,13 @@ empty_lane = record { queue = []; records = [] }
 abbrev pub entry : Request → Bool → Entry
 entry r marked = record { request = r; combined = marked }
 
--- whether a request may combine with this entry: it is for the same cell, and has not combined in this queue
+-- whether a request may combine with this entry: it is for the same cell, and has not combined in
+-- this queue
 abbrev pub can_combine : Request → Entry → Bool
 can_combine r e = not e.combined && (e.request.cell == r.cell)
 
--- the request that stands for both after a request has combined with an old one: it has the identity of the old one
+-- the request that stands for both after a request has combined with an old one: it has the
+-- identity of the old one
 abbrev pub sent_for : Request → Request → Request
 sent_for old r = record { pe = old.pe; cell = old.cell; op = (pair_of old.op r.op).sent }
 
@@ -59,11 +62,13 @@ combine r (e ∷ es) = elim (can_combine r e) [
 
 -- where the wait buffer has fewer records than places
 abbrev pub combine_within : ℕ → Lane → Request → Option Combination
-combine_within wait_places l r = elim (nat_lt (length l.records) wait_places) [ true ↦ combine r l.queue | false ↦ None ]
+combine_within wait_places l r =
+    elim (nat_lt (length l.records) wait_places) [ true ↦ combine r l.queue | false ↦ None ]
 
 abbrev pub after_arrival : Lane → Request → Option Combination → Lane
 after_arrival l r None = record { queue = l.queue ++ entry r false ∷ []; records = l.records }
-after_arrival l r (Some c) = record { queue = c.queue; records = l.records ++ wait_record c.old r ∷ [] }
+after_arrival l r (Some c) =
+    record { queue = c.queue; records = l.records ++ wait_record c.old r ∷ [] }
 
 -- the lane after a request has arrived: it has combined, or it stands at the end, unmarked
 abbrev pub arrive : ℕ → Lane → Request → Lane

@@ -1,4 +1,5 @@
--- which requests of a queue have combined there, as bits of one word: bit i is the mark of the request at place i, counted from the front. This project's profile
+-- which requests of a queue have combined there, as bits of one word: bit i is the mark of the
+-- request at place i, counted from the front. This project's profile
 use Rattle.std.specs.Prelude.{◌≡◌, ℕ, suc, ◌≤◌, List, [], ◌∷◌, Bool, false, ◌==◌, length}
 use Rattle.std.specs.Int.{bit_at}
 use Rattle.ultra_msg.specs.declared.Request.{Request}

@@ -22,7 +22,8 @@ module _ {X : Type 0} (p : X → Bool) (xs : List X) where
 abbrev pub combination_at : Request → List Entry → ℕ → Entry → Combination
 combination_at r es k e = record { queue = slice_set es k (combined_entry e r); old = e }
 
--- where a place is given, the request combines with the entry there; where none is, it combines with none
+-- where a place is given, the request combines with the entry there; where none is, it combines
+-- with none
 abbrev pub IsPartner : ℕ → Lane → Request → Option ℕ → Type 0
 IsPartner wait_places l r found = MatchOption found
     (combine_within wait_places l r ≡ None)

@@ -1,4 +1,5 @@
--- what a caller sees of the queues of a switch: what lies in them, and how many places they have. Their places are this project's profile
+-- what a caller sees of the queues of a switch: what lies in them, and how many places they have.
+-- Their places are this project's profile
 use Rattle.std.specs.Prelude.{◌≤◌, ℕ, List, [], length, Option, Some, None}
 use Rattle.ultra_msg.specs.declared.Request.{Request}
 use Rattle.ultra_msg.specs.declared.ReplyMessage.{ReplyMessage}
@@ -12,7 +13,8 @@ pub record SizedLane : Type 0 where
   pub wait_places : ℕ
 
 abbrev pub empty_requests : ℕ → ℕ → SizedLane
-empty_requests request_places wait_places = record { lane = empty_lane; request_places = request_places; wait_places = wait_places }
+empty_requests request_places wait_places =
+    record { lane = empty_lane; request_places = request_places; wait_places = wait_places }
 
 -- nothing holds more than its places; a queue has at most 32, and a wait buffer at most 16
 pub record IsWithinPlaces (l : SizedLane) : Type 0 where

@@ -1,4 +1,5 @@
--- a reply comes back to a switch. That a combined request is answered from what the wait buffer keeps is the 1983 paper's
+-- a reply comes back to a switch. That a combined request is answered from what the wait buffer
+-- keeps is the 1983 paper's
 use Rattle.std.specs.Prelude.{List, [], ◌∷◌, Bool, true, false, ◌&&◌, ◌==◌}
 use Rattle.ultra_msg.specs.declared.ReplyMessage.{ReplyMessage}
 use Rattle.ultra_msg.specs.Act.{reply_given}
@@ -21,10 +22,12 @@ old_reply m w = record { pe = m.pe; cell = m.cell; reply = reply_given w.give_ol
 abbrev pub new_reply : ReplyMessage → WaitRecord → ReplyMessage
 new_reply m w = record { pe = w.partner; cell = m.cell; reply = reply_given w.give_new m.reply }
 
--- the replies that come of it: those of the two requests of the oldest record of this identity, old's first, or itself where there is none
+-- the replies that come of it: those of the two requests of the oldest record of this identity,
+-- old's first, or itself where there is none
 abbrev pub replies_of : ReplyMessage → List WaitRecord → List ReplyMessage
 replies_of m [] = m ∷ []
-replies_of m (w ∷ ws) = elim (is_of m w) [ true ↦ old_reply m w ∷ new_reply m w ∷ [] | false ↦ replies_of m ws ]
+replies_of m (w ∷ ws) =
+    elim (is_of m w) [ true ↦ old_reply m w ∷ new_reply m w ∷ [] | false ↦ replies_of m ws ]
 
 -- the replies that a split gives
 abbrev pub replies_in : Split → List ReplyMessage

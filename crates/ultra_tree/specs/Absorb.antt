@@ -20,7 +20,8 @@ cell_of (Served k r reply now) = r.cell
 cell_of (Combined s x a p q f) = a
 cell_of (Issued r i) = r.cell
 
--- an explainer as its callers see it: the number of processing elements, how many requests each can have on their way, whether memory was refused, and the trees, the latest first
+-- an explainer as its callers see it: the number of processing elements, how many requests each can
+-- have on their way, whether memory was refused, and the trees, the latest first
 pub record Explained : Type 0 where
   pub elements : ℕ
   pub most_open : ℕ
@@ -39,5 +40,6 @@ IsCombination (Issued r i) = ⊥
 
 -- when each fault comes, and what it leaves
 abbrev pub ExplainsFault : Explained → Event → ExplainFault → Explained → Type 0
-ExplainsFault old e Full new = (old.is_spent ≡ false) × IsCombination e × (new ≡ record old { is_spent = true; trees = [] })
+ExplainsFault old e Full new =
+    (old.is_spent ≡ false) × IsCombination e × (new ≡ record old { is_spent = true; trees = [] })
 ExplainsFault old e Spent new = (old.is_spent ≡ true) × (new ≡ old)

@@ -11,7 +11,8 @@ module _ {A : Type 0} where
   -- each pair has the counts of its two parts
   abbrev pub has_right_counts : Node A → Bool
   has_right_counts (node.Leaf p n o) = true
-  has_right_counts (Pair' s x p old q new first k l) = (k == leaf_count old) && (l == leaf_count new) && has_right_counts old && has_right_counts new
+  has_right_counts (Pair' s x p old q new first k l) =
+      (k == leaf_count old) && (l == leaf_count new) && has_right_counts old && has_right_counts new
 
   -- an equation, since a ghost field has one proof at most
   abbrev pub HasRightCounts : Node A → Type 0

@@ -13,7 +13,8 @@ module _ {A : Type 0} where
   leaves_in (Pair' s x p old q new true k l) = leaves_in old ++ leaves_in new
   leaves_in (Pair' s x p old q new false k l) = leaves_in new ++ leaves_in old
 
-  -- the depth of a leaf: n where it stands in n pairs. Its place is that in the text, where old comes before new
+  -- the depth of a leaf: n where it stands in n pairs. Its place is that in the text, where old
+  -- comes before new
   abbrev pub depth_at : Node A → ℕ → ℕ
   depth_at (node.Leaf p n o) i = 0
   depth_at (Pair' s x p old q new f k l) i = elim (nat_lt i (leaf_count old)) [ true ↦ depth_at old i + 1 | false ↦ depth_at new (i - leaf_count old) + 1 ]
@@ -23,7 +24,8 @@ module _ {A : Type 0} where
   depth_of_first t zero = 0
   depth_of_first t (suc i) = max (depth_at t i) (depth_of_first t i)
 
-  -- the text of a leaf with what opens before it and closes behind it, where n pairs close behind the whole tree, and then a mark comes
+  -- the text of a leaf with what opens before it and closes behind it, where n pairs close behind
+  -- the whole tree, and then a mark comes
   abbrev pub piece : Node A → ℕ → ℕ → Option Bool → List ℕ
   piece (node.Leaf p n o) i closing mark = leaf_text p n ++ closings closing ++ mark_text mark
   piece (Pair' s x p old q new f k l) i closing mark =

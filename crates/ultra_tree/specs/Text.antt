@@ -17,7 +17,8 @@ order_mark false = codes " > "
 
 abbrev pub tree_text : Tree → List ℕ
 tree_text (leaf l) = leaf_text l.pe l.number
-tree_text (pair s x old new f) = head_text s x ++ tree_text old ++ order_mark f ++ tree_text new ++ codes "]"
+tree_text (pair s x old new f) =
+    head_text s x ++ tree_text old ++ order_mark f ++ tree_text new ++ codes "]"
 
 -- ---- parts of such a text
 -- a pair opens before its first leaf

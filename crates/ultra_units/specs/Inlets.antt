@@ -1,4 +1,5 @@
--- by which links messages come to the unit with a number, and what goes from one table of links to another
+-- by which links messages come to the unit with a number, and what goes from one table of links to
+-- another
 use Rattle.std.specs.Prelude.{◌≡◌, ℕ, List, Option, Some, None, slice_set}
 use Rattle.ultra_switch.specs.declared.Ports.{Ports}
 use Rattle.ultra_units.specs.declared.unit.Unit.TheVariants as unit
@@ -31,9 +32,11 @@ request_inlets d n = elim (unit_of d n) [
 
 -- what is taken from two links, first from the one and then from the other, and put on them
 abbrev pub taken_by_turns : {M : Type 0} → List (Option M) → Ports ℕ → Ports (Option M)
-taken_by_turns table p = record { zero = on_link table p.zero; one = on_link (slice_set table p.zero None) p.one }
+taken_by_turns table p =
+    record { zero = on_link table p.zero; one = on_link (slice_set table p.zero None) p.one }
 
-abbrev pub put_on_both : {M : Type 0} → List (Option M) → Ports ℕ → Ports (Option M) → List (Option M)
+abbrev pub put_on_both : {M : Type 0} → List (Option M) → Ports ℕ → Ports (Option M)
+    → List (Option M)
 put_on_both table p o = put_on (put_on table p.zero o.zero) p.one o.one
 
 -- nothing is on the links of a unit

@@ -30,22 +30,27 @@ delivery_link d p = place_number d 0 (shuffled d p)
 
 pub record RepliesAreKnown (d : ℕ) (l : Links ReplyMessage) : Type 0 where
   pub all : HasAllLinks d l
-  pub switches_zero : (n : ℕ) → n < switch_count d → IsMarked l n (reply_links d (stage_of d n) (index_of d n)).zero
-  pub switches_one : (n : ℕ) → n < switch_count d → IsMarked l n (reply_links d (stage_of d n) (index_of d n)).one
+  pub switches_zero : (n : ℕ) → n < switch_count d
+      → IsMarked l n (reply_links d (stage_of d n) (index_of d n)).zero
+  pub switches_one : (n : ℕ) → n < switch_count d
+      → IsMarked l n (reply_links d (stage_of d n) (index_of d n)).one
   pub elements : (p : ℕ) → p < 2 ^ d → IsMarked l (element_number d p) (delivery_link d p)
 
 -- ---- requests
 -- the links by which requests come to switch k of stage s, and to module m
 abbrev pub request_links : ℕ → ℕ → ℕ → Ports ℕ
-request_links d s k = record { zero = request_source d s (2 * k); one = request_source d s (2 * k + 1) }
+request_links d s k =
+    record { zero = request_source d s (2 * k); one = request_source d s (2 * k + 1) }
 
 abbrev pub memory_link : ℕ → ℕ → ℕ
 memory_link d m = place_number d (d - 1) m
 
 pub record RequestsAreKnown (d : ℕ) (l : Links Request) : Type 0 where
   pub all : HasAllLinks d l
-  pub switches_zero : (n : ℕ) → n < switch_count d → IsMarked l n (request_links d (stage_of d n) (index_of d n)).zero
-  pub switches_one : (n : ℕ) → n < switch_count d → IsMarked l n (request_links d (stage_of d n) (index_of d n)).one
+  pub switches_zero : (n : ℕ) → n < switch_count d
+      → IsMarked l n (request_links d (stage_of d n) (index_of d n)).zero
+  pub switches_one : (n : ℕ) → n < switch_count d
+      → IsMarked l n (request_links d (stage_of d n) (index_of d n)).one
   pub modules : (m : ℕ) → m < 2 ^ d → IsMarked l (module_number d m) (memory_link d m)
 
 -- ---- what is taken

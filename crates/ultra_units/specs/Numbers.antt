@@ -18,16 +18,21 @@ element_number d p = switch_count d + 2 ^ d + p
 abbrev pub unit_count : ℕ → ℕ
 unit_count d = switch_count d + 2 * 2 ^ d
 
--- a link has the number of the position from which a message leaves: that of position x of stage s, counted over all stages; behind them, as positions of stage d, come the modules, from which replies leave, and the processing elements, from which requests leave
+-- a link has the number of the position from which a message leaves: that of position x of stage s,
+-- counted over all stages; behind them, as positions of stage d, come the modules, from which
+-- replies leave, and the processing elements, from which requests leave
 abbrev pub place_number : ℕ → ℕ → ℕ → ℕ
 place_number d s x = s * 2 ^ d + x
 
 -- ---- replies
--- the link by which a reply comes to memory-side position x of stage s: from the next stage, or from module x
+-- the link by which a reply comes to memory-side position x of stage s: from the next stage, or
+-- from module x
 abbrev pub reply_source : ℕ → ℕ → ℕ → ℕ
-reply_source d s x = elim (s == d - 1) [ true ↦ place_number d d x | false ↦ place_number d (s + 1) (shuffled d x) ]
+reply_source d s x =
+    elim (s == d - 1) [ true ↦ place_number d d x | false ↦ place_number d (s + 1) (shuffled d x) ]
 
--- the unit to which a reply goes from PE-side position y of stage s: to the stage before, or to a processing element
+-- the unit to which a reply goes from PE-side position y of stage s: to the stage before, or to a
+-- processing element
 abbrev pub reply_target : ℕ → ℕ → ℕ → ℕ
 reply_target d s y = elim (s == 0) [
   | true ↦ element_number d (unshuffled d y)
@@ -35,11 +40,13 @@ reply_target d s y = elim (s == 0) [
 ]
 
 -- ---- requests
--- the link by which a request comes to PE-side position y of stage s: from the stage before, or from a processing element
+-- the link by which a request comes to PE-side position y of stage s: from the stage before, or
+-- from a processing element
 abbrev pub request_source : ℕ → ℕ → ℕ → ℕ
 request_source d s y = elim (s == 0) [ true ↦ place_number d d (unshuffled d y) | false ↦ place_number d (s - 1) (unshuffled d y) ]
 
--- the unit to which a request goes from memory-side position x of stage s: to the next stage, or to module x
+-- the unit to which a request goes from memory-side position x of stage s: to the next stage, or to
+-- module x
 abbrev pub request_target : ℕ → ℕ → ℕ → ℕ
 request_target d s x = elim (s == d - 1) [
   | true ↦ module_number d x

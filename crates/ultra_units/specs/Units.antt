@@ -55,7 +55,8 @@ of_unit d switch bank element x n = elim (unit_of d n) [
   | Nothing ↦ x
 ]
 
--- where the numbers of each kind begin: those of modules, of processing elements, and those that no unit has
+-- where the numbers of each kind begin: those of modules, of processing elements, and those that no
+-- unit has
 pub record IsNumbering (d first_module first_element count : ℕ) : Type 0 where
   pub modules : first_module ≡ switch_count d
   pub elements : first_element ≡ switch_count d + 2 ^ d

@@ -14,8 +14,10 @@ abbrev pub reply_targets : ℕ → ℕ → ℕ → Ports ℕ
 reply_targets d s k = record { zero = reply_target d s (2 * k); one = reply_target d s (2 * k + 1) }
 
 -- what is on the links once what leaves switch k of stage s has been put there
-abbrev pub replies_put : ℕ → ℕ → ℕ → Ports (Option ReplyMessage) → List (Option ReplyMessage) → List (Option ReplyMessage)
-replies_put d s k out table = put_on (put_on table (place_number d s (2 * k)) out.zero) (place_number d s (2 * k + 1)) out.one
+abbrev pub replies_put : ℕ → ℕ → ℕ → Ports (Option ReplyMessage) → List (Option ReplyMessage)
+    → List (Option ReplyMessage)
+replies_put d s k out table =
+    put_on (put_on table (place_number d s (2 * k)) out.zero) (place_number d s (2 * k + 1)) out.one
 
 -- the link leads from a PE-side position of a stage to the unit
 abbrev pub IsReplyWay : ℕ → ℕ → ℕ → Type 0
@@ -25,10 +27,12 @@ IsReplyWay d link target = (s : ℕ) × (y : ℕ) × (s < d) × (y < 2 ^ d) × (
 module _ (closed : List ℕ) where
   -- whether a reply may go on from a PE-side position of a stage: to a processing element always
   abbrev pub has_reply_way : ℕ → ℕ → ℕ → Bool
-  has_reply_way d s y = elim (s == 0) [ true ↦ true | false ↦ not (has_unit closed (reply_target d s y)) ]
+  has_reply_way d s y =
+      elim (s == 0) [ true ↦ true | false ↦ not (has_unit closed (reply_target d s y)) ]
 
   abbrev pub reply_ways : ℕ → ℕ → ℕ → Ports Bool
-  reply_ways d s k = record { zero = has_reply_way d s (2 * k); one = has_reply_way d s (2 * k + 1) }
+  reply_ways d s k =
+      record { zero = has_reply_way d s (2 * k); one = has_reply_way d s (2 * k + 1) }
 
   -- from a module: to its switch of the last stage
   abbrev pub has_way_from_module : ℕ → ℕ → Bool
@@ -37,17 +41,21 @@ module _ (closed : List ℕ) where
 -- ---- requests
 -- the units to which requests go from switch k of stage s, by the memory-side port
 abbrev pub request_targets : ℕ → ℕ → ℕ → Ports ℕ
-request_targets d s k = record { zero = request_target d s (2 * k); one = request_target d s (2 * k + 1) }
+request_targets d s k =
+    record { zero = request_target d s (2 * k); one = request_target d s (2 * k + 1) }
 
 -- what is on the links once what leaves switch k of stage s has been put there
-abbrev pub requests_put : ℕ → ℕ → ℕ → Ports (Option Request) → List (Option Request) → List (Option Request)
-requests_put d s k out table = put_on (put_on table (place_number d s (2 * k)) out.zero) (place_number d s (2 * k + 1)) out.one
+abbrev pub requests_put : ℕ → ℕ → ℕ → Ports (Option Request) → List (Option Request)
+    → List (Option Request)
+requests_put d s k out table =
+    put_on (put_on table (place_number d s (2 * k)) out.zero) (place_number d s (2 * k + 1)) out.one
 
 -- the link leads from a memory-side position of a stage to the unit
 abbrev pub IsRequestWay : ℕ → ℕ → ℕ → Type 0
 IsRequestWay d link target = (s : ℕ) × (x : ℕ) × (s < d) × (x < 2 ^ d) × (link ≡ place_number d s x) × (target ≡ request_target d s x)
 
--- `closed` are, by the memory-side port, the switches whose queue there has no room for requests; in `zero` also the modules whose register holds one
+-- `closed` are, by the memory-side port, the switches whose queue there has no room for requests;
+-- in `zero` also the modules whose register holds one
 module _ (closed : Ports (List ℕ)) where
   -- whether the queue that a request goes to at a switch of stage s has room
   abbrev pub has_room_at : ℕ → ℕ → ℕ → Request → Bool
@@ -56,7 +64,8 @@ module _ (closed : Ports (List ℕ)) where
     | false ↦ not (has_unit closed.one switch)
   ]
 
-  -- whether the first request of a queue may go on from a memory-side position of stage s: to a module from the last one
+  -- whether the first request of a queue may go on from a memory-side position of stage s: to a
+  -- module from the last one
   abbrev pub has_request_way : ℕ → ℕ → ℕ → Option Request → Bool
   has_request_way d s x None = false
   has_request_way d s x (Some r) = elim (s == d - 1) [

@@ -19,4 +19,5 @@ neighbours d s k = record {
 -- the entries are of the first switches, by their numbers
 pub record AreNeighbours (d count : ℕ) (entries : List Neighbours) : Type 0 where
   pub all : length entries ≡ count
-  pub each : (n : ℕ) (x : Neighbours) → n < count → slice_index_or entries n x ≡ neighbours d (stage_of d n) (index_of d n)
+  pub each : (n : ℕ) (x : Neighbours) → n < count
+      → slice_index_or entries n x ≡ neighbours d (stage_of d n) (index_of d n)

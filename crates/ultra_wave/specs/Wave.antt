@@ -1,4 +1,6 @@
--- a wave: each processing element has asked for the same cell, and its requests combine at every stage of their way. The network and its combining are the 1983 paper's; the order of arrivals is this project's profile
+-- a wave: each processing element has asked for the same cell, and its requests combine at every
+-- stage of their way. The network and its combining are the 1983 paper's; the order of arrivals is
+-- this project's profile
 use Rattle.std.specs.Prelude.{ℕ, zero, suc, ◌+◌, ◌-◌, ◌*◌, ◌/◌, ◌%◌, ◌^◌, List, [], ◌∷◌, Bool, true, false, ◌==◌, Option, Some, None}
 use Rattle.ultra_msg.specs.declared.Request.{Request}
 use Rattle.ultra_route.specs.Route.{unshuffled}
@@ -9,9 +11,11 @@ use Rattle.ultra_switch.specs.Arrive.{Lane, empty_lane, entry, sent_for, wait_re
 abbrev pub leads_to : ℕ → ℕ → ℕ → ℕ → Bool
 leads_to d k s x = x % 2 ^ s == k / 2 ^ (d - s)
 
--- a wave to module k through d stages that sets out in cycle n with these requests, one for each line before stage 0
+-- a wave to module k through d stages that sets out in cycle n with these requests, one for each
+-- line before stage 0
 module _ (d n : ℕ) (asked : ℕ → Request) where
-  -- the PE-side positions of the two requests that meet at memory-side position x of stage s: the one that arrives first, and the other
+  -- the PE-side positions of the two requests that meet at memory-side position x of stage s: the
+  -- one that arrives first, and the other
   abbrev pub first_port : ℕ → ℕ → ℕ
   first_port s x = elim ((n + s) % 2 == 0) [ true ↦ 2 * (x / 2) | false ↦ 2 * (x / 2) + 1 ]
 
@@ -21,7 +25,8 @@ module _ (d n : ℕ) (asked : ℕ → Request) where
   -- the request that stands for all who have come together on line x before stage s
   unfoldable pub front : ℕ → ℕ → Request
   front zero x = asked x
-  front (suc s) x = sent_for (front s (unshuffled d (first_port s x))) (front s (unshuffled d (second_port s x)))
+  front (suc s) x =
+      sent_for (front s (unshuffled d (first_port s x))) (front s (unshuffled d (second_port s x)))
 
   abbrev pub old_of : ℕ → ℕ → Request
   old_of s x = front s (unshuffled d (first_port s x))
