@@ -1,3 +1,4 @@
+pub mod Moving
 pub mod Pairs
 pub mod Prefixes
 pub mod Parts

@@ -7,10 +7,12 @@ ghost use Rattle.ultra_msg.specs.Pair.{pair_of, is_fixed, KeepsBoth};
 
 mod pieces;
 mod sink;
+mod taking;
 
 pub use pieces::write_pieces;
 pub use sink::{Sink, SinkFault, write_all};
 use std::marker::Model;
+pub use taking::take_out;
 
 /// A word of the machine: a number below `2^32`. Sums and differences of words are modulo `2^32`.
 pub type Word = u32;

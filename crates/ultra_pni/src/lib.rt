@@ -1,8 +1,8 @@
 //! A processing element's network interface: its requests that are not yet in the network, and its open cells.
 #![tactic(auto)]
 
-ghost use Rattle.std.specs.Prelude.{◌≡◌, ℕ, ◌-◌, ◌<◌, ◌≤◌, ◌↔◌, ◌==◌, ◌&&◌, [], true, false, length, drop, slice_get, slice_index_or};
-ghost use Rattle.std.specs.List.{position, remove};
+ghost use Rattle.std.specs.Prelude.{◌≡◌, ℕ, ◌-◌, ◌<◌, ◌≤◌, ◌↔◌, ◌==◌, ◌&&◌, [], true, false, length, drop, slice_get};
+ghost use Rattle.std.specs.List.{position};
 ghost use Rattle.ultra_pni.specs.Interface.{empty_interface, is_open, is_awaited, issue_of, after_issue, target_of, closed, IsWithin};
 
 mod registers;
@@ -12,7 +12,7 @@ use arrayvec::ArrayVec;
 use registers::{Registers, awaited_by};
 use ring::RequestRing;
 use std::marker::Model;
-use ultra_msg::{Cell, Register, ReplyMessage, Request};
+use ultra_msg::{Cell, Register, ReplyMessage, Request, take_out};
 
 /// The most cells that an interface can hold open.
 pub const MOST_OPEN: usize = 8;
@@ -65,24 +65,6 @@ fn place_of(opened: &[OpenCell], cell: Cell) -> Option<usize>
     ensures { result ≡ position (λ o. o.cell == cell) opened.now }
 {
     opened.iter().position(|open| open.cell == cell)
-}
-
-/// Takes the open cell at a place out of the list. Those behind it move forward one by one, since they are few.
-#[inline(always)]
-fn take_out(opened: &mut ArrayVec<OpenCell, MOST_OPEN>, place: usize) -> OpenCell
-    requires { place < length opened.old.items }
-    ensures value { result ≡ slice_index_or opened.old.items place result }
-    ensures items { opened.new.items ≡ remove opened.old.items place }
-{
-    let mut taken = opened.pop().unwrap();
-    let mut at = opened.len();
-    while at > place {
-        at -= 1;
-        let moved = opened[at];
-        opened[at] = taken;
-        taken = moved;
-    }
-    taken
 }
 
 impl Pni {

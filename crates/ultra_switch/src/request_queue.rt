@@ -12,7 +12,7 @@ use crate::{Arrived, Entry, Split, WaitRecord};
 use arrayvec::ArrayVec;
 use std::alloc::{AllocError, Global};
 use std::marker::Model;
-use ultra_msg::{ReplyMessage, Request, pair};
+use ultra_msg::{ReplyMessage, Request, pair, take_out};
 
 /// The most places that a wait buffer can have.
 const MOST_WAIT_PLACES: usize = 16;
@@ -157,7 +157,7 @@ impl ToMm {
         ensures records { self.new ≡ record self.old { lane = record self.old.lane { records = records_after reply self.old.lane.records } } }
     {
         match record_place(&self.records, reply) {
-            Some(place) => replies_by(self.records.remove(place), reply),
+            Some(place) => replies_by(take_out(&mut self.records, place), reply),
             None => Split::One(reply),
         }
     }

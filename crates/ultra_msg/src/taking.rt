@@ -1,0 +1,24 @@
+//! Short lists, from which an item is taken.
+
+ghost use Rattle.std.specs.Prelude.{◌≡◌, ◌<◌, length, slice_index_or};
+ghost use Rattle.std.specs.List.{remove};
+
+use arrayvec::ArrayVec;
+
+/// Takes the item at a place out of a list. Those behind it move forward one by one, since they are few.
+#[inline(always)]
+pub fn take_out<T: Copy + Default, const N: usize>(list: &mut ArrayVec<T, N>, place: usize) -> T
+    requires { place < length list.old.items }
+    ensures value { result ≡ slice_index_or list.old.items place result }
+    ensures items { list.new.items ≡ remove list.old.items place }
+{
+    let mut taken = list.pop().unwrap();
+    let mut at = list.len();
+    while at > place {
+        at -= 1;
+        let moved = list[at];
+        list[at] = taken;
+        taken = moved;
+    }
+    taken
+}
