@@ -1,10 +1,10 @@
 -- writing one text after another
-use Rattle.std.proofs.Common.{ℕ, ◌≡◌, ◌+◌, ◌⊎◌, inl, inr, List, [], ◌++◌, Bool, true, false, refl, sym, ◌∙◌, ap, subst, append_assoc, append-nil}
+use Rattle.std.proofs.Common.{ℕ, ◌≡◌, ◌+◌, ◌⊎◌, inl, inr, List, [], ◌++◌, take, Bool, true, false, refl, sym, ◌∙◌, ap, subst, append_assoc, append-nil}
 use Rattle.std.specs.Prelude.{Result, Ok, Err, OnOk, OnErr, IsOk}
 use Rattle.ultra_msg.specs.Bytes.{AreTakenOrWait, IsPrefix, TakesPrefix, Writes as HasGone}
 use Rattle.ultra_msg.proofs.Prefixes.{prefix_more, prefix_behind, takes_more, takes_longer, takes_later, none_written, more_waits, both_written}
 use Rattle.ultra_io.specs.declared.page.Page.{Page}
-use Rattle.ultra_io.specs.Page.{State, IsSpent, Wrote, IsBlank, state_of, Writes}
+use Rattle.ultra_io.specs.Page.{State, IsSpent, Wrote, IsBlank, state_at, GoesOn, Writes}
 
 pub either : (b : Bool) → (b ≡ true) ⊎ (b ≡ false)
 either true = inl refl
@@ -57,8 +57,11 @@ wrote_then a b s t u v w = record {
 
 -- the same of pages
 module _ {S : Type 0} {taken : S → List ℕ} {failures : S → ℕ} where
+  pub nothing_written : (s : Page S) (at : ℕ) → GoesOn taken failures [] s at s at
+  nothing_written s at = record { same_reference = refl; wrote = wrote_nothing (state_at taken failures s at) }
+
   pub writes_nothing : (s : Page S) → Writes taken failures [] s s
-  writes_nothing s = record { same_reference = refl; wrote = wrote_nothing (state_of taken failures s) }
+  writes_nothing s = nothing_written s s.sheet.filled
 
   pub writes_failed : {a : List ℕ} (b : List ℕ) {s t : Page S} → t.failed ≡ true → Writes taken failures a s t → Writes taken failures (a ++ b) s t
   writes_failed {a} b {s} {t} f w = record { same_reference = w.same_reference; wrote = wrote_failed a b _ _ f w.wrote }
@@ -67,8 +70,13 @@ module _ {S : Type 0} {taken : S → List ℕ} {failures : S → ℕ} where
   writes_spent {a} b {s} {t} f w = record { same_reference = w.same_reference; wrote = wrote_spent a b _ _ f w.wrote }
 
   infixl 20 ◌then◌
-  pub ◌then◌ : {a b : List ℕ} {s t u : Page S} → Writes taken failures a s t → Writes taken failures b t u → Writes taken failures (a ++ b) s u
-  ◌then◌ {a} {b} {s} {t} {u} v w = record { same_reference = w.same_reference ∙ v.same_reference; wrote = wrote_then a b _ _ _ v.wrote w.wrote }
+  pub ◌then◌ : {a b : List ℕ} {s t u : Page S} {i j k : ℕ} → GoesOn taken failures a s i t j → GoesOn taken failures b t j u k → GoesOn taken failures (a ++ b) s i u k
+  ◌then◌ {a} {b} v w = record { same_reference = w.same_reference ∙ v.same_reference; wrote = wrote_then a b _ _ _ v.wrote w.wrote }
+
+  -- the text is the same, and goes as far as another place now
+  infixl 20 ◌moved◌
+  pub ◌moved◌ : {a : List ℕ} {s t u : Page S} {i j k : ℕ} → GoesOn taken failures a s i t j → GoesOn taken failures [] t j u k → GoesOn taken failures a s i u k
+  ◌moved◌ {a} v w = rw (append-nil a) at (v then w)
 
 -- bytes came to those that wait
 wrote_waiting : (b : List ℕ) (s t : State) → t.taken ≡ s.taken → t.failures ≡ s.failures → t.failed ≡ s.failed → t.waiting ≡ s.waiting ++ b → Wrote b s t
@@ -79,10 +87,10 @@ wrote_waiting b s t taken failures failed waiting = record {
 }
 
 module _ {S : Type 0} {taken : S → List ℕ} {failures : S → ℕ} where
-  pub writes_waiting : (b : List ℕ) (s t : Page S) → t.sink ≡ s.sink → t.failed ≡ s.failed → t.waiting.items ≡ s.waiting.items ++ b → Writes taken failures b s t
-  writes_waiting b s t sink failed waiting = record {
+  pub came_behind : (b : List ℕ) (s t : Page S) (i j : ℕ) → t.sink ≡ s.sink → t.failed ≡ s.failed → take j t.sheet.bytes ≡ take i s.sheet.bytes ++ b → GoesOn taken failures b s i t j
+  came_behind b s t i j sink failed text = record {
     same_reference = ap (λ r. r.ghost_name) sink;
-    wrote = wrote_waiting b _ _ (ap (λ r. taken r.now) sink) (ap (λ r. failures r.now) sink) failed waiting;
+    wrote = wrote_waiting b _ _ (ap (λ r. taken r.now) sink) (ap (λ r. failures r.now) sink) failed text;
   }
 
 -- what holds on `Ok` holds where the result is `Ok`
@@ -126,7 +134,7 @@ finished_states (Err x) bytes s t empty sound w none_left whole failed = record 
   counted = (w.prefix sound failed).1;
 }
 
-is_empty : {S T E : Type 0} (r : Result T E) (p : Page S) → OnOk r (IsBlank p) → OnOk r (p.waiting.items ≡ [])
+is_empty : {S T E : Type 0} (r : Result T E) (p : Page S) → OnOk r (IsBlank p) → OnOk r (take p.sheet.filled p.sheet.bytes ≡ [])
 is_empty (Ok x) p blank = blank.empty
 is_empty (Err x) p blank = tt
 

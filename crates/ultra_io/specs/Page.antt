@@ -40,31 +40,33 @@ module _ {S : Type 0} where
 
   -- nothing waits on the page, and its sink has not failed it
   pub record IsBlank (p : Page S) : Type 0 where
-    pub empty : p.waiting.items ≡ []
+    pub empty : take p.sheet.filled p.sheet.bytes ≡ []
     pub sound : p.failed ≡ false
 
 -- of a page, whose sink reports what it has taken and how often it has failed
 module _ {S : Type 0} (taken : S → List ℕ) (failures : S → ℕ) where
-  abbrev pub state_of : Page S → State
-  state_of p = record {
+  -- where the text on the page goes as far as a place
+  abbrev pub state_at : Page S → ℕ → State
+  state_at p at = record {
     taken = taken p.sink.now;
     failures = failures p.sink.now;
-    waiting = p.waiting.items;
+    waiting = take at p.sheet.bytes;
     failed = p.failed;
   }
 
-  -- bytes were written on the page
-  pub record Writes (bytes : List ℕ) (old new : Page S) : Type 0 where
+  -- text that goes as far as a place on the page goes on with bytes, as far as the place behind them
+  pub record GoesOn (bytes : List ℕ) (old : Page S) (at : ℕ) (new : Page S) (behind : ℕ) : Type 0 where
     pub same_reference : new.sink.ghost_name ≡ old.sink.ghost_name
-    pub wrote : Wrote bytes (state_of old) (state_of new)
+    pub wrote : Wrote bytes (state_at old at) (state_at new behind)
+
+  -- text was begun behind what waits, and goes as far as a place
+  abbrev pub Begins : List ℕ → Page S → Page S → ℕ → Type 0
+  Begins bytes old new at = GoesOn bytes old old.sheet.filled new at
+
+  -- bytes were written behind what waits, and wait or have been taken
+  abbrev pub Writes : List ℕ → Page S → Page S → Type 0
+  Writes bytes old new = GoesOn bytes old old.sheet.filled new new.sheet.filled
 
   -- a prefix of the bytes was written
   abbrev pub WritesPrefix : List ℕ → Page S → Page S → Type 0
   WritesPrefix bytes old new = (part : List ℕ) × IsPrefix part bytes × Writes part old new
-
-  -- bytes were written: the first of them on the page, and the others in a piece, before the place
-  -- `at`
-  pub record IsUnderWay (bytes : List ℕ) (old new : Page S) (piece : List ℕ) (at : ℕ) : Type 0 where
-    pub on_page : List ℕ
-    pub writes : Writes on_page old new
-    pub all : on_page ++ take at piece ≡ bytes

@@ -4,12 +4,12 @@
 
 mod account;
 mod page;
-mod piece;
+mod sheet;
 mod source;
 mod stream;
 
 pub use account::Account;
-pub use page::Page;
-pub use piece::{PIECE_BYTES, write, write_count, write_number};
+pub use page::{PART_BYTES, Page};
+pub use sheet::PAGE_BYTES;
 pub use source::{FileSource, Source, SourceFault};
 pub use stream::Stream;

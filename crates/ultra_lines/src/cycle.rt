@@ -10,7 +10,7 @@ use crate::events::put_events;
 use crate::state::put_state;
 use crate::texts::write_with_word;
 use ultra_block::Blocks;
-use ultra_io::{PIECE_BYTES, Page, write};
+use ultra_io::Page;
 use ultra_msg::{Sink, SinkFault};
 
 /// Writes the lines of the last cycle to the sink. After a fault the sink has taken a prefix of them.
@@ -42,8 +42,8 @@ pub fn put_cycle<S: Sink>(page: &mut Page<'_, S>, blocks: &Blocks)
 fn put_number<S: Sink>(page: &mut Page<'_, S>, number: u32)
     ensures { Writes S.taken S.failures (codes "cycle " ++ decimal number ++ newline) page.old page.new }
 {
-    let mut piece = [0; PIECE_BYTES];
-    let at = write_with_word(&mut piece, 0, b"cycle ", number);
-    let end = write(&mut piece, at, b"\n");
-    page.put(&piece[..end]);
+    let at = page.begin();
+    let at = write_with_word(page, at, b"cycle ", number);
+    let end = page.write(at, b"\n");
+    page.end(end);
 }

@@ -8,7 +8,7 @@ use crate::texts::{
     put_fault, put_with_word, write_message, write_reply, write_request, write_with_word,
 };
 use ultra_block::Blocks;
-use ultra_io::{PIECE_BYTES, Page, write, write_number};
+use ultra_io::Page;
 use ultra_model::Stop;
 use ultra_msg::{Event, Sink};
 
@@ -71,11 +71,11 @@ fn put_got<S: Sink>(page: &mut Page<'_, S>, event: Event)
     ensures { Writes S.taken S.failures (got_line event) page.old page.new }
 {
     if let Event::Delivered(message) = event {
-        let mut piece = [0; PIECE_BYTES];
-        let at = write(&mut piece, 0, b"got ");
-        let at = write_message(&mut piece, at, message);
-        let end = write(&mut piece, at, b"\n");
-        page.put(&piece[..end]);
+        let at = page.begin();
+        let at = page.write(at, b"got ");
+        let at = write_message(page, at, message);
+        let end = page.write(at, b"\n");
+        page.end(end);
     }
 }
 
@@ -90,16 +90,16 @@ fn put_act<S: Sink>(page: &mut Page<'_, S>, event: Event)
         now,
     } = event
     {
-        let mut piece = [0; PIECE_BYTES];
-        let at = write_with_word(&mut piece, 0, b"act ", module);
-        let at = write(&mut piece, at, b" ");
-        let at = write_request(&mut piece, at, request);
-        let at = write(&mut piece, at, b" = ");
-        let at = write_reply(&mut piece, at, reply);
-        let at = write(&mut piece, at, b" now ");
-        let at = write_number(&mut piece, at, now);
-        let end = write(&mut piece, at, b"\n");
-        page.put(&piece[..end]);
+        let at = page.begin();
+        let at = write_with_word(page, at, b"act ", module);
+        let at = page.write(at, b" ");
+        let at = write_request(page, at, request);
+        let at = page.write(at, b" = ");
+        let at = write_reply(page, at, reply);
+        let at = page.write(at, b" now ");
+        let at = page.write_number(at, now);
+        let end = page.write(at, b"\n");
+        page.end(end);
     }
 }
 

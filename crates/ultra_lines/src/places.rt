@@ -4,10 +4,10 @@ ghost use Rattle.ultra_model.specs.Trace.{pni_line, req_line, wait_line, inp_lin
 ghost use Rattle.ultra_io.specs.Page.{Writes};
 
 use crate::texts::{
-    write_entry, write_message, write_place, write_record, write_request, write_separator,
-    write_unit,
+    begin_place, begin_unit, write_entry, write_message, write_record, write_request,
+    write_separator,
 };
-use ultra_io::{PIECE_BYTES, Page, write};
+use ultra_io::Page;
 use ultra_mem::Module;
 use ultra_msg::Sink;
 use ultra_pni::Pni;
@@ -19,16 +19,14 @@ pub(crate) fn put_pni<S: Sink>(page: &mut Page<'_, S>, pe: u32, interface: &Pni)
 {
     let count = interface.pending_count();
     if count > 0 {
-        let mut piece = [0; PIECE_BYTES];
-        let mut at = write_unit(&mut piece, b"pni", pe);
+        let mut at = begin_unit(page, b"pni", pe);
         for index in 0..count {
-            at = page.make_room(&piece, at);
-            at = write_separator(&mut piece, at, index);
-            at = write_request(&mut piece, at, interface.pending(index));
+            at = page.make_room(at);
+            at = write_separator(page, at, index);
+            at = write_request(page, at, interface.pending(index));
         }
-        at = page.make_room(&piece, at);
-        let end = write(&mut piece, at, b"\n");
-        page.put(&piece[..end]);
+        let end = page.write(at, b"\n");
+        page.end(end);
     }
 }
 
@@ -38,16 +36,14 @@ pub(crate) fn put_req<S: Sink>(page: &mut Page<'_, S>, stage: u32, position: u32
 {
     let count = queue.len();
     if count > 0 {
-        let mut piece = [0; PIECE_BYTES];
-        let mut at = write_place(&mut piece, b"req", stage, position);
+        let mut at = begin_place(page, b"req", stage, position);
         for index in 0..count {
-            at = page.make_room(&piece, at);
-            at = write_separator(&mut piece, at, index);
-            at = write_entry(&mut piece, at, queue.entry(index));
+            at = page.make_room(at);
+            at = write_separator(page, at, index);
+            at = write_entry(page, at, queue.entry(index));
         }
-        at = page.make_room(&piece, at);
-        let end = write(&mut piece, at, b"\n");
-        page.put(&piece[..end]);
+        let end = page.write(at, b"\n");
+        page.end(end);
     }
 }
 
@@ -57,16 +53,14 @@ pub(crate) fn put_wait<S: Sink>(page: &mut Page<'_, S>, stage: u32, position: u3
 {
     let count = queue.record_count();
     if count > 0 {
-        let mut piece = [0; PIECE_BYTES];
-        let mut at = write_place(&mut piece, b"wait", stage, position);
+        let mut at = begin_place(page, b"wait", stage, position);
         for index in 0..count {
-            at = page.make_room(&piece, at);
-            at = write_separator(&mut piece, at, index);
-            at = write_record(&mut piece, at, queue.record(index));
+            at = page.make_room(at);
+            at = write_separator(page, at, index);
+            at = write_record(page, at, queue.record(index));
         }
-        at = page.make_room(&piece, at);
-        let end = write(&mut piece, at, b"\n");
-        page.put(&piece[..end]);
+        let end = page.write(at, b"\n");
+        page.end(end);
     }
 }
 
@@ -75,11 +69,10 @@ pub(crate) fn put_inp<S: Sink>(page: &mut Page<'_, S>, module: u32, bank: &Modul
     ensures { Writes S.taken S.failures (inp_line «module» bank.now.inp) page.old page.new }
 {
     if let Some(request) = bank.request() {
-        let mut piece = [0; PIECE_BYTES];
-        let at = write_unit(&mut piece, b"inp", module);
-        let at = write_request(&mut piece, at, request);
-        let end = write(&mut piece, at, b"\n");
-        page.put(&piece[..end]);
+        let at = begin_unit(page, b"inp", module);
+        let at = write_request(page, at, request);
+        let end = page.write(at, b"\n");
+        page.end(end);
     }
 }
 
@@ -88,11 +81,10 @@ pub(crate) fn put_out<S: Sink>(page: &mut Page<'_, S>, module: u32, bank: &Modul
     ensures { Writes S.taken S.failures (out_line «module» bank.now.out) page.old page.new }
 {
     if let Some(message) = bank.reply() {
-        let mut piece = [0; PIECE_BYTES];
-        let at = write_unit(&mut piece, b"out", module);
-        let at = write_message(&mut piece, at, message);
-        let end = write(&mut piece, at, b"\n");
-        page.put(&piece[..end]);
+        let at = begin_unit(page, b"out", module);
+        let at = write_message(page, at, message);
+        let end = page.write(at, b"\n");
+        page.end(end);
     }
 }
 
@@ -102,15 +94,13 @@ pub(crate) fn put_rep<S: Sink>(page: &mut Page<'_, S>, stage: u32, position: u32
 {
     let count = queue.len();
     if count > 0 {
-        let mut piece = [0; PIECE_BYTES];
-        let mut at = write_place(&mut piece, b"rep", stage, position);
+        let mut at = begin_place(page, b"rep", stage, position);
         for index in 0..count {
-            at = page.make_room(&piece, at);
-            at = write_separator(&mut piece, at, index);
-            at = write_message(&mut piece, at, queue.reply(index));
+            at = page.make_room(at);
+            at = write_separator(page, at, index);
+            at = write_message(page, at, queue.reply(index));
         }
-        at = page.make_room(&piece, at);
-        let end = write(&mut piece, at, b"\n");
-        page.put(&piece[..end]);
+        let end = page.write(at, b"\n");
+        page.end(end);
     }
 }

@@ -1,10 +1,13 @@
 use Rattle.std.proofs.Common.{◌≡◌, ◌≤◌, ◌+◌, ◌++◌, length, drop, arith}
 use Rattle.ultra_asm.specs.Listing.{listing_from, label_if, is_target, instruction_line}
-use Rattle.ultra_asm.proofs.OnPage.{continued, ended}
+use Rattle.ultra_asm.proofs.OnPage.{begun, continued, ended}
 use Rattle.ultra_asm.proofs.Places.{next_lines, last_line, get_none}
 use Rattle.ultra_asm.proofs.RoundTrip.{reads_back}
 use Rattle.ultra_asm.proofs.canonical.write_program.Goals as goal
 use Rattle.ultra_asm.proofs.canonical.write_program.Goals.{in-Some, in_default}
+
+pub loop-place-init : goal.loop-place-init
+loop-place-init g c = begun _ _
 
 pub loop-place-preserved : goal.loop-place-preserved
 loop-place-preserved g c =

@@ -1,11 +1,12 @@
-use Rattle.std.proofs.Common.{◌≤◌, ◌++◌, codes, take}
-use Rattle.ultra_io.specs.Page.{IsUnderWay}
+use Rattle.std.proofs.Common.{◌<◌, ◌++◌, codes, take}
+use Rattle.ultra_io.specs.Page.{Begins}
+use Rattle.ultra_io.specs.declared.sheet.TheConstants.{PAGE_BYTES}
 use Rattle.ultra_model.specs.Text.{listed, message_text}
 use Rattle.ultra_model.specs.Trace.{stage_name}
 use Rattle.ultra_lines.proofs.places.put_rep.Given as goal
 
 abbrev pub invariant-loop-index : goal.invariant-loop-index
 invariant-loop-index g l = record {
-  under_way : IsUnderWay g.S.Sink.taken g.S.Sink.failures (stage_name (codes "rep") l.stage l.position ++ codes ": " ++ listed message_text (take l.index l.queue.replies)) l.initial.page l.page l.piece l.at;
-  within : l.at ≤ 128;
+  goes_on : Begins g.S.Sink.taken g.S.Sink.failures (stage_name (codes "rep") l.stage l.position ++ codes ": " ++ listed message_text (take l.index l.queue.replies)) l.fn.page l.page l.at;
+  room : l.at < PAGE_BYTES;
 }

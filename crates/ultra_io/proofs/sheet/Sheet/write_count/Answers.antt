@@ -1,6 +1,6 @@
 use Rattle.std.proofs.Common.{arith}
 use Rattle.ultra_io.proofs.Digits.{more_digits}
-use Rattle.ultra_io.proofs.piece.write_count.Goals as goal
+use Rattle.ultra_io.proofs.sheet.Sheet.write_count.Goals as goal
 
 pub write_digits-requires : goal.write_digits-requires
 write_digits-requires c = omega (arith, more_digits c.args.count c.ranges.count.fits)

@@ -1,7 +1,7 @@
 use Rattle.std.proofs.Common.{length, ap, arith}
 use Rattle.std.proofs.lemmas.Fmt.{decimal_digit}
 use Rattle.ultra_io.proofs.Digits.{decimal_two}
-use Rattle.ultra_io.proofs.piece.write_one_or_two.Goals as goal
+use Rattle.ultra_io.proofs.sheet.Sheet.write_one_or_two.Goals as goal
 
 pub write_digit-requires-clause-room : goal.write_digit-requires-clause-room
 write_digit-requires-clause-room c = omega (arith, ap length (decimal_digit c.args.number c.if-number-lt10.true))

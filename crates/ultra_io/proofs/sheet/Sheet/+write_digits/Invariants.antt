@@ -1,4 +1,4 @@
-use Rattle.ultra_io.proofs.piece.+write_digits.Given as goal
+use Rattle.ultra_io.proofs.sheet.Sheet.+write_digits.Given as goal
 
 -- two digits fewer at each call
 abbrev pub decreases-write_digits : goal.decreases-write_digits

@@ -1,4 +1,4 @@
--- short texts that are written before they go onto a page; this project's profile
+-- texts among the bytes of a page; this project's profile
 use Rattle.std.specs.Prelude.{ℕ, ◌≡◌, ◌+◌, ◌/◌, ◌%◌, List, [], ◌∷◌, ◌++◌, length, take}
 
 -- bytes were written at a place, behind what stood before it; `behind` is the place behind them

@@ -1,6 +1,6 @@
 use Rattle.std.proofs.Common.{arith}
 use Rattle.ultra_io.proofs.Digits.{few_digits}
-use Rattle.ultra_io.proofs.piece.write_number.Goals as goal
+use Rattle.ultra_io.proofs.sheet.Sheet.write_number.Goals as goal
 
 pub write_one_or_two-requires-clause-room : goal.write_one_or_two-requires-clause-room
 write_one_or_two-requires-clause-room c = omega (arith, few_digits c.args.number c.ranges.number.fits)

@@ -1,6 +1,6 @@
 use Rattle.std.proofs.Common.{◌≡◌, arith}
 use Rattle.std.proofs.lemmas.List.{take_all}
-use Rattle.ultra_io.proofs.piece.write.Goals as goal
+use Rattle.ultra_io.proofs.sheet.Sheet.write.Goals as goal
 
 pub returns-clause-written : goal.returns-clause-written
 returns-clause-written g c =
