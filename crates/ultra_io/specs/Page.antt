@@ -63,6 +63,10 @@ module _ {S : Type 0} (taken : S → List ℕ) (failures : S → ℕ) where
   abbrev pub Begins : List ℕ → Page S → Page S → ℕ → Type 0
   Begins bytes old new at = GoesOn bytes old old.sheet.filled new at
 
+  -- text that goes as far as a place ends with bytes, and waits
+  abbrev pub Ends : List ℕ → Page S → ℕ → Page S → Type 0
+  Ends bytes old at new = GoesOn bytes old at new new.sheet.filled
+
   -- bytes were written behind what waits, and wait or have been taken
   abbrev pub Writes : List ℕ → Page S → Page S → Type 0
   Writes bytes old new = GoesOn bytes old old.sheet.filled new new.sheet.filled

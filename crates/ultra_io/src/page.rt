@@ -1,7 +1,7 @@
 //! Pages, on which text goes to a sink in large parts.
 
 ghost use Rattle.std.specs.Prelude.{◌≡◌, ℕ, ◌+◌, ◌≤◌, List, [], true, OnOk, OnErr, decimal};
-ghost use Rattle.ultra_io.specs.Page.{Begins, GoesOn, IsBlank, Writes, has_failed, sink_of};
+ghost use Rattle.ultra_io.specs.Page.{Begins, Ends, GoesOn, IsBlank, Writes, has_failed, sink_of};
 
 use crate::sheet::{PAGE_BYTES, Sheet};
 use ultra_msg::{Sink, SinkFault, write_all};
@@ -114,7 +114,8 @@ impl<'s, S: Sink> Page<'s, S> {
         if at <= PAGE_BYTES - PART_BYTES {
             return at;
         }
-        self.turn(at);
+        self.end(at);
+        self.hand_on();
         0
     }
 
@@ -122,7 +123,7 @@ impl<'s, S: Sink> Page<'s, S> {
     #[inline(always)]
     pub fn end(&mut self, at: usize)
         requires { at ≤ PAGE_BYTES }
-        ensures { GoesOn S.taken S.failures [] self.old at self.new self.new.sheet.filled }
+        ensures { Ends S.taken S.failures [] self.old at self.new }
     {
         self.sheet.filled = at;
     }
@@ -158,18 +159,9 @@ impl<'s, S: Sink> Page<'s, S> {
         }
     }
 
-    /// Hands on the page as far as a place.
+    /// Hands on what waits, unless the sink has failed.
     #[cold]
     #[inline(never)]
-    fn turn(&mut self, at: usize)
-        requires { at ≤ PAGE_BYTES }
-        ensures { GoesOn S.taken S.failures [] self.old at self.new 0 }
-    {
-        self.sheet.filled = at;
-        self.hand_on();
-    }
-
-    /// Hands on what waits, unless the sink has failed.
     fn hand_on(&mut self)
         ensures writes { Writes S.taken S.failures [] self.old self.new }
         ensures empty { self.new.sheet.filled ≡ 0 }

@@ -84,7 +84,7 @@ impl Sheet {
         if number < 100 {
             self.write_one_or_two(at, number as u8)
         } else {
-            self.write_digits(at, number as usize)
+            self.write_three_or_more(at, number)
         }
     }
 
@@ -96,6 +96,22 @@ impl Sheet {
         ensures few { result ≤ at + 20 }
     {
         self.write_digits(at, count)
+    }
+
+    /// Writes a number of three digits or more, and answers the place behind it.
+    #[inline(never)]
+    fn write_three_or_more(&mut self, at: usize, number: u32) -> usize
+        requires three { 100 ≤ number }
+        requires room { at + length (decimal number) ≤ PAGE_BYTES }
+        ensures { IsWritten (decimal number) at self.old.bytes self.new.bytes result }
+    {
+        // most of them have three or four, which take no call
+        if number < 10000 {
+            let behind = self.write_one_or_two(at, (number / 100) as u8);
+            self.write_pair(behind, (number % 100) as u8)
+        } else {
+            self.write_digits(at, number as usize)
+        }
     }
 
     /// Writes decimal digits, two at a time, and answers the place behind them.

@@ -5,7 +5,7 @@ use Rattle.std.specs.Option.{option_map}
 use Rattle.ultra_msg.specs.declared.Request.{Request}
 use Rattle.ultra_msg.specs.declared.ReplyMessage.{ReplyMessage}
 use Rattle.ultra_mem.specs.declared.Placed.{Placed}
-use Rattle.ultra_model.specs.Text.{newline, listed, separator, request_text, message_text}
+use Rattle.ultra_model.specs.Text.{newline, listed, request_text, message_text}
 use Rattle.ultra_model.specs.Trace.{place_line, unit_name, inp_line, out_line, unless_zero}
 
 module _ {X : Type 0} (text : X → List ℕ) where
@@ -19,39 +19,26 @@ module _ {X : Type 0} (text : X → List ℕ) where
   others_more (y ∷ ys) (suc i) x e =
       ap (λ t. (codes ", " ++ text y) ++ t) (others_more ys i x e) ∙ sym (append_assoc (codes ", " ++ text y) (others (take i ys)) (codes ", " ++ text x))
 
-  more : (xs : List X) (i : ℕ) (x : X) → slice_get xs i ≡ Some x → listed text (take (suc i) xs) ≡ listed text (take i xs) ++ separator i ++ text x
+  -- the entries up to an index, and the one there
+  pub first_listed : (xs : List X) (x : X) → slice_get xs 0 ≡ Some x → listed text (take 1 xs) ≡ text x
+  first_listed [] x e = absurd cc
+  first_listed (y ∷ ys) x e = let same : y ≡ x = cc in rw same (append-nil (text x))
+
+  pub more_listed : (xs : List X) (i : ℕ) (x : X) → 1 ≤ i → slice_get xs i ≡ Some x → listed text (take (i + 1) xs) ≡ listed text (take i xs) ++ codes ", " ++ text x
   unfolding others
-  more [] i x e = absurd cc
-  more (y ∷ ys) zero x e = let same : y ≡ x = cc in rw same (append-nil (text x))
-  more (y ∷ ys) (suc i) x e =
-      ap (λ t. text y ++ t) (others_more ys i x e) ∙ sym (append_assoc (text y) (others (take i ys)) (codes ", " ++ text x)) ∙ sym (append_assoc (text y ++ others (take i ys)) (codes ", ") (text x))
+  more_listed [] i x some e = absurd cc
+  more_listed (y ∷ ys) zero x some e = absurd (omega arith)
+  more_listed (y ∷ ys) (suc i) x some e =
+      rw add-one
+      (ap (λ t. text y ++ t) (others_more ys i x e) ∙ sym (append_assoc (text y) (others (take i ys)) (codes ", " ++ text x)) ∙ sym (append_assoc (text y ++ others (take i ys)) (codes ", ") (text x)))
 
-  -- a line up to an index, and the one there
-  pub line_more : (front : List ℕ) (xs : List X) (i : ℕ) (x : X) → slice_get xs i ≡ Some x → front ++ listed text (take (i + 1) xs) ≡ front ++ listed text (take i xs) ++ separator i ++ text x
-  line_more front xs i x e =
-      ap (λ t. front ++ t) (rw add-one (more xs i x e))
-      ∙ sym (append_assoc front (listed text (take i xs) ++ separator i) (text x))
-      ∙ ap (λ t. t ++ text x) (sym (append_assoc front (listed text (take i xs)) (separator i)))
-
-  pub line_begun : (front : List ℕ) (xs : List X) → front ++ listed text (take 0 xs) ≡ front
-  line_begun front xs = append-nil front
-
-  pub line_is : (name : List ℕ) (xs : List X) → 0 < length xs → place_line name text xs ≡ name ++ codes ": " ++ listed text xs ++ newline
+  pub line_is : (name : List ℕ) (xs : List X) → 0 < length xs → place_line name text xs ≡ name ++ codes ": " ++ (listed text xs ++ newline)
   line_is name [] h = absurd (omega arith)
-  line_is name (x ∷ xs) h = refl
+  line_is name (x ∷ xs) h = append_assoc (name ++ codes ": ") (listed text (x ∷ xs)) newline
 
   pub no_line : (name : List ℕ) (xs : List X) → length xs ≡ 0 → place_line name text xs ≡ []
   no_line name [] h = refl
   no_line name (x ∷ xs) h = absurd (omega arith)
-
--- what stands before an entry
-pub separates : (i : ℕ) → 0 < i → separator i ≡ codes ", "
-separates zero h = absurd (omega arith)
-separates (suc i) h = refl
-
-pub begins : (i : ℕ) → i ≤ 0 → separator i ≡ []
-begins zero h = refl
-begins (suc i) h = absurd (omega arith)
 
 -- of a register that holds one
 pub inp_line_is : (k : ℕ) (o : Option Placed) (r : Request) → Some r ≡ option_map (λ (p : Placed). p.request) o → inp_line k o ≡ unit_name (codes "inp") k ++ codes ": " ++ request_text r ++ newline

@@ -8,7 +8,7 @@ ghost use Rattle.ultra_model.specs.Trace.{cycle_text};
 
 use crate::events::put_events;
 use crate::state::put_state;
-use crate::texts::write_with_word;
+use crate::texts::{end_line, write_with_word};
 use ultra_block::Blocks;
 use ultra_io::Page;
 use ultra_msg::{Sink, SinkFault};
@@ -44,6 +44,5 @@ fn put_number<S: Sink>(page: &mut Page<'_, S>, number: u32)
 {
     let at = page.begin();
     let at = write_with_word(page, at, b"cycle ", number);
-    let end = page.write(at, b"\n");
-    page.end(end);
+    end_line(page, at);
 }

@@ -5,7 +5,7 @@ ghost use Rattle.ultra_io.specs.Page.{Writes};
 ghost use Rattle.ultra_model.specs.Trace.{got_line, act_line, fault_line, events_text};
 
 use crate::texts::{
-    put_fault, put_with_word, write_message, write_reply, write_request, write_with_word,
+    end_line, put_fault, put_with_word, write_message, write_reply, write_request, write_with_word,
 };
 use ultra_block::Blocks;
 use ultra_io::Page;
@@ -27,11 +27,11 @@ fn put_deliveries<S: Sink>(page: &mut Page<'_, S>, blocks: &Blocks)
 {
     if blocks.is_in_one_block() {
         for event in blocks.events_of_one() {
-            put_got(page, *event);
+            put_got(page, event);
         }
     } else {
         for event in blocks.events() {
-            put_got(page, event);
+            put_got(page, &event);
         }
     }
 }
@@ -42,11 +42,11 @@ fn put_servings<S: Sink>(page: &mut Page<'_, S>, blocks: &Blocks)
 {
     if blocks.is_in_one_block() {
         for event in blocks.events_of_one() {
-            put_act(page, *event);
+            put_act(page, event);
         }
     } else {
         for event in blocks.events() {
-            put_act(page, event);
+            put_act(page, &event);
         }
     }
 }
@@ -67,28 +67,27 @@ fn put_stops<S: Sink>(page: &mut Page<'_, S>, blocks: &Blocks)
 }
 
 /// Writes the line of a delivery, as `got 0@5 = 1`; other events have none.
-fn put_got<S: Sink>(page: &mut Page<'_, S>, event: Event)
-    ensures { Writes S.taken S.failures (got_line event) page.old page.new }
+fn put_got<S: Sink>(page: &mut Page<'_, S>, event: &Event)
+    ensures { Writes S.taken S.failures (got_line event.now) page.old page.new }
 {
-    if let Event::Delivered(message) = event {
+    if let Event::Delivered(message) = *event {
         let at = page.begin();
         let at = page.write(at, b"got ");
         let at = write_message(page, at, message);
-        let end = page.write(at, b"\n");
-        page.end(end);
+        end_line(page, at);
     }
 }
 
 /// Writes the line of a serving, as `act 0 1@0 faa 2 = 0 now 2`; other events have none.
-fn put_act<S: Sink>(page: &mut Page<'_, S>, event: Event)
-    ensures { Writes S.taken S.failures (act_line event) page.old page.new }
+fn put_act<S: Sink>(page: &mut Page<'_, S>, event: &Event)
+    ensures { Writes S.taken S.failures (act_line event.now) page.old page.new }
 {
     if let Event::Served {
         module,
         request,
         reply,
         now,
-    } = event
+    } = *event
     {
         let at = page.begin();
         let at = write_with_word(page, at, b"act ", module);
@@ -98,8 +97,7 @@ fn put_act<S: Sink>(page: &mut Page<'_, S>, event: Event)
         let at = write_reply(page, at, reply);
         let at = page.write(at, b" now ");
         let at = page.write_number(at, now);
-        let end = page.write(at, b"\n");
-        page.end(end);
+        end_line(page, at);
     }
 }
 

@@ -47,12 +47,7 @@ impl Iterator for Holders<'_> {
 pub(crate) fn switches_in<'a>(blocks: &Blocks, units: &'a UnitSet) -> Holders<'a>
     ensures { holders_left result ≡ numbers_in units.now 0 (count_of_switches blocks.now.config.stages) }
 {
-    Holders {
-        units,
-        base: 0,
-        from: 0,
-        end: switch_count(blocks.config().net()) as u32,
-    }
+    numbered_from(units, 0, switch_count(blocks.config().net()) as u32)
 }
 
 /// The modules in a set, by their numbers.
@@ -61,13 +56,7 @@ pub(crate) fn modules_in<'a>(blocks: &Blocks, units: &'a UnitSet) -> Holders<'a>
     ensures { holders_left result ≡ numbers_in units.now (number_of_module blocks.now.config.stages 0) (2 ^ blocks.now.config.stages) }
 {
     let net = blocks.config().net();
-    let end = net.size();
-    Holders {
-        units,
-        base: module_number(net, 0) as u32,
-        from: 0,
-        end,
-    }
+    numbered_from(units, module_number(net, 0) as u32, net.size())
 }
 
 /// The processing elements in a set, by their numbers.
@@ -76,10 +65,19 @@ pub(crate) fn elements_in<'a>(blocks: &Blocks, units: &'a UnitSet) -> Holders<'a
     ensures { holders_left result ≡ numbers_in units.now (number_of_element blocks.now.config.stages 0) (2 ^ blocks.now.config.stages) }
 {
     let net = blocks.config().net();
-    let end = net.size();
+    numbered_from(units, element_number(net, 0) as u32, net.size())
+}
+
+/// Of the units of one kind those that are in a set. There are `count` of the kind, and the first of them has number `base` among all units.
+#[inline(always)]
+fn numbered_from(units: &UnitSet, base: u32, count: u32) -> Holders<'_>
+    ensures { holders_left result ≡ numbers_in units.now base count }
+{
+    // of an empty set, as many are, no word is looked at again
+    let end = if units.is_empty() { 0 } else { count };
     Holders {
         units,
-        base: element_number(net, 0) as u32,
+        base,
         from: 0,
         end,
     }

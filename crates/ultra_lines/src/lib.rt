@@ -3,6 +3,7 @@
 
 mod cycle;
 mod ending;
+mod entries;
 mod events;
 mod holders;
 mod places;

@@ -3,10 +3,8 @@
 ghost use Rattle.ultra_model.specs.Trace.{pni_line, req_line, wait_line, inp_line, out_line, rep_line};
 ghost use Rattle.ultra_io.specs.Page.{Writes};
 
-use crate::texts::{
-    begin_place, begin_unit, write_entry, write_message, write_record, write_request,
-    write_separator,
-};
+use crate::entries::{Records, put_entries};
+use crate::texts::{begin_place, begin_unit, end_line, write_message, write_request};
 use ultra_io::Page;
 use ultra_mem::Module;
 use ultra_msg::Sink;
@@ -17,16 +15,9 @@ use ultra_switch::{ToMm, ToPe};
 pub(crate) fn put_pni<S: Sink>(page: &mut Page<'_, S>, pe: u32, interface: &Pni)
     ensures { Writes S.taken S.failures (pni_line pe interface.now.interface.pending) page.old page.new }
 {
-    let count = interface.pending_count();
-    if count > 0 {
-        let mut at = begin_unit(page, b"pni", pe);
-        for index in 0..count {
-            at = page.make_room(at);
-            at = write_separator(page, at, index);
-            at = write_request(page, at, interface.pending(index));
-        }
-        let end = page.write(at, b"\n");
-        page.end(end);
+    if interface.pending_count() > 0 {
+        let at = begin_unit(page, b"pni ", pe);
+        put_entries(page, at, interface);
     }
 }
 
@@ -34,16 +25,9 @@ pub(crate) fn put_pni<S: Sink>(page: &mut Page<'_, S>, pe: u32, interface: &Pni)
 pub(crate) fn put_req<S: Sink>(page: &mut Page<'_, S>, stage: u32, position: u32, queue: &ToMm)
     ensures { Writes S.taken S.failures (req_line stage position queue.now.lane.queue) page.old page.new }
 {
-    let count = queue.len();
-    if count > 0 {
-        let mut at = begin_place(page, b"req", stage, position);
-        for index in 0..count {
-            at = page.make_room(at);
-            at = write_separator(page, at, index);
-            at = write_entry(page, at, queue.entry(index));
-        }
-        let end = page.write(at, b"\n");
-        page.end(end);
+    if !queue.is_empty() {
+        let at = begin_place(page, b"req ", stage, position);
+        put_entries(page, at, queue);
     }
 }
 
@@ -51,16 +35,9 @@ pub(crate) fn put_req<S: Sink>(page: &mut Page<'_, S>, stage: u32, position: u32
 pub(crate) fn put_wait<S: Sink>(page: &mut Page<'_, S>, stage: u32, position: u32, queue: &ToMm)
     ensures { Writes S.taken S.failures (wait_line stage position queue.now.lane.records) page.old page.new }
 {
-    let count = queue.record_count();
-    if count > 0 {
-        let mut at = begin_place(page, b"wait", stage, position);
-        for index in 0..count {
-            at = page.make_room(at);
-            at = write_separator(page, at, index);
-            at = write_record(page, at, queue.record(index));
-        }
-        let end = page.write(at, b"\n");
-        page.end(end);
+    if queue.record_count() > 0 {
+        let at = begin_place(page, b"wait ", stage, position);
+        put_entries(page, at, &Records(queue));
     }
 }
 
@@ -69,10 +46,9 @@ pub(crate) fn put_inp<S: Sink>(page: &mut Page<'_, S>, module: u32, bank: &Modul
     ensures { Writes S.taken S.failures (inp_line «module» bank.now.inp) page.old page.new }
 {
     if let Some(request) = bank.request() {
-        let at = begin_unit(page, b"inp", module);
+        let at = begin_unit(page, b"inp ", module);
         let at = write_request(page, at, request);
-        let end = page.write(at, b"\n");
-        page.end(end);
+        end_line(page, at);
     }
 }
 
@@ -81,10 +57,9 @@ pub(crate) fn put_out<S: Sink>(page: &mut Page<'_, S>, module: u32, bank: &Modul
     ensures { Writes S.taken S.failures (out_line «module» bank.now.out) page.old page.new }
 {
     if let Some(message) = bank.reply() {
-        let at = begin_unit(page, b"out", module);
+        let at = begin_unit(page, b"out ", module);
         let at = write_message(page, at, message);
-        let end = page.write(at, b"\n");
-        page.end(end);
+        end_line(page, at);
     }
 }
 
@@ -92,15 +67,8 @@ pub(crate) fn put_out<S: Sink>(page: &mut Page<'_, S>, module: u32, bank: &Modul
 pub(crate) fn put_rep<S: Sink>(page: &mut Page<'_, S>, stage: u32, position: u32, queue: &ToPe)
     ensures { Writes S.taken S.failures (rep_line stage position queue.now.replies) page.old page.new }
 {
-    let count = queue.len();
-    if count > 0 {
-        let mut at = begin_place(page, b"rep", stage, position);
-        for index in 0..count {
-            at = page.make_room(at);
-            at = write_separator(page, at, index);
-            at = write_message(page, at, queue.reply(index));
-        }
-        let end = page.write(at, b"\n");
-        page.end(end);
+    if !queue.is_empty() {
+        let at = begin_place(page, b"rep ", stage, position);
+        put_entries(page, at, queue);
     }
 }

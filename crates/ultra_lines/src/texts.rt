@@ -1,9 +1,9 @@
 //! The texts of messages, of records, of faults and of what processing elements are doing.
 
-ghost use Rattle.std.specs.Prelude.{◌≡◌, ◌+◌, ◌≤◌, ◌++◌, codes, decimal};
-ghost use Rattle.ultra_model.specs.Text.{op_text, identity_text, request_text, mark_text, entry_text, reply_text, message_text, give_text, record_text, fault_text, activity_text, separator};
+ghost use Rattle.std.specs.Prelude.{◌≡◌, ℕ, ◌+◌, ◌<◌, ◌≤◌, List, ◌++◌, codes, decimal};
+ghost use Rattle.ultra_model.specs.Text.{op_text, identity_text, request_text, mark_text, entry_text, reply_text, message_text, give_text, record_text, fault_text, activity_text, newline};
 ghost use Rattle.ultra_model.specs.Trace.{unit_name, stage_name};
-ghost use Rattle.ultra_io.specs.Page.{Begins, GoesOn, Writes};
+ghost use Rattle.ultra_io.specs.Page.{Begins, Ends, GoesOn, Writes};
 ghost use Rattle.ultra_io.specs.declared.sheet.TheConstants.{PAGE_BYTES};
 
 use ultra_io::Page;
@@ -146,35 +146,24 @@ pub(crate) fn write_record<S: Sink>(page: &mut Page<'_, S>, at: usize, kept: Wai
     write_give(page, at, kept.give_new)
 }
 
-/// Writes what stands before the entry at an index of a line: nothing before the first, and a comma before the others.
-#[inline(always)]
-pub(crate) fn write_separator<S: Sink>(page: &mut Page<'_, S>, at: usize, index: usize) -> usize
-    requires { at + 2 ≤ PAGE_BYTES }
-    ensures goes_on { GoesOn S.taken S.failures (separator index) page.old at page.new result }
-    ensures few { result ≤ at + 2 }
-{
-    if index > 0 { page.write(at, b", ") } else { at }
-}
-
-/// Begins a line that belongs to a module or a processing element, as `inp 0: `, with a word of at most 4 bytes.
+/// Begins a line that belongs to a module or a processing element, as `inp 0: `. The word has at most 5 bytes, with the space behind it.
 #[inline(always)]
 pub(crate) fn begin_unit<S: Sink, const N: usize>(
     page: &mut Page<'_, S>,
     word: &[u8; N],
     unit: u32,
 ) -> usize
-    requires { N ≤ 4 }
-    ensures goes_on { Begins S.taken S.failures (unit_name word.now unit ++ codes ": ") page.old page.new result }
+    requires { N ≤ 5 }
+    ensures goes_on { (name : List ℕ) → word.now ≡ name ++ codes " " → Begins S.taken S.failures (unit_name name unit ++ codes ": ") page.old page.new result }
     ensures room { result + 100 ≤ PAGE_BYTES }
 {
     let at = page.begin();
     let at = page.write(at, word);
-    let at = page.write(at, b" ");
     let at = page.write_number(at, unit);
     page.write(at, b": ")
 }
 
-/// Begins a line that belongs to a position of a stage, as `req 0 1: `, with a word of at most 4 bytes.
+/// Begins a line that belongs to a position of a stage, as `req 0 1: `. The word has at most 5 bytes, with the space behind it.
 #[inline(always)]
 pub(crate) fn begin_place<S: Sink, const N: usize>(
     page: &mut Page<'_, S>,
@@ -182,17 +171,26 @@ pub(crate) fn begin_place<S: Sink, const N: usize>(
     stage: u32,
     position: u32,
 ) -> usize
-    requires { N ≤ 4 }
-    ensures goes_on { Begins S.taken S.failures (stage_name word.now stage position ++ codes ": ") page.old page.new result }
+    requires { N ≤ 5 }
+    ensures goes_on { (name : List ℕ) → word.now ≡ name ++ codes " " → Begins S.taken S.failures (stage_name name stage position ++ codes ": ") page.old page.new result }
     ensures room { result + 100 ≤ PAGE_BYTES }
 {
     let at = page.begin();
     let at = page.write(at, word);
-    let at = page.write(at, b" ");
     let at = page.write_number(at, stage);
     let at = page.write(at, b" ");
     let at = page.write_number(at, position);
     page.write(at, b": ")
+}
+
+/// Ends a line at a place.
+#[inline(always)]
+pub(crate) fn end_line<S: Sink>(page: &mut Page<'_, S>, at: usize)
+    requires { at < PAGE_BYTES }
+    ensures { Ends S.taken S.failures newline page.old at page.new }
+{
+    let end = page.write(at, b"\n");
+    page.end(end);
 }
 
 /// Writes a fault, `f1` or `f2`.

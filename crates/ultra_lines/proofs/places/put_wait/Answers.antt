@@ -1,29 +1,11 @@
-use Rattle.std.proofs.Common.{arith}
-use Rattle.std.proofs.lemmas.List.{take_all}
+use Rattle.std.proofs.Common.{arith, codes, refl}
 use Rattle.ultra_model.specs.Text.{record_text}
-use Rattle.ultra_io.proofs.Writing.{◌then◌, ◌moved◌, writes_nothing}
-use Rattle.ultra_lines.proofs.Listed.{line_begun, line_is, line_more, no_line}
+use Rattle.ultra_io.proofs.Writing.{◌then◌, writes_nothing}
+use Rattle.ultra_lines.proofs.Listed.{line_is, no_line}
 use Rattle.ultra_lines.proofs.places.put_wait.Goals as goal
 
-pub loop-index-init : goal.loop-index-init
-loop-index-init g c = record {
-  goes_on = rw (line_begun record_text _ c.args.queue.now.lane.records) c.begin_place-at.ensures.goes_on;
-  room = omega arith;
-}
+pub returns-then-record_count-gt0 : goal.returns-then-record_count-gt0
+returns-then-record_count-gt0 g c = rw (line_is record_text _ c.args.queue.now.lane.records (omega arith)) (c.begin_place-at.ensures.goes_on (codes "wait") refl then c.put_entries.ensures)
 
-pub loop-index-preserved : goal.loop-index-preserved
-loop-index-preserved g c = record {
-  goes_on =
-      rw (line_more record_text _ c.args.queue.now.lane.records c.loop-index.index _ c.record.ensures)
-      (c.loop-index.invariant.goes_on moved c.make_room-at.ensures.goes_on then c.write_separator-at.ensures.goes_on then c.write_record-at.ensures.goes_on);
-  room = omega arith;
-}
-
-pub returns-after-loop-index : goal.returns-after-loop-index
-returns-after-loop-index g c =
-    let all = rw (take_all c.loop-index.index c.args.queue.now.lane.records (omega arith)) at c.loop-index.invariant.goes_on in
-    rw (line_is record_text _ c.args.queue.now.lane.records (omega arith))
-    (all then c.write-end.ensures.goes_on moved c.end.ensures)
-
-pub returns-else-count-gt0 : goal.returns-else-count-gt0
-returns-else-count-gt0 g c = rw (no_line record_text _ c.args.queue.now.lane.records (omega arith)) (writes_nothing _)
+pub returns-else-record_count-gt0 : goal.returns-else-record_count-gt0
+returns-else-record_count-gt0 g c = rw (no_line record_text _ c.args.queue.now.lane.records (omega arith)) (writes_nothing _)

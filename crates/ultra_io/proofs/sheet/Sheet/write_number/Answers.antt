@@ -5,11 +5,11 @@ use Rattle.ultra_io.proofs.sheet.Sheet.write_number.Goals as goal
 pub write_one_or_two-requires-clause-room : goal.write_one_or_two-requires-clause-room
 write_one_or_two-requires-clause-room c = omega (arith, few_digits c.args.number c.ranges.number.fits)
 
-pub write_digits-requires : goal.write_digits-requires
-write_digits-requires c = omega (arith, few_digits c.args.number c.ranges.number.fits)
+pub write_three_or_more-requires-clause-room : goal.write_three_or_more-requires-clause-room
+write_three_or_more-requires-clause-room c = omega (arith, few_digits c.args.number c.ranges.number.fits)
 
 pub returns-then-number-lt100-clause-few : goal.returns-then-number-lt100-clause-few
 returns-then-number-lt100-clause-few c = omega (arith, c.write_one_or_two.ensures.longer, few_digits c.args.number c.ranges.number.fits)
 
 pub returns-else-number-lt100-clause-few : goal.returns-else-number-lt100-clause-few
-returns-else-number-lt100-clause-few c = omega (arith, c.write_digits.ensures.longer, few_digits c.args.number c.ranges.number.fits)
+returns-else-number-lt100-clause-few c = omega (arith, c.write_three_or_more.ensures.longer, few_digits c.args.number c.ranges.number.fits)

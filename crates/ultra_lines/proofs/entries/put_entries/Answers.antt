@@ -1,0 +1,26 @@
+use Rattle.std.proofs.Common.{arith}
+use Rattle.std.proofs.lemmas.List.{take_all}
+use Rattle.ultra_io.proofs.Writing.{◌then◌, ◌moved◌}
+use Rattle.ultra_lines.proofs.Listed.{first_listed, more_listed}
+use Rattle.ultra_lines.proofs.entries.put_entries.Goals as goal
+
+pub loop-index-init : goal.loop-index-init
+loop-index-init g c =
+    let E = g.E.Entries in record {
+      goes_on = rw (first_listed E.text (E.entries c.args.entries.now) _ c.entry.ensures) c.write-at.ensures.goes_on;
+      room = omega arith;
+    }
+
+pub loop-index-preserved : goal.loop-index-preserved
+loop-index-preserved g c =
+    let E = g.E.Entries in record {
+      goes_on =
+          rw (more_listed E.text (E.entries c.args.entries.now) c.loop-index.index _ (omega arith) c.entry-in-loop-index.ensures)
+          (c.loop-index.invariant.goes_on moved c.make_room-at.ensures.goes_on then c.write-at-in-loop-index.ensures.goes_on then c.write-at-in-loop-index-2.ensures.goes_on);
+      room = omega arith;
+    }
+
+pub returns : goal.returns
+returns g c =
+    let all = rw (take_all c.loop-index.index (g.E.Entries.entries c.args.entries.now) (omega arith)) at c.loop-index.invariant.goes_on in
+    all then c.end_line.ensures
