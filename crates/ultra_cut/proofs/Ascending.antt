@@ -53,8 +53,7 @@ module _ {X : Type 0} (rank : X → ℕ) where
   InRanks low high xs = AscendsWithin low high (map rank xs)
 
   pub listed_after : (low mid high : ℕ) (xs ys : List X) → InRanks low mid xs → InRanks mid high ys → InRanks low high (xs ++ ys)
-  listed_after low mid high xs ys hx hy =
-      subst (AscendsWithin low high) (sym (map-append rank xs ys)) (one_after low mid high (map rank xs) (map rank ys) hx hy)
+  listed_after low mid high xs ys hx hy = grind (arith, map-append, one_after)
 
   listed_one : (r : ℕ) (xs : List X) → HaveRank rank r xs → InRanks r (r + 1) xs
   listed_one r [] h = omega arith
@@ -72,5 +71,4 @@ module _ {X : Type 0} (rank : X → ℕ) where
 
   -- between wider bounds
   pub listed_within : (base n low high : ℕ) (f : ℕ → List X) → AreRanked rank base n f → low ≤ base → base + n ≤ high → InRanks low high (joined (places n f))
-  listed_within base n low high f ranked from to =
-      wider base (base + n) low high (map rank (joined (places n f))) from to (listed_in_order base n f ranked)
+  listed_within base n low high f ranked from to = search (arith, wider, listed_in_order)

@@ -1,8 +1,8 @@
 -- What is true of replies and of requests alike.
-use Rattle.std.proofs.Common.{◌≡◌, ℕ, ◌+◌, ◌*◌, ◌^◌, ◌<◌, ◌≤◌, List, Option, Some, None, length, refl}
+use Rattle.std.proofs.Common.{◌≡◌, ℕ, ◌+◌, ◌*◌, ◌^◌, ◌<◌, ◌≤◌, List, Option, Some, length, refl, arith}
 use Rattle.std.specs.Prelude.{IfSome}
 use Rattle.ultra_switch.specs.declared.Ports.{Ports}
-use Rattle.ultra_section.specs.Away.{IsNextForReplies, IsNextForRequests, stands}
+use Rattle.ultra_section.specs.Away.{IsNextForReplies, IsNextForRequests}
 use Rattle.ultra_section.specs.BlockState.{BlockState}
 use Rattle.ultra_section.specs.Shape.{IsShaped}
 use Rattle.ultra_section.proofs.Readers.{reply_reader, request_reader}
@@ -25,14 +25,6 @@ with_twice Requests t u b = refl
 pub with_own : (kind : Kind) (b : BlockState) → b ≡ with_table kind (table kind b) b
 with_own Replies b = refl
 with_own Requests b = refl
-
-pub stages_with : (kind : Kind) (t : List (Option (Message kind))) (b : BlockState) → (with_table kind t b).stages ≡ b.stages
-stages_with Replies t b = refl
-stages_with Requests t b = refl
-
-pub stands_with : (kind : Kind) (t : List (Option (Message kind))) (b : BlockState) (n : ℕ) → stands n (with_table kind t b) ≡ stands n b
-stands_with Replies t b n = refl
-stands_with Requests t b n = refl
 
 pub links_of : (kind : Kind) (d : ℕ) (b : BlockState) → IsShaped d b → length (table kind b) ≡ (d + 1) * 2 ^ d
 links_of Replies d b shape = shape.replies
@@ -66,12 +58,10 @@ lead_here Requests d low high n p is =
 
 -- ---- what is said of one kind is what is said of a kind
 pub next_reply : (b : BlockState) (from : ℕ) (o : Option ℕ) → IfSome o (λ n. IsNextForReplies b from n) → IfSome o (λ n. IsNext Replies b from n)
-next_reply b from None it = it
-next_reply b from (Some n) it = record { after = it.after; within = it.within; between = it.between }
+next_reply b from o it = grind arith
 
 pub next_request : (b : BlockState) (from : ℕ) (o : Option ℕ) → IfSome o (λ n. IsNextForRequests b from n) → IfSome o (λ n. IsNext Requests b from n)
-next_request b from None it = it
-next_request b from (Some n) it = record { after = it.after; within = it.within; between = it.between }
+next_request b from o it = grind arith
 
 pub replies_move : (bs now : List BlockState) → OnlyMove Replies bs now → OnlyRepliesMove bs now
 replies_move bs now only = record { count = only.count; rest = only.rest; lengths = only.lengths; links = only.links; single = only.single }

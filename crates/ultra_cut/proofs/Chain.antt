@@ -1,5 +1,5 @@
 -- from one list of blocks of a cycle to the next
-use Rattle.std.proofs.Common.{◌≡◌, ℕ, ◌+◌, ◌<◌, ◌≤◌, List, length, sym, ◌∙◌, ap, subst, arith}
+use Rattle.std.proofs.Common.{◌≡◌, ℕ, ◌+◌, ◌<◌, ◌≤◌, List, length, sym, ◌∙◌, subst, arith}
 use Rattle.ultra_isa.specs.declared.Instr.{Instr}
 use Rattle.ultra_section.specs.BlockState.{BlockState}
 use Rattle.ultra_course.specs.Frame.{Frame, AreAlike}
@@ -8,13 +8,7 @@ use Rattle.ultra_cut.specs.Halves.{AreBlocksAfter, FewMoreEvents, HasHalfRoom, O
 
 -- ---- frames
 pub alike_by : (d : ℕ) (f g h : Frame) → AreAlike d f g → AreAlike d g h → AreAlike d f h
-alike_by d f g h a b = record {
-  switches = λ n hn. a.switches n hn ∙ b.switches n hn;
-  banks = λ m hm. a.banks m hm ∙ b.banks m hm;
-  elements = λ p hp. a.elements p hp ∙ b.elements p hp;
-  replies = λ l hl. a.replies l hl ∙ b.replies l hl;
-  requests = λ l hl. a.requests l hl ∙ b.requests l hl;
-}
+alike_by d f g h a b = grind arith
 
 -- ---- what is true of each block
 module _ (old now : List BlockState) (count : length now ≡ length old) where
@@ -28,10 +22,7 @@ module _ (old now : List BlockState) (count : length now ≡ length old) where
 
   -- how many events there are at most
   pub more_events : (most : ℕ) → FewMoreEvents old now → OfEach (λ b. length b.events ≤ most) old → OfEach (λ b. length b.events ≤ most + 640) now
-  more_events most more was k h =
-      let now_few = more k (within k h) in
-      let old_few = was k (within k h) in
-      omega (arith, now_few, old_few)
+  more_events most more was k h = grind arith
 
   pub same_events : (most : ℕ) → ((k : ℕ) → k < length old → (block_at now k).events ≡ (block_at old k).events)
       → OfEach (λ b. length b.events ≤ most) old → OfEach (λ b. length b.events ≤ most) now
@@ -40,9 +31,7 @@ module _ (old now : List BlockState) (count : length now ≡ length old) where
 -- after a half each block has made as many cycles, or `more` beyond it
 pub done_after : (d : ℕ) (partition : List ℕ) (more n : ℕ) (old now : List BlockState) → AreBlocksAfter d partition more old now
     → OfEach (λ b. b.done ≡ n) old → OfEach (λ b. b.done ≡ n + more) now
-done_after d partition more n old now after was k h =
-    let inside : k < length old = subst (λ x. k < x) after.count h in
-    after.done k inside ∙ ap (λ x. x + more) (was k inside)
+done_after d partition more n old now after was k h = grind arith
 
 -- and it runs the same program
 pub runs_after : (d : ℕ) (partition : List ℕ) (more : ℕ) (program : List Instr) (old now : List BlockState) → AreBlocksAfter d partition more old now

@@ -1,13 +1,11 @@
 -- The blocks of a machine after something was done to each of them.
-use Rattle.std.proofs.Common.{◌≡◌, ◌≢◌, ℕ, ◌+◌, ◌^◌, ◌<◌, ◌≤◌, List, map, Option, Some, None, true, false, length, sym, ◌∙◌, ap, subst, arith, inl, inr}
-use Rattle.std.proofs.lemmas.Bool.{cases_eq}
+use Rattle.std.proofs.Common.{◌≡◌, ◌≢◌, ℕ, ◌+◌, ◌^◌, ◌<◌, ◌≤◌, List, map, Option, Some, None, true, false, length, sym, ◌∙◌, ap, subst, arith}
 use Rattle.std.specs.Prelude.{◌==◌, is_some}
 use Rattle.std.proofs.lemmas.List.{length-map}
 use Rattle.ultra_units.specs.Numbers.{switch_count, unit_count}
 use Rattle.ultra_section.specs.BlockState.{BlockState, switch_at, module_at, element_at}
 use Rattle.ultra_section.specs.Shape.{IsShaped}
 use Rattle.ultra_section.specs.Away.{stands}
-use Rattle.ultra_section.proofs.OfKind.{by_kind, switch_stands, module_stands, element_stands, none_stands}
 use Rattle.ultra_cut.specs.Cut.{IsCut, block_at, given, home}
 use Rattle.ultra_cut.specs.Halves.{AreBlocks, AreBlocksAfter}
 use Rattle.ultra_cut.proofs.Numbers.{few_units}
@@ -29,11 +27,7 @@ pub record HasSameUnits (d more : ℕ) (old now : BlockState) : Type 0 where
 
 module _ (d more : ℕ) (old now : BlockState) (stages : old.stages ≡ d) (same : HasSameUnits d more old now) where
   stands_same : (n : ℕ) → stands n now ≡ stands n old
-  stands_same = by_kind d (λ n. stands n now ≡ stands n old)
-      (λ n h. switch_stands d now same.shape.stages n h ∙ same.switches n h ∙ sym (switch_stands d old stages n h))
-      (λ m h. module_stands d now same.shape.stages m h ∙ same.modules m h ∙ sym (module_stands d old stages m h))
-      (λ p h. element_stands d now same.shape.stages p h ∙ same.elements p h ∙ sym (element_stands d old stages p h))
-      (λ n past. none_stands d now same.shape.stages n past ∙ sym (none_stands d old stages n past))
+  stands_same = search arith
 
 module _ (d : ℕ) (partition : List ℕ) (bs : List BlockState) (blocks : AreBlocks d partition bs) (change : BlockState → BlockState) where
   abbrev now : List BlockState
@@ -44,8 +38,7 @@ module _ (d : ℕ) (partition : List ℕ) (bs : List BlockState) (blocks : AreBl
 
   -- what holds of each changed block
   pub each_changed : (P : ℕ → BlockState → Type 0) → ((k : ℕ) → k < length bs → P k (change (block_at bs k))) → (k : ℕ) → k < length now → P k (block_at now k)
-  each_changed P holds k h =
-      let within : k < length bs = subst (λ n. k < n) count h in subst (P k) (sym (changed_at change bs k within)) (holds k within)
+  each_changed P holds k h = grind (arith, count, changed_at)
 
   module _ (more : ℕ) (same : (k : ℕ) → k < length bs → HasSameUnits d more (block_at bs k) (change (block_at bs k))) where
     still_cut : IsCut d partition now
@@ -58,25 +51,14 @@ module _ (d : ℕ) (partition : List ℕ) (bs : List BlockState) (blocks : AreBl
     }
 
     pub blocks_after : AreBlocksAfter d partition more bs now
-    blocks_after = record {
-      blocks = record {
-        some_stages = blocks.some_stages;
-        few_stages = blocks.few_stages;
-        cut = still_cut;
-        shaped = each_changed (λ k b. IsShaped d b) (λ k h. (same k h).shape);
-      };
-      count = count;
-      done = λ k h. ap (λ (b : BlockState). b.done) (changed_at change bs k h) ∙ (same k h).done;
-      program = λ k h. ap (λ (b : BlockState). b.program) (changed_at change bs k h) ∙ (same k h).program;
-    }
+    blocks_after = grind (arith, still_cut, count, changed_at)
 
 pub no_more : (n : ℕ) → n ≡ n + 0
 no_more n = omega arith
 
 keeps_units : {X L : Type 0} (step : Option X × L → Option X × L) → ((l : L) → is_some (step (None, l)).0 ≡ false) → ((x : X) (l : L) → is_some (step (Some x, l)).0 ≡ true)
     → (o : Option X) (l : L) → is_some (step (o, l)).0 ≡ is_some o
-keeps_units step none some None l = none l
-keeps_units step none some (Some x) l = some x l
+keeps_units step none some o l = grind arith
 
 -- ---- a unit of a sort, and links of it, in blocks that all do the same
 -- what is on the unit's links becomes what `step` says, and so does the unit where it stands
@@ -93,8 +75,7 @@ module _ {X L : Type 0} (sort : Sort X) (d : ℕ) (partition : List ℕ) (bs : L
   step_home = acts at (home_small sort d partition bs cut i h) ∙ ap (λ o. step (o, on (block_at bs at))) (at_home sort d partition bs cut i h)
 
   pub unit_after : given sort.nothing (sort.at (block_at (map change bs) at) i) ≡ given sort.nothing (step (Some own, on (block_at bs at))).0
-  unit_after =
-      ap (λ b. given sort.nothing (sort.at b i)) (changed_at change bs at (home_small sort d partition bs cut i h)) ∙ ap (λ q. given sort.nothing q.0) step_home
+  unit_after = grind (arith, changed_at, step_home)
 
   pub links_home : on (change (block_at bs at)) ≡ (step (Some own, on (block_at bs at))).1
   links_home = ap (λ q. q.1) step_home
@@ -105,10 +86,7 @@ module _ {X L : Type 0} (sort : Sort X) (d : ℕ) (partition : List ℕ) (bs : L
   -- where nothing is left on them
   pub links_empty : (empty : L) → (step (Some own, on (block_at bs at))).1 ≡ empty → ((k : ℕ) → k < length bs → k ≢ at → (step (None, on (block_at bs k))).1 ≡ empty)
       → (k : ℕ) → k < length bs → on (change (block_at bs k)) ≡ empty
-  links_empty empty here elsewhere k within = elim (cases_eq k at) [
-    | inl same ↦ ap (λ j. on (change (block_at bs j))) same ∙ links_home ∙ here
-    | inr other ↦ links_away k within other ∙ elsewhere k within other
-  ]
+  links_empty empty here elsewhere k within = grind (arith, links_home, links_away)
 
   -- it stands where it did
   pub still_there : ((l : L) → is_some (step (None, l)).0 ≡ false) → ((x : X) (l : L) → is_some (step (Some x, l)).0 ≡ true) → (k : ℕ) → k < length bs → is_some (sort.at (change (block_at bs k)) i) ≡ is_some (sort.at (block_at bs k) i)
@@ -118,6 +96,4 @@ module _ {X L : Type 0} (sort : Sort X) (d : ℕ) (partition : List ℕ) (bs : L
 pub unit_same : {X : Type 0} (sort : Sort X) (d : ℕ) (partition : List ℕ) (bs : List BlockState) (cut : IsCut d partition bs) (change : BlockState → BlockState) (i : ℕ) (h : i < sort.count d)
     → ((k : ℕ) → k < length bs → sort.at (change (block_at bs k)) i ≡ sort.at (block_at bs k) i)
     → given sort.nothing (sort.at (block_at (map change bs) (home partition (sort.number d i))) i) ≡ unit sort d partition bs cut i h
-unit_same sort d partition bs cut change i h same =
-    let small = home_small sort d partition bs cut i h in
-    ap (λ b. given sort.nothing (sort.at b i)) (changed_at change bs (home partition (sort.number d i)) small) ∙ ap (given sort.nothing) (same (home partition (sort.number d i)) small)
+unit_same sort d partition bs cut change i h same = grind (arith, changed_at)

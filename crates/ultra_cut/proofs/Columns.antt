@@ -1,7 +1,6 @@
 -- What the blocks have on a link, and what becomes of it where one hands over and another receives.
-use Rattle.std.proofs.Common.{◌≡◌, ◌≢◌, ℕ, zero, suc, ◌<◌, List, [], ◌∷◌, map, Option, Some, None, length, get_or, set, refl, sym, ◌∙◌, ap, subst, inl, inr, arith, get_or-set_same, get_or-set_other}
+use Rattle.std.proofs.Common.{◌≡◌, ◌≢◌, ℕ, zero, suc, ◌<◌, List, [], ◌∷◌, map, Option, Some, None, length, get_or, set, sym, ◌∙◌, ap, arith, get_or-set_same, get_or-set_other}
 use Rattle.std.specs.Prelude.{◌⊎◌}
-use Rattle.std.proofs.lemmas.Bool.{cases_eq, cases_lt}
 use Rattle.std.proofs.lemmas.List.{length-set, map-set, get_or-map, get_or_past, set-get_or}
 use Rattle.ultra_switch.specs.declared.Ports.{Ports}
 use Rattle.ultra_section.specs.Links.{put_on}
@@ -24,16 +23,10 @@ module _ {X : Type 0} where
 
   -- an entry is gone from where it was taken
   pub gone : (xs : List (Option X)) (a : ℕ) → get_or (set xs a None) a None ≡ None
-  gone xs a = elim (cases_lt a (length xs)) [
-    | inl within ↦ get_or-set_same xs a None None within
-    | inr past ↦ get_or_past (set xs a None) a None (rw length-set past)
-  ]
+  gone xs a = grind (arith, get_or-set_same, get_or_past, length-set)
 
   pub gone_first : (xs : List (Option X)) (a b : ℕ) → get_or (set (set xs a None) b None) a None ≡ None
-  gone_first xs a b = elim (cases_eq a b) [
-    | inl same ↦ ap (get_or (set (set xs a None) b None) a) (let e : None ≡ None = refl in e) ∙ ap (λ i. get_or (set (set xs a None) b None) i None) same ∙ gone (set xs a None) b
-    | inr other ↦ get_or-set_other (set xs a None) b a None None other ∙ gone xs a
-  ]
+  gone_first xs a b = grind (arith, gone, get_or-set_other)
 
   -- a table has as many entries as before
   pub both_put : (xs : List (Option X)) (p : Ports ℕ) (o : Ports (Option X)) → length (put_on_both xs p o) ≡ length xs
@@ -51,21 +44,13 @@ module _ {X : Type 0} (xs : List (Option X)) (k h : ℕ) (x : X) (there : get_or
   at_new = get_or-set_same (set xs k None) h (Some x) None (rw length-set within)
 
   elsewhere : (i : ℕ) → i ≢ h → get_or (set (set xs k None) h (Some x)) i None ≡ None
-  elsewhere i ne =
-      get_or-set_other (set xs k None) h i (Some x) None ne
-      ∙ elim (cases_eq i k) [
-        | inl same ↦ ap (λ j. get_or (set xs k None) j None) same ∙ gone xs k
-        | inr other ↦ get_or-set_other xs k i None None other ∙ others i other
-      ]
+  elsewhere i ne = grind (arith, get_or-set_other, gone)
 
   pub shifted_first : first (set (set xs k None) h (Some x)) ≡ first xs
   shifted_first = first_is (set (set xs k None) h (Some x)) h x at_new elsewhere ∙ sym (first_is xs k x there others)
 
   pub shifted_single : IsSingle (set (set xs k None) h (Some x))
-  shifted_single = λ i j ne some. elim (cases_eq j h) [
-    | inl e ↦ absurd (some (elsewhere i (λ f. ne (f ∙ sym e))))
-    | inr o ↦ elsewhere j o
-  ]
+  shifted_single = grind (arith, elsewhere)
 
 -- ---- two tables: what the one has on two links goes to the other
 abbrev pub over : {M : Type 0} → Option M → Option M → Option M
@@ -74,39 +59,23 @@ over (Some x) y = Some x
 
 module _ {M : Type 0} where
   put_other : (u : List (Option M)) (a : ℕ) (o : Option M) (l : ℕ) → l ≢ a → on_link (put_on u a o) l ≡ on_link u l
-  put_other u a None l ne = refl
-  put_other u a (Some x) l ne = get_or-set_other u a l (Some x) None ne
+  put_other u a o l ne = grind (arith, get_or-set_other)
 
   put_same : (u : List (Option M)) (a : ℕ) (o : Option M) → a < length u → on_link (put_on u a o) a ≡ over o (on_link u a)
-  put_same u a None within = refl
-  put_same u a (Some x) within = get_or-set_same u a (Some x) None within
+  put_same u a o within = grind (arith, get_or-set_same)
 
   module _ (t u : List (Option M)) (p : Ports ℕ) (zero_small : p.zero < length u) (one_small : p.one < length u) where
-    put_first : (o : Option M) (same : p.zero ≡ p.one) → o ≡ None → on_link (put_on (put_on u p.zero (on_link t p.zero)) p.one o) p.zero ≡ over (on_link t p.zero) (on_link u p.zero)
-    put_first o same none = ap (λ x. on_link (put_on (put_on u p.zero (on_link t p.zero)) p.one x) p.zero) none ∙ put_same u p.zero (on_link t p.zero) zero_small
-
     at_zero : on_link (put_on_both u p (taken_by_turns t p)) p.zero ≡ over (on_link t p.zero) (on_link u p.zero)
-    at_zero = elim (cases_eq p.zero p.one) [
-      | inl same ↦ put_first (on_link (set t p.zero None) p.one) same (ap (on_link (set t p.zero None)) (sym same) ∙ gone t p.zero)
-      | inr other ↦ put_other (put_on u p.zero (on_link t p.zero)) p.one (on_link (set t p.zero None) p.one) p.zero other ∙ put_same u p.zero (on_link t p.zero) zero_small
-    ]
+    at_zero = grind (arith, gone, put_other, put_same)
 
     at_one : on_link (put_on_both u p (taken_by_turns t p)) p.one ≡ over (on_link t p.one) (on_link u p.one)
-    at_one = elim (cases_eq p.one p.zero) [
-      | inl same ↦ subst (λ i. on_link (put_on_both u p (taken_by_turns t p)) i ≡ over (on_link t i) (on_link u i)) (sym same) at_zero
-      | inr other ↦
-          put_same (put_on u p.zero (on_link t p.zero)) p.one (on_link (set t p.zero None) p.one) (rw length-put_on one_small)
-          ∙ ap (λ x. over x (on_link (put_on u p.zero (on_link t p.zero)) p.one)) (get_or-set_other t p.zero p.one None None other)
-          ∙ ap (over (on_link t p.one)) (put_other u p.zero (on_link t p.zero) p.one other)
-    ]
+    at_one = grind (arith, at_zero, put_same, length-put_on, get_or-set_other)
 
     pub at_inlet : (l : ℕ) → (l ≡ p.zero) ⊎ (l ≡ p.one) → on_link (put_on_both u p (taken_by_turns t p)) l ≡ over (on_link t l) (on_link u l)
-    at_inlet l (inl is) = subst (λ i. on_link (put_on_both u p (taken_by_turns t p)) i ≡ over (on_link t i) (on_link u i)) (sym is) at_zero
-    at_inlet l (inr is) = subst (λ i. on_link (put_on_both u p (taken_by_turns t p)) i ≡ over (on_link t i) (on_link u i)) (sym is) at_one
+    at_inlet l inlet = grind (arith, at_zero, at_one)
 
     pub left_at_inlet : (l : ℕ) → (l ≡ p.zero) ⊎ (l ≡ p.one) → on_link (without_both t p) l ≡ None
-    left_at_inlet l (inl is) = ap (on_link (without_both t p)) is ∙ gone_first t p.zero p.one
-    left_at_inlet l (inr is) = ap (on_link (without_both t p)) is ∙ gone (set t p.zero None) p.one
+    left_at_inlet l inlet = grind (arith, gone_first, gone)
 
     pub at_other : (l : ℕ) → l ≢ p.zero → l ≢ p.one → on_link (put_on_both u p (taken_by_turns t p)) l ≡ on_link u l
     at_other l nz ny = put_other (put_on u p.zero (on_link t p.zero)) p.one (on_link (set t p.zero None) p.one) l ny ∙ put_other u p.zero (on_link t p.zero) l nz
@@ -142,23 +111,10 @@ module _ {M B : Type 0} (f : B → List (Option M)) (none : B) (bs : List B) (k 
 
   by_message : (l ≡ p.zero) ⊎ (l ≡ p.one) → (o : Option M) → g (get_or bs k none) ≡ o
       → (map g (set (set bs k b) h c) ≡ map g bs) ⊎ (Shift k h l p (map g bs) (map g (set (set bs k b) h c)))
-  by_message inlet None is =
-      let gb : g b ≡ None = ap (λ t. on_link t l) left ∙ left_at_inlet (f (get_or bs k none)) (f (get_or bs h none)) p zero_small one_small l inlet in
-      let gc : g c ≡ g (get_or bs h none) = ap (λ t. on_link t l) got ∙ at_inlet (f (get_or bs k none)) (f (get_or bs h none)) p zero_small one_small l inlet ∙ ap (λ x. over x (g (get_or bs h none))) is in
-      inl (both ∙ stays (map g bs) k h (g b) (g c) (at_k ∙ is ∙ sym gb) (at_h ∙ sym gc))
-  by_message inlet (Some m) is =
-      let gb : g b ≡ None = ap (λ t. on_link t l) left ∙ left_at_inlet (f (get_or bs k none)) (f (get_or bs h none)) p zero_small one_small l inlet in
-      let gc : g c ≡ Some m = ap (λ t. on_link t l) got ∙ at_inlet (f (get_or bs k none)) (f (get_or bs h none)) p zero_small one_small l inlet ∙ ap (λ x. over x (g (get_or bs h none))) is in
-      inr (record { inlet = inlet; message = m; there = at_k ∙ is; now = both ∙ ap (λ x. set (set (map g bs) k x) h (g c)) gb ∙ ap (λ x. set (set (map g bs) k None) h x) gc })
+  by_message inlet o is = grind (arith, left_at_inlet, at_inlet, both, stays, at_k, at_h)
 
   elsewhere_same : l ≢ p.zero → l ≢ p.one → map g (set (set bs k b) h c) ≡ map g bs
-  elsewhere_same nz ny =
-      let gb : g b ≡ g (get_or bs k none) = ap (λ t. on_link t l) left ∙ left_at_other (f (get_or bs k none)) (f (get_or bs h none)) p zero_small one_small l nz ny in
-      let gc : g c ≡ g (get_or bs h none) = ap (λ t. on_link t l) got ∙ at_other (f (get_or bs k none)) (f (get_or bs h none)) p zero_small one_small l nz ny in
-      both ∙ stays (map g bs) k h (g b) (g c) (at_k ∙ sym gb) (at_h ∙ sym gc)
+  elsewhere_same nz ny = grind (arith, left_at_other, at_other, both, stays, at_k, at_h)
 
   pub carried : (map g (set (set bs k b) h c) ≡ map g bs) ⊎ (Shift k h l p (map g bs) (map g (set (set bs k b) h c)))
-  carried = elim (cases_eq l p.zero) [
-    | inl is ↦ by_message (inl is) (g (get_or bs k none)) refl
-    | inr nz ↦ elim (cases_eq l p.one) [ inl is ↦ by_message (inr is) (g (get_or bs k none)) refl | inr ny ↦ inl (elsewhere_same nz ny) ]
-  ]
+  carried = grind (arith, by_message, elsewhere_same)

@@ -1,5 +1,5 @@
 -- The six halves and two exchanges make the blocks the machine after one cycle of the definition.
-use Rattle.std.proofs.Common.{ℕ, ◌+◌, List, [], ◌++◌, sym, subst}
+use Rattle.std.proofs.Common.{ℕ, ◌+◌, List, [], ◌++◌, sym, subst, arith}
 use Rattle.ultra_msg.specs.declared.Event.{Event}
 use Rattle.ultra_isa.specs.declared.Instr.{Instr}
 use Rattle.ultra_model.specs.declared.Stop.{Stop}
@@ -47,13 +47,7 @@ module _ (c : Settings) (partition : List ℕ) (n : ℕ) (events : List Event) (
   middle = memory_phase c (reply_phase c m)
 
   pub are_served : (second : BlockRooms) → AreRooms d (f served) (noted d second) → AreServed c program partition n so_far middle served second
-  are_served second room = record {
-    machine = replied.served_machine c partition n events stops m program bs start clear first first_room replies replies_moved replies_there;
-    clear = replied.served_clear c partition n events stops m program bs start clear first first_room replies replies_moved replies_there;
-    few = replied.served_few c partition n events stops m program bs start clear first first_room replies replies_moved replies_there;
-    no_stops = replied.served_stops c partition n events stops m program bs start clear first first_room replies replies_moved replies_there;
-    room = room;
-  }
+  are_served second room = search (arith, replied.served_machine, replied.served_clear, replied.served_few, replied.served_stops)
 
   module _ (second : BlockRooms) (second_room : AreRooms d (f served) (noted d second))
       (requests : List BlockState) (requests_moved : OnlyRequestsMove (all_made SendRequests second program served) requests)

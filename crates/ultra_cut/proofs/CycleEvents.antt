@@ -1,5 +1,5 @@
 -- What the blocks of a machine list in a cycle is what happens in it.
-use Rattle.std.proofs.Common.{◌≡◌, ℕ, ◌^◌, ◌<◌, List, [], ◌++◌, length, sym, ◌∙◌, ap, subst}
+use Rattle.std.proofs.Common.{◌≡◌, ℕ, ◌^◌, ◌<◌, List, [], ◌++◌, length, sym, ◌∙◌, ap, subst, arith}
 use Rattle.std.proofs.lemmas.List.{length-map}
 use Rattle.std.specs.Option.{ForSome}
 use Rattle.ultra_msg.specs.declared.ReplyMessage.{ReplyMessage}
@@ -160,17 +160,7 @@ module _ (d n : ℕ) (partition : List ℕ) (program : List Instr) (first second
       }
 
     have_listed : HaveListed d n partition program course
-    have_listed = record {
-      replies_sent = (all.replies_blocks, replies_count);
-      replies_taken = (all.taken_blocks, taken_count);
-      requests_sent = (all.requests_blocks, requests_count);
-      requests_taken = (all.waiting_blocks, waiting_count);
-      replies_there = all.replies_there;
-      requests_there = all.requests_there;
-      replies_home = all.replies_home;
-      sites = all.sites;
-      lists = lists;
-    }
+    have_listed = grind (arith, replies_count, taken_count, requests_count, waiting_count, lists)
 
     pub list_what_happens : ListWhatHappens d n partition program course
     list_what_happens = happenings_law d n partition program course have_listed

@@ -1,19 +1,19 @@
 -- Blocks in which each module and each processing element has worked by itself, and nothing else
 -- has changed: they are the frame in which those have.
-use Rattle.std.proofs.Common.{◌≡◌, ℕ, ◌+◌, ◌^◌, ◌<◌, List, map, Option, Some, None, true, length, refl, sym, ◌∙◌, ap, subst, arith}
+use Rattle.std.proofs.Common.{◌≡◌, ℕ, ◌+◌, ◌^◌, ◌<◌, List, map, Option, Some, None, true, length, sym, ap, subst, arith}
 use Rattle.std.specs.Prelude.{is_some}
-use Rattle.ultra_mem.specs.Serve.{Bank, empty_bank}
-use Rattle.ultra_units.specs.Numbers.{switch_count, unit_count, module_number, element_number}
+use Rattle.ultra_mem.specs.Serve.{Bank}
+use Rattle.ultra_units.specs.Numbers.{switch_count, unit_count}
 use Rattle.ultra_halves.specs.declared.elements.ProcessingElement.{ProcessingElement}
 use Rattle.ultra_section.specs.BlockState.{BlockState, switch_at, module_at, element_at}
 use Rattle.ultra_section.specs.Shape.{IsShaped}
 use Rattle.ultra_section.specs.Marks.{on_link}
 use Rattle.ultra_course.specs.Frame.{Frame}
-use Rattle.ultra_cut.specs.Cut.{block_at, first, frame_of, given, home, no_element, no_switch}
+use Rattle.ultra_cut.specs.Cut.{block_at, first, frame_of, given, home, no_switch}
 use Rattle.ultra_cut.specs.Halves.{AreBlocks, HaveFrame}
 use Rattle.ultra_cut.proofs.Changed.{HasSameUnits, blocks_after}
 use Rattle.ultra_cut.proofs.ReplyColumns.{changed_at, same_column}
-use Rattle.ultra_cut.proofs.Units.{is_given, module_at_home, element_at_home}
+use Rattle.ultra_cut.proofs.Units.{module_at_home, element_at_home}
 
 -- what becomes of a unit that stands there
 abbrev pub worked : {X : Type 0} → (X → X) → Option X → Option X
@@ -21,16 +21,10 @@ worked f None = None
 worked f (Some x) = Some (f x)
 
 pub same_worked : {X : Type 0} (o : Option X) → o ≡ worked (λ x. x) o
-same_worked None = refl
-same_worked (Some x) = refl
-
-still_some : {X : Type 0} (f : X → X) (o : Option X) → is_some (worked f o) ≡ is_some o
-still_some f None = refl
-still_some f (Some x) = refl
+same_worked o = grind arith
 
 given_worked : {X : Type 0} (nothing : X) (f : X → X) (o : Option X) → is_some o ≡ true → given nothing (worked f o) ≡ f (given nothing o)
-given_worked nothing f o some =
-    ap (λ o. given nothing (worked f o)) (is_given nothing o some)
+given_worked nothing f o some = grind arith
 
 -- the modules of a block have worked as `f`, its processing elements as `g`, and `more` cycles are
 -- done
@@ -45,14 +39,7 @@ pub record HasWorked (d : ℕ) (f : Bank → Bank) (g : ProcessingElement → Pr
   pub requests : now.requests ≡ b.requests
 
 same_units : (d : ℕ) (f : Bank → Bank) (g : ProcessingElement → ProcessingElement) (more : ℕ) (b now : BlockState) → HasWorked d f g more b now → HasSameUnits d more b now
-same_units d f g more b now work = record {
-  shape = work.shaped;
-  done = work.done;
-  program = work.program;
-  switches = λ n h. ap (λ ws. is_some (switch_at ws n)) work.switches;
-  modules = λ m h. ap is_some (work.modules m h) ∙ still_some f (module_at b.modules m);
-  elements = λ p h. ap is_some (work.elements p h) ∙ still_some g (element_at b.elements p);
-}
+same_units d f g more b now work = grind arith
 
 module _ (d : ℕ) (partition : List ℕ) (bs : List BlockState) (are : AreBlocks d partition bs) (make : BlockState → BlockState) where
   abbrev now : List BlockState
@@ -75,14 +62,10 @@ module _ (d : ℕ) (partition : List ℕ) (bs : List BlockState) (are : AreBlock
     same_switch n h = ap (λ ws. given no_switch (switch_at ws n)) (at_home n (omega arith)).switches
 
     bank_worked : (m : ℕ) → m < 2 ^ d → (frame_of d partition now).bank m ≡ after.bank m
-    bank_worked m h =
-        ap (given empty_bank) ((at_home (module_number d m) (omega arith)).modules m h)
-        ∙ given_worked empty_bank f (module_at (block_at bs (home partition (module_number d m))).modules m) (module_at_home d partition bs are.cut m h)
+    bank_worked m h = grind (arith, at_home, given_worked, module_at_home)
 
     element_worked : (p : ℕ) → p < 2 ^ d → (frame_of d partition now).element p ≡ after.element p
-    element_worked p h =
-        ap (given no_element) ((at_home (element_number d p) (omega arith)).elements p h)
-        ∙ given_worked no_element g (element_at (block_at bs (home partition (element_number d p))).elements p) (element_at_home d partition bs are.cut p h)
+    element_worked p h = grind (arith, at_home, given_worked, element_at_home)
 
     pub have_frame : HaveFrame d partition more bs now after
     have_frame = record {

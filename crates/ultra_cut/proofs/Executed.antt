@@ -1,28 +1,24 @@
 -- After every block has made a step of the program, the blocks are the frame in which each
 -- processing element has.
-use Rattle.std.proofs.Common.{◌≡◌, ℕ, ◌+◌, ◌-◌, ◌^◌, ◌<◌, ◌≤◌, List, Option, Some, None, length, refl, sym, ◌∙◌, ap, subst, arith, le-ltb}
+use Rattle.std.proofs.Common.{◌≡◌, ℕ, ◌+◌, ◌-◌, ◌^◌, ◌<◌, ◌≤◌, List, Option, Some, None, length, refl, ◌∙◌, ap, subst, arith}
 use Rattle.std.specs.Prelude.{is_some}
 use Rattle.ultra_isa.specs.declared.Instr.{Instr}
-use Rattle.ultra_units.specs.Numbers.{switch_count, unit_count}
 use Rattle.ultra_units.specs.Visits.{after_units}
 use Rattle.ultra_halves.specs.declared.elements.ProcessingElement.{ProcessingElement}
 use Rattle.ultra_halves.specs.Elements.{executed}
 use Rattle.ultra_section.specs.declared.half.Half.TheVariants.{Execute}
 use Rattle.ultra_section.specs.declared.rooms.Rooms.{Rooms}
-use Rattle.ultra_section.specs.BlockState.{BlockState, HasStopRoom, module_at, element_at}
+use Rattle.ultra_section.specs.BlockState.{BlockState, module_at, element_at}
 use Rattle.ultra_section.specs.Shape.{IsShaped}
 use Rattle.ultra_section.specs.Execution.{CanExecuteAt, ElementCanExecute, UnitCanExecute, counted, executes}
 use Rattle.ultra_section.specs.Units.{unit_of}
 use Rattle.ultra_section.specs.Making.{made}
-use Rattle.ultra_section.proofs.Few.{room_for_half}
 use Rattle.ultra_section.proofs.ExecutedOnce.{element_after_executing, kept_by_executing, shape_after_executing}
-use Rattle.ultra_section.proofs.Standing.{unit_of_switch, unit_of_module, unit_of_element}
 use Rattle.ultra_course.specs.Conditions.{CanExecute}
 use Rattle.ultra_cut.specs.Cut.{block_at, frame_of, given, no_element}
 use Rattle.ultra_cut.specs.Halves.{AreBlocks, HasHalfRoom, OfEach, all_made}
 use Rattle.ultra_cut.proofs.Numbers.{few_units}
 use Rattle.ultra_cut.specs.UnitLaws.{CanExecuteLaw, ExecuteLaw, HasNoStops, HaveExecuted}
-use Rattle.ultra_section.proofs.OfKind.{by_kind}
 use Rattle.ultra_cut.proofs.Units.{elements, unit_is}
 use Rattle.ultra_cut.proofs.Each.{HasWorked, have_frame, same_worked, worked}
 
@@ -31,8 +27,7 @@ module _ (program : List Instr) (d : ℕ) (low : 1 ≤ d) (high : d ≤ 6) (b : 
   now = after_units (executes program) 320 b
 
   same_work : (o : Option ProcessingElement) → elim o [ None ↦ None | Some e ↦ Some (executed program e) ] ≡ worked (executed program) o
-  same_work None = refl
-  same_work (Some e) = refl
+  same_work o = assumption
 
   shape_now : IsShaped d now
   shape_now = shape_after_executing program d b shape
@@ -79,29 +74,11 @@ module _ (d : ℕ) (partition : List ℕ) (bs : List BlockState) (are : AreBlock
       subst (λ (e : ProcessingElement). e.issued < 2 ^ 32 - 1) of_frame (can.counted p small)
 
   unit_can : (k : ℕ) → k < length bs → (n : ℕ) → UnitCanExecute (block_at bs k) (unit_of (block_at bs k).stages n)
-  unit_can k h n =
-      let b = block_at bs k in
-      subst (λ e. UnitCanExecute b (unit_of e n)) (sym (are.cut.stages k h))
-      (by_kind d (λ n. UnitCanExecute b (unit_of d n))
-      (λ n within. rw (unit_of_switch d n within) tt)
-      (λ m small. rw (unit_of_module d m small) tt)
-      (λ p small. rw (unit_of_element d p small) (element_can k h p small))
-      (λ n past. rw (UnitCanExecute, unit_of, le-ltb n (switch_count d) (omega arith), le-ltb n (switch_count d + 2 ^ d) (omega arith), le-ltb n (unit_count d) past) tt) n)
+  unit_can k h n = grind (arith, element_can)
 
   module _ (room : OfEach HasHalfRoom bs) (none : OfEach HasNoStops bs) where
-    stop_room : (k : ℕ) → k < length bs → (n : ℕ) → HasStopRoom n (block_at bs k)
-    stop_room k h n = let e : length (block_at bs k).stops ≡ 0 = ap (λ ss. length ss) (none k h) in omega (arith, e)
-
     can_execute_at : (k : ℕ) → k < length bs → (n : ℕ) → CanExecuteAt n (block_at bs k)
-    can_execute_at k h n = record {
-      unit = unit_can k h n;
-      event_room = room_for_half (block_at bs k) (room k h) n;
-      stop_room = stop_room k h n;
-    }
+    can_execute_at k h n = grind (arith, unit_can)
 
 pub can_execute_law : CanExecuteLaw
-can_execute_law = λ d partition program bs are runs few can room none k h. record {
-  runs = runs k h;
-  few = few k h;
-  units = λ n within. can_execute_at d partition bs are can room none k h n;
-}
+can_execute_law = grind (arith, can_execute_at)

@@ -62,9 +62,7 @@ module _ (d n : ℕ) (partition : List ℕ) (program : List Instr) (x : Course) 
   pub block_lists : (k : ℕ) → k < count
       → (at_end k).events ≡ all_by (event_rank d) count of_replies k ++ (all_by (event_rank d) count of_service k ++ (all_by (event_rank d) count of_requests k ++ all_by (event_rank d) count of_steps k))
   unfolding events_of_replies events_of_service events_of_requests events_of_steps
-  block_lists k h =
-      (sound.lists k h).events
-      ∙ grouped (events_of_replies d (block_at x.replies_sent k)) (events_of_service d (block_at x.replies_taken k)) (events_of_requests d n (block_at x.requests_sent k)) (events_of_steps d program (block_at x.requests_taken k))
+  block_lists k h = grind (arith, grouped)
 
   all_events : events_of d x.steps_made
       ≡ deliveries d (frame_of d partition x.replies_sent) ++ servings d (frame_of d partition x.replies_taken) ++ combinations d n (frame_of d partition x.requests_sent) ++ issues d program (frame_of d partition x.requests_taken)

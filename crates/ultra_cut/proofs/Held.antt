@@ -1,24 +1,22 @@
 -- Which units of a whole machine hold something, as its blocks say it one after another.
-use Rattle.std.proofs.Common.{◌≡◌, ℕ, ◌+◌, ◌*◌, ◌-◌, ◌^◌, ◌<◌, ◌≤◌, List, Bool, true, false, Option, Some, None, length, refl, sym, ◌∙◌, ap, subst, arith, inl, inr, lt-ltb, le-ltb}
+use Rattle.std.proofs.Common.{◌≡◌, ℕ, ◌+◌, ◌*◌, ◌-◌, ◌^◌, ◌<◌, ◌≤◌, List, Bool, true, false, Option, length, sym, ◌∙◌, ap, arith}
 use Rattle.std.specs.Prelude.{◌==◌, ◌&&◌, ◌||◌, is_some, nat_lt}
-use Rattle.std.proofs.lemmas.Bool.{cases_lt, eqb-true}
+use Rattle.std.proofs.lemmas.Bool.{eqb-true}
 use Rattle.ultra_msg.specs.declared.Event.{Event}
 use Rattle.ultra_route.proofs.Table.{sizes}
 use Rattle.ultra_switch.specs.declared.Switch.{Switch}
 use Rattle.ultra_mem.specs.Serve.{empty_bank}
 use Rattle.ultra_model.specs.declared.Stop.{Stop}
 use Rattle.ultra_model.specs.Machine.{Settings, Machine, lane_at, replies_at, bank_at, element_at}
-use Rattle.ultra_units.specs.Set.{HasNoneFrom}
 use Rattle.ultra_units.specs.Numbers.{switch_count, switch_number, unit_count, module_number, element_number}
 use Rattle.ultra_halves.specs.Elements.{element_of}
 use Rattle.ultra_halves.specs.declared.elements.ProcessingElement.{ProcessingElement}
 use Rattle.ultra_section.specs.declared.held.Held.{Held}
-use Rattle.ultra_section.specs.declared.held.Held.TheVariants.{Reply, Request, Record}
-use Rattle.ultra_section.specs.Units.{of_unit, stage_of, index_of}
+use Rattle.ultra_section.specs.Units.{of_unit}
 use Rattle.ultra_section.specs.Sets.{if_here}
 use Rattle.ultra_section.specs.BlockState.{BlockState, switch_at, module_at}
 use Rattle.ultra_section.specs.BlockState.{element_at as own_element_at}
-use Rattle.ultra_section.specs.Holding.{IsSetOf, holds_at, switch_holds, module_holds, element_holds}
+use Rattle.ultra_section.specs.Holding.{holds_at, switch_holds, module_holds, element_holds}
 use Rattle.ultra_section.proofs.Standing.{is_switch}
 use Rattle.ultra_section.proofs.Holding.{at_switch, at_module, at_element, at_none}
 use Rattle.ultra_course.specs.Ports.{at_port}
@@ -31,12 +29,9 @@ use Rattle.ultra_cut.specs.Halves.{AreBlocks}
 use Rattle.ultra_cut.specs.Holding.{holds, stage_holds, interface_holds}
 use Rattle.ultra_section.proofs.OfKind.{by_kind}
 use Rattle.ultra_cut.proofs.Units.{elements, modules, stands_at, switches}
-use Rattle.ultra_cut.proofs.Numbers.{equal, not_equal}
-use Rattle.ultra_cut.proofs.Noted.{next_is}
 
 and_false : (b : Bool) → false ≡ (b && false)
-and_false true = refl
-and_false false = refl
+and_false b = grind arith
 
 -- ---- what a unit of the machine holds is what that of the frame does
 module _ (c : Settings) (low : 1 ≤ c.stages) (high : c.stages ≤ 6) (f : Frame) (n : ℕ) (events : List Event) (stops : List Stop) where
@@ -69,20 +64,14 @@ module _ (c : Settings) (low : 1 ≤ c.stages) (high : c.stages ≤ 6) (f : Fram
     one_replies = replies_is c f n events stops s (2 * k + 1) hs odd ∙ at_odd (λ k j. (at_port (f.switch (switch_number d s k)).to_pe j).replies) k
 
     stage_is : (held : Held) → stage_holds m held s k ≡ switch_holds held w
-    stage_is Reply = rw (zero_replies, one_replies) refl
-    stage_is Request = rw (zero_lane, one_lane) refl
-    stage_is Record = rw (zero_lane, one_lane) refl
+    stage_is held = grind (arith, zero_replies, one_replies, zero_lane, one_lane)
 
   interface_is : (held : Held) (e : ProcessingElement) → interface_holds held (element_of e) ≡ element_holds held e
-  interface_is Reply e = refl
-  interface_is Request e = refl
-  interface_is Record e = refl
+  interface_is held e = grind arith
 
   module _ (held : Held) where
     switch_holding : (u : ℕ) → u < switch_count d → holds d m held u ≡ switch_holds held (f.switch u)
-    switch_holding u h =
-        let is = is_switch d u h in
-        at_switch d (stage_holds m held) _ _ false u h ∙ stage_is (stage_of d u) (index_of d u) is.stage_small is.index_small held ∙ ap (λ k. switch_holds held (f.switch k)) (sym is.number)
+    switch_holding u h = grind (arith, is_switch, stage_is)
 
     module_holding : (j : ℕ) → j < 2 ^ d → holds d m held (module_number d j) ≡ module_holds held (f.bank j)
     module_holding j h = at_module d _ (λ j. module_holds held (bank_at m j)) _ false j h ∙ ap (module_holds held) (bank_is c f n events stops j h)
@@ -95,10 +84,7 @@ module _ (c : Settings) (low : 1 ≤ c.stages) (high : c.stages ≤ 6) (f : Fram
 
 -- ---- one block
 one_there : {X : Type 0} (p : X → Bool) (nothing : X) (o : Option X) (there own : Bool) → is_some o ≡ there → (there ≡ true → p (given nothing o) ≡ own) → if_here p o ≡ (there && own)
-one_there p nothing None true own some is = absurd (let e : false ≡ true = some in cc)
-one_there p nothing None false own some is = refl
-one_there p nothing (Some x) true own some is = is refl
-one_there p nothing (Some x) false own some is = absurd (let e : true ≡ false = some in cc)
+one_there p nothing o there own some is = grind arith
 
 module _ (held : Held) (d : ℕ) (b : BlockState) (stages : b.stages ≡ d) where
   -- what there is at number u, of a machine of e stages
@@ -160,19 +146,8 @@ module _ (c : Settings) (partition : List ℕ) (bs : List BlockState) (are : Are
   abbrev pub below : ℕ → ℕ → Bool
   below i u = nat_lt (home partition u) i && whole_holds u
 
-  pub none_below : (set : List ℕ) → HasNoneFrom set 0 → IsSetOf (below 0) set
-  none_below set none = λ u. none u (omega arith) ∙ sym (ap (λ b. b && whole_holds u) (le-ltb (home partition u) 0 (omega arith)))
-
   pub next_below : (i : ℕ) → i < length bs → (u : ℕ) → (below i u || holds_at (block_at bs i) held u) ≡ below (i + 1) u
-  next_below i within u =
-      next_is (home partition u) i (below i u) (below i u || holds_at (block_at bs i) held u) (holds_at (block_at bs i) held u) (whole_holds u) refl refl
-      (λ same. holds_here i within u ∙ ap (λ b. b && whole_holds u) (equal (home partition u) i same))
-      (λ apart. holds_here i within u ∙ ap (λ b. b && whole_holds u) (not_equal (home partition u) i apart))
+  next_below i within u = search (arith, holds_here)
 
   pub all_below : (i : ℕ) → i ≡ length bs → (u : ℕ) → below i u ≡ whole_holds u
-  all_below i all u = elim (cases_lt u (unit_count c.stages)) [
-    | inl h ↦ ap (λ b. b && whole_holds u) (lt-ltb (home partition u) i (subst (λ k. home partition u < k) (sym all) (are.cut.homes u h)))
-    | inr past ↦
-        let none = none_holding c are.some_stages are.few_stages (frame_of c.stages partition bs) n events stops held u past in
-        ap (λ b. nat_lt (home partition u) i && b) none ∙ sym (and_false (nat_lt (home partition u) i)) ∙ sym none
-  ]
+  all_below i all u = search arith

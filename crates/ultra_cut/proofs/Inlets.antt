@@ -1,5 +1,5 @@
 -- The links that lead to a unit. Each link leads to one: computed over every network of at most six stages.
-use Rattle.std.proofs.Common.{◌≡◌, ℕ, ◌+◌, ◌-◌, ◌*◌, ◌^◌, ◌<◌, ◌≤◌, Bool, true, false, Some, refl, subst, arith, inl, inr}
+use Rattle.std.proofs.Common.{◌≡◌, ℕ, ◌+◌, ◌-◌, ◌*◌, ◌^◌, ◌<◌, ◌≤◌, Bool, true, Some, refl, subst, arith, inl, inr}
 use Rattle.std.specs.Prelude.{◌⊎◌, ◌&&◌, ◌||◌, ◌==◌, nat_lt}
 use Rattle.std.proofs.lemmas.Bool.{eqb-true}
 use Rattle.ultra_switch.specs.declared.Ports.{Ports}
@@ -8,12 +8,10 @@ use Rattle.ultra_units.specs.Numbers.{switch_count, unit_count, module_number, e
 use Rattle.ultra_halves.specs.Halves.{ports}
 use Rattle.ultra_section.specs.Units.{stage_of, index_of}
 use Rattle.ultra_section.specs.Marks.{delivery_link, memory_link, reply_links, request_links}
-use Rattle.ultra_section.specs.Away.{reply_inlets, request_inlets}
-use Rattle.ultra_section.proofs.Standing.{unit_of_switch, unit_of_module, unit_of_element}
 use Rattle.ultra_cut.specs.declared.kind.Kind.{Kind}
 use Rattle.ultra_cut.specs.declared.kind.Kind.TheVariants.{Replies, Requests}
 use Rattle.ultra_cut.specs.Kinds.{inlets}
-use Rattle.ultra_cut.proofs.BothKinds.{lead_here, reader}
+use Rattle.ultra_cut.proofs.BothKinds.{reader}
 use Rattle.ultra_cut.proofs.Numbers.{below}
 
 -- ---- the links to switch n, and the one to unit i of the sort in which the way ends
@@ -30,20 +28,16 @@ end_number Replies d p = element_number d p
 end_number Requests d m = module_number d m
 
 pub switch_inlets : (kind : Kind) (d n : ℕ) → n < switch_count d → inlets kind d n ≡ Some (links kind d n)
-switch_inlets Replies d n h = rw (reply_inlets, unit_of_switch d n h) refl
-switch_inlets Requests d n h = rw (request_inlets, unit_of_switch d n h) refl
+switch_inlets kind d n h = grind arith
 
 pub end_inlets : (kind : Kind) (d i : ℕ) → i < 2 ^ d → inlets kind d (end_number kind d i) ≡ Some (ports (end_link kind d i) (end_link kind d i))
-end_inlets Replies d p h = rw (reply_inlets, unit_of_element d p h) refl
-end_inlets Requests d m h = rw (request_inlets, unit_of_module d m h) refl
+end_inlets kind d p h = grind arith
 
 pub end_small : (kind : Kind) (d i : ℕ) → i < 2 ^ d → end_number kind d i < unit_count d
-end_small Replies d p h = omega arith
-end_small Requests d m h = omega arith
+end_small kind d p h = grind arith
 
 pub end_link_small : (kind : Kind) (d : ℕ) → 1 ≤ d → d ≤ 6 → (i : ℕ) → i < 2 ^ d → end_link kind d i < (d + 1) * 2 ^ d
-end_link_small kind d low high i h =
-    (lead_here kind d low high (end_number kind d i) (ports (end_link kind d i) (end_link kind d i)) (end_inlets kind d i h)).zero_small
+end_link_small kind d low high i h = grind arith
 
 -- ---- link l leads to switch n, or to unit i of that sort
 pub record LeadsToSwitch (kind : Kind) (d l n : ℕ) : Type 0 where
@@ -74,18 +68,14 @@ all_lead Requests = refl
 
 -- ---- tests
 both : (a b : Bool) → (a && b) ≡ true → (a ≡ true) × (b ≡ true)
-both true b h = (refl, h)
-both false b h = cc
+both a b h = grind arith
 
 either : (a b : Bool) → (a || b) ≡ true → (a ≡ true) ⊎ (b ≡ true)
-either true b h = inl refl
-either false b h = inr h
+either a b h = grind arith
 
 module _ (kind : Kind) (d : ℕ) (low : 1 ≤ d) (high : d ≤ 6) (l : ℕ) (h : l < (d + 1) * 2 ^ d) where
   at_switch : (n : ℕ) → leads_to_switch kind d l n ≡ true → LeadsToSwitch kind d l n
-  at_switch n is =
-      let it = both _ _ is in
-      record { switch = below _ _ it.0; inlet = elim (either _ _ it.1) [ inl e ↦ inl (eqb-true _ _ e) | inr e ↦ inr (eqb-true _ _ e) ] }
+  at_switch n is = grind (arith, eqb-true)
 
   at_end : (i : ℕ) → leads_to_end kind d l i ≡ true → LeadsToEnd kind d l i
   at_end i is = let it = both _ _ is in record { small = below _ _ it.0; inlet = eqb-true _ _ it.1 }

@@ -15,11 +15,7 @@ joined_none g = ap (λ xss. joined xss) (places_none g)
 
 -- one list more
 pub joined_next : {X : Type 0} (g : ℕ → List X) (i n : ℕ) → i ≡ n + 1 → joined (places i g) ≡ joined (places n g) ++ g n
-joined_next g i n e =
-    ap (λ i. joined (places i g)) e
-    ∙ ap (λ xss. joined xss) (places_more n g)
-    ∙ joined-append (places n g) (g n ∷ [])
-    ∙ ap (λ xs. joined (places n g) ++ xs) (append-nil (g n))
+joined_next g i n e = grind (arith, places_more, joined-append, append-nil)
 
 -- n lists, and then k more
 pub joined_split : {X : Type 0} (n k : ℕ) (g : ℕ → List X) → joined (places (n + k) g) ≡ joined (places n g) ++ joined (places k (λ i. g (n + i)))
@@ -64,12 +60,7 @@ joined_only (suc n) k g within others =
 -- only some lists behind one another have something
 pub joined_window : {X : Type 0} (before n after : ℕ) (g : ℕ → List X) → ((i : ℕ) → i < before → g i ≡ []) → ((i : ℕ) → i < after → g (before + (n + i)) ≡ [])
     → joined (places (before + (n + after)) g) ≡ joined (places n (λ i. g (before + i)))
-joined_window before n after g none_before none_after =
-    joined_split before (n + after) g
-    ∙ ap (λ xs. xs ++ joined (places (n + after) (λ i. g (before + i)))) (joined_nothing before g none_before)
-    ∙ joined_split n after (λ i. g (before + i))
-    ∙ ap (λ xs. joined (places n (λ i. g (before + i))) ++ xs) (joined_nothing after (λ i. g (before + (n + i))) none_after)
-    ∙ append-nil (joined (places n (λ i. g (before + i))))
+joined_window before n after g none_before none_after = search (arith, joined_split, joined_nothing, append-nil)
 
 -- ---- lists with at most one element each
 present-append : {X : Type 0} (os us : List (Option X)) → present (os ++ us) ≡ present os ++ present us

@@ -1,19 +1,13 @@
 -- What a block lists in each half: unit by unit, and so kind by kind.
-use Rattle.std.proofs.Common.{◌≡◌, ℕ, zero, suc, ◌+◌, ◌-◌, ◌^◌, ◌<◌, ◌≤◌, List, [], ◌++◌, Option, Some, None, refl, sym, ◌∙◌, ap, subst, inl, inr, arith}
+use Rattle.std.proofs.Common.{◌≡◌, ℕ, zero, suc, ◌+◌, ◌-◌, ◌^◌, ◌<◌, ◌≤◌, List, [], ◌++◌, Option, refl, sym, ◌∙◌, ap, subst, inl, inr, arith}
 use Rattle.std.proofs.lemmas.Bool.{cases_lt}
-use Rattle.ultra_msg.specs.declared.Request.{Request}
-use Rattle.ultra_msg.specs.declared.ReplyMessage.{ReplyMessage}
-use Rattle.ultra_switch.specs.declared.Ports.{Ports}
-use Rattle.ultra_switch.specs.declared.Switch.{Switch}
 use Rattle.ultra_mem.specs.Serve.{Bank}
 use Rattle.ultra_isa.specs.declared.Instr.{Instr}
 use Rattle.ultra_model.specs.Places.{places, joined}
 use Rattle.ultra_units.specs.Numbers.{switch_count, unit_count, module_number, element_number}
-use Rattle.ultra_halves.specs.declared.elements.ProcessingElement.{ProcessingElement}
 use Rattle.ultra_section.specs.declared.rooms.Rooms.{Rooms}
-use Rattle.ultra_section.specs.Units.{unit_of, stage_of, index_of}
-use Rattle.ultra_section.specs.Marks.{on_link, on_both, delivery_link, request_links}
-use Rattle.ultra_section.specs.BlockState.{BlockState, switch_at, module_at, element_at}
+use Rattle.ultra_section.specs.Units.{unit_of}
+use Rattle.ultra_section.specs.BlockState.{BlockState}
 use Rattle.ultra_section.specs.Shape.{IsShaped}
 use Rattle.ultra_section.specs.RepliesSent.{begun}
 use Rattle.ultra_section.proofs.OfKind.{unit_of_none}
@@ -26,7 +20,7 @@ use Rattle.ultra_section.proofs.RequestsSentOnce as requests_sent
 use Rattle.ultra_section.proofs.RequestsTakenOnce as requests_taken
 use Rattle.ultra_section.proofs.ExecutedOnce as executed
 use Rattle.ultra_cut.proofs.Numbers.{few_units}
-use Rattle.ultra_cut.specs.Happenings.{delivery_events, serving_events, combination_events, issue_events, element_stops, delivery_at, serving_at, combinations_at, issue_at, stop_at, events_of_replies, events_of_service, events_of_requests, events_of_steps, stops_of_steps}
+use Rattle.ultra_cut.specs.Happenings.{serving_events, events_of_replies, events_of_service, events_of_requests, events_of_steps, stops_of_steps}
 use Rattle.ultra_cut.specs.HappeningLaws.{AddsEvents, AddsStops, EventsAddedLaw}
 use Rattle.ultra_cut.proofs.Joined.{joined_none, joined_next, joined_same, joined_window}
 
@@ -88,79 +82,39 @@ module _ (d : ℕ) (low : 1 ≤ d) (high : d ≤ 6) where
 
   module _ (b : BlockState) where
     -- ---- replies
-    delivery_as : (o : Option ProcessingElement) (came : Option ReplyMessage) → replies_taken.delivery_entries d low high (o, came) ≡ delivery_events o came
-    delivery_as None came = refl
-    delivery_as (Some e) came = refl
 
     listed_taking_replies : entries_before (λ n t. replies_taken.entries_of d low high t (unit_of d n)) 320 b ≡ events_of_replies d b
     unfolding events_of_replies
-    listed_taking_replies =
-        let list = replies_taken.entries_of d low high b in
-        elements_list (λ n t. replies_taken.entries_of d low high t (unit_of d n)) b (λ i past. ap list (unit_of_none d i past)) (λ p. delivery_at d b p)
-        (λ i h. ap list (unit_of_switch d i h)) (λ m h. ap list (unit_of_module d m h))
-        (λ p h. ap list (unit_of_element d p h) ∙ delivery_as (element_at b.elements p) (on_link b.replies (delivery_link d p)))
+    listed_taking_replies = grind (arith, elements_list, unit_of_switch, unit_of_module, unit_of_element)
 
     -- ---- memory
     serving_as : (m : ℕ) (o : Option Bank) → served.act_entries d o m ≡ serving_events m o
-    serving_as m None = refl
-    serving_as m (Some bank) = refl
+    serving_as m o = grind arith
 
     listed_serving : entries_before (served.entries d) 320 b ≡ events_of_service d b
     unfolding events_of_service
-    listed_serving =
-        let list = served.entries_of d b in
-        modules_list (served.entries d) b (λ i past. ap list (unit_of_none d i past)) (λ m. serving_at d b m)
-        (λ i h. ap list (unit_of_switch d i h)) (λ p h. ap list (unit_of_element d p h)) (λ m h. ap list (unit_of_module d m h) ∙ serving_as m (module_at b.modules m))
+    listed_serving = grind (arith, modules_list, unit_of_none, unit_of_element, unit_of_module, serving_as)
 
     -- ---- requests
     module _ (c : ℕ) where
-      combinations_as : (s k : ℕ) (o : Option Switch) (came : Ports (Option Request)) → requests_taken.combination_entries d c low high s k (o, came) ≡ combination_events d c s k o came
-      combinations_as s k None came = refl
-      combinations_as s k (Some w) came = refl
-
       listed_taking_requests : entries_before (λ n t. requests_taken.entries_of d c low high n t (unit_of d n)) 320 b ≡ events_of_requests d c b
       unfolding events_of_requests
-      listed_taking_requests =
-          let list = λ (i : ℕ). requests_taken.entries_of d c low high i b in
-          switches_list (λ n t. requests_taken.entries_of d c low high n t (unit_of d n)) b (λ i past. ap (list i) (unit_of_none d i past)) (λ i. combinations_at d c b i)
-          (λ m h. ap (list (module_number d m)) (unit_of_module d m h)) (λ p h. ap (list (element_number d p)) (unit_of_element d p h))
-          (λ i h. ap (list i) (unit_of_switch d i h) ∙ combinations_as (stage_of d i) (index_of d i) (switch_at b.switches i) (on_both b.requests (request_links d (stage_of d i) (index_of d i))))
+      listed_taking_requests = grind (arith, switches_list, unit_of_none, unit_of_module, unit_of_element, unit_of_switch)
 
     -- ---- steps: issues or stops
     module _ (program : List Instr) where
-      issue_as : (o : Option ProcessingElement) → executed.issue_entries program d o ≡ issue_events program o
-      issue_as None = refl
-      issue_as (Some e) = refl
-
-      stop_as : (p : ℕ) (o : Option ProcessingElement) → executed.stop_entries program d p o ≡ element_stops program p o
-      stop_as p None = refl
-      stop_as p (Some e) = refl
-
       listed_issues : entries_before (λ n t. executed.entries_of program d (λ p o. executed.issue_entries program d o) t (unit_of d n)) 320 b ≡ events_of_steps d program b
       unfolding events_of_steps
-      listed_issues =
-          let list = executed.entries_of program d (λ p o. executed.issue_entries program d o) b in
-          elements_list (λ n t. executed.entries_of program d (λ p o. executed.issue_entries program d o) t (unit_of d n)) b (λ i past. ap list (unit_of_none d i past)) (λ p. issue_at d program b p)
-          (λ i h. ap list (unit_of_switch d i h)) (λ m h. ap list (unit_of_module d m h)) (λ p h. ap list (unit_of_element d p h) ∙ issue_as (element_at b.elements p))
+      listed_issues = grind (arith, elements_list, unit_of_none, unit_of_switch, unit_of_module, unit_of_element)
 
       listed_stops : entries_before (λ n t. executed.entries_of program d (executed.stop_entries program d) t (unit_of d n)) 320 b ≡ stops_of_steps d program b
       unfolding stops_of_steps
-      listed_stops =
-          let list = executed.entries_of program d (executed.stop_entries program d) b in
-          elements_list (λ n t. executed.entries_of program d (executed.stop_entries program d) t (unit_of d n)) b (λ i past. ap list (unit_of_none d i past)) (λ p. stop_at d program b p)
-          (λ i h. ap list (unit_of_switch d i h)) (λ m h. ap list (unit_of_module d m h)) (λ p h. ap list (unit_of_element d p h) ∙ stop_as p (element_at b.elements p))
+      listed_stops = grind (arith, elements_list, unit_of_switch, unit_of_module, unit_of_element)
 
     -- ---- the halves
     module _ (rooms : Rooms) (program : List Instr) (shape : IsShaped d b) where
       begun_shape : IsShaped d (begun b)
-      begun_shape = record {
-        stages = shape.stages;
-        switches = shape.switches;
-        modules = shape.modules;
-        elements = shape.elements;
-        replies = shape.replies;
-        requests = shape.requests;
-      }
+      begun_shape = assumption
 
       in_cycle : requests_taken.InCycle d b.done b
       in_cycle = record { shape = shape; done = refl }

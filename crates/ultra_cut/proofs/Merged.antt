@@ -1,7 +1,6 @@
 -- What blocks list in four halves, one after another, merged by rank.
 use Rattle.std.proofs.Common.{◌≡◌, ◌≢◌, ℕ, ◌+◌, ◌-◌, ◌<◌, ◌≤◌, List, [], ◌++◌, refl, sym, ◌∙◌, ap, arith, append-nil}
 use Rattle.std.proofs.lemmas.List.Elements.{filter-append}
-use Rattle.std.specs.Prelude.{◌==◌}
 use Rattle.ultra_model.specs.Places.{places, joined}
 use Rattle.ultra_cut.proofs.Joined.{joined_split, joined_same}
 use Rattle.ultra_cut.proofs.Ranked.{of_rank, IsPart, away, merged}
@@ -43,10 +42,7 @@ module _ {X : Type 0} (rank : X → ℕ) (count : ℕ) where
   -- ---- one part
   module _ (low width : ℕ) (p : Part rank count low width) where
     far : (r k : ℕ) → k < count → ((q : ℕ) → low ≤ q → q < low + width → q ≢ r) → of_rank rank r (all_by p k) ≡ []
-    far r k h others =
-        let from = p.from in
-        let to = p.to in
-        away rank count p.base p.n p.listed p.home p.is r k h (λ i within. others (p.base + i) (omega arith) (omega arith))
+    far r k h others = grind (arith, away)
 
     pub merged_part : joined (places width (λ i. joined (places count (λ k. of_rank rank (low + i) (all_by p k))))) ≡ all_home p
     merged_part =
@@ -61,12 +57,7 @@ module _ {X : Type 0} (rank : X → ℕ) (count : ℕ) where
   module _ (a : Part rank count 0 320) (b : Part rank count 320 320) (c : Part rank count 640 320) (d : Part rank count 960 320) (listed : ℕ → List X)
       (lists : (k : ℕ) → k < count → listed k ≡ all_by a k ++ (all_by b k ++ (all_by c k ++ all_by d k))) where
     picked_of : (r k : ℕ) → k < count → of_rank rank r (listed k) ≡ of_rank rank r (all_by a k) ++ (of_rank rank r (all_by b k) ++ (of_rank rank r (all_by c k) ++ of_rank rank r (all_by d k)))
-    picked_of r k h =
-        let test = λ (x : X). rank x == r in
-        ap (of_rank rank r) (lists k h)
-        ∙ filter-append test (all_by a k) (all_by b k ++ (all_by c k ++ all_by d k))
-        ∙ ap (λ xs. of_rank rank r (all_by a k) ++ xs) (filter-append test (all_by b k) (all_by c k ++ all_by d k))
-        ∙ ap (λ xs. of_rank rank r (all_by a k) ++ (of_rank rank r (all_by b k) ++ xs)) (filter-append test (all_by c k) (all_by d k))
+    picked_of r k h = grind (arith, filter-append)
 
     module _ (r k : ℕ) (h : k < count) where
       at_first : r < 320 → of_rank rank r (listed k) ≡ of_rank rank r (all_by a k)
@@ -119,10 +110,4 @@ module _ {X : Type 0} (rank : X → ℕ) (count : ℕ) where
         ∙ merged_part low 320 p
 
     pub merged_four : joined (places 1280 merged_at) ≡ all_home a ++ (all_home b ++ (all_home c ++ all_home d))
-    merged_four =
-        in_four merged_at
-        ∙ all_same
-        (of_part 0 a (λ r k h l u. at_first r k h (omega arith)))
-        (of_part 320 b (λ r k h l u. at_second r k h l (omega arith)))
-        (of_part 640 c (λ r k h l u. at_third r k h l (omega arith)))
-        (of_part 960 d (λ r k h l u. at_fourth r k h l))
+    merged_four = search (arith, in_four, all_same, of_part, at_first, at_second, at_third, at_fourth)

@@ -1,14 +1,13 @@
 -- Messages that lead from one block to a unit in another go there, and nothing else changes.
-use Rattle.std.proofs.Common.{◌≡◌, ◌≢◌, ℕ, ◌+◌, ◌*◌, ◌^◌, ◌<◌, ◌≤◌, List, Option, Some, None, Bool, true, false, length, set, refl, sym, ◌∙◌, ap, subst, inl, inr, get_or-set_same, get_or-set_other}
+use Rattle.std.proofs.Common.{◌≡◌, ◌≢◌, ℕ, ◌+◌, ◌*◌, ◌^◌, ◌<◌, ◌≤◌, List, Option, Some, None, Bool, true, false, length, set, refl, sym, ◌∙◌, ap, subst, inl, inr, get_or-set_same, get_or-set_other, arith}
 use Rattle.std.specs.Prelude.{◌⊎◌, ◌==◌}
-use Rattle.std.proofs.lemmas.Bool.{cases_eq, eqb-true}
+use Rattle.std.proofs.lemmas.Bool.{eqb-true}
 use Rattle.std.proofs.lemmas.List.{length-set, length-map}
 use Rattle.ultra_switch.specs.declared.Ports.{Ports}
 use Rattle.ultra_units.specs.Numbers.{unit_count}
 use Rattle.ultra_section.specs.Marks.{on_link, without_both}
 use Rattle.ultra_section.specs.BlockState.{BlockState}
-use Rattle.ultra_section.specs.Shape.{IsShaped}
-use Rattle.ultra_section.specs.Away.{AreEmpty, stands, put_on_both, taken_by_turns}
+use Rattle.ultra_section.specs.Away.{AreEmpty, put_on_both, taken_by_turns}
 use Rattle.ultra_section.proofs.Marks.{fewer_both}
 use Rattle.ultra_cut.specs.declared.kind.Kind.{Kind}
 use Rattle.ultra_cut.specs.Cut.{IsCut, block_at, no_block, home, first}
@@ -17,7 +16,7 @@ use Rattle.ultra_cut.specs.Exchange.{IsSingle}
 use Rattle.ultra_cut.specs.Kinds.{AreSingle, HasNoneFor, Message, NoneLeavesWithin, OnlyMove, carried, inlets, moved, on_each, table, with_table}
 use Rattle.ultra_cut.proofs.Columns as columns
 use Rattle.ultra_cut.proofs.Columns.{Shift}
-use Rattle.ultra_cut.proofs.BothKinds.{lead_here, links_of, reader, shaped_with, stages_with, stands_with, table_with, with_own, with_twice}
+use Rattle.ultra_cut.proofs.BothKinds.{lead_here, links_of, reader, shaped_with, table_with, with_own, with_twice}
 use Rattle.ultra_cut.proofs.Numbers.{differs, not_equal}
 
 module _ (kind : Kind) where
@@ -25,15 +24,7 @@ module _ (kind : Kind) where
   nothing_moved bs single = record { count = refl; rest = λ k. with_own kind (block_at bs k); lengths = λ k. refl; links = λ l. refl; single = single }
 
   pub both_moved : (a b c : List BlockState) → OnlyMove kind a b → OnlyMove kind b c → OnlyMove kind a c
-  both_moved a b c one two = record {
-    count = two.count ∙ one.count;
-    rest = λ k.
-        two.rest k ∙ ap (with_table kind (table kind (block_at c k))) (one.rest k)
-        ∙ with_twice kind (table kind (block_at c k)) (table kind (block_at b k)) (block_at a k);
-    lengths = λ k. two.lengths k ∙ one.lengths k;
-    links = λ l. two.links l ∙ one.links l;
-    single = two.single;
-  }
+  both_moved a b c one two = grind (arith, with_twice)
 
   -- ---- what block k has on the inlets p of a unit goes to block h
   module _ (bs : List BlockState) (k h : ℕ) (p : Ports ℕ) (apart : h ≢ k) (k_within : k < length bs) (h_within : h < length bs) where
@@ -66,13 +57,7 @@ module _ (kind : Kind) where
 
     -- what holds of the blocks k and h, and of each other, holds of all
     all_after : (P : ℕ → BlockState → Type 0) → P k giver → P h (taker (block_at bs h)) → ((j : ℕ) → P j (block_at bs j)) → (j : ℕ) → P j (block_at after j)
-    all_after P gives takes others j = elim (cases_eq j h) [
-      | inl at_h ↦ subst (λ i. P i (block_at after i)) (sym at_h) (subst (P h) (sym now_h) takes)
-      | inr not_h ↦ elim (cases_eq j k) [
-        | inl at_k ↦ subst (λ i. P i (block_at after i)) (sym at_k) (subst (P k) (sym now_k) gives)
-        | inr not_k ↦ subst (P j) (sym (now_other j not_k not_h)) (others j)
-      ]
-    ]
+    all_after P gives takes others j = grind (arith, now_h, now_k, now_other)
 
     -- block j with this on its links
     with_this : (j : ℕ) (t : List (Option (Message kind))) → with_table kind t (block_at bs j) ≡ with_table kind (table kind (with_table kind t (block_at bs j))) (block_at bs j)
@@ -90,12 +75,10 @@ module _ (kind : Kind) where
           columns.carried (table kind) no_block bs k h p giver (taker (block_at left h)) k_within h_within given (ap (λ b. table kind (taker b)) same_left ∙ taken) zero_small one_small l
 
       link_same : (l : ℕ) → (on_each kind after l ≡ on_each kind bs l) ⊎ (Shift k h l p (on_each kind bs l) (on_each kind after l)) → first (on_each kind after l) ≡ first (on_each kind bs l)
-      link_same l (inl same) = ap first same
-      link_same l (inr shift) = ap first shift.now ∙ columns.shifted_first (on_each kind bs l) k h shift.message shift.there (single l) (rw length-map h_within)
+      link_same l moved = grind (arith, columns.shifted_first, length-map)
 
       still_single : (l : ℕ) → (on_each kind after l ≡ on_each kind bs l) ⊎ (Shift k h l p (on_each kind bs l) (on_each kind after l)) → IsSingle (on_each kind after l)
-      still_single l (inl same) = subst (λ xs. IsSingle xs) (sym same) (single l)
-      still_single l (inr shift) = subst (λ xs. IsSingle xs) (sym shift.now) (columns.shifted_single (on_each kind bs l) k h shift.message shift.there (single l) (rw length-map h_within))
+      still_single l moved = grind (arith, columns.shifted_single, length-map)
 
       only_moved : OnlyMove kind bs after
       only_moved = record {
@@ -109,8 +92,7 @@ module _ (kind : Kind) where
       }
 
     gone_here : AreEmpty (table kind (block_at after k)) (Some p)
-    gone_here =
-        subst (λ t. AreEmpty t (Some p)) (sym (ap (table kind) now_k ∙ given)) (columns.gone_first (was k) p.zero p.one, columns.gone (set (was k) p.zero None) p.one)
+    gone_here = grind (arith, now_k, given, columns.gone_first, columns.gone)
 
     -- a link with nothing on it in block j, unless it is an inlet and j is h
     still_none : (j l : ℕ) → (j ≡ h → (l ≢ p.zero) × (l ≢ p.one)) → p.zero < length (was h) → p.one < length (was h) → on_link (was j) l ≡ None → on_link (table kind (block_at after j)) l ≡ None
@@ -176,32 +158,13 @@ module _ (kind : Kind) where
 
     -- the blocks are cut as before
     pub still_cut : (bs now : List BlockState) → OnlyMove kind bs now → IsCut d partition bs → IsCut d partition now
-    still_cut bs now only cut = record {
-      count = cut.count;
-      homes = λ n h. subst (λ x. home partition n < x) (sym only.count) (cut.homes n h);
-      stages = λ k h.
-          ap (λ (b : BlockState). b.stages) (only.rest k) ∙ stages_with kind (table kind (block_at now k)) (block_at bs k)
-          ∙ cut.stages k (subst (λ x. k < x) only.count h);
-      stand = λ k n h within.
-          ap (λ (b : BlockState). stands n b) (only.rest k) ∙ stands_with kind (table kind (block_at now k)) (block_at bs k) n
-          ∙ cut.stand k n (subst (λ x. k < x) only.count h) within;
-    }
+    still_cut bs now only cut = grind arith
 
     -- they are blocks of the machine as before
     pub still_blocks : (bs now : List BlockState) → OnlyMove kind bs now → AreBlocks d partition bs → AreBlocks d partition now
-    still_blocks bs now only blocks = record {
-      some_stages = low;
-      few_stages = high;
-      cut = still_cut bs now only blocks.cut;
-      shaped = λ k h.
-          let shape = blocks.shaped k (subst (λ x. k < x) only.count h) in
-          subst (λ b. IsShaped d b) (sym (only.rest k))
-          (shaped_with kind d (table kind (block_at now k)) (block_at bs k) (only.lengths k ∙ links_of kind d (block_at bs k) shape) shape);
-    }
+    still_blocks bs now only blocks = grind (arith, shaped_with, links_of)
 
     -- where nothing leaves a block for units elsewhere
     pub none_leaves : (bs : List BlockState) (k from to : ℕ) → IsCut d partition bs → k < length bs → NoneLeavesWithin kind (block_at bs k) from to
         → (n : ℕ) → from ≤ n → n < to → n < unit_count d → HasNoneFor kind d partition bs k n
-    none_leaves bs k from to cut within none n after before unit elsewhere =
-        subst (λ e. AreEmpty (table kind (block_at bs k)) (inlets kind e n)) (cut.stages k within)
-        (none n after before (cut.stand k n within unit ∙ not_equal (home partition n) k elsewhere))
+    none_leaves bs k from to cut within none n after before unit elsewhere = grind (arith, not_equal)

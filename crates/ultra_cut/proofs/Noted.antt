@@ -1,11 +1,10 @@
 -- What blocks note one after another: of a unit without room, once its home has.
-use Rattle.std.proofs.Common.{◌≡◌, ◌≢◌, ℕ, zero, suc, ◌+◌, ◌^◌, ◌<◌, List, Bool, true, false, Option, Some, None, length, refl, sym, ◌∙◌, ap, subst, inl, inr, arith, lt-ltb, le-ltb}
+use Rattle.std.proofs.Common.{◌≡◌, ◌≢◌, ℕ, ◌+◌, ◌^◌, ◌<◌, List, Bool, true, false, Option, length, sym, ◌∙◌, ap, subst, arith}
 use Rattle.std.specs.Prelude.{◌&&◌, ◌||◌, is_some, nat_lt, not}
-use Rattle.std.proofs.lemmas.Bool.{cases_eq, cases_lt}
 use Rattle.ultra_mem.specs.Serve.{Bank}
 use Rattle.ultra_model.specs.Machine.{is_nothing}
 use Rattle.ultra_units.specs.Set.{has_unit, HasNoneFrom}
-use Rattle.ultra_units.specs.Numbers.{switch_count, unit_count, module_number}
+use Rattle.ultra_units.specs.Numbers.{switch_count, module_number}
 use Rattle.ultra_halves.specs.Switches.{has_reply_room, has_request_room}
 use Rattle.ultra_section.specs.BlockState.{BlockState, module_at}
 use Rattle.ultra_section.specs.Rooms.{HasNoted}
@@ -19,45 +18,23 @@ use Rattle.ultra_cut.proofs.Numbers.{equal, not_equal}
 use Rattle.ultra_cut.proofs.Units.{Sort, modules, stands_at, switches, unit}
 
 -- ---- tests
-or_nothing : (b : Bool) → (b || false) ≡ b
-or_nothing true = refl
-or_nothing false = refl
 
 not_twice : (b : Bool) → not (not b) ≡ b
-not_twice true = refl
-not_twice false = refl
+not_twice b = grind arith
 
 not_some : {X : Type 0} (o : Option X) → not (is_some o) ≡ is_nothing o
-not_some None = refl
-not_some (Some x) = refl
+not_some o = grind arith
 
 if_stands : {X : Type 0} (p : X → Bool) (nothing : X) (o : Option X) → is_some o ≡ true → if_here p o ≡ p (given nothing o)
-if_stands p nothing None some = absurd (let e : false ≡ true = some in cc)
-if_stands p nothing (Some x) some = refl
+if_stands p nothing o some = grind arith
 
 if_elsewhere : {X : Type 0} (p : X → Bool) (o : Option X) → is_some o ≡ false → if_here p o ≡ false
-if_elsewhere p None none = refl
-if_elsewhere p (Some x) none = absurd (let e : true ≡ false = none in cc)
-
-same_below : (h i : ℕ) → h ≢ i → nat_lt h i ≡ nat_lt h (i + 1)
-same_below h i other = elim (cases_lt h i) [
-  | inl below ↦ lt-ltb h i below ∙ sym (lt-ltb h (i + 1) (omega arith))
-  | inr past ↦ elim (cases_lt i h) [
-    | inl above ↦ le-ltb h i past ∙ sym (le-ltb h (i + 1) (omega arith))
-    | inr most ↦ absurd (other (omega arith))
-  ]
-]
+if_elsewhere p o none = grind arith
 
 -- what is noted of a unit by block i, where the first blocks, fewer than i, have noted it or not
 pub next_is : (h i : ℕ) (was now here p : Bool) → was ≡ (nat_lt h i && p) → now ≡ (was || here) → (h ≡ i → here ≡ p)
     → (h ≢ i → here ≡ false) → now ≡ (nat_lt h (i + 1) && p)
-next_is h i was now here p before is own other = elim (cases_eq h i) [
-  | inl same ↦
-      is ∙ ap (λ x. x || here) (before ∙ ap (λ b. b && p) (le-ltb h i (omega arith))) ∙ own same
-      ∙ sym (ap (λ b. b && p) (lt-ltb h (i + 1) (omega arith)))
-  | inr apart ↦
-      is ∙ ap (λ x. was || x) (other apart) ∙ or_nothing was ∙ before ∙ ap (λ b. b && p) (same_below h i apart)
-]
+next_is h i was now here p before is own other = grind arith
 
 module _ (d : ℕ) (partition : List ℕ) (bs : List BlockState) where
   abbrev frame : Frame
@@ -74,18 +51,9 @@ module _ (d : ℕ) (partition : List ℕ) (bs : List BlockState) where
     pub modules : (m : ℕ) → m < 2 ^ d
         → has_unit rooms.no_request_room.zero (module_number d m) ≡ (nat_lt (home partition (module_number d m)) i && is_some (frame.bank m).inp)
 
-  none_is : (set : List ℕ) (h n : ℕ) (p : Bool) → HasNoneFrom set 0 → has_unit set n ≡ (nat_lt h 0 && p)
-  none_is set h n p none = none n (omega arith) ∙ sym (ap (λ b. b && p) (le-ltb h 0 (omega arith)))
-
   pub none_noted : (rooms : Rooms) → HasNoneFrom rooms.no_reply_room 0 → HasNoneFrom rooms.no_request_room.zero 0
       → HasNoneFrom rooms.no_request_room.one 0 → HaveNoted 0 rooms
-  none_noted rooms replies zeros ones = record {
-    replies = λ n h. none_is rooms.no_reply_room (home partition n) n (not (has_reply_room (frame.switch n))) replies;
-    zero_port = λ n h. none_is rooms.no_request_room.zero (home partition n) n (not (has_request_room (frame.switch n)).zero) zeros;
-    one_port = λ n h. none_is rooms.no_request_room.one (home partition n) n (not (has_request_room (frame.switch n)).one) ones;
-    modules = λ m h.
-        none_is rooms.no_request_room.zero (home partition (module_number d m)) (module_number d m) (is_some (frame.bank m).inp) zeros;
-  }
+  none_noted rooms replies zeros ones = grind arith
 
   module _ (cut : IsCut d partition bs) where
     -- unit u of a sort
@@ -111,10 +79,7 @@ module _ (d : ℕ) (partition : List ℕ) (bs : List BlockState) where
 
       module_noted : (m : ℕ) → m < 2 ^ d → has_unit now.no_request_room.zero (module_number d m)
           ≡ (has_unit old.no_request_room.zero (module_number d m) || if_here (λ (bank : Bank). is_some bank.inp) (module_at (block_at bs i).modules m))
-      module_noted m h =
-          subst (λ e. m < 2 ^ e → has_unit now.no_request_room.zero (module_number e m)
-          ≡ (has_unit old.no_request_room.zero (module_number e m) || if_here (λ (bank : Bank). is_some bank.inp) (module_at (block_at bs i).modules m)))
-          (cut.stages i within) (notes.modules m) h
+      module_noted m h = grind arith
 
       pub next_noted : HaveNoted (i + 1) now
       next_noted = record {
@@ -134,18 +99,8 @@ module _ (d : ℕ) (partition : List ℕ) (bs : List BlockState) where
 
     -- all have noted theirs
     module _ (rooms : Rooms) (i : ℕ) (all : i ≡ length bs) (have : HaveNoted i rooms) where
-      whole_is : (n : ℕ) (seen p : Bool) → n < unit_count d → seen ≡ (nat_lt (home partition n) i && p) → seen ≡ p
-      whole_is n seen p h is =
-          is ∙ ap (λ b. b && p) (lt-ltb (home partition n) i (subst (λ k. home partition n < k) (sym all) (cut.homes n h)))
-
       request_is : (n j : ℕ) → n < switch_count d → j < 2 → (noted d rooms).request n j ≡ not (not (at_port (has_request_room (frame.switch n)) j))
-      request_is n zero h small = ap not (whole_is n _ _ (omega arith) (have.zero_port n h))
-      request_is n (suc j) h small = ap not (whole_is n _ _ (omega arith) (have.one_port n h))
+      request_is n j h small = grind arith
 
       pub rooms_are : AreRooms d frame (noted d rooms)
-      rooms_are = record {
-        reply = λ n h. ap not (whole_is n _ _ (omega arith) (have.replies n h)) ∙ not_twice (has_reply_room (frame.switch n));
-        request = λ n j h small. request_is n j h small ∙ not_twice (at_port (has_request_room (frame.switch n)) j);
-        bank = λ m h.
-            ap not (whole_is (module_number d m) _ _ (omega arith) (have.modules m h)) ∙ not_some (frame.bank m).inp;
-      }
+      rooms_are = grind (arith, not_twice)

@@ -1,7 +1,6 @@
 -- What blocks list in each half, as a part of what they list in a cycle: its ranks, and what the homes list.
-use Rattle.std.proofs.Common.{◌≡◌, ◌≢◌, ℕ, ◌+◌, ◌*◌, ◌/◌, ◌^◌, ◌<◌, ◌≤◌, List, [], ◌∷◌, Option, Some, None, length, refl, sym, ◌∙◌, ap, subst, inl, inr, arith}
+use Rattle.std.proofs.Common.{◌≡◌, ◌≢◌, ℕ, ◌+◌, ◌/◌, ◌^◌, ◌<◌, ◌≤◌, List, [], ◌∷◌, Option, Some, None, length, refl, sym, ◌∙◌, ap, subst, arith}
 use Rattle.std.specs.Option.{ForSome}
-use Rattle.std.proofs.lemmas.Bool.{cases_eq}
 use Rattle.ultra_msg.specs.declared.Request.{Request}
 use Rattle.ultra_msg.specs.declared.ReplyMessage.{ReplyMessage}
 use Rattle.ultra_msg.specs.declared.Event.{Event}
@@ -9,21 +8,13 @@ use Rattle.ultra_switch.specs.declared.Ports.{Ports}
 use Rattle.ultra_switch.specs.declared.Switch.{Switch}
 use Rattle.ultra_switch.specs.Arrive.{Lane, Combination, combine_within, arrive}
 use Rattle.ultra_mem.specs.Serve.{Bank, served}
-use Rattle.ultra_mem.specs.declared.Served.{Served as Act}
-use Rattle.ultra_pni.specs.Interface.{Interface}
 use Rattle.ultra_isa.specs.declared.Instr.{Instr}
-use Rattle.ultra_isa.specs.declared.Step.{Step}
-use Rattle.ultra_isa.specs.declared.Step.TheVariants as step
-use Rattle.ultra_isa.specs.Instruction.{Site}
-use Rattle.ultra_isa.proofs.Steps.{SendsInto, step_is}
 use Rattle.ultra_model.specs.declared.Stop.{Stop}
 use Rattle.ultra_model.specs.Places.{joined, places, present}
-use Rattle.ultra_model.specs.Machine.{Element}
 use Rattle.ultra_model.specs.Phases.{delivery, serving, combination, combinations, issue_event, stop_of}
 use Rattle.ultra_model.proofs.Each.{each-append}
 use Rattle.ultra_units.specs.Numbers.{switch_number, switch_count, unit_count, element_number}
-use Rattle.ultra_halves.specs.Halves.{arrivals}
-use Rattle.ultra_halves.specs.Switches.{combinations_of, combinations_at as combinations_by}
+use Rattle.ultra_halves.specs.Switches.{combinations_of}
 use Rattle.ultra_halves.specs.Elements.{element_of, step_at}
 use Rattle.ultra_halves.specs.declared.elements.ProcessingElement.{ProcessingElement}
 use Rattle.ultra_section.specs.Units.{stage_of, index_of}
@@ -48,21 +39,13 @@ use Rattle.ultra_cut.proofs.There.{end_there, switch_there}
 module _ (d : ℕ) where
   pub delivery_ranked : (p : ℕ) (o : Option ProcessingElement) (came : Option ReplyMessage) → ForSome came (λ (r : ReplyMessage). r.pe ≡ p)
       → HaveRank (event_rank d) (switch_count d + 2 ^ d + p) (delivery_events o came)
-  delivery_ranked p None came names = tt
-  delivery_ranked p (Some e) None names = tt
-  delivery_ranked p (Some e) (Some r) names = (ap (element_number d) (names r refl), tt)
-
-  act_ranked : (m : ℕ) (o : Option Act) → HaveRank (event_rank d) (320 + switch_count d + m) (present (serving m o ∷ []))
-  act_ranked m None = tt
-  act_ranked m (Some a) = (omega arith, tt)
+  delivery_ranked p o came names = grind arith
 
   pub serving_ranked : (m : ℕ) (o : Option Bank) → HaveRank (event_rank d) (320 + switch_count d + m) (serving_events m o)
-  serving_ranked m None = tt
-  serving_ranked m (Some bank) = act_ranked m (served bank)
+  serving_ranked m o = grind arith
 
   combination_ranked : (i s x : ℕ) (r : Request) (o : Option Combination) → switch_number d s (x / 2) ≡ i → HaveRank (event_rank d) (640 + i) (combination s x r o)
-  combination_ranked i s x r None at = tt
-  combination_ranked i s x r (Some c) at = (ap (λ n. 640 + n) at, tt)
+  combination_ranked i s x r o at = grind arith
 
   each_ranked : (i wait_places s x : ℕ) (l : Lane) (rs : List Request) → switch_number d s (x / 2) ≡ i → HaveRank (event_rank d) (640 + i) (combinations wait_places s x l rs)
   each_ranked i wait_places s x l [] at = tt
@@ -71,43 +54,17 @@ module _ (d : ℕ) where
       (combination_ranked i s x r (combine_within wait_places l r) at) (each_ranked i wait_places s x (arrive wait_places l r) rs at)
 
   pub combinations_ranked : (n i s k : ℕ) (o : Option Switch) (came : Ports (Option Request)) → switch_number d s k ≡ i → HaveRank (event_rank d) (640 + i) (combination_events d n s k o came)
-  combinations_ranked n i s k None came at = tt
-  combinations_ranked n i s k (Some w) came at =
-      let even : 2 * k / 2 ≡ k = omega arith in
-      let odd : (2 * k + 1) / 2 ≡ k = omega arith in
-      each-append (λ e. event_rank d e ≡ 640 + i)
-      (combinations_by s (2 * k) w.to_mm.zero (arrivals d s 0 n came)) (combinations_by s (2 * k + 1) w.to_mm.one (arrivals d s 1 n came))
-      (each_ranked i w.to_mm.zero.wait_places s (2 * k) w.to_mm.zero.lane (arrivals d s 0 n came) (ap (switch_number d s) even ∙ at))
-      (each_ranked i w.to_mm.one.wait_places s (2 * k + 1) w.to_mm.one.lane (arrivals d s 1 n came) (ap (switch_number d s) odd ∙ at))
-
-  sent_ranked : (p : ℕ) (e : Element) (s : Site) (most_open : ℕ) (i j : Interface) (o : Option Request) → s.pe ≡ p → SendsInto s most_open i j o
-      → HaveRank (event_rank d) (960 + (switch_count d + 2 ^ d) + p) (present (issue_event e o ∷ []))
-  sent_ranked p e s most_open i j None at sends = tt
-  sent_ranked p e s most_open i j (Some r) at sends =
-      let names : r.pe ≡ p = sends.0 ∙ at in
-      let number : 960 + element_number d p ≡ 960 + (switch_count d + 2 ^ d) + p = omega arith in
-      (ap (λ q. 960 + element_number d q) names ∙ number, tt)
+  combinations_ranked n i s k o came at = grind (arith, each-append, each_ranked)
 
   pub issue_ranked : (program : List Instr) (p : ℕ) (o : Option ProcessingElement) → (given no_element o).processor.site.pe ≡ p
       → HaveRank (event_rank d) (960 + (switch_count d + 2 ^ d) + p) (issue_events program o)
-  issue_ranked program p None at = tt
-  issue_ranked program p (Some e) at =
-      let made = step_is e.processor.site e.interface.most_open e.interface.interface program e.processor.core in
-      sent_ranked p (element_of e) e.processor.site e.interface.most_open e.interface.interface (step_at program e).interface (step_at program e).sent at made.into
+  issue_ranked program p o at = search arith
 
 abbrev pub stop_rank : Stop → ℕ
 stop_rank s = s.pe
 
-fault_ranked : (p : ℕ) (was : Step) → HaveRank stop_rank (0 + p) (present (stop_of p was ∷ []))
-fault_ranked p step.Done = tt
-fault_ranked p step.Issued = tt
-fault_ranked p step.Stalled = tt
-fault_ranked p step.Halted = tt
-fault_ranked p (step.Fault f) = (omega arith, tt)
-
 pub stop_ranked : (program : List Instr) (p : ℕ) (o : Option ProcessingElement) → HaveRank stop_rank (0 + p) (element_stops program p o)
-stop_ranked program p None = tt
-stop_ranked program p (Some e) = fault_ranked p (step_at program e).was
+stop_ranked program p o = grind arith
 
 -- ---- a part: of the units of a sort each block lists what `list` says
 module _ (d : ℕ) (partition : List ℕ) (bs : List BlockState) (blocks : AreBlocks d partition bs) (count : ℕ) (same : length bs ≡ count)
@@ -126,10 +83,7 @@ module _ (d : ℕ) (partition : List ℕ) (bs : List BlockState) (blocks : AreBl
     -- every list has the unit's rank if the list of its home has
     pub ranked_by_home : (rank : E → ℕ) (base : ℕ) → ((i : ℕ) → i < sort.count d → HaveRank rank (base + i) (listed (at i) i)) → (k : ℕ) → k < length bs → (i : ℕ) → i < sort.count d
         → HaveRank rank (base + i) (listed k i)
-    ranked_by_home rank base ranked k within i small = elim (cases_eq k (at i)) [
-      | inl here ↦ subst (λ j. HaveRank rank (base + i) (listed j i)) (sym here) (ranked i small)
-      | inr other ↦ subst (HaveRank rank (base + i)) (sym (listed_away k i within small other)) tt
-    ]
+    ranked_by_home rank base ranked k within i small = grind (arith, listed_away)
 
     abbrev pub part_of : (rank : E → ℕ) (base low width : ℕ) → ((k : ℕ) → k < length bs → (i : ℕ) → i < sort.count d → HaveRank rank (base + i) (listed k i))
         → low ≤ base → base + sort.count d ≤ low + width → Part rank count low width
@@ -150,8 +104,7 @@ module _ (d : ℕ) (partition : List ℕ) (bs : List BlockState) (blocks : AreBl
   -- what the homes list
   pub homes_list : (g : ℕ → List E) → ((i : ℕ) (small : i < sort.count d) → list (block_at bs (at i)) i (Some (unit sort d partition bs blocks.cut i small)) ≡ g i)
       → joined (places (sort.count d) (λ i. listed (at i) i)) ≡ joined (places (sort.count d) g)
-  homes_list g is =
-      joined_same (sort.count d) (λ i. listed (at i) i) g (λ i small. ap (list (block_at bs (at i)) i) (at_home sort d partition bs blocks.cut i small) ∙ is i small)
+  homes_list g is = grind (arith, joined_same, at_home)
 
 -- ---- the parts
 module _ (d : ℕ) (partition : List ℕ) (bs : List BlockState) (blocks : AreBlocks d partition bs) (count : ℕ) (same : length bs ≡ count) (few : unit_count d < 321) where

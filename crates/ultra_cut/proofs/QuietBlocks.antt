@@ -1,31 +1,26 @@
 -- A machine is quiet where each of its blocks is.
-use Rattle.std.proofs.Common.{◌≡◌, ℕ, ◌^◌, ◌<◌, List, Bool, true, false, Option, Some, None, refl, arith, ◌∙◌, sym, ap, length}
-use Rattle.std.specs.Prelude.{◌&&◌, is_some}
+use Rattle.std.proofs.Common.{◌≡◌, ℕ, ◌^◌, ◌<◌, List, Bool, true, Option, None, arith, ◌∙◌, sym, ap, length}
+use Rattle.std.specs.Prelude.{is_some}
 use Rattle.std.specs.List.{list_all}
 use Rattle.ultra_msg.specs.declared.Event.{Event}
 use Rattle.ultra_mem.specs.Serve.{empty_bank}
 use Rattle.ultra_model.specs.declared.Stop.{Stop}
 use Rattle.ultra_model.specs.Machine.{Settings, is_quiet}
-use Rattle.ultra_units.specs.Numbers.{switch_count, unit_count, module_number, element_number}
+use Rattle.ultra_units.specs.Numbers.{switch_count}
 use Rattle.ultra_halves.specs.Switches.{quiet_switch}
 use Rattle.ultra_halves.specs.Modules.{quiet_bank}
 use Rattle.ultra_halves.specs.Elements.{quiet_element}
 use Rattle.ultra_section.specs.BlockState.{BlockState, switch_at, module_at, element_at}
 use Rattle.ultra_section.specs.Quiet.{or_elsewhere, quiet_block}
 use Rattle.ultra_course.specs.Whole.{whole}
-use Rattle.ultra_cut.specs.Cut.{block_at, frame_of, given, home, no_block, no_element, no_switch}
+use Rattle.ultra_cut.specs.Cut.{block_at, frame_of, given, no_block, no_element, no_switch}
 use Rattle.ultra_cut.specs.Halves.{AreBlocks}
-use Rattle.ultra_cut.proofs.Units.{element_at_home, elements, module_at_home, modules, switch_at_home, switches, unit_is}
-use Rattle.ultra_cut.proofs.QuietUnits.{AreQuiet, all_at, all_if, both_true, left_true, quiet_if, quiet_units, right_true, same_truth}
+use Rattle.ultra_cut.proofs.Units.{element_at_home, elements, modules, switches, unit_is}
+use Rattle.ultra_cut.proofs.QuietUnits.{AreQuiet, all_at, all_if, quiet_if, quiet_units, same_truth}
 
 -- ---- one entry
 here_if : {X : Type 0} (p : X → Bool) (nothing : X) (o : Option X) → (is_some o ≡ true → p (given nothing o) ≡ true) → or_elsewhere p o ≡ true
-here_if p nothing None h = refl
-here_if p nothing (Some x) h = h refl
-
-given_is : {X : Type 0} (p : X → Bool) (nothing : X) (o : Option X) → is_some o ≡ true → or_elsewhere p o ≡ true → p (given nothing o) ≡ true
-given_is p nothing None some all = absurd (let e : false ≡ true = some in cc)
-given_is p nothing (Some x) some all = all
+here_if p nothing o h = grind arith
 
 -- ---- one block
 -- the three kinds of units of a block
@@ -35,18 +30,10 @@ pub record IsQuiet (b : BlockState) : Type 0 where
   pub elements : list_all (or_elsewhere quiet_element) b.elements ≡ true
 
 block_if : (b : BlockState) → IsQuiet b → quiet_block b ≡ true
-block_if b q =
-    both_true (list_all (or_elsewhere quiet_switch) b.switches) (list_all (or_elsewhere quiet_bank) b.modules && list_all (or_elsewhere quiet_element) b.elements) q.switches
-    (both_true (list_all (or_elsewhere quiet_bank) b.modules) (list_all (or_elsewhere quiet_element) b.elements) q.modules q.elements)
+block_if b q = grind arith
 
 parts : (b : BlockState) → quiet_block b ≡ true → IsQuiet b
-parts b q =
-    let rest = right_true (list_all (or_elsewhere quiet_switch) b.switches) (list_all (or_elsewhere quiet_bank) b.modules && list_all (or_elsewhere quiet_element) b.elements) q in
-    record {
-      switches = left_true (list_all (or_elsewhere quiet_switch) b.switches) (list_all (or_elsewhere quiet_bank) b.modules && list_all (or_elsewhere quiet_element) b.elements) q;
-      modules = left_true (list_all (or_elsewhere quiet_bank) b.modules) (list_all (or_elsewhere quiet_element) b.elements) rest;
-      elements = right_true (list_all (or_elsewhere quiet_bank) b.modules) (list_all (or_elsewhere quiet_element) b.elements) rest;
-    }
+parts b q = grind arith
 
 module _ (d : ℕ) (partition : List ℕ) (bs : List BlockState) (are : AreBlocks d partition bs) where
   block_quiet : AreQuiet d (frame_of d partition bs) → (k : ℕ) → k < length bs → IsQuiet (block_at bs k)
@@ -69,28 +56,7 @@ module _ (d : ℕ) (partition : List ℕ) (bs : List BlockState) (are : AreBlock
   blocks_quiet q = all_if quiet_block no_block bs (λ k within. block_if (block_at bs k) (block_quiet q k within))
 
   pub units_quiet : list_all quiet_block bs ≡ true → AreQuiet d (frame_of d partition bs)
-  units_quiet q =
-      let at_home : (n : ℕ) → n < unit_count d → IsQuiet (block_at bs (home partition n)) = λ n h.
-      parts (block_at bs (home partition n)) (all_at quiet_block no_block bs (home partition n) (are.cut.homes n h) q) in
-      record {
-        switches = λ n h.
-            let b = block_at bs (home partition n) in
-            let small = (are.shaped (home partition n) (are.cut.homes n (omega arith))).switches in
-            given_is quiet_switch no_switch (switch_at b.switches n) (switch_at_home d partition bs are.cut n h)
-            (all_at (or_elsewhere quiet_switch) None b.switches n (omega (arith, small, h)) (at_home n (omega arith)).switches);
-        banks = λ m h.
-            let n = module_number d m in
-            let b = block_at bs (home partition n) in
-            let small = (are.shaped (home partition n) (are.cut.homes n (omega arith))).modules in
-            given_is quiet_bank empty_bank (module_at b.modules m) (module_at_home d partition bs are.cut m h)
-            (all_at (or_elsewhere quiet_bank) None b.modules m (omega (arith, small, h)) (at_home n (omega arith)).modules);
-        elements = λ p h.
-            let n = element_number d p in
-            let b = block_at bs (home partition n) in
-            let small = (are.shaped (home partition n) (are.cut.homes n (omega arith))).elements in
-            given_is quiet_element no_element (element_at b.elements p) (element_at_home d partition bs are.cut p h)
-            (all_at (or_elsewhere quiet_element) None b.elements p (omega (arith, small, h)) (at_home n (omega arith)).elements);
-      }
+  units_quiet q = grind (arith, all_at, elements, element_at_home)
 
 pub quiet_is : (c : Settings) (partition : List ℕ) (bs : List BlockState) → AreBlocks c.stages partition bs → (n : ℕ) (events : List Event) (stops : List Stop)
     → list_all quiet_block bs ≡ is_quiet (whole c (frame_of c.stages partition bs) n events stops)

@@ -1,8 +1,8 @@
 -- A whole machine is quiet where each of its units is.
-use Rattle.std.proofs.Common.{◌≡◌, ℕ, zero, suc, ◌+◌, ◌*◌, ◌/◌, ◌%◌, ◌^◌, ◌<◌, ◌≤◌, List, [], ◌∷◌, Bool, true, false, refl, arith, ◌∙◌, sym, subst, length, get_or}
+use Rattle.std.proofs.lemmas.Grind.{common_steps}
+use Rattle.std.proofs.Common.{◌≡◌, ℕ, suc, ◌+◌, ◌*◌, ◌/◌, ◌^◌, ◌<◌, ◌≤◌, List, [], ◌∷◌, Bool, true, refl, arith, ◌∙◌, sym, subst, length, get_or}
 use Rattle.std.specs.Prelude.{◌&&◌}
 use Rattle.std.specs.List.{list_all}
-use Rattle.std.proofs.lemmas.Bool.Decides.{nat_tests}
 use Rattle.ultra_msg.specs.declared.Event.{Event}
 use Rattle.ultra_msg.specs.declared.ReplyMessage.{ReplyMessage}
 use Rattle.ultra_route.proofs.Table.{sizes}
@@ -16,45 +16,37 @@ use Rattle.ultra_model.specs.Machine.{Settings, Machine, Element, size, is_empty
 use Rattle.ultra_model.proofs.Each.{places_at, length-places}
 use Rattle.ultra_units.specs.Numbers.{switch_number, switch_count}
 use Rattle.ultra_halves.specs.Halves.{has_none}
-use Rattle.ultra_halves.specs.Switches.{quiet_lane, quiet_switch}
+use Rattle.ultra_halves.specs.Switches.{quiet_switch}
 use Rattle.ultra_halves.specs.Modules.{quiet_bank}
 use Rattle.ultra_halves.specs.Elements.{element_of, quiet_element}
 use Rattle.ultra_halves.specs.declared.elements.ProcessingElement.{ProcessingElement}
 use Rattle.ultra_course.specs.Ports.{at_port}
 use Rattle.ultra_course.specs.Frame.{Frame}
 use Rattle.ultra_course.specs.Whole.{sized_lane, sized_replies, whole}
-use Rattle.ultra_course.proofs.Numbers.{at_even, at_odd, each_number, number_small}
+use Rattle.ultra_course.proofs.Numbers.{at_even, at_odd, each_number}
 
 -- ---- tests
 pub both_true : (a b : Bool) → a ≡ true → b ≡ true → (a && b) ≡ true
-both_true true b h k = k
-both_true false b h k = cc
+both_true a b h k = grind arith
 
 pub left_true : (a b : Bool) → (a && b) ≡ true → a ≡ true
-left_true true b h = refl
-left_true false b h = h
+left_true a b h = grind arith
 
 pub right_true : (a b : Bool) → (a && b) ≡ true → b ≡ true
-right_true true b h = h
-right_true false b h = cc
+right_true a b h = grind arith
 
 pub same_truth : (a b : Bool) → (a ≡ true → b ≡ true) → (b ≡ true → a ≡ true) → a ≡ b
-same_truth true b f g = sym (f refl)
-same_truth false true f g = g refl
-same_truth false false f g = refl
+same_truth a b f g = grind arith
 
 none_test : {X : Type 0} (xs : List X) → has_none xs ≡ is_empty xs
-none_test [] = refl
-none_test (x ∷ xs) = grind (arith, nat_tests)
+none_test xs = grind arith
 
 pub all_if : {X : Type 0} (t : X → Bool) (d : X) (xs : List X) → ((i : ℕ) → i < length xs → t (get_or xs i d) ≡ true) → list_all t xs ≡ true
 all_if t d [] h = refl
 all_if t d (x ∷ xs) h = both_true (t x) (list_all t xs) (h 0 (omega arith)) (all_if t d xs (λ i l. h (suc i) (omega (arith, l))))
 
 pub all_at : {X : Type 0} (t : X → Bool) (d : X) (xs : List X) (i : ℕ) → i < length xs → list_all t xs ≡ true → t (get_or xs i d) ≡ true
-all_at t d [] i l h = absurd (omega (arith, l))
-all_at t d (x ∷ xs) zero l h = left_true (t x) (list_all t xs) h
-all_at t d (x ∷ xs) (suc i) l h = all_at t d xs i (omega (arith, l)) (right_true (t x) (list_all t xs) h)
+all_at t d xs i l h = grind (arith, common_steps)
 
 -- of a list that is given place by place
 module _ {X : Type 0} (t : X → Bool) (n : ℕ) (f : ℕ → X) where
@@ -67,11 +59,6 @@ module _ {X : Type 0} (t : X → Bool) (n : ℕ) (f : ℕ → X) where
   at_place h k l =
       let long = length-places n f in
       subst (λ x. t x ≡ true) (places_at n f k (f 0) l) (all_at t (f 0) (places n f) k (omega (arith, l, long)) h)
-
-by_port : (P : ℕ → Type 0) (j : ℕ) → j < 2 → P 0 → P 1 → P j
-by_port P zero h a b = a
-by_port P (suc zero) h a b = b
-by_port P (suc (suc j)) h a b = absurd (omega (arith, h))
 
 -- ---- units by their numbers
 pub record AreQuiet (d : ℕ) (f : Frame) : Type 0 where
@@ -86,38 +73,14 @@ abbrev stopped : Element → Bool
 stopped e = has_stopped e.core.activity && is_empty e.interface.opened && is_empty e.interface.pending
 
 quiet_lane_is : (w : Switch) (j : ℕ) → j < 2 → quiet_switch w ≡ true → idle (at_port w.to_mm j).lane ≡ true
-quiet_lane_is w j h q =
-    let lanes = left_true (quiet_lane w.to_mm.zero && quiet_lane w.to_mm.one) _ q in
-    let zero_quiet = left_true (quiet_lane w.to_mm.zero) (quiet_lane w.to_mm.one) lanes in
-    let one_quiet = right_true (quiet_lane w.to_mm.zero) (quiet_lane w.to_mm.one) lanes in
-    by_port (λ j. idle (at_port w.to_mm j).lane ≡ true) j h
-    (rw (← none_test w.to_mm.zero.lane.queue, ← none_test w.to_mm.zero.lane.records) zero_quiet)
-    (rw (← none_test w.to_mm.one.lane.queue, ← none_test w.to_mm.one.lane.records) one_quiet)
-
-quiet_replies_are : (w : Switch) (j : ℕ) → j < 2 → quiet_switch w ≡ true → is_empty (at_port w.to_pe j).replies ≡ true
-quiet_replies_are w j h q =
-    let queues = right_true (quiet_lane w.to_mm.zero && quiet_lane w.to_mm.one) (has_none w.to_pe.zero.replies && has_none w.to_pe.one.replies) q in
-    by_port (λ j. is_empty (at_port w.to_pe j).replies ≡ true) j h
-    (sym (none_test w.to_pe.zero.replies) ∙ left_true (has_none w.to_pe.zero.replies) (has_none w.to_pe.one.replies) queues)
-    (sym (none_test w.to_pe.one.replies) ∙ right_true (has_none w.to_pe.zero.replies) (has_none w.to_pe.one.replies) queues)
+quiet_lane_is w j h q = grind (arith, none_test)
 
 switch_if : (w : Switch) → idle w.to_mm.zero.lane ≡ true → idle w.to_mm.one.lane ≡ true → is_empty w.to_pe.zero.replies ≡ true
     → is_empty w.to_pe.one.replies ≡ true → quiet_switch w ≡ true
-switch_if w a b x y =
-    both_true (quiet_lane w.to_mm.zero && quiet_lane w.to_mm.one) (has_none w.to_pe.zero.replies && has_none w.to_pe.one.replies)
-    (both_true (quiet_lane w.to_mm.zero) (quiet_lane w.to_mm.one)
-    (rw (none_test w.to_mm.zero.lane.queue, none_test w.to_mm.zero.lane.records) a)
-    (rw (none_test w.to_mm.one.lane.queue, none_test w.to_mm.one.lane.records) b))
-    (both_true (has_none w.to_pe.zero.replies) (has_none w.to_pe.one.replies) (none_test w.to_pe.zero.replies ∙ x) (none_test w.to_pe.one.replies ∙ y))
-
-and_assoc : (a b c : Bool) → (a && (b && c)) ≡ (a && b && c)
-and_assoc true b c = refl
-and_assoc false b c = refl
+switch_if w a b x y = grind arith
 
 element_is : (e : ProcessingElement) → quiet_element e ≡ stopped (element_of e)
-element_is e =
-    rw (none_test e.interface.interface.opened, none_test e.interface.interface.pending)
-    (and_assoc (has_stopped e.processor.core.activity) (is_empty e.interface.interface.opened) (is_empty e.interface.interface.pending))
+element_is e = grind arith
 
 module _ (c : Settings) (low : 1 ≤ c.stages) (high : c.stages ≤ 6) (f : Frame) (n : ℕ) (events : List Event) (stops : List Stop) where
   abbrev m : Machine
@@ -136,22 +99,11 @@ module _ (c : Settings) (low : 1 ≤ c.stages) (high : c.stages ≤ 6) (f : Fram
   elements_stopped = list_all (λ (e : Element). has_stopped e.core.activity && is_empty e.interface.opened && is_empty e.interface.pending) m.elements
 
   switch_small : (s x : ℕ) → s < c.stages → x < size c → switch_number c.stages s (x / 2) < switch_count c.stages
-  switch_small s x hs hx =
-      let two = (sizes c.stages low high).0 in
-      number_small c.stages s (x / 2) hs (omega (arith, two, hx))
+  switch_small s x hs hx = grind (arith, sizes)
 
   pub quiet_if : AreQuiet c.stages f → is_quiet m ≡ true
   unfolding whole
-  quiet_if q =
-      both_true (lanes_idle && replies_gone && banks_idle) elements_stopped
-      (both_true (lanes_idle && replies_gone) banks_idle
-      (both_true lanes_idle replies_gone
-      (all_places (λ (ls : List Lane). list_all idle ls) c.stages (λ s. places (size c) (λ x. (sized_lane c f s x).lane))
-      (λ s hs. all_places idle (size c) (λ x. (sized_lane c f s x).lane) (λ x hx. quiet_lane_is (f.switch (switch_number c.stages s (x / 2))) (x % 2) (omega arith) (q.switches (switch_number c.stages s (x / 2)) (switch_small s x hs hx)))))
-      (all_places (λ (qs : List (List ReplyMessage)). list_all (λ (q : List ReplyMessage). is_empty q) qs) c.stages (λ s. places (size c) (λ y. (sized_replies c f s y).replies))
-      (λ s hs. all_places (λ (q : List ReplyMessage). is_empty q) (size c) (λ y. (sized_replies c f s y).replies) (λ y hy. quiet_replies_are (f.switch (switch_number c.stages s (y / 2))) (y % 2) (omega arith) (q.switches (switch_number c.stages s (y / 2)) (switch_small s y hs hy))))))
-      (all_places quiet_bank (size c) (λ k. f.bank k) (λ k hk. q.banks k hk)))
-      (all_places stopped (size c) (λ p. element_of (f.element p)) (λ p hp. sym (element_is (f.element p)) ∙ q.elements p hp))
+  quiet_if q = grind (arith, all_places, quiet_lane_is, switch_small, element_is)
 
   pub quiet_units : is_quiet m ≡ true → AreQuiet c.stages f
   unfolding whole

@@ -49,9 +49,7 @@ module _ (d : ℕ) (partition : List ℕ) (bs : List BlockState) (rooms : BlockR
 
   -- ---- block k
   begun_shaped : (k : ℕ) → k < length bs → IsShaped d (begun (block_at bs k))
-  begun_shaped k within =
-      let shape = blocks.shaped k within in
-      record { stages = shape.stages; switches = shape.switches; modules = shape.modules; elements = shape.elements; replies = shape.replies; requests = shape.requests }
+  begun_shaped k within = grind arith
 
   sent_shaped : (k : ℕ) → k < length bs → IsShaped d (send (block_at bs k))
   sent_shaped k within = shape_after_sending closed d low high (begun (block_at bs k)) (begun_shaped k within)

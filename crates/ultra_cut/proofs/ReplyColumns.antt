@@ -1,6 +1,5 @@
 -- What each of some blocks has of one thing, where at most one of them has it.
-use Rattle.std.proofs.Common.{◌≡◌, ◌≢◌, ℕ, zero, suc, ◌<◌, ◌≤◌, List, [], ◌∷◌, map, Option, Some, None, length, get_or, refl, sym, ◌∙◌, ap, subst, inl, inr}
-use Rattle.std.proofs.lemmas.Bool.{cases_eq, cases_lt}
+use Rattle.std.proofs.Common.{◌≡◌, ◌≢◌, ℕ, zero, suc, ◌<◌, ◌≤◌, List, [], ◌∷◌, map, Option, Some, None, length, get_or, refl, sym, ◌∙◌, ap, subst, arith}
 use Rattle.std.proofs.lemmas.List.{ext_get_or, get_or-map, get_or_past, length-map}
 use Rattle.ultra_section.specs.BlockState.{BlockState}
 use Rattle.ultra_cut.specs.Cut.{block_at, first, no_block}
@@ -22,20 +21,13 @@ module _ {X : Type 0} where
   -- all but entry j are nothing
   module _ (xs : List (Option X)) (j : ℕ) (others : (i : ℕ) → i ≢ j → get_or xs i None ≡ None) where
     with_entry : (o : Option X) → get_or xs j None ≡ o → first xs ≡ o
-    with_entry None is = first_none xs (λ i. elim (cases_eq i j) [
-      | inl same ↦ ap (λ k. get_or xs k None) same ∙ is
-      | inr other ↦ others i other
-    ])
-    with_entry (Some x) is = first_is xs j x is others
+    with_entry o is = grind (arith, first_none, first_is)
 
     first_at : first xs ≡ get_or xs j None
     first_at = with_entry (get_or xs j None) refl
 
     single_at : IsSingle xs
-    single_at = λ i k ne some. elim (cases_eq k j) [
-      | inl same ↦ absurd (some (others i (λ e. ne (e ∙ sym same))))
-      | inr other ↦ others k other
-    ]
+    single_at = grind arith
 
 module _ {X : Type 0} (g : BlockState → Option X) (bs : List BlockState) where
   column_at : (k : ℕ) → k < length bs → get_or (map g bs) k None ≡ g (block_at bs k)
@@ -47,10 +39,7 @@ module _ {X : Type 0} (g : BlockState → Option X) (bs : List BlockState) where
   -- no block but block h has it
   module _ (h : ℕ) (within : h < length bs) (away : (k : ℕ) → k < length bs → k ≢ h → g (block_at bs k) ≡ None) where
     others : (i : ℕ) → i ≢ h → get_or (map g bs) i None ≡ None
-    others i other = elim (cases_lt i (length bs)) [
-      | inl inside ↦ column_at i inside ∙ away i inside other
-      | inr past ↦ column_past i past
-    ]
+    others i other = grind (arith, column_at, column_past)
 
     pub column_first : first (map g bs) ≡ g (block_at bs h)
     column_first = first_at (map g bs) h others ∙ column_at h within
@@ -63,10 +52,7 @@ module _ {X : Type 0} (g : BlockState → Option X) (bs : List BlockState) where
   column_none empty k within = sym (column_at k within) ∙ none_there (map g bs) empty k
 
   nowhere : ((k : ℕ) → k < length bs → g (block_at bs k) ≡ None) → (i : ℕ) → get_or (map g bs) i None ≡ None
-  nowhere none i = elim (cases_lt i (length bs)) [
-    | inl inside ↦ column_at i inside ∙ none i inside
-    | inr past ↦ column_past i past
-  ]
+  nowhere none i = grind (arith, column_at, column_past)
 
   pub column_empty : ((k : ℕ) → k < length bs → g (block_at bs k) ≡ None) → first (map g bs) ≡ None
   column_empty none = first_none (map g bs) (nowhere none)

@@ -1,13 +1,12 @@
 -- What goes on by the rooms that blocks have noted goes on by those of the machine.
-use Rattle.std.proofs.Common.{◌≡◌, ℕ, zero, suc, ◌+◌, ◌-◌, ◌*◌, ◌/◌, ◌%◌, ◌^◌, List, Bool, true, false, Option, Some, None, refl, ◌∙◌, ap, arith}
+use Rattle.std.proofs.Common.{◌≡◌, ℕ, ◌-◌, ◌%◌, ◌^◌, List, true, false, Option, ap, arith}
 use Rattle.std.specs.Prelude.{◌==◌, not}
 use Rattle.ultra_msg.specs.declared.Request.{Request}
-use Rattle.ultra_route.specs.Route.{shuffled, bit_of}
+use Rattle.ultra_route.specs.Route.{bit_of}
 use Rattle.ultra_switch.specs.declared.Switch.{Switch}
 use Rattle.ultra_switch.specs.declared.Ports.{Ports}
 use Rattle.ultra_units.specs.Set.{has_unit}
-use Rattle.ultra_units.specs.Numbers.{module_number, request_target, switch_number}
-use Rattle.ultra_halves.specs.Halves.{ports, where_room}
+use Rattle.ultra_halves.specs.Halves.{where_room}
 use Rattle.ultra_halves.specs.declared.elements.ProcessingElement.{ProcessingElement}
 use Rattle.ultra_halves.specs.Switches.{request_heads, requests_leaving}
 use Rattle.ultra_section.specs.declared.rooms.Rooms.{Rooms as BlockRooms}
@@ -15,16 +14,12 @@ use Rattle.ultra_section.specs.RequestsSent.{has_request_way, has_room_at, has_w
 use Rattle.ultra_course.specs.Ports.{at_port}
 use Rattle.ultra_course.specs.Frame.{Rooms}
 use Rattle.ultra_course.specs.Course.{finds_room, goes_from_element, pending_head, request_goes, requests_go}
-use Rattle.ultra_course.proofs.Numbers.{pick_false, pick_true}
 use Rattle.ultra_cut.specs.Halves.{noted}
-use Rattle.ultra_cut.proofs.Numbers.{not_equal}
 
 -- the queue of switch n at port j
 at_queue : (closed : Ports (List ℕ)) (n j : ℕ)
     → elim (j == 0) [ true ↦ not (has_unit closed.zero n) | false ↦ not (has_unit closed.one n) ] ≡ not (has_unit (at_port closed j) n)
-at_queue closed n zero = refl
-at_queue closed n (suc j) =
-    pick_false (suc j == 0) (not (has_unit closed.zero n)) (not (has_unit closed.one n)) (not_equal (suc j) 0 (λ e. absurd (omega (arith, e))))
+at_queue closed n j = grind arith
 
 module _ (d : ℕ) (rooms : BlockRooms) where
   abbrev closed : Ports (List ℕ)
@@ -36,26 +31,14 @@ module _ (d : ℕ) (rooms : BlockRooms) where
   same_room : (s n : ℕ) (r : Request) → has_room_at closed d s n r ≡ finds_room d whole s n r
   same_room s n r = at_queue closed n (bit_of (d - 1 - s) (r.cell % 2 ^ d))
 
-  -- from position x of stage s: to module x, if the stage is the last
-  by_stage : (s x : ℕ) (r : Request) (last : Bool) → (s == d - 1) ≡ last
-      → ◌≡◌ {A = Bool} (elim last [ true ↦ not (has_unit closed.zero (request_target d s x)) | false ↦ has_room_at closed d (s + 1) (request_target d s x) r ])
-      (elim last [ true ↦ whole.bank x | false ↦ finds_room d whole (s + 1) (request_target d s x) r ])
-  by_stage s x r true is =
-      ap (λ n. not (has_unit closed.zero n)) (pick_true (s == d - 1) (module_number d x) (switch_number d (s + 1) (shuffled d x / 2)) is)
-  by_stage s x r false is = same_room (s + 1) (request_target d s x) r
-
   same_way : (s x : ℕ) (head : Option Request) → has_request_way closed d s x head ≡ request_goes d whole s x head
-  same_way s x None = refl
-  same_way s x (Some r) = by_stage s x r (s == d - 1) refl
+  same_way s x head = search arith
 
   same_ways : (s k : ℕ) (heads : Ports (Option Request)) → request_ways closed d s k heads ≡ requests_go d whole s k heads
-  same_ways s k heads =
-      ap (λ goes. ports goes (has_request_way closed d s (2 * k + 1) heads.one)) (same_way s (2 * k) heads.zero)
-      ∙ ap (λ goes. ports (request_goes d whole s (2 * k) heads.zero) goes) (same_way s (2 * k + 1) heads.one)
+  same_ways s k heads = grind (arith, same_way)
 
   same_way_in : (p : ℕ) (head : Option Request) → has_way_from_element closed d p head ≡ goes_from_element d whole p head
-  same_way_in p None = refl
-  same_way_in p (Some r) = same_room 0 (switch_number d 0 (shuffled d p / 2)) r
+  same_way_in p head = grind arith
 
   -- what leaves switch k of stage s, and processing element p
   pub same_leaving : (s k : ℕ) (w : Switch)

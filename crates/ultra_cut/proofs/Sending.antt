@@ -1,5 +1,5 @@
 -- What is on links after a half in which messages leave: each link is that of one unit, from which they come.
-use Rattle.std.proofs.Common.{◌≡◌, ◌≢◌, ℕ, zero, suc, ◌+◌, ◌-◌, ◌*◌, ◌/◌, ◌%◌, ◌^◌, ◌<◌, ◌≤◌, List, map, Option, Some, None, length, refl, sym, ◌∙◌, ap, subst, arith, inl, inr, lt-ltb, le-ltb}
+use Rattle.std.proofs.Common.{◌≡◌, ◌≢◌, ℕ, ◌+◌, ◌-◌, ◌*◌, ◌/◌, ◌%◌, ◌^◌, ◌<◌, ◌≤◌, List, map, Option, None, length, sym, ◌∙◌, ap, subst, arith, inl, inr, lt-ltb, le-ltb}
 use Rattle.std.specs.Prelude.{nat_lt}
 use Rattle.std.proofs.lemmas.Bool.{cases_lt}
 use Rattle.std.proofs.lemmas.List.{get_or_past, length-map}
@@ -10,7 +10,7 @@ use Rattle.ultra_section.specs.Units.{stage_of, index_of}
 use Rattle.ultra_section.specs.Marks.{on_link, on_both}
 use Rattle.ultra_section.specs.BlockState.{BlockState}
 use Rattle.ultra_section.proofs.Standing.{is_switch}
-use Rattle.ultra_section.proofs.Put.{has_places, place_behind_small, places_of, places_twice, put_or}
+use Rattle.ultra_section.proofs.Put.{has_places, places_of, places_twice, put_or}
 use Rattle.ultra_course.specs.Ports.{at_port}
 use Rattle.ultra_course.specs.Course.{on_links}
 use Rattle.ultra_course.proofs.Numbers.{pick_false, pick_true}
@@ -23,20 +23,9 @@ use Rattle.ultra_cut.proofs.Changed.{each_changed}
 use Rattle.ultra_cut.proofs.ReplyColumns.{changed_at, column_first, column_none, column_single, column_empty_single}
 
 -- ---- ports
-on_nothing : {M : Type 0} (o on : Option M) → on ≡ None → put_or o on ≡ o
-on_nothing None on none = none
-on_nothing (Some m) on none = refl
-
-on_port : {M : Type 0} (t : List (Option M)) (p : Ports ℕ) (j : ℕ) → on_link t (at_port p j) ≡ at_port (on_both t p) j
-on_port t p zero = refl
-on_port t p (suc j) = refl
 
 abbrev pub put_on_ports : {M : Type 0} → Ports (Option M) → Ports (Option M) → Ports (Option M)
 put_on_ports out on = ports (put_or out.zero on.zero) (put_or out.one on.one)
-
-put_at_port : {M : Type 0} (out on : Ports (Option M)) (j : ℕ) → at_port on j ≡ None → at_port (put_on_ports out on) j ≡ at_port out j
-put_at_port out on zero none = on_nothing out.zero on.zero none
-put_at_port out on (suc j) none = on_nothing out.one on.one none
 
 -- ---- all blocks
 module _ (kind : Kind) (d : ℕ) (partition : List ℕ) (bs : List BlockState) (blocks : AreBlocks d partition bs) (send : BlockState → BlockState) where
@@ -100,34 +89,14 @@ module _ (kind : Kind) (d : ℕ) (partition : List ℕ) (bs : List BlockState) (
 
     -- the link at port j of switch n
     switch_alone : (n j l : ℕ) → n < switch_count d → at_port (places n) j ≡ l → l < (d + 1) * 2 ^ d → IsAlone l (home partition n) (at_port (outs n) j)
-    switch_alone n j l h is small =
-        let put = switches n h in
-        let none : (k : ℕ) → k < length bs → at_port (on_both (was_on k) (places n)) j ≡ None = λ k within.
-        sym (on_port (was_on k) (places n) j) ∙ ap (on_link (was_on k)) is ∙ nothing k l within small in
-        let on_now : (k : ℕ) → on_link (is_on k) l ≡ at_port (on_both (is_on k) (places n)) j = λ k. ap (on_link (is_on k)) (sym is) ∙ on_port (is_on k) (places n) j in
-        record {
-          within = put.within;
-          here = on_now (home partition n) ∙ ap (λ q. at_port q j) put.here
-              ∙ put_at_port (outs n) (on_both (was_on (home partition n)) (places n)) j (none (home partition n) put.within);
-          away = λ k within other. on_now k ∙ ap (λ q. at_port q j) (put.away k within other) ∙ none k within;
-        }
+    switch_alone n j l h is small = grind (arith, nothing)
 
     -- and that behind the last stage
     end_alone : (i : ℕ) → i < 2 ^ d → IsAlone (place_number d d i) (end_home i) (out i)
-    end_alone i h =
-        let put = ends i h in
-        let link = place_number d d i in
-        let small = place_behind_small d i h in
-        record {
-          within = put.within;
-          here = put.here ∙ on_nothing (out i) (on_link (was_on (end_home i)) link) (nothing (end_home i) link put.within small);
-          away = λ k within other. put.away k within other ∙ nothing k link within small;
-        }
+    end_alone i h = grind (arith, nothing)
 
     port_link : (n j : ℕ) → n < switch_count d → j < 2 → at_port (places n) j ≡ 2 * n + j
-    port_link n zero h below = (has_places d n (stage_of d n) (index_of d n) low high (is_switch d n h)).first ∙ omega arith
-    port_link n (suc zero) h below = (has_places d n (stage_of d n) (index_of d n) low high (is_switch d n h)).second
-    port_link n (suc (suc j)) h below = absurd (omega (arith, below))
+    port_link n j h below = grind (arith, has_places, is_switch)
 
     sent_by_switch : (l : ℕ) → l < d * 2 ^ d → IsSent l (on_links d outs out l)
     sent_by_switch l h =

@@ -1,26 +1,21 @@
 -- After every block has served, the blocks are the frame in which each module has.
-use Rattle.std.proofs.Common.{◌≡◌, ℕ, ◌+◌, ◌^◌, ◌≤◌, List, Option, Some, None, length, length-append, refl, sym, ◌∙◌, ap, subst, arith, le-ltb}
+use Rattle.std.proofs.Common.{◌≡◌, ℕ, ◌+◌, ◌≤◌, List, Option, Some, None, length, length-append, refl, sym, ◌∙◌, ap, subst, arith}
 use Rattle.ultra_isa.specs.declared.Instr.{Instr}
-use Rattle.ultra_mem.specs.Serve.{Bank, serve, served}
-use Rattle.ultra_model.specs.Phases.{serving}
-use Rattle.ultra_units.specs.Numbers.{switch_count, unit_count}
+use Rattle.ultra_mem.specs.Serve.{Bank, serve}
 use Rattle.ultra_units.specs.Visits.{after_units}
 use Rattle.ultra_section.specs.declared.half.Half.TheVariants.{Serve}
 use Rattle.ultra_section.specs.declared.rooms.Rooms.{Rooms}
 use Rattle.ultra_section.specs.BlockState.{BlockState, module_at, element_at}
 use Rattle.ultra_section.specs.Shape.{IsShaped}
 use Rattle.ultra_section.specs.Serving.{serves}
-use Rattle.ultra_section.specs.Units.{unit_of}
 use Rattle.ultra_section.specs.Making.{made}
-use Rattle.ultra_section.proofs.Few.{few_entries, one_present, room_for_half}
+use Rattle.ultra_section.proofs.Few.{few_entries, room_for_half}
 use Rattle.ultra_section.proofs.Once.{entries_before}
-use Rattle.ultra_section.proofs.ServedOnce.{act_entries, entries, entries_of, events_after_serving, kept_by_serving, module_after_serving, shape_after_serving}
-use Rattle.ultra_section.proofs.Standing.{unit_of_switch, unit_of_module, unit_of_element}
+use Rattle.ultra_section.proofs.ServedOnce.{entries, events_after_serving, kept_by_serving, module_after_serving, shape_after_serving}
 use Rattle.ultra_cut.specs.Cut.{block_at}
 use Rattle.ultra_cut.specs.Halves.{AreBlocks, all_made}
 use Rattle.ultra_cut.proofs.Numbers.{few_units}
 use Rattle.ultra_cut.specs.UnitLaws.{CanServeLaw, HaveServed, ServeLaw}
-use Rattle.ultra_section.proofs.OfKind.{by_kind}
 use Rattle.ultra_cut.proofs.ReplyColumns.{changed_at}
 use Rattle.ultra_cut.proofs.Each.{HasWorked, have_frame, same_worked, worked}
 
@@ -29,8 +24,7 @@ module _ (d : ℕ) (low : 1 ≤ d) (high : d ≤ 6) (b : BlockState) (shape : Is
   now = after_units serves 320 b
 
   same_work : (o : Option Bank) → elim o [ None ↦ None | Some bank ↦ Some (serve bank) ] ≡ worked serve o
-  same_work None = refl
-  same_work (Some bank) = refl
+  same_work o = assumption
 
   has_served : HasWorked d serve (λ e. e) 0 b now
   has_served = record {
@@ -46,17 +40,8 @@ module _ (d : ℕ) (low : 1 ≤ d) (high : d ≤ 6) (b : BlockState) (shape : Is
     requests = kept_by_serving d (λ t. t.requests) (λ m t bank. refl) b shape;
   }
 
-  few_acts : (o : Option Bank) (m : ℕ) → length (act_entries d o m) ≤ 2
-  few_acts None m = omega arith
-  few_acts (Some bank) m = one_present (serving m (served bank))
-
   few_of_unit : (n : ℕ) → length (entries d n b) ≤ 2
-  few_of_unit =
-      by_kind d (λ n. length (entries d n b) ≤ 2)
-      (λ n h. rw (unit_of_switch d n h) (omega arith))
-      (λ m h. rw (unit_of_module d m h) (few_acts (module_at b.modules m) m))
-      (λ p h. rw (unit_of_element d p h) (omega arith))
-      (λ n past. rw (entries, entries_of, unit_of, le-ltb n (switch_count d) (omega arith), le-ltb n (switch_count d + 2 ^ d) (omega arith), le-ltb n (unit_count d) past) (omega arith))
+  few_of_unit = grind arith
 
   few_more : length now.events ≤ length b.events + 640
   few_more =

@@ -1,5 +1,5 @@
 -- What is on links after a half in which messages are taken: nothing, since each link leads to one unit.
-use Rattle.std.proofs.Common.{◌≡◌, ℕ, ◌+◌, ◌*◌, ◌^◌, ◌<◌, List, map, Option, None, length, ◌∙◌, ap, inl, inr}
+use Rattle.std.proofs.Common.{◌≡◌, ℕ, ◌+◌, ◌*◌, ◌^◌, ◌<◌, List, map, Option, None, length, ◌∙◌, ap, inl, inr, arith}
 use Rattle.std.specs.Prelude.{◌⊎◌}
 use Rattle.ultra_switch.specs.declared.Ports.{Ports}
 use Rattle.ultra_units.specs.Numbers.{switch_count}
@@ -15,8 +15,7 @@ use Rattle.ultra_cut.proofs.Inlets.{end_link, leads_to, links}
 use Rattle.ultra_cut.proofs.ReplyColumns.{column_empty}
 
 port_empty : {M : Type 0} (t : List (Option M)) (p : Ports ℕ) (l : ℕ) → (l ≡ p.zero) ⊎ (l ≡ p.one) → on_both t p ≡ ports None None → on_link t l ≡ None
-port_empty t p l (inl is) none = ap (on_link t) is ∙ ap (λ q. q.zero) none
-port_empty t p l (inr is) none = ap (on_link t) is ∙ ap (λ q. q.one) none
+port_empty t p l inlet none = grind arith
 
 module _ (kind : Kind) (d : ℕ) (partition : List ℕ) (bs : List BlockState) (blocks : AreBlocks d partition bs) (take : BlockState → BlockState)
     (switches_empty : (n : ℕ) → n < switch_count d → (k : ℕ) → k < length bs → on_both (table kind (take (block_at bs k))) (links kind d n) ≡ ports None None)

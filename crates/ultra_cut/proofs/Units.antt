@@ -14,12 +14,10 @@ use Rattle.ultra_cut.proofs.Numbers.{equal, not_equal}
 
 -- a unit that stands there is what is given of it
 pub is_given : {X : Type 0} (nothing : X) (o : Option X) → is_some o ≡ true → o ≡ Some (given nothing o)
-is_given nothing None some = absurd (let e : false ≡ true = some in cc)
-is_given nothing (Some x) some = refl
+is_given nothing o some = grind arith
 
 is_none : {X : Type 0} (o : Option X) → is_some o ≡ false → o ≡ None
-is_none None none = refl
-is_none (Some x) none = cc
+is_none o none = grind arith
 
 -- ---- switches, modules, processing elements
 -- units of one sort: what a block has of number i among them, and the number of that among all units

@@ -1,5 +1,5 @@
 -- A cycle of blocks that are a whole machine, step by step, and the whole machine that they are after it.
-use Rattle.std.proofs.Common.{◌≡◌, ℕ, ◌+◌, ◌^◌, ◌<◌, List, ◌++◌, subst, sym}
+use Rattle.std.proofs.Common.{◌≡◌, ℕ, ◌+◌, ◌^◌, ◌<◌, List, ◌++◌, arith}
 use Rattle.std.specs.Prelude.{◌-◌}
 use Rattle.ultra_msg.specs.declared.Event.{Event}
 use Rattle.ultra_isa.specs.declared.Instr.{Instr}
@@ -91,21 +91,11 @@ module _ (c : Settings) (partition : List ℕ) (n : ℕ) (program : List Instr) 
         stepped = all_made Execute second program waiting
 
         cycled : AreMachine c program partition (n + 1) (events_of d stepped) (stops_of d stepped) (cycle c program m) stepped
-        cycled =
-            whole_cycle.cycled c partition n (events_of d bs) (stops_of d bs) m program bs start.machine start.clear first first_room replies replies_moved replies_there
-            second second_room requests requests_moved requests_there
+        cycled = search (arith, whole_cycle.cycled)
 
         -- ---- the cycle is over
         pub next_machine : machine_in c partition (n + 1) stepped ≡ cycle c program m
         next_machine = cycled.machine.machine
 
         pub next_whole : AreWhole c program partition (n + 1) stepped
-        next_whole = record {
-          machine = subst (λ x. AreMachine c program partition (n + 1) (events_of d stepped) (stops_of d stepped) x stepped) (sym next_machine) cycled;
-          clear =
-              whole_cycle.stepped_clear c partition n (events_of d bs) (stops_of d bs) m program bs start.machine start.clear first first_room replies replies_moved replies_there
-              second second_room requests requests_moved requests_there;
-          in_order =
-              whole_cycle.stepped_in_order c partition n (events_of d bs) (stops_of d bs) m program bs start.machine start.clear first first_room replies replies_moved replies_there
-              second second_room requests requests_moved requests_there;
-        }
+        next_whole = search (arith, next_machine, cycled, whole_cycle.stepped_clear, whole_cycle.stepped_in_order)

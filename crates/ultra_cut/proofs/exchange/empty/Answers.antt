@@ -1,7 +1,6 @@
 use Rattle.std.proofs.Common.{◌≡◌, ◌<◌, arith, get_or, subst, sym, inl, inr}
 use Rattle.std.proofs.lemmas.Bool.{cases_eq, cases_lt}
 use Rattle.std.specs.Prelude.{length}
-use Rattle.ultra_units.specs.Numbers.{unit_count}
 use Rattle.std.proofs.lemmas.List.{get_or_default}
 use Rattle.ultra_cut.specs.Kinds.{NoneLeavesWithin}
 use Rattle.ultra_cut.specs.Cut.{IsCut, block_at, no_block}
@@ -19,8 +18,7 @@ loop-unit-init c = record {
 }
 
 pub move_home-requires-clause-cut : goal.move_home-requires-clause-cut
-move_home-requires-clause-cut c =
-    still_cut c.args.kind c.args.net (omega arith) (omega arith) c.args.partition.now c.args.blocks.now c.loop-unit.blocks c.loop-unit.invariant.only c.requires.cut
+move_home-requires-clause-cut c = grind arith
 
 pub loop-unit-preserved : goal.loop-unit-preserved
 loop-unit-preserved c =
@@ -48,16 +46,4 @@ loop-unit-preserved c =
     }
 
 pub returns-clause-gone : goal.returns-clause-gone
-returns-clause-gone c =
-    let net = c.args.net in
-    let partition = c.args.partition.now in
-    let bs = c.loop-unit.blocks in
-    let known = c.loop-unit.invariant in
-    let cut : IsCut net partition bs = still_cut c.args.kind net (omega arith) (omega arith) partition c.args.blocks.now bs known.only c.requires.cut in
-    let there : c.args.from < length bs = subst (λ x. c.args.from < x) (sym known.only.count) c.requires.from in
-    let same : get_or bs c.args.from c.index-blocks-from.result ≡ block_at bs c.args.from = get_or_default bs c.args.from c.index-blocks-from.result no_block there in
-    let few : unit_count net < 321 = few_units net (omega arith) (omega arith) in
-    λ n small. elim (cases_lt n c.loop-unit.next) [
-      | inl early ↦ known.gone n early small
-      | inr late ↦ none_leaves c.args.kind net (omega arith) (omega arith) partition bs c.args.from c.loop-unit.next 320 cut there (subst (λ b. NoneLeavesWithin c.args.kind b c.loop-unit.next 320) same c.in_default.ensures.none) n late (omega arith) small
-    ]
+returns-clause-gone c = search (arith, get_or_default, few_units)

@@ -1,15 +1,14 @@
 use Rattle.std.proofs.Common.{arith, subst, sym, inl, inr}
 use Rattle.std.proofs.lemmas.Bool.{cases_eq}
 use Rattle.ultra_cut.specs.Kinds.{HasNoneFor}
-use Rattle.ultra_cut.proofs.Moved.{both_moved, still_cut, nothing_moved}
+use Rattle.ultra_cut.proofs.Moved.{both_moved, nothing_moved}
 use Rattle.ultra_cut.proofs.exchange.exchange.Goals as goal
 
 pub loop-from-init : goal.loop-from-init
 loop-from-init c = record { only = nothing_moved c.args.kind c.args.blocks.now c.requires.single; there = λ k n before. absurd (omega arith) }
 
 pub empty-requires-clause-cut : goal.empty-requires-clause-cut
-empty-requires-clause-cut c =
-    still_cut c.args.kind c.args.net (omega arith) (omega arith) c.args.partition.now c.args.blocks.now c.loop-from.blocks c.loop-from.invariant.only c.requires.cut
+empty-requires-clause-cut c = grind arith
 
 pub loop-from-preserved : goal.loop-from-preserved
 loop-from-preserved c =

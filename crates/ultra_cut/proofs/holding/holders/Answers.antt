@@ -3,12 +3,11 @@ use Rattle.std.proofs.lemmas.List.{get_or_default}
 use Rattle.ultra_units.specs.Set.{has_unit}
 use Rattle.ultra_section.specs.Holding.{IsSetOf, holds_at}
 use Rattle.ultra_cut.specs.Cut.{block_at, no_block}
-use Rattle.ultra_cut.proofs.Held.{all_below, below, next_below, none_below}
+use Rattle.ultra_cut.proofs.Held.{all_below, below, next_below}
 use Rattle.ultra_cut.proofs.holding.holders.Goals as goal
 
 pub loop-block-init : goal.loop-block-init
-loop-block-init c = λ s partition n events stops are.
-    none_below s partition c.args.blocks.now are n events stops c.args.held c.empty-all.result c.empty-all.ensures
+loop-block-init c = search arith
 
 pub loop-block-preserved : goal.loop-block-preserved
 loop-block-preserved c = λ s partition n events stops are u.

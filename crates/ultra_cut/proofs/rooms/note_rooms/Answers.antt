@@ -2,12 +2,11 @@ use Rattle.std.proofs.Common.{◌≡◌, ◌<◌, arith, subst, ◌∙◌, lengt
 use Rattle.std.proofs.lemmas.List.{get_or_default}
 use Rattle.ultra_section.specs.Rooms.{HasNoted}
 use Rattle.ultra_cut.specs.Cut.{block_at, no_block}
-use Rattle.ultra_cut.proofs.Noted.{next_noted, none_noted, rooms_are}
+use Rattle.ultra_cut.proofs.Noted.{next_noted, rooms_are}
 use Rattle.ultra_cut.proofs.rooms.note_rooms.Goals as goal
 
 pub loop-block-init : goal.loop-block-init
-loop-block-init c = λ d partition are.
-    none_noted d partition c.args.blocks.now c.all_open-rooms.result c.all_open-rooms.ensures.replies c.all_open-rooms.ensures.zero c.all_open-rooms.ensures.one
+loop-block-init c = grind arith
 
 pub loop-block-preserved : goal.loop-block-preserved
 loop-block-preserved c = λ d partition are.
