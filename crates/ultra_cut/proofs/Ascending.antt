@@ -19,22 +19,20 @@ bounds low high (x ∷ xs) h = omega arith
 
 wider : (low high a b : ℕ) (xs : List ℕ) → a ≤ low → high ≤ b → AscendsWithin low high xs → AscendsWithin a b xs
 wider low high a b [] from to h = omega arith
-wider low high a b (x ∷ xs) from to h = (omega arith, omega arith, wider x high x b xs (omega arith) to h.2)
+wider low high a b (x ∷ xs) from to h = grind (arith, wider x high x b xs)
 
 -- ---- one list after another
 one_after : (low mid high : ℕ) (xs ys : List ℕ) → AscendsWithin low mid xs → AscendsWithin mid high ys → AscendsWithin low high (xs ++ ys)
 one_after low mid high [] ys hx hy = wider mid high low high ys hx (omega arith) hy
 one_after low mid high (x ∷ xs) ys hx hy =
-    let within = bounds mid high ys hy in
-    (hx.0, omega arith, one_after x mid high xs ys hx.2 hy)
+    grind (arith, bounds, one_after x mid high xs ys hx.2 hy)
 
 -- ---- in the words of the law
 at_least : (low high : ℕ) (xs : List ℕ) (i d : ℕ) → AscendsWithin low high xs → i < length xs → low ≤ get_or xs i d
 at_least low high [] i d h within = absurd (omega arith)
 at_least low high (x ∷ xs) zero d h within = h.0
 at_least low high (x ∷ xs) (suc i) d h within =
-    let rest = at_least x high xs i d h.2 (omega arith) in
-    omega arith
+    grind (arith, at_least x high xs i d h.2)
 
 pub ascends : (low high : ℕ) (xs : List ℕ) → AscendsWithin low high xs → IsAscending xs
 ascends low high [] h i j d order within = absurd (omega arith)
@@ -57,17 +55,16 @@ module _ {X : Type 0} (rank : X → ℕ) where
 
   listed_one : (r : ℕ) (xs : List X) → HaveRank rank r xs → InRanks r (r + 1) xs
   listed_one r [] h = omega arith
-  listed_one r (x ∷ xs) h = (omega arith, omega arith, wider r (r + 1) (rank x) (r + 1) (map rank xs) (omega arith) (omega arith) (listed_one r xs h.1))
+  listed_one r (x ∷ xs) h = grind (arith, listed_one r xs h.1)
 
   listed_in_order : (base n : ℕ) (f : ℕ → List X) → AreRanked rank base n f → InRanks base (base + n) (joined (places n f))
-  listed_in_order base zero f ranked = subst (InRanks base (base + 0)) (sym (joined_none f)) (omega arith)
+  listed_in_order base zero f ranked = grind (arith, joined_none)
   listed_in_order base (suc n) f ranked =
       let number : base + n + 1 ≡ base + suc n = omega arith in
       let before = listed_in_order base n f (λ i h. ranked i (omega arith)) in
       let last = listed_one (base + n) (f n) (ranked n (omega arith)) in
       subst (InRanks base (base + suc n)) (sym (joined_next f (suc n) n (omega arith)))
-      (subst (λ high. InRanks base high (joined (places n f) ++ f n)) number
-      (listed_after base (base + n) (base + n + 1) (joined (places n f)) (f n) before last))
+      (grind (arith, listed_after))
 
   -- between wider bounds
   pub listed_within : (base n low high : ℕ) (f : ℕ → List X) → AreRanked rank base n f → low ≤ base → base + n ≤ high → InRanks low high (joined (places n f))

@@ -32,9 +32,9 @@ links_of Requests d b shape = shape.requests
 
 pub shaped_with : (kind : Kind) (d : ℕ) (t : List (Option (Message kind))) (b : BlockState) → length t ≡ (d + 1) * 2 ^ d → IsShaped d b → IsShaped d (with_table kind t b)
 shaped_with Replies d t b links shape =
-    record { stages = shape.stages; switches = shape.switches; modules = shape.modules; elements = shape.elements; replies = links; requests = shape.requests }
+    grind arith
 shaped_with Requests d t b links shape =
-    record { stages = shape.stages; switches = shape.switches; modules = shape.modules; elements = shape.elements; replies = shape.replies; requests = links }
+    grind arith
 
 -- ---- the unit to which a link leads
 abbrev pub reader : Kind → ℕ → ℕ → ℕ
@@ -51,10 +51,10 @@ pub record LeadHere (kind : Kind) (d n : ℕ) (p : Ports ℕ) : Type 0 where
 pub lead_here : (kind : Kind) (d : ℕ) → 1 ≤ d → d ≤ 6 → (n : ℕ) (p : Ports ℕ) → inlets kind d n ≡ Some p → LeadHere kind d n p
 lead_here Replies d low high n p is =
     let it = replies_away.inlets d low high n p is in
-    record { zero_small = it.zero_small; one_small = it.one_small; zero_reader = it.zero_reader; one_reader = it.one_reader }
+    grind arith
 lead_here Requests d low high n p is =
     let it = requests_away.inlets d low high n p is in
-    record { zero_small = it.zero_small; one_small = it.one_small; zero_reader = it.zero_reader; one_reader = it.one_reader }
+    grind arith
 
 -- ---- what is said of one kind is what is said of a kind
 pub next_reply : (b : BlockState) (from : ℕ) (o : Option ℕ) → IfSome o (λ n. IsNextForReplies b from n) → IfSome o (λ n. IsNext Replies b from n)

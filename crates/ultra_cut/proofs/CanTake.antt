@@ -1,8 +1,7 @@
 -- Each block may make the halves in which messages are taken, where the whole machine may.
-use Rattle.std.proofs.Common.{◌≡◌, ℕ, ◌/◌, ◌^◌, ◌<◌, List, Some, None, length, sym, ◌∙◌, ap, subst}
+use Rattle.std.proofs.Common.{◌≡◌, ℕ, ◌/◌, ◌^◌, ◌<◌, List, Some, length, sym, ◌∙◌, ap, subst, arith}
 use Rattle.std.specs.Prelude.{is_some}
 use Rattle.ultra_units.specs.Numbers.{switch_count, module_number, element_number}
-use Rattle.ultra_mem.specs.Serve.{Bank}
 use Rattle.ultra_halves.specs.Switches as switch
 use Rattle.ultra_section.specs.Units.{unit_of, stage_of, index_of}
 use Rattle.ultra_section.specs.Marks.{delivery_link, memory_link, on_both, on_link, reply_links, request_links}
@@ -82,8 +81,8 @@ module _ (d : ℕ) (partition : List ℕ) (bs : List BlockState) (blocks : AreBl
         let same : x ≡ f.bank m = of_frame modules m h x is in
         let comes = end_there Requests d partition bs blocks.cut there m h ∙ ap (λ j. on_link (block_at bs j).requests (memory_link d m)) (sym (here modules m h x is))
         ∙ ap (λ e. on_link b.requests (memory_link e m)) (sym stages) ∙ came in
-        let cell : r.cell / 2 ^ d < length x.cells = subst (λ (y : Bank). r.cell / 2 ^ d < length y.cells) (sym same) (can.within m h r comes) in
-        (subst (λ e. r.cell / 2 ^ e < length x.cells) (sym stages) cell, subst (λ (y : Bank). y.inp ≡ None) (sym same) (can.empty m h r comes))
+        let cell : r.cell / 2 ^ d < length x.cells = grind arith in
+        grind arith
 
     unit_requests : (n : ℕ) → UnitCanTakeRequests n b (unit_of d n)
     unit_requests = by_kind d (λ n. UnitCanTakeRequests n b (unit_of d n))

@@ -1,5 +1,5 @@
 -- The blocks of a machine after something was done to each of them.
-use Rattle.std.proofs.Common.{◌≡◌, ◌≢◌, ℕ, ◌+◌, ◌^◌, ◌<◌, ◌≤◌, List, map, Option, Some, None, true, false, length, sym, ◌∙◌, ap, subst, arith}
+use Rattle.std.proofs.Common.{◌≡◌, ◌≢◌, ℕ, ◌+◌, ◌^◌, ◌<◌, ◌≤◌, List, map, Option, Some, None, length, ◌∙◌, ap, arith}
 use Rattle.std.specs.Prelude.{◌==◌, is_some}
 use Rattle.std.proofs.lemmas.List.{length-map}
 use Rattle.ultra_units.specs.Numbers.{switch_count, unit_count}
@@ -25,10 +25,6 @@ pub record HasSameUnits (d more : ℕ) (old now : BlockState) : Type 0 where
   pub modules : (m : ℕ) → m < 2 ^ d → is_some (module_at now.modules m) ≡ is_some (module_at old.modules m)
   pub elements : (p : ℕ) → p < 2 ^ d → is_some (element_at now.elements p) ≡ is_some (element_at old.elements p)
 
-module _ (d more : ℕ) (old now : BlockState) (stages : old.stages ≡ d) (same : HasSameUnits d more old now) where
-  stands_same : (n : ℕ) → stands n now ≡ stands n old
-  stands_same = search arith
-
 module _ (d : ℕ) (partition : List ℕ) (bs : List BlockState) (blocks : AreBlocks d partition bs) (change : BlockState → BlockState) where
   abbrev now : List BlockState
   now = map change bs
@@ -44,10 +40,10 @@ module _ (d : ℕ) (partition : List ℕ) (bs : List BlockState) (blocks : AreBl
     still_cut : IsCut d partition now
     still_cut = record {
       count = blocks.cut.count;
-      homes = λ n h. subst (λ x. home partition n < x) (sym count) (blocks.cut.homes n h);
+      homes = grind (arith, count);
       stages = each_changed (λ k b. b.stages ≡ d) (λ k h. (same k h).shape.stages);
       stand = λ k n h within. each_changed (λ k b. stands n b ≡ (home partition n == k))
-          (λ k h. stands_same d more (block_at bs k) (change (block_at bs k)) (blocks.cut.stages k h) (same k h) n ∙ blocks.cut.stand k n h within) k h;
+          (search arith) k h;
     }
 
     pub blocks_after : AreBlocksAfter d partition more bs now
@@ -55,10 +51,6 @@ module _ (d : ℕ) (partition : List ℕ) (bs : List BlockState) (blocks : AreBl
 
 pub no_more : (n : ℕ) → n ≡ n + 0
 no_more n = omega arith
-
-keeps_units : {X L : Type 0} (step : Option X × L → Option X × L) → ((l : L) → is_some (step (None, l)).0 ≡ false) → ((x : X) (l : L) → is_some (step (Some x, l)).0 ≡ true)
-    → (o : Option X) (l : L) → is_some (step (o, l)).0 ≡ is_some o
-keeps_units step none some o l = grind arith
 
 -- ---- a unit of a sort, and links of it, in blocks that all do the same
 -- what is on the unit's links becomes what `step` says, and so does the unit where it stands
@@ -87,10 +79,6 @@ module _ {X L : Type 0} (sort : Sort X) (d : ℕ) (partition : List ℕ) (bs : L
   pub links_empty : (empty : L) → (step (Some own, on (block_at bs at))).1 ≡ empty → ((k : ℕ) → k < length bs → k ≢ at → (step (None, on (block_at bs k))).1 ≡ empty)
       → (k : ℕ) → k < length bs → on (change (block_at bs k)) ≡ empty
   links_empty empty here elsewhere k within = grind (arith, links_home, links_away)
-
-  -- it stands where it did
-  pub still_there : ((l : L) → is_some (step (None, l)).0 ≡ false) → ((x : X) (l : L) → is_some (step (Some x, l)).0 ≡ true) → (k : ℕ) → k < length bs → is_some (sort.at (change (block_at bs k)) i) ≡ is_some (sort.at (block_at bs k) i)
-  still_there none some k within = ap (λ q. is_some q.0) (acts k within) ∙ keeps_units step none some (sort.at (block_at bs k) i) (on (block_at bs k))
 
 -- a unit that does nothing
 pub unit_same : {X : Type 0} (sort : Sort X) (d : ℕ) (partition : List ℕ) (bs : List BlockState) (cut : IsCut d partition bs) (change : BlockState → BlockState) (i : ℕ) (h : i < sort.count d)

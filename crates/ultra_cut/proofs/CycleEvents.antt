@@ -152,7 +152,7 @@ module _ (d n : ℕ) (partition : List ℕ) (program : List Instr) (first second
             after (λ b. b.events) Execute second waiting waiting_count
             ∙ (adds second waiting waiting_count all.waiting_blocks).0.executing
             ∙ ap (λ es. es ++ events_of_steps d program (block_at waiting k))
-            (waiting_events ∙ ap (λ es. es ++ events_of_requests d n (block_at requests k)) (requests_events ∙ served_events));
+            (grind (arith, waiting_events, requests_events, served_events));
         stops =
             after (λ b. b.stops) Execute second waiting waiting_count
             ∙ (adds second waiting waiting_count all.waiting_blocks).1.executing

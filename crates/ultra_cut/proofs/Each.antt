@@ -7,11 +7,10 @@ use Rattle.ultra_units.specs.Numbers.{switch_count, unit_count}
 use Rattle.ultra_halves.specs.declared.elements.ProcessingElement.{ProcessingElement}
 use Rattle.ultra_section.specs.BlockState.{BlockState, switch_at, module_at, element_at}
 use Rattle.ultra_section.specs.Shape.{IsShaped}
-use Rattle.ultra_section.specs.Marks.{on_link}
 use Rattle.ultra_course.specs.Frame.{Frame}
-use Rattle.ultra_cut.specs.Cut.{block_at, first, frame_of, given, home, no_switch}
+use Rattle.ultra_cut.specs.Cut.{block_at, frame_of, given, home, no_switch}
 use Rattle.ultra_cut.specs.Halves.{AreBlocks, HaveFrame}
-use Rattle.ultra_cut.proofs.Changed.{HasSameUnits, blocks_after}
+use Rattle.ultra_cut.proofs.Changed.{blocks_after}
 use Rattle.ultra_cut.proofs.ReplyColumns.{changed_at, same_column}
 use Rattle.ultra_cut.proofs.Units.{module_at_home, element_at_home}
 
@@ -37,9 +36,6 @@ pub record HasWorked (d : ℕ) (f : Bank → Bank) (g : ProcessingElement → Pr
   pub elements : (p : ℕ) → p < 2 ^ d → element_at now.elements p ≡ worked g (element_at b.elements p)
   pub replies : now.replies ≡ b.replies
   pub requests : now.requests ≡ b.requests
-
-same_units : (d : ℕ) (f : Bank → Bank) (g : ProcessingElement → ProcessingElement) (more : ℕ) (b now : BlockState) → HasWorked d f g more b now → HasSameUnits d more b now
-same_units d f g more b now work = grind arith
 
 module _ (d : ℕ) (partition : List ℕ) (bs : List BlockState) (are : AreBlocks d partition bs) (make : BlockState → BlockState) where
   abbrev now : List BlockState
@@ -69,12 +65,6 @@ module _ (d : ℕ) (partition : List ℕ) (bs : List BlockState) (are : AreBlock
 
     pub have_frame : HaveFrame d partition more bs now after
     have_frame = record {
-      blocks = blocks_after d partition bs are make more (λ k h. same_units d f g more (block_at bs k) (make (block_at bs k)) (each k h));
-      frame = record {
-        switches = same_switch;
-        banks = bank_worked;
-        elements = element_worked;
-        replies = λ l h. ap first (same_column make bs (λ b. on_link b.replies l) (λ k within. ap (λ t. on_link t l) (each k within).replies));
-        requests = λ l h. ap first (same_column make bs (λ b. on_link b.requests l) (λ k within. ap (λ t. on_link t l) (each k within).requests));
-      };
+      blocks = blocks_after d partition bs are make more (grind arith);
+      frame = grind (arith, same_switch, bank_worked, element_worked, same_column);
     }

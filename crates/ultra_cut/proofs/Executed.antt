@@ -1,6 +1,6 @@
 -- After every block has made a step of the program, the blocks are the frame in which each
 -- processing element has.
-use Rattle.std.proofs.Common.{◌≡◌, ℕ, ◌+◌, ◌-◌, ◌^◌, ◌<◌, ◌≤◌, List, Option, Some, None, length, refl, ◌∙◌, ap, subst, arith}
+use Rattle.std.proofs.Common.{◌≡◌, ℕ, ◌+◌, ◌^◌, ◌<◌, ◌≤◌, List, Option, Some, None, length, refl, ◌∙◌, ap, arith}
 use Rattle.std.specs.Prelude.{is_some}
 use Rattle.ultra_isa.specs.declared.Instr.{Instr}
 use Rattle.ultra_units.specs.Visits.{after_units}
@@ -8,7 +8,7 @@ use Rattle.ultra_halves.specs.declared.elements.ProcessingElement.{ProcessingEle
 use Rattle.ultra_halves.specs.Elements.{executed}
 use Rattle.ultra_section.specs.declared.half.Half.TheVariants.{Execute}
 use Rattle.ultra_section.specs.declared.rooms.Rooms.{Rooms}
-use Rattle.ultra_section.specs.BlockState.{BlockState, module_at, element_at}
+use Rattle.ultra_section.specs.BlockState.{BlockState, module_at}
 use Rattle.ultra_section.specs.Shape.{IsShaped}
 use Rattle.ultra_section.specs.Execution.{CanExecuteAt, ElementCanExecute, UnitCanExecute, counted, executes}
 use Rattle.ultra_section.specs.Units.{unit_of}
@@ -46,9 +46,7 @@ module _ (program : List Instr) (d : ℕ) (low : 1 ≤ d) (high : d ≤ 6) (b : 
     program = kept_by_executing program d (λ t. t.program) (λ p t e. refl) b shape;
     switches = kept_by_executing program d (λ t. t.switches) (λ p t e. refl) b shape;
     modules = λ m h. ap (λ ms. module_at ms m) (kept_by_executing program d (λ t. t.modules) (λ p t e. refl) b shape) ∙ same_worked (module_at b.modules m);
-    elements = λ p h.
-        let few = few_units d low high in
-        element_after_executing program d b shape p h (omega arith) ∙ same_work (element_at b.elements p);
+    elements = grind (arith, few_units, element_after_executing);
     replies = kept_by_executing program d (λ t. t.replies) (λ p t e. refl) b shape;
     requests = kept_by_executing program d (λ t. t.requests) (λ p t e. refl) b shape;
   }
@@ -71,7 +69,7 @@ module _ (d : ℕ) (partition : List ℕ) (bs : List BlockState) (are : AreBlock
   element_can k h p small e is =
       let of_frame : (frame_of d partition bs).element p ≡ e =
       unit_is elements d partition bs are.cut p small k h (ap is_some is) ∙ ap (given no_element) is in
-      subst (λ (e : ProcessingElement). e.issued < 2 ^ 32 - 1) of_frame (can.counted p small)
+      grind arith
 
   unit_can : (k : ℕ) → k < length bs → (n : ℕ) → UnitCanExecute (block_at bs k) (unit_of (block_at bs k).stages n)
   unit_can k h n = grind (arith, element_can)

@@ -93,11 +93,7 @@ module _ (d n : ℕ) (partition : List ℕ) (program : List Instr) (x : Course) 
   all_stops =
       by_blocks part.stop_rank (λ b. b.stops) x.steps_made 64
       ∙ joined_same 64 stops_at (λ r. joined (places count (λ k. of_rank part.stop_rank (0 + r) (all_by part.stop_rank count of_stops k))))
-      (λ r h.
-      let number : r ≡ 0 + r = omega arith in
-      ap stops_at number
-      ∙ joined_same count (λ k. of_rank part.stop_rank (0 + r) (at_end k).stops) (λ k. of_rank part.stop_rank (0 + r) (all_by part.stop_rank count of_stops k))
-      (λ k within. ap (of_rank part.stop_rank (0 + r)) (block_stops k within)))
+      (grind (arith, joined_same, block_stops))
       ∙ merged_part part.stop_rank count 0 64 of_stops
       ∙ part.stops_home d partition x.requests_taken sound.requests_taken.0 count sound.requests_taken.1 few program narrow
 

@@ -30,9 +30,6 @@ use Rattle.ultra_cut.specs.Holding.{holds, stage_holds, interface_holds}
 use Rattle.ultra_section.proofs.OfKind.{by_kind}
 use Rattle.ultra_cut.proofs.Units.{elements, modules, stands_at, switches}
 
-and_false : (b : Bool) → false ≡ (b && false)
-and_false b = grind arith
-
 -- ---- what a unit of the machine holds is what that of the frame does
 module _ (c : Settings) (low : 1 ≤ c.stages) (high : c.stages ≤ 6) (f : Frame) (n : ℕ) (events : List Event) (stops : List Stop) where
   abbrev m : Machine
@@ -79,9 +76,6 @@ module _ (c : Settings) (low : 1 ≤ c.stages) (high : c.stages ≤ 6) (f : Fram
     element_holding : (p : ℕ) → p < 2 ^ d → holds d m held (element_number d p) ≡ element_holds held (f.element p)
     element_holding p h = at_element d _ _ (λ p. interface_holds held (element_at m p)) false p h ∙ ap (interface_holds held) (element_is c f n events stops p h) ∙ interface_is held (f.element p)
 
-    none_holding : (u : ℕ) → unit_count d ≤ u → holds d m held u ≡ false
-    none_holding u past = at_none d (stage_holds m held) (λ j. module_holds held (bank_at m j)) (λ p. interface_holds held (element_at m p)) false u past
-
 -- ---- one block
 one_there : {X : Type 0} (p : X → Bool) (nothing : X) (o : Option X) (there own : Bool) → is_some o ≡ there → (there ≡ true → p (given nothing o) ≡ own) → if_here p o ≡ (there && own)
 one_there p nothing o there own some is = grind arith
@@ -127,20 +121,18 @@ module _ (c : Settings) (partition : List ℕ) (bs : List BlockState) (are : Are
       own_switch held c.stages b stages u h
       ∙ one_there (switch_holds held) no_switch (switch_at b.switches u) (home partition u == i) (whole_holds u) (stands_at switches c.stages partition bs are.cut u h i within)
       (λ there. ap (λ k. switch_holds held (given no_switch (switch_at (block_at bs k).switches u))) (sym (eqb-true _ _ there))
-      ∙ sym (switch_holding c are.some_stages are.few_stages f n events stops held u h)))
+      ∙ sym (search (arith, switch_holding))))
       (λ j h.
       own_module held c.stages b stages j h
       ∙ one_there (module_holds held) empty_bank (module_at b.modules j) (home partition (module_number c.stages j) == i) (whole_holds (module_number c.stages j)) (stands_at modules c.stages partition bs are.cut j h i within)
       (λ there. ap (λ k. module_holds held (given empty_bank (module_at (block_at bs k).modules j))) (sym (eqb-true _ _ there))
-      ∙ sym (module_holding c are.some_stages are.few_stages f n events stops held j h)))
+      ∙ sym (search (arith, module_holding))))
       (λ p h.
       own_element held c.stages b stages p h
       ∙ one_there (element_holds held) no_element (own_element_at b.elements p) (home partition (element_number c.stages p) == i) (whole_holds (element_number c.stages p)) (stands_at elements c.stages partition bs are.cut p h i within)
       (λ there. ap (λ k. element_holds held (given no_element (own_element_at (block_at bs k).elements p))) (sym (eqb-true _ _ there))
-      ∙ sym (element_holding c are.some_stages are.few_stages f n events stops held p h)))
-      (λ u past.
-      own_none held c.stages b stages u past ∙ and_false (home partition u == i)
-      ∙ ap (λ x. (home partition u == i) && x) (sym (none_holding c are.some_stages are.few_stages f n events stops held u past)))
+      ∙ sym (search (arith, element_holding))))
+      (grind (arith, own_none))
 
   -- of the units of the blocks below i
   abbrev pub below : ℕ → ℕ → Bool

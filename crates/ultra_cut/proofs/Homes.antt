@@ -1,5 +1,5 @@
 -- Each reply on the link to a processing element names it, and each knows which one it is.
-use Rattle.std.proofs.Common.{◌≡◌, ℕ, ◌^◌, ◌<◌, Option, Some, List, sym, ◌∙◌, ap, subst}
+use Rattle.std.proofs.Common.{◌≡◌, ℕ, ◌^◌, ◌<◌, Option, Some, List, sym, ◌∙◌, ap, subst, arith}
 use Rattle.std.specs.Prelude.{IfSome}
 use Rattle.std.specs.Option.{ForSome}
 use Rattle.ultra_msg.specs.declared.ReplyMessage.{ReplyMessage}
@@ -28,7 +28,7 @@ module _ (c : Settings) (n : ℕ) (f : Frame) (events : List Event) (stops : Lis
   module _ (rooms : Rooms) (noted : AreRooms c.stages f rooms) (sent : Frame) (as_sent : AreAlike c.stages sent (sends_replies c.stages rooms f)) where
     pub replies_home : (p : ℕ) → p < 2 ^ c.stages → ForSome (reply_to c.stages sent p) (λ (r : ReplyMessage). r.pe ≡ p)
     replies_home p hp r is =
-        let came = sym (reply.comes_home c f n events stops w.range w.fits rooms noted sent as_sent p hp) ∙ is in
+        let came = sym (grind (arith, reply.comes_home)) ∙ is in
         let well = if_some (λ (r : ReplyMessage). IsReference c r.pe r.cell × (r.pe ≡ p)) (delivered c own p) r (delivered_well c w.range own sound.routes p hp) came in
         well.1
 

@@ -1,4 +1,5 @@
 -- Lists joined, one for each place.
+use Rattle.std.proofs.lemmas.Grind.{common_steps}
 use Rattle.std.proofs.Common.{◌≡◌, ◌≢◌, ℕ, zero, suc, ◌+◌, ◌<◌, List, [], ◌∷◌, ◌++◌, map, Option, Some, None, length, get_or, refl, sym, ◌∙◌, ap, inl, inr, arith, append_assoc, append-nil}
 use Rattle.std.proofs.lemmas.Bool.{cases_eq}
 use Rattle.std.proofs.lemmas.List.{ext_get_or, get_or-map, length-map}
@@ -8,7 +9,7 @@ use Rattle.ultra_course.proofs.AtFrame.{same_places}
 
 joined-append : {X : Type 0} (xss yss : List (List X)) → joined (xss ++ yss) ≡ joined xss ++ joined yss
 joined-append [] yss = refl
-joined-append (xs ∷ rest) yss = ap (λ ys. xs ++ ys) (joined-append rest yss) ∙ sym (append_assoc xs (joined rest) (joined yss))
+joined-append (xs ∷ rest) yss = grind (arith, common_steps, joined-append rest yss)
 
 pub joined_none : {X : Type 0} (g : ℕ → List X) → joined (places 0 g) ≡ []
 joined_none g = ap (λ xss. joined xss) (places_none g)
@@ -20,9 +21,7 @@ joined_next g i n e = grind (arith, places_more, joined-append, append-nil)
 -- n lists, and then k more
 pub joined_split : {X : Type 0} (n k : ℕ) (g : ℕ → List X) → joined (places (n + k) g) ≡ joined (places n g) ++ joined (places k (λ i. g (n + i)))
 joined_split n zero g =
-    let none : n + 0 ≡ n = omega arith in
-    let front = joined (places n g) in
-    ap (λ i. joined (places i g)) none ∙ sym (append-nil front) ∙ ap (λ xs. front ++ xs) (sym (joined_none (λ i. g (n + i))))
+    grind (arith, append-nil, joined_none)
 joined_split n (suc k) g =
     let front = joined (places n g) in
     let rest = joined (places k (λ i. g (n + i))) in
@@ -50,11 +49,9 @@ joined_only (suc n) k g within others =
     joined_next g (suc n) n (omega arith)
     ∙ elim (cases_eq n k) [
       | inl same ↦
-          ap (λ xs. xs ++ g n) (joined_nothing n g (λ i h. others i (omega arith) (λ e. absurd (omega arith)))) ∙ ap g same
+          grind (arith, joined_nothing)
       | inr other ↦
-          ap (λ xs. joined (places n g) ++ xs) (others n (omega arith) other)
-          ∙ append-nil (joined (places n g))
-          ∙ joined_only n k g (omega arith) (λ i h. others i (omega arith))
+          grind (arith, append-nil, joined_only n k g)
     ]
 
 -- only some lists behind one another have something
@@ -69,7 +66,7 @@ present-append (None ∷ os) us = present-append os us
 present-append (Some x ∷ os) us = ap (λ xs. x ∷ xs) (present-append os us)
 
 pub joined_present : {X : Type 0} (n : ℕ) (o : ℕ → Option X) → joined (places n (λ i. present (o i ∷ []))) ≡ present (places n o)
-joined_present zero o = joined_none (λ i. present (o i ∷ [])) ∙ sym (ap (λ os. present os) (places_none o))
+joined_present zero o = grind (arith, places_none)
 joined_present (suc n) o =
     let next : n + 1 ≡ suc n = omega arith in
     joined_next (λ i. present (o i ∷ [])) (suc n) n (omega arith)
@@ -81,7 +78,5 @@ joined_present (suc n) o =
 -- ---- a list's elements, place by place
 pub map_places : {X Y : Type 0} (f : X → Y) (xs : List X) (d : X) → map f xs ≡ places (length xs) (λ i. f (get_or xs i d))
 map_places f xs d =
-    ext_get_or (f d) (map f xs) (places (length xs) (λ i. f (get_or xs i d))) (length-map xs f ∙ sym (length-places (length xs) (λ i. f (get_or xs i d))))
-    (λ i within.
-    let inside : i < length xs = rw (sym (length-map xs f)) within in
-    get_or-map f xs i d (f d) inside ∙ sym (places_at (length xs) (λ i. f (get_or xs i d)) i (f d) inside))
+    ext_get_or (f d) (map f xs) (places (length xs) (λ i. f (get_or xs i d))) (grind (arith, length-map, length-places))
+    (grind (arith, length-map, get_or-map, places_at))

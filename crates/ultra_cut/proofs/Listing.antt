@@ -1,5 +1,5 @@
 -- What a block lists in each half: unit by unit, and so kind by kind.
-use Rattle.std.proofs.Common.{◌≡◌, ℕ, zero, suc, ◌+◌, ◌-◌, ◌^◌, ◌<◌, ◌≤◌, List, [], ◌++◌, Option, refl, sym, ◌∙◌, ap, subst, inl, inr, arith}
+use Rattle.std.proofs.Common.{◌≡◌, ℕ, zero, suc, ◌+◌, ◌-◌, ◌^◌, ◌<◌, ◌≤◌, List, [], ◌++◌, Option, refl, sym, ◌∙◌, ap, inl, inr, arith}
 use Rattle.std.proofs.lemmas.Bool.{cases_lt}
 use Rattle.ultra_mem.specs.Serve.{Bank}
 use Rattle.ultra_isa.specs.declared.Instr.{Instr}
@@ -36,10 +36,7 @@ module _ {T E : Type 0} (listed : ℕ → T → List E) (t : T) (before n : ℕ)
   listed_by_kind : entries_before listed 320 t ≡ joined (places n g)
   listed_by_kind =
       let all : before + (n + (320 - (before + n))) ≡ 320 = omega arith in
-      before_as_places listed 320 t
-      ∙ ap (λ m. joined (places m (λ i. listed i t))) (sym all)
-      ∙ joined_window before n (320 - (before + n)) (λ i. listed i t) lower (λ i h. upper (before + (n + i)) (omega arith))
-      ∙ joined_same n (λ i. listed (before + i) t) g same
+      grind (arith, before_as_places, joined_window, joined_same)
 
 module _ (d : ℕ) (low : 1 ≤ d) (high : d ≤ 6) where
   few : unit_count d < 321
@@ -48,14 +45,13 @@ module _ (d : ℕ) (low : 1 ≤ d) (high : d ≤ 6) where
   -- ---- only units of one sort have events
   module _ {T E : Type 0} (listed : ℕ → T → List E) (t : T) (nothing : (i : ℕ) → unit_count d ≤ i → listed i t ≡ []) where
     no_module : ((m : ℕ) → m < 2 ^ d → listed (module_number d m) t ≡ []) → (i : ℕ) → switch_count d ≤ i → i < switch_count d + 2 ^ d → listed i t ≡ []
-    no_module none i past h =
-        let place : module_number d (i - switch_count d) ≡ i = omega arith in subst (λ i. listed i t ≡ []) place (none (i - switch_count d) (omega arith))
+    no_module none i past h = let place : module_number d (i - switch_count d) ≡ i = omega arith in grind arith
 
     no_element : ((p : ℕ) → p < 2 ^ d → listed (element_number d p) t ≡ []) → (i : ℕ) → switch_count d + 2 ^ d ≤ i → listed i t ≡ []
     no_element none i past = elim (cases_lt i (unit_count d)) [
       | inl within ↦
           let p = i - (switch_count d + 2 ^ d) in
-          let place : element_number d p ≡ i = omega arith in subst (λ i. listed i t ≡ []) place (none p (omega arith))
+          let place : element_number d p ≡ i = omega arith in grind arith
       | inr behind ↦ nothing i behind
     ]
 
@@ -63,11 +59,8 @@ module _ (d : ℕ) (low : 1 ≤ d) (high : d ≤ 6) where
         → ((i : ℕ) → i < switch_count d → listed i t ≡ g i) → entries_before listed 320 t ≡ joined (places (switch_count d) g)
     switches_list g modules elements same =
         listed_by_kind listed t 0 (switch_count d) g (omega (arith, few)) (λ i h. absurd (omega arith))
-        (λ i h. elim (cases_lt i (switch_count d + 2 ^ d)) [
-          | inl within ↦ no_module modules i (omega arith) within
-          | inr past ↦ no_element elements i past
-        ])
-        (λ i h. let number : 0 + i ≡ i = omega arith in ap (λ i. listed i t) number ∙ same i h)
+        (grind (arith, no_module, no_element))
+        (grind arith)
 
     modules_list : (g : ℕ → List E) → ((i : ℕ) → i < switch_count d → listed i t ≡ []) → ((p : ℕ) → p < 2 ^ d → listed (element_number d p) t ≡ [])
         → ((m : ℕ) → m < 2 ^ d → listed (module_number d m) t ≡ g m) → entries_before listed 320 t ≡ joined (places (2 ^ d) g)
@@ -78,7 +71,7 @@ module _ (d : ℕ) (low : 1 ≤ d) (high : d ≤ 6) where
         → ((p : ℕ) → p < 2 ^ d → listed (element_number d p) t ≡ g p) → entries_before listed 320 t ≡ joined (places (2 ^ d) g)
     elements_list g switches modules same =
         listed_by_kind listed t (switch_count d + 2 ^ d) (2 ^ d) g (omega (arith, few))
-        (λ i h. elim (cases_lt i (switch_count d)) [ inl before ↦ switches i before | inr past ↦ no_module modules i past h ]) (λ i h. nothing i (omega arith)) same
+        (grind (arith, no_module)) (λ i h. nothing i (omega arith)) same
 
   module _ (b : BlockState) where
     -- ---- replies
@@ -122,7 +115,7 @@ module _ (d : ℕ) (low : 1 ≤ d) (high : d ≤ 6) where
       adds_events : AddsEvents d rooms program b
       adds_events = record {
         sending_replies = replies_sent.kept_by_sending rooms.no_reply_room d low high (λ (t : BlockState). t.events) (λ n s k t w. refl) (λ m t bank. refl) (begun b) begun_shape;
-        taking_replies = replies_taken.events_after_taking d low high b shape ∙ ap (λ es. b.events ++ es) listed_taking_replies;
+        taking_replies = grind (arith, replies_taken.events_after_taking, listed_taking_replies);
         serving = served.events_after_serving d b shape ∙ ap (λ es. b.events ++ es) listed_serving;
         sending_requests = requests_sent.kept_by_sending rooms.no_request_room d low high (λ (t : BlockState). t.events) (λ n s k t w. refl) (λ p t e. refl) b shape;
         taking_requests = requests_taken.events_after_taking d b.done low high b in_cycle ∙ ap (λ es. b.events ++ es) (listed_taking_requests b.done);

@@ -15,10 +15,10 @@ in_four g =
     let first = joined (places 320 (λ i. g (0 + i))) in
     let second = joined (places 320 (λ i. g (320 + i))) in
     joined_split 320 960 g
-    ∙ ap (λ xs. xs ++ joined (places 960 (λ i. g (320 + i)))) (joined_same 320 g (λ i. g (0 + i)) (λ i h. ap g (omega arith)))
+    ∙ ap (λ xs. xs ++ joined (places 960 (λ i. g (320 + i)))) (grind arith)
     ∙ ap (λ xs. first ++ xs) (joined_split 320 640 (λ i. g (320 + i)))
     ∙ ap (λ xs. first ++ (second ++ xs)) (joined_same 640 (λ i. g (320 + (320 + i))) (λ i. g (640 + i)) (λ i h. ap g (omega arith)) ∙ joined_split 320 320 (λ i. g (640 + i)))
-    ∙ ap (λ xs. first ++ (second ++ (joined (places 320 (λ i. g (640 + i))) ++ xs))) (joined_same 320 (λ i. g (640 + (320 + i))) (λ i. g (960 + i)) (λ i h. ap g (omega arith)))
+    ∙ ap (λ xs. first ++ (second ++ (joined (places 320 (λ i. g (640 + i))) ++ xs))) (grind arith)
 
 -- what `count` blocks list of n units in a half: f k i by block k of unit i, which has rank base + i
 -- among the `width` ranks from `low` on
@@ -106,7 +106,7 @@ module _ {X : Type 0} (rank : X → ℕ) (count : ℕ) where
         → joined (places 320 (λ i. merged_at (low + i))) ≡ all_home p
     of_part low p alone =
         joined_same 320 (λ i. merged_at (low + i)) (λ i. joined (places count (λ k. of_rank rank (low + i) (all_by p k))))
-        (λ i h. joined_same count (λ k. of_rank rank (low + i) (listed k)) (λ k. of_rank rank (low + i) (all_by p k)) (λ k within. alone (low + i) k within (omega arith) (omega arith)))
+        (grind (arith, joined_same))
         ∙ merged_part low 320 p
 
     pub merged_four : joined (places 1280 merged_at) ≡ all_home a ++ (all_home b ++ (all_home c ++ all_home d))

@@ -1,7 +1,6 @@
 -- Messages that lead from one block to a unit in another go there, and nothing else changes.
-use Rattle.std.proofs.Common.{◌≡◌, ◌≢◌, ℕ, ◌+◌, ◌*◌, ◌^◌, ◌<◌, ◌≤◌, List, Option, Some, None, Bool, true, false, length, set, refl, sym, ◌∙◌, ap, subst, inl, inr, get_or-set_same, get_or-set_other, arith}
+use Rattle.std.proofs.Common.{◌≡◌, ◌≢◌, ℕ, ◌+◌, ◌*◌, ◌^◌, ◌<◌, ◌≤◌, List, Option, Some, None, Bool, true, false, length, set, refl, sym, ◌∙◌, ap, subst, get_or-set_same, get_or-set_other, arith}
 use Rattle.std.specs.Prelude.{◌⊎◌, ◌==◌}
-use Rattle.std.proofs.lemmas.Bool.{eqb-true}
 use Rattle.std.proofs.lemmas.List.{length-set, length-map}
 use Rattle.ultra_switch.specs.declared.Ports.{Ports}
 use Rattle.ultra_units.specs.Numbers.{unit_count}
@@ -98,8 +97,8 @@ module _ (kind : Kind) where
     still_none : (j l : ℕ) → (j ≡ h → (l ≢ p.zero) × (l ≢ p.one)) → p.zero < length (was h) → p.one < length (was h) → on_link (was j) l ≡ None → on_link (table kind (block_at after j)) l ≡ None
     still_none j l away zero_small one_small none =
         all_after (λ i b. (i ≡ h → (l ≢ p.zero) × (l ≢ p.one)) → on_link (was i) l ≡ None → on_link (table kind b) l ≡ None)
-        (λ _ empty. ap (λ t. on_link t l) given ∙ elim (fewer_both (was k) p.zero p.one l) [ inl same ↦ same ∙ empty | inr less ↦ less ])
-        (λ other empty. ap (λ t. on_link t l) taken ∙ columns.at_other (was k) (was h) p zero_small one_small l (other refl).0 (other refl).1 ∙ empty)
+        (grind (arith, given, fewer_both))
+        (grind (arith, taken, columns.at_other))
         (λ i _ empty. empty) j away none
 
   module _ (d : ℕ) (low : 1 ≤ d) (high : d ≤ 6) (partition : List ℕ) where
@@ -119,11 +118,7 @@ module _ (kind : Kind) where
 
       -- a link that leads to a unit of another home is no inlet of this one
       no_inlet : (j m l : ℕ) → home partition m ≢ j → reader kind d l ≡ m → j ≡ home partition n → (l ≢ p.zero) × (l ≢ p.one)
-      no_inlet j m l elsewhere leads there =
-          let it = lead_here kind d low high n p is in (
-            λ e. elsewhere (ap (home partition) (sym leads ∙ ap (reader kind d) e ∙ it.zero_reader) ∙ sym there),
-            λ e. elsewhere (ap (home partition) (sym leads ∙ ap (reader kind d) e ∙ it.one_reader) ∙ sym there),
-          )
+      no_inlet j m l elsewhere leads there = let it = lead_here kind d low high n p is in grind arith
 
       kept_at : (j m : ℕ) (o : Option (Ports ℕ)) → inlets kind d m ≡ o → home partition m ≢ j → AreEmpty (table kind (block_at bs j)) o
           → AreEmpty (table kind (block_at (carried kind k (home partition n) p bs) j)) o
@@ -136,21 +131,21 @@ module _ (kind : Kind) where
 
       carried_step : AreSingle kind bs → Step k n bs (carried kind k (home partition n) p bs)
       carried_step single = record {
-        only = only_moved bs k (home partition n) p apart k_within h_within zero_small one_small single;
-        gone = λ elsewhere. subst (λ o. AreEmpty (table kind (block_at (carried kind k (home partition n) p bs) k)) o) (sym is) (gone_here bs k (home partition n) p apart k_within h_within);
-        kept = λ j m none elsewhere. kept_at j m (inlets kind d m) refl elsewhere (none elsewhere);
+        only = search (arith, only_moved, zero_small, one_small);
+        gone = grind (arith, gone_here);
+        kept = grind (arith, kept_at);
       }
 
     module _ (bs : List BlockState) (k n : ℕ) (single : AreSingle kind bs) (k_within : k < length bs) (h_within : home partition n < length bs)
         (links : home partition n ≢ k → (p : Ports ℕ) → inlets kind d n ≡ Some p → length (table kind (block_at bs (home partition n))) ≡ (d + 1) * 2 ^ d) where
       by_inlets : (o : Option (Ports ℕ)) → inlets kind d n ≡ o → home partition n ≢ k
           → Step k n bs (elim o [ None ↦ bs | Some p ↦ carried kind k (home partition n) p bs ])
-      by_inlets None is apart = record { only = nothing_moved bs single; gone = λ elsewhere. subst (λ o. AreEmpty (table kind (block_at bs k)) o) (sym is) tt; kept = λ j m was. was }
-      by_inlets (Some p) is apart = carried_step bs k n p is apart k_within h_within (links apart p is) single
+      by_inlets None is apart = grind (arith, nothing_moved)
+      by_inlets (Some p) is apart = search (arith, carried_step)
 
       by_home : (b : Bool) → (home partition n == k) ≡ b
           → Step k n bs (elim b [ true ↦ bs | false ↦ elim (inlets kind d n) [ None ↦ bs | Some p ↦ carried kind k (home partition n) p bs ] ])
-      by_home true same = record { only = nothing_moved bs single; gone = λ elsewhere. absurd (elsewhere (eqb-true _ _ same)); kept = λ j m was. was }
+      by_home true same = grind (arith, nothing_moved)
       by_home false same = by_inlets (inlets kind d n) refl (differs (home partition n) k same)
 
       pub moved_step : (now : List BlockState) → now ≡ moved kind d k (home partition n) n bs → Step k n bs now

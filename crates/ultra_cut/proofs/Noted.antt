@@ -1,5 +1,5 @@
 -- What blocks note one after another: of a unit without room, once its home has.
-use Rattle.std.proofs.Common.{◌≡◌, ◌≢◌, ℕ, ◌+◌, ◌^◌, ◌<◌, List, Bool, true, false, Option, length, sym, ◌∙◌, ap, subst, arith}
+use Rattle.std.proofs.Common.{◌≡◌, ℕ, ◌+◌, ◌^◌, ◌<◌, List, Bool, Option, length, sym, subst, arith}
 use Rattle.std.specs.Prelude.{◌&&◌, ◌||◌, is_some, nat_lt, not}
 use Rattle.ultra_mem.specs.Serve.{Bank}
 use Rattle.ultra_model.specs.Machine.{is_nothing}
@@ -12,9 +12,8 @@ use Rattle.ultra_section.specs.Sets.{if_here}
 use Rattle.ultra_section.specs.declared.rooms.Rooms.{Rooms}
 use Rattle.ultra_course.specs.Ports.{at_port}
 use Rattle.ultra_course.specs.Frame.{AreRooms, Frame}
-use Rattle.ultra_cut.specs.Cut.{IsCut, block_at, frame_of, given, home}
+use Rattle.ultra_cut.specs.Cut.{IsCut, block_at, frame_of, home}
 use Rattle.ultra_cut.specs.Halves.{noted}
-use Rattle.ultra_cut.proofs.Numbers.{equal, not_equal}
 use Rattle.ultra_cut.proofs.Units.{Sort, modules, stands_at, switches, unit}
 
 -- ---- tests
@@ -24,17 +23,6 @@ not_twice b = grind arith
 
 not_some : {X : Type 0} (o : Option X) → not (is_some o) ≡ is_nothing o
 not_some o = grind arith
-
-if_stands : {X : Type 0} (p : X → Bool) (nothing : X) (o : Option X) → is_some o ≡ true → if_here p o ≡ p (given nothing o)
-if_stands p nothing o some = grind arith
-
-if_elsewhere : {X : Type 0} (p : X → Bool) (o : Option X) → is_some o ≡ false → if_here p o ≡ false
-if_elsewhere p o none = grind arith
-
--- what is noted of a unit by block i, where the first blocks, fewer than i, have noted it or not
-pub next_is : (h i : ℕ) (was now here p : Bool) → was ≡ (nat_lt h i && p) → now ≡ (was || here) → (h ≡ i → here ≡ p)
-    → (h ≢ i → here ≡ false) → now ≡ (nat_lt h (i + 1) && p)
-next_is h i was now here p before is own other = grind arith
 
 module _ (d : ℕ) (partition : List ℕ) (bs : List BlockState) where
   abbrev frame : Frame
@@ -68,9 +56,7 @@ module _ (d : ℕ) (partition : List ℕ) (bs : List BlockState) where
           → now ≡ (was || if_here p (sort.at (block_at bs i) u)) → now ≡ (nat_lt (home partition n) (i + 1) && p own)
       next_unit p i within was now before is =
           let stands = stands_at sort d partition bs cut u h i within in
-          next_is (home partition n) i was now (if_here p (sort.at (block_at bs i) u)) (p own) before is
-          (λ same. if_stands p sort.nothing (sort.at (block_at bs i) u) (stands ∙ equal _ _ same) ∙ ap (λ k. p (given sort.nothing (sort.at (block_at bs k) u))) (sym same))
-          (λ apart. if_elsewhere p (sort.at (block_at bs i) u) (stands ∙ not_equal _ _ apart))
+          search arith
 
     -- block i notes its own
     module _ (i : ℕ) (within : i < length bs) (old now : Rooms) (before : HaveNoted i old) (notes : HasNoted (block_at bs i) old now) where

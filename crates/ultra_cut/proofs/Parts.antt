@@ -6,12 +6,12 @@ use Rattle.ultra_msg.specs.declared.ReplyMessage.{ReplyMessage}
 use Rattle.ultra_msg.specs.declared.Event.{Event}
 use Rattle.ultra_switch.specs.declared.Ports.{Ports}
 use Rattle.ultra_switch.specs.declared.Switch.{Switch}
-use Rattle.ultra_switch.specs.Arrive.{Lane, Combination, combine_within, arrive}
+use Rattle.ultra_switch.specs.Arrive.{Lane, arrive}
 use Rattle.ultra_mem.specs.Serve.{Bank, served}
 use Rattle.ultra_isa.specs.declared.Instr.{Instr}
 use Rattle.ultra_model.specs.declared.Stop.{Stop}
 use Rattle.ultra_model.specs.Places.{joined, places, present}
-use Rattle.ultra_model.specs.Phases.{delivery, serving, combination, combinations, issue_event, stop_of}
+use Rattle.ultra_model.specs.Phases.{delivery, serving, combinations, issue_event, stop_of}
 use Rattle.ultra_model.proofs.Each.{each-append}
 use Rattle.ultra_units.specs.Numbers.{switch_number, switch_count, unit_count, element_number}
 use Rattle.ultra_halves.specs.Switches.{combinations_of}
@@ -44,14 +44,10 @@ module _ (d : ℕ) where
   pub serving_ranked : (m : ℕ) (o : Option Bank) → HaveRank (event_rank d) (320 + switch_count d + m) (serving_events m o)
   serving_ranked m o = grind arith
 
-  combination_ranked : (i s x : ℕ) (r : Request) (o : Option Combination) → switch_number d s (x / 2) ≡ i → HaveRank (event_rank d) (640 + i) (combination s x r o)
-  combination_ranked i s x r o at = grind arith
-
   each_ranked : (i wait_places s x : ℕ) (l : Lane) (rs : List Request) → switch_number d s (x / 2) ≡ i → HaveRank (event_rank d) (640 + i) (combinations wait_places s x l rs)
   each_ranked i wait_places s x l [] at = tt
   each_ranked i wait_places s x l (r ∷ rs) at =
-      each-append (λ e. event_rank d e ≡ 640 + i) (combination s x r (combine_within wait_places l r)) (combinations wait_places s x (arrive wait_places l r) rs)
-      (combination_ranked i s x r (combine_within wait_places l r) at) (each_ranked i wait_places s x (arrive wait_places l r) rs at)
+      grind (arith, each_ranked i wait_places s x (arrive wait_places l r) rs at)
 
   pub combinations_ranked : (n i s k : ℕ) (o : Option Switch) (came : Ports (Option Request)) → switch_number d s k ≡ i → HaveRank (event_rank d) (640 + i) (combination_events d n s k o came)
   combinations_ranked n i s k o came at = grind (arith, each-append, each_ranked)

@@ -63,5 +63,5 @@ pub quiet_is : (c : Settings) (partition : List ℕ) (bs : List BlockState) → 
 quiet_is c partition bs are n events stops =
     let f = frame_of c.stages partition bs in
     same_truth (list_all quiet_block bs) (is_quiet (whole c f n events stops))
-    (λ q. quiet_if c are.some_stages are.few_stages f n events stops (units_quiet c.stages partition bs are q))
-    (λ q. blocks_quiet c.stages partition bs are (quiet_units c are.some_stages are.few_stages f n events stops q))
+    (grind (arith, quiet_if, units_quiet))
+    (grind (arith, blocks_quiet, quiet_units))

@@ -23,7 +23,7 @@ use Rattle.ultra_halves.specs.declared.elements.ProcessingElement.{ProcessingEle
 use Rattle.ultra_course.specs.Ports.{at_port}
 use Rattle.ultra_course.specs.Frame.{Frame}
 use Rattle.ultra_course.specs.Whole.{sized_lane, sized_replies, whole}
-use Rattle.ultra_course.proofs.Numbers.{at_even, at_odd, each_number}
+use Rattle.ultra_course.proofs.Numbers.{each_number}
 
 -- ---- tests
 pub both_true : (a b : Bool) → a ≡ true → b ≡ true → (a && b) ≡ true
@@ -53,12 +53,12 @@ module _ {X : Type 0} (t : X → Bool) (n : ℕ) (f : ℕ → X) where
   all_places : ((k : ℕ) → k < n → t (f k) ≡ true) → list_all t (places n f) ≡ true
   all_places h =
       all_if t (f 0) (places n f)
-      (λ i l. let long = length-places n f in let small : i < n = omega (arith, l, long) in subst (λ x. t x ≡ true) (sym (places_at n f i (f 0) small)) (h i small))
+      (grind (arith, length-places, places_at))
 
   at_place : list_all t (places n f) ≡ true → (k : ℕ) → k < n → t (f k) ≡ true
   at_place h k l =
       let long = length-places n f in
-      subst (λ x. t x ≡ true) (places_at n f k (f 0) l) (all_at t (f 0) (places n f) k (omega (arith, l, long)) h)
+      subst (λ x. t x ≡ true) (places_at n f k (f 0) l) (grind (arith, all_at))
 
 -- ---- units by their numbers
 pub record AreQuiet (d : ℕ) (f : Frame) : Type 0 where
@@ -122,10 +122,10 @@ module _ (c : Settings) (low : 1 ≤ c.stages) (high : c.stages ≤ 6) (f : Fram
             let even : 2 * k < size c = omega (arith, two, hk) in
             let odd : 2 * k + 1 < size c = omega (arith, two, hk) in
             switch_if (f.switch (switch_number c.stages s k))
-            (sym (at_even (λ k j. idle (at_port (f.switch (switch_number c.stages s k)).to_mm j).lane) k) ∙ lane s (2 * k) hs even)
-            (sym (at_odd (λ k j. idle (at_port (f.switch (switch_number c.stages s k)).to_mm j).lane) k) ∙ lane s (2 * k + 1) hs odd)
-            (sym (at_even (λ k j. is_empty (at_port (f.switch (switch_number c.stages s k)).to_pe j).replies) k) ∙ queue s (2 * k) hs even)
-            (sym (at_odd (λ k j. is_empty (at_port (f.switch (switch_number c.stages s k)).to_pe j).replies) k) ∙ queue s (2 * k + 1) hs odd));
-        banks = λ k hk. at_place quiet_bank (size c) (λ k. f.bank k) (right_true (lanes_idle && replies_gone) banks_idle first) k hk;
-        elements = λ p hp. element_is (f.element p) ∙ at_place stopped (size c) (λ p. element_of (f.element p)) (right_true (lanes_idle && replies_gone && banks_idle) elements_stopped q) p hp;
+            (sym (grind arith) ∙ lane s (2 * k) hs even)
+            (sym (grind arith) ∙ lane s (2 * k + 1) hs odd)
+            (sym (grind arith) ∙ queue s (2 * k) hs even)
+            (sym (grind arith) ∙ queue s (2 * k + 1) hs odd));
+        banks = λ k hk. at_place quiet_bank (size c) (λ k. f.bank k) (grind arith) k hk;
+        elements = λ p hp. element_is (f.element p) ∙ at_place stopped (size c) (λ p. element_of (f.element p)) (grind arith) p hp;
       }

@@ -1,11 +1,11 @@
 -- What several blocks list, merged by rank.
-use Rattle.std.proofs.Common.{◌≡◌, ◌≢◌, ℕ, zero, suc, ◌+◌, ◌<◌, List, [], ◌∷◌, ◌++◌, refl, sym, ◌∙◌, ap, subst, inl, inr, arith, append-nil}
+use Rattle.std.proofs.Common.{◌≡◌, ◌≢◌, ℕ, zero, suc, ◌+◌, ◌<◌, List, [], ◌∷◌, ◌++◌, refl, ◌∙◌, ap, inl, inr, arith, append-nil}
 use Rattle.std.specs.Prelude.{◌==◌}
 use Rattle.std.specs.List.{filter, AllByRecursion}
 use Rattle.std.proofs.lemmas.Bool.{cases_eq}
 use Rattle.std.proofs.lemmas.List.Elements.{filter-append}
 use Rattle.ultra_model.specs.Places.{places, joined}
-use Rattle.ultra_cut.proofs.Numbers.{equal, not_equal}
+use Rattle.ultra_cut.proofs.Numbers.{equal}
 use Rattle.ultra_cut.proofs.Joined.{joined_none, joined_next, joined_same, joined_nothing, joined_only, joined_window}
 
 module _ {X : Type 0} (rank : X → ℕ) where
@@ -22,7 +22,7 @@ module _ {X : Type 0} (rank : X → ℕ) where
 
   none_picked : (q r : ℕ) (xs : List X) → q ≢ r → HaveRank q xs → of_rank r xs ≡ []
   none_picked q r [] other h = refl
-  none_picked q r (x ∷ xs) other h = rw (not_equal (rank x) r (λ e. other (sym h.0 ∙ e))) (none_picked q r xs other h.1)
+  none_picked q r (x ∷ xs) other h = grind (arith, none_picked q r xs other h.1)
 
   -- of n lists, the entries of list i have rank base + i
   abbrev pub AreRanked : ℕ → ℕ → (ℕ → List X) → Type 0
@@ -46,7 +46,7 @@ module _ {X : Type 0} (rank : X → ℕ) where
       ∙ elim (cases_eq n i) [
         | inl same ↦
             ap (λ xs. xs ++ of_rank r (f n)) (passed_over base n r f lower (λ j h e. absurd (omega arith)))
-            ∙ all_picked r (f n) (subst (λ j. HaveRank (base + j) (f n)) same (ranked n (omega arith)))
+            ∙ all_picked r (f n) (grind arith)
             ∙ ap f same
         | inr other ↦
             ap (λ xs. of_rank r (joined (places n f)) ++ xs) (none_picked (base + n) r (f n) (λ e. other (omega arith)) (ranked n (omega arith)))
@@ -78,14 +78,14 @@ module _ {X : Type 0} (rank : X → ℕ) where
 
     one_at : (i : ℕ) → i < n → merged_at (base + i) ≡ f (home i) i
     one_at i h =
-        joined_same count (λ k. of_rank (base + i) (listed_by k)) (λ k. f k i) (λ k within. picked base n i (f k) (part.ranked k within) h)
+        joined_same count (λ k. of_rank (base + i) (listed_by k)) (λ k. f k i) (grind (arith, picked))
         ∙ joined_only count (home i) (λ k. f k i) (part.homes i h) (λ k within other. part.elsewhere k i within h other)
 
     -- by the ranks from `low` on
     pub merged : (low before after : ℕ) → low + before ≡ base → joined (places (before + (n + after)) (λ i. merged_at (low + i))) ≡ joined (places n (λ i. f (home i) i))
     merged low before after at =
         joined_window before n after (λ i. merged_at (low + i))
-        (λ i h. nothing_at (low + i) (λ j within e. absurd (omega arith)))
-        (λ i h. nothing_at (low + (before + (n + i))) (λ j within e. absurd (omega arith)))
+        (grind (arith, nothing_at))
+        (grind (arith, nothing_at))
         ∙ joined_same n (λ i. merged_at (low + (before + i))) (λ i. f (home i) i)
         (λ i h. let number : low + (before + i) ≡ base + i = omega arith in ap merged_at number ∙ one_at i h)

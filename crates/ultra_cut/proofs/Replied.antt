@@ -1,5 +1,5 @@
 -- The first half of a cycle: replies leave, are exchanged and taken, and memory serves.
-use Rattle.std.proofs.Common.{◌≡◌, ℕ, ◌+◌, ◌^◌, ◌<◌, ◌≤◌, List, [], ◌++◌, length, sym, ◌∙◌, ap, subst, arith}
+use Rattle.std.proofs.Common.{◌≡◌, ℕ, ◌+◌, ◌^◌, ◌<◌, ◌≤◌, List, [], ◌++◌, length, ◌∙◌, ap, subst, arith}
 use Rattle.ultra_msg.specs.declared.Event.{Event}
 use Rattle.ultra_isa.specs.declared.Instr.{Instr}
 use Rattle.ultra_model.specs.declared.Stop.{Stop}
@@ -54,18 +54,18 @@ module _ (c : Settings) (partition : List ℕ) (n : ℕ) (events : List Event) (
     there_blocks = still_blocks d start.blocks.some_stages start.blocks.few_stages partition sent there only are_sent.frame.blocks.blocks
 
     there_done : OfEach (λ b. b.done ≡ n) there
-    there_done = same_value sent there only.count (λ b. b.done) n (λ k h. ap (λ (b : BlockState). b.done) (only.rest k))
+    there_done = same_value sent there only.count (λ b. b.done) n (grind arith)
         (λ k h. done_after d partition 0 n bs sent are_sent.frame.blocks start.done k h ∙ omega arith)
 
     there_runs : OfEach (λ b. b.program ≡ program) there
-    there_runs = same_value sent there only.count (λ b. b.program) program (λ k h. ap (λ (b : BlockState). b.program) (only.rest k))
+    there_runs = same_value sent there only.count (λ b. b.program) program (grind arith)
         (runs_after d partition 0 program bs sent are_sent.frame.blocks start.runs)
 
     there_silent : OfEach (λ b. length b.events ≤ 0) there
     there_silent k h =
         let within : k < length sent = subst (λ x. k < x) only.count h in
         let none : (block_at there k).events ≡ [] = ap (λ (b : BlockState). b.events) (only.rest k) ∙ (are_sent.nothing k within).events in
-        subst (λ es. length es ≤ 0) (sym none) (omega arith)
+        grind arith
 
     pub there_stops : OfEach (λ b. b.stops ≡ []) there
     there_stops = same_value sent there only.count (λ b. b.stops) [] (λ k h. ap (λ (b : BlockState). b.stops) (only.rest k)) (λ k h. (are_sent.nothing k h).stops)

@@ -1,6 +1,5 @@
 -- The half in which replies leave: the blocks become the machine after it.
 use Rattle.std.proofs.Common.{◌≡◌, ℕ, ◌^◌, ◌<◌, ◌≤◌, List, Option, length, refl, ◌∙◌, ap, arith}
-use Rattle.std.specs.Prelude.{is_some}
 use Rattle.ultra_msg.specs.declared.ReplyMessage.{ReplyMessage}
 use Rattle.ultra_switch.specs.declared.Switch.{Switch}
 use Rattle.ultra_switch.specs.declared.Ports.{Ports}
@@ -11,7 +10,7 @@ use Rattle.ultra_section.specs.declared.half.Half.TheVariants.{SendReplies}
 use Rattle.ultra_section.specs.declared.rooms.Rooms.{Rooms as BlockRooms}
 use Rattle.ultra_section.specs.Units.{stage_of, index_of}
 use Rattle.ultra_section.specs.Marks.{on_link, on_both}
-use Rattle.ultra_section.specs.BlockState.{BlockState, switch_at, module_at, element_at}
+use Rattle.ultra_section.specs.BlockState.{BlockState, switch_at, module_at}
 use Rattle.ultra_section.specs.RepliesSent.{begun, reply_sent_by, replies_sent_by}
 use Rattle.ultra_section.specs.Shape.{IsShaped}
 use Rattle.ultra_section.specs.Making.{made}
@@ -23,7 +22,7 @@ use Rattle.ultra_cut.specs.declared.kind.Kind.TheVariants.{Replies}
 use Rattle.ultra_cut.specs.Cut.{block_at, first, frame_of, home}
 use Rattle.ultra_cut.specs.Halves.{AreBlocks, HasNoReplies, all_made, noted}
 use Rattle.ultra_cut.specs.ReplyLaws.{AreRepliesSent, IsSilent, RepliesSentLaw}
-use Rattle.ultra_cut.proofs.Changed.{HasSameUnits, blocks_after, each_changed, links_away, links_home, no_more, still_there, unit_after, unit_same, unit_small}
+use Rattle.ultra_cut.proofs.Changed.{HasSameUnits, blocks_after, each_changed, links_away, links_home, no_more, unit_after, unit_same, unit_small}
 use Rattle.ultra_cut.proofs.ReplyColumns.{same_column}
 use Rattle.ultra_cut.proofs.Sending.{PutBehind, PutOnBoth, sent_now, single_now}
 use Rattle.ultra_cut.proofs.Units.{elements, home_small, modules, switches}
@@ -102,9 +101,9 @@ module _ (d : ℕ) (partition : List ℕ) (bs : List BlockState) (rooms : BlockR
     shape = sent_shaped k within;
     done = kept (λ t. t.done) (λ n s k t w. refl) (λ m t x. refl) k within ∙ no_more (block_at bs k).done;
     program = kept (λ t. t.program) (λ n s k t w. refl) (λ m t x. refl) k within;
-    switches = λ n h. still_there switches d partition bs blocks.cut send n h (on n h) (step n h) (acts n h) (λ l. refl) (λ w l. refl) k within;
-    modules = λ m h. still_there modules d partition bs blocks.cut send m h (on_end m h) (step_end m h) (acts_end m h) (λ l. refl) (λ x l. refl) k within;
-    elements = λ p h. ap (λ es. is_some (element_at es p)) (kept_elements k within);
+    switches = grind (arith, acts);
+    modules = grind (arith, acts_end);
+    elements = grind (arith, kept_elements);
   }
 
   are_sent : AreRepliesSent d partition rooms bs now
@@ -114,7 +113,7 @@ module _ (d : ℕ) (partition : List ℕ) (bs : List BlockState) (rooms : BlockR
       frame = record {
         switches = λ n h. unit_after switches d partition bs blocks.cut send n h (on n h) (step n h) (acts n h);
         banks = λ m h. unit_after modules d partition bs blocks.cut send m h (on_end m h) (step_end m h) (acts_end m h);
-        elements = λ p h. unit_same elements d partition bs blocks.cut send p h (λ k within. ap (λ es. element_at es p) (kept_elements k within));
+        elements = λ p h. unit_same elements d partition bs blocks.cut send p h (grind (arith, kept_elements));
         replies = sent_now Replies d partition bs blocks send (λ k within. (sent_shaped k within).replies) clear (replies_from d (noted d rooms) f) (reply_from d (noted d rooms) f)
             (λ m. home partition (module_number d m)) put_on_both put_behind;
         requests = λ l h. ap first (same_column send bs (λ b. on_link b.requests l) (kept (λ t. on_link t.requests l) (λ n s k t w. refl) (λ m t x. refl)));

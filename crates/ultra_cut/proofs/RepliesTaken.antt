@@ -1,6 +1,5 @@
 -- The half in which replies are taken: the blocks become the machine after it.
-use Rattle.std.proofs.Common.{◌≡◌, ℕ, ◌+◌, ◌^◌, ◌<◌, ◌≤◌, List, Option, None, length, length-append, refl, sym, ◌∙◌, ap, subst, arith}
-use Rattle.std.specs.Prelude.{is_some}
+use Rattle.std.proofs.Common.{◌≡◌, ℕ, ◌+◌, ◌^◌, ◌<◌, ◌≤◌, List, Option, None, length, length-append, refl, sym, ◌∙◌, ap, arith}
 use Rattle.ultra_msg.specs.declared.ReplyMessage.{ReplyMessage}
 use Rattle.ultra_switch.specs.declared.Switch.{Switch}
 use Rattle.ultra_switch.specs.declared.Ports.{Ports}
@@ -14,11 +13,10 @@ use Rattle.ultra_section.specs.declared.half.Half.TheVariants.{TakeReplies}
 use Rattle.ultra_section.specs.declared.rooms.Rooms.{Rooms as BlockRooms}
 use Rattle.ultra_section.specs.Units.{unit_of, stage_of, index_of}
 use Rattle.ultra_section.specs.Marks.{on_both, on_link}
-use Rattle.ultra_section.specs.BlockState.{BlockState, switch_at, module_at, element_at}
+use Rattle.ultra_section.specs.BlockState.{BlockState, switch_at, element_at}
 use Rattle.ultra_section.specs.RepliesTaken.{replies_taken_by, reply_taken_by}
 use Rattle.ultra_section.specs.Making.{made}
 use Rattle.ultra_section.proofs.Few.{few_entries}
-use Rattle.ultra_section.proofs.Once.{entries_before}
 use Rattle.ultra_section.proofs.RepliesTakenOnce.{after_taking_element, after_taking_switch, element_after_taking, events_after_taking, kept_by_taking, shape_after_taking, switch_after_taking, entries_of}
 use Rattle.ultra_course.specs.Frame.{Frame}
 use Rattle.ultra_cut.specs.declared.kind.Kind.TheVariants.{Replies}
@@ -26,7 +24,7 @@ use Rattle.ultra_cut.specs.Cut.{block_at, first, frame_of}
 use Rattle.ultra_cut.specs.Exchange.{AreRepliesThere}
 use Rattle.ultra_cut.specs.Halves.{AreBlocks, all_made}
 use Rattle.ultra_cut.specs.ReplyLaws.{AreRepliesTaken, RepliesTakenLaw}
-use Rattle.ultra_cut.proofs.Changed.{HasSameUnits, blocks_after, links_empty, no_more, still_there, unit_after, unit_same, unit_small}
+use Rattle.ultra_cut.proofs.Changed.{HasSameUnits, blocks_after, links_empty, no_more, unit_after, unit_same, unit_small}
 use Rattle.ultra_cut.proofs.FewEvents.{few_by_replies}
 use Rattle.ultra_cut.proofs.Inlets.{end_link, end_link_small, links}
 use Rattle.ultra_cut.proofs.ReplyColumns.{changed_at, same_column}
@@ -64,8 +62,7 @@ module _ (d : ℕ) (partition : List ℕ) (bs : List BlockState) (rooms : BlockR
       let b = block_at bs k in
       let few = few_entries (λ n t. entries_of d low high t (unit_of d n)) b 2 (few_by_replies d low high b) 320 in
       let all = ap length (events_after_taking d low high b (blocks.shaped k within)) in
-      let sum = length-append b.events (entries_before (λ n t. entries_of d low high t (unit_of d n)) 320 b) in
-      omega arith
+      grind (arith, length-append)
 
   -- ---- switch n, and what is on its two links
   module _ (n : ℕ) (h : n < switch_count d) where
@@ -101,9 +98,9 @@ module _ (d : ℕ) (partition : List ℕ) (bs : List BlockState) (rooms : BlockR
     shape = shape_after_taking d low high (block_at bs k) (blocks.shaped k within);
     done = kept (λ t. t.done) (λ n s k t w. refl) (λ i t x. refl) k within ∙ no_more (block_at bs k).done;
     program = kept (λ t. t.program) (λ n s k t w. refl) (λ i t x. refl) k within;
-    switches = λ n h. still_there switches d partition bs blocks.cut take n h (on n h) (step n h) (acts n h) (λ l. refl) (λ w l. refl) k within;
-    elements = λ p h. still_there elements d partition bs blocks.cut take p h (on_end p h) (step_end p h) (acts_end p h) (λ l. refl) (λ x l. refl) k within;
-    modules = λ i h. ap (λ xs. is_some (module_at xs i)) (kept_modules k within);
+    switches = grind (arith, acts);
+    elements = grind (arith, acts_end);
+    modules = grind (arith, kept_modules);
   }
 
   are_taken : AreRepliesTaken d partition bs now
@@ -117,12 +114,12 @@ module _ (d : ℕ) (partition : List ℕ) (bs : List BlockState) (rooms : BlockR
         elements = λ p h.
             unit_after elements d partition bs blocks.cut take p h (on_end p h) (step_end p h) (acts_end p h)
             ∙ ap (delivered_to (f.element p)) (sym (end_there Replies d partition bs blocks.cut there p h));
-        banks = λ i h. unit_same modules d partition bs blocks.cut take i h (λ k within. ap (λ xs. module_at xs i) (kept_modules k within));
+        banks = λ i h. unit_same modules d partition bs blocks.cut take i h (grind (arith, kept_modules));
         replies = taken_now Replies d partition bs blocks take empty end_empty;
         requests = λ l h. ap first (same_column take bs (λ b. on_link b.requests l) (kept (λ t. on_link t.requests l) (λ n s k t w. refl) (λ i t x. refl)));
       };
     };
-    events = λ k within. subst (λ (b : BlockState). length b.events ≤ length (block_at bs k).events + 640) (sym (changed_at take bs k within)) (few_events k within);
+    events = grind (arith, changed_at, few_events);
     stops = λ k within. ap (λ (b : BlockState). b.stops) (changed_at take bs k within) ∙ kept (λ t. t.stops) (λ n s k t w. refl) (λ i t x. refl) k within;
   }
 

@@ -64,10 +64,7 @@ module _ {X : Type 0} (g : BlockState → Option X) (bs : List BlockState) where
 pub same_entries : {X : Type 0} (g : BlockState → Option X) (old now : List BlockState) → length now ≡ length old → ((k : ℕ) → k < length old → g (block_at now k) ≡ g (block_at old k))
     → map g now ≡ map g old
 same_entries g old now count same =
-    ext_get_or None (map g now) (map g old) (length-map now g ∙ count ∙ sym (length-map old g)) (λ i within.
-    let inside : i < length now = subst (λ n. i < n) (length-map now g) within in
-    let small : i < length old = subst (λ n. i < n) count inside in
-    column_at g now i inside ∙ same i small ∙ sym (column_at g old i small))
+    ext_get_or None (map g now) (map g old) (length-map now g ∙ count ∙ sym (length-map old g)) (grind (arith, length-map, column_at))
 
 -- the blocks after something was done to each
 module _ (f : BlockState → BlockState) (bs : List BlockState) where

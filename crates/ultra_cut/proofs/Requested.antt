@@ -1,5 +1,5 @@
 -- The second half of a cycle: requests leave, are exchanged and taken, and processors make a step.
-use Rattle.std.proofs.Common.{◌≡◌, ℕ, ◌+◌, ◌^◌, ◌<◌, ◌≤◌, List, [], ◌++◌, length, sym, ◌∙◌, ap, subst, arith}
+use Rattle.std.proofs.Common.{◌≡◌, ℕ, ◌+◌, ◌^◌, ◌<◌, ◌≤◌, List, [], ◌++◌, length, sym, ◌∙◌, subst, arith}
 use Rattle.std.specs.Prelude.{◌-◌}
 use Rattle.ultra_msg.specs.declared.Event.{Event}
 use Rattle.ultra_isa.specs.declared.Instr.{Instr}
@@ -58,19 +58,19 @@ module _ (c : Settings) (partition : List ℕ) (n : ℕ) (events : List Event) (
     there_blocks = still_blocks d start.machine.blocks.some_stages start.machine.blocks.few_stages partition sent there only are_sent.frame.blocks.blocks
 
     pub there_done : OfEach (λ b. b.done ≡ n) there
-    there_done = same_value sent there only.count (λ b. b.done) n (λ k h. ap (λ (b : BlockState). b.done) (only.rest k))
+    there_done = same_value sent there only.count (λ b. b.done) n (grind arith)
         (λ k h. done_after d partition 0 n bs sent are_sent.frame.blocks start.machine.done k h ∙ omega arith)
 
     there_runs : OfEach (λ b. b.program ≡ program) there
-    there_runs = same_value sent there only.count (λ b. b.program) program (λ k h. ap (λ (b : BlockState). b.program) (only.rest k))
+    there_runs = same_value sent there only.count (λ b. b.program) program (grind arith)
         (runs_after d partition 0 program bs sent are_sent.frame.blocks start.machine.runs)
 
     there_few : OfEach (λ b. length b.events ≤ 1280) there
-    there_few = same_events sent there only.count 1280 (λ k h. ap (λ (b : BlockState). b.events) (only.rest k))
+    there_few = same_events sent there only.count 1280 (grind arith)
         (same_events bs sent are_sent.frame.blocks.count 1280 are_sent.events start.few)
 
     there_stops : OfEach (λ b. b.stops ≡ []) there
-    there_stops = same_value sent there only.count (λ b. b.stops) [] (λ k h. ap (λ (b : BlockState). b.stops) (only.rest k))
+    there_stops = same_value sent there only.count (λ b. b.stops) [] (grind arith)
         (same_value bs sent are_sent.frame.blocks.count (λ b. b.stops) [] are_sent.stops start.no_stops)
 
     can_take : CanTakeRequests d (f there)

@@ -1,6 +1,5 @@
 -- The half in which requests leave: the blocks become the machine after it.
 use Rattle.std.proofs.Common.{◌≡◌, ℕ, ◌^◌, ◌<◌, ◌≤◌, List, Option, length, refl, ◌∙◌, ap, arith}
-use Rattle.std.specs.Prelude.{is_some}
 use Rattle.ultra_msg.specs.declared.Request.{Request}
 use Rattle.ultra_switch.specs.declared.Switch.{Switch}
 use Rattle.ultra_switch.specs.declared.Ports.{Ports}
@@ -13,7 +12,7 @@ use Rattle.ultra_section.specs.declared.half.Half.TheVariants.{SendRequests}
 use Rattle.ultra_section.specs.declared.rooms.Rooms.{Rooms as BlockRooms}
 use Rattle.ultra_section.specs.Units.{stage_of, index_of}
 use Rattle.ultra_section.specs.Marks.{on_link, on_both}
-use Rattle.ultra_section.specs.BlockState.{BlockState, switch_at, module_at, element_at}
+use Rattle.ultra_section.specs.BlockState.{BlockState, switch_at, element_at}
 use Rattle.ultra_section.specs.RequestsSent.{request_sent_by, requests_sent_by}
 use Rattle.ultra_section.specs.Shape.{IsShaped}
 use Rattle.ultra_section.specs.Making.{made}
@@ -25,7 +24,7 @@ use Rattle.ultra_cut.specs.declared.kind.Kind.TheVariants.{Requests}
 use Rattle.ultra_cut.specs.Cut.{block_at, first, frame_of, home}
 use Rattle.ultra_cut.specs.Halves.{AreBlocks, HasNoRequests, all_made, noted}
 use Rattle.ultra_cut.specs.RequestLaws.{AreRequestsSent, RequestsSentLaw}
-use Rattle.ultra_cut.proofs.Changed.{HasSameUnits, blocks_after, links_away, links_home, no_more, still_there, unit_after, unit_same, unit_small}
+use Rattle.ultra_cut.proofs.Changed.{HasSameUnits, blocks_after, links_away, links_home, no_more, unit_after, unit_same, unit_small}
 use Rattle.ultra_cut.proofs.ReplyColumns.{changed_at, same_column}
 use Rattle.ultra_cut.proofs.RequestWays.{same_leaving, same_leaving_element}
 use Rattle.ultra_cut.proofs.Sending.{PutBehind, PutOnBoth, put_on_ports, sent_now, single_now}
@@ -76,7 +75,7 @@ module _ (d : ℕ) (partition : List ℕ) (bs : List BlockState) (rooms : BlockR
     put_on_both = record {
       within = home_small switches d partition bs blocks.cut n h;
       here = links_home switches d partition bs blocks.cut send n h on step acts
-          ∙ ap (λ out. put_on_ports out (on (block_at bs (home partition n)))) (same_leaving d rooms (stage_of d n) (index_of d n) (f.switch n));
+          ∙ ap (λ out. put_on_ports out (on (block_at bs (home partition n)))) (grind (arith, same_leaving));
       away = links_away switches d partition bs blocks.cut send n h on step acts;
     }
 
@@ -105,9 +104,9 @@ module _ (d : ℕ) (partition : List ℕ) (bs : List BlockState) (rooms : BlockR
     shape = sent_shaped k within;
     done = kept (λ t. t.done) (λ n s k t w. refl) (λ p t x. refl) k within ∙ no_more (block_at bs k).done;
     program = kept (λ t. t.program) (λ n s k t w. refl) (λ p t x. refl) k within;
-    switches = λ n h. still_there switches d partition bs blocks.cut send n h (on n h) (step n h) (acts n h) (λ l. refl) (λ w l. refl) k within;
-    modules = λ m h. ap (λ ms. is_some (module_at ms m)) (kept_modules k within);
-    elements = λ p h. still_there elements d partition bs blocks.cut send p h (on_end p h) (step_end p h) (acts_end p h) (λ l. refl) (λ x l. refl) k within;
+    switches = grind (arith, acts);
+    modules = grind (arith, kept_modules);
+    elements = grind (arith, acts_end);
   }
 
   are_sent : AreRequestsSent d partition rooms bs now
@@ -117,8 +116,8 @@ module _ (d : ℕ) (partition : List ℕ) (bs : List BlockState) (rooms : BlockR
       frame = record {
         switches = λ n h.
             unit_after switches d partition bs blocks.cut send n h (on n h) (step n h) (acts n h)
-            ∙ ap (without_requests (f.switch n)) (same_leaving d rooms (stage_of d n) (index_of d n) (f.switch n));
-        banks = λ m h. unit_same modules d partition bs blocks.cut send m h (λ k within. ap (λ ms. module_at ms m) (kept_modules k within));
+            ∙ ap (without_requests (f.switch n)) (grind (arith, same_leaving));
+        banks = λ m h. unit_same modules d partition bs blocks.cut send m h (grind (arith, kept_modules));
         elements = λ p h.
             unit_after elements d partition bs blocks.cut send p h (on_end p h) (step_end p h) (acts_end p h)
             ∙ ap (element_without (f.element p)) (same_leaving_element d rooms p (f.element p));

@@ -1,6 +1,5 @@
 -- The half in which requests are taken: the blocks become the machine after it.
-use Rattle.std.proofs.Common.{◌≡◌, ℕ, ◌+◌, ◌^◌, ◌<◌, ◌≤◌, List, Option, None, length, length-append, refl, sym, ◌∙◌, ap, subst, arith}
-use Rattle.std.specs.Prelude.{is_some}
+use Rattle.std.proofs.Common.{◌≡◌, ℕ, ◌+◌, ◌^◌, ◌<◌, ◌≤◌, List, Option, None, length, length-append, refl, sym, ◌∙◌, ap, arith}
 use Rattle.ultra_msg.specs.declared.Request.{Request}
 use Rattle.ultra_switch.specs.declared.Switch.{Switch}
 use Rattle.ultra_switch.specs.declared.Ports.{Ports}
@@ -14,11 +13,10 @@ use Rattle.ultra_section.specs.declared.half.Half.TheVariants.{TakeRequests}
 use Rattle.ultra_section.specs.declared.rooms.Rooms.{Rooms as BlockRooms}
 use Rattle.ultra_section.specs.Units.{unit_of, stage_of, index_of}
 use Rattle.ultra_section.specs.Marks.{on_both, on_link}
-use Rattle.ultra_section.specs.BlockState.{BlockState, switch_at, module_at, element_at}
+use Rattle.ultra_section.specs.BlockState.{BlockState, switch_at, module_at}
 use Rattle.ultra_section.specs.RequestsTaken.{requests_taken_by, request_taken_by}
 use Rattle.ultra_section.specs.Making.{made}
 use Rattle.ultra_section.proofs.Few.{few_entries}
-use Rattle.ultra_section.proofs.Once.{entries_before}
 use Rattle.ultra_section.proofs.RequestsTakenOnce.{InCycle, after_taking_module, after_taking_switch, module_after_taking, events_after_taking, kept_by_taking, shape_after_taking, switch_after_taking, entries_of}
 use Rattle.ultra_course.specs.Frame.{Frame}
 use Rattle.ultra_cut.specs.declared.kind.Kind.TheVariants.{Requests}
@@ -26,7 +24,7 @@ use Rattle.ultra_cut.specs.Cut.{block_at, first, frame_of}
 use Rattle.ultra_cut.specs.Exchange.{AreRequestsThere}
 use Rattle.ultra_cut.specs.Halves.{AreBlocks, OfEach, all_made}
 use Rattle.ultra_cut.specs.RequestLaws.{AreRequestsTaken, RequestsTakenLaw}
-use Rattle.ultra_cut.proofs.Changed.{HasSameUnits, blocks_after, links_empty, no_more, still_there, unit_after, unit_same, unit_small}
+use Rattle.ultra_cut.proofs.Changed.{HasSameUnits, blocks_after, links_empty, unit_after, unit_same, unit_small}
 use Rattle.ultra_cut.proofs.FewEvents.{few_by_requests}
 use Rattle.ultra_cut.proofs.Inlets.{end_link, end_link_small, links}
 use Rattle.ultra_cut.proofs.ReplyColumns.{changed_at, same_column}
@@ -71,8 +69,7 @@ module _ (d : ℕ) (partition : List ℕ) (c : ℕ) (bs : List BlockState) (room
       let b = block_at bs k in
       let few = few_entries (λ n t. entries_of d c low high n t (unit_of d n)) b 2 (few_by_requests d low high b c) 320 in
       let all = ap length (events_after_taking d c low high b (start k within)) in
-      let sum = length-append b.events (entries_before (λ n t. entries_of d c low high n t (unit_of d n)) 320 b) in
-      omega arith
+      grind (arith, length-append)
 
   -- ---- switch n, and what is on its two links
   module _ (n : ℕ) (h : n < switch_count d) where
@@ -106,11 +103,11 @@ module _ (d : ℕ) (partition : List ℕ) (c : ℕ) (bs : List BlockState) (room
   same : (k : ℕ) → k < length bs → HasSameUnits d 0 (block_at bs k) (take (block_at bs k))
   same k within = record {
     shape = (after k within).shape;
-    done = (after k within).done ∙ sym (done k within) ∙ no_more (block_at bs k).done;
+    done = grind (arith, after);
     program = kept (λ t. t.program) (λ n s k t w. refl) (λ i t x. refl) k within;
-    switches = λ n h. still_there switches d partition bs blocks.cut take n h (on n h) (step n h) (acts n h) (λ l. refl) (λ w l. refl) k within;
-    modules = λ m h. still_there modules d partition bs blocks.cut take m h (on_end m h) (step_end m h) (acts_end m h) (λ l. refl) (λ x l. refl) k within;
-    elements = λ i h. ap (λ xs. is_some (element_at xs i)) (kept_elements k within);
+    switches = grind (arith, acts);
+    modules = grind (arith, acts_end);
+    elements = grind (arith, kept_elements);
   }
 
   are_taken : AreRequestsTaken d partition c bs now
@@ -124,12 +121,12 @@ module _ (d : ℕ) (partition : List ℕ) (c : ℕ) (bs : List BlockState) (room
         banks = λ m h.
             unit_after modules d partition bs blocks.cut take m h (on_end m h) (step_end m h) (acts_end m h)
             ∙ ap (bank_with (2 ^ d) (f.bank m)) (sym (end_there Requests d partition bs blocks.cut there m h));
-        elements = λ i h. unit_same elements d partition bs blocks.cut take i h (λ k within. ap (λ xs. element_at xs i) (kept_elements k within));
+        elements = λ i h. unit_same elements d partition bs blocks.cut take i h (grind (arith, kept_elements));
         requests = taken_now Requests d partition bs blocks take empty end_empty;
         replies = λ l h. ap first (same_column take bs (λ b. on_link b.replies l) (kept (λ t. on_link t.replies l) (λ n s k t w. refl) (λ i t x. refl)));
       };
     };
-    events = λ k within. subst (λ (b : BlockState). length b.events ≤ length (block_at bs k).events + 640) (sym (changed_at take bs k within)) (few_events k within);
+    events = grind (arith, changed_at, few_events);
     stops = λ k within. ap (λ (b : BlockState). b.stops) (changed_at take bs k within) ∙ kept (λ t. t.stops) (λ n s k t w. refl) (λ i t x. refl) k within;
   }
 

@@ -1,6 +1,5 @@
 -- What is on links after a half in which messages leave: each link is that of one unit, from which they come.
-use Rattle.std.proofs.Common.{◌≡◌, ◌≢◌, ℕ, ◌+◌, ◌-◌, ◌*◌, ◌/◌, ◌%◌, ◌^◌, ◌<◌, ◌≤◌, List, map, Option, None, length, sym, ◌∙◌, ap, subst, arith, inl, inr, lt-ltb, le-ltb}
-use Rattle.std.specs.Prelude.{nat_lt}
+use Rattle.std.proofs.Common.{◌≡◌, ◌≢◌, ℕ, ◌+◌, ◌-◌, ◌*◌, ◌/◌, ◌%◌, ◌^◌, ◌<◌, ◌≤◌, List, map, Option, None, length, ◌∙◌, ap, subst, arith, inl, inr}
 use Rattle.std.proofs.lemmas.Bool.{cases_lt}
 use Rattle.std.proofs.lemmas.List.{get_or_past, length-map}
 use Rattle.ultra_switch.specs.declared.Ports.{Ports}
@@ -13,7 +12,6 @@ use Rattle.ultra_section.proofs.Standing.{is_switch}
 use Rattle.ultra_section.proofs.Put.{has_places, places_of, places_twice, put_or}
 use Rattle.ultra_course.specs.Ports.{at_port}
 use Rattle.ultra_course.specs.Course.{on_links}
-use Rattle.ultra_course.proofs.Numbers.{pick_false, pick_true}
 use Rattle.ultra_cut.specs.declared.kind.Kind.{Kind}
 use Rattle.ultra_cut.specs.Cut.{block_at, first, home}
 use Rattle.ultra_cut.specs.Exchange.{IsSingle}
@@ -65,14 +63,14 @@ module _ (kind : Kind) (d : ℕ) (partition : List ℕ) (bs : List BlockState) (
 
   alone_sent : (l h : ℕ) (out : Option (Message kind)) → IsAlone l h out → IsSent l out
   alone_sent l h out alone =
-      let within : h < length now = subst (λ n. h < n) (sym (length-map bs send)) alone.within in
+      let within : h < length now = grind (arith, length-map) in
       let away : (k : ℕ) → k < length now → k ≢ h → on_link (table kind (block_at now k)) l ≡ None =
       each_changed d partition bs blocks send (λ k b. k ≢ h → on_link (table kind b) l ≡ None) alone.away in
       record {
         message = column_first (λ b. on_link (table kind b) l) now h within away
             ∙ ap (λ b. on_link (table kind b) l) (changed_at send bs h alone.within)
             ∙ alone.here;
-        single = column_single (λ b. on_link (table kind b) l) now h within away;
+        single = search (arith, column_single);
       }
 
   module _ (long : (k : ℕ) → k < length bs → length (is_on k) ≡ (d + 1) * 2 ^ d) (clear : (l : ℕ) → l < (d + 1) * 2 ^ d → first (on_each kind bs l) ≡ None)
@@ -106,7 +104,7 @@ module _ (kind : Kind) (d : ℕ) (partition : List ℕ) (bs : List BlockState) (
         let is_one : n < switch_count d = omega arith in
         let small : l < (d + 1) * 2 ^ d = grind arith in
         let is : at_port (places n) j ≡ l = port_link n j is_one (omega arith) ∙ omega arith in
-        subst (IsSent l) (sym (pick_true (nat_lt l (d * 2 ^ d)) (at_port (outs n) j) (out (l - d * 2 ^ d)) (lt-ltb l (d * 2 ^ d) h)))
+        subst (IsSent l) (grind arith)
         (alone_sent l (home partition n) (at_port (outs n) j) (switch_alone n j l is_one is small))
 
     sent_by_end : (l : ℕ) → d * 2 ^ d ≤ l → l < (d + 1) * 2 ^ d → IsSent l (on_links d outs out l)
@@ -115,8 +113,8 @@ module _ (kind : Kind) (d : ℕ) (partition : List ℕ) (bs : List BlockState) (
         let row : (d + 1) * 2 ^ d ≡ d * 2 ^ d + 2 ^ d = grind arith in
         let is_one : i < 2 ^ d = omega arith in
         let is : place_number d d i ≡ l = omega arith in
-        subst (IsSent l) (sym (pick_false (nat_lt l (d * 2 ^ d)) (at_port (outs (l / 2)) (l % 2)) (out i) (le-ltb l (d * 2 ^ d) past)))
-        (subst (λ l. IsSent l (out i)) is (alone_sent (place_number d d i) (end_home i) (out i) (end_alone i is_one)))
+        subst (IsSent l) (grind arith)
+        (subst (λ l. IsSent l (out i)) is (search (arith, alone_sent, end_alone)))
 
     sent_on : (l : ℕ) → l < (d + 1) * 2 ^ d → IsSent l (on_links d outs out l)
     sent_on l h = elim (cases_lt l (d * 2 ^ d)) [ inl before ↦ sent_by_switch l before | inr past ↦ sent_by_end l past h ]
@@ -129,5 +127,5 @@ module _ (kind : Kind) (d : ℕ) (partition : List ℕ) (bs : List BlockState) (
       | inl within ↦ (sent_on l within).single
       | inr past ↦ column_empty_single (λ b. on_link (table kind b) l) now
           (each_changed d partition bs blocks send (λ k b. on_link (table kind b) l ≡ None)
-          (λ k within. get_or_past (is_on k) l None (subst (λ n. n ≤ l) (sym (long k within)) past)))
+          (grind (arith, get_or_past)))
     ]

@@ -1,11 +1,11 @@
 -- After every block has served, the blocks are the frame in which each module has.
-use Rattle.std.proofs.Common.{◌≡◌, ℕ, ◌+◌, ◌≤◌, List, Option, Some, None, length, length-append, refl, sym, ◌∙◌, ap, subst, arith}
+use Rattle.std.proofs.Common.{◌≡◌, ℕ, ◌+◌, ◌≤◌, List, Option, Some, None, length, length-append, refl, ◌∙◌, ap, arith}
 use Rattle.ultra_isa.specs.declared.Instr.{Instr}
 use Rattle.ultra_mem.specs.Serve.{Bank, serve}
 use Rattle.ultra_units.specs.Visits.{after_units}
 use Rattle.ultra_section.specs.declared.half.Half.TheVariants.{Serve}
 use Rattle.ultra_section.specs.declared.rooms.Rooms.{Rooms}
-use Rattle.ultra_section.specs.BlockState.{BlockState, module_at, element_at}
+use Rattle.ultra_section.specs.BlockState.{BlockState, element_at}
 use Rattle.ultra_section.specs.Shape.{IsShaped}
 use Rattle.ultra_section.specs.Serving.{serves}
 use Rattle.ultra_section.specs.Making.{made}
@@ -29,12 +29,10 @@ module _ (d : ℕ) (low : 1 ≤ d) (high : d ≤ 6) (b : BlockState) (shape : Is
   has_served : HasWorked d serve (λ e. e) 0 b now
   has_served = record {
     shaped = shape_after_serving d b shape;
-    done = kept_by_serving d (λ t. t.done) (λ m t bank. refl) b shape ∙ (let same : b.done ≡ b.done + 0 = omega arith in same);
+    done = kept_by_serving d (λ t. t.done) (λ m t bank. refl) b shape ∙ (grind arith);
     program = kept_by_serving d (λ t. t.program) (λ m t bank. refl) b shape;
     switches = kept_by_serving d (λ t. t.switches) (λ m t bank. refl) b shape;
-    modules = λ m h.
-        let few = few_units d low high in
-        module_after_serving d b shape m h (omega arith) ∙ same_work (module_at b.modules m);
+    modules = grind (arith, few_units, module_after_serving);
     elements = λ p h. ap (λ es. element_at es p) (kept_by_serving d (λ t. t.elements) (λ m t bank. refl) b shape) ∙ same_worked (element_at b.elements p);
     replies = kept_by_serving d (λ t. t.replies) (λ m t bank. refl) b shape;
     requests = kept_by_serving d (λ t. t.requests) (λ m t bank. refl) b shape;
@@ -47,8 +45,7 @@ module _ (d : ℕ) (low : 1 ≤ d) (high : d ≤ 6) (b : BlockState) (shape : Is
   few_more =
       let more = few_entries (entries d) b 2 few_of_unit 320 in
       let all = length-append b.events (entries_before (entries d) 320 b) in
-      let is : length now.events ≡ length b.events + length (entries_before (entries d) 320 b) = ap (λ es. length es) (events_after_serving d b shape) ∙ all in
-      omega (arith, more, is)
+      grind (arith, events_after_serving)
 
   same_stops : now.stops ≡ b.stops
   same_stops = kept_by_serving d (λ t. t.stops) (λ m t bank. refl) b shape
@@ -60,10 +57,8 @@ module _ (d : ℕ) (partition : List ℕ) (bs : List BlockState) (rooms : Rooms)
   have_served : HaveServed d partition bs (all_made Serve rooms program bs)
   have_served = record {
     frame = have_frame d partition bs are make serve (λ e. e) 0 (λ k h. has_served d are.some_stages are.few_stages (block_at bs k) (are.shaped k h));
-    events = λ k h.
-        subst (λ (b : BlockState). length b.events ≤ length (block_at bs k).events + 640) (sym (changed_at make bs k h))
-        (few_more d are.some_stages are.few_stages (block_at bs k) (are.shaped k h));
-    stops = λ k h. ap (λ (b : BlockState). b.stops) (changed_at make bs k h) ∙ same_stops d are.some_stages are.few_stages (block_at bs k) (are.shaped k h);
+    events = grind (arith, changed_at, few_more);
+    stops = grind (arith, changed_at, same_stops);
   }
 
 pub serve_law : ServeLaw

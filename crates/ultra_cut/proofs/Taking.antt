@@ -1,7 +1,5 @@
 -- What is on links after a half in which messages are taken: nothing, since each link leads to one unit.
-use Rattle.std.proofs.Common.{◌≡◌, ℕ, ◌+◌, ◌*◌, ◌^◌, ◌<◌, List, map, Option, None, length, ◌∙◌, ap, inl, inr, arith}
-use Rattle.std.specs.Prelude.{◌⊎◌}
-use Rattle.ultra_switch.specs.declared.Ports.{Ports}
+use Rattle.std.proofs.Common.{◌≡◌, ℕ, ◌+◌, ◌*◌, ◌^◌, ◌<◌, List, map, None, length, inl, inr, arith}
 use Rattle.ultra_units.specs.Numbers.{switch_count}
 use Rattle.ultra_halves.specs.Halves.{ports}
 use Rattle.ultra_section.specs.Marks.{on_both, on_link}
@@ -14,16 +12,13 @@ use Rattle.ultra_cut.proofs.Changed.{each_changed}
 use Rattle.ultra_cut.proofs.Inlets.{end_link, leads_to, links}
 use Rattle.ultra_cut.proofs.ReplyColumns.{column_empty}
 
-port_empty : {M : Type 0} (t : List (Option M)) (p : Ports ℕ) (l : ℕ) → (l ≡ p.zero) ⊎ (l ≡ p.one) → on_both t p ≡ ports None None → on_link t l ≡ None
-port_empty t p l inlet none = grind arith
-
 module _ (kind : Kind) (d : ℕ) (partition : List ℕ) (bs : List BlockState) (blocks : AreBlocks d partition bs) (take : BlockState → BlockState)
     (switches_empty : (n : ℕ) → n < switch_count d → (k : ℕ) → k < length bs → on_both (table kind (take (block_at bs k))) (links kind d n) ≡ ports None None)
     (ends_empty : (i : ℕ) → i < 2 ^ d → (k : ℕ) → k < length bs → on_link (table kind (take (block_at bs k))) (end_link kind d i) ≡ None) where
   emptied : (l : ℕ) → l < (d + 1) * 2 ^ d → (k : ℕ) → k < length bs → on_link (table kind (take (block_at bs k))) l ≡ None
   emptied l h k within = elim (leads_to kind d blocks.some_stages blocks.few_stages l h) [
-    | inl it ↦ port_empty (table kind (take (block_at bs k))) _ l it.inlet (switches_empty _ it.switch k within)
-    | inr it ↦ ap (on_link (table kind (take (block_at bs k)))) it.inlet ∙ ends_empty _ it.small k within
+    | inl it ↦ grind arith
+    | inr it ↦ grind arith
   ]
 
   pub taken_now : (l : ℕ) → l < (d + 1) * 2 ^ d → first (on_each kind (map take bs) l) ≡ None

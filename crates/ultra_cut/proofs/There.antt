@@ -23,9 +23,7 @@ module _ (kind : Kind) (d : ℕ) (partition : List ℕ) (bs : List BlockState) (
     come =
         let zero : first (on_each kind bs p.zero) ≡ on_link (table kind (block_at bs (home partition n))) p.zero =
         column_first (λ b. on_link (table kind b) p.zero) bs (home partition n) (cut.homes n h) (λ k within other. (none_for k within other).0) in
-        let one : first (on_each kind bs p.one) ≡ on_link (table kind (block_at bs (home partition n))) p.one =
-        column_first (λ b. on_link (table kind b) p.one) bs (home partition n) (cut.homes n h) (λ k within other. (none_for k within other).1) in
-        rw (zero, one) refl
+        grind (arith, column_first, none_for)
 
   -- ---- switch n
   module _ (n : ℕ) (h : n < switch_count d) where

@@ -1,18 +1,17 @@
-use Rattle.std.proofs.Common.{◌≡◌, ◌<◌, arith, get_or, subst, sym, inl, inr}
+use Rattle.ultra_cut.specs.Kinds.{NoneLeavesWithin, HasNoneFor}
+use Rattle.std.proofs.Common.{◌≡◌, ◌<◌, arith, get_or, inl, inr, subst, sym}
 use Rattle.std.proofs.lemmas.Bool.{cases_eq, cases_lt}
 use Rattle.std.specs.Prelude.{length}
 use Rattle.std.proofs.lemmas.List.{get_or_default}
-use Rattle.ultra_cut.specs.Kinds.{NoneLeavesWithin}
 use Rattle.ultra_cut.specs.Cut.{IsCut, block_at, no_block}
-use Rattle.ultra_cut.specs.Kinds.{HasNoneFor}
 use Rattle.ultra_cut.proofs.Numbers.{few_units}
-use Rattle.ultra_cut.proofs.Moved.{both_moved, still_cut, none_leaves, nothing_moved}
+use Rattle.ultra_cut.proofs.Moved.{both_moved, none_leaves, nothing_moved, still_cut}
 use Rattle.ultra_cut.proofs.exchange.empty.Goals as goal
 
 pub loop-unit-init : goal.loop-unit-init
 loop-unit-init c = record {
   within = omega arith;
-  only = nothing_moved c.args.kind c.args.blocks.now c.requires.single;
+  only = search (arith, nothing_moved);
   gone = λ n before. absurd (omega arith);
   kept = λ k n was. was;
 }

@@ -1,6 +1,6 @@
-use Rattle.std.proofs.Common.{arith, subst, sym, inl, inr}
-use Rattle.std.proofs.lemmas.Bool.{cases_eq}
 use Rattle.ultra_cut.specs.Kinds.{HasNoneFor}
+use Rattle.std.proofs.Common.{arith, inl, inr, subst, sym}
+use Rattle.std.proofs.lemmas.Bool.{cases_eq}
 use Rattle.ultra_cut.proofs.Moved.{both_moved, nothing_moved}
 use Rattle.ultra_cut.proofs.exchange.exchange.Goals as goal
 

@@ -1,6 +1,6 @@
-use Rattle.std.proofs.Common.{◌≡◌, ◌<◌, arith, subst, ◌∙◌, length}
-use Rattle.std.proofs.lemmas.List.{get_or_default}
 use Rattle.ultra_section.specs.Rooms.{HasNoted}
+use Rattle.std.proofs.Common.{◌≡◌, ◌<◌, arith, ◌∙◌, length, subst}
+use Rattle.std.proofs.lemmas.List.{get_or_default}
 use Rattle.ultra_cut.specs.Cut.{block_at, no_block}
 use Rattle.ultra_cut.proofs.Noted.{next_noted, rooms_are}
 use Rattle.ultra_cut.proofs.rooms.note_rooms.Goals as goal
