@@ -1,14 +1,13 @@
 -- What a merge gives, entry by entry, and merges of what was merged.
 use Rattle.std.proofs.Common.{◌≡◌, ◌≢◌, ℕ, zero, suc, ◌+◌, ◌<◌, ◌≤◌, List, [], ◌∷◌, ◌++◌, map, length, get_or, set, refl, sym, ◌∙◌, ap, subst, inl, inr, arith}
-use Rattle.std.proofs.lemmas.Bool.{cases_eq, cases_lt}
+use Rattle.std.proofs.lemmas.Bool.{cases_eq}
 use Rattle.std.proofs.lemmas.Simd.{map-map}
-use Rattle.std.proofs.lemmas.List.Elements.{All-nil, All-append, All-head, All-weaker}
+use Rattle.std.proofs.lemmas.List.Elements.{All-head, All-weaker}
 use Rattle.std.specs.Prelude.{All}
 use Rattle.std.specs.List.{range_with_len}
-use Rattle.std.specs.List.Sorted.{IsNonDecreasingBy}
 use Rattle.ultra_model.specs.Places.{joined, places}
 use Rattle.ultra_merge.specs.Merging.{of_rank, merged, AreEmpty, IsRanked, IsNextPlace}
-use Rattle.ultra_merge.proofs.Ranked.{all_of_rank, all_of_rank_none, all_of_rank_other, all_of_rank_same, all_of_rank_has, ascends-append, first_is_least, ranked_rest}
+use Rattle.ultra_merge.proofs.Ranked.{all_of_rank, all_of_rank_none, all_of_rank_other, all_of_rank_same, first_is_least, ranked_rest}
 
 -- ---- lists joined, one for each of n places from a on
 module _ {X : Type 0} where
@@ -42,45 +41,16 @@ module _ {X : Type 0} where
               ∙ ap (λ xs. x ∷ xs ++ joined_from (a + 1) n g) (sym empty ∙ others a other)
         ]
 
--- the list at place i has entries of rank i
-module _ {T : Type 0} (rank : T → ℕ) (f : ℕ → List T) (has : (i : ℕ) → All (λ e. rank e ≡ i) (f i)) where
-  joined_above : (a n : ℕ) → All (λ e. a ≤ rank e) (joined_from a n f)
-  joined_above a zero = All-nil (λ e. a ≤ rank e)
-  joined_above a (suc n) =
-      All-append (λ e. a ≤ rank e) (f a) (joined_from (a + 1) n f)
-      (All-weaker (λ e. rank e ≡ a) (λ e. a ≤ rank e) (λ e same. omega arith) (f a) (has a))
-      (All-weaker (λ e. a + 1 ≤ rank e) (λ e. a ≤ rank e) (λ e from. omega arith) (joined_from (a + 1) n f) (joined_above (a + 1) n))
-
-  joined_below : (a n : ℕ) → All (λ e. rank e < a + n) (joined_from a n f)
-  joined_below a zero = All-nil (λ e. rank e < a + zero)
-  joined_below a (suc n) =
-      All-append (λ e. rank e < a + suc n) (f a) (joined_from (a + 1) n f)
-      (All-weaker (λ e. rank e ≡ a) (λ e. rank e < a + suc n) (λ e same. omega arith) (f a) (has a))
-      (All-weaker (λ e. rank e < a + 1 + n) (λ e. rank e < a + suc n) (λ e to. omega arith) (joined_from (a + 1) n f) (joined_below (a + 1) n))
-
-  joined_ascends : (a n : ℕ) → IsNonDecreasingBy rank (joined_from a n f)
-  joined_ascends a zero = λ i j d order within. absurd (omega arith)
-  joined_ascends a (suc n) =
-      ascends-append rank a (f a) (joined_from (a + 1) n f) (has a)
-      (All-weaker (λ e. a + 1 ≤ rank e) (λ e. a ≤ rank e) (λ e from. omega arith) (joined_from (a + 1) n f) (joined_above (a + 1) n))
-      (joined_ascends (a + 1) n)
-
 module _ {T : Type 0} (rank : T → ℕ) (count : ℕ) where
   -- ---- entry by entry
   pub merged_none : (lists : List (List T)) → AreEmpty lists (length lists) → merged rank count lists ≡ []
   unfolding merged places
-  merged_none lists empty =
-      none_joined (λ i. all_of_rank rank i lists) 0 count
-      (λ i. all_of_rank_none rank i lists (λ j h. subst (All (λ e. rank e ≢ i)) (sym (empty j h)) (All-nil (λ e. rank e ≢ i))))
+  merged_none lists empty = grind (arith, none_joined, all_of_rank_none)
 
   -- no entry has a smaller rank than the one that comes next
   none_less : (lists : List (List T)) (k r : ℕ) → IsNextPlace rank lists (length lists) k r → (i j : ℕ) → i < r → j < length lists
       → All (λ e. rank e ≢ i) (get_or lists j [])
-  none_less lists k r next i j less within e d h =
-      elim (cases_lt j k) [
-        | inl before ↦ let above = next.before j before e d h in λ same. absurd (omega arith)
-        | inr from ↦ let above = next.behind j from within e d h in λ same. absurd (omega arith)
-      ]
+  none_less lists k r next i j less within e d h = grind arith
 
   pub merged_next : (lists : List (List T)) (k r : ℕ) → r < count → (next : IsNextPlace rank lists (length lists) k r)
       → merged rank count lists ≡ next.entry ∷ merged rank count (set lists k next.rest)
@@ -99,9 +69,7 @@ module _ {T : Type 0} (rank : T → ℕ) (count : ℕ) where
   pub merged_of : {B : Type 0} (of : B → List T) (bs : List B)
       → merged rank count (map of bs) ≡ joined (places count (λ i. joined (map (λ b. of_rank rank i (of b)) bs)))
   unfolding merged places
-  merged_of of bs =
-      same_joined (λ i. all_of_rank rank i (map of bs)) (λ i. joined (map (λ b. of_rank rank i (of b)) bs)) 0 count
-      (λ i after. ap joined (map-map (of_rank rank i) of bs))
+  merged_of of bs = grind (arith, map-map)
 
   -- ---- merges of what was merged
   alone_next : (x : T) (xs : List T) → IsRanked rank count (x ∷ xs) → IsNextPlace rank ((x ∷ xs) ∷ []) 1 0 (rank x)
@@ -118,8 +86,7 @@ module _ {T : Type 0} (rank : T → ℕ) (count : ℕ) where
   }
 
   alone_empty : (i : ℕ) → i < 1 → get_or {A = List T} ([] ∷ []) i [] ≡ []
-  alone_empty zero h = refl
-  alone_empty (suc i) h = absurd (omega arith)
+  alone_empty i h = grind arith
 
   -- one list is its own merge
   pub merged_alone : (xs : List T) → IsRanked rank count xs → merged rank count (xs ∷ []) ≡ xs
@@ -128,17 +95,3 @@ module _ {T : Type 0} (rank : T → ℕ) (count : ℕ) where
   merged_alone (x ∷ xs) ranked =
       merged_next ((x ∷ xs) ∷ []) 0 (rank x) (All-head (λ e. rank e < count) x xs ranked.within) (alone_next x xs ranked)
       ∙ ap (λ ys. x ∷ ys) (merged_alone xs (ranked_rest rank count x xs ranked))
-
-  -- what is merged stands in the order of the ranks
-  pub merged_ranked : (lists : List (List T)) → IsRanked rank count (merged rank count lists)
-  unfolding merged places
-  merged_ranked lists =
-      let f = λ (i : ℕ). all_of_rank rank i lists in
-      let has = λ (i : ℕ). all_of_rank_has rank i lists in
-      let all : 0 + count ≡ count = omega arith in
-      let within = joined_below rank f has 0 count in
-      record { ascends = joined_ascends rank f has 0 count; within = λ k d h. (let below = within k d h in omega arith) }
-
-  -- a merge may be merged again
-  pub merged_again : (lists : List (List T)) → merged rank count (merged rank count lists ∷ []) ≡ merged rank count lists
-  merged_again lists = merged_alone (merged rank count lists) (merged_ranked lists)

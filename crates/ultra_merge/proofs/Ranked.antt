@@ -1,11 +1,9 @@
 -- Entries by rank, in one list and in several.
-use Rattle.std.proofs.Common.{◌≡◌, ◌≢◌, ℕ, zero, suc, ◌<◌, ◌≤◌, false, List, [], ◌∷◌, ◌++◌, map, cond, length, get_or, set, eqb, refl, sym, ◌∙◌, ap, arith, eq-eqb, true}
-use Rattle.std.proofs.lemmas.Bool.{eqb-true}
+use Rattle.std.proofs.Common.{◌≡◌, ◌≢◌, ℕ, zero, suc, ◌<◌, ◌≤◌, false, List, [], ◌∷◌, ◌++◌, map, cond, length, get_or, set, eqb, refl, sym, ◌∙◌, ap, arith, eq-eqb}
 use Rattle.std.proofs.lemmas.Bool.Decides.{nat_tests}
-use Rattle.std.proofs.lemmas.List.{get_or-map, length-map}
-use Rattle.std.proofs.lemmas.List.Elements.{All-nil, All-head, All-tail, All-append, All-weaker, filter_passes}
+use Rattle.std.proofs.lemmas.List.Elements.{All-head, All-tail}
 use Rattle.std.specs.Prelude.{All}
-use Rattle.std.specs.List.Sorted.{IsNonDecreasing, IsNonDecreasingBy}
+use Rattle.std.specs.List.Sorted.{IsNonDecreasingBy}
 use Rattle.ultra_model.specs.Places.{joined}
 use Rattle.ultra_merge.specs.Merging.{of_rank, IsRanked}
 
@@ -62,11 +60,6 @@ module _ {T : Type 0} (rank : T → ℕ) where
       ∙ ap (λ ys. x ∷ ys ++ all_of_rank i (set lists k rest)) (sym none)
 
   -- ---- lists in the order of the ranks
-  pub ascends-cons : (x : T) (xs : List T) → All (λ e. rank x ≤ rank e) xs → IsNonDecreasingBy rank xs → IsNonDecreasingBy rank (x ∷ xs)
-  ascends-cons x xs above ascends zero zero d order within = omega arith
-  ascends-cons x xs above ascends zero (suc j) d order within = above j d (omega arith)
-  ascends-cons x xs above ascends (suc i) zero d order within = absurd (omega arith)
-  ascends-cons x xs above ascends (suc i) (suc j) d order within = ascends i j d (omega arith) (omega arith)
 
   -- none has a smaller rank than the first
   pub first_is_least : (x : T) (xs : List T) → IsNonDecreasingBy rank (x ∷ xs) → All (λ e. rank x ≤ rank e) (x ∷ xs)
@@ -77,41 +70,4 @@ module _ {T : Type 0} (rank : T → ℕ) where
     ascends = λ i j d order within. ranked.ascends (suc i) (suc j) d (omega arith) (omega arith);
     within = All-tail (λ e. rank e < count) x xs ranked.within;
   }
-
-  -- entries whose ranks ascend as a list of numbers
-  pub ranked_from_ranks : (count : ℕ) (xs : List T) → IsNonDecreasing (map rank xs) → All (λ e. rank e < count) xs → IsRanked rank count xs
-  ranked_from_ranks count xs ascends within = record {
-    ascends = λ i j d order inside.
-        let small : i < length xs = omega arith in
-        let low = get_or-map rank xs i d 0 small in
-        let high = get_or-map rank xs j d 0 inside in
-        let same = length-map xs rank in
-        let ranks = ascends i j 0 order (omega arith) in
-        omega arith;
-    within = within;
-  }
-
   -- ---- entries of one rank
-  of_rank_has : (i : ℕ) (xs : List T) → All (λ e. rank e ≡ i) (of_rank rank i xs)
-  of_rank_has i xs =
-      All-weaker (λ e. eqb (rank e) i ≡ true) (λ e. rank e ≡ i) (λ e same. eqb-true (rank e) i same) (of_rank rank i xs)
-      (filter_passes (λ e. eqb (rank e) i) xs)
-
-  pub all_of_rank_has : (i : ℕ) (lists : List (List T)) → All (λ e. rank e ≡ i) (all_of_rank i lists)
-  all_of_rank_has i [] = All-nil (λ e. rank e ≡ i)
-  all_of_rank_has i (xs ∷ lists) =
-      All-append (λ e. rank e ≡ i) (of_rank rank i xs) (all_of_rank i lists) (of_rank_has i xs) (all_of_rank_has i lists)
-
-  -- in front of entries whose ranks are no smaller
-  pub ascends-append : (i : ℕ) (xs ys : List T) → All (λ e. rank e ≡ i) xs → All (λ e. i ≤ rank e) ys → IsNonDecreasingBy rank ys
-      → IsNonDecreasingBy rank (xs ++ ys)
-  ascends-append i [] ys here above ascends = ascends
-  ascends-append i (x ∷ xs) ys here above ascends =
-      let P = λ (e : T). rank e ≡ i in
-      let Q = λ (e : T). rank x ≤ rank e in
-      let first = All-head P x xs here in
-      ascends-cons x (xs ++ ys)
-      (All-append Q xs ys
-      (All-weaker P Q (λ e same. omega arith) xs (All-tail P x xs here))
-      (All-weaker (λ e. i ≤ rank e) Q (λ e from. omega arith) ys above))
-      (ascends-append i xs ys (All-tail P x xs here) above ascends)

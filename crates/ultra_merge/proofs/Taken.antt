@@ -1,5 +1,5 @@
 -- What is left when the first entry of a list has gone.
-use Rattle.std.proofs.Common.{◌≡◌, ℕ, ◌<◌, List, [], ◌∷◌, ◌++◌, take, length, get_or, set, map, Bor, sym, ◌∙◌, ap, subst, arith, length-set}
+use Rattle.std.proofs.Common.{◌≡◌, ℕ, ◌<◌, List, [], ◌∷◌, length, get_or, set, map, Bor, sym, ◌∙◌, ap, subst, arith, length-set}
 use Rattle.std.proofs.lemmas.List.{append-nil, drop_all, get_or-map, length-map, map-set, take_all}
 use Rattle.std.proofs.lemmas.List.Elements.{All-head, All-set}
 use Rattle.std.specs.Prelude.{All}
@@ -9,9 +9,7 @@ use Rattle.ultra_merge.proofs.Ranked.{ranked_rest}
 use Rattle.ultra_merge.proofs.Merged.{merged_next}
 
 refill_whole : {X : Type 0} (xs ws : List X) → length ws ≡ length xs → refill (length xs) xs ws ≡ ws
-refill_whole xs ws same =
-    let none = drop_all (length ws) xs (omega arith) in
-    ap (λ ys. take (length xs) (ws ++ ys)) none ∙ ap (take (length xs)) (append-nil ws) ∙ take_all (length xs) ws (omega arith)
+refill_whole xs ws same = grind (arith, drop_all, append-nil, take_all)
 
 -- the lists, after the one at a place has given its first entry
 module _ {T : Type 0} (rank : T → ℕ) (count : ℕ) (items : List (Bor (List T))) (all : All (λ l. IsRanked rank count l.now) items)

@@ -1,13 +1,11 @@
-use Rattle.std.proofs.Common.{[], ◌∷◌, ◌++◌, map, ◌∙◌, ap, arith}
+use Rattle.std.proofs.Common.{ap, arith}
 use Rattle.std.proofs.lemmas.List.{length-map, map-append}
 use Rattle.std.proofs.lemmas.List.Elements.{All-push}
 use Rattle.ultra_merge.specs.Merging.{IsRanked, Remainder}
 use Rattle.ultra_merge.proofs.merge.Merge.add.Goals as goal
 
 pub push-requires : goal.push-requires
-push-requires g c =
-    let room = rw (← c.self.view_is) at c.requires.room in
-    (omega arith, omega (arith, room, length-map c.self.inside.lists.items (λ list. list.now)))
+push-requires g c = grind (arith, length-map)
 
 pub invariant_of-self : goal.invariant_of-self
 invariant_of-self g c =
@@ -20,7 +18,4 @@ pub returns-clause-ranking : goal.returns-clause-ranking
 returns-clause-ranking g c = ap (λ (m : Remainder g.row.R.Denot g.row.T.Denot). m.ranking) c.self.view_is
 
 pub returns-clause-lists : goal.returns-clause-lists
-returns-clause-lists g c =
-    ap (map (λ list. list.now)) c.push.ensures.items
-    ∙ map-append (λ list. list.now) c.self.inside.lists.items (c.args.list ∷ [])
-    ∙ ap (λ (m : Remainder g.row.R.Denot g.row.T.Denot). m.lists ++ c.args.list.now ∷ []) c.self.view_is
+returns-clause-lists g c = grind (arith, map-append)

@@ -1,6 +1,6 @@
-use Rattle.std.proofs.Common.{◌≡◌, map, length, ap, arith}
+use Rattle.std.proofs.Common.{arith}
 use Rattle.std.proofs.lemmas.List.{length-map}
-use Rattle.ultra_merge.proofs.Front.{past_empty, entry_within, none_found, one_found, sooner_is_front}
+use Rattle.ultra_merge.proofs.Front.{past_empty, entry_within, sooner_is_front}
 use Rattle.ultra_merge.proofs.merge.Merge.front.Goals as goal
 
 pub loop-place-preserved-in_default : goal.loop-place-preserved-in_default
@@ -23,17 +23,7 @@ loop-place-preserved g c =
     (rw c.deref-list-items.ensures.0 c.self.invariant) c.in-Some.entry.now c.in-Some.ensures.value c.loop-place.front c.loop-place.invariant)
 
 pub returns-clause-none : goal.returns-clause-none
-returns-clause-none g c =
-    let lists = map (λ l. l.now) c.self.inside.lists.items in
-    let all : c.loop-place.place ≡ length lists =
-    (let same = c.deref-list-items.ensures.0 in let end = c.loop-place.auto.place-end in let past = c.loop-place-test.false in let long = length-map c.self.inside.lists.items (λ l. l.now) in omega (arith, ap length same)) in
-    rw (← c.self.view_is)
-    (none_found (g.R.Ranking.rank_of c.self.inside.ranking) lists c.loop-place.place all c.loop-place.front (rw c.deref-list-items.ensures.0 at c.loop-place.invariant))
+returns-clause-none g c = grind (arith, length-map)
 
 pub returns-clause-some : goal.returns-clause-some
-returns-clause-some g c =
-    let lists = map (λ l. l.now) c.self.inside.lists.items in
-    let all : c.loop-place.place ≡ length lists =
-    (let same = c.deref-list-items.ensures.0 in let end = c.loop-place.auto.place-end in let past = c.loop-place-test.false in let long = length-map c.self.inside.lists.items (λ l. l.now) in omega (arith, ap length same)) in
-    rw (← c.self.view_is)
-    (one_found (g.R.Ranking.rank_of c.self.inside.ranking) lists c.loop-place.place all c.loop-place.front (rw c.deref-list-items.ensures.0 at c.loop-place.invariant))
+returns-clause-some g c = grind (arith, length-map)

@@ -5,10 +5,7 @@ use Rattle.ultra_merge.proofs.Taken.{left_ranked, left_merged}
 use Rattle.ultra_merge.proofs.merge.MergeIterator.next.Goals as goal
 
 pub returns-in_err-front-clause-steps : goal.returns-in_err-front-clause-steps
-returns-in_err-front-clause-steps g c =
-    let now = c.args.self.now in
-    let none = merged_none (g.R.Ranking.rank_of now.ranking) (g.R.Ranking.rank_count now.ranking) now.lists c.in_err-front.ensures.none in
-    rw c.from_residual.ensures (none, none)
+returns-in_err-front-clause-steps g c = grind (arith, merged_none)
 
 pub invariant_of-self : goal.invariant_of-self
 invariant_of-self g c =
@@ -34,13 +31,7 @@ returns-clause-goes g c =
     record { on = λ _. (tt, tt, omega arith); keeps = tt; rests = λ _. tt }
 
 pub bounds-deref_mut-front : goal.bounds-deref_mut-front
-bounds-deref_mut-front g c =
-    let next = rw (← c.self.view_is) at c.in_ok-front.ensures.some in
-    rw c.deref_mut.ensures.value
-    (place_within (g.R.Ranking.rank_of c.self.inside.ranking) c.self.inside.lists.items c.in_ok-front.front.place c.in_ok-front.front.rank next)
+bounds-deref_mut-front g c = grind (arith, place_within)
 
 pub take_first-requires : goal.take_first-requires
-take_first-requires g c =
-    let next = rw (← c.self.view_is) at c.in_ok-front.ensures.some in
-    rw c.deref_mut.ensures.value
-    (has_entry (g.R.Ranking.rank_of c.self.inside.ranking) c.self.inside.lists.items c.in_ok-front.front.place c.in_ok-front.front.rank next c.index-deref_mut-front.result)
+take_first-requires g c = grind (arith, has_entry)
