@@ -1,5 +1,5 @@
 -- the conditions of the halves that take messages are met in a sound machine
-use Rattle.std.proofs.Common.{◌≡◌, ℕ, ◌+◌, ◌*◌, ◌-◌, ◌/◌, ◌%◌, ◌^◌, ◌<◌, List, Bool, true, false, refl, arith, ap, ◌∙◌, sym, subst, length}
+use Rattle.std.proofs.Common.{◌≡◌, ℕ, ◌+◌, ◌*◌, ◌-◌, ◌/◌, ◌%◌, ◌^◌, ◌<◌, List, Bool, true, false, arith, ap, ◌∙◌, sym, subst, length}
 use Rattle.std.specs.Prelude.{◌&&◌, nat_le, Option, Some, None, IfSome, slice_get, IsTrue}
 use Rattle.std.proofs.lemmas.Bool.{eqb-true}
 use Rattle.std.proofs.lemmas.Bool.Decides.{nat_tests}
@@ -39,17 +39,13 @@ use Rattle.ultra_course.proofs.Requests as request
 
 -- ---- tests
 let_through : {X : Type 0} (b : Bool) (o : Option X) (x : X) → elim b [ true ↦ o | false ↦ None ] ≡ Some x → (b ≡ true) × (o ≡ Some x)
-let_through true o x e = (refl, e)
-let_through false o x e = cc
+let_through b o x e = grind arith
 
 enters_empty : (i : Option Placed) (o : Option Request) (r : Request) → elim i [ None ↦ o | Some p ↦ None ] ≡ Some r → i ≡ None
-enters_empty None o r e = refl
-enters_empty (Some p) o r e = cc
+enters_empty i o r e = grind arith
 
 both_still : (a b a' b' : Bool) → (a ≡ true → a' ≡ true) → (b ≡ true → b' ≡ true) → (a && b) ≡ true → (a' && b') ≡ true
-both_still true true a' b' g h e = rw (g refl, h refl) refl
-both_still true false a' b' g h e = cc
-both_still false b a' b' g h e = cc
+both_still a b a' b' g h e = grind arith
 
 -- room for n more stays where something leaves
 still_room : {X Y : Type 0} (n places : ℕ) (o : Option Y) (xs : List X) → nat_le (length xs + n) places ≡ true → nat_le (length (after_leaving o xs) + n) places ≡ true
@@ -104,11 +100,7 @@ module _ (c : Settings) (f : Frame) (n : ℕ) (events : List Event) (stops : Lis
 
   -- ---- requests
   admitted_room : (s y : ℕ) (o : Option Request) (r : Request) → admitted c m s y o ≡ Some r → has_request_room c m s (request_exit c s y r) ≡ true
-  admitted_room s y None r e = cc
-  admitted_room s y (Some q) r e =
-      let through = let_through (has_request_room c m s (request_exit c s y q)) (Some q) r e in
-      let same : q ≡ r = cc in
-      ap (λ r. has_request_room c m s (request_exit c s y r)) (sym same) ∙ through.0
+  admitted_room s y o r e = grind arith
 
   arrives_way : (s y : ℕ) (r : Request) → arriving_request c m s y ≡ Some r → has_request_room c m s (request_exit c s y r) ≡ true
   unfolding arriving_request

@@ -1,13 +1,12 @@
 -- the machine that the units of a frame make up, place by place
-use Rattle.std.proofs.Common.{◌≡◌, ℕ, zero, suc, ◌+◌, ◌*◌, ◌-◌, ◌/◌, ◌%◌, ◌^◌, ◌<◌, List, [], ◌∷◌, refl, arith, ap, ◌∙◌, sym, length}
-use Rattle.std.specs.Prelude.{map, nat_le}
+use Rattle.std.proofs.Common.{◌≡◌, ℕ, zero, suc, ◌+◌, ◌*◌, ◌-◌, ◌/◌, ◌%◌, ◌^◌, ◌<◌, List, [], ◌∷◌, refl, arith, ap, ◌∙◌}
+use Rattle.std.specs.Prelude.{map}
 use Rattle.std.specs.List.{range_with_len}
 use Rattle.ultra_msg.specs.declared.ReplyMessage.{ReplyMessage}
 use Rattle.ultra_msg.specs.declared.Event.{Event}
 use Rattle.ultra_route.proofs.Table.{sizes}
 use Rattle.ultra_switch.specs.declared.Switch.{Switch}
 use Rattle.ultra_switch.specs.Arrive.{Lane, empty_lane}
-use Rattle.ultra_switch.specs.Queues.{SizedLane}
 use Rattle.ultra_mem.specs.Serve.{Bank, empty_bank}
 use Rattle.ultra_model.specs.declared.Stop.{Stop}
 use Rattle.ultra_model.specs.Places.{places, table}
@@ -16,13 +15,13 @@ use Rattle.ultra_model.specs.Ranges.{AreInRange}
 use Rattle.ultra_model.specs.Phases as phase
 use Rattle.ultra_model.proofs.Each.{places_at, table_at}
 use Rattle.ultra_units.specs.Numbers.{switch_number}
-use Rattle.ultra_halves.specs.Halves.{ports, has_place_for}
+use Rattle.ultra_halves.specs.Halves.{ports}
 use Rattle.ultra_halves.specs.Elements.{element_of}
 use Rattle.ultra_course.specs.Ports.{at_port}
 use Rattle.ultra_course.specs.Frame.{Frame, Rooms, AreRooms, AreAlike}
 use Rattle.ultra_course.specs.Course.{at_switch}
 use Rattle.ultra_course.specs.Whole.{sized_lane, sized_replies, whole, emptied, empty_switch, Fits}
-use Rattle.ultra_course.proofs.Numbers.{at_two, at_even, at_odd, at_number, number_small}
+use Rattle.ultra_course.proofs.Numbers.{at_even, at_odd, at_number, number_small}
 
 -- ---- equal place by place
 same_from : {X : Type 0} (a n : ℕ) (f g : ℕ → X) → ((k : ℕ) → k < a + n → f k ≡ g k) → map f (range_with_len a n) ≡ map g (range_with_len a n)
@@ -52,8 +51,7 @@ pub record AreSizes (c : Settings) (w : Switch) (j : ℕ) : Type 0 where
   pub replies : (at_port w.to_pe j).places ≡ c.reply_places
 
 pub sizes_at : (c : Settings) (w : Switch) (j : ℕ) → emptied w ≡ empty_switch c → AreSizes c w j
-sizes_at c w zero e = record { requests = ap (λ v. v.to_mm.zero.request_places) e; waits = ap (λ v. v.to_mm.zero.wait_places) e; replies = ap (λ v. v.to_pe.zero.places) e }
-sizes_at c w (suc j) e = record { requests = ap (λ v. v.to_mm.one.request_places) e; waits = ap (λ v. v.to_mm.one.wait_places) e; replies = ap (λ v. v.to_pe.one.places) e }
+sizes_at c w j e = grind arith
 
 -- ---- positions of a switch
 module _ (c : Settings) (range : AreInRange c) where
@@ -115,12 +113,7 @@ module _ (c : Settings) (f : Frame) (n : ℕ) (events : List Event) (stops : Lis
           noted.reply (switch_number c.stages s k) (number_small c.stages s k hs hk) ∙ rw (even, odd, zero_places, one_places) refl
 
       pub request_room_is : (s x : ℕ) → s < c.stages → x < size c → rooms.request (switch_number c.stages s (x / 2)) (x % 2) ≡ phase.has_request_room c m s x
-      request_room_is s x hs hx =
-          let n = switch_number c.stages s (x / 2) in
-          noted.request n (x % 2) (number_small c.stages s (x / 2) hs (half_small c range x hx)) (omega arith)
-          ∙ at_two (λ (l : SizedLane) (k : SizedLane). has_place_for 2 l) (f.switch n).to_mm (f.switch n).to_mm (x % 2)
-          ∙ ap (λ n. nat_le (length (sized_lane c f s x).lane.queue + 2) n) (sizes_of s (x / 2) (x % 2) hs (half_small c range x hx)).requests
-          ∙ ap (λ (l : Lane). nat_le (length l.queue + 2) c.request_places) (sym (lane_is s x hs hx))
+      request_room_is s x hs hx = grind (arith, half_small, lane_is)
 
 -- ---- frames that are alike
 module _ (c : Settings) (range : AreInRange c) (f g : Frame) (a : AreAlike c.stages f g) where

@@ -1,35 +1,28 @@
 -- every half of a cycle keeps the sizes of the units
-use Rattle.std.proofs.Common.{◌≡◌, ℕ, ◌+◌, ◌^◌, ◌≤◌, List, refl, arith, ap, ◌∙◌, sym, subst, length}
-use Rattle.std.specs.Prelude.{Option, Some, None}
+use Rattle.std.proofs.Common.{◌≡◌, ℕ, ◌+◌, ◌^◌, ◌≤◌, List, refl, arith, length}
+use Rattle.std.specs.Prelude.{Option}
 use Rattle.ultra_msg.specs.declared.Request.{Request}
 use Rattle.ultra_msg.specs.declared.ReplyMessage.{ReplyMessage}
 use Rattle.ultra_isa.specs.declared.Instr.{Instr}
 use Rattle.ultra_mem.specs.Serve.{Bank}
 use Rattle.ultra_mem.proofs.Cells.{length-serve}
 use Rattle.ultra_model.specs.Machine.{Settings}
-use Rattle.ultra_model.specs.Phases.{without_reply, issues_after}
+use Rattle.ultra_model.specs.Phases.{without_reply}
 use Rattle.ultra_halves.specs.Modules.{bank_with}
-use Rattle.ultra_halves.specs.Elements.{delivered_to, step_at}
+use Rattle.ultra_halves.specs.Elements.{delivered_to}
 use Rattle.ultra_halves.specs.declared.elements.ProcessingElement.{ProcessingElement}
 use Rattle.ultra_course.specs.Frame.{Frame, Rooms, AreAlike}
 use Rattle.ultra_course.specs.Course.{reply_from, reply_to, sends_replies, takes_replies, serves, sends_requests, request_to, takes_requests, executes}
 use Rattle.ultra_course.specs.Whole.{emptied, Fits}
 
 cells_without : (b : Bank) (o : Option ReplyMessage) → length (without_reply b o).cells ≡ length b.cells
-cells_without b None = refl
-cells_without b (Some r) = refl
+cells_without b o = grind arith
 
 cells_with : (n : ℕ) (b : Bank) (o : Option Request) → length (bank_with n b o).cells ≡ length b.cells
-cells_with n b None = refl
-cells_with n b (Some r) = refl
+cells_with n b o = grind arith
 
 delivered_issued : (e : ProcessingElement) (o : Option ReplyMessage) → (delivered_to e o).issued ≡ e.issued
-delivered_issued e None = refl
-delivered_issued e (Some r) = refl
-
-one_more : (n : ℕ) (o : Option Request) → issues_after n o ≤ n + 1
-one_more n None = omega arith
-one_more n (Some r) = omega arith
+delivered_issued e o = grind arith
 
 module _ (c : Settings) (n : ℕ) (f : Frame) (fits : Fits c n f) (h : Frame) where
   abbrev d : ℕ
@@ -39,13 +32,7 @@ module _ (c : Settings) (n : ℕ) (f : Frame) (fits : Fits c n f) (h : Frame) wh
   kept : (g : Frame) → AreAlike d h g → (k : ℕ) → ((q : ℕ) → emptied (g.switch q) ≡ emptied (f.switch q)) → ((m : ℕ) → length (g.bank m).cells ≡ length (f.bank m).cells)
       → ((p : ℕ) → (g.element p).processor.site ≡ (f.element p).processor.site) → ((p : ℕ) → (g.element p).interface.most_open ≡ (f.element p).interface.most_open)
       → ((p : ℕ) → (f.element p).issued ≤ n → (g.element p).issued ≤ k) → Fits c k h
-  kept g a k switches cells sites most_open issued = record {
-    switches = λ q hq. ap (λ w. emptied w) (a.switches q hq) ∙ switches q ∙ fits.switches q hq;
-    cells = λ m hm. ap (λ (b : Bank). length b.cells) (a.banks m hm) ∙ cells m ∙ fits.cells m hm;
-    sites = λ p hp. ap (λ e. e.processor.site) (a.elements p hp) ∙ sites p ∙ fits.sites p hp;
-    most_open = λ p hp. ap (λ e. e.interface.most_open) (a.elements p hp) ∙ most_open p ∙ fits.most_open p hp;
-    issued = λ p hp. subst (λ e. e.issued ≤ k) (sym (a.elements p hp)) (issued p (fits.issued p hp));
-  }
+  kept g a k switches cells sites opens issued = grind arith
 
   pub replies_sent : (rooms : Rooms) → AreAlike d h (sends_replies d rooms f) → Fits c n h
   replies_sent rooms a = kept (sends_replies d rooms f) a n (λ q. refl) (λ m. cells_without (f.bank m) (reply_from d rooms f m)) (λ p. refl) (λ p. refl) (λ p l. l)
@@ -63,5 +50,4 @@ module _ (c : Settings) (n : ℕ) (f : Frame) (fits : Fits c n f) (h : Frame) wh
   requests_taken a = kept (takes_requests d n f) a n (λ q. refl) (λ m. cells_with (2 ^ d) (f.bank m) (request_to d f m)) (λ p. refl) (λ p. refl) (λ p l. l)
 
   pub steps_made : (program : List Instr) → AreAlike d h (executes d program f) → Fits c (n + 1) h
-  steps_made program a =
-      kept (executes d program f) a (n + 1) (λ q. refl) (λ m. refl) (λ p. refl) (λ p. refl) (λ p l. omega (arith, one_more (f.element p).issued (step_at program (f.element p)).sent, l))
+  steps_made program a = grind arith

@@ -1,5 +1,5 @@
 -- a cycle in six halves is one cycle of the definition
-use Rattle.std.proofs.Common.{ℕ, ◌+◌, List, [], ◌++◌, ◌∙◌}
+use Rattle.std.proofs.Common.{ℕ, ◌+◌, List, [], ◌++◌, arith}
 use Rattle.ultra_msg.specs.declared.Event.{Event}
 use Rattle.ultra_isa.specs.declared.Instr.{Instr}
 use Rattle.ultra_model.specs.declared.Stop.{Stop}
@@ -41,16 +41,7 @@ module _ (c : Settings) (n : ℕ) (program : List Instr) (x : Course) (events : 
   stepped = step.stepped c n x.requests_taken (so_far ++ combinations d n x.requests_sent) [] m3 requested program x.steps_made k.steps_made
 
   is_cycled : IsCycled c n program x m
-  is_cycled = record {
-    replies = step.can_take_replies c n x.start events stops m w x.first_rooms k.first_rooms x.replies_sent k.replies_sent;
-    requests = step.can_take_requests c n x.memory_served so_far [] m2 served x.second_rooms k.second_rooms x.requests_sent k.requests_sent;
-    steps = step.can_execute c n x.requests_taken (so_far ++ combinations d n x.requests_sent) [] m3 requested;
-    machine = stepped;
-    clear = record {
-      replies = λ l hl. k.steps_made.replies l hl ∙ k.requests_taken.replies l hl ∙ k.requests_sent.replies l hl ∙ k.memory_served.replies l hl ∙ k.replies_taken.replies l hl;
-      requests = λ l hl. k.steps_made.requests l hl ∙ k.requests_taken.requests l hl;
-    };
-  }
+  is_cycled = grind (arith, step.can_take_replies, step.can_take_requests, served, requested, stepped)
 
 pub cycle_law : CycleLaw
 cycle_law = is_cycled

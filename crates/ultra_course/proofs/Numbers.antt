@@ -1,5 +1,5 @@
 -- what stands at a port, at the number of a switch and on the link of a number
-use Rattle.std.proofs.Common.{◌≡◌, ℕ, zero, suc, ◌+◌, ◌*◌, ◌-◌, ◌/◌, ◌%◌, ◌^◌, ◌<◌, ◌≤◌, Bool, true, false, refl, arith, ap, ◌∙◌, subst}
+use Rattle.std.proofs.Common.{◌≡◌, ℕ, ◌+◌, ◌*◌, ◌-◌, ◌/◌, ◌%◌, ◌^◌, ◌<◌, ◌≤◌, Bool, true, false, refl, arith, ap, ◌∙◌, subst}
 use Rattle.std.specs.Prelude.{nat_lt}
 use Rattle.std.proofs.lemmas.Bool.Decides.{nat_tests}
 use Rattle.std.proofs.lemmas.Nat.{pow_pos, div-mul-add, mod-mul-add, mul-add-lt}
@@ -14,23 +14,18 @@ use Rattle.ultra_course.specs.Course.{at_switch, on_links}
 
 -- ---- tests
 pub pick_true : {X : Type 0} (b : Bool) (x y : X) → b ≡ true → elim b [ true ↦ x | false ↦ y ] ≡ x
-pick_true true x y h = refl
-pick_true false x y h = cc
+pick_true b x y h = grind arith
 
 pub pick_false : {X : Type 0} (b : Bool) (x y : X) → b ≡ false → elim b [ true ↦ x | false ↦ y ] ≡ y
-pick_false true x y h = cc
-pick_false false x y h = refl
+pick_false b x y h = grind arith
 
 -- ---- ports
 by_port : (P : ℕ → Type 0) (j : ℕ) → j < 2 → P 0 → P 1 → P j
-by_port P zero h a b = a
-by_port P (suc zero) h a b = b
-by_port P (suc (suc j)) h a b = absurd (omega (arith, h))
+by_port P j h a b = grind arith
 
 -- of both ports
 pub at_two : {X Y Z : Type 0} (g : X → Z → Y) (p : Ports X) (q : Ports Z) (j : ℕ) → at_port (ports (g p.zero q.zero) (g p.one q.one)) j ≡ g (at_port p j) (at_port q j)
-at_two g p q zero = refl
-at_two g p q (suc j) = refl
+at_two g p q j = grind arith
 
 -- by the port
 pub at_both : {X Y : Type 0} (g : ℕ → X → Y) (p : Ports X) (x : ℕ) → at_port (ports (g 0 p.zero) (g 1 p.one)) (x % 2) ≡ g (x % 2) (at_port p (x % 2))
@@ -38,24 +33,14 @@ at_both g p x = by_port (λ j. at_port (ports (g 0 p.zero) (g 1 p.one)) j ≡ g 
 
 -- by the position
 pub at_places : {X Y : Type 0} (g : ℕ → X → Y) (p : Ports X) (x : ℕ) → at_port (ports (g (2 * (x / 2)) p.zero) (g (2 * (x / 2) + 1) p.one)) (x % 2) ≡ g x (at_port p (x % 2))
-at_places g p x =
-    let k = x / 2 in
-    let even : g (2 * k) p.zero ≡ g (2 * k + 0) p.zero = ap (λ i. g i p.zero) (omega arith) in
-    let here : 2 * k + x % 2 ≡ x = omega arith in
-    by_port (λ j. at_port (ports (g (2 * k) p.zero) (g (2 * k + 1) p.one)) j ≡ g (2 * k + j) (at_port p j)) (x % 2) (omega arith) even refl ∙ ap (λ i. g i (at_port p (x % 2))) here
+at_places g p x = grind arith
 
 -- of the two positions of switch k of a stage
 pub at_even : {X : Type 0} (g : ℕ → ℕ → X) (k : ℕ) → g (2 * k / 2) (2 * k % 2) ≡ g k 0
-at_even g k =
-    let half : 2 * k / 2 ≡ k = omega arith in
-    let rest : 2 * k % 2 ≡ 0 = omega arith in
-    ap (λ a. g a (2 * k % 2)) half ∙ ap (λ b. g k b) rest
+at_even g k = grind arith
 
 pub at_odd : {X : Type 0} (g : ℕ → ℕ → X) (k : ℕ) → g ((2 * k + 1) / 2) ((2 * k + 1) % 2) ≡ g k 1
-at_odd g k =
-    let half : (2 * k + 1) / 2 ≡ k = omega arith in
-    let rest : (2 * k + 1) % 2 ≡ 1 = omega arith in
-    ap (λ a. g a ((2 * k + 1) % 2)) half ∙ ap (λ b. g k b) rest
+at_odd g k = grind arith
 
 -- ---- numbers of switches
 pub at_number : {X : Type 0} (d : ℕ) (g : ℕ → ℕ → X) (s k : ℕ) → k < 2 ^ (d - 1) → at_switch d g (switch_number d s k) ≡ g s k
@@ -101,8 +86,4 @@ module _ {X : Type 0} (d : ℕ) (low : 1 ≤ d) (high : d ≤ 6) (g : ℕ → Po
 
   -- behind all stages
   pub behind : (k : ℕ) → k < 2 ^ d → on (place_number d d k) ≡ h k
-  behind k hk =
-      let l = place_number d d k in
-      let past : nat_lt l (d * 2 ^ d) ≡ false = grind (arith, nat_tests) in
-      let here : l - d * 2 ^ d ≡ k = omega arith in
-      written l (place_small d d k (omega arith) hk) ∙ pick_false (nat_lt l (d * 2 ^ d)) (at_port (g (l / 2)) (l % 2)) (h (l - d * 2 ^ d)) past ∙ ap h here
+  behind k hk = grind arith

@@ -1,12 +1,12 @@
 -- modules that serve make up the definition's memory phase, and processors that execute its processor phase
-use Rattle.std.proofs.Common.{◌≡◌, ℕ, ◌+◌, ◌<◌, List, ◌++◌, refl, ap, ◌∙◌, sym}
+use Rattle.std.proofs.Common.{◌≡◌, ℕ, ◌+◌, ◌<◌, List, ◌++◌, refl, ap, ◌∙◌, sym, arith}
 use Rattle.ultra_msg.specs.declared.Event.{Event}
 use Rattle.ultra_mem.specs.Serve.{serve, served}
 use Rattle.ultra_isa.specs.declared.Instr.{Instr}
-use Rattle.ultra_isa.specs.Step.{Stepped, step_of}
+use Rattle.ultra_isa.specs.Step.{Stepped}
 use Rattle.ultra_model.specs.declared.Stop.{Stop}
 use Rattle.ultra_model.specs.Places.{present}
-use Rattle.ultra_model.specs.Machine.{Settings, Machine, Element, size, site, bank_at, element_at}
+use Rattle.ultra_model.specs.Machine.{Settings, Machine, Element, size, bank_at, element_at}
 use Rattle.ultra_model.specs.Phases.{serving, memory_phase, stepped, issue_event, stop_of, processor_phase, step_at}
 use Rattle.ultra_halves.specs.Elements as element
 use Rattle.ultra_halves.specs.Elements.{element_of}
@@ -35,11 +35,7 @@ module _ (c : Settings) (f : Frame) (n : ℕ) (events : List Event) (faults : Li
     made p = element.step_at program (f.element p)
 
     step_is : (p : ℕ) → p < size c → made p ≡ defined p
-    step_is p hp =
-        let e = f.element p in
-        ap (λ s. step_of s e.interface.most_open program e.processor.core e.interface.interface) (fits.sites p hp)
-        ∙ ap (λ k. step_of (site c p) k program e.processor.core e.interface.interface) (fits.most_open p hp)
-        ∙ ap (λ (v : Element). step_of (site c p) c.most_open program v.core v.interface) (sym (element_is c f n events faults p hp))
+    step_is p hp = grind (arith, element_is)
 
     -- what is made of a processing element and its step
     of_step : {X : Type 0} (g : ℕ → Element → Stepped → X) (p : ℕ) → p < size c → g p (element_of (f.element p)) (made p) ≡ g p (element_at m p) (defined p)

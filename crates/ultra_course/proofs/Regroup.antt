@@ -15,11 +15,7 @@ joined_none g = ap (λ xss. joined xss) (places_none g)
 
 -- one list more
 joined_next : {X : Type 0} (g : ℕ → List X) (i n : ℕ) → i ≡ n + 1 → joined (places i g) ≡ joined (places n g) ++ g n
-joined_next g i n e =
-    ap (λ i. joined (places i g)) e
-    ∙ ap (λ xss. joined xss) (places_more n g)
-    ∙ joined-append (places n g) (g n ∷ [])
-    ∙ ap (λ xs. joined (places n g) ++ xs) (append-nil (g n))
+joined_next g i n e = grind (arith, places_more, joined-append, append-nil)
 
 -- n lists, and then k more
 joined_split : {X : Type 0} (n k : ℕ) (g : ℕ → List X) → joined (places (n + k) g) ≡ joined (places n g) ++ joined (places k (λ i. g (n + i)))

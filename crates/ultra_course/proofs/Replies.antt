@@ -1,12 +1,10 @@
 -- replies that are sent and taken make up the definition's reply phase
 use Rattle.std.proofs.Common.{◌≡◌, ◌≢◌, ℕ, ◌+◌, ◌*◌, ◌-◌, ◌/◌, ◌%◌, ◌^◌, ◌<◌, ◌≤◌, List, [], ◌++◌, true, false, refl, arith, ap, ◌∙◌, sym, ⊎_elim}
 use Rattle.std.specs.Prelude.{◌==◌, Option, slice_get}
-use Rattle.std.specs.List.{filter}
 use Rattle.std.proofs.lemmas.Bool.{eq-eqb, ne_eqb, cases_eq}
-use Rattle.std.proofs.lemmas.List.Elements.{filter_agree}
 use Rattle.ultra_msg.specs.declared.ReplyMessage.{ReplyMessage}
 use Rattle.ultra_msg.specs.declared.Event.{Event}
-use Rattle.ultra_route.specs.Route.{shuffled, unshuffled, bit_of}
+use Rattle.ultra_route.specs.Route.{shuffled, unshuffled}
 use Rattle.ultra_route.proofs.Table.{back}
 use Rattle.ultra_switch.specs.declared.Ports.{Ports}
 use Rattle.ultra_switch.specs.declared.Switch.{Switch}
@@ -14,7 +12,7 @@ use Rattle.ultra_switch.specs.declared.WaitRecord.{WaitRecord}
 use Rattle.ultra_switch.specs.Arrive.{Lane}
 use Rattle.ultra_model.specs.declared.Stop.{Stop}
 use Rattle.ultra_model.specs.Places.{places, present, after_leaving}
-use Rattle.ultra_model.specs.Machine.{Settings, Machine, size, last_stage, reply_exit, replies_at, bank_at, element_at}
+use Rattle.ultra_model.specs.Machine.{Settings, Machine, size, last_stage, replies_at, bank_at, element_at}
 use Rattle.ultra_model.specs.Ranges.{AreInRange}
 use Rattle.ultra_model.specs.Phases.{delivery, deliver, without_reply, records_left, replies_made, has_reply_room, reply_before, arriving_reply, leaving_reply, replies_at_exit, next_replies, lane_after_split, delivered, reply_phase}
 use Rattle.ultra_model.proofs.Neighbours.{next_is, itself}
@@ -27,11 +25,10 @@ use Rattle.ultra_course.specs.Frame.{Frame, Rooms, AreRooms, AreAlike}
 use Rattle.ultra_course.specs.Course.{reply_goes, replies_go, replies_from, reply_from, replies_to, reply_to, sends_replies, takes_replies, deliveries}
 use Rattle.ultra_course.specs.Whole.{sized_lane, sized_replies, whole, Fits}
 use Rattle.ultra_course.proofs.Numbers.{pick_true, pick_false, at_two, at_both, at_places, at_even, at_odd, at_number, with_came, number_small, at_link, behind}
-use Rattle.ultra_course.proofs.AtFrame.{same_places, same_table, same_machine, lane_is, replies_is, bank_is, element_is, half_small, even_small, odd_small, at_switches, reply_room_is}
+use Rattle.ultra_course.proofs.AtFrame.{same_places, same_machine, lane_is, replies_is, bank_is, element_is, half_small, even_small, odd_small, at_switches, reply_room_is}
 
 pub same_test : (a b y j : ℕ) → y ≡ a + j → (b == j) ≡ (a + b == y)
-same_test a b y j e =
-    ⊎_elim (λ h. eq-eqb b j h ∙ sym (eq-eqb (a + b) y (omega (arith, h, e)))) (λ h. ne_eqb b j h ∙ sym (ne_eqb (a + b) y (omega (arith, h, e)))) (cases_eq b j)
+same_test a b y j e = grind arith
 
 module _ (c : Settings) (f : Frame) (n : ℕ) (events : List Event) (stops : List Stop) (range : AreInRange c) (fits : Fits c n f)
     (rooms : Rooms) (noted : AreRooms c.stages f rooms) (sent : Frame) (as_sent : AreAlike c.stages sent (sends_replies c.stages rooms f)) where
@@ -119,13 +116,7 @@ module _ (c : Settings) (f : Frame) (n : ℕ) (events : List Event) (stops : Lis
       ∙ ap (λ x. arriving_reply c m s x) b.back
 
   pub comes : (s x : ℕ) → s < d → x < size c → sent.replies (reply_source d s x) ≡ arriving_reply c m s x
-  comes s x hs hx =
-      let there = place_number d d x in
-      let on = place_number d (s + 1) (shuffled d x) in
-      ⊎_elim
-      (λ e. ap (λ l. sent.replies l) (pick_true (s == d - 1) there on (eq-eqb s (d - 1) e)) ∙ comes_last x hx ∙ ap (λ s. arriving_reply c m s x) (sym e))
-      (λ h. ap (λ l. sent.replies l) (pick_false (s == d - 1) there on (ne_eqb s (d - 1) h)) ∙ comes_on s x (omega (arith, hs, h)) hx)
-      (cases_eq s (d - 1))
+  comes s x hs hx = grind (arith, pick_true, eq-eqb, comes_last, ne_eqb, comes_on)
 
   pub comes_home : (p : ℕ) → p < size c → reply_to d sent p ≡ delivered c m p
   comes_home p hp = on_link 0 (shuffled d p) (omega (arith, low)) (back d p low high hp).entry_small
@@ -153,11 +144,7 @@ module _ (c : Settings) (f : Frame) (n : ℕ) (events : List Event) (stops : Lis
 
   -- what goes by y of what came to x, of the same switch
   made_at : (s x y : ℕ) (ws : List WaitRecord) → s < d → x < size c → x / 2 ≡ y / 2 → ws ≡ (sized_lane c f s x).lane.records → going_by d s (y % 2) (replies_made ws (arriving_reply c m s x)) ≡ replies_at_exit c m s x y
-  made_at s x y ws hs hx e w =
-      let a = arriving_reply c m s x in
-      filter_agree (λ (r : ReplyMessage). bit_of (d - 1 - s) r.pe == y % 2) (λ r. reply_exit c s x r == y)
-      (λ r. same_test (2 * (x / 2)) (bit_of (d - 1 - s) r.pe) y (y % 2) (omega (arith, e))) (replies_made ws a)
-      ∙ ap (λ ws. filter (λ r. reply_exit c s x r == y) (replies_made ws a)) (w ∙ ap (λ (l : Lane). l.records) (sym (lane_is c f n events stops s x hs hx)))
+  made_at s x y ws hs hx e w = grind (arith, same_test, lane_is)
 
   replies_after : (s y : ℕ) → s < d → y < size c → (sized_replies c after s y).replies ≡ next_replies c m s y
   replies_after s y hs hy =
@@ -180,16 +167,10 @@ module _ (c : Settings) (f : Frame) (n : ℕ) (events : List Event) (stops : Lis
       ∙ ap (λ b. queue (after_leaving gone (replies_at m s y)) (replies_at_exit c m s (2 * k) y) b) (made_at s (2 * k + 1) y lanes.one.lane.records hs (odd_small c range k (half y hy)) (omega arith) (sym (at_odd records k)))
 
   bank_after : (k : ℕ) → k < size c → after.bank k ≡ without_reply (bank_at m k) (arriving_reply c m last k)
-  bank_after k hk =
-      as_sent.banks k hk
-      ∙ ap (λ o. without_reply (f.bank k) o) (bank_sends k hk)
-      ∙ ap (λ b. without_reply b (arriving_reply c m last k)) (sym (bank_is c f n events stops k hk))
+  bank_after k hk = grind (arith, bank_sends, bank_is)
 
   element_after : (p : ℕ) → p < size c → element_of (after.element p) ≡ deliver (element_at m p) (delivered c m p)
-  element_after p hp =
-      ap (λ o. deliver (element_of (sent.element p)) o) (comes_home p hp)
-      ∙ ap (λ e. deliver (element_of e) (delivered c m p)) (as_sent.elements p hp)
-      ∙ ap (λ e. deliver e (delivered c m p)) (sym (element_is c f n events stops p hp))
+  element_after p hp = grind (arith, comes_home, element_is)
 
   delivered_after : deliveries d sent ≡ present (places (size c) (λ p. delivery (delivered c m p)))
   unfolding deliveries
@@ -197,9 +178,4 @@ module _ (c : Settings) (f : Frame) (n : ℕ) (events : List Event) (stops : Lis
 
   pub replies_are : whole c after n (deliveries d sent) [] ≡ reply_phase c m
   unfolding reply_phase whole
-  replies_are =
-      let lanes = same_table d (size c) (λ s x. (sized_lane c after s x).lane) (λ s x. lane_after_split c m s x) lane_after in
-      let queues = same_table d (size c) (λ s y. (sized_replies c after s y).replies) (λ s y. next_replies c m s y) replies_after in
-      let banks = same_places (size c) (λ k. after.bank k) (λ k. without_reply (bank_at m k) (arriving_reply c m last k)) bank_after in
-      let elements = same_places (size c) (λ p. element_of (after.element p)) (λ p. deliver (element_at m p) (delivered c m p)) element_after in
-      same_machine n lanes queues banks elements delivered_after refl
+  replies_are = search (arith, lane_after, replies_after, same_places, bank_after, element_after, same_machine, delivered_after)

@@ -1,7 +1,7 @@
 -- requests that are sent and taken make up the definition's request phase
-use Rattle.std.proofs.Common.{◌≡◌, ◌≢◌, ℕ, ◌+◌, ◌*◌, ◌-◌, ◌/◌, ◌%◌, ◌^◌, ◌<◌, ◌≤◌, List, [], ◌∷◌, ◌++◌, Bool, true, false, refl, arith, ap, ◌∙◌, sym, ⊎_elim}
+use Rattle.std.proofs.Common.{◌≡◌, ◌≢◌, ℕ, ◌+◌, ◌*◌, ◌-◌, ◌/◌, ◌%◌, ◌^◌, ◌<◌, ◌≤◌, List, ◌++◌, false, refl, arith, ap, ◌∙◌, sym}
 use Rattle.std.specs.Prelude.{◌==◌, Option, Some, None, slice_get}
-use Rattle.std.proofs.lemmas.Bool.{eq-eqb, ne_eqb, cases_eq}
+use Rattle.std.proofs.lemmas.Bool.{eq-eqb, ne_eqb}
 use Rattle.ultra_msg.specs.declared.Request.{Request}
 use Rattle.ultra_msg.specs.declared.Event.{Event}
 use Rattle.ultra_route.specs.Route.{shuffled, unshuffled, bit_of}
@@ -10,19 +10,16 @@ use Rattle.ultra_switch.specs.declared.Ports.{Ports}
 use Rattle.ultra_switch.specs.declared.Switch.{Switch}
 use Rattle.ultra_switch.specs.Arrive.{Lane}
 use Rattle.ultra_switch.specs.Queues.{request_of}
-use Rattle.ultra_mem.specs.declared.Placed.{Placed}
-use Rattle.ultra_mem.specs.Serve.{Bank}
 use Rattle.ultra_model.specs.declared.Stop.{Stop}
 use Rattle.ultra_model.specs.Places.{table, joined, after_leaving}
-use Rattle.ultra_model.specs.Machine.{Settings, Machine, Element, size, last_stage, is_nothing, lane_at, bank_at, element_at, request_exit}
+use Rattle.ultra_model.specs.Machine.{Settings, Machine, Element, size, last_stage, lane_at, bank_at, element_at, request_exit}
 use Rattle.ultra_model.specs.Ranges.{AreInRange}
 use Rattle.ultra_model.specs.Phases as phase
 use Rattle.ultra_model.specs.Phases.{without_pending, with_request, arrive_all, has_request_room, request_before, admitted, arriving_request, entering, leaving_request, requests_by, arrivals_by, lane_after_leaving, next_lane, request_phase}
-use Rattle.ultra_model.proofs.Neighbours.{next_is, itself}
+use Rattle.ultra_model.proofs.Neighbours.{next_is}
 use Rattle.ultra_units.specs.Numbers.{switch_number, switch_count, module_number, place_number, request_source, request_target}
 use Rattle.ultra_halves.specs.Halves.{ports, where_room, lane_without, lane_with, coming_to, arrivals}
 use Rattle.ultra_halves.specs.Switches.{first_request, request_heads, requests_leaving, without_requests, after_requests, combinations_at, combinations_of}
-use Rattle.ultra_halves.specs.Modules.{bank_with}
 use Rattle.ultra_halves.specs.Elements.{element_of}
 use Rattle.ultra_course.specs.Ports.{at_port}
 use Rattle.ultra_course.specs.Frame.{Frame, Rooms, AreRooms, AreAlike}
@@ -30,22 +27,7 @@ use Rattle.ultra_course.specs.Course.{pending_head, at_switch, finds_room, reque
 use Rattle.ultra_course.specs.Whole.{sized_lane, sized_replies, whole, Fits}
 use Rattle.ultra_course.proofs.Numbers.{pick_true, pick_false, at_two, at_both, at_places, at_even, at_odd, at_number, with_came, number_small, each_number, at_link, behind}
 use Rattle.ultra_course.proofs.AtFrame.{same_places, same_table, same_machine, half_small, even_small, odd_small, at_switches, lane_is, bank_is, element_is, cycles_is, sizes_of, request_room_is, alike_at}
-use Rattle.ultra_course.proofs.Replies.{same_test}
 use Rattle.ultra_course.proofs.Regroup.{regroup}
-
--- what goes first in a cycle and what second
-first_at : {X Y : Type 0} (b : Bool) (g : X → List Y) (p : Ports X) → elim b [ true ↦ g p.zero ++ g p.one | false ↦ g p.one ++ g p.zero ] ≡ g (elim b [ true ↦ p.zero | false ↦ p.one ]) ++ g (elim b [ true ↦ p.one | false ↦ p.zero ])
-first_at true g p = refl
-first_at false g p = refl
-
-none_moves : {X : Type 0} (b : Bool) → where_room {X = X} b None ≡ None
-none_moves true = refl
-none_moves false = refl
-
--- a request enters a module whose register is empty
-enters : (i : Option Placed) (o : Option Request) → where_room (is_nothing i) o ≡ elim i [ None ↦ o | Some r ↦ None ]
-enters None o = refl
-enters (Some p) o = refl
 
 module _ (c : Settings) (f : Frame) (n : ℕ) (events : List Event) (stops : List Stop) (range : AreInRange c) (fits : Fits c n f)
     (rooms : Rooms) (noted : AreRooms c.stages f rooms) (sent : Frame) (as_sent : AreAlike c.stages sent (sends_requests c.stages rooms f)) where
@@ -107,15 +89,10 @@ module _ (c : Settings) (f : Frame) (n : ℕ) (events : List Event) (stops : Lis
 
   -- the first request of the last stage enters its module
   goes_to_module : (s x : ℕ) (o : Option Request) → s ≡ last → where_room (request_goes d rooms s x o) o ≡ where_room (rooms.bank x) o
-  goes_to_module s x None e = sym (none_moves (rooms.bank x))
-  goes_to_module s x (Some r) e = ap (λ b. where_room b (Some r)) (pick_true (s == last) (rooms.bank x) (finds_room d rooms (s + 1) (request_target d s x) r) (eq-eqb s last e))
+  goes_to_module s x o e = grind arith
 
   last_sends : (x : ℕ) → x < size c → where_room (rooms.bank x) (head last x) ≡ entering c m x
-  last_sends x hx =
-      ap (λ b. where_room b (head last x)) (noted.bank x hx)
-      ∙ enters (f.bank x).inp (head last x)
-      ∙ ap (λ (l : Lane). elim (f.bank x).inp [ None ↦ request_of (slice_get l.queue 0) | Some r ↦ None ]) (sym (lane_is c f n events stops last x (omega (arith, low)) hx))
-      ∙ ap (λ (b : Bank). elim b.inp [ None ↦ request_of (slice_get (lane_at m last x).queue 0) | Some r ↦ None ]) (sym (bank_is c f n events stops x hx))
+  last_sends x hx = grind (arith, lane_is, bank_is)
 
   -- that of another stage comes to the next
   goes_on : (s x : ℕ) (o : Option Request) → s ≢ last → s + 1 < d → x < size c → where_room (request_goes d rooms s x o) o ≡ admitted c m (s + 1) (shuffled d x) o
@@ -139,12 +116,7 @@ module _ (c : Settings) (f : Frame) (n : ℕ) (events : List Event) (stops : Lis
       goes_on s x (head s x) h hs hx ∙ ap (λ o. admitted c m (s + 1) y o) (sym before) ∙ arriving_as (s + 1) y
 
   leaves : (s x : ℕ) → s < d → x < size c → where_room (request_goes d rooms s x (head s x)) (head s x) ≡ leaving_request c m s x
-  leaves s x hs hx =
-      let on = arriving_request c m (s + 1) (shuffled d x) in
-      ⊎_elim
-      (λ e. goes_to_module s x (head s x) e ∙ ap (λ s. where_room (rooms.bank x) (head s x)) e ∙ last_sends x hx ∙ sym (pick_true (s == last) (entering c m x) on (eq-eqb s last e)))
-      (λ h. next_sends s x h (omega (arith, hs, h)) hx ∙ sym (pick_false (s == last) (entering c m x) on (ne_eqb s last h)))
-      (cases_eq s last)
+  leaves s x hs hx = search (arith, goes_to_module, last_sends, pick_true, eq-eqb, next_sends, ne_eqb)
 
   pub leaving_is : (s x : ℕ) → s < d → x < size c → at_port (requests_from d rooms f (switch_number d s (x / 2))) (x % 2) ≡ leaving_request c m s x
   leaving_is s x hs hx =
@@ -165,28 +137,13 @@ module _ (c : Settings) (f : Frame) (n : ℕ) (events : List Event) (stops : Lis
       ∙ ap (λ y. arriving_request c m 0 y) b.forth
 
   comes_on : (s y : ℕ) → s < d → s ≢ 0 → y < size c → sent.requests (place_number d (s - 1) (unshuffled d y)) ≡ arriving_request c m s y
-  comes_on s y hs hz hy =
-      let b = back d y low high hy in
-      let x = unshuffled d y in
-      let past : s - 1 ≢ last = omega (arith, hs, hz) in
-      let e : s - 1 + 1 ≡ s = omega (arith, hz) in
-      on_link (s - 1) x (omega (arith, hs, hz)) b.line_small
-      ∙ pick_false (s - 1 == last) (entering c m x) (arriving_request c m (s - 1 + 1) (shuffled d x)) (ne_eqb (s - 1) last past)
-      ∙ ap (λ s. arriving_request c m s (shuffled d x)) e
-      ∙ ap (λ y. arriving_request c m s y) b.forth
+  comes_on s y hs hz hy = grind (arith, back, on_link)
 
   pub comes : (s y : ℕ) → s < d → y < size c → sent.requests (request_source d s y) ≡ arriving_request c m s y
-  comes s y hs hy =
-      let from = place_number d d (unshuffled d y) in
-      let on = place_number d (s - 1) (unshuffled d y) in
-      ⊎_elim
-      (λ e. ap (λ l. sent.requests l) (pick_true (s == 0) from on (eq-eqb s 0 e)) ∙ comes_first y hy ∙ ap (λ s. arriving_request c m s y) (sym e))
-      (λ h. ap (λ l. sent.requests l) (pick_false (s == 0) from on (ne_eqb s 0 h)) ∙ comes_on s y hs h hy)
-      (cases_eq s 0)
+  comes s y hs hy = grind (arith, pick_true, eq-eqb, comes_first, ne_eqb, comes_on)
 
   pub comes_in : (k : ℕ) → k < size c → request_to d sent k ≡ entering c m k
-  comes_in k hk =
-      on_link last k (omega (arith, low)) hk ∙ pick_true (last == last) (entering c m k) (arriving_request c m (last + 1) (shuffled d k)) (itself last)
+  comes_in k hk = grind (arith, on_link)
 
   abbrev arrived : ℕ → ℕ → Ports (Option Request)
   arrived s k = ports (arriving_request c m s (2 * k)) (arriving_request c m s (2 * k + 1))
@@ -196,22 +153,10 @@ module _ (c : Settings) (f : Frame) (n : ℕ) (events : List Event) (stops : Lis
 
   -- ---- what arrives at a queue
   coming_is : (s x y : ℕ) (o : Option Request) → y / 2 ≡ x / 2 → coming_to d s (x % 2) o ≡ requests_by c s y x o
-  coming_is s x y None e = refl
-  coming_is s x y (Some r) e =
-      let g : Bool → List Request = λ b. elim b [ true ↦ r ∷ [] | false ↦ [] ] in
-      ap g (same_test (2 * (y / 2)) (bit_of (d - 1 - s) (r.cell % 2 ^ d)) x (x % 2) (omega (arith, e)))
+  coming_is s x y o e = grind arith
 
   due_is : (s x : ℕ) → arrivals d s (x % 2) n (arrived s (x / 2)) ≡ phase.arrivals c m s x
-  due_is s x =
-      let k = x / 2 in
-      let order : ℕ → List Request → List Request → List Request = λ i xs ys. elim (i % 2 == 0) [ true ↦ xs ++ ys | false ↦ ys ++ xs ] in
-      let to : Option Request → List Request = λ o. coming_to d s (x % 2) o in
-      let zero_to : to (arriving_request c m s (2 * k)) ≡ arrivals_by c m s (2 * k) x = coming_is s x (2 * k) (arriving_request c m s (2 * k)) (omega arith) in
-      let one_to : to (arriving_request c m s (2 * k + 1)) ≡ arrivals_by c m s (2 * k + 1) x = coming_is s x (2 * k + 1) (arriving_request c m s (2 * k + 1)) (omega arith) in
-      sym (first_at (n % 2 == 0) to (arrived s k))
-      ∙ ap (λ xs. order n xs (to (arriving_request c m s (2 * k + 1)))) zero_to
-      ∙ ap (λ ys. order n (arrivals_by c m s (2 * k) x) ys) one_to
-      ∙ ap (λ i. order i (arrivals_by c m s (2 * k) x) (arrivals_by c m s (2 * k + 1) x)) (sym (cycles_is c f n events stops))
+  due_is s x = grind (arith, coming_is, cycles_is)
 
   -- a switch after its requests left
   abbrev left : ℕ → Switch
@@ -266,22 +211,11 @@ module _ (c : Settings) (f : Frame) (n : ℕ) (events : List Event) (stops : Lis
       (λ s k hs hk. came_with (λ s k w o. combinations_of d s k n w o) s k hs hk ∙ combined_at s k hs hk ∙ sym (at_number d both s k hk))))
       ∙ sym (regroup d (sizes d low high).0 combined d)
 
-  bank_takes : (b : Bank) (o : Option Request) → bank_with (2 ^ d) b o ≡ with_request c b o
-  bank_takes b None = refl
-  bank_takes b (Some r) = refl
-
   bank_after : (k : ℕ) → k < size c → after.bank k ≡ with_request c (bank_at m k) (entering c m k)
-  bank_after k hk =
-      bank_takes (sent.bank k) (request_to d sent k)
-      ∙ ap (λ o. with_request c (sent.bank k) o) (comes_in k hk)
-      ∙ ap (λ b. with_request c b (entering c m k)) (as_sent.banks k hk)
-      ∙ ap (λ b. with_request c b (entering c m k)) (sym (bank_is c f n events stops k hk))
+  bank_after k hk = grind (arith, comes_in, bank_is)
 
   element_after : (p : ℕ) → p < size c → element_of (after.element p) ≡ without_pending (element_at m p) (arriving_request c m 0 (shuffled d p))
-  element_after p hp =
-      ap (λ e. element_of e) (as_sent.elements p hp)
-      ∙ ap (λ o. without_pending (element_of (f.element p)) o) (element_sends p hp)
-      ∙ ap (λ e. without_pending e (arriving_request c m 0 (shuffled d p))) (sym (element_is c f n events stops p hp))
+  element_after p hp = grind (arith, element_sends, element_is)
 
   pub requests_are : whole c after n (events ++ combinations d n sent) stops ≡ request_phase c m
   unfolding request_phase whole
