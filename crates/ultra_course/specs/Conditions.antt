@@ -1,4 +1,5 @@
--- the conditions of the halves that take messages, and of the one in which processing elements make a step
+-- the conditions of the halves that take messages, and of the one in which processing elements make
+-- a step
 use Rattle.std.specs.Prelude.{◌≡◌, ℕ, ◌-◌, ◌/◌, ◌^◌, ◌<◌, length, None}
 use Rattle.std.specs.Option.{ForSome}
 use Rattle.ultra_units.specs.Numbers.{switch_count}
@@ -15,7 +16,8 @@ module _ (d : ℕ) (f : Frame) where
   -- where replies come to a switch there is room; where one comes to a processing element, fewer
   -- requests wait than cells are open
   pub record CanTakeReplies : Type 0 where
-    pub switches : (n : ℕ) → n < switch_count d → switch.CanTakeReplies (f.switch n) (replies_to d f n)
+    pub switches : (n : ℕ) → n < switch_count d
+        → switch.CanTakeReplies (f.switch n) (replies_to d f n)
     pub elements : (p : ℕ) → p < 2 ^ d → ForSome (reply_to d f p) (λ _. HasSent (f.element p))
 
   -- where requests come to a switch there is room; one that comes to a module is for one of its
@@ -24,7 +26,8 @@ module _ (d : ℕ) (f : Frame) where
     pub switches :
         (n : ℕ) → n < switch_count d
         → switch.CanTakeRequests d (n / 2 ^ (d - 1)) (f.switch n) (requests_to d f n)
-    pub within : (m : ℕ) → m < 2 ^ d → ForSome (request_to d f m) (λ r. r.cell / 2 ^ d < length (f.bank m).cells)
+    pub within : (m : ℕ) → m < 2 ^ d
+        → ForSome (request_to d f m) (λ r. r.cell / 2 ^ d < length (f.bank m).cells)
     pub empty : (m : ℕ) → m < 2 ^ d → ForSome (request_to d f m) (λ _. (f.bank m).inp ≡ None)
 
   -- each processing element has issued few enough requests to count one more

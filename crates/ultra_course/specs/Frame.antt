@@ -38,7 +38,8 @@ module _ (d : ℕ) where
   -- these are the rooms of a frame
   pub record AreRooms (f : Frame) (rooms : Rooms) : Type 0 where
     pub reply : (n : ℕ) → n < switch_count d → rooms.reply n ≡ (rooms_of f).reply n
-    pub request : (n j : ℕ) → n < switch_count d → j < 2 → rooms.request n j ≡ (rooms_of f).request n j
+    pub request : (n j : ℕ) → n < switch_count d → j < 2
+        → rooms.request n j ≡ (rooms_of f).request n j
     pub bank : (m : ℕ) → m < 2 ^ d → rooms.bank m ≡ (rooms_of f).bank m
 
   -- two frames have the same units, and the same on their links

@@ -76,12 +76,14 @@ abbrev pub requests_on : List BlockState → ℕ → List (Option Request)
 requests_on bs l = map (λ b. on_link b.requests l) bs
 
 module _ (d : ℕ) (partition : List ℕ) where
-  -- each unit of a machine of d stages stands in the block that the partition names, and in no other
+  -- each unit of a machine of d stages stands in the block that the partition names, and in no
+  -- other
   pub record IsCut (bs : List BlockState) : Type 0 where
     pub count : length partition ≡ unit_count d
     pub homes : (n : ℕ) → n < unit_count d → home partition n < length bs
     pub stages : (k : ℕ) → k < length bs → (block_at bs k).stages ≡ d
-    pub stand : (k n : ℕ) → k < length bs → n < unit_count d → stands n (block_at bs k) ≡ (home partition n == k)
+    pub stand : (k n : ℕ) → k < length bs → n < unit_count d
+        → stands n (block_at bs k) ≡ (home partition n == k)
 
   -- the machine in the course of a cycle: its units by their numbers, and what is on its links
   abbrev pub frame_of : List BlockState → Frame

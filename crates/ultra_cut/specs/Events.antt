@@ -17,8 +17,10 @@ event_rank d (Issued r n) = 960 + element_number d r.pe
 
 -- the events of all blocks, in that order; those of one unit in the order in which they happened
 unfoldable pub events_of : ℕ → List BlockState → List Event
-events_of d bs = joined (places 1280 (λ i. joined (map (λ b. filter (λ e. event_rank d e == i) b.events) bs)))
+events_of d bs =
+    joined (places 1280 (λ i. joined (map (λ b. filter (λ e. event_rank d e == i) b.events) bs)))
 
 -- their faults, by processing element
 unfoldable pub stops_of : ℕ → List BlockState → List Stop
-stops_of d bs = joined (places (64) (λ p. joined (map (λ b. filter (λ (s : Stop). s.pe == p) b.stops) bs)))
+stops_of d bs =
+    joined (places (64) (λ p. joined (map (λ b. filter (λ (s : Stop). s.pe == p) b.stops) bs)))

@@ -19,14 +19,16 @@ AreSingleRequests bs = (l : ℕ) → IsSingle (requests_on bs l)
 -- of the blocks nothing has changed but where replies are; on each link is what was there
 pub record OnlyRepliesMove (old now : List BlockState) : Type 0 where
   pub count : length now ≡ length old
-  pub rest : (k : ℕ) → block_at now k ≡ record (block_at old k) { replies = (block_at now k).replies }
+  pub rest : (k : ℕ)
+      → block_at now k ≡ record (block_at old k) { replies = (block_at now k).replies }
   pub lengths : (k : ℕ) → length (block_at now k).replies ≡ length (block_at old k).replies
   pub links : (l : ℕ) → first (replies_on now l) ≡ first (replies_on old l)
   pub single : AreSingleReplies now
 
 pub record OnlyRequestsMove (old now : List BlockState) : Type 0 where
   pub count : length now ≡ length old
-  pub rest : (k : ℕ) → block_at now k ≡ record (block_at old k) { requests = (block_at now k).requests }
+  pub rest : (k : ℕ)
+      → block_at now k ≡ record (block_at old k) { requests = (block_at now k).requests }
   pub lengths : (k : ℕ) → length (block_at now k).requests ≡ length (block_at old k).requests
   pub links : (l : ℕ) → first (requests_on now l) ≡ first (requests_on old l)
   pub single : AreSingleRequests now
@@ -37,7 +39,8 @@ module _ (d : ℕ) (partition : List ℕ) where
   HasNoReplyFor bs k n = home partition n ≢ k → AreEmpty (block_at bs k).replies (reply_inlets d n)
 
   abbrev pub HasNoRequestFor : List BlockState → ℕ → ℕ → Type 0
-  HasNoRequestFor bs k n = home partition n ≢ k → AreEmpty (block_at bs k).requests (request_inlets d n)
+  HasNoRequestFor bs k n =
+      home partition n ≢ k → AreEmpty (block_at bs k).requests (request_inlets d n)
 
   -- each message is in the block of the unit to which it leads
   abbrev pub AreRepliesThere : List BlockState → Type 0

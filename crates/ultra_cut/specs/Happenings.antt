@@ -47,7 +47,8 @@ element_stops program p (Some e) = present (stop_of p (step_at program e).was �
 -- ---- of the unit with a number, as a block of a machine of d stages has it
 module _ (d : ℕ) where
   abbrev pub delivery_at : BlockState → ℕ → List Event
-  delivery_at b p = delivery_events (element_at b.elements p) (on_link b.replies (delivery_link d p))
+  delivery_at b p =
+      delivery_events (element_at b.elements p) (on_link b.replies (delivery_link d p))
 
   abbrev pub serving_at : BlockState → ℕ → List Event
   serving_at b m = serving_events m (module_at b.modules m)

@@ -15,9 +15,12 @@ use Rattle.ultra_cut.specs.Halves.{AreBlocks}
 
 -- switch k of stage s: in the queues or wait buffers of its two positions
 abbrev pub stage_holds : Machine → Held → ℕ → ℕ → Bool
-stage_holds m Reply s k = not (has_none (replies_at m s (2 * k)) && has_none (replies_at m s (2 * k + 1)))
-stage_holds m Request s k = not (has_none (lane_at m s (2 * k)).queue && has_none (lane_at m s (2 * k + 1)).queue)
-stage_holds m Record s k = not (has_none (lane_at m s (2 * k)).records && has_none (lane_at m s (2 * k + 1)).records)
+stage_holds m Reply s k =
+    not (has_none (replies_at m s (2 * k)) && has_none (replies_at m s (2 * k + 1)))
+stage_holds m Request s k =
+    not (has_none (lane_at m s (2 * k)).queue && has_none (lane_at m s (2 * k + 1)).queue)
+stage_holds m Record s k =
+    not (has_none (lane_at m s (2 * k)).records && has_none (lane_at m s (2 * k + 1)).records)
 
 -- a processing element: in its interface
 abbrev pub interface_holds : Held → Element → Bool

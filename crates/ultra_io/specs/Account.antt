@@ -15,7 +15,8 @@ bytes_in (Failed' m before) = bytes_in before
 abbrev pub files_in : Account → List File
 files_in Opened = []
 files_in (Took' m before byte) = files_in before
-files_in (Read' m before n path bytes) = files_in before ++ file_of (bytes_in path) bytes.value.items ∷ []
+files_in (Read' m before n path bytes) =
+    files_in before ++ file_of (bytes_in path) bytes.value.items ∷ []
 files_in (Failed' m before) = files_in before
 
 -- how many calls failed

@@ -54,7 +54,8 @@ module _ {S : Type 0} (taken : S → List ℕ) (failures : S → ℕ) where
     failed = p.failed;
   }
 
-  -- text that goes as far as a place on the page goes on with bytes, as far as the place behind them
+  -- text that goes as far as a place on the page goes on with bytes, as far as the place behind
+  -- them
   pub record GoesOn (bytes : List ℕ) (old : Page S) (at : ℕ) (new : Page S) (behind : ℕ) : Type 0 where
     pub same_reference : new.sink.ghost_name ≡ old.sink.ghost_name
     pub wrote : Wrote bytes (state_at old at) (state_at new behind)

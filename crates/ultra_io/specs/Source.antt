@@ -11,7 +11,8 @@ pub record File : Type 0 where
 abbrev pub file_of : List ℕ → List ℕ → File
 file_of path bytes = record { path = path; bytes = bytes }
 
--- how often the source itself failed in a call that ended with the fault: where memory was refused, it hasn't failed
+-- how often the source itself failed in a call that ended with the fault: where memory was refused,
+-- it hasn't failed
 abbrev pub failures_of : SourceFault → ℕ
 failures_of NotRead = 1
 failures_of NoMemory = 0
