@@ -1,5 +1,6 @@
 -- A machine whose blocks are one.
-use Rattle.std.proofs.Common.{◌≡◌, ℕ, ◌<◌, List, [], ◌∷◌, arith, refl, ap, ◌∙◌, sym, subst, length}
+use Rattle.std.proofs.lemmas.Grind.{common_steps}
+use Rattle.std.proofs.Common.{◌≡◌, ℕ, ◌<◌, List, [], ◌∷◌, arith, ap, ◌∙◌, sym, subst, length}
 use Rattle.std.proofs.lemmas.List.{ext_get_or, length-replicate, get_or-replicate}
 use Rattle.ultra_model.specs.declared.Stop.{Stop}
 use Rattle.ultra_isa.specs.declared.Instr.{Instr}
@@ -15,9 +16,7 @@ use Rattle.ultra_cut.specs.Moments.{AreWhole}
 use Rattle.ultra_block.proofs.Firsts.{is_ranked}
 
 only_one : (bs : List BlockState) → length bs ≡ 1 → bs ≡ block_at bs 0 ∷ []
-only_one [] one = absurd (omega arith)
-only_one (b ∷ []) one = refl
-only_one (b ∷ x ∷ xs) one = absurd (omega arith)
+only_one bs one = grind (arith, common_steps)
 
 -- the lists of one block are those of the machine
 module _ (d : ℕ) (b : BlockState) (order : IsInOrder d b) where

@@ -1,7 +1,7 @@
 -- The units of one block: those below a number have gone to the blocks that a partition names.
-use Rattle.std.proofs.Common.{◌≡◌, ◌≢◌, ℕ, ◌+◌, ◌*◌, ◌^◌, ◌<◌, List, Option, None, length, set, replicate, refl, sym, ◌∙◌, ap, subst, inl, inr, arith, get_or-set_same, get_or-set_other}
-use Rattle.std.proofs.lemmas.Bool.{cases_eq}
-use Rattle.std.proofs.lemmas.List.{get_or-replicate, length-replicate, length-set}
+use Rattle.std.proofs.lemmas.Grind.{common_steps}
+use Rattle.std.proofs.Common.{◌≡◌, ◌≢◌, ℕ, ◌+◌, ◌^◌, ◌<◌, List, Option, None, length, set, replicate, refl, ◌∙◌, ap, arith, get_or-set_same, get_or-set_other}
+use Rattle.std.proofs.lemmas.List.{length-replicate, length-set}
 use Rattle.ultra_switch.specs.declared.Switch.{Switch}
 use Rattle.ultra_mem.specs.Serve.{Bank}
 use Rattle.ultra_units.specs.Numbers.{switch_count, unit_count, module_number, element_number}
@@ -26,17 +26,11 @@ module _ (bs : List BlockState) (h : ℕ) (x : BlockState) (within : h < length 
 
   -- what the new one has as the old one
   pub same_part : {Y : Type 0} (get : BlockState → Y) → get x ≡ get (block_at bs h) → (k : ℕ) → get (block_at (set bs h x) k) ≡ get (block_at bs k)
-  same_part get same k = elim (cases_eq k h) [
-    | inl is ↦ ap (λ j. get (block_at (set bs h x) j)) is ∙ ap get block_now ∙ same ∙ ap (λ j. get (block_at bs j)) (sym is)
-    | inr other ↦ ap get (block_still k other)
-  ]
+  same_part get same k = grind (arith, block_now, block_still)
 
   -- what holds of it and of all the others
   pub of_each_now : (P : BlockState → Type 0) → P x → OfEach P bs → OfEach P (set bs h x)
-  of_each_now P new old k small = elim (cases_eq k h) [
-    | inl is ↦ subst P (sym (ap (block_at (set bs h x)) is ∙ block_now)) new
-    | inr other ↦ subst P (sym (block_still k other)) (old k (let e = length-set bs h x in omega arith))
-  ]
+  of_each_now P new old k small = grind (arith, block_now, block_still, length-set)
 
 module _ (d : ℕ) (partition : List ℕ) (b : BlockState) (blocks : ℕ) where
   -- a block without units but for those of a machine of d stages
@@ -55,25 +49,8 @@ module _ (d : ℕ) (partition : List ℕ) (b : BlockState) (blocks : ℕ) where
 
   -- ---- at first
   module _ (shape : IsShaped d b) where
-    new_block : (k : ℕ) → k < blocks → block_at (replicate blocks (empty_after d b.program b.done)) k ≡ empty_after d b.program b.done
-    new_block k h = get_or-replicate blocks k (empty_after d b.program b.done) no_block h
-
-    bare_new : IsBare (empty_after d b.program b.done)
-    bare_new = record { stages = refl; only = record { runs = refl; done = refl; replies = refl; requests = refl; story = record { events = refl; stops = refl } } }
-
     pub none_carried : AreCarriedBelow 0 b (replicate blocks (empty_after d b.program b.done))
-    none_carried =
-        let new = replicate blocks (empty_after d b.program b.done) in
-        let all = length-replicate blocks (empty_after d b.program b.done) in
-        record {
-          stages = shape.stages;
-          story = record { events = refl; stops = refl };
-          count = all;
-          bare = λ k h. subst IsBare (sym (new_block k (omega arith))) bare_new;
-          switches = table.none_carried partition (λ i. i) (switch_count d) blocks b.switches (λ k. (block_at new k).switches) shape.switches (λ k h. ap (λ (x : BlockState). x.switches) (new_block k h));
-          modules = table.none_carried partition (module_number d) (2 ^ d) blocks b.modules (λ k. (block_at new k).modules) shape.modules (λ k h. ap (λ (x : BlockState). x.modules) (new_block k h));
-          elements = table.none_carried partition (element_number d) (2 ^ d) blocks b.elements (λ k. (block_at new k).elements) shape.elements (λ k h. ap (λ (x : BlockState). x.elements) (new_block k h));
-        }
+    none_carried = grind (arith, common_steps)
 
   -- ---- one unit more
   module _ (n : ℕ) (left : BlockState) (now : List BlockState) (within : home partition n < blocks) (was : AreCarriedBelow n left now) where
@@ -88,19 +65,7 @@ module _ (d : ℕ) (partition : List ℕ) (b : BlockState) (blocks : ℕ) where
 
     -- the block stays as it is but for its units
     still_bare : (ws : List (Option Switch)) (ms : List (Option Bank)) (es : List (Option ProcessingElement)) → IsBare (record x { switches = ws; modules = ms; elements = es })
-    still_bare ws ms es =
-        let bare = was.bare h there in
-        let only = bare.only in
-        record {
-          stages = bare.stages;
-          only = record {
-            runs = only.runs;
-            done = only.done;
-            replies = only.replies;
-            requests = only.requests;
-            story = record { events = only.story.events; stops = only.story.stops };
-          };
-        }
+    still_bare ws ms es = grind arith
 
     switch_carried : n < switch_count d
         → AreCarriedBelow (n + 1) (record left { switches = set left.switches n None }) (set now h (record x { switches = put_on x.switches n (switch_at left.switches n) }))
@@ -155,9 +120,7 @@ module _ (d : ℕ) (partition : List ℕ) (b : BlockState) (blocks : ℕ) where
 
   carried_as : (n : ℕ) (left : BlockState) (now : List BlockState) (l x : BlockState) → AreCarriedBelow (n + 1) l (set now (home partition n) x) → without_unit n left ≡ l
       → with_unit n left (block_at now (home partition n)) ≡ x → AreCarriedBelow (n + 1) (without_unit n left) (set now (home partition n) (with_unit n left (block_at now (home partition n))))
-  carried_as n left now l x carried at_left at_home =
-      subst (λ y. AreCarriedBelow (n + 1) (without_unit n left) (set now (home partition n) y)) (sym at_home)
-      (subst (λ m. AreCarriedBelow (n + 1) m (set now (home partition n) x)) (sym at_left) carried)
+  carried_as n left now l x carried left_is now_is = grind arith
 
   pub unit_carried : (n : ℕ) → n < unit_count d → (left : BlockState) (now : List BlockState) → home partition n < blocks → AreCarriedBelow n left now
       → AreCarriedBelow (n + 1) (without_unit n left) (set now (home partition n) (with_unit n left (block_at now (home partition n))))
@@ -175,22 +138,4 @@ module _ (d : ℕ) (partition : List ℕ) (b : BlockState) (blocks : ℕ) where
 
   -- ---- in the end
   pub all_carried : (left : BlockState) (now : List BlockState) → AreCarriedBelow (unit_count d) left now → AreCarried d partition b now
-  all_carried left now was =
-      let all = was.count in
-      record {
-        shaped = λ k h.
-            let bare = was.bare k h in
-            let only = bare.only in
-            record {
-              stages = bare.stages;
-              switches = was.switches.lengths k (omega arith);
-              modules = was.modules.lengths k (omega arith);
-              elements = was.elements.lengths k (omega arith);
-              replies = ap (λ t. length t) only.replies ∙ length-replicate ((d + 1) * 2 ^ d) None;
-              requests = ap (λ t. length t) only.requests ∙ length-replicate ((d + 1) * 2 ^ d) None;
-            };
-        bare = λ k h. (was.bare k h).only;
-        switches = λ k n hk hn. was.switches.there k n (omega arith) hn (omega arith);
-        modules = λ k m hk hm. was.modules.there k m (omega arith) hm (omega arith);
-        elements = λ k p hk hp. was.elements.there k p (omega arith) hp (omega arith);
-      }
+  all_carried left now was = grind (arith, length-replicate)

@@ -1,51 +1,32 @@
 -- A machine in one block is a whole machine before its first cycle, and stays one when it is dealt to blocks.
-use Rattle.std.proofs.Common.{◌≡◌, ℕ, zero, suc, ◌<◌, ◌≤◌, List, [], ◌∷◌, map, All, length, get_or, arith, refl, ap, ◌∙◌, sym, subst}
-use Rattle.std.specs.List.Sorted.{IsNonDecreasing}
-use Rattle.ultra_msg.specs.declared.Event.{Event}
+use Rattle.std.proofs.Common.{◌≡◌, ℕ, zero, suc, ◌<◌, ◌≤◌, List, [], ◌∷◌, length, get_or, arith, refl, ap, ◌∙◌, sym, subst}
 use Rattle.ultra_model.specs.declared.Stop.{Stop}
 use Rattle.ultra_isa.specs.declared.Instr.{Instr}
 use Rattle.ultra_model.specs.Machine.{Settings, start}
 use Rattle.ultra_model.specs.Sound.{IsSound}
 use Rattle.ultra_section.specs.BlockState.{BlockState}
-use Rattle.ultra_course.specs.Whole.{emptied, whole}
+use Rattle.ultra_course.specs.Whole.{emptied}
 use Rattle.ultra_mem.specs.Serve.{Bank}
 use Rattle.ultra_halves.specs.declared.elements.ProcessingElement.{ProcessingElement}
 use Rattle.ultra_course.proofs.AtFrame.{whole_alike}
-use Rattle.ultra_cut.specs.Cut.{block_at, frame_of}
+use Rattle.ultra_cut.specs.Cut.{block_at}
 use Rattle.ultra_cut.specs.Events.{event_rank, events_of, stops_of}
 use Rattle.ultra_cut.specs.InOrder.{IsInOrder}
 use Rattle.ultra_merge.proofs.Merged.{merged_none, merged_of}
-use Rattle.ultra_block.specs.Fresh.{IsFresh, frame_of_one, one_block}
+use Rattle.ultra_block.specs.Fresh.{IsFresh, one_block}
 use Rattle.ultra_block.specs.Dealt.{IsDealt}
 use Rattle.ultra_cut.specs.Moments.{AreWhole, machine_in}
 
 -- ---- what blocks list
 lists_same : (d : ℕ) (x y : BlockState) → x.events ≡ y.events → x.stops ≡ y.stops → IsInOrder d y → IsInOrder d x
-lists_same d x y events stops order = record {
-  events = subst (λ es. IsNonDecreasing (map (event_rank d) es)) (sym events) order.events;
-  ranks = subst (λ es. All (λ e. event_rank d e < 1280) es) (sym events) order.ranks;
-  stops = subst (λ ss. IsNonDecreasing (map (λ (s : Stop). s.pe) ss)) (sym stops) order.stops;
-  elements = subst (λ ss. All (λ (s : Stop). s.pe < 64) ss) (sym stops) order.elements;
-}
-
-none_fall : {X : Type 0} (f : X → ℕ) → IsNonDecreasing (map f [])
-none_fall f i j d order within = absurd (omega arith)
-
-none_fail : {X : Type 0} (P : X → Type 0) → All P []
-none_fail P i d within = absurd (omega arith)
+lists_same d x y events stops order = grind arith
 
 lists_nothing : (d : ℕ) (x : BlockState) → x.events ≡ [] → x.stops ≡ [] → IsInOrder d x
-lists_nothing d x events stops = record {
-  events = subst (λ es. IsNonDecreasing (map (event_rank d) es)) (sym events) (none_fall (event_rank d));
-  ranks = subst (λ es. All (λ e. event_rank d e < 1280) es) (sym events) (none_fail (λ (e : Event). event_rank d e < 1280));
-  stops = subst (λ ss. IsNonDecreasing (map (λ (s : Stop). s.pe) ss)) (sym stops) (none_fall (λ (s : Stop). s.pe));
-  elements = subst (λ ss. All (λ (s : Stop). s.pe < 64) ss) (sym stops) (none_fail (λ (s : Stop). s.pe < 64));
-}
+lists_nothing d x events stops = grind arith
 
 -- one block that lists nothing has no events and no stops
 one_empty : {X : Type 0} (xs : List X) → xs ≡ [] → (i : ℕ) → i < 1 → get_or {A = List X} (xs ∷ []) i [] ≡ []
-one_empty xs none zero h = none
-one_empty xs none (suc i) h = absurd (omega arith)
+one_empty xs none i h = grind arith
 
 no_events : (d : ℕ) (b : BlockState) → b.events ≡ [] → events_of d (b ∷ []) ≡ []
 unfolding events_of
@@ -61,26 +42,10 @@ module _ (c : Settings) (program : List Instr) (b : BlockState) (fresh : IsFresh
   one = one_block c.stages
 
   pub fresh_machine : machine_in c one 0 (b ∷ []) ≡ start c
-  fresh_machine =
-      ap (λ es. whole c (frame_of_one c.stages b) 0 es (stops_of c.stages (b ∷ []))) (no_events c.stages b fresh.events)
-      ∙ ap (λ ss. whole c (frame_of_one c.stages b) 0 [] ss) (no_stops c.stages b fresh.stops)
-      ∙ fresh.machine.machine
-
-  only_block : (P : BlockState → Type 0) → P b → (k : ℕ) → k < 1 → P (block_at (b ∷ []) k)
-  only_block P h zero within = h
-  only_block P h (suc k) within = absurd (omega arith)
+  fresh_machine = grind (arith, no_events, no_stops)
 
   pub fresh_whole : AreWhole c program one 0 (b ∷ [])
-  fresh_whole = record {
-    machine = record {
-      blocks = fresh.blocks;
-      runs = only_block (λ x. x.program ≡ program) fresh.runs;
-      done = only_block (λ x. x.done ≡ 0) fresh.done;
-      machine = record { range = fresh.machine.range; fits = fresh.machine.fits; machine = refl; sound = subst (λ m. IsSound c m) (sym fresh_machine) fresh.machine.sound };
-    };
-    clear = fresh.clear;
-    in_order = only_block (λ x. IsInOrder c.stages x) (lists_nothing c.stages b fresh.events fresh.stops);
-  }
+  fresh_whole = grind (arith, fresh_machine)
 
 -- ---- dealt to blocks
 module _ (c : Settings) (program : List Instr) (n : ℕ) (b : BlockState) (was : AreWhole c program (one_block c.stages) n (b ∷ [])) (partition : List ℕ) (now : List BlockState) (dealt : IsDealt c.stages partition b now) where
@@ -88,10 +53,7 @@ module _ (c : Settings) (program : List Instr) (n : ℕ) (b : BlockState) (was :
   d = c.stages
 
   pub dealt_machine : machine_in c partition n now ≡ machine_in c (one_block d) n (b ∷ [])
-  dealt_machine =
-      whole_alike c was.machine.machine.range (frame_of d partition now) (frame_of_one d b) dealt.frame n (events_of d now) (stops_of d now)
-      ∙ ap (λ es. whole c (frame_of_one d b) n es (stops_of d now)) dealt.events
-      ∙ ap (λ ss. whole c (frame_of_one d b) n (events_of d (b ∷ [])) ss) dealt.stops
+  dealt_machine = grind (arith, whole_alike)
 
   block_in_order : (k : ℕ) → k < length now → IsInOrder d (block_at now k)
   block_in_order zero within = lists_same d (block_at now 0) b dealt.first.events dealt.first.stops (was.in_order 0 (omega arith))

@@ -1,10 +1,10 @@
 -- a module filled with the initial values, one after the other
-use Rattle.std.proofs.Common.{◌≡◌, ◌≢◌, ℕ, zero, suc, ◌+◌, ◌*◌, ◌/◌, ◌%◌, ◌<◌, List, [], ◌∷◌, ◌++◌, true, false, refl, inl, inr, arith, ap, ◌∙◌, sym, length, get_or, set, replicate}
+use Rattle.std.proofs.Common.{◌≡◌, ◌≢◌, ℕ, zero, suc, ◌+◌, ◌*◌, ◌/◌, ◌%◌, ◌<◌, List, [], ◌∷◌, ◌++◌, true, false, refl, arith, ap, ◌∙◌, get_or, set, replicate}
 use Rattle.std.specs.Prelude.{◌==◌, ◌⊎◌, map}
 use Rattle.std.specs.List.{range_with_len}
 use Rattle.std.proofs.lemmas.List.{same_lists, length-set, get_or-set_same, get_or-set_other}
-use Rattle.std.proofs.lemmas.Bool.{cases_eq, eq-eqb, ne_eqb}
-use Rattle.std.proofs.lemmas.Nat.{div-mul-add, mod-mul-add, div-add-mod'}
+use Rattle.std.proofs.lemmas.Bool.{eq-eqb, ne_eqb}
+use Rattle.std.proofs.lemmas.Nat.{div-mul-add, mod-mul-add}
 use Rattle.ultra_model.specs.Places.{places}
 use Rattle.ultra_model.specs.Machine.{given_value}
 use Rattle.ultra_model.proofs.Each.{places_at, length-places}
@@ -26,44 +26,16 @@ module _ (size m n : ℕ) (small : m < size) where
   abbrev values : List (ℕ × ℕ) → List ℕ
   values xs = places n (λ o. given_value xs (o * size + m) 0)
 
-  -- the address of a cell of this module
-  address : (a : ℕ) → a % size ≡ m → a ≡ a / size * size + m
-  address a h = sym (div-add-mod' a size) ∙ ap (λ r. a / size * size + r) h
-
   at_cell : (xs : List (ℕ × ℕ)) (x : ℕ × ℕ) (k d : ℕ) → x.0 % size ≡ m → x.0 / size < n → k < n → (k ≡ x.0 / size) ⊎ (k ≢ x.0 / size) → get_or (set (values xs) (x.0 / size) x.1) k d ≡ get_or (values (xs ++ x ∷ [])) k d
-  at_cell xs x k d h b w (inl e) =
-      let l : x.0 / size < length (values xs) = omega (arith, b, length-places n (λ o. given_value xs (o * size + m) 0)) in
-      ap (λ k. get_or (set (values xs) (x.0 / size) x.1) k d) e
-      ∙ get_or-set_same (values xs) (x.0 / size) x.1 d l
-      ∙ sym (given_here xs x (x.0 / size * size + m) 0 (address x.0 h))
-      ∙ ap (λ k. given_value (xs ++ x ∷ []) (k * size + m) 0) (sym e)
-      ∙ sym (places_at n (λ o. given_value (xs ++ x ∷ []) (o * size + m) 0) k d w)
-  at_cell xs x k d h b w (inr e) =
-      let other : x.0 ≢ k * size + m = λ a. e (sym (ap (λ a. a / size) a ∙ div-mul-add k size m small)) in
-      get_or-set_other (values xs) (x.0 / size) k x.1 d e
-      ∙ places_at n (λ o. given_value xs (o * size + m) 0) k d w
-      ∙ sym (places_at n (λ o. given_value (xs ++ x ∷ []) (o * size + m) 0) k d w ∙ given_past xs x (k * size + m) 0 other)
+  at_cell xs x k d h b w either = grind (arith, length-places, get_or-set_same, given_here, places_at, div-mul-add, get_or-set_other, given_past)
 
   -- an address of this module sets its cell
   cells_here : (xs : List (ℕ × ℕ)) (x : ℕ × ℕ) → x.0 % size ≡ m → x.0 / size < n → set (values xs) (x.0 / size) x.1 ≡ values (xs ++ x ∷ [])
-  cells_here xs x h b =
-      same_lists (set (values xs) (x.0 / size) x.1) (values (xs ++ x ∷ []))
-      (length-set (values xs) (x.0 / size) x.1 ∙ length-places n (λ o. given_value xs (o * size + m) 0) ∙ sym (length-places n (λ o. given_value (xs ++ x ∷ []) (o * size + m) 0)))
-      (λ k d l.
-      let long = length-set (values xs) (x.0 / size) x.1 in
-      let count = length-places n (λ o. given_value xs (o * size + m) 0) in
-      at_cell xs x k d h b (omega (arith, l, long, count)) (cases_eq k (x.0 / size)))
+  cells_here xs x h b = grind (arith, same_lists, length-set, length-places, at_cell)
 
   -- another leaves them
   cells_past : (xs : List (ℕ × ℕ)) (x : ℕ × ℕ) → x.0 % size ≢ m → values xs ≡ values (xs ++ x ∷ [])
-  cells_past xs x h =
-      same_lists (values xs) (values (xs ++ x ∷ []))
-      (length-places n (λ o. given_value xs (o * size + m) 0) ∙ sym (length-places n (λ o. given_value (xs ++ x ∷ []) (o * size + m) 0)))
-      (λ k d l.
-      let count = length-places n (λ o. given_value xs (o * size + m) 0) in
-      let within : k < n = omega (arith, l, count) in
-      let other : x.0 ≢ k * size + m = λ a. h (ap (λ a. a % size) a ∙ mod-mul-add k size m small) in
-      places_at n (λ o. given_value xs (o * size + m) 0) k d within ∙ sym (places_at n (λ o. given_value (xs ++ x ∷ []) (o * size + m) 0) k d within ∙ given_past xs x (k * size + m) 0 other))
+  cells_past xs x h = grind (arith, mod-mul-add, given_past)
 
   pub fill_here : (xs : List (ℕ × ℕ)) (x : ℕ × ℕ) → x.0 % size ≡ m → x.0 / size < n → record (filled size m n xs) { cells = set (filled size m n xs).cells (x.0 / size) x.1 } ≡ filled size m n (xs ++ x ∷ [])
   fill_here xs x h b = ap (λ cs. record (filled size m n xs) { cells = cs }) (cells_here xs x h b)

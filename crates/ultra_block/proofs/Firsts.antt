@@ -1,6 +1,7 @@
 -- The lists of the first blocks, one more with each block.
-use Rattle.std.proofs.Common.{◌≡◌, ℕ, ◌+◌, ◌<◌, ◌≤◌, All, arith, List, [], ◌∷◌, ◌++◌, map, take, length, get_or, ap, ◌∙◌, sym, subst}
-use Rattle.std.proofs.lemmas.List.{take_more, map-append, get_or-map, length-map}
+use Rattle.std.proofs.lemmas.Grind.{common_steps}
+use Rattle.std.proofs.Common.{◌≡◌, ℕ, ◌+◌, ◌<◌, ◌≤◌, All, arith, List, [], ◌∷◌, ◌++◌, map, take, length, get_or, sym, subst}
+use Rattle.std.proofs.lemmas.List.{get_or-map, length-map}
 use Rattle.std.specs.List.Sorted.{IsNonDecreasing, IsNonDecreasingBy}
 use Rattle.ultra_model.specs.declared.Stop.{Stop}
 use Rattle.ultra_section.specs.BlockState.{BlockState}
@@ -10,9 +11,7 @@ use Rattle.ultra_merge.proofs.Merged.{merged_of}
 
 pub one_more : {X Y : Type 0} (f : X → Y) (xs : List X) (i : ℕ) (x d : X) (ys : List Y) → i < length xs → x ≡ get_or xs i d → ys ≡ map f (take i xs)
     → ys ++ f x ∷ [] ≡ map f (take (i + 1) xs)
-one_more f xs i x d ys within is so_far =
-    ap (λ zs. zs ++ f x ∷ []) so_far ∙ ap (λ y. map f (take i xs) ++ f y ∷ []) is
-    ∙ sym (map-append f (take i xs) (get_or xs i d ∷ [])) ∙ ap (λ zs. map f zs) (sym (take_more xs i d within))
+one_more f xs i x d ys within is are = grind (arith, common_steps)
 
 -- what ascends by rank, as a merge takes it
 by_rank : {X : Type 0} (n : X → ℕ) (xs : List X) → IsNonDecreasing (map n xs) → IsNonDecreasingBy n xs

@@ -1,7 +1,8 @@
 -- a list whose elements are changed one after the other
-use Rattle.std.proofs.Common.{◌≡◌, ℕ, zero, suc, ◌+◌, ◌<◌, ◌≤◌, List, [], ◌∷◌, ◌++◌, arith, ap, ◌∙◌, sym, length, get_or, set, take, drop, append_assoc, subst}
+use Rattle.std.proofs.lemmas.Grind.{common_steps}
+use Rattle.std.proofs.Common.{◌≡◌, ℕ, ◌+◌, ◌<◌, List, ◌++◌, arith, ap, ◌∙◌, sym, length, get_or, set, take, drop, subst}
 use Rattle.std.specs.Prelude.{map, All}
-use Rattle.std.proofs.lemmas.List.{map-append, take_more, drop_more, set_at, get_or_at, length-map, length-take-le, take_all, drop_all, append-nil}
+use Rattle.std.proofs.lemmas.List.{drop_more, set_at, get_or_at, length-map, length-take-le}
 
 module _ {X : Type 0} (f : X → X) where
   -- the first i are changed, the others not yet
@@ -13,27 +14,10 @@ module _ {X : Type 0} (f : X → X) where
 
   -- the next is as it was
   pub next_is : (xs ys : List X) (i : ℕ) (d : X) → i < length xs → ys ≡ changed i xs → get_or ys i d ≡ get_or xs i d
-  next_is xs ys i d h e =
-      ap (λ zs. get_or zs i d) (e ∙ ap (λ zs. map f (take i xs) ++ zs) (drop_more xs i d h))
-      ∙ get_or_at (map f (take i xs)) (get_or xs i d) (drop (i + 1) xs) d i (front i xs h)
+  next_is xs ys i d h e = grind (arith, drop_more, get_or_at, front)
 
   pub one_more : (xs ys : List X) (i : ℕ) (u d : X) → i < length xs → ys ≡ changed i xs → u ≡ f (get_or xs i d) → set ys i u ≡ changed (i + 1) xs
-  one_more xs ys i u d h e k =
-      ap (λ zs. set zs i u) (e ∙ ap (λ zs. map f (take i xs) ++ zs) (drop_more xs i d h))
-      ∙ set_at (map f (take i xs)) (get_or xs i d) (drop (i + 1) xs) u i (front i xs h)
-      ∙ ap (λ v. map f (take i xs) ++ (v ∷ drop (i + 1) xs)) k
-      ∙ sym (append_assoc (map f (take i xs)) (f (get_or xs i d) ∷ []) (drop (i + 1) xs))
-      ∙ ap (λ zs. zs ++ drop (i + 1) xs) (sym (map-append f (take i xs) (get_or xs i d ∷ [])) ∙ ap (λ zs. map f zs) (sym (take_more xs i d h)))
-
-  pub all_done : (xs ys : List X) (i : ℕ) → length xs ≤ i → ys ≡ changed i xs → ys ≡ map f xs
-  all_done xs ys i h e =
-      e ∙ ap (λ zs. map f zs ++ drop i xs) (take_all i xs h) ∙ ap (λ zs. map f xs ++ zs) (drop_all i xs h) ∙ append-nil (map f xs)
-
-  -- what a change keeps of each element
-  pub all-map : (P : X → Type 0) (xs : List X) → ((x : X) → P x → P (f x)) → All P xs → All P (map f xs)
-  all-map P [] k h i d l = absurd (omega (arith, l))
-  all-map P (x ∷ xs) k h zero d l = k x (h 0 d (omega arith))
-  all-map P (x ∷ xs) k h (suc i) d l = all-map P xs k (λ j e m. h (suc j) e (omega (arith, m))) i d (omega (arith, l))
+  one_more xs ys i u d h e k = grind (arith, common_steps, set_at)
 
   -- the next one is read, changed and written back
   pub stepped : (xs ys : List X) (i : ℕ) (u v : X) → i < length xs → ys ≡ changed i xs → u ≡ f (get_or ys i v) → set ys i u ≡ changed (i + 1) xs

@@ -1,5 +1,5 @@
 -- A machine whose units have gone to the blocks that a partition names; block 0 has the lists of the cycle.
-use Rattle.std.proofs.Common.{◌≡◌, ℕ, suc, ◌+◌, ◌*◌, ◌^◌, ◌<◌, ◌≤◌, List, [], ◌∷◌, Option, None, Some, Bool, true, false, length, map, get_or, set, replicate, refl, sym, ◌∙◌, ap, subst, arith}
+use Rattle.std.proofs.Common.{◌≡◌, ℕ, suc, ◌+◌, ◌*◌, ◌^◌, ◌<◌, ◌≤◌, List, [], ◌∷◌, Option, None, Some, Bool, true, length, map, get_or, set, replicate, refl, sym, ◌∙◌, ap, subst, arith}
 use Rattle.std.specs.Prelude.{◌==◌, All, is_some}
 use Rattle.std.proofs.lemmas.Bool.{eq-eqb}
 use Rattle.std.proofs.lemmas.List.{get_or-map, get_or-replicate, length-map, length-set}
@@ -20,8 +20,7 @@ use Rattle.ultra_block.proofs.Carried.{block_now, block_still, same_part}
 use Rattle.ultra_block.proofs.Listing.{same_events, same_stops}
 
 some_only : {X : Type 0} (e : Bool) (o : Option X) → is_some o ≡ true → is_some (only_if e o) ≡ e
-some_only true o some = some
-some_only false o some = refl
+some_only e o some = grind arith
 
 first_none : {X : Type 0} (xs : List (Option X)) → ((k : ℕ) → k < length xs → get_or xs k None ≡ None) → first xs ≡ None
 first_none [] none = refl
@@ -104,17 +103,7 @@ module _ (d : ℕ) (partition : List ℕ) (b : BlockState) (bs : List BlockState
       (λ n past small. absurd (omega arith))
 
   are_blocks : AreBlocks d partition now
-  are_blocks = record {
-    some_stages = whole.some_stages;
-    few_stages = whole.few_stages;
-    cut = record {
-      count = count;
-      homes = λ n h. let there = homes n h in omega (arith, long);
-      stages = stages_now;
-      stand = λ k n hk hn. stand_now k hk n hn;
-    };
-    shaped = shaped_now;
-  }
+  are_blocks = grind (arith, homes, long, stand_now, shaped_now)
 
   -- ---- they are the same machine
   at_home : (n : ℕ) → (home partition n == home partition n) ≡ true
@@ -143,18 +132,10 @@ module _ (d : ℕ) (partition : List ℕ) (b : BlockState) (bs : List BlockState
 
   -- ---- what they list
   same : ListsSame (block_at now 0) b
-  same =
-      let is = block_now bs 0 it some in
-      record { events = ap (λ (x : BlockState). x.events) is; stops = ap (λ (x : BlockState). x.stops) is }
+  same = grind (arith, block_now)
 
   silent : (k : ℕ) → 0 < k → k < length now → ListsNothing (block_at now k)
-  silent k after h =
-      let still = block_still bs 0 it some k (λ e. absurd (omega arith)) in
-      let story = (carried.bare k (omega (arith, long))).story in
-      record {
-        events = ap (λ (x : BlockState). x.events) still ∙ story.events;
-        stops = ap (λ (x : BlockState). x.stops) still ∙ story.stops;
-      }
+  silent k after h = grind (arith, block_still, long)
 
   pub is_dealt : length bs ≤ 64 → IsLastNamed partition (length bs) → IsDealt d partition b (set bs 0 (first_block b bs))
   is_dealt few last = record {

@@ -1,5 +1,5 @@
 -- A machine in blocks as contracts see it.
-use Rattle.std.proofs.Common.{◌≡◌, ℕ, List, refl, ap, ◌∙◌}
+use Rattle.std.proofs.Common.{◌≡◌, ℕ, List, refl, arith}
 use Rattle.ultra_isa.specs.declared.Instr.{Instr}
 use Rattle.ultra_model.specs.Machine.{Settings, Machine}
 use Rattle.ultra_section.specs.BlockState.{BlockState}
@@ -14,8 +14,7 @@ unfolding whole
 cycles_are c partition n bs = refl
 
 pub same_frame : (d e : ℕ) (p q : List ℕ) (xs ys : List BlockState) → d ≡ e → p ≡ q → xs ≡ ys → frame_of d p xs ≡ frame_of e q ys
-same_frame d e p q xs ys stages partition blocks =
-    ap (λ k. frame_of k p xs) stages ∙ ap (λ r. frame_of e r xs) partition ∙ ap (λ zs. frame_of e q zs) blocks
+same_frame d e p q xs ys stages partition blocks = grind arith
 
 pub events_are : (c : Settings) (partition : List ℕ) (n : ℕ) (bs : List BlockState) → (machine_in c partition n bs).events ≡ events_of c.stages bs
 unfolding whole

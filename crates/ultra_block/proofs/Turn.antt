@@ -1,5 +1,5 @@
 -- A cycle of blocks as its steps give them, one after the other.
-use Rattle.std.proofs.Common.{◌≡◌, ℕ, ◌+◌, ◌^◌, ◌<◌, List, ap, ◌∙◌, sym, subst}
+use Rattle.std.proofs.Common.{◌≡◌, ℕ, ◌+◌, ◌^◌, ◌<◌, List, ap, ◌∙◌, sym, subst, arith}
 use Rattle.std.specs.Prelude.{◌-◌}
 use Rattle.ultra_isa.specs.declared.Instr.{Instr}
 use Rattle.ultra_model.specs.Machine.{Settings}
@@ -83,11 +83,7 @@ module _ (c : Settings) (partition : List ℕ) (n : ℕ) (program : List Instr) 
                 stepped_is = executed ∙ ap (λ xs. all_made Execute second program xs) waiting_is
 
                 pub next_machine : machine_in c partition (n + 1) stepped ≡ cycle c program (machine_in c partition n bs)
-                next_machine =
-                    subst (λ xs. machine_in c partition (n + 1) xs ≡ cycle c program (machine_in c partition n bs)) (sym stepped_is)
-                    (whole.next_machine c partition n program bs start first first_room replies replies_moved replies_there second second_room requests requests_moved requests_there)
+                next_machine = search (arith, stepped_is, whole.next_machine, replies_moved, replies_there, second_room, requests_moved, requests_there)
 
                 pub next_whole : AreWhole c program partition (n + 1) stepped
-                next_whole =
-                    subst (λ xs. AreWhole c program partition (n + 1) xs) (sym stepped_is)
-                    (whole.next_whole c partition n program bs start first first_room replies replies_moved replies_there second second_room requests requests_moved requests_there)
+                next_whole = search (arith, stepped_is, whole.next_whole, replies_moved, replies_there, second_room, requests_moved, requests_there)

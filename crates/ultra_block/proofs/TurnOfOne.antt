@@ -14,7 +14,7 @@ use Rattle.ultra_cut.specs.Exchange.{AreRepliesThere, AreRequestsThere, OnlyRepl
 use Rattle.ultra_cut.specs.Halves.{AllCanMake, all_made}
 use Rattle.ultra_cut.specs.Whole.{AreRoomsOfAll}
 use Rattle.ultra_cut.specs.Moments.{AreWhole, machine_in}
-use Rattle.ultra_cut.proofs.OneBlock.{own_are_all, replies_stay, replies_there, requests_stay, requests_there}
+use Rattle.ultra_cut.proofs.OneBlock.{own_are_all, replies_stay, replies_there}
 use Rattle.ultra_block.proofs.Turn as turn
 
 -- what all blocks can do, the one can
@@ -57,12 +57,10 @@ module _ (c : Settings) (partition : List ℕ) (n : ℕ) (program : List Instr) 
       all_sent_on = ap (λ x. x ∷ []) sent_on_is
 
       moved_on : OnlyRequestsMove (sent_on ∷ []) (sent_on ∷ [])
-      moved_on = requests_stay (sent_on ∷ [])
-          (turn.sent_on_single c partition n program (b ∷ []) start c.stages refl first first_all (sent ∷ []) all_sent (sent ∷ []) moved there (taken ∷ []) all_taken (served ∷ []) all_served second second_all (sent_on ∷ []) all_sent_on)
+      moved_on = grind arith
 
       there_now : AreRequestsThere c.stages partition (sent_on ∷ [])
-      there_now = requests_there c.stages partition sent_on
-          (turn.sent_on_cut c partition n program (b ∷ []) start c.stages refl first first_all (sent ∷ []) all_sent (sent ∷ []) moved there (taken ∷ []) all_taken (served ∷ []) all_served second second_all (sent_on ∷ []) all_sent_on)
+      there_now = grind arith
 
       pub can_take_requests : CanMake program TakeRequests sent_on
       can_take_requests = the_one program TakeRequests sent_on

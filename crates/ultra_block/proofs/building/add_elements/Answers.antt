@@ -1,23 +1,17 @@
-use Rattle.std.proofs.Common.{◌≡◌, ◌+◌, ◌^◌, ◌<◌, Some, refl, arith, ap, ◌∙◌, sym, subst, set}
+use Rattle.std.proofs.Common.{◌≡◌, ◌+◌, ◌^◌, ◌<◌, Some, arith, ap, ◌∙◌, sym, subst, set}
 use Rattle.ultra_section.specs.BlockState.{BlockState}
 use Rattle.ultra_block.specs.Fresh.{first_element}
-use Rattle.ultra_block.proofs.Placed.{ArePut, all_put, none_put, one_put}
+use Rattle.ultra_block.proofs.Placed.{ArePut, all_put, one_put}
 use Rattle.ultra_block.proofs.building.add_elements.Goals as goal
 
 pub loop-pe-init : goal.loop-pe-init
-loop-pe-init c =
-    let s = c.args.config.now in
-    let long = c.net-net.ensures.shape.elements ∙ ap (λ d. 2 ^ d) (c.net-net.ensures.value ∙ c.requires) in
-    record { put = none_put (first_element s) (2 ^ s.stages) c.args.block.now.elements long; rest = refl }
+loop-pe-init c = grind arith
 
 pub new_element-requires : goal.new_element-requires
-new_element-requires c =
-    subst (λ k. c.loop-pe.pe < k) (c.size-pe-end.ensures.value ∙ ap (λ d. 2 ^ d) (c.net-net.ensures.value ∙ c.requires)) c.loop-pe-test.true
+new_element-requires c = grind arith
 
 pub put_element-requires : goal.put_element-requires
-put_element-requires c =
-    let same = c.net-net.ensures.value ∙ sym (ap (λ (b : BlockState). b.stages) c.loop-pe.invariant.rest) in
-    subst (λ k. c.loop-pe.pe < k) (c.size-pe-end.ensures.value ∙ ap (λ d. 2 ^ d) same) c.loop-pe-test.true
+put_element-requires c = grind arith
 
 pub loop-pe-preserved : goal.loop-pe-preserved
 loop-pe-preserved c =

@@ -1,23 +1,17 @@
-use Rattle.std.proofs.Common.{◌≡◌, ◌+◌, ◌^◌, ◌<◌, Some, refl, arith, ap, ◌∙◌, sym, subst, set}
+use Rattle.std.proofs.Common.{◌≡◌, ◌+◌, ◌^◌, ◌<◌, Some, arith, ap, ◌∙◌, sym, subst, set}
 use Rattle.ultra_section.specs.BlockState.{BlockState}
 use Rattle.ultra_block.specs.Fresh.{first_bank}
-use Rattle.ultra_block.proofs.Placed.{ArePut, all_put, none_put, one_put}
+use Rattle.ultra_block.proofs.Placed.{ArePut, all_put, one_put}
 use Rattle.ultra_block.proofs.building.add_modules.Goals as goal
 
 pub loop-number-init : goal.loop-number-init
-loop-number-init c =
-    let s = c.args.config.now in
-    let long = c.net-net.ensures.shape.modules ∙ ap (λ d. 2 ^ d) (c.net-net.ensures.value ∙ c.requires) in
-    record { put = none_put (first_bank s) (2 ^ s.stages) c.args.block.now.modules long; rest = refl }
+loop-number-init c = grind arith
 
 pub new_module-requires : goal.new_module-requires
-new_module-requires c =
-    subst (λ k. c.loop-number.number < k) (c.size-number-end.ensures.value ∙ ap (λ d. 2 ^ d) (c.net-net.ensures.value ∙ c.requires)) c.loop-number-test.true
+new_module-requires c = grind arith
 
 pub put_module-requires : goal.put_module-requires
-put_module-requires c =
-    let same = c.net-net.ensures.value ∙ sym (ap (λ (b : BlockState). b.stages) c.loop-number.invariant.rest) in
-    subst (λ k. c.loop-number.number < k) (c.size-number-end.ensures.value ∙ ap (λ d. 2 ^ d) same) c.loop-number-test.true
+put_module-requires c = grind arith
 
 pub loop-number-preserved : goal.loop-number-preserved
 loop-number-preserved c =

@@ -1,20 +1,15 @@
-use Rattle.std.proofs.Common.{◌≡◌, ℕ, ◌+◌, ◌<◌, Some, refl, arith, ap, ◌∙◌, sym, subst, set}
+use Rattle.std.proofs.Common.{◌≡◌, ℕ, ◌+◌, ◌<◌, Some, arith, ap, ◌∙◌, sym, subst, set}
 use Rattle.ultra_units.specs.Numbers.{switch_count}
 use Rattle.ultra_course.specs.Whole.{empty_switch}
 use Rattle.ultra_section.specs.BlockState.{BlockState}
-use Rattle.ultra_block.proofs.Placed.{ArePut, all_put, none_put, one_put}
+use Rattle.ultra_block.proofs.Placed.{ArePut, all_put, one_put}
 use Rattle.ultra_block.proofs.building.add_switches.Goals as goal
 
 pub loop-number-init : goal.loop-number-init
-loop-number-init c =
-    let s = c.args.config.now in
-    let long = c.net-net.ensures.shape.switches ∙ ap switch_count (c.net-net.ensures.value ∙ c.requires) in
-    record { put = none_put (λ n. empty_switch s) (switch_count s.stages) c.args.block.now.switches long; rest = refl }
+loop-number-init c = grind arith
 
 pub put_switch-requires : goal.put_switch-requires
-put_switch-requires c =
-    let same = c.net-net.ensures.value ∙ sym (ap (λ (b : BlockState). b.stages) c.loop-number.invariant.rest) in
-    subst (λ k. c.loop-number.number < k) (c.switch_count-number-end.ensures.value ∙ ap switch_count same) c.loop-number-test.true
+put_switch-requires c = grind arith
 
 pub loop-number-preserved : goal.loop-number-preserved
 loop-number-preserved c =

@@ -1,13 +1,11 @@
-use Rattle.std.proofs.Common.{◌∙◌}
+use Rattle.std.proofs.Common.{◌∙◌, arith}
 use Rattle.ultra_section.specs.declared.half.Half.TheVariants.{Execute}
 use Rattle.ultra_cut.proofs.OwnProgram.{all_by_own}
 use Rattle.ultra_block.proofs.Turn.{can_execute, can_serve, can_take_replies, can_take_requests, next_machine, next_whole, sent_cut, sent_on_cut, sent_on_single, sent_single}
 use Rattle.ultra_block.proofs.cycle.make_cycle_of_several.Goals as goal
 
 pub exchange_replies-requires-clause-cut : goal.exchange_replies-requires-clause-cut
-exchange_replies-requires-clause-cut c =
-    let (program, whole) = c.requires.whole in
-    sent_cut c.args.config.now c.args.partition.now c.args.done program c.args.blocks.now whole c.net-net.result c.net-net.ensures c.note_rooms-rooms.result c.note_rooms-rooms.ensures c.make.new.blocks c.make.ensures
+exchange_replies-requires-clause-cut c = search (arith, sent_cut)
 
 pub exchange_replies-requires-clause-single : goal.exchange_replies-requires-clause-single
 exchange_replies-requires-clause-single c =

@@ -1,18 +1,13 @@
+use Rattle.std.proofs.lemmas.Grind.{common_steps}
 use Rattle.std.proofs.Common.{◌≡◌, ◌+◌, ◌<◌, arith, ap, ◌∙◌, sym, subst, length, get_or, set}
 use Rattle.std.proofs.lemmas.List.{get_or_default}
-use Rattle.ultra_section.specs.BlockState.{BlockState}
 use Rattle.ultra_section.specs.Building.{with_unit, without_unit}
-use Rattle.ultra_section.specs.Shape.{IsShaped}
 use Rattle.ultra_cut.specs.Cut.{block_at, home, no_block}
-use Rattle.ultra_block.proofs.Carried.{AreCarriedBelow, all_carried, none_carried, unit_carried}
+use Rattle.ultra_block.proofs.Carried.{AreCarriedBelow, all_carried, unit_carried}
 use Rattle.ultra_block.proofs.dealing.carry.Goals as goal
 
 pub loop-unit-init : goal.loop-unit-init
-loop-unit-init c =
-    let b = c.args.block.now in
-    let blocks = length c.args.blocks.now in
-    let shape = subst (λ d. IsShaped d b) c.net-shape.ensures.value c.net-shape.ensures.shape in
-    subst (λ bs. AreCarriedBelow b.stages c.args.partition.now b blocks 0 b bs) (sym c.requires.empty) (none_carried b.stages c.args.partition.now b blocks shape)
+loop-unit-init c = grind (arith, common_steps)
 
 pub loop-unit-preserved : goal.loop-unit-preserved
 loop-unit-preserved c =
@@ -48,11 +43,7 @@ pub offset_bounds-blocks-home : goal.offset_bounds-blocks-home
 offset_bounds-blocks-home c = let small = c.type_inv.partition c.loop-unit.unit in omega (arith, small)
 
 pub move_unit-requires : goal.move_unit-requires
-move_unit-requires c =
-    let h = home c.args.partition.now c.loop-unit.unit in
-    let known = c.loop-unit.invariant in
-    let there : h < length c.loop-unit.blocks = subst (λ k. h < k) (sym known.count) (c.requires.named c.loop-unit.unit 0 c.loop-unit-test.true) in
-    ap (λ (b : BlockState). b.stages) (get_or_default c.loop-unit.blocks h c.index-blocks-home.result no_block there) ∙ (known.bare h there).stages ∙ sym known.stages
+move_unit-requires c = grind (arith, get_or_default)
 
 pub returns-clause-carried : goal.returns-clause-carried
 returns-clause-carried c =

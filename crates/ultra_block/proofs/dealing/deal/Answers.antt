@@ -23,10 +23,7 @@ carry-requires-clause-empty c =
     all ∙ ap (λ n. replicate n (empty_after b.stages b.program b.done)) (sym long)
 
 pub carry-requires-clause-named : goal.carry-requires-clause-named
-carry-requires-clause-named c =
-    let count = c.as_mut_slice.ensures.value ∙ c.in_ok-blocks.ensures in
-    let long = ap (λ (bs : List BlockState). length bs) count ∙ length-replicate c.count_blocks-count.result (empty_after c.args.net c.args.block.now.program c.args.block.now.done) in
-    λ k d within. subst (λ n. get_or c.args.partition.now k d < n) (sym long) (c.count_blocks-count.ensures.named k d within)
+carry-requires-clause-named c = grind (arith, length-replicate)
 
 pub returns-clause-dealt : goal.returns-clause-dealt
 returns-clause-dealt c =

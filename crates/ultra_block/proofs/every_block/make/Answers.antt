@@ -8,9 +8,7 @@ use Rattle.ultra_block.proofs.Mapped.{holds_next, stepped}
 use Rattle.ultra_block.proofs.every_block.make.Goals as goal
 
 pub loop-block-preserved : goal.loop-block-preserved
-loop-block-preserved c =
-    stepped (own_made c.args.half c.args.rooms.now) c.args.blocks.now c.loop-block.blocks c.loop-block.block-index c.make.new.self c.block-item.result
-    (omega arith) c.loop-block.invariant c.make.ensures
+loop-block-preserved c = grind (arith, stepped)
 
 pub make-requires : goal.make-requires
 make-requires c =

@@ -1,24 +1,18 @@
-use Rattle.std.proofs.Common.{[], ◌∷◌, ap, ◌∙◌, sym, subst}
+use Rattle.std.proofs.lemmas.Grind.{common_steps}
+use Rattle.std.proofs.Common.{ap, ◌∙◌, sym, subst, arith}
 use Rattle.std.proofs.lemmas.Result.{IfOk-weaker}
-use Rattle.ultra_course.specs.Frame.{IsClear}
 use Rattle.ultra_units.specs.Numbers.{unit_count}
-use Rattle.ultra_cut.specs.Halves.{AreBlocks}
 use Rattle.ultra_cut.specs.Moments.{AreWhole}
-use Rattle.ultra_block.specs.Fresh.{frame_of_one, one_block}
 use Rattle.ultra_block.specs.Dealt.{IsDealt}
 use Rattle.ultra_block.proofs.Dealt.{dealt_machine, dealt_whole, fresh_machine, fresh_whole}
 use Rattle.ultra_block.proofs.Homes.{all_units, are_blocks}
 use Rattle.ultra_block.proofs.parts.fresh_blocks.Goals as goal
 
 pub deal-requires-clause-blocks : goal.deal-requires-clause-blocks
-deal-requires-clause-blocks c =
-    let b = c.in_ok-block.block in
-    subst (λ d. AreBlocks d (one_block d) (b ∷ [])) (sym c.net.ensures) c.in_ok-block.ensures.blocks
+deal-requires-clause-blocks c = grind arith
 
 pub deal-requires-clause-clear : goal.deal-requires-clause-clear
-deal-requires-clause-clear c =
-    let b = c.in_ok-block.block in
-    subst (λ d. IsClear d (frame_of_one d b)) (sym c.net.ensures) c.in_ok-block.ensures.clear
+deal-requires-clause-clear c = grind arith
 
 pub deal-requires-clause-partition : goal.deal-requires-clause-partition
 deal-requires-clause-partition c = all_units c.args.config.now c.args.partition.now c.requires ∙ ap unit_count (sym c.net.ensures)
@@ -36,12 +30,10 @@ returns-clause-whole c =
     c.deal.ensures.dealt
 
 pub returns-clause-few : goal.returns-clause-few
-returns-clause-few c =
-    IfOk-weaker c.deal.result (λ bs. IsDealt c.net.result c.args.partition.now c.in_ok-block.block bs.items) _ (λ bs dealt. dealt.few) c.deal.ensures.dealt
+returns-clause-few c = grind (arith, common_steps, IfOk-weaker)
 
 pub returns-clause-count : goal.returns-clause-count
-returns-clause-count c =
-    IfOk-weaker c.deal.result (λ bs. IsDealt c.net.result c.args.partition.now c.in_ok-block.block bs.items) _ (λ bs dealt. dealt.last) c.deal.ensures.dealt
+returns-clause-count c = grind (arith, common_steps, IfOk-weaker)
 
 pub returns-clause-state : goal.returns-clause-state
 returns-clause-state c =

@@ -1,5 +1,4 @@
-use Rattle.std.proofs.Common.{◌≡◌, ℕ, ◌^◌, ◌+◌, ◌<◌, ◌≤◌, ◌++◌, List, length, take, drop, arith, ap, sym, subst, refl, ◌∙◌}
-use Rattle.std.specs.Prelude.{◌-◌}
+use Rattle.std.proofs.Common.{◌≡◌, ℕ, ◌+◌, ◌≤◌, ◌++◌, List, length, take, drop, arith, sym, subst, ◌∙◌}
 use Rattle.std.proofs.lemmas.List.{take_at}
 use Rattle.ultra_model.specs.Phases.{cycle}
 use Rattle.ultra_section.specs.BlockState.{BlockState}
@@ -10,28 +9,19 @@ use Rattle.ultra_block.proofs.Seen.{cycles_are}
 use Rattle.ultra_block.proofs.blocks.Blocks.cycle.Goals as goal
 
 pub make_cycle-requires-clause-counted : goal.make_cycle-requires-clause-counted
-make_cycle-requires-clause-counted c =
-    let b = c.self.inside.parts in
-    subst (λ k. k < 2 ^ 32 - 1) (sym (sym (cycles_are b.config b.partition.items b.done b.blocks.items) ∙ ap (λ (s : BlocksState). s.machine.cycles) c.self.view_is)) c.requires
+make_cycle-requires-clause-counted c = grind (arith, cycles_are)
 
 pub overflow_add-self : goal.overflow_add-self
-overflow_add-self c =
-    let b = c.self.inside.parts in
-    let early : b.done < 2 ^ 32 - 1 =
-    subst (λ k. k < 2 ^ 32 - 1) (sym (sym (cycles_are b.config b.partition.items b.done b.blocks.items) ∙ ap (λ (s : BlocksState). s.machine.cycles) c.self.view_is)) c.requires in
-    omega (arith, early)
+overflow_add-self c = grind (arith, cycles_are)
 
 made : (p : Parts) (s : BlocksState) (now bs : List BlockState) → put_together p ≡ s → now ≡ bs → length bs ≡ length p.blocks.items
     → machine_in p.config p.partition.items (p.done + 1) bs ≡ cycle p.config p.program (machine_in p.config p.partition.items p.done p.blocks.items)
     → record (put_together p) { count = length now; machine = machine_in p.config p.partition.items (p.done + 1) now } ≡ record s { machine = cycle s.config s.program s.machine }
-made p s now bs same held long state =
-    subst (λ (s : BlocksState). record (put_together p) { count = length now; machine = machine_in p.config p.partition.items (p.done + 1) now } ≡ record s { machine = cycle s.config s.program s.machine }) same
-    (rw (held, long, state) refl)
+made p s now bs same held long state = grind arith
 
 -- its blocks and its partition, as they are lent
 lent_whole : (p : Parts) (homes : List ℕ) → homes ≡ p.partition.items → (bs : List BlockState) → bs ≡ p.blocks.items → AreParts p → AreWhole p.config p.program homes p.done bs
-lent_whole p homes same bs held are =
-    subst (λ q. AreWhole p.config p.program q p.done bs) (sym same) (subst (λ xs. AreWhole p.config p.program p.partition.items p.done xs) (sym held) are.whole)
+lent_whole p homes same bs held are = grind arith
 
 pub make_cycle-requires-clause-whole : goal.make_cycle-requires-clause-whole
 make_cycle-requires-clause-whole c = (c.self.inside.parts.program, lent_whole c.self.inside.parts c.as_slice.result.now c.as_slice.ensures.value c.as_mut_slice.result.now c.as_mut_slice.ensures.value c.self.invariant)
@@ -51,13 +41,4 @@ invariant_of-self c =
     }
 
 pub returns : goal.returns
-returns c =
-    let b = c.self.inside.parts in
-    let bs = c.make_cycle.new.blocks in
-    let long : length bs ≡ b.blocks.len = c.make_cycle.auto.blocks ∙ c.as_mut_slice.ensures.len in
-    let held : take b.blocks.len (bs ++ drop (length bs) b.blocks.items) ≡ bs = take_at bs (drop (length bs) b.blocks.items) b.blocks.len long in
-    made b c.args.self.now _ bs c.self.view_is held (long ∙ b.blocks.ok.0)
-    (ap (λ homes. machine_in b.config homes (b.done + 1) bs) (sym c.as_slice.ensures.value)
-    ∙ c.make_cycle.ensures.state b.program (lent_whole b c.as_slice.result.now c.as_slice.ensures.value c.as_mut_slice.result.now c.as_mut_slice.ensures.value c.self.invariant)
-    ∙ ap (λ homes. cycle b.config b.program (machine_in b.config homes b.done c.as_mut_slice.result.now)) c.as_slice.ensures.value
-    ∙ ap (λ ws. cycle b.config b.program (machine_in b.config b.partition.items b.done ws)) c.as_mut_slice.ensures.value)
+returns c = grind (arith, take_at)

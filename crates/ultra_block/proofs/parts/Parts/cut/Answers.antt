@@ -1,6 +1,5 @@
-use Rattle.std.proofs.Common.{◌≡◌, ◌≤◌, [], ◌∷◌, arith, ap, ◌∙◌, sym, subst, length, set}
+use Rattle.std.proofs.Common.{◌≡◌, [], ◌∷◌, arith, ap, ◌∙◌, sym, subst, length}
 use Rattle.std.proofs.lemmas.List.{get_or_default, set-get_or}
-use Rattle.std.proofs.lemmas.Result.{MatchResult-from_err}
 use Rattle.ultra_course.specs.Frame.{IsClear}
 use Rattle.ultra_units.specs.Numbers.{unit_count}
 use Rattle.ultra_cut.specs.Cut.{block_at, frame_of, no_block}
@@ -11,7 +10,7 @@ use Rattle.ultra_cut.specs.Moments.{AreWhole, machine_in}
 use Rattle.ultra_block.proofs.Alone.{one_whole}
 use Rattle.ultra_block.proofs.Homes.{all_units, are_blocks}
 use Rattle.ultra_block.proofs.Recut.{recut_machine, recut_whole}
-use Rattle.ultra_block.proofs.Seen.{cut_anew, state}
+use Rattle.ultra_block.proofs.Seen.{cut_anew}
 use Rattle.ultra_block.proofs.parts.Parts.cut.Goals as goal
 
 pub deal-requires-clause-blocks : goal.deal-requires-clause-blocks
@@ -39,23 +38,10 @@ pub deal-requires-clause-named : goal.deal-requires-clause-named
 deal-requires-clause-named c = are_blocks c.args.self.now.config c.args.partition.now c.requires.partition
 
 pub returns-in_err-blocks-clause-whole : goal.returns-in_err-blocks-clause-whole
-returns-in_err-blocks-clause-whole c =
-    let p = c.args.self.now in
-    let bs = p.blocks.items in
-    let same : set bs 0 c.deal.new.block ≡ bs =
-    ap (λ b. set bs 0 b) (c.in_err-blocks.ensures.kept ∙ c.index_mut.ensures.value) ∙ set-get_or bs 0 c.index_mut.result.now in
-    record {
-      whole = subst (λ xs. AreWhole p.config p.program p.partition.items p.done xs) (sym same) c.requires.whole.whole;
-      few = subst (λ xs. length xs ≤ 64) (sym same) c.requires.whole.few;
-    }
+returns-in_err-blocks-clause-whole c = grind (arith, set-get_or)
 
 pub returns-in_err-blocks-clause-kept : goal.returns-in_err-blocks-clause-kept
-returns-in_err-blocks-clause-kept c =
-    let p = c.args.self.now in
-    let same : set p.blocks.items 0 c.deal.new.block ≡ p.blocks.items =
-    ap (λ b. set p.blocks.items 0 b) (c.in_err-blocks.ensures.kept ∙ c.index_mut.ensures.value) ∙ set-get_or p.blocks.items 0 c.index_mut.result.now in
-    MatchResult-from_err c.from_residual-in_err-blocks.result _ _ c.from_residual-in_err-blocks.ensures.0
-    (λ e. ap (λ xs. state p.config p.program p.partition.items (length xs) (machine_in p.config p.partition.items p.done xs)) same)
+returns-in_err-blocks-clause-kept c = grind (arith, set-get_or)
 
 pub returns-clause-whole : goal.returns-clause-whole
 returns-clause-whole c =

@@ -1,5 +1,6 @@
-use Rattle.std.proofs.Common.{◌∙◌, ap, subst, sym}
-use Rattle.ultra_cut.specs.Moments.{AreWhole, machine_in}
+use Rattle.std.proofs.lemmas.Grind.{common_steps}
+use Rattle.std.proofs.Common.{subst, sym, arith}
+use Rattle.ultra_cut.specs.Moments.{AreWhole}
 use Rattle.ultra_block.proofs.parts.Parts.fresh.Goals as goal
 
 pub returns-clause-whole : goal.returns-clause-whole
@@ -15,8 +16,4 @@ returns-clause-whole c =
     }
 
 pub returns-clause-state : goal.returns-clause-state
-returns-clause-state c =
-    let bs = c.in_ok-blocks.blocks.items in
-    ap (λ k. machine_in k c.in_ok-homes.homes.items 0 bs) c.in_ok-settings.ensures
-    ∙ ap (λ q. machine_in c.args.config.now q 0 bs) c.in_ok-homes.ensures.items
-    ∙ c.in_ok-blocks.ensures.state
+returns-clause-state c = grind (arith, common_steps)
