@@ -4,15 +4,6 @@ use Rattle.ultra_block.specs.Fresh.{first_element}
 use Rattle.ultra_block.proofs.Placed.{ArePut, all_put, one_put}
 use Rattle.ultra_block.proofs.building.add_elements.Goals as goal
 
-pub loop-pe-init : goal.loop-pe-init
-loop-pe-init c = grind arith
-
-pub new_element-requires : goal.new_element-requires
-new_element-requires c = grind arith
-
-pub put_element-requires : goal.put_element-requires
-put_element-requires c = grind arith
-
 pub loop-pe-preserved : goal.loop-pe-preserved
 loop-pe-preserved c =
     let s = c.args.config.now in

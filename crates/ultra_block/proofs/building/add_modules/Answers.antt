@@ -4,15 +4,6 @@ use Rattle.ultra_block.specs.Fresh.{first_bank}
 use Rattle.ultra_block.proofs.Placed.{ArePut, all_put, one_put}
 use Rattle.ultra_block.proofs.building.add_modules.Goals as goal
 
-pub loop-number-init : goal.loop-number-init
-loop-number-init c = grind arith
-
-pub new_module-requires : goal.new_module-requires
-new_module-requires c = grind arith
-
-pub put_module-requires : goal.put_module-requires
-put_module-requires c = grind arith
-
 pub loop-number-preserved : goal.loop-number-preserved
 loop-number-preserved c =
     let s = c.args.config.now in

@@ -5,12 +5,6 @@ use Rattle.ultra_section.specs.BlockState.{BlockState}
 use Rattle.ultra_block.proofs.Placed.{ArePut, all_put, one_put}
 use Rattle.ultra_block.proofs.building.add_switches.Goals as goal
 
-pub loop-number-init : goal.loop-number-init
-loop-number-init c = grind arith
-
-pub put_switch-requires : goal.put_switch-requires
-put_switch-requires c = grind arith
-
 pub loop-number-preserved : goal.loop-number-preserved
 loop-number-preserved c =
     let s = c.args.config.now in

@@ -1,13 +1,9 @@
-use Rattle.std.proofs.lemmas.Grind.{common_steps}
 use Rattle.std.proofs.Common.{◌≡◌, ◌+◌, ◌<◌, arith, ap, ◌∙◌, sym, subst, length, get_or, set}
 use Rattle.std.proofs.lemmas.List.{get_or_default}
 use Rattle.ultra_section.specs.Building.{with_unit, without_unit}
 use Rattle.ultra_cut.specs.Cut.{block_at, home, no_block}
 use Rattle.ultra_block.proofs.Carried.{AreCarriedBelow, all_carried, unit_carried}
 use Rattle.ultra_block.proofs.dealing.carry.Goals as goal
-
-pub loop-unit-init : goal.loop-unit-init
-loop-unit-init c = grind (arith, common_steps)
 
 pub loop-unit-preserved : goal.loop-unit-preserved
 loop-unit-preserved c =

@@ -8,12 +8,6 @@ use Rattle.ultra_block.proofs.Dealt.{dealt_machine, dealt_whole, fresh_machine, 
 use Rattle.ultra_block.proofs.Homes.{all_units, are_blocks}
 use Rattle.ultra_block.proofs.parts.fresh_blocks.Goals as goal
 
-pub deal-requires-clause-blocks : goal.deal-requires-clause-blocks
-deal-requires-clause-blocks c = grind arith
-
-pub deal-requires-clause-clear : goal.deal-requires-clause-clear
-deal-requires-clause-clear c = grind arith
-
 pub deal-requires-clause-partition : goal.deal-requires-clause-partition
 deal-requires-clause-partition c = all_units c.args.config.now c.args.partition.now c.requires ∙ ap unit_count (sym c.net.ensures)
 

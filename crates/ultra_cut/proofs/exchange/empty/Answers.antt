@@ -16,9 +16,6 @@ loop-unit-init c = record {
   kept = λ k n was. was;
 }
 
-pub move_home-requires-clause-cut : goal.move_home-requires-clause-cut
-move_home-requires-clause-cut c = grind arith
-
 pub loop-unit-preserved : goal.loop-unit-preserved
 loop-unit-preserved c =
     let net = c.args.net in

@@ -7,9 +7,6 @@ use Rattle.ultra_cut.proofs.exchange.exchange.Goals as goal
 pub loop-from-init : goal.loop-from-init
 loop-from-init c = record { only = nothing_moved c.args.kind c.args.blocks.now c.requires.single; there = λ k n before. absurd (omega arith) }
 
-pub empty-requires-clause-cut : goal.empty-requires-clause-cut
-empty-requires-clause-cut c = grind arith
-
 pub loop-from-preserved : goal.loop-from-preserved
 loop-from-preserved c =
     let net = c.args.net in

@@ -6,9 +6,6 @@ use Rattle.ultra_cut.specs.Cut.{block_at, no_block}
 use Rattle.ultra_cut.proofs.Held.{all_below, below, next_below}
 use Rattle.ultra_cut.proofs.holding.holders.Goals as goal
 
-pub loop-block-init : goal.loop-block-init
-loop-block-init c = search arith
-
 pub loop-block-preserved : goal.loop-block-preserved
 loop-block-preserved c = λ s partition n events stops are u.
     let bs = c.args.blocks.now in

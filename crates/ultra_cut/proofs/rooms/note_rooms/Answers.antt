@@ -5,9 +5,6 @@ use Rattle.ultra_cut.specs.Cut.{block_at, no_block}
 use Rattle.ultra_cut.proofs.Noted.{next_noted, rooms_are}
 use Rattle.ultra_cut.proofs.rooms.note_rooms.Goals as goal
 
-pub loop-block-init : goal.loop-block-init
-loop-block-init c = grind arith
-
 pub loop-block-preserved : goal.loop-block-preserved
 loop-block-preserved c = λ d partition are.
     let bs = c.args.blocks.now in

@@ -4,6 +4,3 @@ use Rattle.ultra_block.proofs.blocks.Blocks.bank.Goals as goal
 
 pub returns-clause-state : goal.returns-clause-state
 returns-clause-state c = grind (arith, bank_is)
-
-pub returns-clause-cells : goal.returns-clause-cells
-returns-clause-cells c = grind arith

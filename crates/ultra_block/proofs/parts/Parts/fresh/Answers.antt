@@ -1,5 +1,4 @@
-use Rattle.std.proofs.lemmas.Grind.{common_steps}
-use Rattle.std.proofs.Common.{subst, sym, arith}
+use Rattle.std.proofs.Common.{subst, sym}
 use Rattle.ultra_cut.specs.Moments.{AreWhole}
 use Rattle.ultra_block.proofs.parts.Parts.fresh.Goals as goal
 
@@ -14,6 +13,3 @@ returns-clause-whole c =
           (subst (λ q. AreWhole s c.args.program.now q 0 bs) (sym c.in_ok-homes.ensures.items) c.in_ok-blocks.ensures.whole));
       few = c.in_ok-blocks.ensures.few;
     }
-
-pub returns-clause-state : goal.returns-clause-state
-returns-clause-state c = grind (arith, common_steps)
