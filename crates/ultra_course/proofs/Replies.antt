@@ -25,7 +25,7 @@ use Rattle.ultra_course.specs.Frame.{Frame, Rooms, AreRooms, AreAlike}
 use Rattle.ultra_course.specs.Course.{reply_goes, replies_go, replies_from, reply_from, replies_to, reply_to, sends_replies, takes_replies, deliveries}
 use Rattle.ultra_course.specs.Whole.{sized_lane, sized_replies, whole, Fits}
 use Rattle.ultra_course.proofs.Numbers.{pick_true, pick_false, at_two, at_both, at_places, at_even, at_odd, at_number, with_came, number_small, at_link, behind}
-use Rattle.ultra_course.proofs.AtFrame.{same_places, same_machine, lane_is, replies_is, bank_is, element_is, half_small, even_small, odd_small, at_switches, reply_room_is}
+use Rattle.ultra_course.proofs.AtFrame.{same_places, same_machine, lane_is, replies_is, bank_is, element_is, half_small, even_small, odd_small, at_switches, reply_room_is, same_table}
 
 pub same_test : (a b y j : ℕ) → y ≡ a + j → (b == j) ≡ (a + b == y)
 same_test a b y j e = grind arith
@@ -178,4 +178,9 @@ module _ (c : Settings) (f : Frame) (n : ℕ) (events : List Event) (stops : Lis
 
   pub replies_are : whole c after n (deliveries d sent) [] ≡ reply_phase c m
   unfolding reply_phase whole
-  replies_are = search (arith, lane_after, replies_after, same_places, bank_after, element_after, same_machine, delivered_after)
+  replies_are =
+      let lanes = same_table d (size c) (λ s x. (sized_lane c after s x).lane) (λ s x. lane_after_split c m s x) lane_after in
+      let queues = same_table d (size c) (λ s y. (sized_replies c after s y).replies) (λ s y. next_replies c m s y) replies_after in
+      let banks = same_places (size c) (λ k. after.bank k) (λ k. without_reply (bank_at m k) (arriving_reply c m last k)) bank_after in
+      let elements = same_places (size c) (λ p. element_of (after.element p)) (λ p. deliver (element_at m p) (delivered c m p)) element_after in
+      same_machine n lanes queues banks elements delivered_after refl

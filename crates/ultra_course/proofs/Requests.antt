@@ -1,7 +1,7 @@
 -- requests that are sent and taken make up the definition's request phase
-use Rattle.std.proofs.Common.{◌≡◌, ◌≢◌, ℕ, ◌+◌, ◌*◌, ◌-◌, ◌/◌, ◌%◌, ◌^◌, ◌<◌, ◌≤◌, List, ◌++◌, false, refl, arith, ap, ◌∙◌, sym}
+use Rattle.std.proofs.Common.{◌≡◌, ◌≢◌, ℕ, ◌+◌, ◌*◌, ◌-◌, ◌/◌, ◌%◌, ◌^◌, ◌<◌, ◌≤◌, List, ◌++◌, false, refl, arith, ap, ◌∙◌, sym, ⊎_elim}
 use Rattle.std.specs.Prelude.{◌==◌, Option, Some, None, slice_get}
-use Rattle.std.proofs.lemmas.Bool.{eq-eqb, ne_eqb}
+use Rattle.std.proofs.lemmas.Bool.{eq-eqb, ne_eqb, cases_eq}
 use Rattle.ultra_msg.specs.declared.Request.{Request}
 use Rattle.ultra_msg.specs.declared.Event.{Event}
 use Rattle.ultra_route.specs.Route.{shuffled, unshuffled, bit_of}
@@ -16,7 +16,7 @@ use Rattle.ultra_model.specs.Machine.{Settings, Machine, Element, size, last_sta
 use Rattle.ultra_model.specs.Ranges.{AreInRange}
 use Rattle.ultra_model.specs.Phases as phase
 use Rattle.ultra_model.specs.Phases.{without_pending, with_request, arrive_all, has_request_room, request_before, admitted, arriving_request, entering, leaving_request, requests_by, arrivals_by, lane_after_leaving, next_lane, request_phase}
-use Rattle.ultra_model.proofs.Neighbours.{next_is}
+use Rattle.ultra_model.proofs.Neighbours.{next_is, itself}
 use Rattle.ultra_units.specs.Numbers.{switch_number, switch_count, module_number, place_number, request_source, request_target}
 use Rattle.ultra_halves.specs.Halves.{ports, where_room, lane_without, lane_with, coming_to, arrivals}
 use Rattle.ultra_halves.specs.Switches.{first_request, request_heads, requests_leaving, without_requests, after_requests, combinations_at, combinations_of}
@@ -116,7 +116,12 @@ module _ (c : Settings) (f : Frame) (n : ℕ) (events : List Event) (stops : Lis
       goes_on s x (head s x) h hs hx ∙ ap (λ o. admitted c m (s + 1) y o) (sym before) ∙ arriving_as (s + 1) y
 
   leaves : (s x : ℕ) → s < d → x < size c → where_room (request_goes d rooms s x (head s x)) (head s x) ≡ leaving_request c m s x
-  leaves s x hs hx = search (arith, goes_to_module, last_sends, pick_true, eq-eqb, next_sends, ne_eqb)
+  leaves s x hs hx =
+      let on = arriving_request c m (s + 1) (shuffled d x) in
+      ⊎_elim
+      (λ e. goes_to_module s x (head s x) e ∙ ap (λ s. where_room (rooms.bank x) (head s x)) e ∙ last_sends x hx ∙ sym (pick_true (s == last) (entering c m x) on (eq-eqb s last e)))
+      (λ h. next_sends s x h (omega (arith, hs, h)) hx ∙ sym (pick_false (s == last) (entering c m x) on (ne_eqb s last h)))
+      (cases_eq s last)
 
   pub leaving_is : (s x : ℕ) → s < d → x < size c → at_port (requests_from d rooms f (switch_number d s (x / 2))) (x % 2) ≡ leaving_request c m s x
   leaving_is s x hs hx =
@@ -143,7 +148,8 @@ module _ (c : Settings) (f : Frame) (n : ℕ) (events : List Event) (stops : Lis
   comes s y hs hy = grind (arith, pick_true, eq-eqb, comes_first, ne_eqb, comes_on)
 
   pub comes_in : (k : ℕ) → k < size c → request_to d sent k ≡ entering c m k
-  comes_in k hk = grind (arith, on_link)
+  comes_in k hk =
+      on_link last k (omega (arith, low)) hk ∙ pick_true (last == last) (entering c m k) (arriving_request c m (last + 1) (shuffled d k)) (itself last)
 
   abbrev arrived : ℕ → ℕ → Ports (Option Request)
   arrived s k = ports (arriving_request c m s (2 * k)) (arriving_request c m s (2 * k + 1))
