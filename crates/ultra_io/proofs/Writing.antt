@@ -57,11 +57,8 @@ wrote_then a b s t u v w = record {
 
 -- the same of pages
 module _ {S : Type 0} {taken : S → List ℕ} {failures : S → ℕ} where
-  pub nothing_written : (s : Page S) (at : ℕ) → GoesOn taken failures [] s at s at
-  nothing_written s at = record { same_reference = refl; wrote = wrote_nothing (state_at taken failures s at) }
-
   pub writes_nothing : (s : Page S) → Writes taken failures [] s s
-  writes_nothing s = nothing_written s s.sheet.filled
+  writes_nothing s = record { same_reference = refl; wrote = wrote_nothing (state_at taken failures s s.sheet.filled) }
 
   pub writes_failed : {a : List ℕ} (b : List ℕ) {s t : Page S} → t.failed ≡ true → Writes taken failures a s t → Writes taken failures (a ++ b) s t
   writes_failed {a} b {s} {t} f w = record { same_reference = w.same_reference; wrote = wrote_failed a b _ _ f w.wrote }

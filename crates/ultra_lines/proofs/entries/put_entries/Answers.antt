@@ -15,8 +15,9 @@ pub loop-index-preserved : goal.loop-index-preserved
 loop-index-preserved g c =
     let E = g.E.Entries in record {
       goes_on =
+          let comma = c.loop-index.invariant.goes_on moved c.make_room-at.ensures.goes_on then c.write-at-in-loop-index.ensures.goes_on in
           rw (more_listed E.text (E.entries c.args.entries.now) c.loop-index.index _ (omega arith) c.entry-in-loop-index.ensures)
-          (c.loop-index.invariant.goes_on moved c.make_room-at.ensures.goes_on then c.write-at-in-loop-index.ensures.goes_on then c.write-at-in-loop-index-2.ensures.goes_on);
+          (◌then◌ {u = c.write-at-in-loop-index-2.new.page} comma c.write-at-in-loop-index-2.ensures.goes_on);
       room = omega arith;
     }
 
