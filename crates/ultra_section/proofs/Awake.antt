@@ -40,7 +40,7 @@ module _ (d : ℕ) (program : List Instr) (awake woken : List ℕ) (es : List (O
 
   -- where they all stay as they are
   pub rests_same : (fs : List (Option ProcessingElement)) → fs ≡ es → AreOthersAtRest d program awake fs
-  rests_same fs same = subst (AreOthersAtRest d program awake) (sym same) rests
+  rests_same fs same = grind arith
 
 -- ---- a processing element of a block, read as `o`
 module _ (d : ℕ) (program : List Instr) (awake : List ℕ) (es : List (Option ProcessingElement)) (rests : AreOthersAtRest d program awake es)

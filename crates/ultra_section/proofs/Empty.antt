@@ -1,13 +1,12 @@
 -- Where there is nothing to send or to take, nothing changes.
-use Rattle.std.proofs.Common.{◌≡◌, ℕ, List, [], ◌∷◌, Bool, true, false, Option, Some, None, length, get_or, set, refl, sym, ◌∙◌, ap, arith}
-use Rattle.std.specs.Prelude.{not, ◌&&◌, slice_get, is_some}
-use Rattle.std.proofs.lemmas.Bool.{eqb-true}
+use Rattle.std.proofs.lemmas.Grind.{common_steps}
+use Rattle.std.proofs.Common.{◌≡◌, ℕ, List, Bool, true, false, Option, None, get_or, set, refl, sym, ◌∙◌, ap, arith}
+use Rattle.std.specs.Prelude.{not, slice_get}
 use Rattle.std.proofs.lemmas.List.{set-get_or}
 use Rattle.ultra_halves.specs.Halves.{has_none, where_room}
 
 pub no_head : {X : Type 0} (xs : List X) → has_none xs ≡ true → slice_get xs 0 ≡ None
-no_head [] h = refl
-no_head (x ∷ xs) h = absurd (let e = eqb-true (length (x ∷ xs)) 0 h in omega arith)
+no_head xs h = grind (arith, common_steps)
 
 pub no_room_none : {X : Type 0} (goes : Bool) → where_room {X = X} goes None ≡ None
 no_room_none true = refl
@@ -16,18 +15,9 @@ no_room_none false = refl
 pub silent : {X : Type 0} (goes : Bool) (xs : List X) → has_none xs ≡ true → where_room goes (slice_get xs 0) ≡ None
 silent goes xs h = ap (where_room goes) (no_head xs h) ∙ no_room_none goes
 
-pub none_of : {X : Type 0} (o : Option X) → is_some o ≡ false → o ≡ None
-none_of None h = refl
-none_of (Some x) h = cc
-
 pub is_none : (b : Bool) → not b ≡ false → b ≡ true
 is_none true h = refl
 is_none false h = cc
-
-pub both_none : (a b : Bool) → not (a && b) ≡ false → (a ≡ true) × (b ≡ true)
-both_none true true h = (refl, refl)
-both_none true false h = cc
-both_none false b h = cc
 
 -- an entry is put where it stands already
 pub same_entry : {X : Type 0} (xs : List (Option X)) (i : ℕ) (o : Option X) → get_or xs i None ≡ o → set xs i o ≡ xs

@@ -1,9 +1,8 @@
 -- An entry of a block is read, and what stands there is put back, or changed.
-use Rattle.std.proofs.Common.{◌≡◌, ℕ, ◌^◌, ◌<◌, List, [], ◌∷◌, ◌++◌, Option, Some, None, length, get_or, set, sym, ◌∙◌, ap, subst, arith, append-nil, true, inl, inr, refl}
+use Rattle.std.proofs.lemmas.Grind.{common_steps}
+use Rattle.std.proofs.Common.{◌≡◌, ℕ, ◌^◌, ◌<◌, List, [], ◌∷◌, ◌++◌, Option, Some, None, length, get_or, set, sym, ◌∙◌, ap, subst, arith, append-nil, true, refl}
 use Rattle.std.specs.Prelude.{is_some}
 use Rattle.std.proofs.lemmas.List.{set-get_or, get_or_default, get_or_past}
-use Rattle.std.proofs.lemmas.Bool.{true≢false}
-use Rattle.std.proofs.lemmas.Bool.{cases_lt}
 use Rattle.ultra_msg.specs.declared.Request.{Request}
 use Rattle.ultra_msg.specs.declared.ReplyMessage.{ReplyMessage}
 use Rattle.ultra_switch.specs.declared.Switch.{Switch}
@@ -27,17 +26,14 @@ module _ {X : Type 0} (xs : List (Option X)) (i : ℕ) (o : Option X) (read : o 
   put_back_some x is = ap (λ x. set xs i x) (sym is) ∙ put_back
 
   none_there : {B : Type 0} (b : B) (act : X → B) → o ≡ None → b ≡ elim (get_or xs i None) [ None ↦ b | Some x ↦ act x ]
-  none_there b act none = ap (λ p. elim p [ None ↦ b | Some x ↦ act x ]) (subst (λ p. p ≡ get_or xs i p) none read)
+  none_there b act none = grind arith
 
   one_there : {B : Type 0} (b : B) (act : X → B) (x : X) → i < length xs → o ≡ Some x → act x ≡ elim (get_or xs i None) [ None ↦ b | Some x ↦ act x ]
-  one_there b act x within is = ap (λ p. elim p [ None ↦ b | Some x ↦ act x ]) (sym is ∙ read ∙ get_or_default xs i o None within)
+  one_there b act x within is = grind (arith, get_or_default)
 
 -- ---- an entry that something stands at
 pub here_within : {X : Type 0} (xs : List (Option X)) (i : ℕ) → is_some (get_or xs i None) ≡ true → i < length xs
-here_within xs i here = elim (cases_lt i (length xs)) [ inl below ↦ below | inr past ↦ absurd (true≢false (sym here ∙ ap is_some (get_or_past xs i None past))) ]
-
-pub not_empty : {X : Type 0} (xs : List (Option X)) (i : ℕ) (o : Option X) → o ≡ get_or xs i o → o ≡ None → is_some (get_or xs i None) ≡ true → ⊥
-not_empty xs i o read none here = true≢false (sym here ∙ ap is_some (sym (subst (λ p. p ≡ get_or xs i p) none read)))
+here_within xs i here = grind (arith, get_or_past)
 
 -- ---- what may have happened, at the end of what has
 pub none_more : {X : Type 0} (xs : List X) (o : Option X) → o ≡ None → xs ≡ xs ++ present (o ∷ [])
@@ -51,13 +47,13 @@ module _ {d wiring : ℕ} {program : List Instr} {s : Sets} {awake : List ℕ} {
     {for_replies : Links ReplyMessage} {for_requests : Links Request} {event_places stop_places : ℕ}
     (kept : IsKept d wiring program s awake ws bs es for_replies for_requests event_places stop_places) where
   pub switches_kept : (vs : List (Option Switch)) → vs ≡ ws → IsKept d wiring program s awake vs bs es for_replies for_requests event_places stop_places
-  switches_kept vs same = subst (λ ws. IsKept d wiring program s awake ws bs es for_replies for_requests event_places stop_places) (sym same) kept
+  switches_kept vs same = grind arith
 
   pub modules_kept : (cs : List (Option Bank)) → cs ≡ bs → IsKept d wiring program s awake ws cs es for_replies for_requests event_places stop_places
   modules_kept cs same = subst (λ bs. IsKept d wiring program s awake ws bs es for_replies for_requests event_places stop_places) (sym same) kept
 
   pub elements_kept : (fs : List (Option ProcessingElement)) → fs ≡ es → IsKept d wiring program s awake ws bs fs for_replies for_requests event_places stop_places
-  elements_kept fs same = subst (λ es. IsKept d wiring program s awake ws bs es for_replies for_requests event_places stop_places) (sym same) kept
+  elements_kept fs same = grind arith
 
 -- ---- what is said of a switch by its number, in a wiring that is the network's
 pub by_number : (f : ℕ → ℕ → ℕ → Ports ℕ) (wiring d n : ℕ) → wiring ≡ d → f wiring (stage_of wiring n) (index_of wiring n) ≡ f d (stage_of d n) (index_of d n)
@@ -67,47 +63,30 @@ by_number f wiring d n same = rw same refl
 module _ {inside b : BlockState} (same : inside ≡ b) where
   -- the number of a unit, and that there is an entry for it
   pub switch_inside : (n s k : ℕ) → IsSwitch b.stages n s k → IsSwitch inside.stages n s k
-  switch_inside n s k own = subst (λ (b : BlockState). IsSwitch b.stages n s k) (sym same) own
+  switch_inside n s k own = grind arith
 
   pub module_inside : (n m : ℕ) → IsModule b.stages n m → IsModule inside.stages n m
   module_inside n m own = subst (λ (b : BlockState). IsModule b.stages n m) (sym same) own
 
   pub element_inside : (n p : ℕ) → IsElement b.stages n p → IsElement inside.stages n p
-  element_inside n p own = subst (λ (b : BlockState). IsElement b.stages n p) (sym same) own
-
-  pub switch_wired : (n s k wiring : ℕ) → IsSwitch b.stages n s k → wiring ≡ inside.stages → n < switch_count wiring
-  switch_wired n s k wiring own network = subst (λ d. n < switch_count d) (sym network) (switch_inside n s k own).within
+  element_inside n p own = grind arith
 
   pub beside_switch : (f : ℕ → ℕ → ℕ → Ports ℕ) (n s k wiring : ℕ) (p : Ports ℕ) → IsSwitch b.stages n s k → wiring ≡ inside.stages → p ≡ f wiring (stage_of wiring n) (index_of wiring n) → p ≡ f inside.stages s k
-  beside_switch f n s k wiring p own network is =
-      let own_inside = switch_inside n s k own in
-      rw (own_inside.stage, own_inside.index) (is ∙ by_number f wiring inside.stages n network)
+  beside_switch f n s k wiring p own network is = grind arith
 
   pub switch_within : (n s k : ℕ) → IsSwitch b.stages n s k → length inside.switches ≡ switch_count inside.stages → n < length inside.switches
-  switch_within n s k own entries = subst (λ count. n < count) (sym entries) (switch_inside n s k own).within
-
-  pub switch_entry : (n s k len : ℕ) → IsSwitch b.stages n s k → len ≡ length inside.switches → length inside.switches ≡ switch_count inside.stages → n < len
-  switch_entry n s k len own places entries = subst (λ count. n < count) (sym (places ∙ entries)) (switch_inside n s k own).within
+  switch_within n s k own entries = grind arith
 
   pub module_entry : (n m len : ℕ) → IsModule b.stages n m → len ≡ length inside.modules → length inside.modules ≡ 2 ^ inside.stages → m < len
   module_entry n m len own places entries = subst (λ count. m < count) (sym (places ∙ entries)) (module_inside n m own).small
 
-  pub element_entry : (n p len : ℕ) → IsElement b.stages n p → len ≡ length inside.elements → length inside.elements ≡ 2 ^ inside.stages → p < len
-  element_entry n p len own places entries = subst (λ count. p < count) (sym (places ∙ entries)) (element_inside n p own).small
-
   pub switch_passed : (act : BlockState → Switch → BlockState) (n : ℕ) (o : Option Switch) → o ≡ get_or inside.switches n o → o ≡ None
       → record inside { switches = set inside.switches n o } ≡ elim (switch_at b.switches n) [ None ↦ b | Some w ↦ act b w ]
-  switch_passed act n o read none =
-      ap (λ ws. record inside { switches = ws }) (put_back inside.switches n o read)
-      ∙ none_there inside.switches n o read inside (act inside) none
-      ∙ ap (λ (b : BlockState). elim (switch_at b.switches n) [ None ↦ b | Some w ↦ act b w ]) same
+  switch_passed act n o read none = grind (arith, put_back)
 
   pub switch_worked : (act : BlockState → Switch → BlockState) (n s k : ℕ) (o : Option Switch) (w : Switch) → IsSwitch b.stages n s k → length inside.switches ≡ switch_count inside.stages
       → o ≡ get_or inside.switches n o → o ≡ Some w → act inside w ≡ elim (switch_at b.switches n) [ None ↦ b | Some w ↦ act b w ]
-  switch_worked act n s k o w own entries read is =
-      let own_inside : IsSwitch inside.stages n s k = subst (λ (b : BlockState). IsSwitch b.stages n s k) (sym same) own in
-      one_there inside.switches n o read inside (act inside) w (omega (arith, own_inside.within)) is
-      ∙ ap (λ (b : BlockState). elim (switch_at b.switches n) [ None ↦ b | Some w ↦ act b w ]) same
+  switch_worked act n s k o w own entries read is = grind (arith, common_steps)
 
   pub module_passed : (act : BlockState → Bank → BlockState) (m : ℕ) (o : Option Bank) → o ≡ get_or inside.modules m o → o ≡ None
       → record inside { modules = set inside.modules m o } ≡ elim (module_at b.modules m) [ None ↦ b | Some bank ↦ act b bank ]
@@ -125,14 +104,8 @@ module _ {inside b : BlockState} (same : inside ≡ b) where
 
   pub element_passed : (act : BlockState → ProcessingElement → BlockState) (p : ℕ) (o : Option ProcessingElement) → o ≡ get_or inside.elements p o → o ≡ None
       → record inside { elements = set inside.elements p o } ≡ elim (element_at b.elements p) [ None ↦ b | Some e ↦ act b e ]
-  element_passed act p o read none =
-      ap (λ es. record inside { elements = es }) (put_back inside.elements p o read)
-      ∙ none_there inside.elements p o read inside (act inside) none
-      ∙ ap (λ (b : BlockState). elim (element_at b.elements p) [ None ↦ b | Some e ↦ act b e ]) same
+  element_passed act p o read none = grind (arith, put_back)
 
   pub element_worked : (act : BlockState → ProcessingElement → BlockState) (n p : ℕ) (o : Option ProcessingElement) (e : ProcessingElement) → IsElement b.stages n p → length inside.elements ≡ 2 ^ inside.stages
       → o ≡ get_or inside.elements p o → o ≡ Some e → act inside e ≡ elim (element_at b.elements p) [ None ↦ b | Some e ↦ act b e ]
-  element_worked act n p o e own entries read is =
-      let own_inside : IsElement inside.stages n p = subst (λ (b : BlockState). IsElement b.stages n p) (sym same) own in
-      one_there inside.elements p o read inside (act inside) e (omega (arith, own_inside.small)) is
-      ∙ ap (λ (b : BlockState). elim (element_at b.elements p) [ None ↦ b | Some e ↦ act b e ]) same
+  element_worked act n p o e own entries read is = grind (arith, common_steps)

@@ -67,13 +67,10 @@ module _ (program : List Instr) where
 
     own_as : (p : ℕ) (t : BlockState) (o : Option ProcessingElement) → p < length t.elements → element_at t.elements p ≡ o
         → or_same no_switch no_module (stepped_by program) d (λ t. element_at t.elements p) (element_at t.elements p) (λ e. element_at (stepped_by program p t e).elements p) o ≡ after_executing o
-    own_as p t None within is = is
-    own_as p t (Some e) within is = get_or-set_same t.elements p _ None within
+    own_as p t o within is = grind (arith, get_or-set_same)
 
     others : (p j : ℕ) (t : BlockState) → IsShaped d t → j ≢ element_number d p → element_at (executing_visit j t).elements p ≡ element_at t.elements p
-    others p j t shape other =
-        leaves no_switch no_module (stepped_by program) d (λ t. element_at t.elements p) j t shape.stages (λ s k is w. refl) (λ m is b. refl)
-        (λ q is e. get_or-set_other t.elements q p _ None (λ same. other (omega (arith, is.number))))
+    others p j t shape other = grind (arith, get_or-set_other)
 
     pub element_after_executing : (b : BlockState) → IsShaped d b → (p : ℕ) → p < 2 ^ d → element_number d p < 320
         → element_at (after_units (executes program) 320 b).elements p ≡ after_executing (element_at b.elements p)
@@ -109,13 +106,11 @@ module _ (program : List Instr) where
 
     element_events : (p : ℕ) (t : BlockState) (o : Option ProcessingElement)
         → BlockState.events (elim o [ None ↦ t | Some e ↦ stepped_by program p t e ]) ≡ t.events ++ issue_entries o
-    element_events p t None = sym (append-nil t.events)
-    element_events p t (Some e) = refl
+    element_events p t o = grind (arith, append-nil)
 
     element_stops : (p : ℕ) (t : BlockState) (o : Option ProcessingElement)
         → BlockState.stops (elim o [ None ↦ t | Some e ↦ stepped_by program p t e ]) ≡ t.stops ++ stop_entries p o
-    element_stops p t None = sym (append-nil t.stops)
-    element_stops p t (Some e) = refl
+    element_stops p t o = grind (arith, append-nil)
 
     events_as : (t : BlockState) (u : Unit)
         → BlockState.events (elim u [ unit.Switch s k ↦ t | unit.Module m ↦ t | unit.Element p ↦ element_executes program p t | unit.Nothing ↦ t ]) ≡ t.events ++ entries_of (λ p o. issue_entries o) t u

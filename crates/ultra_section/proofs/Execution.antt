@@ -1,6 +1,6 @@
 -- A processing element that is at rest stays as it is, and what one does, the later ones don't miss.
-use Rattle.std.proofs.Common.{◌≡◌, ℕ, zero, suc, ◌<◌, ◌≤◌, List, [], ◌∷◌, ◌++◌, false, Option, Some, None, length, length-append, get_or-set_other, refl, sym, ◌∙◌, ap, arith}
-use Rattle.std.specs.Prelude.{slice_set, IsTrue}
+use Rattle.std.proofs.Common.{◌≡◌, ℕ, zero, suc, ◌<◌, ◌≤◌, List, [], ◌∷◌, false, Option, Some, None, length, length-append, get_or-set_other, refl, sym, ◌∙◌, ap, arith}
+use Rattle.std.specs.Prelude.{IsTrue}
 use Rattle.std.specs.Option.{ForSome}
 use Rattle.std.proofs.lemmas.List.{append-nil}
 use Rattle.ultra_msg.specs.declared.Request.{Request}
@@ -13,7 +13,7 @@ use Rattle.ultra_model.specs.Machine.{Element}
 use Rattle.ultra_model.specs.Places.{present}
 use Rattle.ultra_model.specs.Phases.{issue_event, stop_of}
 use Rattle.ultra_halves.specs.declared.elements.ProcessingElement.{ProcessingElement}
-use Rattle.ultra_halves.specs.Elements.{element_of, executed, step_at, is_at_rest}
+use Rattle.ultra_halves.specs.Elements.{is_at_rest}
 use Rattle.ultra_halves.proofs.Rests.{left_at_rest}
 use Rattle.ultra_units.specs.declared.unit.Unit.{Unit as UnitName}
 use Rattle.ultra_units.specs.declared.unit.Unit.TheVariants as unit
@@ -24,8 +24,7 @@ use Rattle.ultra_units.proofs.Standing.{unit_is}
 use Rattle.ultra_section.proofs.Empty.{same_entry}
 
 one_issue : (e : Element) (o : Option Request) → length (present (issue_event e o ∷ [])) ≤ 1
-one_issue e None = omega arith
-one_issue e (Some r) = omega arith
+one_issue e o = grind arith
 
 one_stop : (p : ℕ) (was : Step) → length (present (stop_of p was ∷ [])) ≤ 1
 one_stop p step.Done = omega arith
@@ -37,15 +36,7 @@ one_stop p (step.Fault f) = omega arith
 module _ (program : List Instr) (b : BlockState) where
   element_idle : (p : ℕ) (o : Option ProcessingElement) → element_at b.elements p ≡ o → ForSome o (λ e. IsTrue (is_at_rest program e))
       → elim o [ None ↦ b | Some e ↦ stepped_by program p b e ] ≡ b
-  element_idle p None is h = refl
-  element_idle p (Some e) is h =
-      let left = left_at_rest program e (h e refl) in
-      let put : slice_set b.elements p (Some (executed program e)) ≡ b.elements = ap (λ x. slice_set b.elements p (Some x)) left.element ∙ same_entry b.elements p (Some e) is in
-      let events : b.events ++ present (issue_event (element_of e) (step_at program e).sent ∷ []) ≡ b.events = ap (λ o. b.events ++ present (o ∷ [])) left.issue ∙ append-nil b.events in
-      let stops : b.stops ++ present (stop_of p (step_at program e).was ∷ []) ≡ b.stops = ap (λ o. b.stops ++ present (o ∷ [])) (left.stop p) ∙ append-nil b.stops in
-      ap (λ es. record b { elements = es; events = b.events ++ present (issue_event (element_of e) (step_at program e).sent ∷ []); stops = b.stops ++ present (stop_of p (step_at program e).was ∷ []) }) put
-      ∙ ap (λ vs. record b { events = vs; stops = b.stops ++ present (stop_of p (step_at program e).was ∷ []) }) events
-      ∙ ap (λ ss. record b { stops = ss }) stops
+  element_idle p o is h = grind (arith, left_at_rest, same_entry, append-nil)
 
   idle_at : (awake : List ℕ) → AreOthersAtRest b.stages program awake b.elements → (n : ℕ) (u : UnitName) → IsUnit b.stages n u → has_unit awake n ≡ false
       → elim u [ unit.Switch s k ↦ b | unit.Module m ↦ b | unit.Element p ↦ element_executes program p b | unit.Nothing ↦ b ] ≡ b
@@ -66,15 +57,7 @@ module _ (program : List Instr) (b : BlockState) where
 
   later_at_element : (n k p : ℕ) (o : Option ProcessingElement) → n < k → IsElement b.stages n p → HasEventRoom n b → HasStopRoom n b → CanExecuteAt k b
       → CanExecuteAt k (elim o [ None ↦ b | Some e ↦ stepped_by program p b e ])
-  later_at_element n k p None order is events stops can = can
-  later_at_element n k p (Some e) order is events stops can = record {
-    unit = later_unit k (stepped_by program p b e) (unit_of b.stages k)
-        (λ q other. get_or-set_other b.elements p q _ None (λ same. absurd (let x = is.number in let y = other.number in omega arith))) (unit_is b.stages k) can.unit;
-    event_room = let entries = one_issue (element_of e) (step_at program e).sent in
-        let all = length-append b.events (present (issue_event (element_of e) (step_at program e).sent ∷ [])) in omega arith;
-    stop_room = let entries = one_stop p (step_at program e).was in
-        let all = length-append b.stops (present (stop_of p (step_at program e).was ∷ [])) in omega arith;
-  }
+  later_at_element n k p o order is events stops can = grind (arith, get_or-set_other, unit_is, one_issue, length-append, one_stop)
 
   pub later_element : (n k p : ℕ) → n < k → IsElement b.stages n p → HasEventRoom n b → HasStopRoom n b → CanExecuteAt k b → CanExecuteAt k (element_executes program p b)
   later_element n k p order is events stops can = later_at_element n k p (element_at b.elements p) order is events stops can
@@ -82,8 +65,7 @@ module _ (program : List Instr) (b : BlockState) where
 -- ---- what no step changes stays as it is until the half is over
 module _ {X : Type 0} (get : BlockState → X) (same : (program : List Instr) (p : ℕ) (b : BlockState) (e : ProcessingElement) → get (stepped_by program p b e) ≡ get b) where
   element_keeps : (program : List Instr) (b : BlockState) (p : ℕ) (o : Option ProcessingElement) → get (elim o [ None ↦ b | Some e ↦ stepped_by program p b e ]) ≡ get b
-  element_keeps program b p None = refl
-  element_keeps program b p (Some e) = same program p b e
+  element_keeps program b p o = grind arith
 
   unit_keeps : (program : List Instr) (b : BlockState) (u : UnitName)
       → get (elim u [ unit.Switch s k ↦ b | unit.Module m ↦ b | unit.Element p ↦ element_executes program p b | unit.Nothing ↦ b ]) ≡ get b

@@ -1,5 +1,5 @@
 -- In each half a unit has at most two events, so there is memory for all events of a cycle.
-use Rattle.std.proofs.Common.{◌≡◌, ℕ, zero, suc, ◌+◌, ◌*◌, ◌≤◌, List, [], ◌∷◌, Bool, true, false, Option, Some, None, length, length-append, subst, arith}
+use Rattle.std.proofs.Common.{◌≡◌, ℕ, zero, suc, ◌+◌, ◌*◌, ◌≤◌, List, Bool, Option, length, length-append, subst, arith}
 use Rattle.ultra_msg.specs.declared.Request.{Request}
 use Rattle.ultra_switch.specs.declared.Switch.{Switch}
 use Rattle.ultra_switch.specs.declared.Ports.{Ports}
@@ -20,19 +20,8 @@ few_entries entries t most few (suc n) =
     let next : suc n * most ≡ n * most + most = grind arith in
     omega arith
 
-pub one_present : {E : Type 0} (o : Option E) → length (present (o ∷ [])) ≤ 2
-one_present None = omega arith
-one_present (Some x) = omega arith
-
-two_present : {E : Type 0} (x y : Option E) → length (present (x ∷ y ∷ [])) ≤ 2
-two_present None None = omega arith
-two_present None (Some y) = omega arith
-two_present (Some x) None = omega arith
-two_present (Some x) (Some y) = omega arith
-
 ordered_present : {E : Type 0} (turned : Bool) (x y : Option E) → length (present (in_order turned x y)) ≤ 2
-ordered_present true x y = two_present y x
-ordered_present false x y = two_present x y
+ordered_present turned x y = grind arith
 
 -- a switch makes at most two combinations in a cycle
 pub two_combine : (d s k n : ℕ) (w : Switch) (came : Ports (Option Request)) → length (combinations_of d s k n w came) ≤ 2

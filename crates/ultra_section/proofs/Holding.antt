@@ -1,5 +1,5 @@
 -- What the sets of a block say of what a unit may hold is true of each number.
-use Rattle.std.proofs.Common.{◌≡◌, ℕ, ◌^◌, ◌<◌, ◌≤◌, List, false, Option, Some, None, refl, ◌∙◌, ap}
+use Rattle.std.proofs.Common.{◌≡◌, ℕ, ◌^◌, ◌<◌, ◌≤◌, List, false, Option, Some, None, refl, ◌∙◌, ap, arith}
 use Rattle.ultra_mem.specs.Serve.{Bank}
 use Rattle.ultra_switch.specs.declared.Switch.{Switch}
 use Rattle.ultra_units.specs.Set.{has_unit}
@@ -7,7 +7,6 @@ use Rattle.ultra_units.specs.Numbers.{switch_count, unit_count, module_number, e
 use Rattle.ultra_halves.specs.declared.elements.ProcessingElement.{ProcessingElement}
 use Rattle.ultra_section.specs.declared.sets.Sets.{Sets}
 use Rattle.ultra_section.specs.declared.held.Held.{Held}
-use Rattle.ultra_section.specs.declared.held.Held.TheVariants.{Reply, Request, Record}
 use Rattle.ultra_units.specs.declared.unit.Unit.{Unit}
 use Rattle.ultra_units.specs.declared.unit.Unit.TheVariants as unit
 use Rattle.ultra_units.specs.Units.{unit_of, of_unit, stage_of, index_of, IsUnit}
@@ -22,24 +21,16 @@ never None = refl
 never (Some x) = refl
 
 switch_fact : (held : Held) (f : UnitFacts) (o : Option Switch) → KnowsSwitch f o → fact_of held f ≡ if_here (switch_holds held) o
-switch_fact Reply f o known = known.holds_replies
-switch_fact Request f o known = known.holds_requests
-switch_fact Record f o known = known.keeps_records
+switch_fact held f o known = grind arith
 
 module_fact : (held : Held) (f : UnitFacts) (o : Option Bank) → KnowsModule f o → fact_of held f ≡ if_here (module_holds held) o
-module_fact Reply f o known = known.holds_replies
-module_fact Request f o known = known.holds_requests
-module_fact Record f o known = known.keeps_records ∙ never o
+module_fact held f o known = grind arith
 
 element_fact : (held : Held) (f : UnitFacts) (o : Option ProcessingElement) → KnowsElement f o → fact_of held f ≡ if_here (element_holds held) o
-element_fact Reply f o known = known.holds_replies ∙ never o
-element_fact Request f o known = known.holds_requests
-element_fact Record f o known = known.keeps_records ∙ never o
+element_fact held f o known = grind arith
 
 no_fact : (held : Held) → fact_of held no_facts ≡ false
-no_fact Reply = refl
-no_fact Request = refl
-no_fact Record = refl
+no_fact held = grind arith
 
 module _ (held : Held) (b : BlockState) (s : Sets) (known : UnitsAreKnown b.stages s b.switches b.modules b.elements) where
   fact_as : (n : ℕ) (u : Unit) → IsUnit b.stages n u → fact_of held (facts_at s n) ≡ elim u [

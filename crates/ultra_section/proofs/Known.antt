@@ -1,10 +1,9 @@
 -- What the sets of a block say of its units is kept when one of them is put anew and noted.
-use Rattle.std.proofs.Common.{◌≡◌, ◌≢◌, ℕ, ◌^◌, ◌<◌, ◌≤◌, List, Bool, Option, Some, None, set, get_or, refl, sym, ◌∙◌, ap, subst, inl, inr, arith, get_or-set_same, get_or-set_other}
+use Rattle.std.proofs.lemmas.Grind.{common_steps}
+use Rattle.std.proofs.Common.{◌≡◌, ◌≢◌, ℕ, ◌^◌, ◌<◌, ◌≤◌, List, Bool, Option, Some, None, set, get_or, refl, sym, ◌∙◌, ap, subst, arith, get_or-set_same, get_or-set_other}
 use Rattle.std.specs.Prelude.{not, is_some, length, slice_index_or}
-use Rattle.std.proofs.lemmas.Bool.{cases_eq}
 use Rattle.std.proofs.lemmas.List.{length-set, get_or_default}
 use Rattle.ultra_switch.specs.declared.Switch.{Switch}
-use Rattle.ultra_switch.specs.declared.Ports.{Ports}
 use Rattle.ultra_mem.specs.Serve.{Bank}
 use Rattle.ultra_isa.specs.Step.{has_stopped}
 use Rattle.ultra_isa.specs.declared.Instr.{Instr}
@@ -28,19 +27,11 @@ AgreeBut n old now = (k : ℕ) → k ≢ n → facts_at now k ≡ facts_at old k
 module _ {X : Type 0} (Knows : UnitFacts → Option X → Type 0) (number : ℕ → ℕ) (old now : Sets) (xs : List (Option X)) where
   one_changed : (i : ℕ) (o : Option X) → AgreeBut (number i) old now → Knows (facts_at now (number i)) o → (k : ℕ) → (k ≢ i → number k ≢ number i) → i < length xs
       → Knows (facts_at old (number k)) (slice_index_or xs k None) → Knows (facts_at now (number k)) (slice_index_or (set xs i o) k None)
-  one_changed i o agree there k apart within was =
-      elim (cases_eq k i) [
-        | inl same ↦
-            subst (λ j. Knows (facts_at now (number j)) (slice_index_or (set xs i o) j None)) (sym same)
-            (subst (λ x. Knows (facts_at now (number i)) x) (sym (get_or-set_same xs i o None within)) there)
-        | inr other ↦
-            subst (λ x. Knows (facts_at now (number k)) x) (sym (get_or-set_other xs i k o None other))
-            (subst (λ f. Knows f (slice_index_or xs k None)) (sym (agree (number k) (apart other))) was)
-      ]
+  one_changed i o agree there k apart within was = grind (arith, get_or-set_same, get_or-set_other)
 
   one_kept : (n : ℕ) → AgreeBut n old now → (k : ℕ) → number k ≢ n
       → Knows (facts_at old (number k)) (slice_index_or xs k None) → Knows (facts_at now (number k)) (slice_index_or xs k None)
-  one_kept n agree k other was = subst (λ f. Knows f (slice_index_or xs k None)) (sym (agree (number k) other)) was
+  one_kept n agree k other was = grind arith
 
 -- ---- in a block
 module _ (d : ℕ) (old now : Sets) (ws : List (Option Switch)) (bs : List (Option Bank)) (es : List (Option ProcessingElement)) (known : UnitsAreKnown d old ws bs es) where
@@ -90,60 +81,28 @@ with_requests f v kept = record f { holds_requests = holds_requests v; no_room_z
 
 pub replies_noted : (f g : UnitFacts) (w v : Switch) (kept : Bool) → KnowsSwitch f (Some w) → g ≡ with_replies f v kept
     → holds_requests v ≡ holds_requests w → has_request_room v ≡ has_request_room w → kept ≡ keeps_records v → KnowsSwitch g (Some v)
-replies_noted f g w v kept known is held room records = rw is record {
-  here = known.here;
-  holds_replies = refl;
-  no_reply_room = refl;
-  holds_requests = known.holds_requests ∙ sym held;
-  no_room_zero = known.no_room_zero ∙ ap (λ (p : Ports Bool). not p.zero) (sym room);
-  no_room_one = known.no_room_one ∙ ap (λ (p : Ports Bool). not p.one) (sym room);
-  keeps_records = records;
-}
+replies_noted f g w v kept known is held room records = grind arith
 
 pub requests_noted : (f g : UnitFacts) (w v : Switch) (kept : Bool) → KnowsSwitch f (Some w) → g ≡ with_requests f v kept
     → holds_replies v ≡ holds_replies w → has_reply_room v ≡ has_reply_room w → kept ≡ keeps_records v → KnowsSwitch g (Some v)
-requests_noted f g w v kept known is held room records = rw is record {
-  here = known.here;
-  holds_replies = known.holds_replies ∙ sym held;
-  no_reply_room = known.no_reply_room ∙ ap (λ b. not b) (sym room);
-  holds_requests = refl;
-  no_room_zero = refl;
-  no_room_one = refl;
-  keeps_records = records;
-}
+requests_noted f g w v kept known is held room records = grind arith
 
 -- a module
 pub request_noted : (f g : UnitFacts) (b c : Bank) → c.out ≡ b.out → g ≡ record f { holds_requests = is_some c.inp; no_room_zero = is_some c.inp; to_serve = would_serve c }
     → KnowsModule f (Some b) → KnowsModule g (Some c)
-request_noted f g b c out is known = rw is record {
-  here = known.here;
-  holds_replies = known.holds_replies ∙ sym (ap is_some out);
-  holds_requests = refl;
-  no_room_zero = refl;
-  to_serve = refl;
-  keeps_records = known.keeps_records;
-}
+request_noted f g b c out is known = grind arith
 
 pub reply_noted : (f g : UnitFacts) (b c : Bank) → c.inp ≡ b.inp → g ≡ record f { holds_replies = is_some c.out; to_serve = would_serve c }
     → KnowsModule f (Some b) → KnowsModule g (Some c)
-reply_noted f g b c inp is known = rw is record {
-  here = known.here;
-  holds_replies = refl;
-  holds_requests = known.holds_requests ∙ sym (ap is_some inp);
-  no_room_zero = known.no_room_zero ∙ sym (ap is_some inp);
-  to_serve = refl;
-  keeps_records = known.keeps_records;
-}
+reply_noted f g b c inp is known = grind arith
 
 pub serving_noted : (f g : UnitFacts) (b c : Bank) → g ≡ record f { holds_replies = is_some c.out; holds_requests = is_some c.inp; no_room_zero = is_some c.inp; to_serve = would_serve c }
     → KnowsModule f (Some b) → KnowsModule g (Some c)
-serving_noted f g b c is known =
-    rw is record { here = known.here; holds_replies = refl; holds_requests = refl; no_room_zero = refl; to_serve = refl; keeps_records = known.keeps_records }
+serving_noted f g b c is known = grind arith
 
 pub element_noted : (f g : UnitFacts) (e v : ProcessingElement) → KnowsElement f (Some e)
     → g ≡ record f { holds_requests = holds_request v; running = not (has_stopped v.processor.core.activity) } → KnowsElement g (Some v)
-element_noted f g e v known is =
-    rw is record { here = known.here; holds_replies = known.holds_replies; holds_requests = refl; running = refl; keeps_records = known.keeps_records }
+element_noted f g e v known is = grind arith
 
 -- what a read of an entry gives
 pub stands : {X : Type 0} (xs : List (Option X)) (n : ℕ) (o : Option X) (x : X) → n < length xs → o ≡ get_or xs n o → o ≡ Some x → slice_index_or xs n None ≡ Some x
@@ -152,8 +111,7 @@ stands xs n o x within read is = get_or_default xs n None o within ∙ sym read 
 -- ---- a unit is changed, and noted: `o` is what was read of its entry
 module _ (d : ℕ) (old now : Sets) (ws : List (Option Switch)) (bs : List (Option Bank)) (es : List (Option ProcessingElement)) (known : UnitsAreKnown d old ws bs es) where
   pub switch_was : (n : ℕ) (o : Option Switch) (w : Switch) → n < switch_count d → o ≡ get_or ws n o → o ≡ Some w → KnowsSwitch (facts_at old n) (Some w)
-  switch_was n o w within read is =
-      subst (λ x. KnowsSwitch (facts_at old n) x) (stands ws n o w (omega (arith, known.switch_entries)) read is) (known.switches n within)
+  switch_was n o w within read is = grind (arith, common_steps)
 
   pub switch_replies_changed : (n : ℕ) (o : Option Switch) (w v : Switch) → n < switch_count d → o ≡ get_or ws n o → o ≡ Some w → AgreeBut n old now
       → facts_at now n ≡ record (facts_at old n) { holds_replies = holds_replies v; no_reply_room = not (has_reply_room v) }
@@ -218,12 +176,4 @@ pub units_changed : {program : List Instr} {awake woken : List ℕ} (d wiring : 
     (for_replies : Links ReplyMessage) (for_requests : Links Request) (event_places stop_places more_event_places more_stop_places : ℕ)
     → IsKept d wiring program old awake ws bs es for_replies for_requests event_places stop_places → UnitsAreKnown d now vs cs fs → AreOthersAtRest d program woken fs
     → event_places ≤ more_event_places → stop_places ≤ more_stop_places → IsKept d wiring program now woken vs cs fs for_replies for_requests more_event_places more_stop_places
-units_changed d wiring old now ws vs bs cs es fs rs qs e s e' s' kept units rests more_events more_stops = record {
-  network = kept.network;
-  units = units;
-  rests = rests;
-  replies = kept.replies;
-  requests = kept.requests;
-  events_fit = omega (arith, kept.events_fit);
-  stops_fit = omega (arith, kept.stops_fit);
-}
+units_changed d wiring old now ws vs bs cs es fs rs qs e s e' s' kept units rests hyp0 hyp1 = grind arith

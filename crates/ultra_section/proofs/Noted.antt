@@ -1,5 +1,5 @@
 -- What is noted of a switch once messages have come to it or left it: its queues are longer then, or shorter. And what is noted of a module.
-use Rattle.std.proofs.Common.{◌≡◌, ℕ, ◌+◌, ◌≤◌, List, ◌++◌, Bool, true, false, Option, Some, None, length, length-append, length-drop, sym, refl, ap, ◌∙◌, arith}
+use Rattle.std.proofs.Common.{◌≡◌, ℕ, ◌+◌, ◌≤◌, List, ◌++◌, Bool, true, false, Option, Some, length, length-append, sym, ◌∙◌, arith}
 use Rattle.std.specs.Prelude.{not, nat_le, ◌==◌, ◌&&◌}
 use Rattle.std.proofs.lemmas.Bool.Decides.{nat_tests}
 use Rattle.ultra_msg.specs.declared.Request.{Request}
@@ -27,13 +27,11 @@ both_full_more : (n a b c d p q : ℕ) → a ≤ c → b ≤ d → not (nat_le (
 both_full_more n a b c d p q first second h = grind (arith, nat_tests)
 
 unless : (x y : Bool) → (x ≡ true → y ≡ true) → y ≡ false → x ≡ false
-unless true y h e = sym (h refl) ∙ e
-unless false y h e = refl
+unless x y h e = grind arith
 
 -- ---- a queue that something leaves
 shorter : {X Y : Type 0} (o : Option Y) (xs : List X) → length (after_leaving o xs) ≤ length xs
-shorter None xs = omega arith
-shorter (Some y) xs = omega (arith, length-drop 1 xs)
+shorter o xs = grind arith
 
 -- ---- a queue that something comes to, twice
 longer : {X : Type 0} (xs ys zs : List X) → length xs ≤ length ((xs ++ ys) ++ zs)
@@ -80,35 +78,22 @@ module _ (f : UnitFacts) (w : Switch) (known : KnowsSwitch f (Some w)) where
       }
 
 -- ---- a module of which facts are known
-both_true : (x y : Bool) → (x && y) ≡ true → (x ≡ true) × (y ≡ true)
-both_true true y h = (refl, h)
-both_true false y h = cc
 
 pub out_kept : (n : ℕ) (b : Bank) (o : Option Request) → (bank_with n b o).out ≡ b.out
-out_kept n b None = refl
-out_kept n b (Some r) = refl
+out_kept n b o = grind arith
 
 pub inp_kept : (b : Bank) (o : Option ReplyMessage) → (without_reply b o).inp ≡ b.inp
-inp_kept b None = refl
-inp_kept b (Some r) = refl
+inp_kept b o = grind arith
 
 module _ (f : UnitFacts) (b : Bank) (known : KnowsModule f (Some b)) where
   pub request_came : (n : ℕ) (o : Option Request) → HasRequestMore f (bank_with n b o)
-  request_came n None = record { holds = λ was. sym known.holds_requests ∙ was; full = λ was. sym known.no_room_zero ∙ was; serves = λ was. sym known.to_serve ∙ was }
-  request_came n (Some r) = record { holds = λ was. refl; full = λ was. refl; serves = λ was. (both_true _ _ (sym known.to_serve ∙ was)).1 }
+  request_came n o = grind arith
 
   pub reply_left : (o : Option ReplyMessage) → HasReplyLess f (without_reply b o)
-  reply_left None = record { holds = λ was. sym known.holds_replies ∙ was; serves = λ was. sym known.to_serve ∙ was }
-  reply_left (Some r) = record { holds = λ was. refl; serves = λ was. ap (λ x. x && true) (both_true _ _ (sym known.to_serve ∙ was)).0 }
+  reply_left o = grind arith
 
   served_as : (o : Option Placed) → HasServed f (after_serving b o)
-  served_as None = record {
-    holds_reply = λ was. sym known.holds_replies ∙ was;
-    holds_request = λ was. sym known.holds_requests ∙ was;
-    full = λ was. sym known.no_room_zero ∙ was;
-    serves = λ was. sym known.to_serve ∙ was;
-  }
-  served_as (Some p) = record { holds_reply = λ was. refl; holds_request = λ was. refl; full = λ was. refl; serves = λ was. refl }
+  served_as o = grind arith
 
   pub has_served : HasServed f (serve b)
   has_served = served_as (to_serve b)

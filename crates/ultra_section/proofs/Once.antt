@@ -32,8 +32,7 @@ module _ {T : Type 0} (f : ℕ → T → T) (P : T → Type 0) (keeps : (j : ℕ
           others k (after_units f k t) (all_keep k t p) (λ same. absurd (omega arith)) ∙ not_yet_changed k t p (omega arith)
 
       own_visit : (g : X → X) → ((t : T) → P t → get (f n t) ≡ g (get t)) → (k : ℕ) (t : T) → P t → k ≡ n → get (f k (after_units f k t)) ≡ g (get t)
-      own_visit g own k t p same =
-          ap (λ j. get (f j (after_units f k t))) same ∙ own (after_units f k t) (all_keep k t p) ∙ ap g (not_yet_changed k t p (omega arith))
+      own_visit g own k t p same = search (arith, all_keep, not_yet_changed)
 
       pub changed_once : (g : X → X) → ((t : T) → P t → get (f n t) ≡ g (get t)) → (m : ℕ) (t : T) → P t → n < m → get (after_units f m t) ≡ g (get t)
       unfolding after_units

@@ -1,8 +1,7 @@
 -- The sets of a block say what rooms it notes when it is the first to do so.
-use Rattle.std.proofs.Common.{◌≡◌, ℕ, ◌∙◌, Bool, ap, sym}
+use Rattle.std.proofs.Common.{◌≡◌, ℕ, ◌∙◌, Bool, ap, sym, arith}
 use Rattle.std.specs.Prelude.{◌||◌, replicate}
 use Rattle.ultra_units.specs.Set.{has_unit}
-use Rattle.ultra_units.specs.Numbers.{module_number}
 use Rattle.ultra_units.proofs.Set.{none_there}
 use Rattle.ultra_section.specs.Rooms.{AreOwnRooms}
 use Rattle.ultra_section.specs.BlockState.{BlockState, UnitsAreKnown}
@@ -17,9 +16,4 @@ first : (n : ℕ) (seen here : Bool) → seen ≡ here → seen ≡ (has_unit (r
 first n seen here is = is ∙ sym (ap (λ b. b || here) (none_there 5 n))
 
 pub are_own : (s : Sets) (b : BlockState) → UnitsAreKnown b.stages s b.switches b.modules b.elements → AreOwnRooms b (own_rooms s)
-are_own s b known = record {
-  replies = λ n h. first n _ _ (known.switches n h).no_reply_room;
-  requests_zero = λ n h. first n _ _ (known.switches n h).no_room_zero;
-  requests_one = λ n h. first n _ _ (known.switches n h).no_room_one;
-  modules = λ m h. first (module_number b.stages m) _ _ (known.modules m h).no_room_zero;
-}
+are_own s b known = grind (arith, first)

@@ -23,7 +23,7 @@ use Rattle.ultra_section.specs.Shape.{IsShaped}
 use Rattle.ultra_units.proofs.Standing.{is_switch}
 use Rattle.ultra_units.proofs.Marks.{length-put_on}
 use Rattle.ultra_units.proofs.Emptied.{pair}
-use Rattle.ultra_units.proofs.Put.{put_or, put_apart, put_there, put_both, link_apart_put, both_apart_put, both_put, both_apart_put_one, places_of, has_places, place_behind, place_behind_small}
+use Rattle.ultra_units.proofs.Put.{put_or, put_apart, put_both, link_apart_put, both_apart_put, both_put, both_apart_put_one, places_of, has_places, place_behind}
 use Rattle.ultra_section.proofs.ByKind.{visit, visit_as, not_changed, same_visits, keeps, leaves, own_switch, own_module, or_same}
 use Rattle.ultra_section.proofs.Once.{all_keep, never_changed, changed_once}
 
@@ -137,13 +137,7 @@ module _ (closed : List ℕ) where
 
     module_own : (p : ℕ) (t : BlockState) (o : Option Bank) → IsShaped d t → p < 2 ^ d → p < length t.modules → module_at t.modules p ≡ o
         → or_same (replies_sent_by closed) (reply_sent_by closed) no_element d (at_module p) (at_module p t) (λ x. at_module p (reply_sent_by closed p t x)) o ≡ after_sending_module p (at_module p t)
-    module_own p t None q h within is =
-        let empty = ap (λ o. (o, on_link t.replies (place_number d d p))) is in empty ∙ sym (ap (after_sending_module p) empty)
-    module_own p t (Some x) q h within is =
-        ap (λ e. (module_at (set t.modules p (Some (without_reply x (where_room (has_way_from_module closed e p) x.out)))) p, on_link (put_on t.replies (place_number e e p) (where_room (has_way_from_module closed e p) x.out)) (place_number d d p))) q.stages
-        ∙ pair _ _ _ _ (get_or-set_same t.modules p _ None within)
-        (put_there t.replies (place_number d d p) (where_room (has_way_from_module closed d p) x.out) (subst (λ x. place_number d d p < x) (sym q.replies) (place_behind_small d p h)))
-        ∙ sym (ap (after_sending_module p) (ap (λ o. (o, on_link t.replies (place_number d d p))) is))
+    module_own p t o q h within is = grind (arith, get_or-set_same)
 
     module_others : (p : ℕ) → p < 2 ^ d → (j : ℕ) (t : BlockState) → IsShaped d t → j ≢ module_number d p → at_module p (sending_visit j t) ≡ at_module p t
     module_others p h j t q other =

@@ -1,6 +1,5 @@
 -- A unit to which no reply comes takes none, and what a unit takes, the later ones don't miss.
-use Rattle.std.proofs.Common.{◌≡◌, ℕ, ◌<◌, ◌≤◌, List, [], ◌∷◌, ◌++◌, Option, Some, None, length, length-append, set, get_or-set_other, refl, sym, ◌∙◌, ap, subst, arith}
-use Rattle.std.specs.Prelude.{slice_set}
+use Rattle.std.proofs.Common.{◌≡◌, ℕ, ◌<◌, ◌≤◌, List, [], ◌∷◌, Option, Some, None, length, length-append, set, get_or-set_other, refl, sym, ◌∙◌, ap, subst, arith}
 use Rattle.std.specs.Option.{ForSome}
 use Rattle.std.proofs.lemmas.List.{append-nil}
 use Rattle.ultra_msg.specs.declared.ReplyMessage.{ReplyMessage}
@@ -11,7 +10,6 @@ use Rattle.ultra_model.specs.Phases.{delivery}
 use Rattle.ultra_halves.specs.declared.elements.ProcessingElement.{ProcessingElement}
 use Rattle.ultra_halves.specs.Halves.{ports}
 use Rattle.ultra_halves.specs.Switches.{CanTakeReplies, after_replies}
-use Rattle.ultra_halves.specs.Elements.{delivered_to}
 use Rattle.ultra_units.specs.declared.unit.Unit.{Unit as UnitName}
 use Rattle.ultra_units.specs.declared.unit.Unit.TheVariants as unit
 use Rattle.ultra_units.specs.Units.{unit_of, IsUnit, IsElement}
@@ -44,17 +42,7 @@ module _ (b : BlockState) where
 
   element_idle : (p : ℕ) (o : Option ProcessingElement) → element_at b.elements p ≡ o → reply_at_element p b ≡ None
       → elim o [ None ↦ b | Some e ↦ reply_taken_by p b e ] ≡ b
-  element_idle p None is empty = refl
-  element_idle p (Some e) is empty =
-      let at = delivery_link b.stages p in
-      ap (λ (o : Option ReplyMessage). record b {
-        elements = slice_set b.elements p (Some (delivered_to e o));
-        replies = slice_set b.replies at None;
-        events = b.events ++ present (delivery o ∷ []);
-      }) empty
-      ∙ ap (λ es. record b { elements = es; replies = slice_set b.replies at None; events = b.events ++ [] }) (same_entry b.elements p (Some e) is)
-      ∙ ap (λ t. record b { replies = t; events = b.events ++ [] }) (same_entry b.replies at None empty)
-      ∙ ap (λ es. record b { events = es }) (append-nil b.events)
+  element_idle p o is empty = grind (arith, same_entry, append-nil)
 
   idle_at : (n : ℕ) (u : UnitName)
       → AreEmpty b.replies (elim u [ unit.Switch t k ↦ Some (reply_links b.stages t k) | unit.Module m ↦ None | unit.Element p ↦ Some (at_both (delivery_link b.stages p)) | unit.Nothing ↦ None ])
@@ -70,10 +58,7 @@ module _ (b : BlockState) where
 -- ---- what the later units ask is kept
 module _ (b : BlockState) (k : ℕ) where
   fewer_for_switch : (w : Switch) (now : List (Option ReplyMessage)) (p : Ports ℕ) → Fewer b.replies now → CanTakeReplies w (on_both b.replies p) → CanTakeReplies w (on_both now p)
-  fewer_for_switch w now p fewer can = record {
-    zero = for_fewer (on_link b.replies p.zero) (on_link now p.zero) _ (fewer p.zero) can.zero;
-    one = for_fewer (on_link b.replies p.one) (on_link now p.one) _ (fewer p.one) can.one;
-  }
+  fewer_for_switch w now p fewer can = grind arith
 
   later_unit : (b' : BlockState) (u : UnitName) → b'.stages ≡ b.stages → Fewer b.replies b'.replies → (switch_at b'.switches k ≡ switch_at b.switches k)
       → ((p : ℕ) → IsElement b.stages k p → element_at b'.elements p ≡ element_at b.elements p) → IsUnit b.stages k u → UnitCanTakeReplies k b u → UnitCanTakeReplies k b' u
@@ -87,29 +72,17 @@ module _ (b : BlockState) (k : ℕ) where
   later_unit b' unit.Nothing stages fewer switch elements is can = tt
 
   later_at_switch : (n s i : ℕ) (o : Option Switch) → n < k → CanTakeRepliesAt k b → CanTakeRepliesAt k (elim o [ None ↦ b | Some w ↦ replies_taken_by n s i b w ])
-  later_at_switch n s i None order can = can
-  later_at_switch n s i (Some w) order can = record {
-    unit = later_unit (replies_taken_by n s i b w) (unit_of b.stages k) refl (fewer_both b.replies _ _)
-        (get_or-set_other b.switches n k _ None (λ same. absurd (omega arith))) (λ p is. refl) (unit_is b.stages k) can.unit;
-    room = can.room;
-  }
+  later_at_switch n s i o order can = grind (arith, later_unit, fewer_both, get_or-set_other, unit_is)
 
   pub later_switch : (n s i : ℕ) → n < k → CanTakeRepliesAt k b → CanTakeRepliesAt k (switch_takes_replies n s i b)
   later_switch n s i order can = later_at_switch n s i (switch_at b.switches n) order can
 
   one_entry : (o : Option ReplyMessage) → length (present (delivery o ∷ [])) ≤ 1
-  one_entry None = omega arith
-  one_entry (Some r) = omega arith
+  one_entry o = grind arith
 
   later_at_element : (n p : ℕ) (o : Option ProcessingElement) → n < k → IsElement b.stages n p → HasEventRoom n b → CanTakeRepliesAt k b
       → CanTakeRepliesAt k (elim o [ None ↦ b | Some e ↦ reply_taken_by p b e ])
-  later_at_element n p None order is room can = can
-  later_at_element n p (Some e) order is room can = record {
-    unit = later_unit (reply_taken_by p b e) (unit_of b.stages k) refl (fewer_set b.replies _) refl
-        (λ q other. get_or-set_other b.elements p q _ None (λ same. absurd (let x = is.number in let y = other.number in omega arith))) (unit_is b.stages k) can.unit;
-    room = let entries = one_entry (reply_at_element p b) in
-        let all = length-append b.events (present (delivery (reply_at_element p b) ∷ [])) in omega arith;
-  }
+  later_at_element n p o order is room can = grind (arith, later_unit, fewer_set, get_or-set_other, unit_is, length-append)
 
   pub later_element : (n p : ℕ) → n < k → IsElement b.stages n p → HasEventRoom n b → CanTakeRepliesAt k b → CanTakeRepliesAt k (element_takes_reply p b)
   later_element n p order is room can = later_at_element n p (element_at b.elements p) order is room can

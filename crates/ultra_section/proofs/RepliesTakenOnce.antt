@@ -24,7 +24,6 @@ use Rattle.ultra_section.specs.RepliesTaken.{replies_taken_by, switch_takes_repl
 use Rattle.ultra_units.proofs.Standing.{is_switch, unit_is}
 use Rattle.ultra_units.proofs.Readers.{reply_reader, reply_to_element}
 use Rattle.ultra_units.proofs.ReplyMarks.{both_links}
-use Rattle.ultra_units.proofs.Marks.{emptied}
 use Rattle.ultra_units.proofs.Emptied.{pair, link_apart, link_apart_both, both_apart, both_apart_one, both_emptied}
 use Rattle.ultra_section.proofs.ByKind.{visit, visit_as, not_changed, same_visits, keeps, leaves, own_switch, own_element, or_same}
 use Rattle.ultra_section.proofs.Once.{all_keep, never_changed, not_yet_changed, changed_once, entries_before, all_entries}
@@ -126,12 +125,7 @@ module _ (d : ℕ) (low : 1 ≤ d) (high : d ≤ 6) where
 
   element_own : (p : ℕ) (t : BlockState) (o : Option ProcessingElement) → IsShaped d t → p < length t.elements → element_at t.elements p ≡ o
       → or_same replies_taken_by no_module reply_taken_by d (at_element p) (at_element p t) (λ x. at_element p (reply_taken_by p t x)) o ≡ after_taking_element (at_element p t)
-  element_own p t None q within is =
-      let empty = ap (λ o. (o, on_link t.replies (delivery_link d p))) is in empty ∙ sym (ap after_taking_element empty)
-  element_own p t (Some x) q within is =
-      ap (λ e. (element_at (set t.elements p (Some (delivered_to x (on_link t.replies (delivery_link e p))))) p, on_link (set t.replies (delivery_link e p) None) (delivery_link d p))) q.stages
-      ∙ pair _ _ _ _ (get_or-set_same t.elements p _ None within) (emptied t.replies (delivery_link d p))
-      ∙ sym (ap after_taking_element (ap (λ o. (o, on_link t.replies (delivery_link d p))) is))
+  element_own p t o q within is = grind (arith, get_or-set_same)
 
   element_others : (p : ℕ) → p < 2 ^ d → (j : ℕ) (t : BlockState) → IsShaped d t → j ≢ element_number d p → at_element p (taking_visit j t) ≡ at_element p t
   element_others p h j t q other =
@@ -182,12 +176,10 @@ module _ (d : ℕ) (low : 1 ≤ d) (high : d ≤ 6) where
 
   element_events : (p : ℕ) (t : BlockState) (o : Option ProcessingElement)
       → BlockState.events (elim o [ None ↦ t | Some e ↦ reply_taken_by p t e ]) ≡ t.events ++ delivery_entries (o, on_link t.replies (delivery_link t.stages p))
-  element_events p t None = sym (append-nil t.events)
-  element_events p t (Some e) = refl
+  element_events p t o = grind (arith, append-nil)
 
   switch_events : (n s k : ℕ) (t : BlockState) (o : Option Switch) → BlockState.events (elim o [ None ↦ t | Some w ↦ replies_taken_by n s k t w ]) ≡ t.events
-  switch_events n s k t None = refl
-  switch_events n s k t (Some w) = refl
+  switch_events n s k t o = grind arith
 
   events_as : (n : ℕ) (t : BlockState) (u : Unit) → t.stages ≡ d
       → BlockState.events (elim u [ unit.Switch s k ↦ switch_takes_replies n s k t | unit.Module m ↦ t | unit.Element p ↦ element_takes_reply p t | unit.Nothing ↦ t ]) ≡ t.events ++ entries_of t u

@@ -24,7 +24,7 @@ use Rattle.ultra_section.specs.Shape.{IsShaped}
 use Rattle.ultra_units.proofs.Standing.{is_switch}
 use Rattle.ultra_units.proofs.Marks.{length-put_on}
 use Rattle.ultra_units.proofs.Emptied.{pair}
-use Rattle.ultra_units.proofs.Put.{put_or, put_apart, put_there, put_both, link_apart_put, both_apart_put, both_put, both_apart_put_one, places_of, has_places, place_behind, place_behind_small}
+use Rattle.ultra_units.proofs.Put.{put_or, put_apart, put_both, link_apart_put, both_apart_put, both_put, both_apart_put_one, places_of, has_places, place_behind}
 use Rattle.ultra_section.proofs.ByKind.{visit, visit_as, not_changed, same_visits, keeps, leaves, own_switch, own_element, or_same}
 use Rattle.ultra_section.proofs.Once.{all_keep, never_changed, changed_once}
 
@@ -138,13 +138,7 @@ module _ (closed : Ports (List ℕ)) where
 
     element_own : (p : ℕ) (t : BlockState) (o : Option ProcessingElement) → IsShaped d t → p < 2 ^ d → p < length t.elements → element_at t.elements p ≡ o
         → or_same (requests_sent_by closed) no_module (request_sent_by closed) d (at_element p) (at_element p t) (λ x. at_element p (request_sent_by closed p t x)) o ≡ after_sending_element p (at_element p t)
-    element_own p t None q h within is =
-        let empty = ap (λ o. (o, on_link t.requests (place_number d d p))) is in empty ∙ sym (ap (after_sending_element p) empty)
-    element_own p t (Some x) q h within is =
-        ap (λ e. (element_at (set t.elements p (Some (element_without x (where_room (has_way_from_element closed e p (slice_get x.interface.interface.pending 0)) (slice_get x.interface.interface.pending 0))))) p, on_link (put_on t.requests (place_number e e p) (where_room (has_way_from_element closed e p (slice_get x.interface.interface.pending 0)) (slice_get x.interface.interface.pending 0))) (place_number d d p))) q.stages
-        ∙ pair _ _ _ _ (get_or-set_same t.elements p _ None within)
-        (put_there t.requests (place_number d d p) (where_room (has_way_from_element closed d p (slice_get x.interface.interface.pending 0)) (slice_get x.interface.interface.pending 0)) (subst (λ x. place_number d d p < x) (sym q.requests) (place_behind_small d p h)))
-        ∙ sym (ap (after_sending_element p) (ap (λ o. (o, on_link t.requests (place_number d d p))) is))
+    element_own p t o q h within is = grind (arith, get_or-set_same)
 
     element_others : (p : ℕ) → p < 2 ^ d → (j : ℕ) (t : BlockState) → IsShaped d t → j ≢ element_number d p → at_element p (sending_visit j t) ≡ at_element p t
     element_others p h j t q other =

@@ -22,7 +22,6 @@ use Rattle.ultra_section.specs.RequestsTaken.{requests_taken_by, switch_takes_re
 use Rattle.ultra_units.proofs.Standing.{is_switch, unit_is}
 use Rattle.ultra_units.proofs.Readers.{request_reader, request_to_module}
 use Rattle.ultra_units.proofs.RequestMarks.{both_links}
-use Rattle.ultra_units.proofs.Marks.{emptied}
 use Rattle.ultra_units.proofs.Emptied.{pair, link_apart, link_apart_both, both_apart, both_apart_one, both_emptied}
 use Rattle.ultra_section.proofs.ByKind.{visit, visit_as, not_changed, same_visits, keeps, leaves, own_switch, own_module, or_same}
 use Rattle.ultra_section.proofs.Once.{all_keep, never_changed, not_yet_changed, changed_once, entries_before, all_entries}
@@ -72,7 +71,7 @@ module _ (d c : ℕ) (low : 1 ≤ d) (high : d ≤ 6) where
       (λ p e. shape)
 
   done_kept : (n : ℕ) (t : BlockState) → t.done ≡ c → BlockState.done (taking_visit n t) ≡ c
-  done_kept n t is = keeps requests_taken_by request_taken_by no_element (λ t. t.done ≡ c) n t is (λ s k w. is) (λ m b. is) (λ p e. is)
+  done_kept n t is = grind arith
 
   kept : (n : ℕ) (t : BlockState) → InCycle d c t → InCycle d c (taking_visit n t)
   kept n t p = record { shape = shape_kept n t p.shape; done = done_kept n t p.done }
@@ -132,12 +131,7 @@ module _ (d c : ℕ) (low : 1 ≤ d) (high : d ≤ 6) where
 
   module_own : (p : ℕ) (t : BlockState) (o : Option Bank) → InCycle d c t → p < length t.modules → module_at t.modules p ≡ o
       → or_same requests_taken_by request_taken_by no_element d (at_module p) (at_module p t) (λ x. at_module p (request_taken_by p t x)) o ≡ after_taking_module (at_module p t)
-  module_own p t None q within is =
-      let empty = ap (λ o. (o, on_link t.requests (memory_link d p))) is in empty ∙ sym (ap after_taking_module empty)
-  module_own p t (Some x) q within is =
-      ap (λ e. (module_at (set t.modules p (Some (bank_with (2 ^ e) x (on_link t.requests (memory_link e p))))) p, on_link (set t.requests (memory_link e p) None) (memory_link d p))) q.shape.stages
-      ∙ pair _ _ _ _ (get_or-set_same t.modules p _ None within) (emptied t.requests (memory_link d p))
-      ∙ sym (ap after_taking_module (ap (λ o. (o, on_link t.requests (memory_link d p))) is))
+  module_own p t o q within is = grind (arith, get_or-set_same)
 
   module_others : (p : ℕ) → p < 2 ^ d → (j : ℕ) (t : BlockState) → InCycle d c t → j ≢ module_number d p → at_module p (taking_visit j t) ≡ at_module p t
   module_others p h j t q other =
@@ -188,14 +182,10 @@ module _ (d c : ℕ) (low : 1 ≤ d) (high : d ≤ 6) where
 
   switch_events : (n s k : ℕ) (t : BlockState) (o : Option Switch) → InCycle d c t
       → BlockState.events (elim o [ None ↦ t | Some w ↦ requests_taken_by n s k t w ]) ≡ t.events ++ combination_entries s k (o, on_both t.requests (request_links d s k))
-  switch_events n s k t None p = sym (append-nil t.events)
-  switch_events n s k t (Some w) p =
-      ap (λ e. t.events ++ combinations_of e s k t.done w (on_both t.requests (request_links e s k))) p.shape.stages
-      ∙ ap (λ m. t.events ++ combinations_of d s k m w (on_both t.requests (request_links d s k))) p.done
+  switch_events n s k t o p = grind (arith, append-nil)
 
   module_events : (m : ℕ) (t : BlockState) (o : Option Bank) → BlockState.events (elim o [ None ↦ t | Some b ↦ request_taken_by m t b ]) ≡ t.events
-  module_events m t None = refl
-  module_events m t (Some b) = refl
+  module_events m t o = grind arith
 
   events_as : (n : ℕ) (t : BlockState) (u : Unit) → InCycle d c t
       → BlockState.events (elim u [ unit.Switch s k ↦ switch_takes_requests n s k t | unit.Module m ↦ module_takes_request m t | unit.Element p ↦ t | unit.Nothing ↦ t ]) ≡ t.events ++ entries_of n t u

@@ -16,7 +16,7 @@ use Rattle.ultra_section.specs.BlockState.{BlockState, switch_at, module_at, ele
 use Rattle.ultra_section.specs.Shape.{IsShaped}
 use Rattle.ultra_section.specs.Serving.{served_by, module_serves, serves}
 use Rattle.ultra_units.proofs.Standing.{unit_is}
-use Rattle.ultra_section.proofs.ByKind.{visit, visit_as, not_changed, same_visits, keeps, leaves, own_module, or_same}
+use Rattle.ultra_section.proofs.ByKind.{visit, visit_as, not_changed, same_visits, leaves, own_module, or_same}
 use Rattle.ultra_section.proofs.Once.{all_keep, never_changed, not_yet_changed, changed_once, entries_before, all_entries}
 
 abbrev no_switch : ℕ → ℕ → ℕ → BlockState → Switch → BlockState
@@ -42,16 +42,7 @@ all_visits b = same_visits serves serving_visit is_visit 320 b
 
 module _ (d : ℕ) where
   shape_kept : (n : ℕ) (t : BlockState) → IsShaped d t → IsShaped d (serving_visit n t)
-  shape_kept n t shape = keeps no_switch served_by no_element (IsShaped d) n t shape (λ s k w. shape)
-      (λ m b. record {
-        stages = shape.stages;
-        switches = shape.switches;
-        modules = length-set t.modules m _ ∙ shape.modules;
-        elements = shape.elements;
-        replies = shape.replies;
-        requests = shape.requests;
-      })
-      (λ p e. shape)
+  shape_kept n t shape = search (arith, length-set)
 
   pub shape_after_serving : (b : BlockState) → IsShaped d b → IsShaped d (after_units serves 320 b)
   shape_after_serving b shape = subst (IsShaped d) (sym (all_visits b)) (all_keep serving_visit (IsShaped d) shape_kept 320 b shape)
@@ -63,13 +54,10 @@ module _ (d : ℕ) where
 
   own_as : (m : ℕ) (t : BlockState) (o : Option Bank) → m < length t.modules → module_at t.modules m ≡ o
       → or_same no_switch served_by no_element d (λ t. module_at t.modules m) (module_at t.modules m) (λ b. module_at (served_by m t b).modules m) o ≡ after_serving o
-  own_as m t None within is = is
-  own_as m t (Some bank) within is = get_or-set_same t.modules m _ None within
+  own_as m t o within is = grind (arith, get_or-set_same)
 
   others : (m j : ℕ) (t : BlockState) → IsShaped d t → j ≢ module_number d m → module_at (serving_visit j t).modules m ≡ module_at t.modules m
-  others m j t shape other =
-      leaves no_switch served_by no_element d (λ t. module_at t.modules m) j t shape.stages (λ s k is w. refl)
-      (λ q is bank. get_or-set_other t.modules q m _ None (λ same. other (omega (arith, is.number)))) (λ p is e. refl)
+  others m j t shape other = grind (arith, get_or-set_other)
 
   pub module_after_serving : (b : BlockState) → IsShaped d b → (m : ℕ) → m < 2 ^ d → module_number d m < 320
       → module_at (after_units serves 320 b).modules m ≡ after_serving (module_at b.modules m)
@@ -103,8 +91,7 @@ module _ (d : ℕ) where
   entries n t = entries_of t (unit_of d n)
 
   module_events : (m : ℕ) (t : BlockState) (o : Option Bank) → BlockState.events (elim o [ None ↦ t | Some bank ↦ served_by m t bank ]) ≡ t.events ++ act_entries o m
-  module_events m t None = sym (append-nil t.events)
-  module_events m t (Some bank) = refl
+  module_events m t o = grind (arith, append-nil)
 
   events_as : (n : ℕ) (t : BlockState) (u : Unit)
       → BlockState.events (elim u [ unit.Switch s k ↦ t | unit.Module m ↦ module_serves m t | unit.Element p ↦ t | unit.Nothing ↦ t ]) ≡ t.events ++ entries_of t u

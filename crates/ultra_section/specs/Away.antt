@@ -41,7 +41,7 @@ NoReplyLeavesWithin b from to =
 abbrev pub NoRequestLeavesWithin : BlockState → ℕ → ℕ → Type 0
 NoRequestLeavesWithin b from to =
     (n : ℕ) → from ≤ n → n < to → stands n b ≡ false
-        → AreEmpty b.requests (request_inlets b.stages n)
+    → AreEmpty b.requests (request_inlets b.stages n)
 
 -- unit k is the first from `from` on to which a reply may lead from the block
 pub record IsNextForReplies (b : BlockState) (from k : ℕ) : Type 0 where

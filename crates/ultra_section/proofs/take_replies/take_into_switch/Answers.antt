@@ -1,4 +1,5 @@
-use Rattle.std.proofs.Common.{◌∙◌, sym, ap, subst, arith, ◌≡◌, ◌≢◌, ◌<◌, ◌≤◌, ◌+◌, ℕ, List, Option, None, length, set, refl, get_or-set_other}
+use Rattle.std.proofs.lemmas.Grind.{common_steps}
+use Rattle.std.proofs.Common.{◌∙◌, sym, ap, subst, arith, ◌≡◌, ◌≢◌, ◌<◌, ◌≤◌, ◌+◌, ℕ, List, Option, None, length, set, get_or-set_other}
 use Rattle.std.specs.Prelude.{IsTrue}
 use Rattle.std.specs.Option.{ForSome}
 use Rattle.std.proofs.lemmas.List.{length-set}
@@ -9,7 +10,7 @@ use Rattle.ultra_switch.specs.Queues.{SizedLane, SizedReplies}
 use Rattle.ultra_model.specs.Phases.{replies_made}
 use Rattle.ultra_halves.specs.Halves.{going_by, lane_after_reply, ports, with_replies}
 use Rattle.ultra_halves.specs.Switches.{after_replies, has_reply_room}
-use Rattle.ultra_halves.proofs.Going.{both_rooms, room_left, room_of}
+use Rattle.ultra_halves.proofs.Going.{room_left}
 use Rattle.ultra_units.specs.Marks.{on_link}
 use Rattle.ultra_units.specs.Set.{has_unit}
 use Rattle.ultra_units.specs.Units.{stage_of, index_of}
@@ -18,33 +19,22 @@ use Rattle.ultra_units.proofs.ReplyInlets.{at_switch, known_taken}
 use Rattle.ultra_units.proofs.Standing.{is_switch}
 use Rattle.ultra_section.proofs.take_replies.take_into_switch.Goals as goal
 
--- a switch that two replies come to, by one port after the other: there is room for the first, and then for the second
-fits_first : (w : Switch) (o : Option ReplyMessage) → ForSome o (λ _. IsTrue (has_reply_room w))
-    → ForSome o (λ _. length w.to_pe.zero.replies + 2 ≤ w.to_pe.zero.places) × ForSome o (λ _. length w.to_pe.one.replies + 2 ≤ w.to_pe.one.places)
-fits_first w o can = (
-  λ x e. let room = room_of (length w.to_pe.zero.replies + 4) w.to_pe.zero.places (both_rooms _ _ (can x e)).0 in omega (arith, room),
-  λ x e. let room = room_of (length w.to_pe.one.replies + 4) w.to_pe.one.places (both_rooms _ _ (can x e)).1 in omega (arith, room),
-)
-
 module _ (d s : ℕ) (w : Switch) (p : Ports SizedReplies) (zero one : Option ReplyMessage)
     (put_zero : p.zero ≡ with_replies w.to_pe.zero (going_by d s 0 (replies_made w.to_mm.zero.lane.records zero)))
     (put_one : p.one ≡ with_replies w.to_pe.one (going_by d s 1 (replies_made w.to_mm.zero.lane.records zero))) where
   fits_second : ForSome one (λ _. IsTrue (has_reply_room w))
       → ForSome one (λ _. length p.zero.replies + 2 ≤ p.zero.places) × ForSome one (λ _. length p.one.replies + 2 ≤ p.one.places)
-  fits_second can = (
-    λ x e. rw put_zero (room_left d s 0 w.to_pe.zero w.to_mm.zero.lane.records zero (both_rooms _ _ (can x e)).0),
-    λ x e. rw put_one (room_left d s 1 w.to_pe.one w.to_mm.zero.lane.records zero (both_rooms _ _ (can x e)).1),
-  )
+  fits_second can = grind (arith, room_left)
 
   taken_by : (l m : SizedLane) (q : Ports SizedReplies) → l ≡ lane_after_reply w.to_mm.zero zero → m ≡ lane_after_reply w.to_mm.one one
       → q.zero ≡ with_replies p.zero (going_by d s 0 (replies_made w.to_mm.one.lane.records one))
       → q.one ≡ with_replies p.one (going_by d s 1 (replies_made w.to_mm.one.lane.records one))
       → record { to_mm = ports l m; to_pe = ports q.zero q.one } ≡ after_replies d s w (ports zero one)
-  taken_by l m q first second then_zero then_one = rw (first, second, then_zero, then_one, put_zero, put_one) refl
+  taken_by l m q first second hyp0 hyp1 = grind arith
 
 -- what is taken from the second of two links, once the first is empty
 taken_second : (table after : List (Option ReplyMessage)) (p : Ports ℕ) (o : Option ReplyMessage) → p.zero ≢ p.one → after ≡ set table p.zero None → o ≡ on_link after p.one → o ≡ on_link table p.one
-taken_second table after p o apart left is = is ∙ ap (λ t. on_link t p.one) left ∙ get_or-set_other table p.zero p.one None None (λ same. apart (sym same))
+taken_second table after p o apart left is = grind (arith, get_or-set_other)
 
 pub take-zero-requires : goal.take-zero-requires
 take-zero-requires c =
@@ -52,9 +42,7 @@ take-zero-requires c =
     rw (c.requires.all, c.requires.inlets) lead.first_small
 
 pub take_reply-requires : goal.take_reply-requires
-take_reply-requires c =
-    let fits = fits_first c.args.switch.now c.take-zero.result (subst (λ o. ForSome o (λ _. IsTrue (has_reply_room c.args.switch.now))) (sym c.take-zero.ensures.value) c.requires.room.zero) in
-    record { stage = c.requires.stage; zero = fits.0; one = fits.1 }
+take_reply-requires c = grind arith
 
 pub take-one-requires : goal.take-one-requires
 take-one-requires c =
@@ -84,7 +72,7 @@ returns-clause-switch c =
     ∙ ap (λ o. after_replies c.args.net c.args.stage w (ports (on_link c.args.links.now.table.items c.args.inlets.zero) o)) one
 
 pub returns-clause-table : goal.returns-clause-table
-returns-clause-table c = c.take-one.ensures.table ∙ ap (λ t. set t c.args.inlets.one None) c.take-zero.ensures.table
+returns-clause-table c = grind (arith, common_steps)
 
 pub returns-clause-known : goal.returns-clause-known
 returns-clause-known c =

@@ -1,18 +1,15 @@
-use Rattle.std.proofs.Common.{◌∙◌, sym, ap, subst, arith, ◌≡◌, ◌≢◌, ◌<◌, ◌≤◌, ◌+◌, ◌*◌, ◌^◌, ◌++◌, [], ◌∷◌, ℕ, Bool, true, false, List, Option, None, length, set, refl, get_or-set_other}
+use Rattle.std.proofs.Common.{◌∙◌, sym, ap, subst, arith, ◌≡◌, ◌≢◌, ◌<◌, ◌≤◌, ◌+◌, ◌*◌, ◌^◌, ◌++◌, [], ◌∷◌, ℕ, Bool, List, Option, None, length, set, get_or-set_other}
 use Rattle.std.specs.Prelude.{IsTrue}
 use Rattle.std.specs.Option.{ForSome}
 use Rattle.std.proofs.lemmas.List.{length-set}
 use Rattle.ultra_msg.specs.declared.Request.{Request}
 use Rattle.ultra_switch.specs.declared.Ports.{Ports}
 use Rattle.ultra_switch.specs.declared.Switch.{Switch}
-use Rattle.ultra_switch.specs.Arrive.{Lane, arrive}
 use Rattle.ultra_switch.specs.Queues.{SizedLane}
 use Rattle.ultra_model.specs.Places.{present}
-use Rattle.ultra_model.specs.Phases.{arrive_all}
 use Rattle.ultra_halves.specs.Halves.{combination_by, coming_to, has_place_for, in_order, lane_with, ports}
 use Rattle.ultra_halves.specs.Switches.{HasWay, after_both, combinations_of_both}
 use Rattle.ultra_halves.proofs.Combinations.{combined_alone, combined_both, none_combined}
-use Rattle.ultra_halves.proofs.Going.{room_of}
 use Rattle.ultra_units.specs.Marks.{on_link, ports_in_turn, request_links}
 use Rattle.ultra_units.specs.Set.{has_unit}
 use Rattle.ultra_units.proofs.Emptied.{emptied_in_turn}
@@ -28,37 +25,23 @@ pub record AreApart (m : ℕ) (in_turn : ℕ × ℕ) : Type 0 where
   pub second : in_turn.1 < m
 
 are_apart : (m : ℕ) (p : Ports ℕ) (zero_first : Bool) → p.zero ≢ p.one → p.zero < m → p.one < m → AreApart m (ports_in_turn zero_first p)
-are_apart m p true apart zero one = record { apart = λ same. apart (sym same); first = zero; second = one }
-are_apart m p false apart zero one = record { apart = apart; first = one; second = zero }
+are_apart m p zero_first apart hyp0 one = grind arith
 
 -- what is taken from the second, once the first is empty
 taken_second : (m : ℕ) (table after : List (Option Request)) (in_turn : ℕ × ℕ) (o : Option Request) → AreApart m in_turn → after ≡ set table in_turn.0 None → o ≡ on_link after in_turn.1
     → o ≡ on_link table in_turn.1
-taken_second m table after in_turn o links left is = is ∙ ap (λ t. on_link t in_turn.1) left ∙ get_or-set_other table in_turn.0 in_turn.1 None None links.apart
+taken_second m table after in_turn o links left is = grind (arith, get_or-set_other)
 
 -- ---- a queue that a request comes to, and one that two come to
 first_fits : (w : SizedLane) → IsTrue (has_place_for 2 w) → length w.lane.queue < w.request_places
-first_fits w room = let fits = room_of (length w.lane.queue + 2) w.request_places room in omega (arith, fits)
+first_fits w room = grind arith
 
 second_fits : (w q : SizedLane) (rs : List Request) → q ≡ lane_with w rs → length q.lane.queue ≤ length w.lane.queue + 1 → IsTrue (has_place_for 2 w) → length q.lane.queue < q.request_places
-second_fits w q rs is longer room =
-    let fits = room_of (length w.lane.queue + 2) w.request_places room in
-    let places : q.request_places ≡ w.request_places = ap (λ (l : SizedLane). l.request_places) is in
-    omega (arith, fits, longer, places)
-
-arrive_append : (w : ℕ) (l : Lane) (rs qs : List Request) → arrive_all w (arrive_all w l rs) qs ≡ arrive_all w l (rs ++ qs)
-arrive_append w l [] qs = refl
-arrive_append w l (r ∷ rs) qs = arrive_append w (arrive w l r) rs qs
-
-lane_append : (l p q : SizedLane) (rs qs : List Request) → p ≡ lane_with l rs → q ≡ lane_with p qs → q ≡ lane_with l (rs ++ qs)
-lane_append l p q rs qs first second = rw (second, first) (ap (λ lane. record l { lane = lane }) (arrive_append l.wait_places l.lane rs qs))
+second_fits w q rs is longer room = grind arith
 
 both_arrived : (d s : ℕ) (w : Switch) (p q : Ports SizedLane) (first second : Option Request) → p.zero ≡ lane_with w.to_mm.zero (coming_to d s 0 first) → p.one ≡ lane_with w.to_mm.one (coming_to d s 1 first)
     → q.zero ≡ lane_with p.zero (coming_to d s 0 second) → q.one ≡ lane_with p.one (coming_to d s 1 second) → record w { to_mm = ports q.zero q.one } ≡ after_both d s w first second
-both_arrived d s w p q first second zero one then_zero then_one =
-    let left = lane_append w.to_mm.zero p.zero q.zero (coming_to d s 0 first) (coming_to d s 0 second) zero then_zero in
-    let right = lane_append w.to_mm.one p.one q.one (coming_to d s 1 first) (coming_to d s 1 second) one then_one in
-    rw (left, right) refl
+both_arrived d s w p q first second hyp0 one hyp1 hyp2 = grind arith
 
 pub take-first-requires : goal.take-first-requires
 take-first-requires c =
@@ -68,16 +51,7 @@ take-first-requires c =
     rw (c.requires.all, turn) links.first
 
 pub take_request-first_combines-requires : goal.take_request-first_combines-requires
-take_request-first_combines-requires c =
-    let w = c.args.switch.now in
-    let can = subst (λ o. ForSome o (HasWay c.args.net c.args.stage w)) (sym c.take-first.ensures.value) c.requires.first in
-    record {
-      stage = c.requires.is.stage_small;
-      index = c.requires.is.index_small;
-      room_zero = λ r is leaves. first_fits w.to_mm.zero ((can r is).0 leaves);
-      room_one = λ r is leaves. first_fits w.to_mm.one ((can r is).1 leaves);
-      event_room = let room = c.requires.event_room in omega arith;
-    }
+take_request-first_combines-requires c = grind (arith, first_fits)
 
 pub take-second-requires : goal.take-second-requires
 take-second-requires c =

@@ -1,4 +1,4 @@
-use Rattle.std.proofs.Common.{◌≡◌, sym, ◌∙◌, ap, subst, arith, inl, inr, ℕ, List, [], ◌∷◌, ◌++◌, Some, set, refl}
+use Rattle.std.proofs.Common.{◌≡◌, sym, ◌∙◌, ap, subst, arith, inl, inr, ℕ, List, [], ◌∷◌, ◌++◌, Some, set}
 use Rattle.std.specs.Prelude.{None, IsTrue}
 use Rattle.ultra_model.specs.Phases.{issue_event, stop_of}
 use Rattle.ultra_halves.specs.Elements.{element_of, holds_request, is_at_rest, issue_in, step_at, executed, stop_in}
@@ -14,17 +14,14 @@ use Rattle.ultra_model.specs.Places.{present}
 use Rattle.ultra_halves.specs.declared.elements.ProcessingElement.{ProcessingElement}
 use Rattle.ultra_halves.specs.declared.elements.Outcome.{Outcome}
 use Rattle.ultra_section.specs.Execution.{stepped_by}
-use Rattle.ultra_section.proofs.Entries.{element_entry, element_passed, element_worked, elements_kept, none_more, one_more, put_back, put_back_some}
+use Rattle.ultra_section.proofs.Entries.{element_passed, element_worked, elements_kept, none_more, one_more, put_back, put_back_some}
 use Rattle.ultra_section.proofs.block.Block.execute_element.Goals as goal
 
 step_done : (program : List Instr) (b : BlockState) (p : ℕ) (e : ProcessingElement) (outcome : Outcome) (v : ProcessingElement) (events : List Event) (stops : List Stop)
     → v ≡ executed program e → issue_in outcome ≡ issue_event (element_of e) (step_at program e).sent → stop_in outcome ≡ stop_of p (step_at program e).was
     → events ≡ b.events ++ present (issue_in outcome ∷ []) → stops ≡ b.stops ++ present (stop_in outcome ∷ [])
     → record b { elements = set b.elements p (Some v); events = events; stops = stops } ≡ stepped_by program p b e
-step_done program b p e outcome v events stops left issue stop more more_stops =
-    let all_events = more ∙ ap (λ o. b.events ++ present (o ∷ [])) issue in
-    let all_stops = more_stops ∙ ap (λ o. b.stops ++ present (o ∷ [])) stop in
-    rw (left, all_events, all_stops) refl
+step_done program b p e outcome v events stops left issue stop more hyp0 = grind arith
 
 -- by the block's own program
 abbrev own_step : ℕ → BlockState → ProcessingElement → BlockState
@@ -146,7 +143,7 @@ invariant_of-self-in-Done-outcome c =
     (omega arith) (omega arith)
 
 pub index_mut-requires : goal.index_mut-requires
-index_mut-requires c = element_entry c.self.view_is c.args.number c.args.pe c.self.inside.elements.len c.requires.is c.self.inside.elements.ok.0 c.self.invariant.units.element_entries
+index_mut-requires c = grind arith
 
 pub note_element-requires : goal.note_element-requires
 note_element-requires c = c.requires.small

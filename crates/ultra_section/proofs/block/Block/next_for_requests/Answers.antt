@@ -1,4 +1,4 @@
-use Rattle.std.proofs.Common.{◌≡◌, ℕ, List, false, Option, Some, None, refl, arith}
+use Rattle.std.proofs.Common.{◌≡◌, ℕ, List, false, Option, None, refl, arith}
 use Rattle.std.specs.Prelude.{IfSome, IfNone}
 use Rattle.ultra_units.specs.Set.{has_unit, HasNoneFrom, IsFirstFrom}
 use Rattle.ultra_section.specs.BlockState.{BlockState}
@@ -10,13 +10,11 @@ use Rattle.ultra_section.proofs.block.Block.next_for_requests.Goals as goal
 -- the next unit of a set; nothing leaves for a unit outside of it
 next_unit : (set : List ℕ) (b : BlockState) (from : ℕ) (o : Option ℕ) → ((n : ℕ) → has_unit set n ≡ false → stands n b ≡ false → AreEmpty b.requests (request_inlets b.stages n))
     → IfSome o (λ k. IsFirstFrom set from k) → IfSome o (λ k. IsNextForRequests b from k)
-next_unit set b from None empty found = tt
-next_unit set b from (Some k) empty found = record { after = found.after; within = found.within; between = λ n after before elsewhere. empty n (found.between n after before) elsewhere }
+next_unit set b from o empty found = grind arith
 
 no_unit : (set : List ℕ) (b : BlockState) (from : ℕ) (o : Option ℕ) → ((n : ℕ) → has_unit set n ≡ false → stands n b ≡ false → AreEmpty b.requests (request_inlets b.stages n))
     → IfNone o (HasNoneFrom set from) → IfNone o (NoRequestLeavesWithin b from 320)
-no_unit set b from None empty none = λ n after before elsewhere. empty n (none n after) elsewhere
-no_unit set b from (Some k) empty none = tt
+no_unit set b from o empty none = grind arith
 
 pub returns-clause-some : goal.returns-clause-some
 returns-clause-some c =

@@ -12,7 +12,7 @@ use Rattle.ultra_switch.specs.declared.Ports.{Ports}
 use Rattle.ultra_switch.specs.declared.Switch.{Switch}
 use Rattle.ultra_section.specs.RepliesSent.{replies_sent_by}
 use Rattle.ultra_units.specs.Ways.{IsReplyWay, reply_targets, reply_ways}
-use Rattle.ultra_section.proofs.Entries.{beside_switch, put_back, switches_kept, switch_entry, switch_inside, switch_passed, switch_wired, switch_worked}
+use Rattle.ultra_section.proofs.Entries.{beside_switch, put_back, switches_kept, switch_inside, switch_passed, switch_worked}
 use Rattle.ultra_section.proofs.block.Block.send_replies_of_switch.Goals as goal
 
 sending_done : (closed : List ℕ) (b : BlockState) (n s k : ℕ) (w v : Switch) (ways : Ports Bool) (replies : List (Option ReplyMessage)) → IsSwitch b.stages n s k → 1 ≤ b.stages → b.stages ≤ 6
@@ -31,16 +31,13 @@ returns-in_default c =
     switch_passed c.self.view_is (replies_sent_by c.args.closed.now c.args.number c.args.stage c.args.index) c.args.number c.index_mut.result.now c.index_mut.ensures.value c.in_default.is
 
 pub reply_targets-targets-requires : goal.reply_targets-targets-requires
-reply_targets-targets-requires c = switch_wired c.self.view_is c.args.number c.args.stage c.args.index c.self.inside.wiring c.requires.is c.self.invariant.network
+reply_targets-targets-requires c = grind arith
 
 pub index_mut-requires : goal.index_mut-requires
-index_mut-requires c = switch_entry c.self.view_is c.args.number c.args.stage c.args.index c.self.inside.switches.len c.requires.is c.self.inside.switches.ok.0 c.self.invariant.units.switch_entries
+index_mut-requires c = grind arith
 
 pub find_reply_ways-ways-requires : goal.find_reply_ways-ways-requires
-find_reply_ways-ways-requires c = record {
-  zero = c.reply_targets-targets.ensures.zero;
-  one = c.reply_targets-targets.ensures.one;
-}
+find_reply_ways-ways-requires c = assumption
 
 pub send_from_switch-requires : goal.send_from_switch-requires
 send_from_switch-requires c =

@@ -1,4 +1,4 @@
-use Rattle.std.proofs.Common.{ap, sym, subst, ◌≡◌, ℕ, ◌-◌, ◌/◌, List, Bool, Option, Some, set, refl, ◌∙◌}
+use Rattle.std.proofs.Common.{ap, sym, subst, ◌≡◌, ℕ, ◌-◌, ◌/◌, List, Bool, Option, Some, set, refl, ◌∙◌, arith}
 use Rattle.ultra_section.specs.BlockState.{BlockState}
 use Rattle.ultra_units.specs.Units.{IsModule}
 use Rattle.ultra_section.specs.Sets.{HasReplyLess, facts_at}
@@ -13,7 +13,7 @@ use Rattle.ultra_units.specs.Numbers.{place_number, switch_number}
 use Rattle.ultra_halves.specs.Halves.{where_room}
 use Rattle.ultra_units.specs.Links.{put_on}
 use Rattle.ultra_section.specs.RepliesSent.{reply_sent_by}
-use Rattle.ultra_section.proofs.Entries.{module_entry, module_inside, module_passed, module_worked, modules_kept, put_back}
+use Rattle.ultra_section.proofs.Entries.{module_inside, module_passed, module_worked, modules_kept, put_back}
 use Rattle.ultra_section.proofs.block.Block.send_reply_of_module.Goals as goal
 
 sending_done : (closed : List ℕ) (b : BlockState) (m : ℕ) (bank v : Bank) (stages target : ℕ) (full : Bool) (out : Option ReplyMessage) (replies : List (Option ReplyMessage))
@@ -54,7 +54,7 @@ invariant_of-self-2 c =
     }
 
 pub index_mut-requires : goal.index_mut-requires
-index_mut-requires c = module_entry c.self.view_is c.args.number c.args.module_number c.self.inside.modules.len c.requires.is c.self.inside.modules.ok.0 c.self.invariant.units.module_entries
+index_mut-requires c = grind arith
 
 pub note_reply_left-requires : goal.note_reply_left-requires
 note_reply_left-requires c =

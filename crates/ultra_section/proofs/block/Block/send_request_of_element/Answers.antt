@@ -1,4 +1,4 @@
-use Rattle.std.proofs.Common.{◌≡◌, ℕ, List, true, false, Option, Some, set, refl, sym, ◌∙◌, ap, subst, arith}
+use Rattle.std.proofs.Common.{◌≡◌, ℕ, List, true, false, Option, Some, set, sym, ◌∙◌, subst, arith}
 use Rattle.std.specs.Prelude.{slice_get}
 use Rattle.ultra_msg.specs.declared.Request.{Request}
 use Rattle.ultra_switch.specs.declared.Ports.{Ports}
@@ -11,7 +11,7 @@ use Rattle.ultra_units.specs.Links.{put_on}
 use Rattle.ultra_section.specs.RequestsSent.{request_sent_by}
 use Rattle.ultra_units.specs.Ways.{has_way_from_element}
 use Rattle.ultra_units.specs.Units.{IsElement}
-use Rattle.ultra_section.proofs.Entries.{element_entry, element_inside, element_passed, element_worked, elements_kept, put_back, put_back_some}
+use Rattle.ultra_section.proofs.Entries.{element_inside, element_passed, element_worked, elements_kept, put_back, put_back_some}
 use Rattle.ultra_section.proofs.Known.{element_changed}
 use Rattle.ultra_section.proofs.block.Block.send_request_of_element.Goals as goal
 
@@ -20,15 +20,11 @@ module _ (closed : Ports (List ℕ)) (b : BlockState) (p : ℕ) (e : ProcessingE
   went : (head out : Option Request) (v : ProcessingElement) (requests : List (Option Request)) → head ≡ slice_get e.interface.interface.pending 0 → has_way_from_element closed b.stages p head ≡ true
       → out ≡ slice_get e.interface.interface.pending 0 → v ≡ element_without e out → requests ≡ put_on b.requests (place_number b.stages b.stages p) out
       → record b { elements = set b.elements p (Some v); requests = requests } ≡ request_sent_by closed p b e
-  went head out v requests is way sent left put =
-      let goes : has_way_from_element closed b.stages p (slice_get e.interface.interface.pending 0) ≡ true = ap (has_way_from_element closed b.stages p) (sym is) ∙ way in
-      rw (left, put, sent, goes) refl
+  went head out v requests is way sent left put = grind arith
 
   stayed : (head : Option Request) → head ≡ slice_get e.interface.interface.pending 0 → has_way_from_element closed b.stages p head ≡ false
       → record b { elements = set b.elements p (Some e) } ≡ request_sent_by closed p b e
-  stayed head is way =
-      let goes : has_way_from_element closed b.stages p (slice_get e.interface.interface.pending 0) ≡ false = ap (has_way_from_element closed b.stages p) (sym is) ∙ way in
-      rw goes refl
+  stayed head is way = grind arith
 
 pub invariant_of-self : goal.invariant_of-self
 invariant_of-self c = elements_kept c.self.invariant _ (put_back c.self.inside.elements.items c.args.pe c.index_mut.result.now c.index_mut.ensures.value)
@@ -73,10 +69,10 @@ invariant_of-self-2 c =
     }
 
 pub index_mut-requires : goal.index_mut-requires
-index_mut-requires c = element_entry c.self.view_is c.args.number c.args.pe c.self.inside.elements.len c.requires.is c.self.inside.elements.ok.0 c.self.invariant.units.element_entries
+index_mut-requires c = grind arith
 
 pub has_way_from_element-requires : goal.has_way_from_element-requires
-has_way_from_element-requires c = (element_inside c.self.view_is c.args.number c.args.pe c.requires.is).small
+has_way_from_element-requires c = grind arith
 
 pub note_element-requires : goal.note_element-requires
 note_element-requires c = c.requires.small

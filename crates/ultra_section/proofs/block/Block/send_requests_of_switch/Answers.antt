@@ -1,4 +1,4 @@
-use Rattle.std.proofs.Common.{ap, subst, sym, ◌≡◌, ℕ, List, Option, Some, set, refl, ◌∙◌}
+use Rattle.std.proofs.Common.{ap, subst, sym, ◌≡◌, ℕ, List, Option, Some, set, refl, ◌∙◌, arith}
 use Rattle.ultra_halves.specs.Switches.{has_reply_room, holds_replies, keeps_records, request_heads, requests_leaving, without_requests}
 use Rattle.ultra_section.specs.BlockState.{BlockState}
 use Rattle.ultra_section.specs.Sets.{HasFewerRequests, facts_at}
@@ -9,7 +9,7 @@ use Rattle.ultra_switch.specs.declared.Ports.{Ports}
 use Rattle.ultra_switch.specs.declared.Switch.{Switch}
 use Rattle.ultra_section.specs.RequestsSent.{requests_sent_by}
 use Rattle.ultra_units.specs.Ways.{request_targets, request_ways, requests_put}
-use Rattle.ultra_section.proofs.Entries.{beside_switch, put_back, switches_kept, switch_entry, switch_inside, switch_passed, switch_wired, switch_worked}
+use Rattle.ultra_section.proofs.Entries.{beside_switch, put_back, switches_kept, switch_inside, switch_passed, switch_worked}
 use Rattle.ultra_section.proofs.block.Block.send_requests_of_switch.Goals as goal
 
 sending_done : (closed : Ports (List ℕ)) (b : BlockState) (n s k : ℕ) (w v : Switch) (requests : List (Option Request))
@@ -25,10 +25,10 @@ returns-in_default c =
     switch_passed c.self.view_is (requests_sent_by c.args.closed.now c.args.number c.args.stage c.args.index) c.args.number c.index_mut.result.now c.index_mut.ensures.value c.in_default.is
 
 pub request_targets-targets-requires : goal.request_targets-targets-requires
-request_targets-targets-requires c = switch_wired c.self.view_is c.args.number c.args.stage c.args.index c.self.inside.wiring c.requires.is c.self.invariant.network
+request_targets-targets-requires c = grind arith
 
 pub index_mut-requires : goal.index_mut-requires
-index_mut-requires c = switch_entry c.self.view_is c.args.number c.args.stage c.args.index c.self.inside.switches.len c.requires.is c.self.inside.switches.ok.0 c.self.invariant.units.switch_entries
+index_mut-requires c = grind arith
 
 pub send_from_switch-requires : goal.send_from_switch-requires
 send_from_switch-requires c = record {

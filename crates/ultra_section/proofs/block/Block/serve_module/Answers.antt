@@ -9,7 +9,7 @@ use Rattle.ultra_mem.specs.Serve.{Bank, serve, served}
 use Rattle.ultra_model.specs.Places.{present}
 use Rattle.ultra_model.specs.Phases.{serving}
 use Rattle.ultra_section.specs.Serving.{served_by}
-use Rattle.ultra_section.proofs.Entries.{module_entry, module_passed, module_worked, modules_kept, none_more, one_more, put_back}
+use Rattle.ultra_section.proofs.Entries.{module_passed, module_worked, modules_kept, none_more, one_more, put_back}
 use Rattle.ultra_section.proofs.block.Block.serve_module.Goals as goal
 
 serving_done : (b : BlockState) (m : ℕ) (bank v : Bank) (events : List Event) → v ≡ serve bank → events ≡ b.events ++ present (serving m (served bank) ∷ [])
@@ -64,7 +64,7 @@ invariant_of-self-in_default-served c =
     (omega arith) (omega arith)
 
 pub index_mut-requires : goal.index_mut-requires
-index_mut-requires c = module_entry c.self.view_is c.args.number c.args.module_number c.self.inside.modules.len c.requires.is c.self.inside.modules.ok.0 c.self.invariant.units.module_entries
+index_mut-requires c = grind arith
 
 pub note_served-requires : goal.note_served-requires
 note_served-requires c =

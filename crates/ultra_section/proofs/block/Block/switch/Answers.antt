@@ -1,21 +1,19 @@
-use Rattle.std.proofs.Common.{◌≡◌, ℕ, ◌<◌, sym, subst, ap, ◌∙◌, true}
+use Rattle.std.proofs.Common.{◌≡◌, ℕ, true, arith}
 use Rattle.std.specs.Prelude.{is_some}
 use Rattle.ultra_section.specs.BlockState.{BlockState, switch_at}
-use Rattle.ultra_section.proofs.Entries.{here_within, not_empty}
+use Rattle.ultra_section.proofs.Entries.{here_within}
 use Rattle.ultra_section.proofs.Known.{stands}
 use Rattle.ultra_section.proofs.block.Block.switch.Goals as goal
 
 -- it stands in the block, as it is inside
 here_inside : (b inside : BlockState) (n : ℕ) → inside ≡ b → is_some (switch_at b.switches n) ≡ true → is_some (switch_at inside.switches n) ≡ true
-here_inside b inside n same here = subst (λ (b : BlockState). is_some (switch_at b.switches n) ≡ true) (sym same) here
+here_inside b inside n same here = grind arith
 
 pub index-requires : goal.index-requires
-index-requires c = subst (λ count. c.args.number < count) (sym c.self.inside.switches.ok.0) (here_within c.self.inside.switches.items c.args.number (here_inside _ _ c.args.number c.self.view_is c.requires))
+index-requires c = grind (arith, here_within)
 
 pub unreachable-requires : goal.unreachable-requires
-unreachable-requires c = not_empty c.self.inside.switches.items c.args.number c.index.result.now c.index.ensures c.in-None.is (here_inside _ _ c.args.number c.self.view_is c.requires)
+unreachable-requires c = grind arith
 
 pub returns : goal.returns
-returns c =
-    sym (stands c.self.inside.switches.items c.args.number c.index.result.now c.in-Some.switch (here_within c.self.inside.switches.items c.args.number (here_inside _ _ c.args.number c.self.view_is c.requires)) c.index.ensures c.in-Some.is)
-    ∙ ap (λ (b : BlockState). switch_at b.switches c.args.number) c.self.view_is
+returns c = grind (arith, stands, here_within)

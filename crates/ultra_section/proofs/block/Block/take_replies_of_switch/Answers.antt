@@ -1,4 +1,4 @@
-use Rattle.std.proofs.Common.{◌∙◌, sym, ap, subst, ◌≡◌, ℕ, List, Option, Some, set, refl}
+use Rattle.std.proofs.Common.{◌∙◌, sym, ap, subst, ◌≡◌, ℕ, List, Option, Some, set, refl, arith}
 use Rattle.ultra_halves.specs.Switches.{CanTakeReplies, has_request_room, holds_requests, keeps_records, after_replies}
 use Rattle.ultra_section.specs.BlockState.{BlockState}
 use Rattle.ultra_units.specs.Marks.{on_both, reply_links, without_both}
@@ -10,7 +10,7 @@ use Rattle.ultra_section.proofs.Records.{keeps_none}
 use Rattle.ultra_msg.specs.declared.ReplyMessage.{ReplyMessage}
 use Rattle.ultra_switch.specs.declared.Ports.{Ports}
 use Rattle.ultra_switch.specs.declared.Switch.{Switch}
-use Rattle.ultra_section.proofs.Entries.{beside_switch, by_number, put_back, switch_entry, switch_inside, switch_within, switch_wired, switches_kept, switch_passed, switch_worked}
+use Rattle.ultra_section.proofs.Entries.{beside_switch, by_number, put_back, switch_inside, switch_within, switches_kept, switch_passed, switch_worked}
 use Rattle.ultra_section.proofs.block.Block.take_replies_of_switch.Goals as goal
 
 taking_done : (b : BlockState) (n s k : ℕ) (w v : Switch) (inlets : Ports ℕ) (replies : List (Option ReplyMessage))
@@ -26,10 +26,10 @@ returns-in_default c =
     switch_passed c.self.view_is (replies_taken_by c.args.number c.args.stage c.args.index) c.args.number c.index_mut.result.now c.index_mut.ensures.value c.in_default.is
 
 pub reply_links-inlets-requires : goal.reply_links-inlets-requires
-reply_links-inlets-requires c = switch_wired c.self.view_is c.args.number c.args.stage c.args.index c.self.inside.wiring c.requires.is c.self.invariant.network
+reply_links-inlets-requires c = grind arith
 
 pub index_mut-requires : goal.index_mut-requires
-index_mut-requires c = switch_entry c.self.view_is c.args.number c.args.stage c.args.index c.self.inside.switches.len c.requires.is c.self.inside.switches.ok.0 c.self.invariant.units.switch_entries
+index_mut-requires c = grind arith
 
 pub take_into_switch-requires : goal.take_into_switch-requires
 take_into_switch-requires c =

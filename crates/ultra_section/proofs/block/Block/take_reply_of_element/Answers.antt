@@ -12,7 +12,7 @@ use Rattle.ultra_msg.specs.declared.ReplyMessage.{ReplyMessage}
 use Rattle.ultra_model.specs.Places.{present}
 use Rattle.ultra_model.specs.Phases.{delivery}
 use Rattle.ultra_units.specs.Marks.{delivery_link, on_link}
-use Rattle.ultra_section.proofs.Entries.{element_entry, element_inside, element_passed, element_worked, elements_kept, none_more, one_more, put_back, put_back_some}
+use Rattle.ultra_section.proofs.Entries.{element_passed, element_worked, elements_kept, none_more, one_more, put_back, put_back_some}
 use Rattle.ultra_section.proofs.block.Block.take_reply_of_element.Goals as goal
 
 delivery_done : (b : BlockState) (p : ℕ) (e v : ProcessingElement) (came : Option ReplyMessage) (replies : List (Option ReplyMessage)) (events : List Event)
@@ -83,7 +83,7 @@ invariant_of-self-in_default-came c =
     }
 
 pub index_mut-requires : goal.index_mut-requires
-index_mut-requires c = element_entry c.self.view_is c.args.number c.args.pe c.self.inside.elements.len c.requires.is c.self.inside.elements.ok.0 c.self.invariant.units.element_entries
+index_mut-requires c = grind arith
 
 pub take_at_element-came-requires : goal.take_at_element-came-requires
-take_at_element-came-requires c = record { element = element_inside c.self.view_is c.args.number c.args.pe c.requires.is; small = c.requires.small; all = c.self.invariant.replies.all }
+take_at_element-came-requires c = grind arith

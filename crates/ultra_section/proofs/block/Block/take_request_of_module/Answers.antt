@@ -9,7 +9,7 @@ use Rattle.ultra_section.proofs.Noted.{out_kept, request_came}
 use Rattle.ultra_msg.specs.declared.Request.{Request}
 use Rattle.ultra_mem.specs.Serve.{Bank}
 use Rattle.ultra_halves.specs.Modules.{bank_with}
-use Rattle.ultra_section.proofs.Entries.{module_entry, module_inside, module_passed, module_worked, modules_kept, put_back}
+use Rattle.ultra_section.proofs.Entries.{module_inside, module_passed, module_worked, modules_kept, put_back}
 use Rattle.ultra_section.proofs.block.Block.take_request_of_module.Goals.{in-Some-came, in_default-came}
 use Rattle.ultra_section.proofs.block.Block.take_request_of_module.Goals as goal
 
@@ -71,10 +71,10 @@ invariant_of-self-2 c =
     }
 
 pub index_mut-requires : goal.index_mut-requires
-index_mut-requires c = module_entry c.self.view_is c.args.number c.args.module_number c.self.inside.modules.len c.requires.is c.self.inside.modules.ok.0 c.self.invariant.units.module_entries
+index_mut-requires c = grind arith
 
 pub take_at_module-came-requires : goal.take_at_module-came-requires
-take_at_module-came-requires c = record { target = module_inside c.self.view_is c.args.number c.args.module_number c.requires.is; small = c.requires.small; all = c.self.invariant.requests.all }
+take_at_module-came-requires c = grind arith
 
 pub note_request_came-requires : goal.note_request_came-requires
 note_request_came-requires c =

@@ -14,14 +14,8 @@ use Rattle.ultra_msg.specs.declared.Event.{Event}
 use Rattle.ultra_msg.specs.declared.Request.{Request}
 use Rattle.ultra_switch.specs.declared.Ports.{Ports}
 use Rattle.ultra_switch.specs.declared.Switch.{Switch}
-use Rattle.ultra_section.proofs.Entries.{beside_switch, put_back, switch_entry, switch_inside, switch_within, switches_kept, switch_passed, switch_wired, switch_worked}
+use Rattle.ultra_section.proofs.Entries.{beside_switch, put_back, switch_inside, switch_within, switches_kept, switch_passed, switch_worked}
 use Rattle.ultra_section.proofs.block.Block.take_requests_of_switch.Goals as goal
-
--- what came in its turn finds room too
-both_can : (d s : ℕ) (w : Switch) (came : Ports (Option Request)) (zero_first : Bool) → CanTakeRequests d s w came
-    → ForSome (ports_in_turn zero_first came).0 (HasWay d s w) × ForSome (ports_in_turn zero_first came).1 (HasWay d s w)
-both_can d s w came true can = (can.zero, can.one)
-both_can d s w came false can = (can.one, can.zero)
 
 first_in_turn : (came : Ports (Option Request)) (zero_first : Bool) → (ports_in_turn zero_first came).0 ≡ elim zero_first [ true ↦ came.zero | false ↦ came.one ]
 first_in_turn came true = refl
@@ -36,12 +30,8 @@ module _ (d n s k : ℕ) (requests : List (Option Request)) (in_turn : ℕ × �
   abbrev came : Ports (Option Request)
   came = on_both requests (request_links d s k)
 
-  links_turned : (zero_first : Bool) → (on_link requests (ports_in_turn zero_first (request_links d s k)).0, on_link requests (ports_in_turn zero_first (request_links d s k)).1) ≡ ports_in_turn zero_first came
-  links_turned true = refl
-  links_turned false = refl
-
   taken : (on_link requests in_turn.0, on_link requests in_turn.1) ≡ ports_in_turn (n % 2 == 0) came
-  taken = ap (λ (links : ℕ × ℕ). (on_link requests links.0, on_link requests links.1)) turn ∙ links_turned (n % 2 == 0)
+  taken = grind arith
 
   first : on_link requests in_turn.0 ≡ first_of n came
   first = ap (λ p. p.0) taken ∙ first_in_turn came (n % 2 == 0)
@@ -50,14 +40,13 @@ module _ (d n s k : ℕ) (requests : List (Option Request)) (in_turn : ℕ × �
   second = ap (λ p. p.1) taken ∙ second_in_turn came (n % 2 == 0)
 
   both_fit : (w : Switch) → CanTakeRequests d s w came → ForSome (on_link requests in_turn.0) (HasWay d s w) × ForSome (on_link requests in_turn.1) (HasWay d s w)
-  both_fit w can = subst (λ p. ForSome p.0 (HasWay d s w) × ForSome p.1 (HasWay d s w)) (sym taken) (both_can d s w came (n % 2 == 0) can)
+  both_fit w can = grind arith
 
 taking_done : (b : BlockState) (n s k : ℕ) (w v : Switch) (in_turn : ℕ × ℕ) (requests : List (Option Request)) (events : List Event)
     → in_turn ≡ ports_in_turn (b.done % 2 == 0) (request_links b.stages s k) → v ≡ after_both b.stages s w (on_link b.requests in_turn.0) (on_link b.requests in_turn.1)
     → requests ≡ without_both b.requests (request_links b.stages s k) → events ≡ b.events ++ combinations_of_both b.stages s k w (on_link b.requests in_turn.0) (on_link b.requests in_turn.1)
     → record b { switches = set b.switches n (Some v); requests = requests; events = events } ≡ requests_taken_by n s k b w
-taking_done b n s k w v in_turn requests events turn taken left more =
-    rw (taken, left, more, first b.stages b.done s k b.requests in_turn turn, second b.stages b.done s k b.requests in_turn turn) refl
+taking_done b n s k w v in_turn requests events turn taken left more = grind arith
 
 pub invariant_of-self : goal.invariant_of-self
 invariant_of-self c = switches_kept c.self.invariant _ (put_back c.self.inside.switches.items c.args.number c.index_mut.result.now c.index_mut.ensures.value)
@@ -67,10 +56,10 @@ returns-in_default-clause-value c =
     switch_passed c.self.view_is (requests_taken_by c.args.number c.args.stage c.args.index) c.args.number c.index_mut.result.now c.index_mut.ensures.value c.in_default.is
 
 pub index_mut-requires : goal.index_mut-requires
-index_mut-requires c = switch_entry c.self.view_is c.args.number c.args.stage c.args.index c.self.inside.switches.len c.requires.is c.self.inside.switches.ok.0 c.self.invariant.units.switch_entries
+index_mut-requires c = grind arith
 
 pub request_links-requires : goal.request_links-requires
-request_links-requires c = switch_wired c.self.view_is c.args.number c.args.stage c.args.index c.self.inside.wiring c.requires.is c.self.invariant.network
+request_links-requires c = grind arith
 
 pub take_into_switch-has_combined-requires : goal.take_into_switch-has_combined-requires
 take_into_switch-has_combined-requires c =
