@@ -11,6 +11,13 @@ use Rattle.ultra_halves.specs.Elements.{element_without, is_at_rest}
 use Rattle.ultra_halves.specs.declared.elements.ProcessingElement.{ProcessingElement}
 use Rattle.ultra_section.specs.BlockState.{AreOthersAtRest, element_at}
 use Rattle.ultra_section.proofs.Known.{stands}
+use Rattle.ultra_units.specs.declared.links.Links.{Links}
+use Rattle.ultra_msg.specs.declared.Request.{Request}
+use Rattle.ultra_msg.specs.declared.ReplyMessage.{ReplyMessage}
+use Rattle.ultra_mem.specs.Serve.{Bank}
+use Rattle.ultra_switch.specs.declared.Switch.{Switch}
+use Rattle.ultra_section.specs.declared.sets.Sets.{Sets}
+use Rattle.ultra_section.specs.BlockState.{IsKept}
 
 abbrev rests_where : List Instr → Option ProcessingElement → Type 0
 rests_where program None = Unit {0}
@@ -43,31 +50,36 @@ module _ (d : ℕ) (program : List Instr) (awake woken : List ℕ) (es : List (O
   rests_same fs same = grind arith
 
 -- ---- a processing element of a block, read as `o`
-module _ (d : ℕ) (program : List Instr) (awake : List ℕ) (es : List (Option ProcessingElement)) (rests : AreOthersAtRest d program awake es)
-    (n p : ℕ) (o : Option ProcessingElement) (e : ProcessingElement) (own : IsElement d n p) (within : p < length es) (read : o ≡ get_or es p o) (is : o ≡ Some e) where
+module _ {d wiring : ℕ} {program : List Instr} {s : Sets} {awake : List ℕ} {ws : List (Option Switch)} {bs : List (Option Bank)} {es : List (Option ProcessingElement)}
+    {for_replies : Links ReplyMessage} {for_requests : Links Request} {event_places stop_places : ℕ}
+    (kept : IsKept d wiring program s awake ws bs es for_replies for_requests event_places stop_places)
+    {n p : ℕ} {o : Option ProcessingElement} {e : ProcessingElement} (own : IsElement d n p) (read : o ≡ get_or es p o) (is : o ≡ Some e) where
+  pub element_within : p < length es
+  element_within = omega (arith, kept.units.element_entries, own.small)
+
   -- outside the set it is at rest
   pub rests_there : has_unit awake (element_number d p) ≡ false → IsTrue (is_at_rest program e)
-  rests_there asleep = rests p own.small asleep e (stands es p o e within read is)
+  rests_there asleep = kept.rests p own.small asleep e (stands es p element_within read is)
 
   -- it falls asleep
   pub fallen_asleep : (now : List ℕ) (v : ProcessingElement) → ((k : ℕ) → k ≢ n → has_unit now k ≡ has_unit awake k) → IsTrue (is_at_rest program v)
       → AreOthersAtRest d program now (set es p (Some v))
   fallen_asleep now v others rest =
-      rests_anew d program awake now es rests p (Some v) within (subst (λ j. (k : ℕ) → k ≢ j → has_unit now k ≡ has_unit awake k) own.number others)
+      rests_anew d program awake now es kept.rests p (Some v) element_within (subst (λ j. (k : ℕ) → k ≢ j → has_unit now k ≡ has_unit awake k) own.number others)
       (λ asleep. some_rests program v rest)
 
   -- it is woken
   pub woken_up : (now : List ℕ) (v : ProcessingElement) → ((k : ℕ) → k ≢ n → has_unit now k ≡ has_unit awake k) → has_unit now n ≡ true
       → AreOthersAtRest d program now (set es p (Some v))
   woken_up now v others there =
-      rests_anew d program awake now es rests p (Some v) within (subst (λ j. (k : ℕ) → k ≢ j → has_unit now k ≡ has_unit awake k) own.number others)
+      rests_anew d program awake now es kept.rests p (Some v) element_within (subst (λ j. (k : ℕ) → k ≢ j → has_unit now k ≡ has_unit awake k) own.number others)
       (λ asleep. absurd (true≢false (sym (ap (has_unit now) (sym own.number) ∙ there) ∙ asleep)))
 
   -- it stays awake where it isn't at rest
   pub still_awake : (v : ProcessingElement) → (IsTrue (is_at_rest program e) → ⊥) → AreOthersAtRest d program awake (set es p (Some v))
-  still_awake v moves = rests_anew d program awake awake es rests p (Some v) within (λ k other. refl) (λ asleep. absurd (moves (rests_there asleep)))
+  still_awake v moves = rests_anew d program awake awake es kept.rests p (Some v) element_within (λ k other. refl) (λ asleep. absurd (moves (rests_there asleep)))
 
   -- a request leaves it
   pub rests_without : {X : Type 0} (sent : Option X) → AreOthersAtRest d program awake (set es p (Some (element_without e sent)))
-  rests_without sent = rests_anew d program awake awake es rests p (Some (element_without e sent)) within (λ k other. refl)
+  rests_without sent = rests_anew d program awake awake es kept.rests p (Some (element_without e sent)) element_within (λ k other. refl)
       (λ asleep. some_rests program (element_without e sent) (rests_there asleep))

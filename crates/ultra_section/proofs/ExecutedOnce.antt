@@ -1,5 +1,5 @@
 -- After the half in which processing elements make a step: each has made one, and issues and stops are listed by processing element.
-use Rattle.std.proofs.Common.{◌≡◌, ◌≢◌, ℕ, ◌^◌, ◌<◌, List, [], ◌∷◌, ◌++◌, Option, Some, None, length, get_or-set_same, get_or-set_other, refl, sym, ◌∙◌, ap, subst, arith}
+use Rattle.std.proofs.Common.{[], ◌≡◌, ◌≢◌, ℕ, ◌^◌, ◌<◌, List, ◌∷◌, ◌++◌, Option, Some, None, length, get_or-set_same, get_or-set_other, refl, sym, ◌∙◌, ap, subst, arith}
 use Rattle.std.proofs.lemmas.List.{length-set, append-nil}
 use Rattle.ultra_msg.specs.declared.Event.{Event}
 use Rattle.ultra_isa.specs.declared.Instr.{Instr}

@@ -1,5 +1,5 @@
 -- A processing element that is at rest stays as it is, and what one does, the later ones don't miss.
-use Rattle.std.proofs.Common.{◌≡◌, ℕ, zero, suc, ◌<◌, ◌≤◌, List, [], ◌∷◌, false, Option, Some, None, length, length-append, get_or-set_other, refl, sym, ◌∙◌, ap, arith}
+use Rattle.std.proofs.Common.{[], ◌≡◌, ℕ, zero, suc, ◌<◌, ◌≤◌, List, ◌∷◌, false, Option, Some, None, length, length-append, get_or-set_other, refl, sym, ◌∙◌, ap, arith}
 use Rattle.std.specs.Prelude.{IsTrue}
 use Rattle.std.specs.Option.{ForSome}
 use Rattle.std.proofs.lemmas.List.{append-nil}

@@ -18,6 +18,7 @@ use Rattle.ultra_msg.specs.declared.Request.{Request}
 use Rattle.ultra_msg.specs.declared.ReplyMessage.{ReplyMessage}
 use Rattle.ultra_units.specs.declared.links.Links.{Links}
 use Rattle.ultra_section.specs.BlockState.{AreOthersAtRest, IsKept, UnitsAreKnown}
+use Rattle.ultra_units.specs.Marks.{RepliesAreKnown, RequestsAreKnown}
 
 -- the sets agree on all units but one
 abbrev pub AgreeBut : ℕ → Sets → Sets → Type 0
@@ -34,7 +35,7 @@ module _ {X : Type 0} (Knows : UnitFacts → Option X → Type 0) (number : ℕ 
   one_kept n agree k other was = grind arith
 
 -- ---- in a block
-module _ (d : ℕ) (old now : Sets) (ws : List (Option Switch)) (bs : List (Option Bank)) (es : List (Option ProcessingElement)) (known : UnitsAreKnown d old ws bs es) where
+module _ {d : ℕ} {old now : Sets} {ws : List (Option Switch)} {bs : List (Option Bank)} {es : List (Option ProcessingElement)} (known : UnitsAreKnown d old ws bs es) where
   pub switch_known : (n : ℕ) (o : Option Switch) → n < switch_count d → AgreeBut n old now → KnowsSwitch (facts_at now n) o
       → UnitsAreKnown d now (set ws n o) bs es
   switch_known n o within agree there = record {
@@ -105,75 +106,86 @@ pub element_noted : (f g : UnitFacts) (e v : ProcessingElement) → KnowsElement
 element_noted f g e v known is = grind arith
 
 -- what a read of an entry gives
-pub stands : {X : Type 0} (xs : List (Option X)) (n : ℕ) (o : Option X) (x : X) → n < length xs → o ≡ get_or xs n o → o ≡ Some x → slice_index_or xs n None ≡ Some x
-stands xs n o x within read is = get_or_default xs n None o within ∙ sym read ∙ is
+pub stands : {X : Type 0} (xs : List (Option X)) (n : ℕ) {o : Option X} {x : X} → n < length xs → o ≡ get_or xs n o → o ≡ Some x → slice_index_or xs n None ≡ Some x
+stands xs n {o} {x} within read is = get_or_default xs n None o within ∙ sym read ∙ is
 
--- ---- a unit is changed, and noted: `o` is what was read of its entry
-module _ (d : ℕ) (old now : Sets) (ws : List (Option Switch)) (bs : List (Option Bank)) (es : List (Option ProcessingElement)) (known : UnitsAreKnown d old ws bs es) where
-  pub switch_was : (n : ℕ) (o : Option Switch) (w : Switch) → n < switch_count d → o ≡ get_or ws n o → o ≡ Some w → KnowsSwitch (facts_at old n) (Some w)
-  switch_was n o w within read is = grind (arith, common_steps)
+-- ---- what the sets say of a unit that stands in a block: `o` is what was read of its entry
+module _ {d : ℕ} {s : Sets} {ws : List (Option Switch)} {bs : List (Option Bank)} {es : List (Option ProcessingElement)} (known : UnitsAreKnown d s ws bs es) where
+  pub switch_was : (n : ℕ) {o : Option Switch} {w : Switch} → n < switch_count d → o ≡ get_or ws n o → o ≡ Some w → KnowsSwitch (facts_at s n) (Some w)
+  switch_was n {o} {w} within read is = grind (arith, common_steps)
 
-  pub switch_replies_changed : (n : ℕ) (o : Option Switch) (w v : Switch) → n < switch_count d → o ≡ get_or ws n o → o ≡ Some w → AgreeBut n old now
+  pub module_was : {n m : ℕ} {o : Option Bank} {b : Bank} → IsModule d n m → o ≡ get_or bs m o → o ≡ Some b → KnowsModule (facts_at s n) (Some b)
+  module_was {n} {m} {o} {b} own read is =
+      subst (λ k. KnowsModule (facts_at s k) (Some b)) (sym own.number)
+      (subst (λ x. KnowsModule (facts_at s (module_number d m)) x) (stands bs m (omega (arith, known.module_entries, own.small)) read is) (known.modules m own.small))
+
+  -- a processing element is changed so that what is known of it is still true
+  pub element_same : {n p : ℕ} {o : Option ProcessingElement} {e : ProcessingElement} (v : ProcessingElement) → IsElement d n p → o ≡ get_or es p o → o ≡ Some e
+      → holds_request v ≡ holds_request e → has_stopped v.processor.core.activity ≡ has_stopped e.processor.core.activity → UnitsAreKnown d s ws bs (set es p (Some v))
+  element_same {n} {p} {o} {e} v own read is pending stopped =
+      let was = subst (λ x. KnowsElement (facts_at s (element_number d p)) x) (stands es p (omega (arith, known.element_entries, own.small)) read is) (known.elements p own.small) in
+      element_known known p (Some v) own.small (λ k _. refl)
+      record { here = was.here; holds_replies = was.holds_replies; holds_requests = was.holds_requests ∙ sym pending; running = was.running ∙ ap (λ b. not b) (sym stopped); keeps_records = was.keeps_records }
+
+-- ---- such a unit is changed, and noted
+module _ {d : ℕ} {old now : Sets} {ws : List (Option Switch)} {bs : List (Option Bank)} {es : List (Option ProcessingElement)} (known : UnitsAreKnown d old ws bs es) where
+  pub switch_replies_changed : (n : ℕ) {o : Option Switch} {w : Switch} (v : Switch) → n < switch_count d → o ≡ get_or ws n o → o ≡ Some w → AgreeBut n old now
       → facts_at now n ≡ record (facts_at old n) { holds_replies = holds_replies v; no_reply_room = not (has_reply_room v) }
       → holds_requests v ≡ holds_requests w → has_request_room v ≡ has_request_room w → keeps_records v ≡ keeps_records w → UnitsAreKnown d now (set ws n (Some v)) bs es
-  switch_replies_changed n o w v within read is agree noted held room records =
-      let was = switch_was n o w within read is in
-      switch_known d old now ws bs es known n (Some v) within agree
+  switch_replies_changed n {o} {w} v within read is agree noted held room records =
+      let was = switch_was known n within read is in
+      switch_known known n (Some v) within agree
       (replies_noted (facts_at old n) (facts_at now n) w v (facts_at old n).keeps_records was noted held room (was.keeps_records ∙ sym records))
 
   -- and it is noted whether it keeps records
-  pub switch_replies_taken : (n : ℕ) (o : Option Switch) (w v : Switch) → n < switch_count d → o ≡ get_or ws n o → o ≡ Some w → AgreeBut n old now
+  pub switch_replies_taken : (n : ℕ) {o : Option Switch} {w : Switch} (v : Switch) → n < switch_count d → o ≡ get_or ws n o → o ≡ Some w → AgreeBut n old now
       → facts_at now n ≡ record (facts_at old n) { holds_replies = holds_replies v; no_reply_room = not (has_reply_room v); keeps_records = keeps_records v }
       → holds_requests v ≡ holds_requests w → has_request_room v ≡ has_request_room w → UnitsAreKnown d now (set ws n (Some v)) bs es
-  switch_replies_taken n o w v within read is agree noted held room =
-      switch_known d old now ws bs es known n (Some v) within agree
-      (replies_noted (facts_at old n) (facts_at now n) w v (keeps_records v) (switch_was n o w within read is) noted held room refl)
+  switch_replies_taken n {o} {w} v within read is agree noted held room =
+      switch_known known n (Some v) within agree
+      (replies_noted (facts_at old n) (facts_at now n) w v (keeps_records v) (switch_was known n within read is) noted held room refl)
 
-  pub switch_requests_changed : (n : ℕ) (o : Option Switch) (w v : Switch) → n < switch_count d → o ≡ get_or ws n o → o ≡ Some w → AgreeBut n old now
+  pub switch_requests_changed : (n : ℕ) {o : Option Switch} {w : Switch} (v : Switch) → n < switch_count d → o ≡ get_or ws n o → o ≡ Some w → AgreeBut n old now
       → facts_at now n ≡ record (facts_at old n) { holds_requests = holds_requests v; no_room_zero = not (has_request_room v).zero; no_room_one = not (has_request_room v).one }
       → holds_replies v ≡ holds_replies w → has_reply_room v ≡ has_reply_room w → keeps_records v ≡ keeps_records w → UnitsAreKnown d now (set ws n (Some v)) bs es
-  switch_requests_changed n o w v within read is agree noted held room records =
-      let was = switch_was n o w within read is in
-      switch_known d old now ws bs es known n (Some v) within agree
+  switch_requests_changed n {o} {w} v within read is agree noted held room records =
+      let was = switch_was known n within read is in
+      switch_known known n (Some v) within agree
       (requests_noted (facts_at old n) (facts_at now n) w v (facts_at old n).keeps_records was noted held room (was.keeps_records ∙ sym records))
 
-  pub switch_requests_taken : (n : ℕ) (o : Option Switch) (w v : Switch) → n < switch_count d → o ≡ get_or ws n o → o ≡ Some w → AgreeBut n old now
+  pub switch_requests_taken : (n : ℕ) {o : Option Switch} {w : Switch} (v : Switch) → n < switch_count d → o ≡ get_or ws n o → o ≡ Some w → AgreeBut n old now
       → facts_at now n ≡ record (facts_at old n) { holds_requests = holds_requests v; no_room_zero = not (has_request_room v).zero; no_room_one = not (has_request_room v).one; keeps_records = keeps_records v }
       → holds_replies v ≡ holds_replies w → has_reply_room v ≡ has_reply_room w → UnitsAreKnown d now (set ws n (Some v)) bs es
-  switch_requests_taken n o w v within read is agree noted held room =
-      switch_known d old now ws bs es known n (Some v) within agree
-      (requests_noted (facts_at old n) (facts_at now n) w v (keeps_records v) (switch_was n o w within read is) noted held room refl)
+  switch_requests_taken n {o} {w} v within read is agree noted held room =
+      switch_known known n (Some v) within agree
+      (requests_noted (facts_at old n) (facts_at now n) w v (keeps_records v) (switch_was known n within read is) noted held room refl)
 
-  pub module_was : (n m : ℕ) (o : Option Bank) (b : Bank) → IsModule d n m → o ≡ get_or bs m o → o ≡ Some b → KnowsModule (facts_at old n) (Some b)
-  module_was n m o b own read is =
-      subst (λ k. KnowsModule (facts_at old k) (Some b)) (sym own.number)
-      (subst (λ x. KnowsModule (facts_at old (module_number d m)) x) (stands bs m o b (omega (arith, known.module_entries, own.small)) read is) (known.modules m own.small))
-
-  pub module_changed : (n m : ℕ) (c : Bank) → IsModule d n m → AgreeBut n old now → KnowsModule (facts_at now n) (Some c) → UnitsAreKnown d now ws (set bs m (Some c)) es
-  module_changed n m c own agree there =
-      module_known d old now ws bs es known m (Some c) own.small (subst (λ k. AgreeBut k old now) own.number agree)
+  pub module_changed : {n m : ℕ} (c : Bank) → IsModule d n m → AgreeBut n old now → KnowsModule (facts_at now n) (Some c) → UnitsAreKnown d now ws (set bs m (Some c)) es
+  module_changed {n} {m} c own agree there =
+      module_known known m (Some c) own.small (subst (λ k. AgreeBut k old now) own.number agree)
       (subst (λ k. KnowsModule (facts_at now k) (Some c)) own.number there)
 
-  pub element_changed : (n p : ℕ) (o : Option ProcessingElement) (e v : ProcessingElement) → IsElement d n p → o ≡ get_or es p o → o ≡ Some e → AgreeBut n old now
+  pub element_changed : {n p : ℕ} {o : Option ProcessingElement} {e : ProcessingElement} (v : ProcessingElement) → IsElement d n p → o ≡ get_or es p o → o ≡ Some e → AgreeBut n old now
       → facts_at now n ≡ record (facts_at old n) { holds_requests = holds_request v; running = not (has_stopped v.processor.core.activity) }
       → UnitsAreKnown d now ws bs (set es p (Some v))
-  element_changed n p o e v own read is agree noted =
+  element_changed {n} {p} {o} {e} v own read is agree noted =
       let was = subst (λ k. KnowsElement (facts_at old k) (Some e)) (sym own.number)
-      (subst (λ x. KnowsElement (facts_at old (element_number d p)) x) (stands es p o e (omega (arith, known.element_entries, own.small)) read is) (known.elements p own.small)) in
-      element_known d old now ws bs es known p (Some v) own.small (subst (λ k. AgreeBut k old now) own.number agree)
+      (subst (λ x. KnowsElement (facts_at old (element_number d p)) x) (stands es p (omega (arith, known.element_entries, own.small)) read is) (known.elements p own.small)) in
+      element_known known p (Some v) own.small (subst (λ k. AgreeBut k old now) own.number agree)
       (subst (λ k. KnowsElement (facts_at now k) (Some v)) own.number (element_noted (facts_at old n) (facts_at now n) e v was noted))
 
-  -- a processing element is changed so that what is known of it is still true
-  pub element_same : (n p : ℕ) (o : Option ProcessingElement) (e v : ProcessingElement) → IsElement d n p → o ≡ get_or es p o → o ≡ Some e
-      → holds_request v ≡ holds_request e → has_stopped v.processor.core.activity ≡ has_stopped e.processor.core.activity → UnitsAreKnown d old ws bs (set es p (Some v))
-  element_same n p o e v own read is pending stopped =
-      let was = subst (λ x. KnowsElement (facts_at old (element_number d p)) x) (stands es p o e (omega (arith, known.element_entries, own.small)) read is) (known.elements p own.small) in
-      element_known d old old ws bs es known p (Some v) own.small (λ k _. refl)
-      record { here = was.here; holds_replies = was.holds_replies; holds_requests = was.holds_requests ∙ sym pending; running = was.running ∙ ap (λ b. not b) (sym stopped); keeps_records = was.keeps_records }
-
--- ---- a block whose units have changed, and not what is on its links
-pub units_changed : {program : List Instr} {awake woken : List ℕ} (d wiring : ℕ) (old now : Sets) (ws vs : List (Option Switch)) (bs cs : List (Option Bank)) (es fs : List (Option ProcessingElement))
-    (for_replies : Links ReplyMessage) (for_requests : Links Request) (event_places stop_places more_event_places more_stop_places : ℕ)
-    → IsKept d wiring program old awake ws bs es for_replies for_requests event_places stop_places → UnitsAreKnown d now vs cs fs → AreOthersAtRest d program woken fs
-    → event_places ≤ more_event_places → stop_places ≤ more_stop_places → IsKept d wiring program now woken vs cs fs for_replies for_requests more_event_places more_stop_places
-units_changed d wiring old now ws vs bs cs es fs rs qs e s e' s' kept units rests hyp0 hyp1 = grind arith
+-- ---- a block whose units have changed, or what is on its links
+pub still_kept : {d wiring : ℕ} {program : List Instr} {old now : Sets} {awake woken : List ℕ} {ws vs : List (Option Switch)} {bs cs : List (Option Bank)} {es fs : List (Option ProcessingElement)}
+    {old_replies for_replies : Links ReplyMessage} {old_requests for_requests : Links Request} {event_places stop_places more_event_places more_stop_places : ℕ}
+    → IsKept d wiring program old awake ws bs es old_replies old_requests event_places stop_places → UnitsAreKnown d now vs cs fs → AreOthersAtRest d program woken fs
+    → RepliesAreKnown d for_replies → RequestsAreKnown d for_requests → event_places ≤ more_event_places → stop_places ≤ more_stop_places
+    → IsKept d wiring program now woken vs cs fs for_replies for_requests more_event_places more_stop_places
+still_kept kept units rests replies requests more_events more_stops = record {
+  network = kept.network;
+  units = units;
+  rests = rests;
+  replies = replies;
+  requests = requests;
+  events_fit = omega (arith, kept.events_fit);
+  stops_fit = omega (arith, kept.stops_fit);
+}

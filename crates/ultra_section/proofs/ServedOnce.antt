@@ -1,5 +1,5 @@
 -- After the half in which modules serve: each has served once, by what it held at the start, and the acts are listed in the order of the modules.
-use Rattle.std.proofs.Common.{◌≡◌, ◌≢◌, ℕ, ◌^◌, ◌<◌, List, [], ◌∷◌, ◌++◌, Option, Some, None, length, get_or-set_same, get_or-set_other, refl, sym, ◌∙◌, ap, subst, arith}
+use Rattle.std.proofs.Common.{[], ◌≡◌, ◌≢◌, ℕ, ◌^◌, ◌<◌, List, ◌∷◌, ◌++◌, Option, Some, None, length, get_or-set_same, get_or-set_other, refl, sym, ◌∙◌, ap, subst, arith}
 use Rattle.std.proofs.lemmas.List.{length-set, append-nil}
 use Rattle.ultra_msg.specs.declared.Event.{Event}
 use Rattle.ultra_switch.specs.declared.Switch.{Switch}

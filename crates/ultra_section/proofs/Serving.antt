@@ -1,5 +1,5 @@
 -- A module that has nothing to serve stays as it is.
-use Rattle.std.proofs.Common.{◌≡◌, ℕ, ◌<◌, ◌≤◌, [], ◌∷◌, false, Option, Some, None, length, length-append, refl, sym, ◌∙◌, ap, arith}
+use Rattle.std.proofs.Common.{[], ◌≡◌, ℕ, ◌<◌, ◌≤◌, ◌∷◌, false, Option, Some, None, length, length-append, refl, sym, ◌∙◌, ap, arith}
 use Rattle.std.proofs.lemmas.List.{append-nil}
 use Rattle.ultra_mem.specs.declared.Served.{Served}
 use Rattle.ultra_mem.specs.Serve.{Bank}

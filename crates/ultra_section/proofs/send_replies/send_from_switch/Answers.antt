@@ -1,4 +1,3 @@
-use Rattle.std.proofs.lemmas.Grind.{common_steps}
 use Rattle.std.proofs.Common.{◌≡◌, ◌+◌, Bool, List, ℕ, Option, refl, arith}
 use Rattle.std.specs.Prelude.{slice_get}
 use Rattle.ultra_msg.specs.declared.ReplyMessage.{ReplyMessage}
@@ -18,4 +17,5 @@ pub returns-clause-switch : goal.returns-clause-switch
 returns-clause-switch c = grind arith
 
 pub returns-clause-table : goal.returns-clause-table
-returns-clause-table c = grind (arith, common_steps, put_by)
+returns-clause-table c =
+    put_by c.args.switch.now c.args.ways c.leave_where-zero.result c.leave_where-one.result c.leave_where-zero.ensures.sent c.leave_where-one.ensures.sent c.args.link _ _ _ c.leave_switch.ensures.table c.leave_switch-2.ensures.table

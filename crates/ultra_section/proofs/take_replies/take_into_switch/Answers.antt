@@ -1,4 +1,3 @@
-use Rattle.std.proofs.lemmas.Grind.{common_steps}
 use Rattle.std.proofs.Common.{◌∙◌, sym, ap, subst, arith, ◌≡◌, ◌≢◌, ◌<◌, ◌≤◌, ◌+◌, ℕ, List, Option, None, length, set, get_or-set_other}
 use Rattle.std.specs.Prelude.{IsTrue}
 use Rattle.std.specs.Option.{ForSome}
@@ -30,7 +29,7 @@ module _ (d s : ℕ) (w : Switch) (p : Ports SizedReplies) (zero one : Option Re
       → q.zero ≡ with_replies p.zero (going_by d s 0 (replies_made w.to_mm.one.lane.records one))
       → q.one ≡ with_replies p.one (going_by d s 1 (replies_made w.to_mm.one.lane.records one))
       → record { to_mm = ports l m; to_pe = ports q.zero q.one } ≡ after_replies d s w (ports zero one)
-  taken_by l m q first second hyp0 hyp1 = grind arith
+  taken_by l m q first second then_zero then_one = grind arith
 
 -- what is taken from the second of two links, once the first is empty
 taken_second : (table after : List (Option ReplyMessage)) (p : Ports ℕ) (o : Option ReplyMessage) → p.zero ≢ p.one → after ≡ set table p.zero None → o ≡ on_link after p.one → o ≡ on_link table p.one
@@ -72,7 +71,7 @@ returns-clause-switch c =
     ∙ ap (λ o. after_replies c.args.net c.args.stage w (ports (on_link c.args.links.now.table.items c.args.inlets.zero) o)) one
 
 pub returns-clause-table : goal.returns-clause-table
-returns-clause-table c = grind (arith, common_steps)
+returns-clause-table c = c.take-one.ensures.table ∙ ap (λ t. set t c.args.inlets.one None) c.take-zero.ensures.table
 
 pub returns-clause-known : goal.returns-clause-known
 returns-clause-known c =

@@ -1,4 +1,4 @@
-use Rattle.std.proofs.Common.{◌∙◌, sym, ap, subst, arith, ◌≡◌, ◌≢◌, ◌<◌, ◌≤◌, ◌+◌, ◌*◌, ◌^◌, ◌++◌, [], ◌∷◌, ℕ, Bool, List, Option, None, length, set, get_or-set_other}
+use Rattle.std.proofs.Common.{[], ◌∙◌, sym, ap, subst, arith, ◌≡◌, ◌≢◌, ◌<◌, ◌≤◌, ◌+◌, ◌*◌, ◌^◌, ◌++◌, ◌∷◌, ℕ, Bool, List, Option, None, length, set, get_or-set_other}
 use Rattle.std.specs.Prelude.{IsTrue}
 use Rattle.std.specs.Option.{ForSome}
 use Rattle.std.proofs.lemmas.List.{length-set}
@@ -25,7 +25,7 @@ pub record AreApart (m : ℕ) (in_turn : ℕ × ℕ) : Type 0 where
   pub second : in_turn.1 < m
 
 are_apart : (m : ℕ) (p : Ports ℕ) (zero_first : Bool) → p.zero ≢ p.one → p.zero < m → p.one < m → AreApart m (ports_in_turn zero_first p)
-are_apart m p zero_first apart hyp0 one = grind arith
+are_apart m p zero_first apart zero one = grind arith
 
 -- what is taken from the second, once the first is empty
 taken_second : (m : ℕ) (table after : List (Option Request)) (in_turn : ℕ × ℕ) (o : Option Request) → AreApart m in_turn → after ≡ set table in_turn.0 None → o ≡ on_link after in_turn.1
@@ -41,7 +41,7 @@ second_fits w q rs is longer room = grind arith
 
 both_arrived : (d s : ℕ) (w : Switch) (p q : Ports SizedLane) (first second : Option Request) → p.zero ≡ lane_with w.to_mm.zero (coming_to d s 0 first) → p.one ≡ lane_with w.to_mm.one (coming_to d s 1 first)
     → q.zero ≡ lane_with p.zero (coming_to d s 0 second) → q.one ≡ lane_with p.one (coming_to d s 1 second) → record w { to_mm = ports q.zero q.one } ≡ after_both d s w first second
-both_arrived d s w p q first second hyp0 one hyp1 hyp2 = grind arith
+both_arrived d s w p q first second zero one then_zero then_one = grind arith
 
 pub take-first-requires : goal.take-first-requires
 take-first-requires c =

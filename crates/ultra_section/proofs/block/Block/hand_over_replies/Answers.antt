@@ -2,6 +2,7 @@ use Rattle.std.proofs.Common.{◌≡◌, ◌<◌, Some, sym, subst, arith}
 use Rattle.ultra_section.specs.BlockState.{BlockState}
 use Rattle.ultra_units.specs.Inlets.{reply_inlets}
 use Rattle.ultra_units.proofs.ReplyInlets.{inlets, known_taken}
+use Rattle.ultra_section.proofs.Known.{still_kept}
 use Rattle.ultra_section.proofs.block.Block.hand_over_replies.Goals as goal
 
 pub hand_over-requires-clause-zero : goal.hand_over-requires-clause-zero
@@ -21,14 +22,6 @@ invariant_of-self c =
     let inside = c.self.inside in
     let known = c.self.invariant in
     let links = subst (λ (b : BlockState). reply_inlets b.stages c.args.unit ≡ Some c.args.inlets) (sym c.self.view_is) c.requires.links in
-    record {
-      units = known.units;
-      rests = known.rests;
-      replies =
-          known_taken inside.net (omega arith) (omega arith) inside.replies c.hand_over.new.self c.args.unit c.args.inlets (inlets inside.net (omega arith) (omega arith) c.args.unit c.args.inlets links)
-          record { table = c.hand_over.ensures.table; others = c.hand_over.ensures.others } known.replies;
-      requests = known.requests;
-      events_fit = known.events_fit;
-      stops_fit = known.stops_fit;
-      network = known.network;
-    }
+    still_kept known known.units
+    known.rests (known_taken inside.net (omega arith) (omega arith) inside.replies c.hand_over.new.self c.args.unit c.args.inlets (inlets inside.net (omega arith) (omega arith) c.args.unit c.args.inlets links)
+    record { table = c.hand_over.ensures.table; others = c.hand_over.ensures.others } known.replies) known.requests (omega arith) (omega arith)

@@ -4,6 +4,7 @@ use Rattle.ultra_units.specs.Inlets.{reply_inlets}
 use Rattle.ultra_units.proofs.Marks.{length-put_on}
 use Rattle.ultra_units.proofs.ReplyMarks.{known_put}
 use Rattle.ultra_section.proofs.RepliesAway.{inlets}
+use Rattle.ultra_section.proofs.Known.{still_kept}
 use Rattle.ultra_section.proofs.block.Block.receive_replies.Goals as goal
 
 pub put-requires-clause-link : goal.put-requires-clause-link
@@ -28,14 +29,6 @@ invariant_of-self c =
     let first =
     known_put inside.net (omega arith) (omega arith) inside.replies c.put.new.self c.args.inlets.zero c.args.unit c.args.replies.zero it.zero_reader
     record { table = c.put.ensures.table; there = c.put.ensures.there; kept = c.put.ensures.kept } known.replies in
-    record {
-      units = known.units;
-      rests = known.rests;
-      replies =
-          known_put inside.net (omega arith) (omega arith) c.put.new.self c.put-2.new.self c.args.inlets.one c.args.unit c.args.replies.one it.one_reader
-          record { table = c.put-2.ensures.table; there = c.put-2.ensures.there; kept = c.put-2.ensures.kept } first;
-      requests = known.requests;
-      events_fit = known.events_fit;
-      stops_fit = known.stops_fit;
-      network = known.network;
-    }
+    still_kept known known.units
+    known.rests (known_put inside.net (omega arith) (omega arith) c.put.new.self c.put-2.new.self c.args.inlets.one c.args.unit c.args.replies.one it.one_reader
+    record { table = c.put-2.ensures.table; there = c.put-2.ensures.there; kept = c.put-2.ensures.kept } first) known.requests (omega arith) (omega arith)

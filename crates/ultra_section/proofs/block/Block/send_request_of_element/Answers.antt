@@ -10,9 +10,8 @@ use Rattle.ultra_section.proofs.Awake.{rests_without}
 use Rattle.ultra_units.specs.Links.{put_on}
 use Rattle.ultra_section.specs.RequestsSent.{request_sent_by}
 use Rattle.ultra_units.specs.Ways.{has_way_from_element}
-use Rattle.ultra_units.specs.Units.{IsElement}
-use Rattle.ultra_section.proofs.Entries.{element_inside, element_passed, element_worked, elements_kept, put_back, put_back_some}
-use Rattle.ultra_section.proofs.Known.{element_changed}
+use Rattle.ultra_section.proofs.Entries.{element_inside, element_passed, element_worked, element_back}
+use Rattle.ultra_section.proofs.Known.{element_changed, still_kept}
 use Rattle.ultra_section.proofs.block.Block.send_request_of_element.Goals as goal
 
 -- what is left where the first request goes, and where none does
@@ -27,46 +26,36 @@ module _ (closed : Ports (List ℕ)) (b : BlockState) (p : ℕ) (e : ProcessingE
   stayed head is way = grind arith
 
 pub invariant_of-self : goal.invariant_of-self
-invariant_of-self c = elements_kept c.self.invariant _ (put_back c.self.inside.elements.items c.args.pe c.index_mut.result.now c.index_mut.ensures.value)
+invariant_of-self c = element_back c.self.invariant c.args.pe c.index_mut.ensures.value
 
 pub returns-in_default : goal.returns-in_default
 returns-in_default c =
-    element_passed c.self.view_is (request_sent_by c.args.closed.now c.args.pe) c.args.pe c.index_mut.result.now c.index_mut.ensures.value c.in_default.is
+    element_passed c.self.view_is (request_sent_by c.args.closed.now c.args.pe) c.args.pe c.index_mut.ensures.value c.in_default.is
 
 pub invariant_of-self-then-not-has_way_from_element : goal.invariant_of-self-then-not-has_way_from_element
 invariant_of-self-then-not-has_way_from_element c =
-    elements_kept c.self.invariant _ (put_back_some c.self.inside.elements.items c.args.pe c.index_mut.result.now c.index_mut.ensures.value c.in-Some.element c.in-Some.is)
+    element_back c.self.invariant c.args.pe (rw c.in-Some.is at c.index_mut.ensures.value)
 
 pub returns-then-not-has_way_from_element : goal.returns-then-not-has_way_from_element
 returns-then-not-has_way_from_element c =
     stayed c.args.closed.now _ c.args.pe c.in-Some.element c.request_head.result c.request_head.ensures (sym c.has_way_from_element.ensures ∙ c.if-not-has_way_from_element.true)
-    ∙ element_worked c.self.view_is (request_sent_by c.args.closed.now c.args.pe) c.args.number c.args.pe c.index_mut.result.now c.in-Some.element c.requires.is c.self.invariant.units.element_entries c.index_mut.ensures.value c.in-Some.is
+    ∙ element_worked c.self.view_is (request_sent_by c.args.closed.now c.args.pe) c.requires.is c.self.invariant.units.element_entries c.index_mut.ensures.value c.in-Some.is
 
 pub returns : goal.returns
 returns c =
     went c.args.closed.now _ c.args.pe c.in-Some.element c.request_head.result c.send_request-out.result c.send_request-out.new.self _ c.request_head.ensures
     (sym c.has_way_from_element.ensures ∙ c.if-not-has_way_from_element.false) c.send_request-out.ensures.sent c.send_request-out.ensures.left c.leave_element.ensures.table
-    ∙ element_worked c.self.view_is (request_sent_by c.args.closed.now c.args.pe) c.args.number c.args.pe c.index_mut.result.now c.in-Some.element c.requires.is c.self.invariant.units.element_entries c.index_mut.ensures.value c.in-Some.is
+    ∙ element_worked c.self.view_is (request_sent_by c.args.closed.now c.args.pe) c.requires.is c.self.invariant.units.element_entries c.index_mut.ensures.value c.in-Some.is
 
 pub invariant_of-self-2 : goal.invariant_of-self-2
 invariant_of-self-2 c =
     let inside = c.self.inside in
     let known = c.self.invariant in
-    let is : IsElement inside.net c.args.number c.args.pe = subst (λ (b : BlockState). IsElement b.stages c.args.number c.args.pe) (sym c.self.view_is) c.requires.is in
-    record {
-      units =
-          element_changed inside.net inside.sets c.note_element.new.self inside.switches.items inside.modules.items inside.elements.items known.units
-          c.args.number c.args.pe c.index_mut.result.now c.in-Some.element c.send_request-out.new.self is c.index_mut.ensures.value c.in-Some.is
-          c.note_element.ensures.others c.note_element.ensures.there;
-      rests =
-          subst (λ v. AreOthersAtRest inside.net inside.program inside.awake (set inside.elements.items c.args.pe (Some v))) (sym c.send_request-out.ensures.left)
-          (rests_without inside.net inside.program inside.awake inside.elements.items known.rests c.args.number c.args.pe c.index_mut.result.now c.in-Some.element is (omega (arith, known.units.element_entries, is.small)) c.index_mut.ensures.value c.in-Some.is c.send_request-out.result);
-      replies = known.replies;
-      requests = c.leave_element.ensures.known;
-      events_fit = known.events_fit;
-      stops_fit = known.stops_fit;
-      network = known.network;
-    }
+    let is = element_inside c.self.view_is c.requires.is in
+    still_kept known (element_changed known.units c.send_request-out.new.self is c.index_mut.ensures.value c.in-Some.is
+    c.note_element.ensures.others c.note_element.ensures.there)
+    (subst (λ v. AreOthersAtRest inside.net inside.program inside.awake (set inside.elements.items c.args.pe (Some v))) (sym c.send_request-out.ensures.left)
+    (rests_without known is c.index_mut.ensures.value c.in-Some.is c.send_request-out.result)) known.replies c.leave_element.ensures.known (omega arith) (omega arith)
 
 pub index_mut-requires : goal.index_mut-requires
 index_mut-requires c = grind arith
@@ -79,6 +68,6 @@ note_element-requires c = c.requires.small
 
 pub leave_element-requires : goal.leave_element-requires
 leave_element-requires c = record {
-  pe = (element_inside c.self.view_is c.args.number c.args.pe c.requires.is).small;
+  pe = (element_inside c.self.view_is c.requires.is).small;
   known = c.self.invariant.requests;
 }

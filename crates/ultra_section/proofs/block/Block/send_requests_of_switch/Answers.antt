@@ -2,14 +2,14 @@ use Rattle.std.proofs.Common.{ap, subst, sym, ◌≡◌, ℕ, List, Option, Some
 use Rattle.ultra_halves.specs.Switches.{has_reply_room, holds_replies, keeps_records, request_heads, requests_leaving, without_requests}
 use Rattle.ultra_section.specs.BlockState.{BlockState}
 use Rattle.ultra_section.specs.Sets.{HasFewerRequests, facts_at}
-use Rattle.ultra_section.proofs.Known.{switch_requests_changed, switch_was}
+use Rattle.ultra_section.proofs.Known.{switch_requests_changed, switch_was, still_kept}
 use Rattle.ultra_section.proofs.Noted.{requests_left}
 use Rattle.ultra_msg.specs.declared.Request.{Request}
 use Rattle.ultra_switch.specs.declared.Ports.{Ports}
 use Rattle.ultra_switch.specs.declared.Switch.{Switch}
 use Rattle.ultra_section.specs.RequestsSent.{requests_sent_by}
 use Rattle.ultra_units.specs.Ways.{request_targets, request_ways, requests_put}
-use Rattle.ultra_section.proofs.Entries.{beside_switch, put_back, switches_kept, switch_inside, switch_passed, switch_worked}
+use Rattle.ultra_section.proofs.Entries.{beside_switch, switch_inside, switch_passed, switch_worked, switch_back}
 use Rattle.ultra_section.proofs.block.Block.send_requests_of_switch.Goals as goal
 
 sending_done : (closed : Ports (List ℕ)) (b : BlockState) (n s k : ℕ) (w v : Switch) (requests : List (Option Request))
@@ -18,11 +18,11 @@ sending_done : (closed : Ports (List ℕ)) (b : BlockState) (n s k : ℕ) (w v :
 sending_done closed b n s k w v requests left put = rw (left, put) refl
 
 pub invariant_of-self : goal.invariant_of-self
-invariant_of-self c = switches_kept c.self.invariant _ (put_back c.self.inside.switches.items c.args.number c.index_mut.result.now c.index_mut.ensures.value)
+invariant_of-self c = switch_back c.self.invariant c.args.number c.index_mut.ensures.value
 
 pub returns-in_default : goal.returns-in_default
 returns-in_default c =
-    switch_passed c.self.view_is (requests_sent_by c.args.closed.now c.args.number c.args.stage c.args.index) c.args.number c.index_mut.result.now c.index_mut.ensures.value c.in_default.is
+    switch_passed c.self.view_is (requests_sent_by c.args.closed.now c.args.number c.args.stage c.args.index) c.args.number c.index_mut.ensures.value c.in_default.is
 
 pub request_targets-targets-requires : goal.request_targets-targets-requires
 request_targets-targets-requires c = grind arith
@@ -32,9 +32,9 @@ index_mut-requires c = grind arith
 
 pub send_from_switch-requires : goal.send_from_switch-requires
 send_from_switch-requires c = record {
-  is = switch_inside c.self.view_is c.args.number c.args.stage c.args.index c.requires.is;
+  is = switch_inside c.self.view_is c.requires.is;
   small = c.requires.small;
-  targets = beside_switch c.self.view_is request_targets c.args.number c.args.stage c.args.index c.self.inside.wiring c.request_targets-targets.result c.requires.is c.self.invariant.network c.request_targets-targets.ensures.value;
+  targets = beside_switch c.self.view_is request_targets c.requires.is c.self.invariant.network c.request_targets-targets.ensures.value;
   zero = c.request_targets-targets.ensures.zero;
   one = c.request_targets-targets.ensures.one;
   known = c.self.invariant.requests;
@@ -43,8 +43,8 @@ send_from_switch-requires c = record {
 pub note_requests_sent-requires : goal.note_requests_sent-requires
 note_requests_sent-requires c =
     let inside = c.self.inside in
-    let is = switch_inside c.self.view_is c.args.number c.args.stage c.args.index c.requires.is in
-    let was = switch_was inside.net inside.sets inside.sets inside.switches.items inside.modules.items inside.elements.items c.self.invariant.units c.args.number c.index_mut.result.now c.in-Some.switch is.within c.index_mut.ensures.value c.in-Some.is in
+    let is = switch_inside c.self.view_is c.requires.is in
+    let was = switch_was c.self.invariant.units c.args.number is.within c.index_mut.ensures.value c.in-Some.is in
     record {
       small = c.requires.small;
       fewer = subst (HasFewerRequests (facts_at inside.sets c.args.number)) (sym c.send_from_switch.ensures.switch) (requests_left _ c.in-Some.switch was _);
@@ -53,23 +53,14 @@ note_requests_sent-requires c =
 pub returns : goal.returns
 returns c =
     sending_done c.args.closed.now _ c.args.number c.args.stage c.args.index c.in-Some.switch c.send_from_switch.new.switch _ c.send_from_switch.ensures.switch c.send_from_switch.ensures.table
-    ∙ switch_worked c.self.view_is (requests_sent_by c.args.closed.now c.args.number c.args.stage c.args.index) c.args.number c.args.stage c.args.index c.index_mut.result.now c.in-Some.switch c.requires.is c.self.invariant.units.switch_entries c.index_mut.ensures.value c.in-Some.is
+    ∙ switch_worked c.self.view_is (requests_sent_by c.args.closed.now c.args.number c.args.stage c.args.index) c.requires.is c.self.invariant.units.switch_entries c.index_mut.ensures.value c.in-Some.is
 
 pub invariant_of-self-2 : goal.invariant_of-self-2
 invariant_of-self-2 c =
-    let inside = c.self.inside in
     let known = c.self.invariant in
-    let is = switch_inside c.self.view_is c.args.number c.args.stage c.args.index c.requires.is in
+    let is = switch_inside c.self.view_is c.requires.is in
     let left = c.send_from_switch.ensures.switch in
-    record {
-      units =
-          switch_requests_changed inside.net inside.sets c.note_requests_sent.new.self inside.switches.items inside.modules.items inside.elements.items known.units
-          c.args.number c.index_mut.result.now c.in-Some.switch c.send_from_switch.new.switch is.within c.index_mut.ensures.value c.in-Some.is
-          c.note_requests_sent.ensures.others c.note_requests_sent.ensures.there (ap holds_replies left) (ap has_reply_room left) (ap keeps_records left);
-      rests = known.rests;
-      replies = known.replies;
-      requests = c.send_from_switch.ensures.known;
-      events_fit = known.events_fit;
-      stops_fit = known.stops_fit;
-      network = known.network;
-    }
+    still_kept known (switch_requests_changed known.units
+    c.args.number c.send_from_switch.new.switch is.within c.index_mut.ensures.value c.in-Some.is
+    c.note_requests_sent.ensures.others c.note_requests_sent.ensures.there (ap holds_replies left) (ap has_reply_room left) (ap keeps_records left))
+    known.rests known.replies c.send_from_switch.ensures.known (omega arith) (omega arith)

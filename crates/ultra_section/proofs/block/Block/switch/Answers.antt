@@ -1,4 +1,4 @@
-use Rattle.std.proofs.Common.{◌≡◌, ℕ, true, arith}
+use Rattle.std.proofs.Common.{◌≡◌, ℕ, true, arith, sym, ap, ◌∙◌}
 use Rattle.std.specs.Prelude.{is_some}
 use Rattle.ultra_section.specs.BlockState.{BlockState, switch_at}
 use Rattle.ultra_section.proofs.Entries.{here_within}
@@ -16,4 +16,6 @@ pub unreachable-requires : goal.unreachable-requires
 unreachable-requires c = grind arith
 
 pub returns : goal.returns
-returns c = grind (arith, stands, here_within)
+returns c =
+    sym (stands c.self.inside.switches.items c.args.number (here_within c.self.inside.switches.items c.args.number (here_inside _ _ c.args.number c.self.view_is c.requires)) c.index.ensures c.in-Some.is)
+    ∙ ap (λ (b : BlockState). switch_at b.switches c.args.number) c.self.view_is

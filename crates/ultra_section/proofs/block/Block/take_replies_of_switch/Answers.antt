@@ -4,13 +4,13 @@ use Rattle.ultra_section.specs.BlockState.{BlockState}
 use Rattle.ultra_units.specs.Marks.{on_both, reply_links, without_both}
 use Rattle.ultra_section.specs.RepliesTaken.{SwitchCanTakeReplies, replies_taken_by}
 use Rattle.ultra_section.specs.Sets.{HasMoreReplies, facts_at}
-use Rattle.ultra_section.proofs.Known.{switch_replies_taken, switch_was, stands}
+use Rattle.ultra_section.proofs.Known.{switch_replies_taken, switch_was, stands, still_kept}
 use Rattle.ultra_section.proofs.Noted.{replies_came}
 use Rattle.ultra_section.proofs.Records.{keeps_none}
 use Rattle.ultra_msg.specs.declared.ReplyMessage.{ReplyMessage}
 use Rattle.ultra_switch.specs.declared.Ports.{Ports}
 use Rattle.ultra_switch.specs.declared.Switch.{Switch}
-use Rattle.ultra_section.proofs.Entries.{beside_switch, by_number, put_back, switch_inside, switch_within, switches_kept, switch_passed, switch_worked}
+use Rattle.ultra_section.proofs.Entries.{beside_switch, by_number, switch_inside, switch_within, switch_passed, switch_worked, switch_back}
 use Rattle.ultra_section.proofs.block.Block.take_replies_of_switch.Goals as goal
 
 taking_done : (b : BlockState) (n s k : ℕ) (w v : Switch) (inlets : Ports ℕ) (replies : List (Option ReplyMessage))
@@ -19,11 +19,11 @@ taking_done : (b : BlockState) (n s k : ℕ) (w v : Switch) (inlets : Ports ℕ)
 taking_done b n s k w v inlets replies are taken left = rw (taken, left, are) refl
 
 pub invariant_of-self : goal.invariant_of-self
-invariant_of-self c = switches_kept c.self.invariant _ (put_back c.self.inside.switches.items c.args.number c.index_mut.result.now c.index_mut.ensures.value)
+invariant_of-self c = switch_back c.self.invariant c.args.number c.index_mut.ensures.value
 
 pub returns-in_default : goal.returns-in_default
 returns-in_default c =
-    switch_passed c.self.view_is (replies_taken_by c.args.number c.args.stage c.args.index) c.args.number c.index_mut.result.now c.index_mut.ensures.value c.in_default.is
+    switch_passed c.self.view_is (replies_taken_by c.args.number c.args.stage c.args.index) c.args.number c.index_mut.ensures.value c.in_default.is
 
 pub reply_links-inlets-requires : goal.reply_links-inlets-requires
 reply_links-inlets-requires c = grind arith
@@ -34,8 +34,8 @@ index_mut-requires c = grind arith
 pub take_into_switch-requires : goal.take_into_switch-requires
 take_into_switch-requires c =
     let inside = c.self.inside in
-    let is = switch_inside c.self.view_is c.args.number c.args.stage c.args.index c.requires.is in
-    let inlets = beside_switch c.self.view_is reply_links c.args.number c.args.stage c.args.index inside.wiring c.reply_links-inlets.result c.requires.is c.self.invariant.network c.reply_links-inlets.ensures in
+    let is = switch_inside c.self.view_is c.requires.is in
+    let inlets = beside_switch c.self.view_is reply_links c.requires.is c.self.invariant.network c.reply_links-inlets.ensures in
     let can = subst (λ (b : BlockState). SwitchCanTakeReplies c.args.number c.args.stage c.args.index b) (sym c.self.view_is) c.requires.room in
     record {
       switch = is.within;
@@ -44,15 +44,15 @@ take_into_switch-requires c =
       inlets = c.reply_links-inlets.ensures ∙ by_number reply_links inside.wiring inside.net c.args.number c.self.invariant.network;
       all = c.self.invariant.replies.all;
       room = subst (λ p. CanTakeReplies c.in-Some.switch (on_both inside.replies.table.items p)) (sym inlets)
-          (can c.in-Some.switch (stands inside.switches.items c.args.number c.index_mut.result.now c.in-Some.switch (switch_within c.self.view_is c.args.number c.args.stage c.args.index c.requires.is c.self.invariant.units.switch_entries)
+          (can c.in-Some.switch (stands inside.switches.items c.args.number (switch_within c.self.view_is c.requires.is c.self.invariant.units.switch_entries)
           c.index_mut.ensures.value c.in-Some.is));
     }
 
 pub note_replies_taken-requires : goal.note_replies_taken-requires
 note_replies_taken-requires c =
     let inside = c.self.inside in
-    let is = switch_inside c.self.view_is c.args.number c.args.stage c.args.index c.requires.is in
-    let was = switch_was inside.net inside.sets inside.sets inside.switches.items inside.modules.items inside.elements.items c.self.invariant.units c.args.number c.index_mut.result.now c.in-Some.switch is.within c.index_mut.ensures.value c.in-Some.is in
+    let is = switch_inside c.self.view_is c.requires.is in
+    let was = switch_was c.self.invariant.units c.args.number is.within c.index_mut.ensures.value c.in-Some.is in
     let taken = c.take_into_switch.ensures.switch in
     record {
       small = c.requires.small;
@@ -63,26 +63,16 @@ note_replies_taken-requires c =
 
 pub returns : goal.returns
 returns c =
-    let inside = c.self.inside in
-    let inlets = beside_switch c.self.view_is reply_links c.args.number c.args.stage c.args.index inside.wiring c.reply_links-inlets.result c.requires.is c.self.invariant.network c.reply_links-inlets.ensures in
+    let inlets = beside_switch c.self.view_is reply_links c.requires.is c.self.invariant.network c.reply_links-inlets.ensures in
     taking_done _ c.args.number c.args.stage c.args.index c.in-Some.switch c.take_into_switch.new.switch c.reply_links-inlets.result _ inlets c.take_into_switch.ensures.switch c.take_into_switch.ensures.table
-    ∙ switch_worked c.self.view_is (replies_taken_by c.args.number c.args.stage c.args.index) c.args.number c.args.stage c.args.index c.index_mut.result.now c.in-Some.switch c.requires.is c.self.invariant.units.switch_entries c.index_mut.ensures.value c.in-Some.is
+    ∙ switch_worked c.self.view_is (replies_taken_by c.args.number c.args.stage c.args.index) c.requires.is c.self.invariant.units.switch_entries c.index_mut.ensures.value c.in-Some.is
 
 pub invariant_of-self-2 : goal.invariant_of-self-2
 invariant_of-self-2 c =
-    let inside = c.self.inside in
     let known = c.self.invariant in
-    let is = switch_inside c.self.view_is c.args.number c.args.stage c.args.index c.requires.is in
+    let is = switch_inside c.self.view_is c.requires.is in
     let taken = c.take_into_switch.ensures.switch in
-    record {
-      units =
-          switch_replies_taken inside.net inside.sets c.note_replies_taken.new.self inside.switches.items inside.modules.items inside.elements.items known.units
-          c.args.number c.index_mut.result.now c.in-Some.switch c.take_into_switch.new.switch is.within c.index_mut.ensures.value c.in-Some.is
-          c.note_replies_taken.ensures.others c.note_replies_taken.ensures.there (ap holds_requests taken) (ap has_request_room taken);
-      rests = known.rests;
-      replies = c.take_into_switch.ensures.known known.replies;
-      requests = known.requests;
-      events_fit = known.events_fit;
-      stops_fit = known.stops_fit;
-      network = known.network;
-    }
+    still_kept known (switch_replies_taken known.units
+    c.args.number c.take_into_switch.new.switch is.within c.index_mut.ensures.value c.in-Some.is
+    c.note_replies_taken.ensures.others c.note_replies_taken.ensures.there (ap holds_requests taken) (ap has_request_room taken))
+    known.rests (c.take_into_switch.ensures.known known.replies) known.requests (omega arith) (omega arith)

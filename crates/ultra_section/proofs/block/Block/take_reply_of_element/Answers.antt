@@ -1,18 +1,17 @@
-use Rattle.std.proofs.Common.{refl, sym, ap, subst, ◌∙◌, arith, ◌≡◌, ℕ, List, [], ◌∷◌, ◌++◌, Option, Some, None, set}
+use Rattle.std.proofs.Common.{[], refl, sym, ap, subst, ◌∙◌, arith, ◌≡◌, ℕ, List, ◌∷◌, ◌++◌, Option, Some, None, set}
 use Rattle.ultra_isa.specs.Step.{has_stopped}
 use Rattle.ultra_halves.specs.Elements.{holds_request, delivered_to}
 use Rattle.ultra_halves.specs.declared.elements.ProcessingElement.{ProcessingElement}
 use Rattle.ultra_section.specs.BlockState.{BlockState}
 use Rattle.ultra_section.specs.RepliesTaken.{ElementCanTakeReply, reply_taken_by}
-use Rattle.ultra_units.specs.Units.{IsElement}
-use Rattle.ultra_section.proofs.Known.{element_same, stands}
+use Rattle.ultra_section.proofs.Known.{element_same, stands, still_kept}
 use Rattle.ultra_section.proofs.Awake.{rests_same, woken_up}
 use Rattle.ultra_msg.specs.declared.Event.{Event}
 use Rattle.ultra_msg.specs.declared.ReplyMessage.{ReplyMessage}
 use Rattle.ultra_model.specs.Places.{present}
 use Rattle.ultra_model.specs.Phases.{delivery}
 use Rattle.ultra_units.specs.Marks.{delivery_link, on_link}
-use Rattle.ultra_section.proofs.Entries.{element_passed, element_worked, elements_kept, none_more, one_more, put_back, put_back_some}
+use Rattle.ultra_section.proofs.Entries.{element_passed, element_worked, none_more, one_more, put_back_some, element_back, element_inside}
 use Rattle.ultra_section.proofs.block.Block.take_reply_of_element.Goals as goal
 
 delivery_done : (b : BlockState) (p : ℕ) (e v : ProcessingElement) (came : Option ReplyMessage) (replies : List (Option ReplyMessage)) (events : List Event)
@@ -21,66 +20,47 @@ delivery_done : (b : BlockState) (p : ℕ) (e v : ProcessingElement) (came : Opt
 delivery_done b p e v came replies events is left delivered more = rw (delivered, left, more, is) refl
 
 pub invariant_of-self : goal.invariant_of-self
-invariant_of-self c = elements_kept c.self.invariant _ (put_back c.self.inside.elements.items c.args.pe c.index_mut.result.now c.index_mut.ensures.value)
+invariant_of-self c = element_back c.self.invariant c.args.pe c.index_mut.ensures.value
 
 pub returns-in_default : goal.returns-in_default
 returns-in_default c =
-    element_passed c.self.view_is (reply_taken_by c.args.pe) c.args.pe c.index_mut.result.now c.index_mut.ensures.value c.in_default.is
+    element_passed c.self.view_is (reply_taken_by c.args.pe) c.args.pe c.index_mut.ensures.value c.in_default.is
 
 pub returns-in-Some-came : goal.returns-in-Some-came
 returns-in-Some-came c =
     delivery_done _ c.args.pe c.in-Some.element c.deliver.new.self c.take_at_element-came.result _ _ c.take_at_element-came.ensures.came c.take_at_element-came.ensures.table
-    (c.deliver.ensures ∙ ap (delivered_to c.in-Some.element) (sym c.in-Some-came.is)) (c.append.ensures.entries ∙ one_more c.self.inside.events.items _ _ (ap delivery c.in-Some-came.is))
-    ∙ element_worked c.self.view_is (reply_taken_by c.args.pe) c.args.number c.args.pe c.index_mut.result.now c.in-Some.element c.requires.is c.self.invariant.units.element_entries c.index_mut.ensures.value c.in-Some.is
+    (c.deliver.ensures ∙ ap (delivered_to c.in-Some.element) (sym c.in-Some-came.is)) (c.append.ensures.entries ∙ one_more c.self.inside.events.items (ap delivery c.in-Some-came.is))
+    ∙ element_worked c.self.view_is (reply_taken_by c.args.pe) c.requires.is c.self.invariant.units.element_entries c.index_mut.ensures.value c.in-Some.is
 
 pub returns-in_default-came : goal.returns-in_default-came
 returns-in_default-came c =
     delivery_done _ c.args.pe c.in-Some.element c.in-Some.element c.take_at_element-came.result _ _ c.take_at_element-came.ensures.came c.take_at_element-came.ensures.table
-    (ap (delivered_to c.in-Some.element) (sym c.in_default-came.is)) (none_more c.self.inside.events.items _ (ap delivery c.in_default-came.is))
-    ∙ element_worked c.self.view_is (reply_taken_by c.args.pe) c.args.number c.args.pe c.index_mut.result.now c.in-Some.element c.requires.is c.self.invariant.units.element_entries c.index_mut.ensures.value c.in-Some.is
+    (ap (delivered_to c.in-Some.element) (sym c.in_default-came.is)) (none_more c.self.inside.events.items (ap delivery c.in_default-came.is))
+    ∙ element_worked c.self.view_is (reply_taken_by c.args.pe) c.requires.is c.self.invariant.units.element_entries c.index_mut.ensures.value c.in-Some.is
 
 pub deliver-requires : goal.deliver-requires
 deliver-requires c =
     let inside = c.self.inside in
-    let is : IsElement inside.net c.args.number c.args.pe = subst (λ (b : BlockState). IsElement b.stages c.args.number c.args.pe) (sym c.self.view_is) c.requires.is in
+    let is = element_inside c.self.view_is c.requires.is in
     let can = subst (λ (b : BlockState). ElementCanTakeReply c.args.pe b) (sym c.self.view_is) c.requires.open in
-    can c.in-Some.element (stands inside.elements.items c.args.pe c.index_mut.result.now c.in-Some.element (omega (arith, c.self.invariant.units.element_entries, is.small)) c.index_mut.ensures.value c.in-Some.is)
+    can c.in-Some.element (stands inside.elements.items c.args.pe (omega (arith, c.self.invariant.units.element_entries, is.small)) c.index_mut.ensures.value c.in-Some.is)
     c.in-Some-came.reply (sym c.take_at_element-came.ensures.came ∙ c.in-Some-came.is)
 
 pub invariant_of-self-in-Some-came : goal.invariant_of-self-in-Some-came
 invariant_of-self-in-Some-came c =
-    let inside = c.self.inside in
     let known = c.self.invariant in
-    let is : IsElement inside.net c.args.number c.args.pe = subst (λ (b : BlockState). IsElement b.stages c.args.number c.args.pe) (sym c.self.view_is) c.requires.is in
-    record {
-      units =
-          element_same inside.net inside.sets inside.sets inside.switches.items inside.modules.items inside.elements.items known.units
-          c.args.number c.args.pe c.index_mut.result.now c.in-Some.element c.deliver.new.self is c.index_mut.ensures.value c.in-Some.is
-          (ap holds_request c.deliver.ensures) (ap (λ (e : ProcessingElement). has_stopped e.processor.core.activity) c.deliver.ensures);
-      rests = woken_up inside.net inside.program inside.awake inside.elements.items known.rests c.args.number c.args.pe c.index_mut.result.now c.in-Some.element is (omega (arith, known.units.element_entries, is.small)) c.index_mut.ensures.value c.in-Some.is c.insert.new.self c.deliver.new.self c.insert.ensures.others c.insert.ensures.there;
-      replies = c.take_at_element-came.ensures.known known.replies;
-      requests = known.requests;
-      events_fit = let more = c.append.ensures.places in omega (arith, known.events_fit);
-      stops_fit = known.stops_fit;
-      network = known.network;
-    }
+    let is = element_inside c.self.view_is c.requires.is in
+    still_kept known (element_same known.units c.deliver.new.self is c.index_mut.ensures.value c.in-Some.is
+    (ap holds_request c.deliver.ensures) (ap (λ (e : ProcessingElement). has_stopped e.processor.core.activity) c.deliver.ensures))
+    (woken_up known is c.index_mut.ensures.value c.in-Some.is c.insert.new.self c.deliver.new.self c.insert.ensures.others c.insert.ensures.there) (c.take_at_element-came.ensures.known known.replies) known.requests c.append.ensures.places (omega arith)
 
 pub invariant_of-self-in_default-came : goal.invariant_of-self-in_default-came
 invariant_of-self-in_default-came c =
     let inside = c.self.inside in
     let known = c.self.invariant in
-    let is : IsElement inside.net c.args.number c.args.pe = subst (λ (b : BlockState). IsElement b.stages c.args.number c.args.pe) (sym c.self.view_is) c.requires.is in
-    record {
-      units =
-          element_same inside.net inside.sets inside.sets inside.switches.items inside.modules.items inside.elements.items known.units
-          c.args.number c.args.pe c.index_mut.result.now c.in-Some.element c.in-Some.element is c.index_mut.ensures.value c.in-Some.is refl refl;
-      rests = rests_same inside.net inside.program inside.awake inside.awake inside.elements.items known.rests _ (put_back_some inside.elements.items c.args.pe c.index_mut.result.now c.index_mut.ensures.value c.in-Some.element c.in-Some.is);
-      replies = c.take_at_element-came.ensures.known known.replies;
-      requests = known.requests;
-      events_fit = known.events_fit;
-      stops_fit = known.stops_fit;
-      network = known.network;
-    }
+    let is = element_inside c.self.view_is c.requires.is in
+    still_kept known (element_same known.units c.in-Some.element is c.index_mut.ensures.value c.in-Some.is refl refl)
+    (rests_same inside.net inside.program inside.awake inside.awake inside.elements.items known.rests _ (put_back_some inside.elements.items c.args.pe c.index_mut.ensures.value c.in-Some.is)) (c.take_at_element-came.ensures.known known.replies) known.requests (omega arith) (omega arith)
 
 pub index_mut-requires : goal.index_mut-requires
 index_mut-requires c = grind arith

@@ -2,14 +2,13 @@ use Rattle.std.proofs.Common.{sym, subst, ◌∙◌, arith, ◌≡◌, ℕ, ◌^
 use Rattle.ultra_section.specs.BlockState.{BlockState}
 use Rattle.ultra_units.specs.Marks.{memory_link, on_link}
 use Rattle.ultra_section.specs.RequestsTaken.{ModuleCanTakeRequest, request_taken_by}
-use Rattle.ultra_units.specs.Units.{IsModule}
 use Rattle.ultra_section.specs.Sets.{HasRequestMore, facts_at}
-use Rattle.ultra_section.proofs.Known.{module_changed, module_was, request_noted, stands}
+use Rattle.ultra_section.proofs.Known.{module_changed, module_was, request_noted, stands, still_kept}
 use Rattle.ultra_section.proofs.Noted.{out_kept, request_came}
 use Rattle.ultra_msg.specs.declared.Request.{Request}
 use Rattle.ultra_mem.specs.Serve.{Bank}
 use Rattle.ultra_halves.specs.Modules.{bank_with}
-use Rattle.ultra_section.proofs.Entries.{module_inside, module_passed, module_worked, modules_kept, put_back}
+use Rattle.ultra_section.proofs.Entries.{module_inside, module_passed, module_worked, module_back}
 use Rattle.ultra_section.proofs.block.Block.take_request_of_module.Goals.{in-Some-came, in_default-came}
 use Rattle.ultra_section.proofs.block.Block.take_request_of_module.Goals as goal
 
@@ -19,11 +18,11 @@ taking_done : (b : BlockState) (m : ℕ) (bank v : Bank) (came : Option Request)
 taking_done b m bank v came requests is left taken = rw (taken, left, is) refl
 
 pub invariant_of-self : goal.invariant_of-self
-invariant_of-self c = modules_kept c.self.invariant _ (put_back c.self.inside.modules.items c.args.module_number c.index_mut.result.now c.index_mut.ensures.value)
+invariant_of-self c = module_back c.self.invariant c.args.module_number c.index_mut.ensures.value
 
 pub returns-in_default : goal.returns-in_default
 returns-in_default c =
-    module_passed c.self.view_is (request_taken_by c.args.module_number) c.args.module_number c.index_mut.result.now c.index_mut.ensures.value c.in_default.is
+    module_passed c.self.view_is (request_taken_by c.args.module_number) c.args.module_number c.index_mut.ensures.value c.in_default.is
 
 pub returns : goal.returns
 returns c =
@@ -34,15 +33,15 @@ returns c =
       | in_default-came w ↦ w.bank-is ∙ ap (bank_with (2 ^ inside.net) c.in-Some.bank) (sym w.in_default-came.is)
     ] in
     taking_done _ c.args.module_number c.in-Some.bank c.match-came.bank c.take_at_module-came.result _ c.take_at_module-came.ensures.came c.take_at_module-came.ensures.table taken
-    ∙ module_worked c.self.view_is (request_taken_by c.args.module_number) c.args.number c.args.module_number c.index_mut.result.now c.in-Some.bank c.requires.is c.self.invariant.units.module_entries c.index_mut.ensures.value c.in-Some.is
+    ∙ module_worked c.self.view_is (request_taken_by c.args.module_number) c.requires.is c.self.invariant.units.module_entries c.index_mut.ensures.value c.in-Some.is
 
 pub take_request-requires : goal.take_request-requires
 take_request-requires c =
     let inside = c.self.inside in
-    let is = module_inside c.self.view_is c.args.number c.args.module_number c.requires.is in
+    let is = module_inside c.self.view_is c.requires.is in
     let can = subst (λ (b : BlockState). ModuleCanTakeRequest c.args.module_number b) (sym c.self.view_is) c.requires.can in
     let both =
-    can c.in-Some.bank (stands inside.modules.items c.args.module_number c.index_mut.result.now c.in-Some.bank (omega (arith, c.self.invariant.units.module_entries, is.small)) c.index_mut.ensures.value c.in-Some.is)
+    can c.in-Some.bank (stands inside.modules.items c.args.module_number (omega (arith, c.self.invariant.units.module_entries, is.small)) c.index_mut.ensures.value c.in-Some.is)
     c.in-Some-came.request (sym c.take_at_module-came.ensures.came ∙ c.in-Some-came.is) in
     record { within = both.0; empty = both.1 }
 
@@ -50,25 +49,16 @@ pub invariant_of-self-2 : goal.invariant_of-self-2
 invariant_of-self-2 c =
     let inside = c.self.inside in
     let known = c.self.invariant in
-    let is : IsModule inside.net c.args.number c.args.module_number = subst (λ (b : BlockState). IsModule b.stages c.args.number c.args.module_number) (sym c.self.view_is) c.requires.is in
-    let was = module_was inside.net inside.sets inside.sets inside.switches.items inside.modules.items inside.elements.items c.self.invariant.units c.args.number c.args.module_number c.index_mut.result.now c.in-Some.bank is c.index_mut.ensures.value c.in-Some.is in
+    let is = module_inside c.self.view_is c.requires.is in
+    let was = module_was c.self.invariant.units is c.index_mut.ensures.value c.in-Some.is in
     let taken : c.match-came.bank ≡ bank_with (2 ^ inside.net) c.in-Some.bank c.take_at_module-came.result =
     elim c.match-came.branch [
       | in-Some-came w ↦ w.bank-is ∙ w.take_request.ensures ∙ ap (bank_with (2 ^ inside.net) c.in-Some.bank) (sym w.in-Some-came.is)
       | in_default-came w ↦ w.bank-is ∙ ap (bank_with (2 ^ inside.net) c.in-Some.bank) (sym w.in_default-came.is)
     ] in
-    record {
-      units =
-          module_changed inside.net inside.sets c.note_request_came.new.self inside.switches.items inside.modules.items inside.elements.items known.units
-          c.args.number c.args.module_number c.match-came.bank is c.note_request_came.ensures.others
-          (request_noted _ _ c.in-Some.bank c.match-came.bank (ap (λ (b : Bank). b.out) taken ∙ out_kept _ c.in-Some.bank c.take_at_module-came.result) c.note_request_came.ensures.there was);
-      rests = known.rests;
-      replies = known.replies;
-      requests = c.take_at_module-came.ensures.known known.requests;
-      events_fit = known.events_fit;
-      stops_fit = known.stops_fit;
-      network = known.network;
-    }
+    still_kept known (module_changed known.units c.match-came.bank is c.note_request_came.ensures.others
+    (request_noted _ _ c.in-Some.bank c.match-came.bank (ap (λ (b : Bank). b.out) taken ∙ out_kept _ c.in-Some.bank c.take_at_module-came.result) c.note_request_came.ensures.there was))
+    known.rests known.replies (c.take_at_module-came.ensures.known known.requests) (omega arith) (omega arith)
 
 pub index_mut-requires : goal.index_mut-requires
 index_mut-requires c = grind arith
@@ -79,8 +69,8 @@ take_at_module-came-requires c = grind arith
 pub note_request_came-requires : goal.note_request_came-requires
 note_request_came-requires c =
     let inside = c.self.inside in
-    let is : IsModule inside.net c.args.number c.args.module_number = subst (λ (b : BlockState). IsModule b.stages c.args.number c.args.module_number) (sym c.self.view_is) c.requires.is in
-    let was = module_was inside.net inside.sets inside.sets inside.switches.items inside.modules.items inside.elements.items c.self.invariant.units c.args.number c.args.module_number c.index_mut.result.now c.in-Some.bank is c.index_mut.ensures.value c.in-Some.is in
+    let is = module_inside c.self.view_is c.requires.is in
+    let was = module_was c.self.invariant.units is c.index_mut.ensures.value c.in-Some.is in
     let taken : c.match-came.bank ≡ bank_with (2 ^ inside.net) c.in-Some.bank c.take_at_module-came.result =
     elim c.match-came.branch [
       | in-Some-came w ↦ w.bank-is ∙ w.take_request.ensures ∙ ap (bank_with (2 ^ inside.net) c.in-Some.bank) (sym w.in-Some-came.is)

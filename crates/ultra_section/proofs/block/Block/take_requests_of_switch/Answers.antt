@@ -7,14 +7,14 @@ use Rattle.ultra_section.specs.BlockState.{BlockState, most_events}
 use Rattle.ultra_units.specs.Marks.{on_both, on_link, ports_in_turn, request_links, without_both}
 use Rattle.ultra_section.specs.RequestsTaken.{SwitchCanTakeRequests, requests_taken_by}
 use Rattle.ultra_section.specs.Sets.{HasMoreRequests, facts_at}
-use Rattle.ultra_section.proofs.Known.{switch_requests_taken, switch_was, stands}
+use Rattle.ultra_section.proofs.Known.{switch_requests_taken, switch_was, stands, still_kept}
 use Rattle.ultra_section.proofs.Noted.{requests_came}
 use Rattle.ultra_section.proofs.Records.{keeps_as_before}
 use Rattle.ultra_msg.specs.declared.Event.{Event}
 use Rattle.ultra_msg.specs.declared.Request.{Request}
 use Rattle.ultra_switch.specs.declared.Ports.{Ports}
 use Rattle.ultra_switch.specs.declared.Switch.{Switch}
-use Rattle.ultra_section.proofs.Entries.{beside_switch, put_back, switch_inside, switch_within, switches_kept, switch_passed, switch_worked}
+use Rattle.ultra_section.proofs.Entries.{beside_switch, switch_inside, switch_within, switch_passed, switch_worked, switch_back}
 use Rattle.ultra_section.proofs.block.Block.take_requests_of_switch.Goals as goal
 
 first_in_turn : (came : Ports (Option Request)) (zero_first : Bool) → (ports_in_turn zero_first came).0 ≡ elim zero_first [ true ↦ came.zero | false ↦ came.one ]
@@ -49,11 +49,11 @@ taking_done : (b : BlockState) (n s k : ℕ) (w v : Switch) (in_turn : ℕ × �
 taking_done b n s k w v in_turn requests events turn taken left more = grind arith
 
 pub invariant_of-self : goal.invariant_of-self
-invariant_of-self c = switches_kept c.self.invariant _ (put_back c.self.inside.switches.items c.args.number c.index_mut.result.now c.index_mut.ensures.value)
+invariant_of-self c = switch_back c.self.invariant c.args.number c.index_mut.ensures.value
 
 pub returns-in_default-clause-value : goal.returns-in_default-clause-value
 returns-in_default-clause-value c =
-    switch_passed c.self.view_is (requests_taken_by c.args.number c.args.stage c.args.index) c.args.number c.index_mut.result.now c.index_mut.ensures.value c.in_default.is
+    switch_passed c.self.view_is (requests_taken_by c.args.number c.args.stage c.args.index) c.args.number c.index_mut.ensures.value c.in_default.is
 
 pub index_mut-requires : goal.index_mut-requires
 index_mut-requires c = grind arith
@@ -64,12 +64,12 @@ request_links-requires c = grind arith
 pub take_into_switch-has_combined-requires : goal.take_into_switch-has_combined-requires
 take_into_switch-has_combined-requires c =
     let inside = c.self.inside in
-    let is = switch_inside c.self.view_is c.args.number c.args.stage c.args.index c.requires.is in
+    let is = switch_inside c.self.view_is c.requires.is in
     let turn = c.ports_in_turn-in_turn.ensures
-    ∙ ap (ports_in_turn (inside.done % 2 == 0)) (beside_switch c.self.view_is request_links c.args.number c.args.stage c.args.index inside.wiring c.request_links.result c.requires.is c.self.invariant.network c.request_links.ensures) in
+    ∙ ap (ports_in_turn (inside.done % 2 == 0)) (beside_switch c.self.view_is request_links c.requires.is c.self.invariant.network c.request_links.ensures) in
     let can = subst (λ (b : BlockState). SwitchCanTakeRequests c.args.number c.args.stage c.args.index b) (sym c.self.view_is) c.requires.can in
     let both = both_fit inside.net inside.done c.args.stage c.args.index inside.requests.table.items c.ports_in_turn-in_turn.result turn c.in-Some.switch
-    (can c.in-Some.switch (stands inside.switches.items c.args.number c.index_mut.result.now c.in-Some.switch (switch_within c.self.view_is c.args.number c.args.stage c.args.index c.requires.is c.self.invariant.units.switch_entries)
+    (can c.in-Some.switch (stands inside.switches.items c.args.number (switch_within c.self.view_is c.requires.is c.self.invariant.units.switch_entries)
     c.index_mut.ensures.value c.in-Some.is)) in
     record {
       is = is;
@@ -86,8 +86,8 @@ take_into_switch-has_combined-requires c =
 pub note_requests_taken-requires : goal.note_requests_taken-requires
 note_requests_taken-requires c =
     let inside = c.self.inside in
-    let is = switch_inside c.self.view_is c.args.number c.args.stage c.args.index c.requires.is in
-    let was = switch_was inside.net inside.sets inside.sets inside.switches.items inside.modules.items inside.elements.items c.self.invariant.units c.args.number c.index_mut.result.now c.in-Some.switch is.within c.index_mut.ensures.value c.in-Some.is in
+    let is = switch_inside c.self.view_is c.requires.is in
+    let was = switch_was c.self.invariant.units c.args.number is.within c.index_mut.ensures.value c.in-Some.is in
     let taken = c.take_into_switch-has_combined.ensures.switch in
     record {
       small = c.requires.small;
@@ -100,25 +100,16 @@ pub returns-clause-value : goal.returns-clause-value
 returns-clause-value c =
     let inside = c.self.inside in
     let turn = c.ports_in_turn-in_turn.ensures
-    ∙ ap (ports_in_turn (inside.done % 2 == 0)) (beside_switch c.self.view_is request_links c.args.number c.args.stage c.args.index inside.wiring c.request_links.result c.requires.is c.self.invariant.network c.request_links.ensures) in
+    ∙ ap (ports_in_turn (inside.done % 2 == 0)) (beside_switch c.self.view_is request_links c.requires.is c.self.invariant.network c.request_links.ensures) in
     taking_done _ c.args.number c.args.stage c.args.index c.in-Some.switch c.take_into_switch-has_combined.new.switch c.ports_in_turn-in_turn.result _ _ turn
     c.take_into_switch-has_combined.ensures.switch c.take_into_switch-has_combined.ensures.table c.take_into_switch-has_combined.ensures.events
-    ∙ switch_worked c.self.view_is (requests_taken_by c.args.number c.args.stage c.args.index) c.args.number c.args.stage c.args.index c.index_mut.result.now c.in-Some.switch c.requires.is c.self.invariant.units.switch_entries c.index_mut.ensures.value c.in-Some.is
+    ∙ switch_worked c.self.view_is (requests_taken_by c.args.number c.args.stage c.args.index) c.requires.is c.self.invariant.units.switch_entries c.index_mut.ensures.value c.in-Some.is
 
 pub invariant_of-self-2 : goal.invariant_of-self-2
 invariant_of-self-2 c =
-    let inside = c.self.inside in
     let known = c.self.invariant in
-    let is = switch_inside c.self.view_is c.args.number c.args.stage c.args.index c.requires.is in
-    record {
-      units =
-          switch_requests_taken inside.net inside.sets c.note_requests_taken.new.self inside.switches.items inside.modules.items inside.elements.items known.units
-          c.args.number c.index_mut.result.now c.in-Some.switch c.take_into_switch-has_combined.new.switch is.within c.index_mut.ensures.value c.in-Some.is
-          c.note_requests_taken.ensures.others c.note_requests_taken.ensures.there (ap holds_replies c.take_into_switch-has_combined.ensures.switch) (ap has_reply_room c.take_into_switch-has_combined.ensures.switch);
-      rests = known.rests;
-      replies = known.replies;
-      requests = c.take_into_switch-has_combined.ensures.known known.requests;
-      events_fit = let more = c.take_into_switch-has_combined.ensures.places in omega (arith, known.events_fit);
-      stops_fit = known.stops_fit;
-      network = known.network;
-    }
+    let is = switch_inside c.self.view_is c.requires.is in
+    still_kept known (switch_requests_taken known.units
+    c.args.number c.take_into_switch-has_combined.new.switch is.within c.index_mut.ensures.value c.in-Some.is
+    c.note_requests_taken.ensures.others c.note_requests_taken.ensures.there (ap holds_replies c.take_into_switch-has_combined.ensures.switch) (ap has_reply_room c.take_into_switch-has_combined.ensures.switch))
+    known.rests known.replies (c.take_into_switch-has_combined.ensures.known known.requests) c.take_into_switch-has_combined.ensures.places (omega arith)

@@ -2,7 +2,7 @@ use Rattle.std.proofs.Common.{arith, ◌<◌, sym, subst}
 use Rattle.ultra_units.specs.Numbers.{switch_count}
 use Rattle.ultra_section.specs.BlockState.{BlockState}
 use Rattle.ultra_section.specs.Sets.{facts_at, KnowsSwitch}
-use Rattle.ultra_section.proofs.Known.{AgreeBut, switch_known, units_changed}
+use Rattle.ultra_section.proofs.Known.{AgreeBut, switch_known, still_kept}
 use Rattle.ultra_section.proofs.Moved.{switch_gone}
 use Rattle.ultra_section.proofs.block.Block.take_switch.Goals as goal
 
@@ -13,9 +13,6 @@ invariant_of-self c =
     let within : c.args.number < switch_count inside.net = subst (λ (b : BlockState). c.args.number < switch_count b.stages) (sym c.self.view_is) c.requires in
     let now = c.leave.new.self in
     let agree : AgreeBut c.args.number inside.sets now = c.leave.ensures.others in
-    units_changed inside.net inside.wiring inside.sets now inside.switches.items _ inside.modules.items _ inside.elements.items _ inside.replies inside.requests _ _ _ _
-    known
-    (switch_known inside.net inside.sets now inside.switches.items inside.modules.items inside.elements.items known.units c.args.number c.take.new.self within agree
+    still_kept known (switch_known known.units c.args.number c.take.new.self within agree
     (subst (λ o. KnowsSwitch (facts_at now c.args.number) o) (sym c.take.ensures.after) (switch_gone (facts_at now c.args.number) c.leave.ensures.there)))
-    known.rests
-    (omega arith) (omega arith)
+    known.rests known.replies known.requests (omega arith) (omega arith)
