@@ -1,5 +1,6 @@
 -- the combinations of two requests that come to a switch, in the order of the positions
-use Rattle.std.proofs.Common.{◌≡◌, ℕ, zero, suc, ◌+◌, ◌-◌, ◌*◌, ◌%◌, ◌^◌, ◌<◌, List, [], ◌∷◌, ◌++◌, Bool, true, false, append_assoc, get_or, length, length-append, set, refl, sym, ap, ◌∙◌, arith}
+use Rattle.std.proofs.lemmas.Grind.{common_steps}
+use Rattle.std.proofs.Common.{◌≡◌, ℕ, zero, suc, ◌+◌, ◌-◌, ◌*◌, ◌%◌, ◌^◌, ◌<◌, List, [], ◌∷◌, ◌++◌, Bool, true, false, get_or, length, length-append, set, refl, sym, ap, ◌∙◌, arith}
 use Rattle.std.specs.Prelude.{◌==◌, ◌&&◌, ◌||◌, ◌↔◌, is_some, not, Option, Some, None}
 use Rattle.std.proofs.lemmas.List.{append-nil}
 use Rattle.ultra_msg.specs.declared.Request.{Request}
@@ -16,36 +17,24 @@ use Rattle.ultra_halves.specs.Switches.{combinations_at, combinations_of_both}
 
 -- a request leaves a stage by port 1 where it doesn't by port 0
 other_bit : (b : ℕ) → b < 2 → (b == 1) ≡ not (b == 0)
-other_bit zero h = refl
-other_bit (suc zero) h = refl
-other_bit (suc (suc b)) h = absurd (omega arith)
+other_bit b h = grind arith
 
 pub other_port : (d s : ℕ) (r : Request) → leaves_by d s 1 r ≡ not (leaves_by d s 0 r)
 other_port d s r = other_bit (bit_of (d - 1 - s) (r.cell % 2 ^ d)) (omega arith)
 
 -- what there is of a combination goes before the rest
 present_first : (s x : ℕ) (r : Request) (o : Option Combination) (rest : List (Option Event)) → present (combination_event s x r o ∷ rest) ≡ combination s x r o ++ present rest
-present_first s x r None rest = refl
-present_first s x r (Some c) rest = refl
+present_first s x r o rest = grind arith
 
 abbrev listed : Bool → Request → List Request
 listed b r = elim b [ true ↦ r ∷ [] | false ↦ [] ]
 
 two_events : (s x y : ℕ) (l m : SizedLane) (r q : Request) → present (combination_in s x l r ∷ combination_in s y m q ∷ []) ≡ combinations_at s x l (r ∷ []) ++ combinations_at s y m (q ∷ [])
-two_events s x y l m r q =
-    let here = combine_within l.wait_places l.lane r in
-    let there = combine_within m.wait_places m.lane q in
-    present_first s x r here (combination_in s y m q ∷ [])
-    ∙ ap (λ es. combination s x r here ++ es) (present_first s y q there [])
-    ∙ ap (λ es. es ++ combinations_at s y m (q ∷ [])) (sym (append-nil (combination s x r here)))
+two_events s x y l m r q = grind arith
 
 -- two at one position
 two_there : (s x : ℕ) (l : SizedLane) (r q : Request) → present (combination_in s x l r ∷ combination_in s x (lane_with l (r ∷ [])) q ∷ []) ≡ combinations_at s x l (r ∷ q ∷ [])
-two_there s x l r q =
-    let here = combine_within l.wait_places l.lane r in
-    let after = lane_with l (r ∷ []) in
-    present_first s x r here (combination_in s x after q ∷ [])
-    ∙ ap (λ es. combination s x r here ++ es) (present_first s x q (combine_within after.wait_places after.lane q) [])
+two_there s x l r q = grind arith
 
 module _ (s k : ℕ) (lanes : Ports SizedLane) where
   -- one request, which leaves by port 0 or by port 1
@@ -85,49 +74,27 @@ module _ (s k : ℕ) (lanes : Ports SizedLane) where
   combined d (Some f) (Some g) = rw (other_port d s f, other_port d s g, coming_to, is_turned) (two f g (leaves_by d s 0 f) (leaves_by d s 0 g))
 
 -- ---- two events that may be there, appended one after the other
-in_order_there : (turned : Bool) (a b : Event) → present (in_order turned (Some a) (Some b)) ≡ in_order turned a b
-in_order_there true a b = refl
-in_order_there false a b = refl
 
 alone : (turned : Bool) (a b : Option Event) → is_some a && is_some b ≡ false → present (a ∷ []) ++ present (b ∷ []) ≡ present (in_order turned a b)
-alone true None None e = refl
-alone true None (Some b) e = refl
-alone true (Some a) None e = refl
-alone true (Some a) (Some b) e = cc
-alone false None b e = refl
-alone false (Some a) b e = refl
+alone turned a b e = grind arith
 
 module _ (old items : List Event) (turned : Bool) where
   -- they stand in order where one isn't there
   left : (a b : Option Event) → is_some a && is_some b ≡ false → items ≡ (old ++ present (a ∷ [])) ++ present (b ∷ []) → items ≡ old ++ present (in_order turned a b)
-  left a b e are = are ∙ append_assoc old (present (a ∷ [])) (present (b ∷ [])) ∙ ap (λ es. old ++ es) (alone turned a b e)
+  left a b e are = grind (arith, common_steps)
 
   -- else they are put in order
   put : (now : List Event) (a b : Option Event) → is_some a && is_some b ≡ true → items ≡ (old ++ present (a ∷ [])) ++ present (b ∷ [])
       → ((front : List Event) (x y : Event) → items ≡ front ++ x ∷ y ∷ [] → now ≡ front ++ in_order turned x y) → now ≡ old ++ present (in_order turned a b)
-  put now None b e are sorted = cc
-  put now (Some a) None e are sorted = cc
-  put now (Some a) (Some b) e are sorted =
-      sorted old a b (are ∙ append_assoc old (a ∷ []) (b ∷ [])) ∙ ap (λ es. old ++ es) (sym (in_order_there turned a b))
-
-none_of : (turned : Bool) (a b : Option Event) → (is_some a || is_some b ≡ false) ↔ (present (in_order turned a b) ≡ [])
-none_of true None None = (λ e. refl, λ e. refl)
-none_of true None (Some b) = (λ e. cc, λ e. cc)
-none_of true (Some a) None = (λ e. cc, λ e. cc)
-none_of true (Some a) (Some b) = (λ e. cc, λ e. cc)
-none_of false None None = (λ e. refl, λ e. refl)
-none_of false None (Some b) = (λ e. cc, λ e. cc)
-none_of false (Some a) b = (λ e. cc, λ e. cc)
+  put now a b e are sorted = grind (arith, common_steps)
 
 -- ---- the last two entries of a list change places
 module _ {X : Type 0} where
   first_there : (front : List X) (a b x : X) → get_or (front ++ a ∷ b ∷ []) (length front) x ≡ a
-  first_there [] a b x = refl
-  first_there (z ∷ zs) a b x = first_there zs a b x
+  first_there front a b x = grind (arith, common_steps)
 
   second_there : (front : List X) (a b x : X) → get_or (front ++ a ∷ b ∷ []) (suc (length front)) x ≡ b
-  second_there [] a b x = refl
-  second_there (z ∷ zs) a b x = second_there zs a b x
+  second_there front a b x = grind (arith, common_steps)
 
   both_set : (front : List X) (a b x y : X) → set (set (front ++ a ∷ b ∷ []) (length front) y) (suc (length front)) x ≡ front ++ y ∷ x ∷ []
   both_set [] a b x y = refl
@@ -157,13 +124,11 @@ module _ (d s k : ℕ) (w : Switch) (first second : Option Request) (lanes : Por
   all_in_order = rw (zero, one) (combined s k w.to_mm d first second)
 
   pub combined_alone : (old items : List Event) → items ≡ (old ++ present (first_combination ∷ [])) ++ present (second_combination ∷ []) → is_some first_combination && is_some second_combination ≡ false → items ≡ old ++ combinations_of_both d s k w first second
-  combined_alone old items are e = left old items (is_turned d s first second) first_combination second_combination e are ∙ ap (λ es. old ++ es) all_in_order
+  combined_alone old items are e = grind (arith, left, all_in_order)
 
   pub combined_both : (old items now : List Event) → items ≡ (old ++ present (first_combination ∷ [])) ++ present (second_combination ∷ []) → is_some first_combination && is_some second_combination ≡ true
       → ((front : List Event) (x y : Event) → items ≡ front ++ x ∷ y ∷ [] → now ≡ front ++ in_order (is_turned d s first second) x y) → now ≡ old ++ combinations_of_both d s k w first second
   combined_both old items now are e sorted = put old items (is_turned d s first second) now first_combination second_combination e are sorted ∙ ap (λ es. old ++ es) all_in_order
 
   pub none_combined : (is_some first_combination || is_some second_combination ≡ false) ↔ (combinations_of_both d s k w first second ≡ [])
-  none_combined =
-      let e = none_of (is_turned d s first second) first_combination second_combination in
-      (λ h. sym all_in_order ∙ e.0 h, λ h. e.1 (all_in_order ∙ h))
+  none_combined = grind (arith, all_in_order)

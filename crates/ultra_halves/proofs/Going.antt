@@ -1,10 +1,8 @@
 -- how much room is left where replies come to a switch
-use Rattle.std.proofs.Common.{◌≡◌, ℕ, ◌+◌, ◌-◌, ◌≤◌, List, [], ◌∷◌, Bool, true, false, refl, arith, cond, length, length-append}
-use Rattle.std.specs.Prelude.{◌==◌, ◌&&◌, nat_le, Option, Some, None, IsTrue}
+use Rattle.std.proofs.Common.{◌≡◌, ℕ, ◌+◌, ◌≤◌, List, [], ◌∷◌, Bool, true, false, arith, cond, length, length-append}
+use Rattle.std.specs.Prelude.{Option}
 use Rattle.std.specs.List.{filter}
-use Rattle.std.proofs.lemmas.Bool.Decides.{nat_tests}
 use Rattle.ultra_msg.specs.declared.ReplyMessage.{ReplyMessage}
-use Rattle.ultra_route.specs.Route.{bit_of}
 use Rattle.ultra_switch.specs.declared.WaitRecord.{WaitRecord}
 use Rattle.ultra_switch.specs.Split.{is_of, old_reply, new_reply, replies_of}
 use Rattle.ultra_switch.specs.Queues.{SizedReplies}
@@ -12,8 +10,7 @@ use Rattle.ultra_model.specs.Phases.{replies_made}
 use Rattle.ultra_halves.specs.Halves.{going_by, with_replies, has_room_for}
 
 filter_step : {X : Type 0} (b : Bool) (x : X) (ys : List X) (n : ℕ) → length ys ≤ n → length (cond b (x ∷ ys) ys) ≤ n + 1
-filter_step true x ys n h = omega (arith, h)
-filter_step false x ys n h = omega (arith, h)
+filter_step b x ys n h = grind arith
 
 filter_shorter : {X : Type 0} (p : X → Bool) (xs : List X) → length (filter p xs) ≤ length xs
 filter_shorter p [] = omega arith
@@ -24,21 +21,9 @@ two_replies m [] = omega arith
 two_replies m (w ∷ ws) = elim (is_of m w) as (λ b. length {A = ReplyMessage} (elim b [ true ↦ old_reply m w ∷ new_reply m w ∷ [] | false ↦ replies_of m ws ]) ≤ 2) [ true ↦ omega arith | false ↦ two_replies m ws ]
 
 made_two : (ws : List WaitRecord) (o : Option ReplyMessage) → length (replies_made ws o) ≤ 2
-made_two ws None = omega arith
-made_two ws (Some m) = two_replies m ws
-
-pub room_of : (a b : ℕ) → nat_le a b ≡ true → a ≤ b
-room_of a b h = grind (arith, nat_tests)
+made_two ws o = grind (arith, two_replies)
 
 -- where there was room for four, and what came of one reply has taken some, there is room for two
 pub room_left : (d s j : ℕ) (q : SizedReplies) (ws : List WaitRecord) (o : Option ReplyMessage) → has_room_for 4 q ≡ true
     → length (with_replies q (going_by d s j (replies_made ws o))).replies + 2 ≤ (with_replies q (going_by d s j (replies_made ws o))).places
-room_left d s j q ws o h =
-    let room = room_of _ _ h in
-    let made = made_two ws o in
-    let some = filter_shorter (λ (r : ReplyMessage). bit_of (d - 1 - s) r.pe == j) (replies_made ws o) in
-    simp length-append (omega (arith, room, made, some))
-
-pub both_rooms : (a b : Bool) → IsTrue (a && b) → (a ≡ true) × (b ≡ true)
-both_rooms true b h = (refl, h)
-both_rooms false b h = cc
+room_left d s j q ws o h = grind (arith, made_two, filter_shorter, length-append)

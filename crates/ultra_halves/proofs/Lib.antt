@@ -2,4 +2,3 @@ pub mod Arrivals
 pub mod Going
 pub mod Combinations
 pub mod Rests
-pub mod NothingToDo
