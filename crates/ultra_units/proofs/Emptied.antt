@@ -1,5 +1,5 @@
 -- What is on links, after others or they themselves were emptied.
-use Rattle.std.proofs.Common.{◌≡◌, ◌≢◌, ℕ, List, Bool, true, false, Option, None, set, get_or-set_other, refl, sym, ◌∙◌}
+use Rattle.std.proofs.Common.{◌≡◌, ◌≢◌, ℕ, List, Bool, Option, None, set, get_or-set_other, refl, arith}
 use Rattle.std.proofs.lemmas.List.{set_comm}
 use Rattle.ultra_switch.specs.declared.Ports.{Ports}
 use Rattle.ultra_units.specs.Marks.{ports_in_turn, on_link, on_both, without_both}
@@ -13,7 +13,7 @@ module _ {M : Type 0} (t : List (Option M)) where
   link_apart a x other = get_or-set_other t a x None None other
 
   pub link_apart_both : (p : Ports ℕ) (x : ℕ) → x ≢ p.zero → x ≢ p.one → on_link (without_both t p) x ≡ on_link t x
-  link_apart_both p x zero one = get_or-set_other (set t p.zero None) p.one x None None one ∙ link_apart p.zero x zero
+  link_apart_both p x zero one = grind (arith, get_or-set_other)
 
   pub both_apart : (p q : Ports ℕ) → q.zero ≢ p.zero → q.zero ≢ p.one → q.one ≢ p.zero → q.one ≢ p.one → on_both (without_both t p) q ≡ on_both t q
   both_apart p q a b c d = rw (link_apart_both p q.zero a b, link_apart_both p q.one c d) refl
@@ -27,5 +27,4 @@ module _ {M : Type 0} (t : List (Option M)) where
 -- ---- two links that are emptied one after the other
 module _ {M : Type 0} (t : List (Option M)) (p : Ports ℕ) where
   pub emptied_in_turn : (zero_first : Bool) → p.zero ≢ p.one → set (set t (ports_in_turn zero_first p).0 None) (ports_in_turn zero_first p).1 None ≡ without_both t p
-  emptied_in_turn true apart = refl
-  emptied_in_turn false apart = set_comm t p.one p.zero None None (λ same. apart (sym same))
+  emptied_in_turn zero_first apart = grind (arith, set_comm)

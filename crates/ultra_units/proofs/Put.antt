@@ -1,6 +1,5 @@
 -- What is on links, after something was put on others or on them; and that no two places have one link.
 use Rattle.std.proofs.Common.{◌≡◌, ◌≢◌, ℕ, ◌+◌, ◌-◌, ◌*◌, ◌^◌, ◌<◌, ◌≤◌, List, Option, Some, None, length, get_or-set_same, get_or-set_other, refl, sym, ◌∙◌, ap, subst, arith}
-use Rattle.std.proofs.lemmas.Nat.{pow_pos}
 use Rattle.ultra_route.proofs.Table.{sizes}
 use Rattle.ultra_switch.specs.declared.Ports.{Ports}
 use Rattle.ultra_units.specs.Numbers.{switch_count, place_number}
@@ -17,12 +16,10 @@ put_or (Some m) before = Some m
 
 module _ {M : Type 0} (t : List (Option M)) where
   pub put_apart : (a x : ℕ) (o : Option M) → x ≢ a → on_link (put_on t a o) x ≡ on_link t x
-  put_apart a x None other = refl
-  put_apart a x (Some m) other = get_or-set_other t a x (Some m) None other
+  put_apart a x o other = grind (arith, get_or-set_other)
 
   pub put_there : (a : ℕ) (o : Option M) → a < length t → on_link (put_on t a o) a ≡ put_or o (on_link t a)
-  put_there a None within = refl
-  put_there a (Some m) within = get_or-set_same t a (Some m) None within
+  put_there a o within = grind (arith, get_or-set_same)
 
 -- two links on which something may have been put
 abbrev pub put_both : {M : Type 0} → List (Option M) → Ports ℕ → Ports (Option M) → List (Option M)
@@ -30,22 +27,16 @@ put_both t p out = put_on (put_on t p.zero out.zero) p.one out.one
 
 module _ {M : Type 0} (t : List (Option M)) (p : Ports ℕ) (out : Ports (Option M)) where
   pub link_apart_put : (x : ℕ) → x ≢ p.zero → x ≢ p.one → on_link (put_both t p out) x ≡ on_link t x
-  link_apart_put x zero one = put_apart (put_on t p.zero out.zero) p.one x out.one one ∙ put_apart t p.zero x out.zero zero
+  link_apart_put x zero one = grind (arith, put_apart)
 
   pub both_apart_put : (q : Ports ℕ) → q.zero ≢ p.zero → q.zero ≢ p.one → q.one ≢ p.zero → q.one ≢ p.one → on_both (put_both t p out) q ≡ on_both t q
   both_apart_put q a b c d = rw (link_apart_put q.zero a b, link_apart_put q.one c d) refl
 
   pub both_put : p.zero ≢ p.one → p.zero < length t → p.one < length t → on_both (put_both t p out) p ≡ record { zero = put_or out.zero (on_link t p.zero); one = put_or out.one (on_link t p.one) }
-  both_put apart zero one =
-      let first : on_link (put_both t p out) p.zero ≡ put_or out.zero (on_link t p.zero) =
-      put_apart (put_on t p.zero out.zero) p.one p.zero out.one apart ∙ put_there t p.zero out.zero zero in
-      let second : on_link (put_both t p out) p.one ≡ put_or out.one (on_link t p.one) =
-      put_there (put_on t p.zero out.zero) p.one out.one (subst (λ n. p.one < n) (sym (length-put_on t p.zero out.zero)) one)
-      ∙ ap (put_or out.one) (put_apart t p.zero p.one out.zero (λ same. apart (sym same))) in
-      rw (first, second) refl
+  both_put apart zero one = grind (arith, put_apart, put_there, length-put_on)
 
 pub both_apart_put_one : {M : Type 0} (t : List (Option M)) (a : ℕ) (o : Option M) (q : Ports ℕ) → q.zero ≢ a → q.one ≢ a → on_both (put_on t a o) q ≡ on_both t q
-both_apart_put_one t a o q zero one = rw (put_apart t a q.zero o zero, put_apart t a q.one o one) refl
+both_apart_put_one t a o q zero one = grind (arith, put_apart)
 
 -- ---- places
 -- the two places of switch k of stage s
@@ -76,19 +67,10 @@ pub record HasPlaces (d n s k : ℕ) : Type 0 where
   pub second_small : place_number d s (2 * k + 1) < (d + 1) * 2 ^ d
 
 pub has_places : (d n s k : ℕ) → 1 ≤ d → d ≤ 6 → IsSwitch d n s k → HasPlaces d n s k
-has_places d n s k low high is =
-    let first = place_twice d n s k low high is in
-    let whole = places_twice d low high in
-    let more = row d (2 ^ d) in
-    let within = is.within in
-    let some = pow_pos d in
-    record { first = first; second = omega arith; first_small = omega arith; second_small = omega arith }
+has_places d n s k low high is = grind (arith, place_twice, places_twice, row)
 
 pub place_behind : (d m : ℕ) → 1 ≤ d → d ≤ 6 → 2 * switch_count d ≤ place_number d d m
 place_behind d m low high = let whole = places_twice d low high in omega arith
-
-pub place_behind_small : (d m : ℕ) → m < 2 ^ d → place_number d d m < (d + 1) * 2 ^ d
-place_behind_small d m h = let more = row d (2 ^ d) in omega arith
 
 -- where the two links of switch n lead
 module _ (d n s k : ℕ) (low : 1 ≤ d) (high : d ≤ 6) (is : IsSwitch d n s k) where
@@ -99,11 +81,7 @@ module _ (d n s k : ℕ) (low : 1 ≤ d) (high : d ≤ 6) (is : IsSwitch d n s k
   odd = omega (arith, is.index_small, (sizes d low high).0)
 
   pub request_ways_of : IsRequestWay d (2 * n) (request_targets d s k).zero × IsRequestWay d (2 * n + 1) (request_targets d s k).one
-  request_ways_of =
-      let places = has_places d n s k low high is in
-      ((s, 2 * k, is.stage_small, even, sym places.first, refl), (s, 2 * k + 1, is.stage_small, odd, sym places.second, refl))
+  request_ways_of = grind (arith, has_places, odd)
 
   pub reply_ways_of : IsReplyWay d (2 * n) (reply_targets d s k).zero × IsReplyWay d (2 * n + 1) (reply_targets d s k).one
-  reply_ways_of =
-      let places = has_places d n s k low high is in
-      ((s, 2 * k, is.stage_small, even, sym places.first, refl), (s, 2 * k + 1, is.stage_small, odd, sym places.second, refl))
+  reply_ways_of = grind (arith, has_places, odd)

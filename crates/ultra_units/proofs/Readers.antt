@@ -23,25 +23,11 @@ pub record LeadTo (d : ℕ) (reader : ℕ → ℕ) (n a b : ℕ) : Type 0 where
   pub first_small : a < (d + 1) * 2 ^ d
   pub second_small : b < (d + 1) * 2 ^ d
 
-apart_from : (a b : ℕ) → not (a == b) ≡ true → a ≢ b
-apart_from a b h = grind (arith, nat_tests)
-
 pub lt_from : (a b : ℕ) → nat_lt a b ≡ true → a < b
 lt_from a b h = grind (arith, nat_tests)
 
 lead_from : (d : ℕ) (reader : ℕ → ℕ) (n a b : ℕ) → leads_right d reader n a b ≡ true → LeadTo d reader n a b
-lead_from d reader n a b h =
-    let h1 = both _ _ h in
-    let h2 = both _ _ h1.1 in
-    let h3 = both _ _ h2.1 in
-    let h4 = both _ _ h3.1 in
-    record {
-      first = eqb-true _ _ h1.0;
-      second = eqb-true _ _ h2.0;
-      apart = apart_from _ _ h3.0;
-      first_small = lt_from _ _ h4.0;
-      second_small = lt_from _ _ h4.1;
-    }
+lead_from d reader n a b h = grind (arith, eqb-true)
 
 -- ---- replies
 abbrev pub reply_reader : ℕ → ℕ → ℕ

@@ -4,8 +4,6 @@ use Rattle.std.specs.Prelude.{◌⊎◌}
 use Rattle.std.proofs.lemmas.List.{length-set}
 use Rattle.std.proofs.lemmas.Option.{same_Some}
 use Rattle.ultra_msg.specs.declared.ReplyMessage.{ReplyMessage}
-use Rattle.ultra_route.specs.Route.{shuffled}
-use Rattle.ultra_route.proofs.Table.{back}
 use Rattle.ultra_switch.specs.declared.Ports.{Ports}
 use Rattle.ultra_units.specs.Set.{has_unit}
 use Rattle.ultra_units.specs.Numbers.{switch_count, element_number}
@@ -46,18 +44,7 @@ module _ (d : ℕ) (low : 1 ≤ d) (high : d ≤ 6) where
       }
 
   pub at_end : (n p : ℕ) → IsElement d n p → Inlets d n (at_both (delivery_link d p))
-  at_end n p is =
-      let small : delivery_link d p < (d + 1) * 2 ^ d = (let entry : shuffled d p < 2 ^ d = (back d p low high is.small).entry_small in grind arith) in
-      let reader : reply_reader d (delivery_link d p) ≡ n = reply_to_element d low high p is.small ∙ sym is.number in
-      record {
-        zero_small = small;
-        one_small = small;
-        zero_reader = reader;
-        one_reader = reader;
-        switches_zero = λ j h same. absurd (let number = is.number in omega arith);
-        switches_one = λ j h same. absurd (let number = is.number in omega arith);
-        elements = λ q h same. let q_is : q ≡ p = omega (arith, is.number) in inl (ap (delivery_link d) q_is);
-      }
+  at_end n p is = grind (arith, reply_to_element)
 
   at_unit : (n : ℕ) (u : UnitName) (p : Ports ℕ) → IsUnit d n u
       → elim u [ unit.Switch s k ↦ Some (reply_links d s k) | unit.Module m ↦ None | unit.Element p ↦ Some (at_both (delivery_link d p)) | unit.Nothing ↦ None ] ≡ Some p → Inlets d n p

@@ -1,5 +1,5 @@
 -- What is known of the links of replies is kept.
-use Rattle.std.proofs.Common.{◌≡◌, ℕ, ◌+◌, ◌*◌, ◌^◌, ◌≤◌, Option, None, length, replicate, sym, ◌∙◌, ap}
+use Rattle.std.proofs.Common.{◌≡◌, ℕ, ◌+◌, ◌*◌, ◌^◌, ◌≤◌, Option, None, length, replicate, sym, ◌∙◌, ap, arith}
 use Rattle.std.proofs.lemmas.List.{length-replicate}
 use Rattle.ultra_msg.specs.declared.ReplyMessage.{ReplyMessage}
 use Rattle.ultra_units.specs.Numbers.{element_number}
@@ -28,9 +28,4 @@ module _ (d : ℕ) (low : 1 ≤ d) (high : d ≤ 6) (l m : Links ReplyMessage) w
 
 -- nothing has to be known of links with nothing on them
 pub no_replies : (d : ℕ) (l : Links ReplyMessage) → l.table.items ≡ replicate ((d + 1) * 2 ^ d) None → RepliesAreKnown d l
-no_replies d l is = record {
-  all = ap length is ∙ length-replicate ((d + 1) * 2 ^ d) None;
-  switches_zero = λ n h. nothing_marked l ((d + 1) * 2 ^ d) is n _;
-  switches_one = λ n h. nothing_marked l ((d + 1) * 2 ^ d) is n _;
-  elements = λ x h. nothing_marked l ((d + 1) * 2 ^ d) is (element_number d x) _;
-}
+no_replies d l is = grind (arith, length-replicate, nothing_marked)

@@ -14,7 +14,7 @@ use Rattle.ultra_units.specs.Units.{unit_of, stage_of, index_of, IsUnit, IsSwitc
 use Rattle.ultra_units.specs.Marks.{RequestsAreKnown, request_links, memory_link}
 use Rattle.ultra_units.specs.Inlets.{AreEmpty, at_both, request_inlets}
 use Rattle.ultra_units.proofs.Readers.{request_reader, request_to_module}
-use Rattle.ultra_units.proofs.Marks.{HasTaken, nothing_there, taken_marked, last_place}
+use Rattle.ultra_units.proofs.Marks.{HasTaken, nothing_there, taken_marked}
 use Rattle.ultra_units.proofs.Standing.{unit_is}
 use Rattle.ultra_units.proofs.RequestMarks.{both_links}
 
@@ -44,18 +44,7 @@ module _ (d : ℕ) (low : 1 ≤ d) (high : d ≤ 6) where
       }
 
   pub at_end : (n p : ℕ) → IsModule d n p → Inlets d n (at_both (memory_link d p))
-  at_end n p is =
-      let small : memory_link d p < (d + 1) * 2 ^ d = last_place d (2 ^ d) p low is.small in
-      let reader : request_reader d (memory_link d p) ≡ n = request_to_module d low high p is.small ∙ sym is.number in
-      record {
-        zero_small = small;
-        one_small = small;
-        zero_reader = reader;
-        one_reader = reader;
-        switches_zero = λ j h same. absurd (let number = is.number in omega arith);
-        switches_one = λ j h same. absurd (let number = is.number in omega arith);
-        modules = λ q h same. let q_is : q ≡ p = omega (arith, is.number) in inl (ap (memory_link d) q_is);
-      }
+  at_end n p is = grind (arith, request_to_module)
 
   at_unit : (n : ℕ) (u : UnitName) (p : Ports ℕ) → IsUnit d n u
       → elim u [ unit.Switch s k ↦ Some (request_links d s k) | unit.Module m ↦ Some (at_both (memory_link d m)) | unit.Element p ↦ None | unit.Nothing ↦ None ] ≡ Some p → Inlets d n p

@@ -1,5 +1,5 @@
 -- What is known of the links of requests is kept.
-use Rattle.std.proofs.Common.{◌≡◌, ℕ, ◌+◌, ◌*◌, ◌^◌, ◌≤◌, Option, None, length, replicate, sym, ◌∙◌, ap}
+use Rattle.std.proofs.Common.{◌≡◌, ℕ, ◌+◌, ◌*◌, ◌^◌, ◌≤◌, Option, None, length, replicate, sym, ◌∙◌, ap, arith}
 use Rattle.std.proofs.lemmas.List.{length-replicate}
 use Rattle.ultra_msg.specs.declared.Request.{Request}
 use Rattle.ultra_units.specs.Numbers.{module_number}
@@ -28,9 +28,4 @@ module _ (d : ℕ) (low : 1 ≤ d) (high : d ≤ 6) (l m : Links Request) where
 
 -- nothing has to be known of links with nothing on them
 pub no_requests : (d : ℕ) (l : Links Request) → l.table.items ≡ replicate ((d + 1) * 2 ^ d) None → RequestsAreKnown d l
-no_requests d l is = record {
-  all = ap length is ∙ length-replicate ((d + 1) * 2 ^ d) None;
-  switches_zero = λ n h. nothing_marked l ((d + 1) * 2 ^ d) is n _;
-  switches_one = λ n h. nothing_marked l ((d + 1) * 2 ^ d) is n _;
-  modules = λ x h. nothing_marked l ((d + 1) * 2 ^ d) is (module_number d x) _;
-}
+no_requests d l is = grind (arith, length-replicate, nothing_marked)

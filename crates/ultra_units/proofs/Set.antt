@@ -1,10 +1,10 @@
 -- Units and the bits of their words.
-use Rattle.std.proofs.Common.{◌≡◌, ℕ, zero, suc, max, min, Bool, ◌&&◌, ◌||◌, ◌+◌, ◌-◌, ◌*◌, ◌/◌, ◌%◌, ◌^◌, ◌<◌, ◌≤◌, true, false, List, length, get_or, set, eqb, refl, sym, ◌∙◌, ap, inl, inr, arith, eq-eqb, get_or-set_same, get_or-set_other, replicate, w64}
-use Rattle.std.proofs.lemmas.Bool.{cases_eq, cases_lt}
+use Rattle.std.proofs.Common.{◌≡◌, ℕ, min, Bool, ◌&&◌, ◌||◌, ◌+◌, ◌-◌, ◌*◌, ◌/◌, ◌%◌, ◌^◌, ◌<◌, ◌≤◌, true, false, List, length, get_or, set, eqb, sym, ◌∙◌, ap, inl, inr, arith, eq-eqb, get_or-set_same, get_or-set_other, replicate, w64}
+use Rattle.std.proofs.lemmas.Bool.{cases_lt}
 use Rattle.std.proofs.lemmas.List.{get_or-replicate, get_or_past, length-replicate}
 use Rattle.std.proofs.lemmas.Nat.{pow_below, shr-shr, shr_le, le_or_l, le_or_r}
 use Rattle.std.proofs.lemmas.Nat.Bits.{bit_at-zero, bit_at-lt, shr_and_one, bit_at_above, bit_at_and, bit_at_not, bit_at_or, bit_at_set_same, bit_at_set_other, bit_at_clear_same, bit_at_clear_other, bit_at-trailing_zeros}
-use Rattle.std.specs.Prelude.{bit_and, bit_or, not, ◌≢◌, Option, Some, None, IfSome, IfNone}
+use Rattle.std.specs.Prelude.{bit_and, bit_or, not, ◌≢◌, Option, IfSome, IfNone}
 use Rattle.std.specs.Int.{bit_at, bit_not, trailing_zeros}
 use Rattle.ultra_units.specs.Set.{IsBitOf, has_bit, has_unit, HasNoneWithin, HasNoneFrom, IsFirstFrom, HasNoBitFrom, IsFirstBit}
 
@@ -45,36 +45,23 @@ alone i within = let fits = pow_below i 64 within in omega (arith, fits)
 
 pub none_there : (n k : ℕ) → has_unit (replicate n 0) k ≡ false
 unfolding has_unit
-none_there n k =
-    let word : get_or (replicate n 0) (k / 64) 0 ≡ 0 =
-    elim (cases_lt (k / 64) n)
-    [ inl within ↦ get_or-replicate n (k / 64) 0 0 within | inr past ↦ get_or_past (replicate n 0) (k / 64) 0 (rw length-replicate past) ] in
-    ap (λ x. eqb (bit_at x (k % 64)) 1) word ∙ ap (λ x. eqb x 1) (bit_at-zero (k % 64))
+none_there n k = grind (arith, get_or-replicate, get_or_past, length-replicate)
 
 -- a unit past the words isn't in the set
 pub past_words : (words : List ℕ) (k : ℕ) → 64 * length words ≤ k → has_unit words k ≡ false
 unfolding has_unit
-past_words words k past =
-    ap (λ x. eqb (bit_at x (k % 64)) 1) (get_or_past words (k / 64) 0 (omega arith)) ∙ ap (λ x. eqb x 1) (bit_at-zero (k % 64))
+past_words words k past = grind (arith, get_or_past)
 
 module _ (words : List ℕ) (number : ℕ) (within : number < 64 * length words) where
   -- a word in which only the unit's bit may differ
   others_kept : (v : ℕ) → ((i : ℕ) → i < 64 → i ≢ number % 64 → bit_at v i ≡ bit_at (get_or words (number / 64) 0) i)
       → (k : ℕ) → k ≢ number → has_unit (set words (number / 64) v) k ≡ has_unit words k
   unfolding has_unit
-  others_kept v kept k other =
-      elim (cases_eq (k / 64) (number / 64)) [
-        | inl row ↦
-            ap (λ x. eqb (bit_at (get_or (set words (number / 64) v) x 0) (k % 64)) 1) row
-            ∙ ap (λ x. eqb (bit_at x (k % 64)) 1) (get_or-set_same words (number / 64) v 0 (omega arith))
-            ∙ ap (λ x. eqb x 1) (kept (k % 64) (omega arith) (λ same. other (omega arith)))
-            ∙ ap (λ x. eqb (bit_at (get_or words x 0) (k % 64)) 1) (sym row)
-        | inr apart ↦ ap (λ x. eqb (bit_at x (k % 64)) 1) (get_or-set_other words (number / 64) (k / 64) v 0 apart)
-      ]
+  others_kept v kept k other = grind (arith, get_or-set_same, get_or-set_other)
 
   read_back : (v : ℕ) → has_unit (set words (number / 64) v) number ≡ eqb (bit_at v (number % 64)) 1
   unfolding has_unit
-  read_back v = ap (λ x. eqb (bit_at x (number % 64)) 1) (get_or-set_same words (number / 64) v 0 (omega arith))
+  read_back v = grind (arith, get_or-set_same)
 
   -- the word with the unit's bit set, and the word with that bit cleared
   abbrev pub marked : ℕ
@@ -99,20 +86,17 @@ module _ (words : List ℕ) (number : ℕ) (within : number < 64 * length words)
 
   -- the same by where its bit is
   pub bit_inserted : (w b : ℕ) → IsBitOf number w b → set words w (bit_or (get_or words w 0) b) ≡ set words (number / 64) marked
-  bit_inserted w b is = rw (is.row, is.alone) (ap (λ x. set words (number / 64) (bit_or (get_or words (number / 64) 0) x)) (sym (alone (number % 64) (omega arith))))
+  bit_inserted w b is = grind (arith, alone)
 
   pub bit_removed : (w b : ℕ) → IsBitOf number w b → set words w (bit_and (get_or words w 0) (bit_not w64 b)) ≡ set words (number / 64) unmarked
-  bit_removed w b is = rw (is.row, is.alone) (ap (λ x. set words (number / 64) (bit_and (get_or words (number / 64) 0) (bit_not w64 x))) (sym (alone (number % 64) (omega arith))))
+  bit_removed w b is = grind (arith, alone)
 
 -- ---- the units of a word
 
 -- unit w * 64 + b is bit b of word w
 at_bit : (words : List ℕ) (w b : ℕ) → b < 64 → has_unit words (w * 64 + b) ≡ eqb (bit_at (get_or words w 0) b) 1
 unfolding has_unit
-at_bit words w b within =
-    let row : (w * 64 + b) / 64 ≡ w = omega arith in
-    let column : (w * 64 + b) % 64 ≡ b = omega arith in
-    rw (row, column) refl
+at_bit words w b within = grind arith
 
 -- units b to c of word w, whose bits are clear
 clear_bits : (words : List ℕ) (w b c : ℕ) → c ≤ 64 → ((i : ℕ) → b ≤ i → i < c → bit_at (get_or words w 0) i ≡ 0)
@@ -137,19 +121,13 @@ module _ (words : List ℕ) (from w b : ℕ) (place : from ≡ w * 64 + b) where
 -- ---- units one after another
 
 pub joined : (words : List ℕ) (a b c : ℕ) → HasNoneWithin words a b → HasNoneWithin words b c → HasNoneWithin words a c
-joined words a b c low high k after before =
-    elim (cases_lt k b) [ inl below ↦ low k after below | inr from ↦ high k from before ]
+joined words a b c low high k after before = grind arith
 
 pub first_after : (words : List ℕ) (a b k : ℕ) → a ≤ b → HasNoneWithin words a b → IsFirstFrom words b k → IsFirstFrom words a k
-first_after words a b k order low first = record {
-  after = omega (arith, first.after);
-  within = first.within;
-  there = first.there;
-  between = joined words a b k low first.between;
-}
+first_after words a b k order low first = grind arith
 
 pub none_after : (words : List ℕ) (a b : ℕ) → HasNoneWithin words a b → HasNoneFrom words b → HasNoneFrom words a
-none_after words a b low high k after = elim (cases_lt k b) [ inl below ↦ low k after below | inr from ↦ high k from ]
+none_after words a b low high k after = grind arith
 
 -- no unit from 320 on is in a set
 pub none_past : (words : List ℕ) → length words ≡ 5 → HasNoneFrom words 320
@@ -158,64 +136,40 @@ none_past words five k past = past_words words k (omega arith)
 -- what a search from b on has found, where no unit is within a and b
 pub found_after : (words : List ℕ) (a b : ℕ) (o : Option ℕ) → a ≤ b → HasNoneWithin words a b → IfSome o (λ k. IsFirstFrom words b k)
     → IfSome o (λ k. IsFirstFrom words a k)
-found_after words a b None order low found = found
-found_after words a b (Some k) order low found = first_after words a b k order low found
+found_after words a b o order low found = grind arith
 
 pub not_found_after : (words : List ℕ) (a b : ℕ) (o : Option ℕ) → HasNoneWithin words a b → IfNone o (HasNoneFrom words b) → IfNone o (HasNoneFrom words a)
-not_found_after words a b None low none = none_after words a b low none
-not_found_after words a b (Some k) low none = none
+not_found_after words a b o low none = grind arith
 
 -- ---- reading, uniting and taking away
 
 -- the bit of a unit, as the code reads it
 pub read_bit : (words : List ℕ) (number : ℕ) → eqb (bit_and (get_or words (number / 64) 0 / 2 ^ (number % 64)) 1) 1 ≡ has_unit words number
 unfolding has_unit
-read_bit words number = ap (λ x. eqb x 1) (shr_and_one (get_or words (number / 64) 0) (number % 64))
-
--- the greater of two bits is 1 where one of them is
-one_of : (a b : ℕ) → a < 2 → b < 2 → eqb (max a b) 1 ≡ eqb a 1 || eqb b 1
-one_of zero zero _ _ = refl
-one_of zero (suc zero) _ _ = refl
-one_of (suc zero) zero _ _ = refl
-one_of (suc zero) (suc zero) _ _ = refl
-one_of (suc (suc a)) b small _ = absurd (omega arith)
-one_of zero (suc (suc b)) _ small = absurd (omega arith)
-one_of (suc zero) (suc (suc b)) _ small = absurd (omega arith)
+read_bit words number = grind (arith, shr_and_one)
 
 pub or_bits : (a b i : ℕ) → has_bit (bit_or a b) i ≡ has_bit a i || has_bit b i
-or_bits a b i = ap (λ x. eqb x 1) (bit_at_or a b i) ∙ one_of (bit_at a i) (bit_at b i) (bit_at-lt _ _) (bit_at-lt _ _)
+or_bits a b i = grind (arith, bit_at_or)
 
 -- one is 1 and the other isn't
 one_without : (a b : ℕ) → a < 2 → b < 2 → eqb (min a (1 - b)) 1 ≡ eqb a 1 && not (eqb b 1)
-one_without zero zero _ _ = refl
-one_without zero (suc zero) _ _ = refl
-one_without (suc zero) zero _ _ = refl
-one_without (suc zero) (suc zero) _ _ = refl
-one_without (suc (suc a)) b small _ = absurd (omega arith)
-one_without zero (suc (suc b)) _ small = absurd (omega arith)
-one_without (suc zero) (suc (suc b)) _ small = absurd (omega arith)
+one_without a b small_a small_b = grind arith
 
 pub bits_left : (a b : ℕ) → b < 2 ^ 64 → (i : ℕ) → i < 64 → has_bit (bit_and a (bit_not w64 b)) i ≡ has_bit a i && not (has_bit b i)
-bits_left a b fits i within =
-    ap (λ x. eqb x 1) (bit_at_and a (bit_not w64 b) i ∙ ap (min (bit_at a i)) (bit_at_not w64 b i fits within))
-    ∙ one_without (bit_at a i) (bit_at b i) (bit_at-lt _ _) (bit_at-lt _ _)
+bits_left a b fits i within = search (arith, bit_at_and, bit_at_not, one_without, bit_at-lt)
 
 -- five words, each made of two others bit by bit
 pub bit_by_bit : (f : Bool → Bool → Bool) → f false false ≡ false → (a b c : List ℕ) → length a ≡ 5 → length b ≡ 5 → length c ≡ 5
     → ((i : ℕ) → i < 5 → (j : ℕ) → j < 64 → has_bit (get_or c i 0) j ≡ f (has_bit (get_or a i 0) j) (has_bit (get_or b i 0) j))
     → (k : ℕ) → has_unit c k ≡ f (has_unit a k) (has_unit b k)
 unfolding has_unit
-bit_by_bit f none a b c five_a five_b five_c words k =
-    elim (cases_lt (k / 64) 5) [
-      | inl below ↦ words (k / 64) below (k % 64) (omega arith)
-      | inr past ↦ past_words c k (omega arith) ∙ sym none ∙ rw (past_words a k (omega arith), past_words b k (omega arith)) refl
-    ]
+bit_by_bit f none a b c five_a five_b five_c words k = grind (arith, past_words)
 
 -- ---- a set without any unit
 
 empty_word : (words : List ℕ) (k : ℕ) → get_or words (k / 64) 0 ≡ 0 → has_unit words k ≡ false
 unfolding has_unit
-empty_word words k none = ap (λ x. eqb (bit_at x (k % 64)) 1) none ∙ ap (λ x. eqb x 1) (bit_at-zero (k % 64))
+empty_word words k none = grind arith
 
 -- numbers whose union is 0 are 0
 none_of_both : (a b : ℕ) → bit_or a b ≡ 0 → (a ≡ 0) × (b ≡ 0)
@@ -226,20 +180,7 @@ module _ (words : List ℕ) (five : length words ≡ 5) where
   row_at k row is none = empty_word words k (ap (λ i. get_or words i 0) is ∙ none)
 
   pub none_past_first : bit_or (bit_or (bit_or (get_or words 1 0) (get_or words 2 0)) (get_or words 3 0)) (get_or words 4 0) ≡ 0 → HasNoneFrom words 64
-  none_past_first none k one =
-      let to_three = none_of_both _ _ none in
-      let to_two = none_of_both _ _ to_three.0 in
-      let to_one = none_of_both _ _ to_two.0 in
-      elim (cases_lt k 128) [
-        | inl below ↦ row_at k 1 (omega arith) to_one.0
-        | inr two ↦ elim (cases_lt k 192) [
-          | inl below ↦ row_at k 2 (omega arith) to_one.1
-          | inr three ↦ elim (cases_lt k 256) [
-            | inl below ↦ row_at k 3 (omega arith) to_two.1
-            | inr four ↦ elim (cases_lt k 320) [ inl below ↦ row_at k 4 (omega arith) to_three.1 | inr past ↦ past_words words k (omega arith) ]
-          ]
-        ]
-      ]
+  none_past_first none k one = grind (arith, none_of_both, row_at, past_words)
 
   pub none_in_words : get_or words 0 0 ≡ 0 → HasNoneFrom words 64 → HasNoneFrom words 0
-  none_in_words none others k _ = elim (cases_lt k 64) [ inl below ↦ row_at k 0 (omega arith) none | inr past ↦ others k past ]
+  none_in_words none others k past = grind (arith, row_at)

@@ -24,4 +24,4 @@ none_visited f t = refl
 
 pub visited_next : {T : Type 0} (f : ℕ → T → T) (old now after : T) (k : ℕ) → now ≡ after_units f k old → after ≡ f k now → after ≡ after_units f (k + 1) old
 unfolding after_units
-visited_next f old now after k is made = made ∙ ap (f k) is ∙ ap (λ n. after_units f n old) (let next : suc k ≡ k + 1 = omega arith in next)
+visited_next f old now after k is made = grind arith

@@ -3,8 +3,7 @@ use Rattle.ultra_units.proofs.Visits.{skipped, visited_next, none_visited}
 use Rattle.ultra_units.proofs.pass.visit_some.Goals as goal
 
 pub loop-unit-init : goal.loop-unit-init
-loop-unit-init g c =
-    (omega arith, none_visited (g.V.Visit.visited c.args.visit.now) c.args.target.now, λ k _ within. c.requires k within)
+loop-unit-init g c = grind (arith, none_visited)
 
 pub loop-unit-preserved : goal.loop-unit-preserved
 loop-unit-preserved g c =

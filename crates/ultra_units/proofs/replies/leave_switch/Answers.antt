@@ -1,13 +1,11 @@
-use Rattle.std.proofs.Common.{◌^◌, arith, ◌∙◌, ap, sym}
-use Rattle.ultra_units.proofs.Put.{place_small}
+use Rattle.std.proofs.lemmas.Grind.{common_steps}
+use Rattle.std.proofs.Common.{arith, ◌∙◌, ap, sym}
 use Rattle.ultra_units.proofs.Readers.{reply_reader, reply_of_stage}
 use Rattle.ultra_units.proofs.ReplyMarks.{known_put}
 use Rattle.ultra_units.proofs.replies.leave_switch.Goals as goal
 
 pub put-requires : goal.put-requires
-put-requires c =
-    let (s, x, stage, within, link, target) = c.requires.leads in
-    record { link = rw (c.requires.known.all, link) (place_small c.args.net (2 ^ c.args.net) s x stage within); target = c.requires.small }
+put-requires c = grind (arith, common_steps)
 
 pub returns-clause-known : goal.returns-clause-known
 returns-clause-known c =

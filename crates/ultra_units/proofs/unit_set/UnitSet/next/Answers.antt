@@ -3,8 +3,7 @@ use Rattle.ultra_units.proofs.Set.{first_in_word, found_after, not_found_after, 
 use Rattle.ultra_units.proofs.unit_set.UnitSet.next.Goals as goal
 
 pub returns-then-from-ge-UNITS-clause-none : goal.returns-then-from-ge-UNITS-clause-none
-returns-then-from-ge-UNITS-clause-none c =
-    λ k after. none_past c.args.self.now (rw (← c.self.view_is) (omega arith)) k (omega arith)
+returns-then-from-ge-UNITS-clause-none c = grind (arith, none_past)
 
 pub returns-in-Some-clause-some : goal.returns-in-Some-clause-some
 returns-in-Some-clause-some c =

@@ -1,5 +1,5 @@
 use Rattle.std.proofs.Common.{◌*◌, arith}
-use Rattle.ultra_units.proofs.Set.{first_in_word, first_after, joined, none_after, none_in_word, none_past}
+use Rattle.ultra_units.proofs.Set.{first_in_word, first_after, joined, none_in_word, none_past}
 use Rattle.ultra_units.proofs.unit_set.UnitSet.next_of_words.Goals as goal
 
 pub returns-in-Some-clause-some : goal.returns-in-Some-clause-some
@@ -17,7 +17,4 @@ loop-word-preserved c =
     (none_in_word now (word * 64) word 0 (omega arith) (rw (← c.self.view_is) c.in_default.ensures.none))
 
 pub returns-clause-none : goal.returns-clause-none
-returns-clause-none c =
-    let now = c.args.self.now in
-    none_after now (c.args.first * 64) 320 (λ k after before. c.loop-word.invariant k after (omega arith))
-    (none_past now (rw (← c.self.view_is) (omega arith)))
+returns-clause-none c = grind (arith, none_past)

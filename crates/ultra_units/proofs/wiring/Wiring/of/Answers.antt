@@ -1,9 +1,9 @@
-use Rattle.std.proofs.Common.{refl, arith}
+use Rattle.std.proofs.Common.{arith}
 use Rattle.ultra_units.proofs.Beside.{one_more}
 use Rattle.ultra_units.proofs.wiring.Wiring.of.Goals as goal
 
 pub loop-number-init : goal.loop-number-init
-loop-number-init c = rw (c.in_ok-switches.ensures.items) record { all = refl; each = λ n x within. absurd (omega arith) }
+loop-number-init c = grind arith
 
 pub loop-number-preserved : goal.loop-number-preserved
 loop-number-preserved c =
