@@ -1,5 +1,5 @@
 use Rattle.std.proofs.lemmas.Grind.{common_steps}
-use Rattle.std.proofs.Common.{◌≡◌, [], Some, ap, sym, arith}
+use Rattle.std.proofs.Common.{◌≡◌, Some, ap, sym, arith}
 use Rattle.std.specs.Prelude.{is_some, not}
 use Rattle.std.proofs.lemmas.List.{append-nil}
 use Rattle.ultra_switch.specs.Arrive.{combine_within, after_arrival}
