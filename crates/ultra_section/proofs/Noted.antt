@@ -1,4 +1,4 @@
--- What is noted of a switch once messages have come to it or left it: its queues are longer then, or shorter. And what is noted of a module.
+-- What is noted of a switch or a module once messages have come to it or left it: the queues of the switch are longer then, or shorter.
 use Rattle.std.proofs.Common.{◌≡◌, ℕ, ◌+◌, ◌≤◌, List, ◌++◌, Bool, true, false, Option, Some, length, length-append, sym, ◌∙◌, arith}
 use Rattle.std.specs.Prelude.{not, nat_le, ◌==◌, ◌&&◌}
 use Rattle.std.proofs.lemmas.Bool.Decides.{nat_tests}
@@ -37,7 +37,7 @@ shorter o xs = grind arith
 longer : {X : Type 0} (xs ys zs : List X) → length xs ≤ length ((xs ++ ys) ++ zs)
 longer xs ys zs = omega (arith, length-append xs ys, length-append (xs ++ ys) zs)
 
--- ---- a switch of which facts are known
+-- ---- what is known of a switch, once it has changed
 module _ (f : UnitFacts) (w : Switch) (known : KnowsSwitch f (Some w)) where
   pub requests_came : (d s : ℕ) (first second : Option Request) → HasMoreRequests f (after_both d s w first second)
   requests_came d s first second =
@@ -77,7 +77,7 @@ module _ (f : UnitFacts) (w : Switch) (known : KnowsSwitch f (Some w)) where
         full = λ was. unless _ _ (both_full_more 4 _ _ _ _ _ _ zero one) (sym known.no_reply_room ∙ was);
       }
 
--- ---- a module of which facts are known
+-- ---- what is known of a module, once it has changed
 
 pub out_kept : (n : ℕ) (b : Bank) (o : Option Request) → (bank_with n b o).out ≡ b.out
 out_kept n b o = grind arith
