@@ -28,7 +28,7 @@ team workers w tasks = filter (is_of_worker workers w) tasks
 abbrev pub AreTeams : ℕ → List (Vec Task Global) → List BlockState → Type 0
 AreTeams workers teams bs =
     (w : ℕ) (d : Vec Task Global) → w < workers
-        → (slice_index_or teams w d).items ≡ team workers w (tasks_from 0 bs)
+    → (slice_index_or teams w d).items ≡ team workers w (tasks_from 0 bs)
 
 -- and these are teams of all workers, to which nothing is dealt yet
 pub record AreEmptyTeams (workers : ℕ) (teams : List (Vec Task Global)) : Type 0 where

@@ -48,5 +48,5 @@ module _ (c : Settings) (program : List Instr) (n a : ℕ) where
 abbrev pub HotSpotLaw : Type 0
 HotSpotLaw =
     (c : Settings) → AreInRange c → 1 ≤ c.wait_places → (program : List Instr) (n a : ℕ)
-        → AreAllAt c a (after c program n)
+    → AreAllAt c a (after c program n)
     → (served : Request) × (tree : Tree) × IsHotSpot c program n a served tree

@@ -50,5 +50,5 @@ module _ (c : Settings) (program : List Instr) (n a : ℕ) where
 abbrev pub WaveLaw : Type 0
 WaveLaw =
     (c : Settings) → AreInRange c → 1 ≤ c.wait_places → (program : List Instr) (n a : ℕ)
-        → AreAllAt c a (after c program n)
+    → AreAllAt c a (after c program n)
     → (served : Request) × AreServedAtOnce c program n a served
