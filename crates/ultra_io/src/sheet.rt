@@ -13,7 +13,7 @@ pub const PAGE_BYTES: usize = 65536;
 const PAIRS: &[u8; 200] =
     b"00010203040506070809101112131415161718192021222324252627282930313233343536373839404142434445464748495051525354555657585960616263646566676869707172737475767778798081828384858687888990919293949596979899";
 
-/// The bytes of a page, of which the first `filled` wait. The others have no meaning.
+/// The bytes of a page: the first `filled` of them wait, and the others mean nothing.
 #[derive(Drop)]
 pub(crate) struct Sheet {
     pub(crate) filled: usize,
