@@ -1,20 +1,16 @@
 -- The units of one block: those below a number have gone to the blocks that a partition names.
-use Rattle.std.proofs.lemmas.Grind.{common_steps}
-use Rattle.std.proofs.Common.{◌≡◌, ◌≢◌, ℕ, ◌+◌, ◌^◌, ◌<◌, List, Option, None, length, set, replicate, refl, ◌∙◌, ap, arith, get_or-set_same, get_or-set_other}
-use Rattle.std.proofs.lemmas.List.{length-replicate, length-set}
-use Rattle.ultra_switch.specs.declared.Switch.{Switch}
-use Rattle.ultra_mem.specs.Serve.{Bank}
-use Rattle.ultra_units.specs.Numbers.{switch_count, unit_count, module_number, element_number}
-use Rattle.ultra_halves.specs.declared.elements.ProcessingElement.{ProcessingElement}
-use Rattle.ultra_section.specs.Links.{put_on}
-use Rattle.ultra_section.specs.BlockState.{BlockState, switch_at, module_at, element_at}
+use Rattle.std.proofs.Common.{◌≡◌, ◌≢◌, ℕ, ◌+◌, ◌<◌, ◌≤◌, List, None, length, set, arith, get_or-set_same, get_or-set_other}
+use Rattle.std.specs.Prelude.{◌==◌}
+use Rattle.std.proofs.lemmas.List.{length-set}
+use Rattle.ultra_units.proofs.Marks.{length-put_on}
+use Rattle.ultra_units.proofs.Put.{put_apart, put_there}
+use Rattle.ultra_section.specs.BlockState.{BlockState}
 use Rattle.ultra_section.specs.Building.{with_unit, without_unit}
 use Rattle.ultra_section.specs.Shape.{IsShaped}
-use Rattle.ultra_section.proofs.OfKind.{by_kind, without_switch, without_module, without_element, with_switch, with_module, with_element}
 use Rattle.ultra_cut.specs.Cut.{block_at, home, no_block}
 use Rattle.ultra_cut.specs.Halves.{OfEach}
-use Rattle.ultra_block.specs.Dealt.{AreCarried, HasOnlyUnits, ListsSame, empty_after}
-use Rattle.ultra_block.proofs.Tables as table
+use Rattle.ultra_cut.proofs.Units.{Sort, switches, modules, elements}
+use Rattle.ultra_block.specs.Dealt.{HasOnlyUnits, ListsSame, only_if}
 
 -- ---- one block put for another
 module _ (bs : List BlockState) (h : ℕ) (x : BlockState) (within : h < length bs) where
@@ -32,110 +28,70 @@ module _ (bs : List BlockState) (h : ℕ) (x : BlockState) (within : h < length 
   pub of_each_now : (P : BlockState → Type 0) → P x → OfEach P bs → OfEach P (set bs h x)
   of_each_now P new old k small = grind (arith, block_now, block_still, length-set)
 
+-- ---- what the way of unit n from one block to another does to the units of a sort
+record Moves {X : Type 0} (sort : Sort X) (d : ℕ) : Type 0 where
+  own : (i : ℕ) (from to : BlockState) → from.stages ≡ d → IsShaped d to → i < sort.count d
+      → sort.at to i ≡ None → sort.at (with_unit (sort.number d i) from to) i ≡ sort.at from i
+  other : (n i : ℕ) (from to : BlockState) → from.stages ≡ d → i < sort.count d
+      → sort.number d i ≢ n → sort.at (with_unit n from to) i ≡ sort.at to i
+  stays : (n i : ℕ) (b : BlockState) → b.stages ≡ d → i < sort.count d
+      → sort.number d i ≢ n → sort.at (without_unit n b) i ≡ sort.at b i
+
+switches_move : (d : ℕ) → Moves switches d
+switches_move d = grind (arith, put_there, put_apart, get_or-set_other)
+
+modules_move : (d : ℕ) → Moves modules d
+modules_move d = grind (arith, put_there, put_apart, get_or-set_other)
+
+elements_move : (d : ℕ) → Moves elements d
+elements_move d = grind (arith, put_there, put_apart, get_or-set_other)
+
 module _ (d : ℕ) (partition : List ℕ) (b : BlockState) (blocks : ℕ) where
   -- a block without units but for those of a machine of d stages
   pub record IsBare (x : BlockState) : Type 0 where
-    pub stages : x.stages ≡ d
+    pub shaped : IsShaped d x
     pub only : HasOnlyUnits d b.program b.done x
+
+  -- of the units of a sort those with numbers below n stand in their blocks, and the others are left
+  pub record SortIsCarried {X : Type 0} (sort : Sort X) (n : ℕ) (left : BlockState) (now : List BlockState) : Type 0 where
+    pub rest : (i : ℕ) → i < sort.count d → n ≤ sort.number d i → sort.at left i ≡ sort.at b i
+    pub there : (k i : ℕ) → k < blocks → i < sort.count d → sort.number d i < n
+        → sort.at (block_at now k) i ≡ only_if (home partition (sort.number d i) == k) (sort.at b i)
+    pub nowhere : (k i : ℕ) → k < blocks → i < sort.count d → n ≤ sort.number d i → sort.at (block_at now k) i ≡ None
 
   pub record AreCarriedBelow (n : ℕ) (left : BlockState) (now : List BlockState) : Type 0 where
     pub stages : left.stages ≡ d
     pub story : ListsSame left b
     pub count : length now ≡ blocks
     pub bare : OfEach IsBare now
-    pub switches : table.AreCarried partition (λ i. i) (switch_count d) blocks n b.switches left.switches (λ k. (block_at now k).switches)
-    pub modules : table.AreCarried partition (module_number d) (2 ^ d) blocks n b.modules left.modules (λ k. (block_at now k).modules)
-    pub elements : table.AreCarried partition (element_number d) (2 ^ d) blocks n b.elements left.elements (λ k. (block_at now k).elements)
-
-  -- ---- at first
-  module _ (shape : IsShaped d b) where
-    pub none_carried : AreCarriedBelow 0 b (replicate blocks (empty_after d b.program b.done))
-    none_carried = grind (arith, common_steps)
+    pub switches : SortIsCarried switches n left now
+    pub modules : SortIsCarried modules n left now
+    pub elements : SortIsCarried elements n left now
 
   -- ---- one unit more
   module _ (n : ℕ) (left : BlockState) (now : List BlockState) (within : home partition n < blocks) (was : AreCarriedBelow n left now) where
     abbrev h : ℕ
     h = home partition n
 
-    abbrev x : BlockState
-    x = block_at now h
+    abbrev y : BlockState
+    y = with_unit n left (block_at now h)
 
     there : h < length now
     there = let e = was.count in omega arith
 
-    -- the block stays as it is but for its units
-    still_bare : (ws : List (Option Switch)) (ms : List (Option Bank)) (es : List (Option ProcessingElement)) → IsBare (record x { switches = ws; modules = ms; elements = es })
-    still_bare ws ms es = grind arith
+    sort_carried : {X : Type 0} (sort : Sort X) → Moves sort d → SortIsCarried sort n left now → SortIsCarried sort (n + 1) (without_unit n left) (set now h y)
+    sort_carried sort moves carried = grind (arith, block_now, block_still)
 
-    switch_carried : n < switch_count d
-        → AreCarriedBelow (n + 1) (record left { switches = set left.switches n None }) (set now h (record x { switches = put_on x.switches n (switch_at left.switches n) }))
-    switch_carried small =
-        let y : BlockState = record x { switches = put_on x.switches n (switch_at left.switches n) } in
-        record {
-          stages = was.stages;
-          story = record { events = was.story.events; stops = was.story.stops };
-          count = length-set now h y ∙ was.count;
-          bare = of_each_now now h y there IsBare (still_bare (put_on x.switches n (switch_at left.switches n)) x.modules x.elements) was.bare;
-          switches = table.one_carried partition (λ i. i) (switch_count d) blocks n n b.switches left.switches (λ k. (block_at now k).switches) (λ k. (block_at (set now h y) k).switches) refl small (λ i e. e) within was.switches
-              (ap (λ (z : BlockState). z.switches) (block_now now h y there)) (λ k other. ap (λ (z : BlockState). z.switches) (block_still now h y there k other));
-          modules = table.other_carried partition (module_number d) (2 ^ d) blocks n b.modules left.modules left.modules (λ k. (block_at now k).modules) (λ k. (block_at (set now h y) k).modules) (λ i hi e. absurd (omega arith)) refl
-              (same_part now h y there (λ (z : BlockState). z.modules) refl) was.modules;
-          elements = table.other_carried partition (element_number d) (2 ^ d) blocks n b.elements left.elements left.elements (λ k. (block_at now k).elements) (λ k. (block_at (set now h y) k).elements) (λ i hi e. absurd (omega arith)) refl
-              (same_part now h y there (λ (z : BlockState). z.elements) refl) was.elements;
-        }
+    still_bare : IsBare y
+    still_bare = grind (arith, length-put_on)
 
-    module_carried : (m : ℕ) → m < 2 ^ d → module_number d m ≡ n
-        → AreCarriedBelow (n + 1) (record left { modules = set left.modules m None }) (set now h (record x { modules = put_on x.modules m (module_at left.modules m) }))
-    module_carried m small is =
-        let y : BlockState = record x { modules = put_on x.modules m (module_at left.modules m) } in
-        record {
-          stages = was.stages;
-          story = record { events = was.story.events; stops = was.story.stops };
-          count = length-set now h y ∙ was.count;
-          bare = of_each_now now h y there IsBare (still_bare x.switches (put_on x.modules m (module_at left.modules m)) x.elements) was.bare;
-          switches = table.other_carried partition (λ i. i) (switch_count d) blocks n b.switches left.switches left.switches (λ k. (block_at now k).switches) (λ k. (block_at (set now h y) k).switches) (λ i hi e. absurd (omega arith)) refl
-              (same_part now h y there (λ (z : BlockState). z.switches) refl) was.switches;
-          modules = table.one_carried partition (module_number d) (2 ^ d) blocks n m b.modules left.modules (λ k. (block_at now k).modules) (λ k. (block_at (set now h y) k).modules) is small (λ i e. omega arith) within was.modules
-              (ap (λ (z : BlockState). z.modules) (block_now now h y there)) (λ k other. ap (λ (z : BlockState). z.modules) (block_still now h y there k other));
-          elements = table.other_carried partition (element_number d) (2 ^ d) blocks n b.elements left.elements left.elements (λ k. (block_at now k).elements) (λ k. (block_at (set now h y) k).elements) (λ i hi e. absurd (omega arith)) refl
-              (same_part now h y there (λ (z : BlockState). z.elements) refl) was.elements;
-        }
-
-    element_carried : (p : ℕ) → p < 2 ^ d → element_number d p ≡ n
-        → AreCarriedBelow (n + 1) (record left { elements = set left.elements p None }) (set now h (record x { elements = put_on x.elements p (element_at left.elements p) }))
-    element_carried p small is =
-        let y : BlockState = record x { elements = put_on x.elements p (element_at left.elements p) } in
-        record {
-          stages = was.stages;
-          story = record { events = was.story.events; stops = was.story.stops };
-          count = length-set now h y ∙ was.count;
-          bare = of_each_now now h y there IsBare (still_bare x.switches x.modules (put_on x.elements p (element_at left.elements p))) was.bare;
-          switches = table.other_carried partition (λ i. i) (switch_count d) blocks n b.switches left.switches left.switches (λ k. (block_at now k).switches) (λ k. (block_at (set now h y) k).switches) (λ i hi e. absurd (omega arith)) refl
-              (same_part now h y there (λ (z : BlockState). z.switches) refl) was.switches;
-          modules = table.other_carried partition (module_number d) (2 ^ d) blocks n b.modules left.modules left.modules (λ k. (block_at now k).modules) (λ k. (block_at (set now h y) k).modules) (λ i hi e. absurd (omega arith)) refl
-              (same_part now h y there (λ (z : BlockState). z.modules) refl) was.modules;
-          elements = table.one_carried partition (element_number d) (2 ^ d) blocks n p b.elements left.elements (λ k. (block_at now k).elements) (λ k. (block_at (set now h y) k).elements) is small (λ i e. omega arith) within was.elements
-              (ap (λ (z : BlockState). z.elements) (block_now now h y there)) (λ k other. ap (λ (z : BlockState). z.elements) (block_still now h y there k other));
-        }
-
-  carried_as : (n : ℕ) (left : BlockState) (now : List BlockState) (l x : BlockState) → AreCarriedBelow (n + 1) l (set now (home partition n) x) → without_unit n left ≡ l
-      → with_unit n left (block_at now (home partition n)) ≡ x → AreCarriedBelow (n + 1) (without_unit n left) (set now (home partition n) (with_unit n left (block_at now (home partition n))))
-  carried_as n left now l x carried left_is now_is = grind arith
-
-  pub unit_carried : (n : ℕ) → n < unit_count d → (left : BlockState) (now : List BlockState) → home partition n < blocks → AreCarriedBelow n left now
-      → AreCarriedBelow (n + 1) (without_unit n left) (set now (home partition n) (with_unit n left (block_at now (home partition n))))
-  unit_carried =
-      by_kind d (λ n. n < unit_count d → (left : BlockState) (now : List BlockState) → home partition n < blocks → AreCarriedBelow n left now
-      → AreCarriedBelow (n + 1) (without_unit n left) (set now (home partition n) (with_unit n left (block_at now (home partition n)))))
-      (λ n is small left now within was.
-      carried_as n left now _ _ (switch_carried n left now within was is) (without_switch d left was.stages n is) (with_switch d left was.stages (block_at now (home partition n)) n is))
-      (λ m is small left now within was.
-      carried_as (module_number d m) left now _ _ (module_carried (module_number d m) left now within was m is refl) (without_module d left was.stages m is) (with_module d left was.stages (block_at now (home partition (module_number d m))) m is))
-      (λ p is small left now within was.
-      carried_as (element_number d p) left now _ _ (element_carried (element_number d p) left now within was p is refl) (without_element d left was.stages p is)
-      (with_element d left was.stages (block_at now (home partition (element_number d p))) p is))
-      (λ n past small left now within was. absurd (omega arith))
-
-  -- ---- in the end
-  pub all_carried : (left : BlockState) (now : List BlockState) → AreCarriedBelow (unit_count d) left now → AreCarried d partition b now
-  all_carried left now was = grind (arith, length-replicate)
+    pub unit_carried : AreCarriedBelow (n + 1) (without_unit n left) (set now h y)
+    unit_carried = record {
+      stages = grind arith;
+      story = grind arith;
+      count = grind (arith, length-set);
+      bare = of_each_now now h y there IsBare still_bare was.bare;
+      switches = sort_carried switches (switches_move d) was.switches;
+      modules = sort_carried modules (modules_move d) was.modules;
+      elements = sort_carried elements (elements_move d) was.elements;
+    }

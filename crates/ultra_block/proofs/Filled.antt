@@ -1,5 +1,6 @@
 -- a module filled with the initial values, one after the other
 use Rattle.std.proofs.Common.{◌≡◌, ◌≢◌, ℕ, zero, suc, ◌+◌, ◌*◌, ◌/◌, ◌%◌, ◌<◌, List, [], ◌∷◌, ◌++◌, true, false, refl, arith, ap, ◌∙◌, get_or, set, replicate}
+use Rattle.std.proofs.Math.Nat.{div-lt_iff_lt-mul}
 use Rattle.std.specs.Prelude.{◌==◌, ◌⊎◌, map}
 use Rattle.std.specs.List.{range_with_len}
 use Rattle.std.proofs.lemmas.List.{same_lists, length-set, get_or-set_same, get_or-set_other}
@@ -10,6 +11,10 @@ use Rattle.ultra_model.specs.Machine.{given_value}
 use Rattle.ultra_model.proofs.Each.{places_at, length-places}
 use Rattle.ultra_mem.specs.Serve.{new_bank}
 use Rattle.ultra_block.specs.Fresh.{filled}
+
+-- the cell of an address
+pub cell_within : (size n a : ℕ) → 0 < size → a < size * n → a / size < n
+cell_within size n a some small = (div-lt_iff_lt-mul some).1 (omega arith)
 
 -- one more address: its value is the last
 given_more : (xs : List (ℕ × ℕ)) (x : ℕ × ℕ) (a v : ℕ) → given_value (xs ++ x ∷ []) a v ≡ elim (x.0 == a) [ true ↦ x.1 | false ↦ given_value xs a v ]
@@ -37,8 +42,8 @@ module _ (size m n : ℕ) (small : m < size) where
   cells_past : (xs : List (ℕ × ℕ)) (x : ℕ × ℕ) → x.0 % size ≢ m → values xs ≡ values (xs ++ x ∷ [])
   cells_past xs x h = grind (arith, mod-mul-add, given_past)
 
-  pub fill_here : (xs : List (ℕ × ℕ)) (x : ℕ × ℕ) → x.0 % size ≡ m → x.0 / size < n → record (filled size m n xs) { cells = set (filled size m n xs).cells (x.0 / size) x.1 } ≡ filled size m n (xs ++ x ∷ [])
-  fill_here xs x h b = ap (λ cs. record (filled size m n xs) { cells = cs }) (cells_here xs x h b)
+  pub fill_here : (xs : List (ℕ × ℕ)) (x : ℕ × ℕ) → x.0 % size ≡ m → x.0 < size * n → record (filled size m n xs) { cells = set (filled size m n xs).cells (x.0 / size) x.1 } ≡ filled size m n (xs ++ x ∷ [])
+  fill_here xs x h b = ap (λ cs. record (filled size m n xs) { cells = cs }) (cells_here xs x h (cell_within size n x.0 (omega arith) b))
 
   pub fill_past : (xs : List (ℕ × ℕ)) (x : ℕ × ℕ) → x.0 % size ≢ m → filled size m n xs ≡ filled size m n (xs ++ x ∷ [])
   fill_past xs x h = ap (λ cs. record (filled size m n xs) { cells = cs }) (cells_past xs x h)

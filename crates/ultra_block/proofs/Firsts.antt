@@ -1,28 +1,29 @@
--- The lists of the first blocks, one more with each block.
-use Rattle.std.proofs.lemmas.Grind.{common_steps}
-use Rattle.std.proofs.Common.{◌≡◌, ℕ, ◌+◌, ◌<◌, ◌≤◌, All, arith, List, [], ◌∷◌, ◌++◌, map, take, length, get_or, sym, subst}
+-- What blocks list, as a merge takes it and gives it.
+use Rattle.std.proofs.Common.{◌≡◌, ℕ, ◌<◌, All, arith, List, map}
 use Rattle.std.proofs.lemmas.List.{get_or-map, length-map}
-use Rattle.std.specs.List.Sorted.{IsNonDecreasing, IsNonDecreasingBy}
+use Rattle.std.specs.List.Sorted.{IsNonDecreasing}
 use Rattle.ultra_model.specs.declared.Stop.{Stop}
 use Rattle.ultra_section.specs.BlockState.{BlockState}
 use Rattle.ultra_cut.specs.Events.{event_rank, events_of, stops_of}
+use Rattle.ultra_cut.specs.InOrder.{IsInOrder}
 use Rattle.ultra_merge.specs.Merging.{IsRanked, merged}
 use Rattle.ultra_merge.proofs.Merged.{merged_of}
 
-pub one_more : {X Y : Type 0} (f : X → Y) (xs : List X) (i : ℕ) (x d : X) (ys : List Y) → i < length xs → x ≡ get_or xs i d → ys ≡ map f (take i xs)
-    → ys ++ f x ∷ [] ≡ map f (take (i + 1) xs)
-one_more f xs i x d ys within is are = grind (arith, common_steps)
-
 -- what ascends by rank, as a merge takes it
-by_rank : {X : Type 0} (n : X → ℕ) (xs : List X) → IsNonDecreasing (map n xs) → IsNonDecreasingBy n xs
-by_rank n xs ascends i j d order within =
-    let small : i < length xs = omega arith in
-    subst (λ k. k ≤ n (get_or xs j d)) (get_or-map n xs i d (n d) small)
-    (subst (λ k. get_or (map n xs) i (n d) ≤ k) (get_or-map n xs j d (n d) within)
-    (ascends i j (n d) order (subst (λ k. j < k) (sym (length-map xs n)) within)))
+is_ranked : {X : Type 0} (n : X → ℕ) (count : ℕ) (xs : List X) → IsNonDecreasing (map n xs) → All (λ x. n x < count) xs → IsRanked n count xs
+is_ranked n count xs ascends within = record {
+  ascends = λ i j d order inside.
+      let step = ascends i j (n d) order (omega (arith, length-map xs n)) in
+      grind (arith, get_or-map);
+  within = within;
+}
 
-pub is_ranked : {X : Type 0} (n : X → ℕ) (count : ℕ) (xs : List X) → IsNonDecreasing (map n xs) → All (λ x. n x < count) xs → IsRanked n count xs
-is_ranked n count xs ascends within = record { ascends = by_rank n xs ascends; within = within }
+module _ (d : ℕ) (b : BlockState) (order : IsInOrder d b) where
+  pub events_ranked : IsRanked (event_rank d) 1280 b.events
+  events_ranked = is_ranked (event_rank d) 1280 b.events order.events order.ranks
+
+  pub stops_ranked : IsRanked (λ (s : Stop). s.pe) 64 b.stops
+  stops_ranked = is_ranked (λ (s : Stop). s.pe) 64 b.stops order.stops order.elements
 
 -- the events and the stops of blocks are the merge of their lists
 pub merged_events : (d : ℕ) (bs : List BlockState) → merged (event_rank d) 1280 (map (λ (b : BlockState). b.events) bs) ≡ events_of d bs

@@ -1,8 +1,10 @@
 -- One block that holds all units of a machine before its first cycle is the machine at its start.
-use Rattle.std.proofs.Common.{◌≡◌, ℕ, ◌+◌, ◌*◌, ◌^◌, ◌<◌, List, [], ◌∷◌, Some, None, true, length, refl, ◌∙◌, ap, arith}
+use Rattle.std.proofs.Common.{◌≡◌, ℕ, ◌^◌, ◌<◌, List, [], ◌∷◌, Some, None, true, ap, arith}
 use Rattle.std.proofs.lemmas.List.{get_or-replicate, get_or_past, length-replicate}
 use Rattle.ultra_isa.specs.declared.Instr.{Instr}
-use Rattle.ultra_model.specs.Machine.{Settings, given_value, size, start}
+use Rattle.ultra_msg.specs.declared.Event.{Event}
+use Rattle.ultra_model.specs.declared.Stop.{Stop}
+use Rattle.ultra_model.specs.Machine.{Settings, Machine, size, start}
 use Rattle.ultra_model.specs.Ranges.{AreInRange}
 use Rattle.ultra_model.proofs.Each.{length-places, places_at}
 use Rattle.ultra_model.proofs.Sound.{sound-start}
@@ -12,7 +14,7 @@ use Rattle.ultra_section.specs.BlockState.{BlockState, switch_at, module_at, ele
 use Rattle.ultra_section.specs.Building.{empty_block}
 use Rattle.ultra_section.proofs.OfKind.{by_kind, switch_stands, module_stands}
 use Rattle.ultra_course.specs.Frame.{Frame, AreAlike, IsClear}
-use Rattle.ultra_course.specs.Whole.{Fits, IsFrameOf, empty_switch, emptied, whole}
+use Rattle.ultra_course.specs.Whole.{IsFrameOf, empty_switch, whole}
 use Rattle.ultra_course.proofs.AtFrame.{whole_alike}
 use Rattle.ultra_cut.specs.Cut.{IsCut, block_at, home}
 use Rattle.ultra_cut.specs.Halves.{AreBlocks}
@@ -22,11 +24,13 @@ use Rattle.ultra_block.specs.Fresh.{IsFresh, first_bank, first_element, first_el
 pub home_is_zero : (d n : ℕ) → home (one_block d) n ≡ 0
 home_is_zero d n = grind (arith, get_or-replicate, get_or_past, length-replicate)
 
-pub only_one : (P : ℕ → BlockState → Type 0) (b : BlockState) → P 0 b → (k : ℕ) → k < 1 → P k (block_at (b ∷ []) k)
-only_one P b p k h = grind arith
-
 pub block_is : (d : ℕ) (b : BlockState) (n : ℕ) → block_at (b ∷ []) (home (one_block d) n) ≡ b
 block_is d b n = ap (block_at (b ∷ [])) (home_is_zero d n)
+
+-- frames that are alike are the same machine
+pub frame_alike : (c : Settings) (n : ℕ) (f g : Frame) (events : List Event) (stops : List Stop) (m : Machine)
+    → AreAlike c.stages f g → IsFrameOf c n g events stops m → IsFrameOf c n f events stops m
+frame_alike c n f g events stops m alike is = grind (arith, whole_alike)
 
 -- ---- the machine before its first cycle
 abbrev pub block_at_start : Settings → List Instr → BlockState
@@ -63,24 +67,17 @@ module _ (c : Settings) (program : List Instr) (range : AreInRange c) where
   alike : AreAlike d (frame_of_one d first_block) first_frame
   alike = grind (arith, switch_is, module_is, element_is, get_or-replicate)
 
-  fits : Fits c 0 (frame_of_one d first_block)
-  fits = record {
-    switches = λ k h. ap emptied (alike.switches k h);
-    cells = λ k h. ap (λ b. length b.cells) (alike.banks k h) ∙ length-places c.cells (λ o. given_value c.initial (o * size c + k) 0);
-    sites = λ p h. ap (λ e. e.processor.site) (alike.elements p h);
-    most_open = λ p h. ap (λ e. e.interface.most_open) (alike.elements p h);
-    issued = λ p h. let none = ap (λ e. e.issued) (alike.elements p h) in omega arith;
-  }
-
   first_is_start : whole c first_frame 0 [] [] ≡ start c
   unfolding start whole
   first_is_start = grind arith
 
   pub is_start : IsFrameOf c 0 (frame_of_one d first_block) [] [] (start c)
-  is_start = record { range = range; fits = fits; machine = whole_alike c range (frame_of_one d first_block) first_frame alike 0 [] [] ∙ first_is_start; sound = sound-start c range }
+  is_start =
+      frame_alike c 0 (frame_of_one d first_block) first_frame [] [] (start c) alike
+      (record { range = range; fits = grind (arith, length-places); machine = first_is_start; sound = sound-start c range })
 
   pub is_clear : IsClear d (frame_of_one d first_block)
   is_clear = record { replies = alike.replies; requests = alike.requests }
 
-  pub is_fresh : IsFresh c program (block_at_start c program)
-  is_fresh = record { runs = refl; blocks = are_blocks; done = refl; events = refl; stops = refl; machine = is_start; clear = is_clear }
+  pub is_fresh : (b : BlockState) → b ≡ first_block → IsFresh c program b
+  is_fresh b is = grind (arith, are_blocks, is_start, is_clear)

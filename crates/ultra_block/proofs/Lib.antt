@@ -9,7 +9,6 @@ pub mod Turn
 pub mod Filled
 pub mod Placed
 pub mod FreshBlock
-pub mod Tables
 pub mod Carried
 pub mod Listing
 pub mod Parted

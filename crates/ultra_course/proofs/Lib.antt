@@ -1,10 +1,8 @@
 pub mod Numbers
 pub mod AtFrame
 pub mod Replies
-pub mod Others
 pub mod Regroup
 pub mod Requests
-pub mod Fitting
 pub mod Admitted
 pub mod Steps
 pub mod Law

@@ -1,4 +1,5 @@
 -- a table of lists by stage and position, joined, and the same by the numbers of the switches
+use Rattle.std.proofs.lemmas.Grind.{common_steps}
 use Rattle.std.proofs.Common.{◌≡◌, ℕ, zero, suc, ◌+◌, ◌*◌, ◌-◌, ◌^◌, List, [], ◌∷◌, ◌++◌, refl, arith, ap, ◌∙◌, sym, append_assoc, append-nil}
 use Rattle.ultra_model.specs.Places.{places, table, joined}
 use Rattle.ultra_model.proofs.Each.{places_none, places_more}
@@ -8,32 +9,27 @@ use Rattle.ultra_course.proofs.AtFrame.{same_places}
 
 joined-append : {X : Type 0} (xss yss : List (List X)) → joined (xss ++ yss) ≡ joined xss ++ joined yss
 joined-append [] yss = refl
-joined-append (xs ∷ rest) yss = ap (λ ys. xs ++ ys) (joined-append rest yss) ∙ sym (append_assoc xs (joined rest) (joined yss))
+joined-append (xs ∷ rest) yss = grind (arith, common_steps, joined-append rest yss)
 
-joined_none : {X : Type 0} (g : ℕ → List X) → joined (places 0 g) ≡ []
+pub joined_none : {X : Type 0} (g : ℕ → List X) → joined (places 0 g) ≡ []
 joined_none g = ap (λ xss. joined xss) (places_none g)
 
 -- one list more
-joined_next : {X : Type 0} (g : ℕ → List X) (i n : ℕ) → i ≡ n + 1 → joined (places i g) ≡ joined (places n g) ++ g n
+pub joined_next : {X : Type 0} (g : ℕ → List X) (i n : ℕ) → i ≡ n + 1 → joined (places i g) ≡ joined (places n g) ++ g n
 joined_next g i n e = grind (arith, places_more, joined-append, append-nil)
 
 -- n lists, and then k more
-joined_split : {X : Type 0} (n k : ℕ) (g : ℕ → List X) → joined (places (n + k) g) ≡ joined (places n g) ++ joined (places k (λ i. g (n + i)))
-joined_split n zero g =
-    let none : n + 0 ≡ n = omega arith in
-    let front = joined (places n g) in
-    ap (λ i. joined (places i g)) none ∙ sym (append-nil front) ∙ ap (λ xs. front ++ xs) (sym (joined_none (λ i. g (n + i))))
+pub joined_split : {X : Type 0} (n k : ℕ) (g : ℕ → List X) → joined (places (n + k) g) ≡ joined (places n g) ++ joined (places k (λ i. g (n + i)))
+joined_split n zero g = grind (arith, append-nil, joined_none)
 joined_split n (suc k) g =
-    let front = joined (places n g) in
-    let rest = joined (places k (λ i. g (n + i))) in
     joined_next g (n + suc k) (n + k) (omega arith)
     ∙ ap (λ xs. xs ++ g (n + k)) (joined_split n k g)
-    ∙ append_assoc front rest (g (n + k))
-    ∙ ap (λ xs. front ++ xs) (sym (joined_next (λ i. g (n + i)) (suc k) k (omega arith)))
+    ∙ append_assoc (joined (places n g)) (joined (places k (λ i. g (n + i)))) (g (n + k))
+    ∙ ap (λ xs. joined (places n g) ++ xs) (sym (joined_next (λ i. g (n + i)) (suc k) k (omega arith)))
 
 -- two by two
 pairs : {X : Type 0} (h n : ℕ) (g : ℕ → List X) → n ≡ 2 * h → joined (places n g) ≡ joined (places h (λ k. g (2 * k) ++ g (2 * k + 1)))
-pairs zero n g e = ap (λ i. joined (places i g)) e ∙ joined_none g ∙ sym (joined_none (λ k. g (2 * k) ++ g (2 * k + 1)))
+pairs zero n g e = grind (arith, joined_none)
 pairs (suc h) n g e =
     let both = λ (k : ℕ). g (2 * k) ++ g (2 * k + 1) in
     joined_next g n (2 * h + 1) (omega (arith, e))

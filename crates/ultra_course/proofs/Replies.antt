@@ -1,5 +1,5 @@
 -- replies that are sent and taken make up the definition's reply phase
-use Rattle.std.proofs.Common.{◌≡◌, ◌≢◌, ℕ, ◌+◌, ◌*◌, ◌-◌, ◌/◌, ◌%◌, ◌^◌, ◌<◌, ◌≤◌, List, [], ◌++◌, true, false, refl, arith, ap, ◌∙◌, sym, ⊎_elim}
+use Rattle.std.proofs.Common.{◌≡◌, ◌≢◌, ℕ, ◌+◌, ◌*◌, ◌-◌, ◌/◌, ◌%◌, ◌^◌, ◌<◌, ◌≤◌, List, [], refl, arith, ap, ◌∙◌, sym, ⊎_elim}
 use Rattle.std.specs.Prelude.{◌==◌, Option, slice_get}
 use Rattle.std.proofs.lemmas.Bool.{eq-eqb, ne_eqb, cases_eq}
 use Rattle.ultra_msg.specs.declared.ReplyMessage.{ReplyMessage}
@@ -11,20 +11,20 @@ use Rattle.ultra_switch.specs.declared.Switch.{Switch}
 use Rattle.ultra_switch.specs.declared.WaitRecord.{WaitRecord}
 use Rattle.ultra_switch.specs.Arrive.{Lane}
 use Rattle.ultra_model.specs.declared.Stop.{Stop}
-use Rattle.ultra_model.specs.Places.{places, present, after_leaving}
+use Rattle.ultra_model.specs.Places.{places, present}
 use Rattle.ultra_model.specs.Machine.{Settings, Machine, size, last_stage, replies_at, bank_at, element_at}
 use Rattle.ultra_model.specs.Ranges.{AreInRange}
 use Rattle.ultra_model.specs.Phases.{delivery, deliver, without_reply, records_left, replies_made, has_reply_room, reply_before, arriving_reply, leaving_reply, replies_at_exit, next_replies, lane_after_split, delivered, reply_phase}
 use Rattle.ultra_model.proofs.Neighbours.{next_is, itself}
-use Rattle.ultra_units.specs.Numbers.{switch_number, element_number, place_number, reply_source, reply_target}
-use Rattle.ultra_halves.specs.Halves.{ports, where_room, going_by, lane_after_reply, replies_without, with_arrived}
+use Rattle.ultra_units.specs.Numbers.{switch_number, place_number, reply_source}
+use Rattle.ultra_halves.specs.Halves.{ports, where_room, going_by, lane_after_reply}
 use Rattle.ultra_halves.specs.Switches.{replies_leaving, without_replies, after_replies}
 use Rattle.ultra_halves.specs.Elements.{element_of}
 use Rattle.ultra_course.specs.Ports.{at_port}
 use Rattle.ultra_course.specs.Frame.{Frame, Rooms, AreRooms, AreAlike}
 use Rattle.ultra_course.specs.Course.{reply_goes, replies_go, replies_from, reply_from, replies_to, reply_to, sends_replies, takes_replies, deliveries}
 use Rattle.ultra_course.specs.Whole.{sized_lane, sized_replies, whole, Fits}
-use Rattle.ultra_course.proofs.Numbers.{pick_true, pick_false, at_two, at_both, at_places, at_even, at_odd, at_number, with_came, number_small, at_link, behind}
+use Rattle.ultra_course.proofs.Numbers.{pick_true, at_places, at_even, at_odd, at_number, with_came, number_small, at_link, behind}
 use Rattle.ultra_course.proofs.AtFrame.{same_places, same_machine, lane_is, replies_is, bank_is, element_is, half_small, even_small, odd_small, at_switches, reply_room_is, same_table}
 
 pub same_test : (a b y j : ℕ) → y ≡ a + j → (b == j) ≡ (a + b == y)
@@ -67,17 +67,10 @@ module _ (c : Settings) (f : Frame) (n : ℕ) (events : List Event) (stops : Lis
 
   leaves_on : (s y : ℕ) → s < d → s ≢ 0 → y < size c → where_room (reply_goes d rooms s y) (head s y) ≡ leaving_reply c m s y
   leaves_on s y hs hz hy =
-      let t : (s == 0) ≡ false = ne_eqb s 0 hz in
-      let past : s - 1 ≢ last = omega (arith, hs, hz) in
-      let x = unshuffled d y in
       let b = back d y low high hy in
-      let e : s - 1 + 1 ≡ s = omega (arith, hz) in
-      let before : reply_before c m (s - 1) x ≡ head s y =
-      pick_false (s - 1 == last) (bank_at m x).out (head (s - 1 + 1) (shuffled d x)) (ne_eqb (s - 1) last past) ∙ ap (λ s. head s (shuffled d x)) e ∙ ap (λ y. head s y) b.forth in
-      ap (λ b. where_room b (head s y)) (pick_false (s == 0) true (rooms.reply (reply_target d s y)) t ∙ ap (λ n. rooms.reply n) (pick_false (s == 0) (element_number d x) (switch_number d (s - 1) (x / 2)) t) ∙ room_is (s - 1) x (omega (arith, hs, hz)) b.line_small)
-      ∙ ap (λ o. where_room (has_reply_room c m (s - 1) (x / 2)) o) (sym before)
-      ∙ arriving_where (s - 1) x
-      ∙ sym (pick_false (s == 0) (head s y) (arriving_reply c m (s - 1) x) t)
+      let room = room_is (s - 1) (unshuffled d y) (omega (arith, hs, hz)) b.line_small in
+      let arrives = arriving_where (s - 1) (unshuffled d y) in
+      grind (arith, ne_eqb)
 
   leaves : (s y : ℕ) → s < d → y < size c → where_room (reply_goes d rooms s y) (head s y) ≡ leaving_reply c m s y
   leaves s y hs hy = ⊎_elim (λ e. ap (λ s. where_room (reply_goes d rooms s y) (head s y)) e ∙ ap (λ s. leaving_reply c m s y) (sym e)) (λ h. leaves_on s y hs h hy) (cases_eq s 0)
@@ -108,12 +101,8 @@ module _ (c : Settings) (f : Frame) (n : ℕ) (events : List Event) (stops : Lis
   comes_on : (s x : ℕ) → s + 1 < d → x < size c → sent.replies (place_number d (s + 1) (shuffled d x)) ≡ arriving_reply c m s x
   comes_on s x hs hx =
       let b = back d x low high hx in
-      let y = shuffled d x in
-      let e : s + 1 - 1 ≡ s = omega arith in
-      on_link (s + 1) y hs b.entry_small
-      ∙ pick_false (s + 1 == 0) (head (s + 1) y) (arriving_reply c m (s + 1 - 1) (unshuffled d y)) (next_is s)
-      ∙ ap (λ s. arriving_reply c m s (unshuffled d y)) e
-      ∙ ap (λ x. arriving_reply c m s x) b.back
+      let on = on_link (s + 1) (shuffled d x) hs b.entry_small in
+      grind (arith, next_is)
 
   pub comes : (s x : ℕ) → s < d → x < size c → sent.replies (reply_source d s x) ≡ arriving_reply c m s x
   comes s x hs hx = grind (arith, pick_true, eq-eqb, comes_last, ne_eqb, comes_on)
@@ -148,23 +137,15 @@ module _ (c : Settings) (f : Frame) (n : ℕ) (events : List Event) (stops : Lis
 
   replies_after : (s y : ℕ) → s < d → y < size c → (sized_replies c after s y).replies ≡ next_replies c m s y
   replies_after s y hs hy =
-      let k = y / 2 in
-      let j = y % 2 in
-      let w = f.switch (switch_number d s k) in
-      let out = replies_from d rooms f (switch_number d s k) in
-      let lanes = w.to_mm in
-      let came = arrived s k in
+      let k : ℕ = y / 2 in
+      let lanes = (f.switch (switch_number d s k)).to_mm in
       let records : ℕ → ℕ → List WaitRecord = λ k j. (at_port (f.switch (switch_number d s k)).to_mm j).lane.records in
-      let made : List WaitRecord → ℕ → List ReplyMessage = λ ws x. going_by d s j (replies_made ws (arriving_reply c m s x)) in
-      let queue : List ReplyMessage → List ReplyMessage → List ReplyMessage → List ReplyMessage = λ q a b. q ++ a ++ b in
-      let gone = leaving_reply c m s y in
-      ap (λ (v : Switch). (at_port v.to_pe j).replies) (switch_after s k hs (half y hy))
-      ∙ ap (λ q. q.replies) (at_both (λ j q. with_arrived d s j lanes came q) (left (switch_number d s k)).to_pe y)
-      ∙ ap (λ q. (with_arrived d s j lanes came q).replies) (at_two (λ q o. replies_without q o) w.to_pe out j)
-      ∙ ap (λ o. (with_arrived d s j lanes came (replies_without (at_port w.to_pe j) o)).replies) (leaving_is s y hs hy)
-      ∙ ap (λ q. queue (after_leaving gone q) (made lanes.zero.lane.records (2 * k)) (made lanes.one.lane.records (2 * k + 1))) (sym (replies_is c f n events stops s y hs hy))
-      ∙ ap (λ a. queue (after_leaving gone (replies_at m s y)) a (made lanes.one.lane.records (2 * k + 1))) (made_at s (2 * k) y lanes.zero.lane.records hs (even_small c range k (half y hy)) (omega arith) (sym (at_even records k)))
-      ∙ ap (λ b. queue (after_leaving gone (replies_at m s y)) (replies_at_exit c m s (2 * k) y) b) (made_at s (2 * k + 1) y lanes.one.lane.records hs (odd_small c range k (half y hy)) (omega arith) (sym (at_odd records k)))
+      let now = switch_after s k hs (half y hy) in
+      let gone = leaving_is s y hs hy in
+      let was = replies_is c f n events stops s y hs hy in
+      let even = made_at s (2 * k) y lanes.zero.lane.records hs (even_small c range k (half y hy)) (omega arith) (sym (at_even records k)) in
+      let odd = made_at s (2 * k + 1) y lanes.one.lane.records hs (odd_small c range k (half y hy)) (omega arith) (sym (at_odd records k)) in
+      grind arith
 
   bank_after : (k : ℕ) → k < size c → after.bank k ≡ without_reply (bank_at m k) (arriving_reply c m last k)
   bank_after k hk = grind (arith, bank_sends, bank_is)

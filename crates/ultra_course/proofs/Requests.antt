@@ -1,6 +1,6 @@
 -- requests that are sent and taken make up the definition's request phase
-use Rattle.std.proofs.Common.{◌≡◌, ◌≢◌, ℕ, ◌+◌, ◌*◌, ◌-◌, ◌/◌, ◌%◌, ◌^◌, ◌<◌, ◌≤◌, List, ◌++◌, false, refl, arith, ap, ◌∙◌, sym, ⊎_elim}
-use Rattle.std.specs.Prelude.{◌==◌, Option, Some, None, slice_get}
+use Rattle.std.proofs.Common.{◌≡◌, ◌≢◌, ℕ, ◌+◌, ◌*◌, ◌-◌, ◌/◌, ◌%◌, ◌^◌, ◌<◌, ◌≤◌, List, ◌++◌, refl, arith, ap, ◌∙◌, sym, ⊎_elim}
+use Rattle.std.specs.Prelude.{◌==◌, Option, Some, None}
 use Rattle.std.proofs.lemmas.Bool.{eq-eqb, ne_eqb, cases_eq}
 use Rattle.ultra_msg.specs.declared.Request.{Request}
 use Rattle.ultra_msg.specs.declared.Event.{Event}
@@ -9,15 +9,14 @@ use Rattle.ultra_route.proofs.Table.{back, sizes}
 use Rattle.ultra_switch.specs.declared.Ports.{Ports}
 use Rattle.ultra_switch.specs.declared.Switch.{Switch}
 use Rattle.ultra_switch.specs.Arrive.{Lane}
-use Rattle.ultra_switch.specs.Queues.{request_of}
 use Rattle.ultra_model.specs.declared.Stop.{Stop}
-use Rattle.ultra_model.specs.Places.{table, joined, after_leaving}
-use Rattle.ultra_model.specs.Machine.{Settings, Machine, Element, size, last_stage, lane_at, bank_at, element_at, request_exit}
+use Rattle.ultra_model.specs.Places.{table, joined}
+use Rattle.ultra_model.specs.Machine.{Settings, Machine, size, last_stage, bank_at, element_at, request_exit}
 use Rattle.ultra_model.specs.Ranges.{AreInRange}
 use Rattle.ultra_model.specs.Phases as phase
 use Rattle.ultra_model.specs.Phases.{without_pending, with_request, arrive_all, has_request_room, request_before, admitted, arriving_request, entering, leaving_request, requests_by, arrivals_by, lane_after_leaving, next_lane, request_phase}
 use Rattle.ultra_model.proofs.Neighbours.{next_is, itself}
-use Rattle.ultra_units.specs.Numbers.{switch_number, switch_count, module_number, place_number, request_source, request_target}
+use Rattle.ultra_units.specs.Numbers.{switch_number, switch_count, place_number, request_source}
 use Rattle.ultra_halves.specs.Halves.{ports, where_room, lane_without, lane_with, coming_to, arrivals}
 use Rattle.ultra_halves.specs.Switches.{first_request, request_heads, requests_leaving, without_requests, after_requests, combinations_at, combinations_of}
 use Rattle.ultra_halves.specs.Elements.{element_of}
@@ -57,11 +56,8 @@ module _ (c : Settings) (f : Frame) (n : ℕ) (events : List Event) (stops : Lis
   pub room_is : (s y : ℕ) (r : Request) → s < d → y < size c → rooms.request (switch_number d s (y / 2)) (bit_of (d - 1 - s) (r.cell % 2 ^ d)) ≡ has_request_room c m s (request_exit c s y r)
   room_is s y r hs hy =
       let two = (sizes d low high).0 in
-      let x = request_exit c s y r in
-      let bit = bit_of (d - 1 - s) (r.cell % 2 ^ d) in
-      let row : y / 2 ≡ x / 2 = omega arith in
-      let port : bit ≡ x % 2 = omega arith in
-      ap (λ k. rooms.request (switch_number d s k) bit) row ∙ ap (λ j. rooms.request (switch_number d s (x / 2)) j) port ∙ request_room_is c f n events stops range fits rooms noted s x hs (omega (arith, two, hy))
+      let room = request_room_is c f n events stops range fits rooms noted s (request_exit c s y r) hs (omega (arith, two, hy)) in
+      grind arith
 
   finds_is : (s y : ℕ) (r : Request) → s < d → y < size c → where_room (finds_room d rooms s (switch_number d s (y / 2)) r) (Some r) ≡ admitted c m s y (Some r)
   finds_is s y r hs hy = ap (λ b. where_room b (Some r)) (room_is s y r hs hy)
@@ -81,11 +77,11 @@ module _ (c : Settings) (f : Frame) (n : ℕ) (events : List Event) (stops : Lis
 
   element_sends : (p : ℕ) → p < size c → request_from d rooms f p ≡ arriving_request c m 0 (shuffled d p)
   element_sends p hp =
-      let y = shuffled d p in
-      let o = pending_head (f.element p) in
-      let before : request_before c m 0 y ≡ o =
-      ap (λ p. slice_get (element_at m p).interface.pending 0) (back d p low high hp).back ∙ ap (λ (e : Element). slice_get e.interface.pending 0) (element_is c f n events stops p hp) in
-      goes_in p o hp ∙ ap (λ o. admitted c m 0 y o) (sym before) ∙ arriving_as 0 y
+      let b = back d p low high hp in
+      let was = element_is c f n events stops p hp in
+      let goes = goes_in p (pending_head (f.element p)) hp in
+      let arrives = arriving_as 0 (shuffled d p) in
+      grind arith
 
   -- the first request of the last stage enters its module
   goes_to_module : (s x : ℕ) (o : Option Request) → s ≡ last → where_room (request_goes d rooms s x o) o ≡ where_room (rooms.bank x) o
@@ -98,22 +94,16 @@ module _ (c : Settings) (f : Frame) (n : ℕ) (events : List Event) (stops : Lis
   goes_on : (s x : ℕ) (o : Option Request) → s ≢ last → s + 1 < d → x < size c → where_room (request_goes d rooms s x o) o ≡ admitted c m (s + 1) (shuffled d x) o
   goes_on s x None h hs hx = refl
   goes_on s x (Some r) h hs hx =
-      let t : (s == last) ≡ false = ne_eqb s last h in
-      ap (λ b. where_room b (Some r)) (pick_false (s == last) (rooms.bank x) (finds_room d rooms (s + 1) (request_target d s x) r) t)
-      ∙ ap (λ q. where_room (finds_room d rooms (s + 1) q r) (Some r)) (pick_false (s == last) (module_number d x) (switch_number d (s + 1) (shuffled d x / 2)) t)
-      ∙ finds_is (s + 1) (shuffled d x) r hs (back d x low high hx).entry_small
+      let found = finds_is (s + 1) (shuffled d x) r hs (back d x low high hx).entry_small in
+      grind (arith, ne_eqb)
 
   next_sends : (s x : ℕ) → s ≢ last → s + 1 < d → x < size c → where_room (request_goes d rooms s x (head s x)) (head s x) ≡ arriving_request c m (s + 1) (shuffled d x)
   next_sends s x h hs hx =
       let b = back d x low high hx in
-      let y = shuffled d x in
-      let e : s + 1 - 1 ≡ s = omega arith in
-      let queue : ℕ → ℕ → Option Request = λ s x. request_of (slice_get (lane_at m s x).queue 0) in
-      let before : request_before c m (s + 1) y ≡ head s x =
-      pick_false (s + 1 == 0) (slice_get (element_at m (unshuffled d y)).interface.pending 0) (queue (s + 1 - 1) (unshuffled d y)) (next_is s)
-      ∙ ap (λ s. queue s (unshuffled d y)) e ∙ ap (λ x. queue s x) b.back
-      ∙ ap (λ (l : Lane). request_of (slice_get l.queue 0)) (lane_is c f n events stops s x (omega (arith, hs)) hx) in
-      goes_on s x (head s x) h hs hx ∙ ap (λ o. admitted c m (s + 1) y o) (sym before) ∙ arriving_as (s + 1) y
+      let was = lane_is c f n events stops s x (omega (arith, hs)) hx in
+      let on = goes_on s x (head s x) h hs hx in
+      let arrives = arriving_as (s + 1) (shuffled d x) in
+      grind (arith, next_is)
 
   leaves : (s x : ℕ) → s < d → x < size c → where_room (request_goes d rooms s x (head s x)) (head s x) ≡ leaving_request c m s x
   leaves s x hs hx =
@@ -173,15 +163,12 @@ module _ (c : Settings) (f : Frame) (n : ℕ) (events : List Event) (stops : Lis
       → (let l = at_port (left (switch_number d s (x / 2))).to_mm (x % 2) in g l.wait_places l.lane (arrivals d s (x % 2) n (arrived s (x / 2)))) ≡ g c.wait_places (lane_after_leaving c m s x) (phase.arrivals c m s x)
   left_with g s x hs hx =
       let w = f.switch (switch_number d s (x / 2)) in
-      let out = requests_from d rooms f (switch_number d s (x / 2)) in
-      let due = arrivals d s (x % 2) n (arrived s (x / 2)) in
-      let l = sized_lane c f s x in
-      let gone = leaving_request c m s x in
-      ap (λ l. g l.wait_places l.lane due) (at_two (λ l o. lane_without l o) w.to_mm out (x % 2))
-      ∙ ap (λ o. g l.wait_places (lane_without l o).lane due) (leaving_is s x hs hx)
-      ∙ ap (λ rs. g l.wait_places (lane_without l gone).lane rs) (due_is s x)
-      ∙ ap (λ w. g w (lane_without l gone).lane (phase.arrivals c m s x)) (sizes_of c f n events stops range fits s (x / 2) (x % 2) hs (half x hx)).waits
-      ∙ ap (λ (l : Lane). let v : Lane = record { queue = after_leaving gone l.queue; records = l.records } in g c.wait_places v (phase.arrivals c m s x)) (sym (lane_is c f n events stops s x hs hx))
+      let gone = leaving_is s x hs hx in
+      let due = due_is s x in
+      let waits = (sizes_of c f n events stops range fits s (x / 2) (x % 2) hs (half x hx)).waits in
+      let was = lane_is c f n events stops s x hs hx in
+      let left = at_two (λ l o. lane_without l o) w.to_mm (requests_from d rooms f (switch_number d s (x / 2))) (x % 2) in
+      grind arith
 
   -- ---- each place after it
   -- what is made of a switch and what came to it

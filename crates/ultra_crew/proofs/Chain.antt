@@ -2,33 +2,26 @@
 use Rattle.std.proofs.Common.{◌≡◌, ℕ, ◌+◌, ◌*◌, ◌^◌, ◌<◌, ◌≤◌, List, [], ◌∷◌, None, length, map, arith, refl, sym, ◌∙◌, ap, subst}
 use Rattle.std.proofs.lemmas.List.{ext_get_or, length-map}
 use Rattle.ultra_isa.specs.declared.Instr.{Instr}
-use Rattle.ultra_switch.specs.declared.Switch.{Switch}
 use Rattle.ultra_model.specs.Machine.{Settings}
 use Rattle.ultra_units.specs.Numbers.{module_number, switch_count, unit_count}
-use Rattle.ultra_mem.specs.Serve.{Bank, empty_bank}
-use Rattle.ultra_halves.specs.Switches.{has_reply_room, has_request_room}
-use Rattle.ultra_model.specs.Machine.{is_nothing}
+use Rattle.ultra_mem.specs.Serve.{empty_bank}
 use Rattle.ultra_section.specs.declared.half.Half.{Half}
 use Rattle.ultra_section.specs.declared.half.Half.TheVariants.{SendReplies, TakeReplies, Serve, SendRequests, TakeRequests, Execute}
 use Rattle.ultra_section.specs.declared.rooms.Rooms.{Rooms as BlockRooms}
 use Rattle.ultra_section.specs.BlockState.{BlockState, module_at, switch_at}
 use Rattle.ultra_section.specs.RepliesSent.{begun}
 use Rattle.ultra_section.specs.Making.{made}
-use Rattle.ultra_course.specs.Ports.{at_port}
 use Rattle.ultra_course.specs.Frame.{AreRooms}
 use Rattle.ultra_cut.specs.Cut.{block_at, frame_of, given, home, no_block, no_switch}
 use Rattle.ultra_cut.specs.Exchange.{AreRepliesThere, AreRequestsThere, OnlyRepliesMove, OnlyRequestsMove}
 use Rattle.ultra_cut.specs.Halves.{AreBlocks, all_made, noted}
 use Rattle.ultra_cut.proofs.Numbers.{few_units}
-use Rattle.ultra_cut.proofs.RepliesMoved as replies_moved
-use Rattle.ultra_cut.proofs.RequestsMoved as requests_moved
-use Rattle.ultra_cut.specs.Events.{events_of, stops_of}
-use Rattle.ultra_cut.proofs.ReplyColumns.{changed_at}
-use Rattle.ultra_cut.proofs.RepliesSent.{replies_sent}
-use Rattle.ultra_cut.proofs.RequestsSent.{requests_sent}
+use Rattle.ultra_cut.specs.declared.kind.Kind.TheVariants.{Replies, Requests}
+use Rattle.ultra_cut.proofs.Moved.{still_blocks}
+use Rattle.ultra_cut.proofs.Columns.{changed_at}
+use Rattle.ultra_cut.proofs.Sent.{replies_sent, requests_sent}
 use Rattle.ultra_cut.specs.Whole.{AreRoomsOfAll}
-use Rattle.ultra_cut.specs.Moments.{AreWhole, machine_in}
-use Rattle.ultra_cut.proofs.Replied as replied
+use Rattle.ultra_cut.specs.Moments.{AreWhole}
 use Rattle.ultra_cut.proofs.Whole as whole
 use Rattle.ultra_crew.specs.Exchanged.{replies_exchanged, requests_exchanged}
 use Rattle.ultra_crew.specs.Start.{first_blocks, state_of}
@@ -63,11 +56,7 @@ module _ (d : ℕ) (partition : List ℕ) (bs : List BlockState) (blocks : AreBl
   bank_begun m h = ap (λ (b : BlockState). given empty_bank (module_at b.modules m)) (home_of (module_number d m) (omega arith))
 
   rooms_begun : (rooms : BlockRooms) → AreRooms d (frame_of d partition (map begun bs)) (noted d rooms) → AreRooms d (frame_of d partition bs) (noted d rooms)
-  rooms_begun rooms are = record {
-    reply = λ n h. are.reply n h ∙ ap has_reply_room (switch_begun n h);
-    request = λ n j h small. are.request n j h small ∙ ap (λ (w : Switch). at_port (has_request_room w) j) (switch_begun n h);
-    bank = λ m h. are.bank m h ∙ ap (λ (b : Bank). is_nothing b.inp) (bank_begun m h);
-  }
+  rooms_begun rooms are = grind (arith, switch_begun, bank_begun)
 
 few_switches : (d : ℕ) → 1 ≤ d → d ≤ 6 → switch_count d + 2 ^ d ≤ 320
 few_switches d low high = let few = few_units d low high in omega (arith, few)
@@ -125,7 +114,7 @@ module _ (c : Settings) (partition : List ℕ) (n : ℕ) (program : List Instr) 
 
     replies_come : replies ≡ replies_exchanged d partition (with_replies_sent d partition program from)
     replies_come =
-        replies_are d low high partition sent replies moved replies_there (replies_moved.still_blocks d low high partition sent replies moved sent_blocks)
+        replies_are d low high partition sent replies moved replies_there (still_blocks d partition sent replies Replies moved sent_blocks)
         ∙ ap (replies_exchanged d partition) replies_sent_so
 
     module _ (taken : List BlockState) (taken_is : taken ≡ all_made TakeReplies first program replies) where
@@ -151,16 +140,14 @@ module _ (c : Settings) (partition : List ℕ) (n : ℕ) (program : List Instr) 
         served_clear : (l : ℕ) → l < (d + 1) * 2 ^ d → (frame_of d partition served).requests l ≡ None
         served_clear =
             subst (λ xs. (l : ℕ) → l < (d + 1) * 2 ^ d → (frame_of d partition xs).requests l ≡ None) (sym whole_served)
-            (replied.served_clear c partition n (events_of d bs) (stops_of d bs) (machine_in c partition n bs) program bs start.machine start.clear first first_room replies moved_whole replies_there).requests
+            (whole.served_clear c partition n program bs start first first_room replies moved_whole replies_there).requests
 
         module _ (second : BlockRooms) (second_noted : AreRoomsOfAll served second) (passed : List BlockState) (passed_is : passed ≡ all_made SendRequests second program served) where
           second_room : AreRooms d (frame_of d partition served) (noted d second)
           second_room = second_noted d partition served_blocks
 
           second_word_room : AreRooms d (frame_of d partition served) (noted d (second_rooms d partition program from))
-          second_word_room =
-              subst (λ xs. AreRooms d (frame_of d partition xs) (noted d (second_rooms d partition program from))) (sym memory_served_so)
-              (are_rooms d (few_switches d low high) (frame_of d partition (with_memory_served d partition program from)))
+          second_word_room = search (arith, memory_served_so, are_rooms, few_switches)
 
           pub requests_sent_so : passed ≡ with_requests_sent d partition program from
           unfolding with_requests_sent
@@ -178,7 +165,7 @@ module _ (c : Settings) (partition : List ℕ) (n : ℕ) (program : List Instr) 
             requests_come : requests ≡ requests_exchanged d partition (with_requests_sent d partition program from)
             requests_come =
                 requests_are d low high partition passed requests moved_on (subst (λ k. AreRequestsThere k partition requests) net there_now)
-                (requests_moved.still_blocks d low high partition passed requests moved_on passed_blocks)
+                (still_blocks d partition passed requests Requests moved_on passed_blocks)
                 ∙ ap (requests_exchanged d partition) requests_sent_so
 
             module _ (waiting : List BlockState) (waiting_is : waiting ≡ all_made TakeRequests second program requests) where

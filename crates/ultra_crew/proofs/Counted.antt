@@ -1,5 +1,5 @@
 -- Cycles that are made one after another, and the course of the workers.
-use Rattle.std.proofs.Common.{◌≡◌, ℕ, zero, suc, ◌+◌, ◌-◌, List, refl, arith, ap, ◌∙◌, sym, subst}
+use Rattle.std.proofs.Common.{◌≡◌, ℕ, zero, suc, ◌+◌, List, refl, arith, ap, ◌∙◌, sym}
 use Rattle.ultra_isa.specs.declared.Instr.{Instr}
 use Rattle.ultra_model.specs.Machine.{Machine, Settings}
 use Rattle.ultra_model.specs.Phases.{cycle, memory_phase, processor_phase, reply_phase, request_phase}
@@ -43,10 +43,7 @@ first_then c program (suc n) m = ap (cycle c program) (first_then c program n m)
 -- ---- courses
 pub own_course : (workers : ℕ) (b : BlocksState) → IsCourse (course_of workers b) b.program workers b
 unfolding course_of
-own_course workers b = record {
-  program_is = refl;
-  results_are = λ n h w. let e : b.machine.cycles + n - b.machine.cycles ≡ n = omega arith in ap (λ k. results_in workers (later k b) h w) e;
-}
+own_course workers b = grind arith
 
 module _ (results : ℕ → Half → ℕ → List Task) (program : List Instr) (workers : ℕ) (b : BlocksState) (course : IsCourse results program workers b) where
   pub results_now : (h : Half) (w : ℕ) → results b.machine.cycles h w ≡ results_in workers b h w
@@ -55,12 +52,4 @@ module _ (results : ℕ → Half → ℕ → List Task) (program : List Instr) (
       ap (λ k. results k h w) e ∙ course.results_are 0 h w ∙ ap (λ x. results_in workers x h w) (sym (none_later b))
 
   pub course_goes_on : (next : BlocksState) → next ≡ record b { machine = cycle b.config b.program b.machine } → IsCourse results program workers next
-  course_goes_on next is =
-      subst (IsCourse results program workers) (sym is) record {
-        program_is = course.program_is;
-        results_are = λ n h w.
-            let once = cycles_one b.config b.program b.machine in
-            let e : (cycle b.config b.program b.machine).cycles + n ≡ b.machine.cycles + suc n = omega (arith, once) in
-            ap (λ k. results k h w) e ∙ course.results_are (suc n) h w
-            ∙ ap (λ m. results_in workers (record b { machine = m }) h w) (sym (first_then b.config b.program n b.machine));
-      }
+  course_goes_on next is = grind (arith, cycles_one, first_then)

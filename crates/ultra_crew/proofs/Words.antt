@@ -1,6 +1,6 @@
 -- The words of a machine's rooms name the units that have none.
-use Rattle.std.proofs.Common.{◌≡◌, ℕ, zero, suc, ◌+◌, ◌-◌, ◌*◌, ◌/◌, ◌%◌, ◌^◌, ◌<◌, ◌≤◌, Bool, true, false, refl, ◌∙◌, ap, inl, inr, arith, eqb, lt-ltb, le-ltb}
-use Rattle.std.specs.Prelude.{not, is_some, nat_lt}
+use Rattle.std.proofs.Common.{◌≡◌, ℕ, zero, suc, ◌+◌, ◌-◌, ◌*◌, ◌^◌, ◌<◌, ◌≤◌, Bool, true, false, refl, ◌∙◌, ap, inl, inr, arith, eqb, lt-ltb, le-ltb}
+use Rattle.std.specs.Prelude.{not, is_some}
 use Rattle.std.proofs.lemmas.Bool.{cases_lt}
 use Rattle.std.proofs.lemmas.Nat.Bits.{bit_at_cat_low, bit_at_cat_high}
 use Rattle.std.proofs.Math.Nat.{pow-succ'}
@@ -9,7 +9,7 @@ use Rattle.ultra_model.specs.Machine.{is_nothing}
 use Rattle.ultra_model.proofs.Each.{places_at}
 use Rattle.ultra_units.specs.Numbers.{switch_count, module_number}
 use Rattle.ultra_units.specs.Set.{has_unit}
-use Rattle.ultra_halves.specs.Switches.{has_reply_room, has_request_room}
+use Rattle.ultra_halves.specs.Switches.{has_request_room}
 use Rattle.ultra_course.specs.Ports.{at_port}
 use Rattle.ultra_course.specs.Frame.{Frame, AreRooms}
 use Rattle.ultra_course.proofs.Numbers.{pick_false, pick_true}
@@ -54,12 +54,7 @@ is_set false = refl
 -- ---- a set
 pub has_units : (p : ℕ → Bool) (n : ℕ) → n < 320 → has_unit (units_with p) n ≡ p n
 unfolding has_unit units_with
-has_units p n within =
-    let word = places_at 5 (λ k. word_of (λ i. p (k * 64 + i)) 64) (n / 64) 0 (omega arith) in
-    let place : n / 64 * 64 + n % 64 ≡ n = omega arith in
-    ap (λ w. eqb (bit_at w (n % 64)) 1) word
-    ∙ ap (λ b. eqb b 1) (bit_of_word (λ i. p (n / 64 * 64 + i)) 64 (n % 64) (omega arith))
-    ∙ is_set (p (n / 64 * 64 + n % 64)) ∙ ap p place
+has_units p n within = grind (arith, places_at, bit_of_word, is_set)
 
 -- ---- the rooms
 not_twice : (b : Bool) → not (not b) ≡ b
@@ -72,17 +67,10 @@ not_some (Some x) = refl
 
 module _ (d : ℕ) (few : switch_count d + 2 ^ d ≤ 320) (f : Frame) where
   request_zero : (n : ℕ) → n < switch_count d → has_unit (units_with (no_room_at_zero d f)) n ≡ not (has_request_room (f.switch n)).zero
-  request_zero n h =
-      has_units (no_room_at_zero d f) n (omega arith)
-      ∙ pick_true (nat_lt n (switch_count d)) (not (has_request_room (f.switch n)).zero) (is_some (f.bank (n - switch_count d)).inp) (lt-ltb n (switch_count d) h)
+  request_zero n h = grind (arith, has_units, pick_true, lt-ltb)
 
   module_zero : (m : ℕ) → m < 2 ^ d → has_unit (units_with (no_room_at_zero d f)) (module_number d m) ≡ is_some (f.bank m).inp
-  module_zero m h =
-      let n = module_number d m in
-      let here : n - switch_count d ≡ m = omega arith in
-      has_units (no_room_at_zero d f) n (omega arith)
-      ∙ pick_false (nat_lt n (switch_count d)) (not (has_request_room (f.switch n)).zero) (is_some (f.bank (n - switch_count d)).inp) (le-ltb n (switch_count d) (omega arith))
-      ∙ ap (λ k. is_some (f.bank k).inp) here
+  module_zero m h = grind (arith, has_units, pick_false, le-ltb)
 
   request_is : (n j : ℕ) → n < switch_count d → j < 2 → (noted d (words_of_rooms d f)).request n j ≡ at_port (has_request_room (f.switch n)) j
   request_is n zero h small = ap not (request_zero n h) ∙ not_twice (has_request_room (f.switch n)).zero
@@ -90,8 +78,4 @@ module _ (d : ℕ) (few : switch_count d + 2 ^ d ≤ 320) (f : Frame) where
       ap not (has_units (λ n. not (has_request_room (f.switch n)).one) n (omega arith)) ∙ not_twice (has_request_room (f.switch n)).one
 
   pub are_rooms : AreRooms d f (noted d (words_of_rooms d f))
-  are_rooms = record {
-    reply = λ n h. ap not (has_units (λ n. not (has_reply_room (f.switch n))) n (omega arith)) ∙ not_twice (has_reply_room (f.switch n));
-    request = request_is;
-    bank = λ m h. ap not (module_zero m h) ∙ not_some (f.bank m).inp;
-  }
+  are_rooms = grind (arith, has_units, not_twice, request_is, module_zero, not_some)

@@ -10,8 +10,7 @@ use Rattle.ultra_section.proofs.RepliesAway as replies_away
 use Rattle.ultra_section.proofs.RequestsAway as requests_away
 use Rattle.ultra_cut.specs.declared.kind.Kind.{Kind}
 use Rattle.ultra_cut.specs.declared.kind.Kind.TheVariants.{Replies, Requests}
-use Rattle.ultra_cut.specs.Exchange.{OnlyRepliesMove, OnlyRequestsMove}
-use Rattle.ultra_cut.specs.Kinds.{IsNext, Message, OnlyMove, inlets, table, with_table}
+use Rattle.ultra_cut.specs.Exchange.{IsNext, Message, inlets, table, with_table}
 
 -- ---- a block with something else on its links
 pub table_with : (kind : Kind) (t : List (Option (Message kind))) (b : BlockState) → table kind (with_table kind t b) ≡ t
@@ -31,10 +30,8 @@ links_of Replies d b shape = shape.replies
 links_of Requests d b shape = shape.requests
 
 pub shaped_with : (kind : Kind) (d : ℕ) (t : List (Option (Message kind))) (b : BlockState) → length t ≡ (d + 1) * 2 ^ d → IsShaped d b → IsShaped d (with_table kind t b)
-shaped_with Replies d t b links shape =
-    grind arith
-shaped_with Requests d t b links shape =
-    grind arith
+shaped_with Replies d t b links shape = grind arith
+shaped_with Requests d t b links shape = grind arith
 
 -- ---- the unit to which a link leads
 abbrev pub reader : Kind → ℕ → ℕ → ℕ
@@ -62,15 +59,3 @@ next_reply b from o it = grind arith
 
 pub next_request : (b : BlockState) (from : ℕ) (o : Option ℕ) → IfSome o (λ n. IsNextForRequests b from n) → IfSome o (λ n. IsNext Requests b from n)
 next_request b from o it = grind arith
-
-pub replies_move : (bs now : List BlockState) → OnlyMove Replies bs now → OnlyRepliesMove bs now
-replies_move bs now only = record { count = only.count; rest = only.rest; lengths = only.lengths; links = only.links; single = only.single }
-
-pub requests_move : (bs now : List BlockState) → OnlyMove Requests bs now → OnlyRequestsMove bs now
-requests_move bs now only = record { count = only.count; rest = only.rest; lengths = only.lengths; links = only.links; single = only.single }
-
-pub of_replies : (bs now : List BlockState) → OnlyRepliesMove bs now → OnlyMove Replies bs now
-of_replies bs now only = record { count = only.count; rest = only.rest; lengths = only.lengths; links = only.links; single = only.single }
-
-pub of_requests : (bs now : List BlockState) → OnlyRequestsMove bs now → OnlyMove Requests bs now
-of_requests bs now only = record { count = only.count; rest = only.rest; lengths = only.lengths; links = only.links; single = only.single }

@@ -5,7 +5,6 @@ use Rattle.std.proofs.lemmas.Bool.{eqb-true}
 use Rattle.ultra_msg.specs.declared.Event.{Event}
 use Rattle.ultra_route.proofs.Table.{sizes}
 use Rattle.ultra_switch.specs.declared.Switch.{Switch}
-use Rattle.ultra_mem.specs.Serve.{empty_bank}
 use Rattle.ultra_model.specs.declared.Stop.{Stop}
 use Rattle.ultra_model.specs.Machine.{Settings, Machine, lane_at, replies_at, bank_at, element_at}
 use Rattle.ultra_units.specs.Numbers.{switch_count, switch_number, unit_count, module_number, element_number}
@@ -24,11 +23,11 @@ use Rattle.ultra_course.specs.Frame.{Frame}
 use Rattle.ultra_course.specs.Whole.{whole}
 use Rattle.ultra_course.proofs.Numbers.{at_even, at_odd}
 use Rattle.ultra_course.proofs.AtFrame.{lane_is, replies_is, bank_is, element_is}
-use Rattle.ultra_cut.specs.Cut.{block_at, frame_of, given, home, no_switch, no_element}
+use Rattle.ultra_cut.specs.Cut.{block_at, frame_of, given, home}
 use Rattle.ultra_cut.specs.Halves.{AreBlocks}
 use Rattle.ultra_cut.specs.Holding.{holds, stage_holds, interface_holds}
 use Rattle.ultra_section.proofs.OfKind.{by_kind}
-use Rattle.ultra_cut.proofs.Units.{elements, modules, stands_at, switches}
+use Rattle.ultra_cut.proofs.Units.{Sort, elements, modules, stands_at, switches, unit}
 
 -- ---- what a unit of the machine holds is what that of the frame does
 module _ (c : Settings) (low : 1 ≤ c.stages) (high : c.stages ≤ 6) (f : Frame) (n : ℕ) (events : List Event) (stops : List Stop) where
@@ -111,28 +110,23 @@ module _ (c : Settings) (partition : List ℕ) (bs : List BlockState) (are : Are
   whole_holds u = holds c.stages whole_machine held u
 
   -- block i holds what its own units do
-  holds_here : (i : ℕ) → i < length bs → (u : ℕ) → holds_at (block_at bs i) held u ≡ ((home partition u == i) && whole_holds u)
-  holds_here i within =
-      let f = frame_of c.stages partition bs in
-      let b = block_at bs i in
-      let stages = are.cut.stages i within in
-      by_kind c.stages (λ u. holds_at b held u ≡ ((home partition u == i) && whole_holds u))
-      (λ u h.
-      own_switch held c.stages b stages u h
-      ∙ one_there (switch_holds held) no_switch (switch_at b.switches u) (home partition u == i) (whole_holds u) (stands_at switches c.stages partition bs are.cut u h i within)
-      (λ there. ap (λ k. switch_holds held (given no_switch (switch_at (block_at bs k).switches u))) (sym (eqb-true _ _ there))
-      ∙ sym (search (arith, switch_holding))))
-      (λ j h.
-      own_module held c.stages b stages j h
-      ∙ one_there (module_holds held) empty_bank (module_at b.modules j) (home partition (module_number c.stages j) == i) (whole_holds (module_number c.stages j)) (stands_at modules c.stages partition bs are.cut j h i within)
-      (λ there. ap (λ k. module_holds held (given empty_bank (module_at (block_at bs k).modules j))) (sym (eqb-true _ _ there))
-      ∙ sym (search (arith, module_holding))))
-      (λ p h.
-      own_element held c.stages b stages p h
-      ∙ one_there (element_holds held) no_element (own_element_at b.elements p) (home partition (element_number c.stages p) == i) (whole_holds (element_number c.stages p)) (stands_at elements c.stages partition bs are.cut p h i within)
-      (λ there. ap (λ k. element_holds held (given no_element (own_element_at (block_at bs k).elements p))) (sym (eqb-true _ _ there))
-      ∙ sym (search (arith, element_holding))))
-      (grind (arith, own_none))
+  module _ (i : ℕ) (within : i < length bs) where
+    sort_here : {X : Type 0} (sort : Sort X) (p : X → Bool) (u : ℕ) (h : u < sort.count c.stages) → holds_at (block_at bs i) held (sort.number c.stages u) ≡ if_here p (sort.at (block_at bs i) u)
+        → whole_holds (sort.number c.stages u) ≡ p (unit sort c.stages partition bs are.cut u h)
+        → holds_at (block_at bs i) held (sort.number c.stages u) ≡ ((home partition (sort.number c.stages u) == i) && whole_holds (sort.number c.stages u))
+    sort_here sort p u h own all =
+        own ∙ one_there p sort.nothing (sort.at (block_at bs i) u) (home partition (sort.number c.stages u) == i) _ (stands_at sort c.stages partition bs are.cut u h i within)
+        (λ there. ap (λ k. p (given sort.nothing (sort.at (block_at bs k) u))) (sym (eqb-true _ _ there)) ∙ sym all)
+
+    holds_here : (u : ℕ) → holds_at (block_at bs i) held u ≡ ((home partition u == i) && whole_holds u)
+    holds_here =
+        let stages = are.cut.stages i within in
+        let f = frame_of c.stages partition bs in
+        by_kind c.stages (λ u. holds_at (block_at bs i) held u ≡ ((home partition u == i) && whole_holds u))
+        (λ u h. sort_here switches (switch_holds held) u h (own_switch held c.stages (block_at bs i) stages u h) (switch_holding c are.some_stages are.few_stages f n events stops held u h))
+        (λ j h. sort_here modules (module_holds held) j h (own_module held c.stages (block_at bs i) stages j h) (module_holding c are.some_stages are.few_stages f n events stops held j h))
+        (λ p h. sort_here elements (element_holds held) p h (own_element held c.stages (block_at bs i) stages p h) (element_holding c are.some_stages are.few_stages f n events stops held p h))
+        (grind (arith, own_none))
 
   -- of the units of the blocks below i
   abbrev pub below : ℕ → ℕ → Bool

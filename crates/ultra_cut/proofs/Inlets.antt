@@ -1,18 +1,23 @@
--- The links that lead to a unit. Each link leads to one: computed over every network of at most six stages.
-use Rattle.std.proofs.Common.{◌≡◌, ℕ, ◌+◌, ◌-◌, ◌*◌, ◌^◌, ◌<◌, ◌≤◌, Bool, true, Some, refl, subst, arith, inl, inr}
+-- The links that lead to a unit. Each link leads to one: computed over every network of at most six stages. Where each
+-- message is in the block to which it leads, what comes to a unit is what its block has for it.
+use Rattle.std.proofs.Common.{◌≡◌, ℕ, ◌+◌, ◌-◌, ◌*◌, ◌^◌, ◌<◌, ◌≤◌, Bool, true, Some, refl, subst, arith, inl, inr, ◌≢◌, List, None, length, sym, ◌∙◌, ap}
 use Rattle.std.specs.Prelude.{◌⊎◌, ◌&&◌, ◌||◌, ◌==◌, nat_lt}
 use Rattle.std.proofs.lemmas.Bool.{eqb-true}
-use Rattle.ultra_switch.specs.declared.Ports.{Ports}
 use Rattle.ultra_route.proofs.Table.{all_below, all_below_at}
+use Rattle.ultra_switch.specs.declared.Ports.{Ports}
 use Rattle.ultra_units.specs.Numbers.{switch_count, unit_count, module_number, element_number}
 use Rattle.ultra_halves.specs.Halves.{ports}
 use Rattle.ultra_section.specs.Units.{stage_of, index_of}
-use Rattle.ultra_section.specs.Marks.{delivery_link, memory_link, reply_links, request_links}
+use Rattle.ultra_section.specs.Marks.{delivery_link, memory_link, reply_links, request_links, on_both, on_link}
+use Rattle.ultra_section.specs.BlockState.{BlockState}
+use Rattle.ultra_section.specs.Away.{AreEmpty}
 use Rattle.ultra_cut.specs.declared.kind.Kind.{Kind}
 use Rattle.ultra_cut.specs.declared.kind.Kind.TheVariants.{Replies, Requests}
-use Rattle.ultra_cut.specs.Kinds.{inlets}
-use Rattle.ultra_cut.proofs.BothKinds.{reader}
+use Rattle.ultra_cut.specs.Exchange.{inlets, HasNoneFor, on_each, table}
+use Rattle.ultra_cut.specs.Cut.{IsCut, block_at, first, home}
+use Rattle.ultra_cut.proofs.BothKinds.{reader, lead_here}
 use Rattle.ultra_cut.proofs.Numbers.{below}
+use Rattle.ultra_cut.proofs.Columns.{column_first}
 
 -- ---- the links to switch n, and the one to unit i of the sort in which the way ends
 abbrev pub links : Kind → ℕ → ℕ → Ports ℕ
@@ -89,3 +94,40 @@ module _ (kind : Kind) (d : ℕ) (low : 1 ≤ d) (high : d ≤ 6) (l : ℕ) (h :
 
   pub leads_to : (LeadsToSwitch kind d l (reader kind d l)) ⊎ (LeadsToEnd kind d l (end_read kind d l))
   leads_to = elim (either _ _ it_leads) [ inl e ↦ inl (at_switch (reader kind d l) e) | inr e ↦ inr (at_end (end_read kind d l) e) ]
+
+module _ (kind : Kind) (d : ℕ) (partition : List ℕ) (bs : List BlockState) (cut : IsCut d partition bs)
+    (there : (k n : ℕ) → k < length bs → n < unit_count d → HasNoneFor kind d partition bs k n) where
+  -- ---- unit n, to which two links lead
+  module _ (n : ℕ) (h : n < unit_count d) (p : Ports ℕ) (is : inlets kind d n ≡ Some p) where
+    none_for : (k : ℕ) → k < length bs → k ≢ home partition n → AreEmpty (table kind (block_at bs k)) (Some p)
+    none_for k within other = subst (λ o. AreEmpty (table kind (block_at bs k)) o) is (there k n within h (λ e. other (sym e)))
+
+    come : ports (first (on_each kind bs p.zero)) (first (on_each kind bs p.one)) ≡ on_both (table kind (block_at bs (home partition n))) p
+    come = grind (arith, column_first, none_for)
+
+  -- ---- switch n
+  module _ (n : ℕ) (h : n < switch_count d) where
+    pub nothing_for_switch : (k : ℕ) → k < length bs → k ≢ home partition n → on_both (table kind (block_at bs k)) (links kind d n) ≡ ports None None
+    nothing_for_switch k within other = let none = none_for n (omega arith) (links kind d n) (switch_inlets kind d n h) k within other in rw (none.0, none.1) refl
+
+    pub switch_there : ports (first (on_each kind bs (links kind d n).zero)) (first (on_each kind bs (links kind d n).one)) ≡ on_both (table kind (block_at bs (home partition n))) (links kind d n)
+    switch_there = come n (omega arith) (links kind d n) (switch_inlets kind d n h)
+
+  -- ---- unit i in which the way ends
+  module _ (i : ℕ) (h : i < 2 ^ d) where
+    pub nothing_for_end : (k : ℕ) → k < length bs → k ≢ home partition (end_number kind d i) → on_link (table kind (block_at bs k)) (end_link kind d i) ≡ None
+    nothing_for_end k within other = (none_for (end_number kind d i) (end_small kind d i h) (ports (end_link kind d i) (end_link kind d i)) (end_inlets kind d i h) k within other).0
+
+    pub end_there : first (on_each kind bs (end_link kind d i)) ≡ on_link (table kind (block_at bs (home partition (end_number kind d i)))) (end_link kind d i)
+    end_there = ap (λ q. q.zero) (come (end_number kind d i) (end_small kind d i h) (ports (end_link kind d i) (end_link kind d i)) (end_inlets kind d i h))
+
+  -- ---- by links: what is on one is in the block of the unit to which it leads
+  pub nothing_away : 1 ≤ d → d ≤ 6 → (k l : ℕ) → k < length bs → l < (d + 1) * 2 ^ d → home partition (reader kind d l) ≢ k → on_link (table kind (block_at bs k)) l ≡ None
+  nothing_away low high k l within small away = elim (leads_to kind d low high l small) [
+    | inl it ↦ let none = nothing_for_switch (reader kind d l) it.switch k within (λ e. away (sym e)) in grind arith
+    | inr it ↦
+        let i : ℕ = end_read kind d l in
+        let read = (lead_here kind d low high (end_number kind d i) (ports (end_link kind d i) (end_link kind d i)) (end_inlets kind d i it.small)).zero_reader in
+        let none = nothing_for_end i it.small k within (λ e. away (ap (λ l. home partition (reader kind d l)) it.inlet ∙ ap (home partition) read ∙ sym e)) in
+        rw it.inlet none
+  ]

@@ -1,9 +1,10 @@
 -- What a block lists in each half: unit by unit, and so kind by kind.
-use Rattle.std.proofs.Common.{◌≡◌, ℕ, zero, suc, ◌+◌, ◌-◌, ◌^◌, ◌<◌, ◌≤◌, List, [], ◌++◌, Option, refl, sym, ◌∙◌, ap, inl, inr, arith}
+use Rattle.std.proofs.Common.{◌≡◌, ℕ, zero, suc, ◌+◌, ◌-◌, ◌^◌, ◌<◌, ◌≤◌, List, [], ◌∷◌, ◌++◌, Option, refl, sym, ◌∙◌, ap, inl, inr, arith}
 use Rattle.std.proofs.lemmas.Bool.{cases_lt}
-use Rattle.ultra_mem.specs.Serve.{Bank}
+use Rattle.ultra_mem.specs.Serve.{Bank, served as served_by}
 use Rattle.ultra_isa.specs.declared.Instr.{Instr}
-use Rattle.ultra_model.specs.Places.{places, joined}
+use Rattle.ultra_model.specs.Places.{places, present, joined}
+use Rattle.ultra_model.specs.Phases.{serving}
 use Rattle.ultra_units.specs.Numbers.{switch_count, unit_count, module_number, element_number}
 use Rattle.ultra_section.specs.declared.rooms.Rooms.{Rooms}
 use Rattle.ultra_section.specs.Units.{unit_of}
@@ -20,9 +21,9 @@ use Rattle.ultra_section.proofs.RequestsSentOnce as requests_sent
 use Rattle.ultra_section.proofs.RequestsTakenOnce as requests_taken
 use Rattle.ultra_section.proofs.ExecutedOnce as executed
 use Rattle.ultra_cut.proofs.Numbers.{few_units}
-use Rattle.ultra_cut.specs.Happenings.{serving_events, events_of_replies, events_of_service, events_of_requests, events_of_steps, stops_of_steps}
-use Rattle.ultra_cut.specs.HappeningLaws.{AddsEvents, AddsStops, EventsAddedLaw}
-use Rattle.ultra_cut.proofs.Joined.{joined_none, joined_next, joined_same, joined_window}
+use Rattle.ultra_cut.specs.Happenings.{listed_of, events_of_replies, events_of_service, events_of_requests, events_of_steps, stops_of_steps, AddsEvents, AddsStops, EventsAddedLaw}
+use Rattle.ultra_course.proofs.Regroup.{joined_next, joined_none}
+use Rattle.ultra_cut.proofs.Merged.{joined_same, joined_window}
 
 -- what is listed of the units before a number, as lists joined
 before_as_places : {T E : Type 0} (listed : ℕ → T → List E) (m : ℕ) (t : T) → entries_before listed m t ≡ joined (places m (λ n. listed n t))
@@ -81,7 +82,7 @@ module _ (d : ℕ) (low : 1 ≤ d) (high : d ≤ 6) where
     listed_taking_replies = grind (arith, elements_list, unit_of_switch, unit_of_module, unit_of_element)
 
     -- ---- memory
-    serving_as : (m : ℕ) (o : Option Bank) → served.act_entries d o m ≡ serving_events m o
+    serving_as : (m : ℕ) (o : Option Bank) → served.act_entries d o m ≡ listed_of (λ bank. present (serving m (served_by bank) ∷ [])) o
     serving_as m o = grind arith
 
     listed_serving : entries_before (served.entries d) 320 b ≡ events_of_service d b

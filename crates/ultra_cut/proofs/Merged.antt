@@ -1,113 +1,181 @@
--- What blocks list in four halves, one after another, merged by rank.
-use Rattle.std.proofs.Common.{◌≡◌, ◌≢◌, ℕ, ◌+◌, ◌-◌, ◌<◌, ◌≤◌, List, [], ◌++◌, refl, sym, ◌∙◌, ap, arith, append-nil}
-use Rattle.std.proofs.lemmas.List.Elements.{filter-append}
-use Rattle.ultra_model.specs.Places.{places, joined}
-use Rattle.ultra_cut.proofs.Joined.{joined_split, joined_same}
-use Rattle.ultra_cut.proofs.Ranked.{of_rank, IsPart, away, merged}
+-- Lists joined, one for each place, and what several blocks list, merged by rank.
+use Rattle.std.proofs.Common.{◌≡◌, ◌≢◌, ℕ, zero, suc, ◌+◌, ◌<◌, List, [], ◌∷◌, ◌++◌, map, Option, Some, None, length, get_or, refl, sym, ◌∙◌, ap, inl, inr, arith, append-nil, ◌≤◌, All, ◌-◌, subst}
+use Rattle.std.proofs.lemmas.Bool.{cases_eq}
+use Rattle.std.proofs.lemmas.List.{ext_get_or, get_or-map, length-map, map-append}
+use Rattle.std.proofs.lemmas.List.Elements.{All-nil, All-cons, filter-append}
+use Rattle.std.specs.Prelude.{◌==◌}
+use Rattle.std.specs.List.{filter, AllByRecursion}
+use Rattle.ultra_model.specs.Places.{places, present, joined}
+use Rattle.ultra_model.proofs.Each.{places_at, places_none, places_more, length-places}
+use Rattle.ultra_course.proofs.AtFrame.{same_places}
+use Rattle.ultra_course.proofs.Regroup.{joined_next, joined_none, joined_split}
+use Rattle.ultra_cut.specs.InOrder.{IsAscending}
+use Rattle.ultra_cut.proofs.Numbers.{equal, not_equal}
 
-pub all_same : {X : Type 0} {a b c d p q r s : List X} → a ≡ p → b ≡ q → c ≡ r → d ≡ s → a ++ (b ++ (c ++ d)) ≡ p ++ (q ++ (r ++ s))
-all_same ha hb hc hd = cc
+-- the same lists
+pub joined_same : {X : Type 0} (n : ℕ) (f g : ℕ → List X) → ((i : ℕ) → i < n → f i ≡ g i) → joined (places n f) ≡ joined (places n g)
+joined_same n f g same = ap (λ xss. joined xss) (same_places n f g same)
 
--- 1280 lists are four times 320
-in_four : {X : Type 0} (g : ℕ → List X) → joined (places 1280 g)
-    ≡ joined (places 320 (λ i. g (0 + i))) ++ (joined (places 320 (λ i. g (320 + i))) ++ (joined (places 320 (λ i. g (640 + i))) ++ joined (places 320 (λ i. g (960 + i)))))
-in_four g =
-    let first = joined (places 320 (λ i. g (0 + i))) in
-    let second = joined (places 320 (λ i. g (320 + i))) in
-    joined_split 320 960 g
-    ∙ ap (λ xs. xs ++ joined (places 960 (λ i. g (320 + i)))) (grind arith)
-    ∙ ap (λ xs. first ++ xs) (joined_split 320 640 (λ i. g (320 + i)))
-    ∙ ap (λ xs. first ++ (second ++ xs)) (joined_same 640 (λ i. g (320 + (320 + i))) (λ i. g (640 + i)) (λ i h. ap g (omega arith)) ∙ joined_split 320 320 (λ i. g (640 + i)))
-    ∙ ap (λ xs. first ++ (second ++ (joined (places 320 (λ i. g (640 + i))) ++ xs))) (grind arith)
+-- no list has anything
+pub joined_nothing : {X : Type 0} (n : ℕ) (g : ℕ → List X) → ((i : ℕ) → i < n → g i ≡ []) → joined (places n g) ≡ []
+joined_nothing zero g none = joined_none g
+joined_nothing (suc n) g none =
+    joined_next g (suc n) n (omega arith)
+    ∙ ap (λ xs. xs ++ g n) (joined_nothing n g (λ i h. none i (omega arith)))
+    ∙ none n (omega arith)
 
--- what `count` blocks list of n units in a half: f k i by block k of unit i, which has rank base + i
--- among the `width` ranks from `low` on
-pub record Part {X : Type 0} (rank : X → ℕ) (count low width : ℕ) : Type 0 where
-  pub base : ℕ
-  pub n : ℕ
-  pub listed : ℕ → ℕ → List X
-  pub home : ℕ → ℕ
-  pub is : IsPart rank count base n listed home
-  pub from : low ≤ base
-  pub to : base + n ≤ low + width
+-- only list k has something
+pub joined_only : {X : Type 0} (n k : ℕ) (g : ℕ → List X) → k < n → ((i : ℕ) → i < n → i ≢ k → g i ≡ []) → joined (places n g) ≡ g k
+joined_only zero k g within others = absurd (omega arith)
+joined_only (suc n) k g within others =
+    joined_next g (suc n) n (omega arith)
+    ∙ elim (cases_eq n k) [
+      | inl same ↦
+          grind (arith, joined_nothing)
+      | inr other ↦
+          grind (arith, append-nil, joined_only n k g)
+    ]
 
-module _ {X : Type 0} (rank : X → ℕ) (count : ℕ) where
-  -- by block k of all units, and of each unit by its home
-  abbrev pub all_by : {low width : ℕ} → Part rank count low width → ℕ → List X
-  all_by p k = joined (places p.n (p.listed k))
+-- only some lists behind one another have something
+pub joined_window : {X : Type 0} (before n after : ℕ) (g : ℕ → List X) → ((i : ℕ) → i < before → g i ≡ []) → ((i : ℕ) → i < after → g (before + (n + i)) ≡ [])
+    → joined (places (before + (n + after)) g) ≡ joined (places n (λ i. g (before + i)))
+joined_window before n after g none_before none_after = search (arith, joined_split, joined_nothing, append-nil)
 
-  abbrev pub all_home : {low width : ℕ} → Part rank count low width → List X
-  all_home p = joined (places p.n (λ i. p.listed (p.home i) i))
+-- ---- lists with at most one element each
+present-append : {X : Type 0} (os us : List (Option X)) → present (os ++ us) ≡ present os ++ present us
+present-append [] us = refl
+present-append (None ∷ os) us = present-append os us
+present-append (Some x ∷ os) us = ap (λ xs. x ∷ xs) (present-append os us)
 
-  -- ---- one part
-  module _ (low width : ℕ) (p : Part rank count low width) where
-    far : (r k : ℕ) → k < count → ((q : ℕ) → low ≤ q → q < low + width → q ≢ r) → of_rank rank r (all_by p k) ≡ []
-    far r k h others = grind (arith, away)
+pub joined_present : {X : Type 0} (n : ℕ) (o : ℕ → Option X) → joined (places n (λ i. present (o i ∷ []))) ≡ present (places n o)
+joined_present zero o = grind (arith, places_none)
+joined_present (suc n) o =
+    let next : n + 1 ≡ suc n = omega arith in
+    joined_next (λ i. present (o i ∷ [])) (suc n) n (omega arith)
+    ∙ ap (λ xs. xs ++ present (o n ∷ [])) (joined_present n o)
+    ∙ sym (present-append (places n o) (o n ∷ []))
+    ∙ ap (λ os. present os) (sym (places_more n o))
+    ∙ ap (λ i. present (places i o)) next
 
-    pub merged_part : joined (places width (λ i. joined (places count (λ k. of_rank rank (low + i) (all_by p k))))) ≡ all_home p
-    merged_part =
-        let from = p.from in
-        let to = p.to in
-        let at : low + (p.base - low) ≡ p.base = omega arith in
-        let all : (p.base - low) + (p.n + (low + width - (p.base + p.n))) ≡ width = omega arith in
-        ap (λ n. joined (places n (λ i. joined (places count (λ k. of_rank rank (low + i) (all_by p k)))))) (sym all)
-        ∙ merged rank count p.base p.n p.listed p.home p.is low (p.base - low) (low + width - (p.base + p.n)) at
+-- ---- a list's elements, place by place
+pub map_places : {X Y : Type 0} (f : X → Y) (xs : List X) (d : X) → map f xs ≡ places (length xs) (λ i. f (get_or xs i d))
+map_places f xs d =
+    ext_get_or (f d) (map f xs) (places (length xs) (λ i. f (get_or xs i d))) (grind (arith, length-map, length-places))
+    (grind (arith, length-map, get_or-map, places_at))
 
-  -- ---- four
-  module _ (a : Part rank count 0 320) (b : Part rank count 320 320) (c : Part rank count 640 320) (d : Part rank count 960 320) (listed : ℕ → List X)
-      (lists : (k : ℕ) → k < count → listed k ≡ all_by a k ++ (all_by b k ++ (all_by c k ++ all_by d k))) where
-    picked_of : (r k : ℕ) → k < count → of_rank rank r (listed k) ≡ of_rank rank r (all_by a k) ++ (of_rank rank r (all_by b k) ++ (of_rank rank r (all_by c k) ++ of_rank rank r (all_by d k)))
-    picked_of r k h = grind (arith, filter-append)
+-- the numbers ascend, from `low` on and below `high`
+abbrev pub AscendsWithin : ℕ → ℕ → List ℕ → Type 0
+AscendsWithin low high [] = low ≤ high
+AscendsWithin low high (x ∷ xs) = (low ≤ x) × (x < high) × AscendsWithin x high xs
 
-    module _ (r k : ℕ) (h : k < count) where
-      at_first : r < 320 → of_rank rank r (listed k) ≡ of_rank rank r (all_by a k)
-      at_first small =
-          picked_of r k h
-          ∙ all_same refl
-          (far 320 320 b r k h (λ q l u e. absurd (omega arith)))
-          (far 640 320 c r k h (λ q l u e. absurd (omega arith)))
-          (far 960 320 d r k h (λ q l u e. absurd (omega arith)))
-          ∙ append-nil _
+-- ---- wider bounds
+bounds : (low high : ℕ) (xs : List ℕ) → AscendsWithin low high xs → low ≤ high
+bounds low high [] h = h
+bounds low high (x ∷ xs) h = omega arith
 
-      at_second : 320 ≤ r → r < 640 → of_rank rank r (listed k) ≡ of_rank rank r (all_by b k)
-      at_second large small =
-          picked_of r k h
-          ∙ all_same
-          (far 0 320 a r k h (λ q l u e. absurd (omega arith)))
-          refl
-          (far 640 320 c r k h (λ q l u e. absurd (omega arith)))
-          (far 960 320 d r k h (λ q l u e. absurd (omega arith)))
-          ∙ append-nil _
+pub wider : (low high a b : ℕ) (xs : List ℕ) → a ≤ low → high ≤ b → AscendsWithin low high xs → AscendsWithin a b xs
+wider low high a b [] from to h = omega arith
+wider low high a b (x ∷ xs) from to h = grind (arith, wider x high x b xs)
 
-      at_third : 640 ≤ r → r < 960 → of_rank rank r (listed k) ≡ of_rank rank r (all_by c k)
-      at_third large small =
-          picked_of r k h
-          ∙ all_same
-          (far 0 320 a r k h (λ q l u e. absurd (omega arith)))
-          (far 320 320 b r k h (λ q l u e. absurd (omega arith)))
-          refl
-          (far 960 320 d r k h (λ q l u e. absurd (omega arith)))
-          ∙ append-nil _
+-- ---- one list after another
+pub one_after : (low mid high : ℕ) (xs ys : List ℕ) → AscendsWithin low mid xs → AscendsWithin mid high ys → AscendsWithin low high (xs ++ ys)
+one_after low mid high [] ys hx hy = wider mid high low high ys hx (omega arith) hy
+one_after low mid high (x ∷ xs) ys hx hy =
+    grind (arith, bounds, one_after x mid high xs ys hx.2 hy)
 
-      at_fourth : 960 ≤ r → of_rank rank r (listed k) ≡ of_rank rank r (all_by d k)
-      at_fourth large =
-          picked_of r k h
-          ∙ all_same
-          (far 0 320 a r k h (λ q l u e. absurd (omega arith)))
-          (far 320 320 b r k h (λ q l u e. absurd (omega arith)))
-          (far 640 320 c r k h (λ q l u e. absurd (omega arith)))
-          refl
+-- ---- in the words of the law
+at_least : (low high : ℕ) (xs : List ℕ) (i d : ℕ) → AscendsWithin low high xs → i < length xs → low ≤ get_or xs i d
+at_least low high [] i d h within = absurd (omega arith)
+at_least low high (x ∷ xs) zero d h within = h.0
+at_least low high (x ∷ xs) (suc i) d h within =
+    grind (arith, at_least x high xs i d h.2)
 
-    abbrev merged_at : ℕ → List X
-    merged_at r = joined (places count (λ k. of_rank rank r (listed k)))
+pub ascends : (low high : ℕ) (xs : List ℕ) → AscendsWithin low high xs → IsAscending xs
+ascends low high [] h i j d order within = absurd (omega arith)
+ascends low high (x ∷ xs) h zero zero d order within = omega arith
+ascends low high (x ∷ xs) h zero (suc j) d order within = at_least x high xs j d h.2 (omega arith)
+ascends low high (x ∷ xs) h (suc i) zero d order within = absurd (omega arith)
+ascends low high (x ∷ xs) h (suc i) (suc j) d order within = ascends x high xs h.2 i j d (omega arith) (omega arith)
 
-    -- those of one part, if at its ranks nothing else is
-    of_part : (low : ℕ) (p : Part rank count low 320) → ((r k : ℕ) → k < count → low ≤ r → r < low + 320 → of_rank rank r (listed k) ≡ of_rank rank r (all_by p k))
-        → joined (places 320 (λ i. merged_at (low + i))) ≡ all_home p
-    of_part low p alone =
-        joined_same 320 (λ i. merged_at (low + i)) (λ i. joined (places count (λ k. of_rank rank (low + i) (all_by p k))))
-        (grind (arith, joined_same))
-        ∙ merged_part low 320 p
+module _ {X : Type 0} (rank : X → ℕ) where
+  pub all_below : (low high : ℕ) (xs : List X) → AscendsWithin low high (map rank xs) → All (λ x. rank x < high) xs
+  all_below low high [] h = All-nil (λ x. rank x < high)
+  all_below low high (x ∷ xs) h = All-cons (λ x. rank x < high) x xs h.1 (all_below (rank x) high xs h.2)
 
-    pub merged_four : joined (places 1280 merged_at) ≡ all_home a ++ (all_home b ++ (all_home c ++ all_home d))
-    merged_four = search (arith, in_four, all_same, of_part, at_first, at_second, at_third, at_fourth)
+module _ {X : Type 0} (rank : X → ℕ) where
+  abbrev pub of_rank : ℕ → List X → List X
+  of_rank r xs = filter (λ x. rank x == r) xs
+
+  -- the ranks ascend, from `low` on and below `high`
+  abbrev pub InRanks : ℕ → ℕ → List X → Type 0
+  InRanks low high xs = AscendsWithin low high (map rank xs)
+
+  -- what has another rank isn't there
+  outside : (low high r : ℕ) (xs : List X) → InRanks low high xs → (low ≤ r → high ≤ r) → of_rank r xs ≡ []
+  outside low high r [] h other = refl
+  outside low high r (x ∷ xs) h other = grind (arith, not_equal, outside (rank x) high r xs h.2)
+
+  -- all of a list have the rank
+  abbrev pub HaveRank : ℕ → List X → Type 0
+  HaveRank r xs = AllByRecursion (λ x. rank x ≡ r) xs
+
+  all_picked : (r : ℕ) (xs : List X) → HaveRank r xs → of_rank r xs ≡ xs
+  all_picked r [] h = refl
+  all_picked r (x ∷ xs) h = rw (equal (rank x) r h.0) (ap (λ ys. x ∷ ys) (all_picked r xs h.1))
+
+  in_ranks : (r : ℕ) (xs : List X) → HaveRank r xs → InRanks r (r + 1) xs
+  in_ranks r [] h = omega arith
+  in_ranks r (x ∷ xs) h = grind (arith, in_ranks r xs h.1)
+
+  module _ (count : ℕ) where
+    abbrev merged_at : (ℕ → List X) → ℕ → List X
+    merged_at lists r = joined (places count (λ k. of_rank r (lists k)))
+
+    -- what `count` blocks list, each in the order of the ranks: the `width` ranks from `low` on, and merged
+    -- it is all this
+    pub record Merges (low width : ℕ) (lists : ℕ → List X) (all : List X) : Type 0 where
+      pub ordered : (k : ℕ) → k < count → InRanks low (low + width) (lists k)
+      pub merged : joined (places width (λ i. merged_at lists (low + i))) ≡ all
+
+    pub same_lists : (low width : ℕ) (f g : ℕ → List X) (all : List X) → ((k : ℕ) → k < count → f k ≡ g k) → Merges low width f all → Merges low width g all
+    same_lists low width f g all same was = grind (arith, joined_same)
+
+    -- ---- one part after another
+    pub one_then : (low w v : ℕ) (f g : ℕ → List X) (a b : List X) → Merges low w f a → Merges (low + w) v g b → Merges low (w + v) (λ k. f k ++ g k) (a ++ b)
+    one_then low w v f g a b first next =
+        grind (arith, map-append, one_after, joined_split, joined_same, filter-append, outside, append-nil)
+
+    -- by wider bounds
+    pub within : (low base w v : ℕ) (f : ℕ → List X) (a : List X) → low ≤ base → base + w ≤ low + v → Merges base w f a → Merges low v f a
+    within low base w v f a from to part = record {
+      ordered = λ k h. wider base (base + w) low (low + v) (map rank (f k)) from to (part.ordered k h);
+      merged =
+          let all : base - low + (w + (low + v - (base + w))) ≡ v = omega arith in
+          ap (λ n. joined (places n (λ i. merged_at f (low + i)))) (sym all)
+          ∙ joined_window (base - low) w (low + v - (base + w)) (λ i. merged_at f (low + i)) (grind (arith, joined_nothing, outside, part.ordered))
+          (grind (arith, joined_nothing, outside, part.ordered))
+          ∙ joined_same w (λ i. merged_at f (low + (base - low + i))) (λ i. merged_at f (base + i)) (λ i h. ap (merged_at f) (omega arith))
+          ∙ part.merged;
+    }
+
+    -- ---- unit by unit
+    -- f k i is what block k lists of unit i, which has rank base + i; of a unit only its home lists something
+    pub by_units : (base n : ℕ) (f : ℕ → ℕ → List X) (home : ℕ → ℕ) → ((k i : ℕ) → k < count → i < n → HaveRank (base + i) (f k i))
+        → ((i : ℕ) → i < n → home i < count) → ((k i : ℕ) → k < count → i < n → k ≢ home i → f k i ≡ [])
+        → Merges base n (λ k. joined (places n (f k))) (joined (places n (λ i. f (home i) i)))
+    by_units base zero f home ranked homes elsewhere = grind (arith, joined_none)
+    by_units base (suc n) f home ranked homes elsewhere =
+        let number : n + 1 ≡ suc n = omega arith in
+        let last : Merges (base + n) 1 (λ k. f k n) (f (home n) n) = record {
+          ordered = λ k h. in_ranks (base + n) (f k n) (ranked k n h (omega arith));
+          merged =
+              joined_next (λ i. merged_at (λ k. f k n) (base + n + i)) 1 0 refl
+              ∙ ap (λ xs. xs ++ merged_at (λ k. f k n) (base + n + 0)) (joined_none (λ i. merged_at (λ k. f k n) (base + n + i)))
+              ∙ joined_same count (λ k. of_rank (base + n + 0) (f k n)) (λ k. f k n) (grind (arith, all_picked))
+              ∙ joined_only count (home n) (λ k. f k n) (homes n (omega arith)) (λ k h other. elsewhere k n h (omega arith) other);
+        } in
+        same_lists base (suc n) (λ k. joined (places n (f k)) ++ f k n) (λ k. joined (places (suc n) (f k))) (joined (places (suc n) (λ i. f (home i) i)))
+        (grind (arith, joined_next))
+        (rw (joined_next (λ i. f (home i) i) (suc n) n (omega arith)) (subst (λ v. Merges base v (λ k. joined (places n (f k)) ++ f k n) (joined (places n (λ i. f (home i) i)) ++ f (home n) n)) number
+        (one_then base n 1 (λ k. joined (places n (f k))) (λ k. f k n) (joined (places n (λ i. f (home i) i))) (f (home n) n)
+        (by_units base n f home (λ k i h l. ranked k i h (omega arith)) (λ i l. homes i (omega arith)) (λ k i h l. elsewhere k i h (omega arith))) last)))

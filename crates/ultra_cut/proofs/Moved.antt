@@ -8,14 +8,17 @@ use Rattle.ultra_section.specs.Marks.{on_link, without_both}
 use Rattle.ultra_section.specs.BlockState.{BlockState}
 use Rattle.ultra_section.specs.Away.{AreEmpty, put_on_both, taken_by_turns}
 use Rattle.ultra_section.proofs.Marks.{fewer_both}
+use Rattle.ultra_course.specs.Frame.{AreAlike, Frame}
 use Rattle.ultra_cut.specs.declared.kind.Kind.{Kind}
-use Rattle.ultra_cut.specs.Cut.{IsCut, block_at, no_block, home, first}
+use Rattle.ultra_cut.specs.declared.kind.Kind.TheVariants.{Replies, Requests}
+use Rattle.ultra_cut.specs.Cut.{IsCut, block_at, frame_of, no_block, home, first}
 use Rattle.ultra_cut.specs.Halves.{AreBlocks}
 use Rattle.ultra_cut.specs.Exchange.{IsSingle}
-use Rattle.ultra_cut.specs.Kinds.{AreSingle, HasNoneFor, Message, NoneLeavesWithin, OnlyMove, carried, inlets, moved, on_each, table, with_table}
+use Rattle.ultra_cut.specs.Exchange.{AreSingle, HasNoneFor, Message, NoneLeavesWithin, OnlyMove, carried, inlets, moved, on_each, table, with_table}
 use Rattle.ultra_cut.proofs.Columns as columns
 use Rattle.ultra_cut.proofs.Columns.{Shift}
 use Rattle.ultra_cut.proofs.BothKinds.{lead_here, links_of, reader, shaped_with, table_with, with_own, with_twice}
+use Rattle.ultra_cut.proofs.Columns.{same_entries}
 use Rattle.ultra_cut.proofs.Numbers.{differs, not_equal}
 
 module _ (kind : Kind) where
@@ -110,11 +113,8 @@ module _ (kind : Kind) where
 
     module _ (bs : List BlockState) (k n : ℕ) (p : Ports ℕ) (is : inlets kind d n ≡ Some p) (apart : home partition n ≢ k) (k_within : k < length bs) (h_within : home partition n < length bs)
         (links : length (table kind (block_at bs (home partition n))) ≡ (d + 1) * 2 ^ d) where
-      zero_small : p.zero < length (table kind (block_at bs (home partition n)))
-      zero_small = subst (λ x. p.zero < x) (sym links) (lead_here kind d low high n p is).zero_small
-
-      one_small : p.one < length (table kind (block_at bs (home partition n)))
-      one_small = subst (λ x. p.one < x) (sym links) (lead_here kind d low high n p is).one_small
+      small : (p.zero < length (table kind (block_at bs (home partition n)))) × (p.one < length (table kind (block_at bs (home partition n))))
+      small = let it = lead_here kind d low high n p is in grind arith
 
       -- a link that leads to a unit of another home is no inlet of this one
       no_inlet : (j m l : ℕ) → home partition m ≢ j → reader kind d l ≡ m → j ≡ home partition n → (l ≢ p.zero) × (l ≢ p.one)
@@ -125,13 +125,13 @@ module _ (kind : Kind) where
       kept_at j m None leads elsewhere none = tt
       kept_at j m (Some q) leads elsewhere none =
           let it = lead_here kind d low high m q leads in (
-            still_none bs k (home partition n) p apart k_within h_within j q.zero (no_inlet j m q.zero elsewhere it.zero_reader) zero_small one_small none.0,
-            still_none bs k (home partition n) p apart k_within h_within j q.one (no_inlet j m q.one elsewhere it.one_reader) zero_small one_small none.1,
+            still_none bs k (home partition n) p apart k_within h_within j q.zero (no_inlet j m q.zero elsewhere it.zero_reader) small.0 small.1 none.0,
+            still_none bs k (home partition n) p apart k_within h_within j q.one (no_inlet j m q.one elsewhere it.one_reader) small.0 small.1 none.1,
           )
 
       carried_step : AreSingle kind bs → Step k n bs (carried kind k (home partition n) p bs)
       carried_step single = record {
-        only = search (arith, only_moved, zero_small, one_small);
+        only = only_moved bs k (home partition n) p apart k_within h_within small.0 small.1 single;
         gone = grind (arith, gone_here);
         kept = grind (arith, kept_at);
       }
@@ -151,15 +151,22 @@ module _ (kind : Kind) where
       pub moved_step : (now : List BlockState) → now ≡ moved kind d k (home partition n) n bs → Step k n bs now
       moved_step now is = subst (λ xs. Step k n bs xs) (sym is) (by_home (home partition n == k) refl)
 
-    -- the blocks are cut as before
-    pub still_cut : (bs now : List BlockState) → OnlyMove kind bs now → IsCut d partition bs → IsCut d partition now
-    still_cut bs now only cut = grind arith
-
-    -- they are blocks of the machine as before
-    pub still_blocks : (bs now : List BlockState) → OnlyMove kind bs now → AreBlocks d partition bs → AreBlocks d partition now
-    still_blocks bs now only blocks = grind (arith, shaped_with, links_of)
-
     -- where nothing leaves a block for units elsewhere
     pub none_leaves : (bs : List BlockState) (k from to : ℕ) → IsCut d partition bs → k < length bs → NoneLeavesWithin kind (block_at bs k) from to
         → (n : ℕ) → from ≤ n → n < to → n < unit_count d → HasNoneFor kind d partition bs k n
     none_leaves bs k from to cut within none n after before unit elsewhere = grind (arith, not_equal)
+
+-- ---- what an exchange leaves as it was
+module _ (d : ℕ) (partition : List ℕ) (bs now : List BlockState) where
+  pub still_cut : (kind : Kind) → OnlyMove kind bs now → IsCut d partition bs → IsCut d partition now
+  still_cut kind only cut = grind arith
+
+  pub still_blocks : (kind : Kind) → OnlyMove kind bs now → AreBlocks d partition bs → AreBlocks d partition now
+  still_blocks kind only blocks = grind (arith, still_cut, shaped_with, links_of)
+
+  -- the machine's units, and what is on each link
+  pub alike : (kind : Kind) (g : Frame) → OnlyMove kind bs now → AreAlike d (frame_of d partition bs) g → AreAlike d (frame_of d partition now) g
+  alike Replies g only was =
+      let links : (l : ℕ) → (frame_of d partition now).replies l ≡ (frame_of d partition bs).replies l = only.links in grind (arith, same_entries)
+  alike Requests g only was =
+      let links : (l : ℕ) → (frame_of d partition now).requests l ≡ (frame_of d partition bs).requests l = only.links in grind (arith, same_entries)

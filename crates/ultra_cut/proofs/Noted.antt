@@ -69,18 +69,10 @@ module _ (d : ℕ) (partition : List ℕ) (bs : List BlockState) where
 
       pub next_noted : HaveNoted (i + 1) now
       next_noted = record {
-        replies = λ n h.
-            next_unit switches n h (λ w. not (has_reply_room w)) i within (has_unit old.no_reply_room n) (has_unit now.no_reply_room n)
-            (before.replies n h) (notes.replies n (switch_small n h));
-        zero_port = λ n h.
-            next_unit switches n h (λ w. not (has_request_room w).zero) i within (has_unit old.no_request_room.zero n) (has_unit now.no_request_room.zero n)
-            (before.zero_port n h) (notes.requests_zero n (switch_small n h));
-        one_port = λ n h.
-            next_unit switches n h (λ w. not (has_request_room w).one) i within (has_unit old.no_request_room.one n) (has_unit now.no_request_room.one n)
-            (before.one_port n h) (notes.requests_one n (switch_small n h));
-        modules = λ m h.
-            next_unit modules m h (λ b. is_some b.inp) i within (has_unit old.no_request_room.zero (module_number d m)) (has_unit now.no_request_room.zero (module_number d m))
-            (before.modules m h) (module_noted m h);
+        replies = λ n h. next_unit switches n h (λ w. not (has_reply_room w)) i within _ _ (before.replies n h) (notes.replies n (switch_small n h));
+        zero_port = λ n h. next_unit switches n h (λ w. not (has_request_room w).zero) i within _ _ (before.zero_port n h) (notes.requests_zero n (switch_small n h));
+        one_port = λ n h. next_unit switches n h (λ w. not (has_request_room w).one) i within _ _ (before.one_port n h) (notes.requests_one n (switch_small n h));
+        modules = λ m h. next_unit modules m h (λ b. is_some b.inp) i within _ _ (before.modules m h) (module_noted m h);
       }
 
     -- all have noted theirs

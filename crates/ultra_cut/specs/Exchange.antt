@@ -1,50 +1,117 @@
--- messages go to the block of the unit to which they lead
-use Rattle.std.specs.Prelude.{◌≡◌, ◌≢◌, ℕ, ◌<◌, List, Option, None, length, slice_index_or}
+-- messages go to the block of the unit to which they lead. What is said of replies and of requests
+-- is said of a kind
+use Rattle.std.specs.Prelude.{◌≡◌, ◌≢◌, ℕ, ◌+◌, ◌*◌, ◌^◌, ◌<◌, ◌≤◌, ◌==◌, List, Option, Some, None, true, false, length, map, slice_index_or, slice_set}
+use Rattle.ultra_msg.specs.declared.Request.{Request}
+use Rattle.ultra_msg.specs.declared.ReplyMessage.{ReplyMessage}
+use Rattle.ultra_switch.specs.declared.Ports.{Ports}
 use Rattle.ultra_units.specs.Numbers.{unit_count}
 use Rattle.ultra_section.specs.BlockState.{BlockState}
-use Rattle.ultra_section.specs.Away.{AreEmpty, reply_inlets, request_inlets}
-use Rattle.ultra_cut.specs.Cut.{block_at, home, first, replies_on, requests_on}
+use Rattle.ultra_section.specs.Marks.{on_link, without_both}
+use Rattle.ultra_section.specs.Away.{AreEmpty, put_on_both, reply_inlets, request_inlets, stands, taken_by_turns}
+use Rattle.ultra_cut.specs.declared.kind.Kind.{Kind}
+use Rattle.ultra_cut.specs.declared.kind.Kind.TheVariants.{Replies, Requests}
+use Rattle.ultra_cut.specs.Cut.{block_at, home, first}
+
+abbrev pub Message : Kind → Type 0
+Message Replies = ReplyMessage
+Message Requests = Request
+
+-- what a block has of a kind on its links, and the block with something else there
+abbrev pub table : (kind : Kind) → BlockState → List (Option (Message kind))
+table Replies b = b.replies
+table Requests b = b.requests
+
+abbrev pub with_table : (kind : Kind) → List (Option (Message kind)) → BlockState → BlockState
+with_table Replies t b = record b { replies = t }
+with_table Requests t b = record b { requests = t }
+
+-- the links by which it comes to the unit with number n of a machine of d stages
+abbrev pub inlets : Kind → ℕ → ℕ → Option (Ports ℕ)
+inlets Replies d n = reply_inlets d n
+inlets Requests d n = request_inlets d n
+
+-- what each block has on a link
+abbrev pub on_each : (kind : Kind) → List BlockState → ℕ → List (Option (Message kind))
+on_each kind bs l = map (λ b. on_link (table kind b) l) bs
 
 -- no two entries are there
 abbrev pub IsSingle : {X : Type 0} → List (Option X) → Type 0
 IsSingle xs = (i j : ℕ) → i ≢ j → slice_index_or xs i None ≢ None → slice_index_or xs j None ≡ None
 
+-- ---- before and after
 -- no link has a message in two blocks
+abbrev pub AreSingle : Kind → List BlockState → Type 0
+AreSingle kind bs = (l : ℕ) → IsSingle (on_each kind bs l)
+
+-- of the blocks nothing has changed but where messages of the kind are; on each link is what was
+-- there
+pub record OnlyMove (kind : Kind) (old now : List BlockState) : Type 0 where
+  pub count : length now ≡ length old
+  pub rest :
+      (k : ℕ) → block_at now k ≡ with_table kind (table kind (block_at now k)) (block_at old k)
+  pub lengths :
+      (k : ℕ) → length (table kind (block_at now k)) ≡ length (table kind (block_at old k))
+  pub links : (l : ℕ) → first (on_each kind now l) ≡ first (on_each kind old l)
+  pub single : AreSingle kind now
+
+-- block k has no message that leads to unit n, unless it stands there
+abbrev pub HasNoneFor : Kind → ℕ → List ℕ → List BlockState → ℕ → ℕ → Type 0
+HasNoneFor kind d partition bs k n =
+    home partition n ≢ k → AreEmpty (table kind (block_at bs k)) (inlets kind d n)
+
+-- each message is in the block of the unit to which it leads
+abbrev pub AreThere : Kind → ℕ → List ℕ → List BlockState → Type 0
+AreThere kind d partition bs =
+    (k n : ℕ) → k < length bs → n < unit_count d → HasNoneFor kind d partition bs k n
+
 abbrev pub AreSingleReplies : List BlockState → Type 0
-AreSingleReplies bs = (l : ℕ) → IsSingle (replies_on bs l)
+AreSingleReplies = AreSingle Replies
 
 abbrev pub AreSingleRequests : List BlockState → Type 0
-AreSingleRequests bs = (l : ℕ) → IsSingle (requests_on bs l)
+AreSingleRequests = AreSingle Requests
 
--- of the blocks nothing has changed but where replies are; on each link is what was there
-pub record OnlyRepliesMove (old now : List BlockState) : Type 0 where
-  pub count : length now ≡ length old
-  pub rest : (k : ℕ)
-      → block_at now k ≡ record (block_at old k) { replies = (block_at now k).replies }
-  pub lengths : (k : ℕ) → length (block_at now k).replies ≡ length (block_at old k).replies
-  pub links : (l : ℕ) → first (replies_on now l) ≡ first (replies_on old l)
-  pub single : AreSingleReplies now
+abbrev pub OnlyRepliesMove : List BlockState → List BlockState → Type 0
+OnlyRepliesMove = OnlyMove Replies
 
-pub record OnlyRequestsMove (old now : List BlockState) : Type 0 where
-  pub count : length now ≡ length old
-  pub rest : (k : ℕ)
-      → block_at now k ≡ record (block_at old k) { requests = (block_at now k).requests }
-  pub lengths : (k : ℕ) → length (block_at now k).requests ≡ length (block_at old k).requests
-  pub links : (l : ℕ) → first (requests_on now l) ≡ first (requests_on old l)
-  pub single : AreSingleRequests now
+abbrev pub OnlyRequestsMove : List BlockState → List BlockState → Type 0
+OnlyRequestsMove = OnlyMove Requests
 
-module _ (d : ℕ) (partition : List ℕ) where
-  -- block k has no message that leads to unit n, unless it stands there
-  abbrev pub HasNoReplyFor : List BlockState → ℕ → ℕ → Type 0
-  HasNoReplyFor bs k n = home partition n ≢ k → AreEmpty (block_at bs k).replies (reply_inlets d n)
+abbrev pub AreRepliesThere : ℕ → List ℕ → List BlockState → Type 0
+AreRepliesThere = AreThere Replies
 
-  abbrev pub HasNoRequestFor : List BlockState → ℕ → ℕ → Type 0
-  HasNoRequestFor bs k n =
-      home partition n ≢ k → AreEmpty (block_at bs k).requests (request_inlets d n)
+abbrev pub AreRequestsThere : ℕ → List ℕ → List BlockState → Type 0
+AreRequestsThere = AreThere Requests
 
-  -- each message is in the block of the unit to which it leads
-  abbrev pub AreRepliesThere : List BlockState → Type 0
-  AreRepliesThere bs = (k n : ℕ) → k < length bs → n < unit_count d → HasNoReplyFor bs k n
+-- ---- one move
+-- nothing leads from a block to a unit that stands elsewhere, from number `from` on and below `to`
+abbrev pub NoneLeavesWithin : Kind → BlockState → ℕ → ℕ → Type 0
+NoneLeavesWithin kind b from to =
+    (n : ℕ) → from ≤ n → n < to → stands n b ≡ false
+    → AreEmpty (table kind b) (inlets kind b.stages n)
 
-  abbrev pub AreRequestsThere : List BlockState → Type 0
-  AreRequestsThere bs = (k n : ℕ) → k < length bs → n < unit_count d → HasNoRequestFor bs k n
+-- unit n is the first from `from` on to which something may lead from the block
+pub record IsNext (kind : Kind) (b : BlockState) (from n : ℕ) : Type 0 where
+  pub after : from ≤ n
+  pub within : n < 320
+  pub between : NoneLeavesWithin kind b from n
+
+-- what block k has on the inlets p of a unit goes to block h
+abbrev pub carried : Kind → ℕ → ℕ → Ports ℕ → List BlockState → List BlockState
+carried kind k h p bs =
+    let was = table kind (block_at bs k) in
+    let left = slice_set bs k (with_table kind (without_both was p) (block_at bs k)) in
+    let got = put_on_both (table kind (block_at left h)) p (taken_by_turns was p) in
+    slice_set left h (with_table kind got (block_at left h))
+
+-- unit n stands in block h: if that is another, what block k has for the unit goes there
+abbrev pub moved : Kind → ℕ → ℕ → ℕ → ℕ → List BlockState → List BlockState
+moved kind d k h n bs = elim (h == k) [
+  | true ↦ bs
+  | false ↦ elim (inlets kind d n) [ None ↦ bs | Some p ↦ carried kind k h p bs ]
+]
+
+-- if it is another and anything can come to the unit, block h has all links
+abbrev pub HasLinks : Kind → ℕ → ℕ → ℕ → ℕ → List BlockState → Type 0
+HasLinks kind d k h n bs =
+    h ≢ k → (p : Ports ℕ) → inlets kind d n ≡ Some p
+    → length (table kind (block_at bs h)) ≡ (d + 1) * 2 ^ d

@@ -6,7 +6,7 @@ use Rattle.ultra_model.specs.declared.Stop.{Stop}
 use Rattle.ultra_section.specs.BlockState.{BlockState}
 use Rattle.ultra_cut.specs.Halves.{OfEach}
 use Rattle.ultra_cut.specs.Events.{event_rank}
-use Rattle.ultra_cut.specs.HappeningLaws.{Course, HaveListed}
+use Rattle.ultra_cut.specs.Happenings.{Course, HaveListed}
 
 -- no number is below one that stands before it
 abbrev pub IsAscending : List ℕ → Type 0

@@ -1,14 +1,9 @@
 pub mod Cut
 pub mod Exchange
-pub mod Kinds
-pub mod Halves
 pub mod Events
-pub mod ReplyLaws
-pub mod RequestLaws
-pub mod UnitLaws
+pub mod Halves
 pub mod Whole
 pub mod Holding
 pub mod Happenings
-pub mod HappeningLaws
 pub mod InOrder
 pub mod Moments

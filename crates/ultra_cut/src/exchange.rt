@@ -5,7 +5,7 @@ ghost use Rattle.ultra_units.specs.Numbers.{unit_count};
 ghost use Rattle.ultra_cut.specs.Cut.{IsCut, block_at, home};
 ghost use Rattle.ultra_cut.specs.Exchange.{AreRepliesThere, AreRequestsThere, AreSingleReplies, AreSingleRequests, OnlyRepliesMove, OnlyRequestsMove};
 ghost use Rattle.ultra_cut.specs.declared.kind.Kind.TheVariants.{Replies, Requests};
-ghost use Rattle.ultra_cut.specs.Kinds.{AreSingle, HasLinks, HasNoneFor, IsNext, NoneLeavesWithin, OnlyMove, moved};
+ghost use Rattle.ultra_cut.specs.Exchange.{AreSingle, HasLinks, HasNoneFor, IsNext, NoneLeavesWithin, OnlyMove, moved};
 
 use crate::kind::Kind;
 use ultra_route::Net;

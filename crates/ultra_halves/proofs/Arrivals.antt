@@ -23,24 +23,18 @@ combine_keeps : (r : Request) (es : List Entry) → KeepsLength es (combine r es
 combine_keeps r [] = tt
 combine_keeps r (e ∷ es) = if_tested (can_combine r e) (λ o. KeepsLength (e ∷ es) o) _ _ (λ z. refl) (λ z. behind_keeps e es (combine r es) (combine_keeps r es))
 
-arrived_longer : (l : Lane) (r : Request) (o : Option Combination) → KeepsLength l.queue o → length (after_arrival l r o).queue ≤ length l.queue + 1
-arrived_longer l r o h = grind (arith, length-append)
-
-arrived_no_shorter : (l : Lane) (r : Request) (o : Option Combination) → KeepsLength l.queue o → length l.queue ≤ length (after_arrival l r o).queue
-arrived_no_shorter l r o h = grind (arith, length-append)
-
 combined_keeps : (w : ℕ) (l : Lane) (r : Request) → KeepsLength l.queue (combine_within w l r)
 combined_keeps w l r = grind (arith, combine_keeps)
 
 pub arrive_longer : (w : ℕ) (l : Lane) (r : Request) → length (arrive w l r).queue ≤ length l.queue + 1
-arrive_longer w l r = arrived_longer l r (combine_within w l r) (combined_keeps w l r)
+arrive_longer w l r = let kept = combined_keeps w l r in grind (arith, length-append)
+
+arrive_no_shorter : (w : ℕ) (l : Lane) (r : Request) → length l.queue ≤ length (arrive w l r).queue
+arrive_no_shorter w l r = let kept = combined_keeps w l r in grind (arith, length-append)
 
 pub arrive_all_no_shorter : (w : ℕ) (l : Lane) (rs : List Request) → length l.queue ≤ length (arrive_all w l rs).queue
 arrive_all_no_shorter w l [] = omega arith
-arrive_all_no_shorter w l (r ∷ rs) =
-    let first = arrived_no_shorter l r (combine_within w l r) (combined_keeps w l r) in
-    let others = arrive_all_no_shorter w (arrive w l r) rs in
-    omega (arith, first, others)
+arrive_all_no_shorter w l (r ∷ rs) = omega (arith, arrive_no_shorter w l r, arrive_all_no_shorter w (arrive w l r) rs)
 
 -- ---- its combination
 at_end : {X : Type 0} (xs : List X) (y : X) → slice_get (xs ++ y ∷ []) (length xs) ≡ Some y

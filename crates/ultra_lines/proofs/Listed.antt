@@ -20,10 +20,6 @@ module _ {X : Type 0} (text : X → List ℕ) where
       ap (λ t. (codes ", " ++ text y) ++ t) (others_more ys i x e) ∙ sym (append_assoc (codes ", " ++ text y) (others (take i ys)) (codes ", " ++ text x))
 
   -- the entries up to an index, and the one there
-  pub first_listed : (xs : List X) (x : X) → slice_get xs 0 ≡ Some x → listed text (take 1 xs) ≡ text x
-  first_listed [] x e = absurd cc
-  first_listed (y ∷ ys) x e = let same : y ≡ x = cc in rw same (append-nil (text x))
-
   pub more_listed : (xs : List X) (i : ℕ) (x : X) → 1 ≤ i → slice_get xs i ≡ Some x → listed text (take (i + 1) xs) ≡ listed text (take i xs) ++ codes ", " ++ text x
   unfolding others
   more_listed [] i x some e = absurd cc
@@ -45,17 +41,9 @@ pub inp_line_is : (k : ℕ) (o : Option Placed) (r : Request) → Some r ≡ opt
 inp_line_is k None r e = absurd cc
 inp_line_is k (Some p) r e = let same : r ≡ p.request = cc in rw (same, append-nil (request_text p.request)) refl
 
-pub no_inp_line : (k : ℕ) (o : Option Placed) → None ≡ option_map (λ (p : Placed). p.request) o → inp_line k o ≡ []
-no_inp_line k None e = refl
-no_inp_line k (Some p) e = absurd cc
-
 pub out_line_is : (k : ℕ) (o : Option ReplyMessage) (m : ReplyMessage) → Some m ≡ o → out_line k o ≡ unit_name (codes "out") k ++ codes ": " ++ message_text m ++ newline
 out_line_is k None m e = absurd cc
 out_line_is k (Some n) m e = let same : m ≡ n = cc in rw (same, append-nil (message_text n)) refl
-
-pub no_out_line : (k : ℕ) (o : Option ReplyMessage) → None ≡ o → out_line k o ≡ []
-no_out_line k None e = refl
-no_out_line k (Some n) e = absurd cc
 
 -- what is written of a value that isn't 0
 pub not_zero : (v : ℕ) (text : List ℕ) → 0 < v → unless_zero v text ≡ text

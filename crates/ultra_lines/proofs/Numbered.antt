@@ -43,9 +43,6 @@ module _ {S : Type 0} {taken : S → List ℕ} {failures : S → ℕ} (line : �
   pub writes_number : {s t u : Page S} → Writes taken failures (by_number i line) s t → Writes taken failures (line i) t u → Writes taken failures (by_number (i + 1) line) s u
   writes_number v w = rw (by_number_more i line) (v then w)
 
-  pub writes_numbers : (n : ℕ) {s t : Page S} → i ≡ n → Writes taken failures (by_number i line) s t → Writes taken failures (by_number n line) s t
-  writes_numbers n e w = rw e at w
-
 -- a value of a list, or 0 where there is none
 pub value_or_zero : (xs : List ℕ) (i : ℕ) → unwrap_or (slice_get xs i) 0 ≡ get_or xs i 0
 value_or_zero [] i = refl

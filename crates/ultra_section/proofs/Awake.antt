@@ -30,20 +30,13 @@ pub none_rests : (program : List Instr) → IsAtRest program None
 none_rests program e is = cc
 
 pub some_rests : (program : List Instr) (e : ProcessingElement) → IsTrue (is_at_rest program e) → IsAtRest program (Some e)
-some_rests program e rest v is = subst (rests_where program) is rest
+some_rests program e rest v is = grind arith
 
 module _ (d : ℕ) (program : List Instr) (awake woken : List ℕ) (es : List (Option ProcessingElement)) (rests : AreOthersAtRest d program awake es) where
   -- of the others the sets say the same
   pub rests_anew : (p : ℕ) (o : Option ProcessingElement) → p < length es → ((k : ℕ) → k ≢ element_number d p → has_unit woken k ≡ has_unit awake k)
       → (has_unit woken (element_number d p) ≡ false → IsAtRest program o) → AreOthersAtRest d program woken (set es p o)
-  rests_anew p o within agree own k small asleep = elim (cases_eq k p) [
-    | inl same ↦
-        subst (IsAtRest program) (sym (ap (λ j. element_at (set es p o) j) same ∙ get_or-set_same es p o None within))
-        (own (sym (ap (λ j. has_unit woken (element_number d j)) same) ∙ asleep))
-    | inr other ↦
-        subst (IsAtRest program) (sym (get_or-set_other es p k o None other))
-        (rests k small (sym (agree (element_number d k) (λ same. other (omega arith))) ∙ asleep))
-  ]
+  rests_anew p o within agree own k small asleep = grind (arith, cases_eq, element_at, set, get_or-set_same, has_unit, element_number, get_or-set_other)
 
   -- where they all stay as they are
   pub rests_same : (fs : List (Option ProcessingElement)) → fs ≡ es → AreOthersAtRest d program awake fs
@@ -59,7 +52,7 @@ module _ {d wiring : ℕ} {program : List Instr} {s : Sets} {awake : List ℕ} {
 
   -- outside the set it is at rest
   pub rests_there : has_unit awake (element_number d p) ≡ false → IsTrue (is_at_rest program e)
-  rests_there asleep = kept.rests p own.small asleep e (stands es p element_within read is)
+  rests_there asleep = grind (arith, stands, element_within)
 
   -- it falls asleep
   pub fallen_asleep : (now : List ℕ) (v : ProcessingElement) → ((k : ℕ) → k ≢ n → has_unit now k ≡ has_unit awake k) → IsTrue (is_at_rest program v)

@@ -37,7 +37,7 @@ here_within xs i here = grind (arith, get_or_past)
 
 -- ---- what may have happened, at the end of what has
 pub none_more : {X : Type 0} (xs : List X) {o : Option X} → o ≡ None → xs ≡ xs ++ present (o ∷ [])
-none_more xs {o} is = sym (ap (λ p. xs ++ present (p ∷ [])) is ∙ append-nil xs)
+none_more xs {o} is = grind (arith, present, append-nil)
 
 pub one_more : {X : Type 0} (xs : List X) {o : Option X} {x : X} → o ≡ Some x → xs ++ x ∷ [] ≡ xs ++ present (o ∷ [])
 one_more xs {o} {x} is = sym (ap (λ p. xs ++ present (p ∷ [])) is)
@@ -66,7 +66,7 @@ module _ {inside b : BlockState} (same : inside ≡ b) where
   switch_inside own = grind arith
 
   pub module_inside : {n m : ℕ} → IsModule b.stages n m → IsModule inside.stages n m
-  module_inside {n} {m} own = subst (λ (b : BlockState). IsModule b.stages n m) (sym same) own
+  module_inside {n} {m} own = grind arith
 
   pub element_inside : {n p : ℕ} → IsElement b.stages n p → IsElement inside.stages n p
   element_inside own = grind arith
@@ -78,7 +78,7 @@ module _ {inside b : BlockState} (same : inside ≡ b) where
   switch_within own entries = grind arith
 
   pub module_entry : (n m len : ℕ) → IsModule b.stages n m → len ≡ length inside.modules → length inside.modules ≡ 2 ^ inside.stages → m < len
-  module_entry n m len own places entries = subst (λ count. m < count) (sym (places ∙ entries)) (module_inside own).small
+  module_entry n m len own places entries = grind (arith, module_inside)
 
   pub switch_passed : (act : BlockState → Switch → BlockState) (n : ℕ) {o : Option Switch} → o ≡ get_or inside.switches n o → o ≡ None
       → record inside { switches = set inside.switches n o } ≡ elim (switch_at b.switches n) [ None ↦ b | Some w ↦ act b w ]
@@ -90,10 +90,7 @@ module _ {inside b : BlockState} (same : inside ≡ b) where
 
   pub module_passed : (act : BlockState → Bank → BlockState) (m : ℕ) {o : Option Bank} → o ≡ get_or inside.modules m o → o ≡ None
       → record inside { modules = set inside.modules m o } ≡ elim (module_at b.modules m) [ None ↦ b | Some bank ↦ act b bank ]
-  module_passed act m read none =
-      ap (λ bs. record inside { modules = bs }) (put_back inside.modules m read)
-      ∙ none_there inside.modules m read inside (act inside) none
-      ∙ ap (λ (b : BlockState). elim (module_at b.modules m) [ None ↦ b | Some bank ↦ act b bank ]) same
+  module_passed act m read none = grind (arith, put_back, none_there, module_at)
 
   pub module_worked : (act : BlockState → Bank → BlockState) {n m : ℕ} {o : Option Bank} {bank : Bank} → IsModule b.stages n m → length inside.modules ≡ 2 ^ inside.stages
       → o ≡ get_or inside.modules m o → o ≡ Some bank → act inside bank ≡ elim (module_at b.modules m) [ None ↦ b | Some bank ↦ act b bank ]

@@ -1,5 +1,5 @@
 -- In each half a unit has at most two events, so there is memory for all events of a cycle.
-use Rattle.std.proofs.Common.{◌≡◌, ℕ, zero, suc, ◌+◌, ◌*◌, ◌≤◌, List, Bool, Option, length, length-append, subst, arith}
+use Rattle.std.proofs.Common.{ℕ, zero, suc, ◌+◌, ◌*◌, ◌≤◌, List, Bool, Option, length, length-append, subst, arith}
 use Rattle.ultra_msg.specs.declared.Request.{Request}
 use Rattle.ultra_switch.specs.declared.Switch.{Switch}
 use Rattle.ultra_switch.specs.declared.Ports.{Ports}
@@ -13,12 +13,7 @@ use Rattle.ultra_section.proofs.Once.{entries_before}
 pub few_entries : {T E : Type 0} (entries : ℕ → T → List E) (t : T) (most : ℕ) → ((n : ℕ) → length (entries n t) ≤ most) → (m : ℕ) → length (entries_before entries m t) ≤ m * most
 unfolding entries_before
 few_entries entries t most few zero = omega arith
-few_entries entries t most few (suc n) =
-    let before = few_entries entries t most few n in
-    let here = few n in
-    let all = length-append (entries_before entries n t) (entries n t) in
-    let next : suc n * most ≡ n * most + most = grind arith in
-    omega arith
+few_entries entries t most few (suc n) = omega (arith, few_entries entries t most few n, few n, length-append (entries_before entries n t) (entries n t))
 
 ordered_present : {E : Type 0} (turned : Bool) (x y : Option E) → length (present (in_order turned x y)) ≤ 2
 ordered_present turned x y = grind arith

@@ -1,6 +1,6 @@
 -- What the sets of a block say of its units is kept when one of them is put anew and noted.
 use Rattle.std.proofs.lemmas.Grind.{common_steps}
-use Rattle.std.proofs.Common.{◌≡◌, ◌≢◌, ℕ, ◌^◌, ◌<◌, ◌≤◌, List, Bool, Option, Some, None, set, get_or, refl, sym, ◌∙◌, ap, subst, arith, get_or-set_same, get_or-set_other}
+use Rattle.std.proofs.Common.{◌≡◌, ◌≢◌, ℕ, ◌^◌, ◌<◌, ◌≤◌, List, Bool, true, false, Option, Some, None, set, get_or, refl, sym, ◌∙◌, ap, subst, arith, get_or-set_same, get_or-set_other}
 use Rattle.std.specs.Prelude.{not, is_some, length, slice_index_or}
 use Rattle.std.proofs.lemmas.List.{length-set, get_or_default}
 use Rattle.ultra_switch.specs.declared.Switch.{Switch}
@@ -101,9 +101,18 @@ pub serving_noted : (f g : UnitFacts) (b c : Bank) → g ≡ record f { holds_re
     → KnowsModule f (Some b) → KnowsModule g (Some c)
 serving_noted f g b c is known = grind arith
 
-pub element_noted : (f g : UnitFacts) (e v : ProcessingElement) → KnowsElement f (Some e)
-    → g ≡ record f { holds_requests = holds_request v; running = not (has_stopped v.processor.core.activity) } → KnowsElement g (Some v)
-element_noted f g e v known is = grind arith
+-- a processing element that has issued a request, one that has stopped, and one that a request has left
+pub issue_noted : (f g : UnitFacts) (e v : ProcessingElement) → g ≡ record f { holds_requests = true } → holds_request v ≡ true
+    → has_stopped v.processor.core.activity ≡ has_stopped e.processor.core.activity → KnowsElement f (Some e) → KnowsElement g (Some v)
+issue_noted f g e v is holds runs known = grind arith
+
+pub stop_noted : (f g : UnitFacts) (e v : ProcessingElement) → g ≡ record f { running = false } → holds_request v ≡ holds_request e
+    → has_stopped v.processor.core.activity ≡ true → KnowsElement f (Some e) → KnowsElement g (Some v)
+stop_noted f g e v is holds stopped known = grind arith
+
+pub leaving_noted : (f g : UnitFacts) (e v : ProcessingElement) → g ≡ record f { holds_requests = holds_request v }
+    → has_stopped v.processor.core.activity ≡ has_stopped e.processor.core.activity → KnowsElement f (Some e) → KnowsElement g (Some v)
+leaving_noted f g e v is runs known = grind arith
 
 -- what a read of an entry gives
 pub stands : {X : Type 0} (xs : List (Option X)) (n : ℕ) {o : Option X} {x : X} → n < length xs → o ≡ get_or xs n o → o ≡ Some x → slice_index_or xs n None ≡ Some x
@@ -115,9 +124,10 @@ module _ {d : ℕ} {s : Sets} {ws : List (Option Switch)} {bs : List (Option Ban
   switch_was n {o} {w} within read is = grind (arith, common_steps)
 
   pub module_was : {n m : ℕ} {o : Option Bank} {b : Bank} → IsModule d n m → o ≡ get_or bs m o → o ≡ Some b → KnowsModule (facts_at s n) (Some b)
-  module_was {n} {m} {o} {b} own read is =
-      subst (λ k. KnowsModule (facts_at s k) (Some b)) (sym own.number)
-      (subst (λ x. KnowsModule (facts_at s (module_number d m)) x) (stands bs m (omega (arith, known.module_entries, own.small)) read is) (known.modules m own.small))
+  module_was {n} {m} {o} {b} own read is = grind (arith, facts_at, module_number, stands)
+
+  pub element_was : {n p : ℕ} {o : Option ProcessingElement} {e : ProcessingElement} → IsElement d n p → o ≡ get_or es p o → o ≡ Some e → KnowsElement (facts_at s n) (Some e)
+  element_was {n} {p} {o} {e} own read is = grind (arith, facts_at, element_number, stands)
 
   -- a processing element is changed so that what is known of it is still true
   pub element_same : {n p : ℕ} {o : Option ProcessingElement} {e : ProcessingElement} (v : ProcessingElement) → IsElement d n p → o ≡ get_or es p o → o ≡ Some e
@@ -166,13 +176,10 @@ module _ {d : ℕ} {old now : Sets} {ws : List (Option Switch)} {bs : List (Opti
       (subst (λ k. KnowsModule (facts_at now k) (Some c)) own.number there)
 
   pub element_changed : {n p : ℕ} {o : Option ProcessingElement} {e : ProcessingElement} (v : ProcessingElement) → IsElement d n p → o ≡ get_or es p o → o ≡ Some e → AgreeBut n old now
-      → facts_at now n ≡ record (facts_at old n) { holds_requests = holds_request v; running = not (has_stopped v.processor.core.activity) }
-      → UnitsAreKnown d now ws bs (set es p (Some v))
+      → (KnowsElement (facts_at old n) (Some e) → KnowsElement (facts_at now n) (Some v)) → UnitsAreKnown d now ws bs (set es p (Some v))
   element_changed {n} {p} {o} {e} v own read is agree noted =
-      let was = subst (λ k. KnowsElement (facts_at old k) (Some e)) (sym own.number)
-      (subst (λ x. KnowsElement (facts_at old (element_number d p)) x) (stands es p (omega (arith, known.element_entries, own.small)) read is) (known.elements p own.small)) in
       element_known known p (Some v) own.small (subst (λ k. AgreeBut k old now) own.number agree)
-      (subst (λ k. KnowsElement (facts_at now k) (Some v)) own.number (element_noted (facts_at old n) (facts_at now n) e v was noted))
+      (subst (λ k. KnowsElement (facts_at now k) (Some v)) own.number (noted (element_was known own read is)))
 
 -- ---- a block whose units have changed, or what is on its links
 pub still_kept : {d wiring : ℕ} {program : List Instr} {old now : Sets} {awake woken : List ℕ} {ws vs : List (Option Switch)} {bs cs : List (Option Bank)} {es fs : List (Option ProcessingElement)}
@@ -180,12 +187,4 @@ pub still_kept : {d wiring : ℕ} {program : List Instr} {old now : Sets} {awake
     → IsKept d wiring program old awake ws bs es old_replies old_requests event_places stop_places → UnitsAreKnown d now vs cs fs → AreOthersAtRest d program woken fs
     → RepliesAreKnown d for_replies → RequestsAreKnown d for_requests → event_places ≤ more_event_places → stop_places ≤ more_stop_places
     → IsKept d wiring program now woken vs cs fs for_replies for_requests more_event_places more_stop_places
-still_kept kept units rests replies requests more_events more_stops = record {
-  network = kept.network;
-  units = units;
-  rests = rests;
-  replies = replies;
-  requests = requests;
-  events_fit = omega (arith, kept.events_fit);
-  stops_fit = omega (arith, kept.stops_fit);
-}
+still_kept kept units rests replies requests more_events more_stops = grind arith

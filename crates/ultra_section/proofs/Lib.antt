@@ -11,7 +11,6 @@ pub mod Moved
 pub mod OfKind
 pub mod Empty
 pub mod Once
-pub mod ByKind
 pub mod RepliesSentOnce
 pub mod RequestsSentOnce
 pub mod ServedOnce

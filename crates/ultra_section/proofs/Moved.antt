@@ -1,5 +1,5 @@
 -- A unit is put into a block, or taken out of it.
-use Rattle.std.proofs.Common.{◌≡◌, ℕ, ◌+◌, ◌*◌, ◌^◌, ◌≤◌, List, replicate, Option, None, refl, arith}
+use Rattle.std.proofs.Common.{◌≡◌, ℕ, ◌+◌, ◌*◌, ◌^◌, ◌≤◌, List, replicate, Option, None, arith}
 use Rattle.std.proofs.lemmas.List.{length-replicate}
 use Rattle.ultra_msg.specs.declared.Request.{Request}
 use Rattle.ultra_msg.specs.declared.ReplyMessage.{ReplyMessage}
@@ -19,7 +19,7 @@ pub switch_gone : (f : UnitFacts) → f ≡ no_facts → KnowsSwitch f None
 switch_gone f none = grind arith
 
 pub module_gone : (f : UnitFacts) → f ≡ no_facts → KnowsModule f None
-module_gone f none = rw none record { here = refl; holds_replies = refl; holds_requests = refl; no_room_zero = refl; to_serve = refl; keeps_records = refl }
+module_gone f none = grind arith
 
 pub element_gone : (f : UnitFacts) → f ≡ no_facts → KnowsElement f None
 element_gone f none = grind arith

@@ -60,13 +60,7 @@ module _ (f : UnitFacts) (w : Switch) (known : KnowsSwitch f (Some w)) where
       }
 
   pub replies_came : (d s : ℕ) (came : Ports (Option ReplyMessage)) → HasMoreReplies f (after_replies d s w came)
-  replies_came d s came =
-      let zero = longer w.to_pe.zero.replies (going_by d s 0 (replies_made w.to_mm.zero.lane.records came.zero)) (going_by d s 0 (replies_made w.to_mm.one.lane.records came.one)) in
-      let one = longer w.to_pe.one.replies (going_by d s 1 (replies_made w.to_mm.zero.lane.records came.zero)) (going_by d s 1 (replies_made w.to_mm.one.lane.records came.one)) in
-      record {
-        holds = λ was. held_more _ _ _ _ zero one (sym known.holds_replies ∙ was);
-        full = λ was. both_full_more 4 _ _ _ _ _ _ zero one (sym known.no_reply_room ∙ was);
-      }
+  replies_came d s came = grind (arith, longer, going_by, replies_made, held_more, both_full_more)
 
   pub replies_left : {X : Type 0} (out : Ports (Option X)) → HasFewerReplies f (without_replies w out)
   replies_left out =

@@ -24,21 +24,21 @@ impl Block {
             return;
         };
         let outcome = element.execute(&self.program, pe);
-        if let Outcome::AtRest = outcome {
-            self.awake.remove(number);
-            return;
-        }
-        if let Outcome::Done = outcome
-            && !element.has_stopped()
-        {
-            // it holds no request that it didn't hold before
-            return;
-        }
-        self.sets.note_element(number, element);
         match outcome {
-            Outcome::Issued(event) => append(&mut self.events, event),
-            Outcome::Faulted(stop) => append(&mut self.stops, stop),
-            Outcome::Done | Outcome::AtRest => {}
+            Outcome::AtRest => self.awake.remove(number),
+            Outcome::Done => {
+                if element.has_stopped() {
+                    self.sets.note_stopped(number);
+                }
+            }
+            Outcome::Issued(event) => {
+                self.sets.note_issued(number);
+                append(&mut self.events, event);
+            }
+            Outcome::Faulted(stop) => {
+                self.sets.note_stopped(number);
+                append(&mut self.stops, stop);
+            }
         }
     }
 }

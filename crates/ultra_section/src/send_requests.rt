@@ -113,7 +113,7 @@ impl Block {
             return;
         }
         let out = element.send_request();
-        self.sets.note_element(number, element);
+        self.sets.note_request_left(number, element);
         leave_element(&mut self.requests, net, pe, out);
     }
 }

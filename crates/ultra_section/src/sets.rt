@@ -95,7 +95,9 @@ impl Sets {
         ensures others { (k : ℕ) → k ≢ number → facts_at self.new k ≡ facts_at self.old k }
     {
         self.stand(number);
-        self.note_element(number, element);
+        let unit = UnitBit::of(number);
+        self.holds_requests.insert_if(unit, element.holds_request());
+        self.running.insert_if(unit, !element.has_stopped());
     }
 
     /// A unit doesn't stand here any more.
@@ -248,14 +250,35 @@ impl Sets {
             .insert_if(unit, modules::holds_request(bank) && !holds_reply);
     }
 
-    /// Notes what is true of a processing element that stands here.
+    /// Notes that a processing element holds a request.
     #[inline(always)]
-    pub(crate) fn note_element(&mut self, number: usize, element: &ProcessingElement)
+    pub(crate) fn note_issued(&mut self, number: usize)
         requires { number < 320 }
-        ensures there { facts_at self.new number ≡ record (facts_at self.old number) { holds_requests = holds_request element.now; running = not (has_stopped element.now.processor.core.activity) } }
+        ensures there { facts_at self.new number ≡ record (facts_at self.old number) { holds_requests = true } }
         ensures others { (k : ℕ) → k ≢ number → facts_at self.new k ≡ facts_at self.old k }
     {
-        self.holds_requests.note(number, element.holds_request());
-        self.running.note(number, !element.has_stopped());
+        self.holds_requests.insert(number);
+    }
+
+    /// Notes that a processing element has stopped.
+    #[inline(always)]
+    pub(crate) fn note_stopped(&mut self, number: usize)
+        requires { number < 320 }
+        ensures there { facts_at self.new number ≡ record (facts_at self.old number) { running = false } }
+        ensures others { (k : ℕ) → k ≢ number → facts_at self.new k ≡ facts_at self.old k }
+    {
+        self.running.remove(number);
+    }
+
+    /// Notes what is true of the requests of a processing element, once one has left it.
+    #[inline(always)]
+    pub(crate) fn note_request_left(&mut self, number: usize, element: &ProcessingElement)
+        requires small { number < 320 }
+        requires fewer { (facts_at self.old number).holds_requests ≡ false → holds_request element.now ≡ false }
+        ensures there { facts_at self.new number ≡ record (facts_at self.old number) { holds_requests = holds_request element.now } }
+        ensures others { (k : ℕ) → k ≢ number → facts_at self.new k ≡ facts_at self.old k }
+    {
+        self.holds_requests
+            .remove_unless(UnitBit::of(number), element.holds_request());
     }
 }

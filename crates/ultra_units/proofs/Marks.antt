@@ -1,16 +1,12 @@
 -- What is known of links is kept when something is put on one, and when something is taken.
 use Rattle.std.proofs.Common.{◌≡◌, ◌≢◌, ℕ, List, true, false, Option, None, length, replicate, set, get_or, arith, get_or-set_same, get_or-set_other}
 use Rattle.std.specs.Prelude.{is_some, ◌⊎◌}
-use Rattle.std.specs.Option.{ForSome}
 use Rattle.std.proofs.lemmas.List.{length-set, length-replicate, get_or-replicate, get_or_past}
 use Rattle.ultra_switch.specs.declared.Ports.{Ports}
 use Rattle.ultra_units.specs.Set.{has_unit}
 use Rattle.ultra_units.specs.Links.{put_on}
 use Rattle.ultra_units.specs.Marks.{IsMarked, on_link, without_both}
 use Rattle.ultra_units.specs.declared.links.Links.{Links}
-
-none_there : {M : Type 0} (o : Option M) → (is_some o ≡ true → o ≡ None) → o ≡ None
-none_there o h = grind arith
 
 pub length-put_on : {M : Type 0} (t : List (Option M)) (link : ℕ) (o : Option M) → length (put_on t link o) ≡ length t
 length-put_on t link o = grind (arith, length-set)
@@ -28,9 +24,6 @@ fewer_set t a link = grind (arith, emptied, get_or-set_other)
 
 pub fewer_both : {M : Type 0} (t : List (Option M)) (a b : ℕ) → Fewer t (set (set t a None) b None)
 fewer_both t a b link = grind (arith, fewer_set)
-
-pub for_fewer : {M : Type 0} (o now : Option M) (P : M → Type 0) → (now ≡ o) ⊎ (now ≡ None) → ForSome o P → ForSome now P
-for_fewer o now P either all x is = grind arith
 
 pub emptied_first : {M : Type 0} (t : List (Option M)) (a b : ℕ) → on_link (set (set t a None) b None) a ≡ None
 emptied_first t a b = grind (arith, fewer_set, emptied)
@@ -66,6 +59,3 @@ nothing_there l unit link marked none = grind arith
 -- ---- nothing is on links
 pub no_entry : {X : Type 0} (xs : List (Option X)) (m n : ℕ) → xs ≡ replicate m None → get_or xs n None ≡ None
 no_entry xs m n is = grind (arith, get_or-replicate, get_or_past, length-replicate)
-
-pub nothing_marked : {M : Type 0} (l : Links M) (m : ℕ) → l.table.items ≡ replicate m None → (unit link : ℕ) → IsMarked l unit link
-nothing_marked l m is unit link some = grind (arith, no_entry)

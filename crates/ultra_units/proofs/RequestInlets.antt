@@ -1,79 +1,42 @@
--- The links by which requests come to a unit.
-use Rattle.std.proofs.Common.{◌≡◌, ℕ, ◌+◌, ◌*◌, ◌^◌, ◌<◌, ◌≤◌, Some, None, length, set, sym, ◌∙◌, ap, subst, arith, refl, inl, inr, false}
-use Rattle.std.specs.Prelude.{◌⊎◌}
-use Rattle.std.proofs.lemmas.List.{length-set}
-use Rattle.std.proofs.lemmas.Option.{same_Some}
+-- Links of requests: what is known of them, and those by which requests come to a unit.
+use Rattle.std.proofs.Common.{◌≡◌, ℕ, ◌≤◌, Option, Some, false, arith}
 use Rattle.ultra_msg.specs.declared.Request.{Request}
 use Rattle.ultra_switch.specs.declared.Ports.{Ports}
 use Rattle.ultra_units.specs.Set.{has_unit}
-use Rattle.ultra_units.specs.Numbers.{switch_count, module_number}
 use Rattle.ultra_units.specs.declared.links.Links.{Links}
-use Rattle.ultra_units.specs.declared.unit.Unit.{Unit as UnitName}
-use Rattle.ultra_units.specs.declared.unit.Unit.TheVariants as unit
-use Rattle.ultra_units.specs.Units.{unit_of, stage_of, index_of, IsUnit, IsSwitch, IsModule}
-use Rattle.ultra_units.specs.Marks.{RequestsAreKnown, request_links, memory_link}
+use Rattle.ultra_units.specs.Units.{IsSwitch, IsModule}
+use Rattle.ultra_units.specs.Marks.{RequestsAreKnown, request_inbound, request_links, memory_link}
 use Rattle.ultra_units.specs.Inlets.{AreEmpty, at_both, request_inlets}
-use Rattle.ultra_units.proofs.Readers.{request_reader, request_to_module}
-use Rattle.ultra_units.proofs.Marks.{HasTaken, nothing_there, taken_marked}
+use Rattle.ultra_units.proofs.Readers.{LeadTo, request_reader, requests_to_switch, request_to_module}
 use Rattle.ultra_units.proofs.Standing.{unit_is}
-use Rattle.ultra_units.proofs.RequestMarks.{both_links}
-
--- the inlets of unit n: they lead to it, and no other link does
-pub record Inlets (d n : ℕ) (p : Ports ℕ) : Type 0 where
-  pub zero_small : p.zero < (d + 1) * 2 ^ d
-  pub one_small : p.one < (d + 1) * 2 ^ d
-  pub zero_reader : request_reader d p.zero ≡ n
-  pub one_reader : request_reader d p.one ≡ n
-  pub switches_zero : (j : ℕ) → j < switch_count d → j ≡ n → ((request_links d (stage_of d j) (index_of d j)).zero ≡ p.zero) ⊎ ((request_links d (stage_of d j) (index_of d j)).zero ≡ p.one)
-  pub switches_one : (j : ℕ) → j < switch_count d → j ≡ n → ((request_links d (stage_of d j) (index_of d j)).one ≡ p.zero) ⊎ ((request_links d (stage_of d j) (index_of d j)).one ≡ p.one)
-  pub modules : (q : ℕ) → q < 2 ^ d → module_number d q ≡ n → (memory_link d q ≡ p.zero) ⊎ (memory_link d q ≡ p.one)
+use Rattle.ultra_units.proofs.Marks.{HasPut, HasTaken, nothing_there}
+use Rattle.ultra_units.proofs.Leading as leading
 
 module _ (d : ℕ) (low : 1 ≤ d) (high : d ≤ 6) where
-  pub at_switch : (n s k : ℕ) → IsSwitch d n s k → Inlets d n (request_links d s k)
-  at_switch n s k is =
-      let lead = both_links d low high n s k is in
-      let own : request_links d s k ≡ request_links d (stage_of d n) (index_of d n) = rw (is.stage, is.index) refl in
-      record {
-        zero_small = lead.first_small;
-        one_small = lead.second_small;
-        zero_reader = lead.first;
-        one_reader = lead.second;
-        switches_zero = λ j h same. inl (ap (λ x. (request_links d (stage_of d x) (index_of d x)).zero) same ∙ ap (λ (q : Ports ℕ). q.zero) (sym own));
-        switches_one = λ j h same. inr (ap (λ x. (request_links d (stage_of d x) (index_of d x)).one) same ∙ ap (λ (q : Ports ℕ). q.one) (sym own));
-        modules = λ q h same. absurd (let within = is.within in omega arith);
-      }
+  are_read : leading.AreRead d (request_reader d) (request_inbound d)
+  are_read = record { switches = requests_to_switch d low high; ends = request_to_module d low high; ends_small = λ p h. grind arith; behind = λ p. omega arith; apart = λ p q same. omega arith }
 
-  pub at_end : (n p : ℕ) → IsModule d n p → Inlets d n (at_both (memory_link d p))
-  at_end n p is = grind (arith, request_to_module)
+  pub both_links : (n s k : ℕ) → IsSwitch d n s k → LeadTo d (request_reader d) n (request_links d s k).zero (request_links d s k).one
+  both_links n s k is = rw (is.stage, is.index) (requests_to_switch d low high n is.within)
 
-  at_unit : (n : ℕ) (u : UnitName) (p : Ports ℕ) → IsUnit d n u
-      → elim u [ unit.Switch s k ↦ Some (request_links d s k) | unit.Module m ↦ Some (at_both (memory_link d m)) | unit.Element p ↦ None | unit.Nothing ↦ None ] ≡ Some p → Inlets d n p
-  at_unit n (unit.Switch s k) p is same = subst (Inlets d n) (same_Some _ _ same) (at_switch n s k is)
-  at_unit n (unit.Module m) p is same = subst (Inlets d n) (same_Some _ _ same) (at_end n m is)
-  at_unit n (unit.Element m) p is same = cc
-  at_unit n unit.Nothing p is same = cc
+  abbrev pub Inlets : ℕ → Ports ℕ → Type 0
+  Inlets = leading.Inlets d (request_reader d) (request_inbound d)
 
-  pub inlets : (n : ℕ) (p : Ports ℕ) → request_inlets d n ≡ Some p → Inlets d n p
-  inlets n p same = at_unit n (unit_of d n) p (unit_is d n) same
+  pub at_switch : (n s k : ℕ) → IsSwitch d n s k → Inlets n (request_links d s k)
+  at_switch = leading.at_switch d (request_reader d) (request_inbound d) are_read
 
-  -- what is known of links is kept when what leads to a unit is taken
-  pub known_taken : (l m : Links Request) (n : ℕ) (p : Ports ℕ) → Inlets d n p → HasTaken l m n p → RequestsAreKnown d l → RequestsAreKnown d m
-  known_taken l m n p it taken known = record {
-    all = ap length taken.table ∙ length-set (set l.table.items p.zero None) p.one None ∙ length-set l.table.items p.zero None ∙ known.all;
-    switches_zero = λ j h. taken_marked l m n p taken j (request_links d (stage_of d j) (index_of d j)).zero (it.switches_zero j h) (known.switches_zero j h);
-    switches_one = λ j h. taken_marked l m n p taken j (request_links d (stage_of d j) (index_of d j)).one (it.switches_one j h) (known.switches_one j h);
-    modules = λ q h. taken_marked l m n p taken (module_number d q) (memory_link d q) (it.modules q h) (known.modules q h);
-  }
+  pub at_end : (n p : ℕ) → IsModule d n p → Inlets n (at_both (memory_link d p))
+  at_end n p is = leading.at_end d (request_reader d) (request_inbound d) are_read n p is.small is.number
+
+  pub inlets : (n : ℕ) (p : Ports ℕ) → request_inlets d n ≡ Some p → Inlets n p
+  inlets n p same = grind (arith, at_switch, at_end, unit_is)
+
+  pub known_put : (l m : Links Request) (at target : ℕ) (o : Option Request) → request_reader d at ≡ target → HasPut l m at target o → RequestsAreKnown d l → RequestsAreKnown d m
+  known_put = leading.known_put d (request_reader d) (request_inbound d) are_read
+
+  pub known_taken : (l m : Links Request) (n : ℕ) (p : Ports ℕ) → Inlets n p → HasTaken l m n p → RequestsAreKnown d l → RequestsAreKnown d m
+  known_taken = leading.known_taken d (request_reader d) (request_inbound d) are_read
 
 -- nothing is on the links of a unit that isn't among those to which something is known to lead
-module _ (d : ℕ) (l : Links Request) (known : RequestsAreKnown d l) (n : ℕ) (none : has_unit l.targets n ≡ false) where
-  none_at : (u : UnitName) → IsUnit d n u → AreEmpty l.table.items (elim u [ unit.Switch s k ↦ Some (request_links d s k) | unit.Module m ↦ Some (at_both (memory_link d m)) | unit.Element p ↦ None | unit.Nothing ↦ None ])
-  none_at (unit.Switch s k) is =
-      rw (is.stage, is.index) (nothing_there l n _ (known.switches_zero n is.within) none, nothing_there l n _ (known.switches_one n is.within) none)
-  none_at (unit.Module m) is =
-      let empty = nothing_there l (module_number d m) _ (known.modules m is.small) (ap (has_unit l.targets) (sym is.number) ∙ none) in (empty, empty)
-  none_at (unit.Element p) is = tt
-  none_at unit.Nothing is = tt
-
-  pub none_lead : AreEmpty l.table.items (request_inlets d n)
-  none_lead = none_at (unit_of d n) (unit_is d n)
+pub none_lead : (d : ℕ) (l : Links Request) → RequestsAreKnown d l → (n : ℕ) → has_unit l.targets n ≡ false → AreEmpty l.table.items (request_inlets d n)
+none_lead d l known n none = grind (arith, nothing_there, unit_is)

@@ -16,26 +16,18 @@ shifted n from i = ap (λ x. x % 2) (shr-shr n from i)
 
 module _ (word from : ℕ) (fits : word < 2 ^ 64) where
   pub no_bit : word / 2 ^ from ≡ 0 → HasNoBitFrom word from
-  no_bit none i after within =
-      let place : from + (i - from) ≡ i = omega arith in
-      ap (bit_at word) (sym place) ∙ sym (shifted word from (i - from)) ∙ ap (λ x. bit_at x (i - from)) none ∙ bit_at-zero (i - from)
+  no_bit none i after within = let there = shifted word from (i - from) in grind (arith, bit_at-zero)
 
   pub first_of_bits : 0 < word / 2 ^ from → IsFirstBit word from (from + trailing_zeros w64 (word / 2 ^ from))
   first_of_bits some =
-      let rest : ℕ = word / 2 ^ from in
-      let t : ℕ = trailing_zeros w64 rest in
-      let lowest = bit_at-trailing_zeros w64 rest some (omega (arith, shr_le word from)) in
+      let t : ℕ = trailing_zeros w64 (word / 2 ^ from) in
+      let lowest = bit_at-trailing_zeros w64 (word / 2 ^ from) some (omega (arith, shr_le word from)) in
       let here : bit_at word (from + t) ≡ 1 = sym (shifted word from t) ∙ lowest.1 in
-      let within : from + t < 64 =
-      elim (cases_lt (from + t) 64)
-      [ inl below ↦ below | inr past ↦ absurd (let none = bit_at_above word 64 (from + t) fits past in omega arith) ] in
       record {
         after = omega arith;
-        within = within;
+        within = elim (cases_lt (from + t) 64) [ inl below ↦ below | inr past ↦ absurd (let none = bit_at_above word 64 (from + t) fits past in omega arith) ];
         set = here;
-        between = λ i after before.
-            let place : from + (i - from) ≡ i = omega arith in
-            ap (bit_at word) (sym place) ∙ sym (shifted word from (i - from)) ∙ lowest.2 (i - from) (omega arith);
+        between = λ i after before. let there = shifted word from (i - from) in let low = lowest.2 (i - from) (omega arith) in grind arith;
       }
 
 -- ---- one unit
@@ -85,11 +77,18 @@ module _ (words : List ℕ) (number : ℕ) (within : number < 64 * length words)
   removed_others = others_kept unmarked (λ i inside other. bit_at_clear_other w64 _ (number % 64) (omega arith) i inside other)
 
   -- the same by where its bit is
-  pub bit_inserted : (w b : ℕ) → IsBitOf number w b → set words w (bit_or (get_or words w 0) b) ≡ set words (number / 64) marked
-  bit_inserted w b is = grind (arith, alone)
+  module _ {w b : ℕ} (is : IsBitOf number w b) where
+    pub bit_inserted : has_unit (set words w (bit_or (get_or words w 0) b)) number ≡ true
+    bit_inserted = grind (arith, alone, inserted_there)
 
-  pub bit_removed : (w b : ℕ) → IsBitOf number w b → set words w (bit_and (get_or words w 0) (bit_not w64 b)) ≡ set words (number / 64) unmarked
-  bit_removed w b is = grind (arith, alone)
+    pub bit_inserted_others : (k : ℕ) → k ≢ number → has_unit (set words w (bit_or (get_or words w 0) b)) k ≡ has_unit words k
+    bit_inserted_others k other = let kept = inserted_others k other in grind (arith, alone)
+
+    pub bit_removed : has_unit (set words w (bit_and (get_or words w 0) (bit_not w64 b))) number ≡ false
+    bit_removed = grind (arith, alone, removed_there)
+
+    pub bit_removed_others : (k : ℕ) → k ≢ number → has_unit (set words w (bit_and (get_or words w 0) (bit_not w64 b))) k ≡ has_unit words k
+    bit_removed_others k other = let kept = removed_others k other in grind (arith, alone)
 
 -- ---- the units of a word
 
@@ -101,20 +100,17 @@ at_bit words w b within = grind arith
 -- units b to c of word w, whose bits are clear
 clear_bits : (words : List ℕ) (w b c : ℕ) → c ≤ 64 → ((i : ℕ) → b ≤ i → i < c → bit_at (get_or words w 0) i ≡ 0)
     → HasNoneWithin words (w * 64 + b) (w * 64 + c)
-clear_bits words w b c within zeros k after before =
-    let place : w * 64 + (k - w * 64) ≡ k = omega arith in
-    ap (has_unit words) (sym place) ∙ at_bit words w (k - w * 64) (omega arith)
-    ∙ ap (λ x. eqb x 1) (zeros (k - w * 64) (omega arith) (omega arith))
+clear_bits words w b c within zeros k after before = let there = at_bit words w (k - w * 64) (omega arith) in grind arith
 
 module _ (words : List ℕ) (from w b : ℕ) (place : from ≡ w * 64 + b) where
   pub none_in_word : HasNoBitFrom (get_or words w 0) b → HasNoneWithin words from ((w + 1) * 64)
   none_in_word zeros k after before = clear_bits words w b 64 (omega arith) zeros k (omega arith) (omega arith)
 
   pub first_in_word : (distance : ℕ) → w < 5 → IsFirstBit (get_or words w 0) b (b + distance) → IsFirstFrom words from (from + distance)
-  first_in_word distance small first = let at : w * 64 + (b + distance) ≡ from + distance = omega arith in record {
+  first_in_word distance small first = let there = at_bit words w (b + distance) first.within in record {
     after = omega arith;
     within = omega (arith, first.within);
-    there = ap (has_unit words) (sym at) ∙ at_bit words w (b + distance) first.within ∙ ap (λ x. eqb x 1) first.set;
+    there = grind arith;
     between = λ k after before. clear_bits words w b (b + distance) (omega (arith, first.within)) first.between k (omega arith) (omega arith);
   }
 

@@ -9,8 +9,8 @@ unfolding after_units
 skip f old now from zero is still = is ∙ ap (λ n. after_units f n old) (omega arith)
 skip f old now from (suc n) is still =
     let before = skip f old now from n is (λ k after within. still k after (omega arith)) in
-    sym (still (from + n) (omega arith) (omega arith)) ∙ ap (f (from + n)) before
-    ∙ ap (λ k. after_units f k old) (let next : suc (from + n) ≡ from + suc n = omega arith in next)
+    let next : suc (from + n) ≡ from + suc n = omega arith in
+    sym (still (from + n) (omega arith) (omega arith)) ∙ ap (f (from + n)) before ∙ ap (λ k. after_units f k old) next
 
 pub skipped : {T : Type 0} (f : ℕ → T → T) (old now : T) (from to : ℕ) → from ≤ to → now ≡ after_units f from old → AreStillWithin f now from to
     → now ≡ after_units f to old

@@ -20,6 +20,21 @@ IsMarked l unit link = is_some (on_link l.table.items link) ≡ true → has_uni
 abbrev pub HasAllLinks : {M : Type 0} → ℕ → Links M → Type 0
 HasAllLinks d l = length l.table.items ≡ (d + 1) * 2 ^ d
 
+-- the links by which messages of one kind come to the units: to switch k of stage s, and to module
+-- or processing element p, by its number
+pub record Inbound : Type 0 where
+  pub links : ℕ → ℕ → Ports ℕ
+  pub number : ℕ → ℕ
+  pub link : ℕ → ℕ
+
+pub record AreKnown {M : Type 0} (d : ℕ) (by : Inbound) (l : Links M) : Type 0 where
+  pub all : HasAllLinks d l
+  pub switches_zero : (n : ℕ) → n < switch_count d
+      → IsMarked l n (by.links (stage_of d n) (index_of d n)).zero
+  pub switches_one : (n : ℕ) → n < switch_count d
+      → IsMarked l n (by.links (stage_of d n) (index_of d n)).one
+  pub ends : (p : ℕ) → p < 2 ^ d → IsMarked l (by.number p) (by.link p)
+
 -- ---- replies
 -- the links by which replies come to switch k of stage s, and to processing element p
 abbrev pub reply_links : ℕ → ℕ → ℕ → Ports ℕ
@@ -28,13 +43,13 @@ reply_links d s k = record { zero = reply_source d s (2 * k); one = reply_source
 abbrev pub delivery_link : ℕ → ℕ → ℕ
 delivery_link d p = place_number d 0 (shuffled d p)
 
-pub record RepliesAreKnown (d : ℕ) (l : Links ReplyMessage) : Type 0 where
-  pub all : HasAllLinks d l
-  pub switches_zero : (n : ℕ) → n < switch_count d
-      → IsMarked l n (reply_links d (stage_of d n) (index_of d n)).zero
-  pub switches_one : (n : ℕ) → n < switch_count d
-      → IsMarked l n (reply_links d (stage_of d n) (index_of d n)).one
-  pub elements : (p : ℕ) → p < 2 ^ d → IsMarked l (element_number d p) (delivery_link d p)
+-- the links by which replies come to the units
+abbrev pub reply_inbound : ℕ → Inbound
+reply_inbound d =
+    record { links = reply_links d; number = element_number d; link = delivery_link d }
+
+abbrev pub RepliesAreKnown : ℕ → Links ReplyMessage → Type 0
+RepliesAreKnown d l = AreKnown d (reply_inbound d) l
 
 -- ---- requests
 -- the links by which requests come to switch k of stage s, and to module m
@@ -45,13 +60,13 @@ request_links d s k =
 abbrev pub memory_link : ℕ → ℕ → ℕ
 memory_link d m = place_number d (d - 1) m
 
-pub record RequestsAreKnown (d : ℕ) (l : Links Request) : Type 0 where
-  pub all : HasAllLinks d l
-  pub switches_zero : (n : ℕ) → n < switch_count d
-      → IsMarked l n (request_links d (stage_of d n) (index_of d n)).zero
-  pub switches_one : (n : ℕ) → n < switch_count d
-      → IsMarked l n (request_links d (stage_of d n) (index_of d n)).one
-  pub modules : (m : ℕ) → m < 2 ^ d → IsMarked l (module_number d m) (memory_link d m)
+-- the links by which requests come to the units
+abbrev pub request_inbound : ℕ → Inbound
+request_inbound d =
+    record { links = request_links d; number = module_number d; link = memory_link d }
+
+abbrev pub RequestsAreKnown : ℕ → Links Request → Type 0
+RequestsAreKnown d l = AreKnown d (request_inbound d) l
 
 -- ---- what is taken
 abbrev pub on_both : {M : Type 0} → List (Option M) → Ports ℕ → Ports (Option M)

@@ -1,10 +1,12 @@
-use Rattle.std.proofs.Common.{arith, subst, sym}
+use Rattle.std.proofs.Common.{subst, sym}
 use Rattle.std.proofs.lemmas.List.{get_or_default}
 use Rattle.ultra_section.specs.BlockState.{BlockState}
 use Rattle.ultra_section.specs.Making.{CanMake, own_made}
 use Rattle.ultra_cut.specs.Cut.{no_block}
 use Rattle.ultra_section.proofs.OwnProgram.{can_by_own}
-use Rattle.ultra_block.proofs.Mapped.{holds_next, stepped}
+use Rattle.ultra_block.proofs.Mapped.{holds_next}
+use Rattle.std.proofs.Common.{arith}
+use Rattle.ultra_block.proofs.Mapped.{stepped}
 use Rattle.ultra_block.proofs.every_block.make.Goals as goal
 
 pub loop-block-preserved : goal.loop-block-preserved

@@ -1,6 +1,6 @@
-use Rattle.ultra_cut.specs.Kinds.{NoneLeavesWithin, HasNoneFor}
-use Rattle.std.proofs.Common.{◌≡◌, ◌<◌, arith, get_or, inl, inr, subst, sym}
-use Rattle.std.proofs.lemmas.Bool.{cases_eq, cases_lt}
+use Rattle.ultra_cut.specs.Exchange.{NoneLeavesWithin}
+use Rattle.std.proofs.Common.{◌≡◌, ◌<◌, arith, below_more, get_or, inl, inr, subst, sym}
+use Rattle.std.proofs.lemmas.Bool.{cases_lt}
 use Rattle.std.specs.Prelude.{length}
 use Rattle.std.proofs.lemmas.List.{get_or_default}
 use Rattle.ultra_cut.specs.Cut.{IsCut, block_at, no_block}
@@ -25,19 +25,16 @@ loop-unit-preserved c =
     let bs = c.loop-unit.blocks in
     let now = c.move_home.new.blocks in
     let known = c.loop-unit.invariant in
-    let cut : IsCut net partition bs = still_cut c.args.kind net (omega arith) (omega arith) partition c.args.blocks.now bs known.only c.requires.cut in
+    let cut : IsCut net partition bs = still_cut net partition c.args.blocks.now bs c.args.kind known.only c.requires.cut in
     let there : c.args.from < length bs = subst (λ x. c.args.from < x) (sym known.only.count) c.requires.from in
     let same : get_or bs c.args.from c.index-blocks-from.result ≡ block_at bs c.args.from = get_or_default bs c.args.from c.index-blocks-from.result no_block there in
     record {
       within = omega (arith, next.within);
       only = both_moved c.args.kind c.args.blocks.now bs now known.only c.move_home.ensures.only;
-      gone = λ n before small. elim (cases_eq n unit) [
-        | inl same ↦ subst (λ m. HasNoneFor c.args.kind net partition now c.args.from m) (sym same) (c.move_home.ensures.gone (omega arith))
-        | inr other ↦ c.move_home.ensures.kept c.args.from n (elim (cases_lt n c.loop-unit.next) [
-          | inl early ↦ known.gone n early small
-          | inr late ↦ none_leaves c.args.kind net (omega arith) (omega arith) partition bs c.args.from c.loop-unit.next unit cut there (subst (λ b. NoneLeavesWithin c.args.kind b c.loop-unit.next unit) same next.between) n late (omega arith) small
-        ])
-      ];
+      gone = below_more _ _ (λ n before small. c.move_home.ensures.kept c.args.from n (elim (cases_lt n c.loop-unit.next) [
+        | inl early ↦ known.gone n early small
+        | inr late ↦ none_leaves c.args.kind net (omega arith) (omega arith) partition bs c.args.from c.loop-unit.next unit cut there (subst (λ b. NoneLeavesWithin c.args.kind b c.loop-unit.next unit) same next.between) n late before small
+      ])) c.move_home.ensures.gone;
       kept = λ k n was. c.move_home.ensures.kept k n (known.kept k n was);
     }
 

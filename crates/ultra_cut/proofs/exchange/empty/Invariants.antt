@@ -1,6 +1,6 @@
 use Rattle.std.proofs.Common.{ℕ, ◌<◌, ◌≤◌, ◌-◌}
 use Rattle.ultra_units.specs.Numbers.{unit_count}
-use Rattle.ultra_cut.specs.Kinds.{HasNoneFor, OnlyMove}
+use Rattle.ultra_cut.specs.Exchange.{HasNoneFor, OnlyMove}
 use Rattle.ultra_cut.proofs.exchange.empty.Given as goal
 
 abbrev pub decreases-loop-unit : goal.decreases-loop-unit

@@ -1,5 +1,5 @@
 use Rattle.std.proofs.Common.{subst, sym}
-use Rattle.ultra_cut.specs.Kinds.{HasLinks}
+use Rattle.ultra_cut.specs.Exchange.{HasLinks}
 use Rattle.ultra_cut.proofs.exchange.move_messages.Goals as goal
 
 pub returns-in-Replies-clause-links : goal.returns-in-Replies-clause-links

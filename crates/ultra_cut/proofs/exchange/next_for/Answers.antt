@@ -1,6 +1,6 @@
 use Rattle.std.proofs.Common.{subst, sym, arith}
 use Rattle.std.specs.Prelude.{IfNone}
-use Rattle.ultra_cut.specs.Kinds.{NoneLeavesWithin}
+use Rattle.ultra_cut.specs.Exchange.{NoneLeavesWithin}
 use Rattle.ultra_cut.proofs.BothKinds.{next_reply, next_request}
 use Rattle.ultra_cut.proofs.exchange.next_for.Goals as goal
 

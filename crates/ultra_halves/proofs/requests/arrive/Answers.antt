@@ -1,7 +1,6 @@
 use Rattle.std.proofs.lemmas.Grind.{common_steps}
 use Rattle.std.proofs.Common.{◌≡◌, Some, ap, sym, arith}
 use Rattle.std.specs.Prelude.{is_some, not}
-use Rattle.std.proofs.lemmas.List.{append-nil}
 use Rattle.ultra_switch.specs.Arrive.{combine_within, after_arrival}
 use Rattle.ultra_switch.specs.Queues.{SizedLane}
 use Rattle.ultra_msg.specs.Pair.{is_fixed}
@@ -9,12 +8,6 @@ use Rattle.ultra_msg.specs.declared.Event.TheVariants.{Combined}
 use Rattle.ultra_halves.specs.Halves.{combination_in}
 use Rattle.ultra_halves.proofs.Arrivals.{arrive_longer, combination_kept}
 use Rattle.ultra_halves.proofs.requests.arrive.Goals as goal
-
-pub returns-in-Appended-clause-events : goal.returns-in-Appended-clause-events
-returns-in-Appended-clause-events c = grind (arith, append-nil)
-
-pub returns-in-Appended-clause-combined : goal.returns-in-Appended-clause-combined
-returns-in-Appended-clause-combined c = grind arith
 
 -- the record that was kept gives the combination
 kept : (c : goal.After-append_combination)

@@ -1,13 +1,10 @@
-use Rattle.std.proofs.Common.{arith, ap}
+use Rattle.std.proofs.Common.{ap}
 use Rattle.ultra_model.specs.Machine.{Element}
 use Rattle.ultra_model.specs.Trace.{pe_of}
-use Rattle.ultra_lines.proofs.Numbered.{writes_number, writes_numbers}
+use Rattle.ultra_lines.proofs.Numbered.{writes_number}
 use Rattle.ultra_lines.proofs.ending.put_processors.Goals as goal
 
 pub loop-pe-preserved : goal.loop-pe-preserved
 loop-pe-preserved g c =
     let written = rw (ap (λ (e : Element). e.core) c.element.ensures.state) at c.put_pe.ensures in
     writes_number (pe_of c.args.blocks.now.machine) c.loop-pe.pe c.loop-pe.invariant written
-
-pub returns : goal.returns
-returns g c = writes_numbers (pe_of c.args.blocks.now.machine) c.loop-pe.pe _ (omega arith) c.loop-pe.invariant

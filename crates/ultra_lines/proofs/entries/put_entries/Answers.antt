@@ -1,15 +1,8 @@
 use Rattle.std.proofs.Common.{arith}
 use Rattle.std.proofs.lemmas.List.{take_all}
 use Rattle.ultra_io.proofs.Writing.{◌then◌, ◌moved◌}
-use Rattle.ultra_lines.proofs.Listed.{first_listed, more_listed}
+use Rattle.ultra_lines.proofs.Listed.{more_listed}
 use Rattle.ultra_lines.proofs.entries.put_entries.Goals as goal
-
-pub loop-index-init : goal.loop-index-init
-loop-index-init g c =
-    let E = g.E.Entries in record {
-      goes_on = rw (first_listed E.text (E.entries c.args.entries.now) _ c.entry.ensures) c.write-at.ensures.goes_on;
-      room = omega arith;
-    }
 
 pub loop-index-preserved : goal.loop-index-preserved
 loop-index-preserved g c =

@@ -1,42 +1,21 @@
-use Rattle.std.proofs.Common.{ℕ, ◌+◌, ◌^◌, List, Bool, arith, ap, sym, ◌∙◌}
+use Rattle.std.proofs.Common.{◌+◌, ◌^◌, arith, sym, ◌∙◌}
 use Rattle.ultra_units.specs.Numbers.{module_number}
-use Rattle.ultra_units.specs.Set.{has_unit}
-use Rattle.ultra_model.specs.Trace.{out_of}
-use Rattle.ultra_io.proofs.Writing.{writes_nothing}
-use Rattle.ultra_lines.specs.Holders.{holders_left}
-use Rattle.ultra_lines.proofs.Yielded.{one_came, one_fewer, all_came, writes_one}
-use Rattle.ultra_lines.proofs.Skipped.{next_small, skipped}
 use Rattle.ultra_lines.proofs.Empty.{no_out_line_of}
+use Rattle.ultra_lines.proofs.Walked.{next_within, walked}
+use Rattle.ultra_lines.proofs.Yielded.{one_more}
 use Rattle.ultra_lines.proofs.state.put_replies_to_leave.Goals as goal
-
--- whether unit k of the kind is in a set
-abbrev there : ℕ → List ℕ → ℕ → Bool
-there d units k = has_unit units (module_number d 0 + k)
 
 pub bank-requires : goal.bank-requires
 bank-requires g c =
-    let b = c.args.blocks.now in
-    record { number = next_small (there b.config.stages c.args.holders.now) (2 ^ b.config.stages) c.loop-number.yielded _ _ c.in-Some.number c.loop-number.invariant.parts (rw c.in-Some.is at c.next.ensures.steps) }
+    let d = c.args.blocks.now.config.stages in
+    record { number = next_within c.args.holders.now (module_number d 0) (2 ^ d) c.loop-number.invariant (rw c.in-Some.is at c.next.ensures.steps) }
 
 pub loop-number-preserved : goal.loop-number-preserved
-loop-number-preserved g c =
-    let one = rw c.bank.ensures.state at c.put_out.ensures in
-    record {
-      written = writes_one (out_of c.args.blocks.now.machine) c.loop-number.yielded c.in-Some.number c.loop-number.invariant.written one;
-      parts = one_came c.loop-number.yielded _ _ _ c.in-Some.number c.loop-number.invariant.parts (rw c.in-Some.is at c.next.ensures.steps);
-    }
+loop-number-preserved g c = one_more c.loop-number.invariant (rw c.in-Some.is at c.next.ensures.steps) (rw c.bank.ensures.state at c.put_out.ensures)
 
 pub returns : goal.returns
 returns g c =
-    let b = c.args.blocks.now in
-    let m = b.machine in
+    let d = c.args.blocks.now.config.stages in
     let none = rw c.in-None.is at c.next.ensures.steps in
-    let written = rw (all_came c.loop-number.yielded _ _ c.loop-number.invariant.parts none.0) at c.loop-number.invariant.written in
-    let lines = skipped (there b.config.stages c.args.holders.now) (out_of m) 0 (2 ^ b.config.stages) (λ k within outside. no_out_line_of b.config.stages m k (omega arith) (sym (c.requires (module_number b.config.stages 0 + k)) ∙ outside)) in
-    rw lines at written
-
-pub loop-number-init : goal.loop-number-init
-loop-number-init g c = record { written = writes_nothing _; parts = ap holders_left c.into_iter-number-iterator.ensures.into_iter_gives ∙ c.modules_in-number-items.ensures }
-
-pub loop-number-smaller : goal.loop-number-smaller
-loop-number-smaller g c = one_fewer _ _ c.in-Some.number (rw c.in-Some.is at c.next.ensures.steps)
+    walked c.args.holders.now (module_number d 0) (2 ^ d) c.loop-number.invariant none.0
+    (λ k within outside. no_out_line_of d c.args.blocks.now.machine k (omega arith) (sym (c.requires (module_number d 0 + k)) ∙ outside))

@@ -1,14 +1,12 @@
-use Rattle.std.proofs.Common.{◌≡◌, ◌-◌, ◌^◌, ◌++◌}
-use Rattle.std.specs.List.{flat_map}
-use Rattle.ultra_io.specs.Page.{Writes}
+use Rattle.std.proofs.Common.{◌-◌, ◌^◌}
+use Rattle.ultra_units.specs.Numbers.{switch_count}
 use Rattle.ultra_lines.specs.Holders.{holders_left, numbers_in}
 use Rattle.ultra_lines.specs.Ports.{port_line}
-use Rattle.ultra_units.specs.Numbers.{switch_count}
 use Rattle.ultra_lines.proofs.Rows.{lines_at}
+use Rattle.ultra_lines.proofs.Yielded.{AreWritten}
 use Rattle.ultra_lines.proofs.state.put_switches.Given as goal
 
 abbrev pub invariant-loop-switch : goal.invariant-loop-switch
-invariant-loop-switch g l = record {
-  written : Writes g.S.Sink.taken g.S.Sink.failures (flat_map (lines_at (2 ^ (l.blocks.config.stages - 1)) (port_line l.held l.blocks.machine)) l.yielded) l.initial.page l.page;
-  parts : l.yielded ++ holders_left l.switch-iterator ≡ numbers_in l.holders 0 (switch_count l.blocks.config.stages);
-}
+invariant-loop-switch g l =
+    let line = lines_at (2 ^ (l.blocks.config.stages - 1)) (port_line l.held l.blocks.machine) in
+    AreWritten g.S.Sink.taken g.S.Sink.failures line (numbers_in l.holders 0 (switch_count l.blocks.config.stages)) l.yielded (holders_left l.switch-iterator) l.initial.page l.page

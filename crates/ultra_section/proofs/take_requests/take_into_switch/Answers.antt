@@ -1,6 +1,5 @@
 use Rattle.std.proofs.Common.{[], ◌∙◌, sym, ap, subst, arith, ◌≡◌, ◌≢◌, ◌<◌, ◌≤◌, ◌+◌, ◌*◌, ◌^◌, ◌++◌, ◌∷◌, ℕ, Bool, List, Option, None, length, set, get_or-set_other}
 use Rattle.std.specs.Prelude.{IsTrue}
-use Rattle.std.specs.Option.{ForSome}
 use Rattle.std.proofs.lemmas.List.{length-set}
 use Rattle.ultra_msg.specs.declared.Request.{Request}
 use Rattle.ultra_switch.specs.declared.Ports.{Ports}
@@ -8,7 +7,7 @@ use Rattle.ultra_switch.specs.declared.Switch.{Switch}
 use Rattle.ultra_switch.specs.Queues.{SizedLane}
 use Rattle.ultra_model.specs.Places.{present}
 use Rattle.ultra_halves.specs.Halves.{combination_by, coming_to, has_place_for, in_order, lane_with, ports}
-use Rattle.ultra_halves.specs.Switches.{HasWay, after_both, combinations_of_both}
+use Rattle.ultra_halves.specs.Switches.{after_both, combinations_of_both}
 use Rattle.ultra_halves.proofs.Combinations.{combined_alone, combined_both, none_combined}
 use Rattle.ultra_units.specs.Marks.{on_link, ports_in_turn, request_links}
 use Rattle.ultra_units.specs.Set.{has_unit}
@@ -50,9 +49,6 @@ take-first-requires c =
     let links = are_apart _ (request_links c.args.net c.args.stage c.args.index) zero_first lead.apart lead.first_small lead.second_small in
     rw (c.requires.all, turn) links.first
 
-pub take_request-first_combines-requires : goal.take_request-first_combines-requires
-take_request-first_combines-requires c = grind (arith, first_fits)
-
 pub take-second-requires : goal.take-second-requires
 take-second-requires c =
     let (zero_first, turn) = c.requires.turn in
@@ -61,23 +57,6 @@ take-second-requires c =
     subst (λ m. c.args.in_turn.1 < m)
     (sym (ap length c.take-first.ensures.table ∙ length-set c.args.links.now.table.items c.args.in_turn.0 None ∙ c.requires.all))
     (rw turn links.second)
-
-pub take_request-second_combines-requires : goal.take_request-second_combines-requires
-take_request-second_combines-requires c =
-    let w = c.args.switch.now in
-    let first = c.take_request-first_combines in
-    let (zero_first, turn) = c.requires.turn in
-    let lead = both_links c.args.net (omega arith) (omega arith) c.args.number c.args.stage c.args.index c.requires.is in
-    let links : AreApart ((c.args.net + 1) * 2 ^ c.args.net) c.args.in_turn = rw turn (are_apart ((c.args.net + 1) * 2 ^ c.args.net) (request_links c.args.net c.args.stage c.args.index) zero_first lead.apart lead.first_small lead.second_small) in
-    let second_is = taken_second _ c.args.links.now.table.items _ c.args.in_turn c.take-second.result links c.take-first.ensures.table c.take-second.ensures.value in
-    let can = subst (λ o. ForSome o (HasWay c.args.net c.args.stage w)) (sym second_is) c.requires.second in
-    record {
-      stage = c.requires.is.stage_small;
-      index = c.requires.is.index_small;
-      room_zero = λ r is leaves. second_fits w.to_mm.zero first.new.to_mm.zero (coming_to c.args.net c.args.stage 0 c.take-first.result) first.ensures.zero first.ensures.longer_zero ((can r is).0 leaves);
-      room_one = λ r is leaves. second_fits w.to_mm.one first.new.to_mm.one (coming_to c.args.net c.args.stage 1 c.take-first.result) first.ensures.one first.ensures.longer_one ((can r is).1 leaves);
-      event_room = let room = c.requires.event_room in omega (arith, first.ensures.few, first.ensures.places);
-    }
 
 pub returns-clause-switch : goal.returns-clause-switch
 returns-clause-switch c =

@@ -1,11 +1,7 @@
-use Rattle.std.proofs.lemmas.Grind.{common_steps}
 use Rattle.std.proofs.Common.{arith, ◌∙◌, ap, sym}
 use Rattle.ultra_units.proofs.Readers.{reply_reader, reply_of_stage}
 use Rattle.ultra_units.proofs.ReplyMarks.{known_put}
 use Rattle.ultra_units.proofs.replies.leave_switch.Goals as goal
-
-pub put-requires : goal.put-requires
-put-requires c = grind (arith, common_steps)
 
 pub returns-clause-known : goal.returns-clause-known
 returns-clause-known c =

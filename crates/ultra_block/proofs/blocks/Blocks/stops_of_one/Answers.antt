@@ -1,8 +1,5 @@
-use Rattle.std.proofs.Common.{◌≡◌, arith, ap, ◌∙◌, sym, length}
-use Rattle.std.proofs.lemmas.List.{get_or_default}
-use Rattle.ultra_section.specs.BlockState.{BlockState}
-use Rattle.ultra_cut.specs.Cut.{block_at, no_block}
-use Rattle.ultra_block.specs.State.{BlocksState}
+use Rattle.std.proofs.lemmas.Grind.{common_steps}
+use Rattle.std.proofs.Common.{◌≡◌, [], ◌∷◌, arith}
 use Rattle.ultra_block.proofs.Alone.{stops_alone}
 use Rattle.ultra_block.proofs.Seen.{stops_are}
 use Rattle.ultra_block.proofs.blocks.Blocks.stops_of_one.Goals as goal
@@ -10,9 +7,6 @@ use Rattle.ultra_block.proofs.blocks.Blocks.stops_of_one.Goals as goal
 pub returns : goal.returns
 returns c =
     let p = c.self.inside.parts in
-    let one : length p.blocks.items ≡ 1 = ap (λ (s : BlocksState). s.count) c.self.view_is ∙ c.requires in
-    let first : c.index.result.now ≡ block_at p.blocks.items 0 = c.index.ensures ∙ get_or_default p.blocks.items 0 c.index.result.now no_block (omega (arith, one)) in
-    c.stops.ensures ∙ ap (λ (b : BlockState). b.stops) first
-    ∙ sym (stops_alone p.config p.program p.partition.items p.done p.blocks.items c.self.invariant.whole one)
-    ∙ sym (stops_are p.config p.partition.items p.done p.blocks.items)
-    ∙ ap (λ (s : BlocksState). s.machine.stops) c.self.view_is
+    let only : p.blocks.items ≡ c.index.result.now ∷ [] = grind (arith, common_steps) in
+    let alone = stops_alone p.config p.program p.partition.items p.done p.blocks.items c.self.invariant.whole c.index.result.now only in
+    grind (arith, stops_are)

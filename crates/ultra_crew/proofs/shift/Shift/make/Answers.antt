@@ -1,8 +1,5 @@
-use Rattle.std.proofs.Common.{rules, ◌≡◌, ◌∙◌, sym, subst, length}
+use Rattle.std.proofs.Common.{◌∙◌, sym, length, arith}
 use Rattle.std.proofs.lemmas.List.{length-map}
-use Rattle.ultra_section.specs.Making.{made}
-use Rattle.ultra_cut.specs.Halves.{all_made}
-use Rattle.ultra_desk.specs.Tasks.{AreEmptyTeams}
 use Rattle.ultra_crew.proofs.Dealt.{dealt_to, given_back, teams_can, teams_made}
 use Rattle.ultra_crew.proofs.shift.Shift.make.Goals as goal
 
@@ -22,18 +19,7 @@ pass-requires-clause-settled g c w d below =
     ∙ sym (c.requires.settled w)
 
 pub returns-clause-blocks : goal.returns-clause-blocks
-returns-clause-blocks g c =
-    let a = c.args in
-    let after = all_made a.half a.rooms.now g.J.Course.program a.blocks.items in
-    let count : length after ≡ c.len-count.result = length-map a.blocks.items (made a.half a.rooms.now g.J.Course.program) ∙ search rules in
-    c.in_ok-gather.ensures.blocks after count
-    (given_back a.self.now (length c.pass.new.teams.items) (g.J.Course.results a.cycle a.half) c.pass.new.teams.items after c.in_ok-pass.ensures.count c.in_ok-pass.ensures.results c.requires.settled)
+returns-clause-blocks g c = grind (arith, length-map, given_back)
 
 pub returns-clause-teams : goal.returns-clause-teams
-returns-clause-teams g c =
-    let a = c.args in
-    let after = all_made a.half a.rooms.now g.J.Course.program a.blocks.items in
-    let count : length after ≡ c.len-count.result = length-map a.blocks.items (made a.half a.rooms.now g.J.Course.program) ∙ search rules in
-    subst (λ n. AreEmptyTeams n c.gather.new.teams.items) c.in_ok-pass.ensures.count
-    (c.in_ok-gather.ensures.teams after count
-    (given_back a.self.now (length c.pass.new.teams.items) (g.J.Course.results a.cycle a.half) c.pass.new.teams.items after c.in_ok-pass.ensures.count c.in_ok-pass.ensures.results c.requires.settled))
+returns-clause-teams g c = grind (arith, length-map, given_back)

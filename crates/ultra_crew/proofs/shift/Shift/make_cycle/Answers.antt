@@ -1,10 +1,8 @@
-use Rattle.std.proofs.Common.{◌≡◌, ◌∙◌, List, ap, arith, length, refl, subst}
+use Rattle.std.proofs.Common.{◌≡◌, ◌∙◌, List, ap, length, refl}
 use Rattle.std.specs.Prelude.{map}
 use Rattle.std.proofs.lemmas.List.{length-map}
-use Rattle.ultra_section.specs.Making.{made}
 use Rattle.ultra_section.specs.declared.half.Half.TheVariants.{SendReplies, TakeReplies, Serve, SendRequests, TakeRequests, Execute}
 use Rattle.ultra_cut.specs.Halves.{all_made}
-use Rattle.ultra_desk.specs.Tasks.{AreEmptyTeams}
 use Rattle.ultra_block.proofs.Turn.{can_execute, can_serve, can_take_replies, can_take_requests, next_machine, next_whole, sent_cut, sent_on_cut, sent_on_single, sent_single}
 use Rattle.ultra_crew.proofs.Chain.{memory_served_so, noted_in, replies_sent_so, replies_taken_so, requests_sent_so, requests_taken_so, settled_by, steps_made_so}
 use Rattle.ultra_crew.proofs.shift.Shift.make_cycle.Goals as goal
@@ -128,35 +126,3 @@ returns-clause-state g c =
     c.in_ok-blocks-2.blocks.items c.in_ok-blocks-2.ensures.blocks
     c.note_rooms-rooms-2.result (noted_in c.as_slice-2.result.now c.in_ok-blocks-2.blocks.items c.note_rooms-rooms-2.result c.as_slice-2.ensures.value c.note_rooms-rooms-2.ensures) c.in_ok-blocks-3.blocks.items c.in_ok-blocks-3.ensures.blocks
     c.with_requests_exchanged-blocks.result.items c.with_requests_exchanged-blocks.ensures.only c.with_requests_exchanged-blocks.ensures.there c.requires.counted (all_made TakeRequests c.note_rooms-rooms-2.result g.J.Course.program c.with_requests_exchanged-blocks.result.items) refl c.in_ok-blocks-4.blocks.items c.in_ok-blocks-4.ensures.blocks
-
-pub make-requires-clause-teams : goal.make-requires-clause-teams
-make-requires-clause-teams g c =
-    let many = c.len-workers.ensures in let all = c.self.inside.desks.ok in let seen : length c.self.inside.desks.items ≡ c.args.self.now = c.self.view_is in
-    subst (λ n. AreEmptyTeams n c.in_ok-teams.teams.items) (omega (arith, many, all.0, seen)) c.in_ok-teams.ensures.empty
-
-pub make-requires-clause-ready : goal.make-requires-clause-ready
-make-requires-clause-ready g c = λ k below. tt
-
-pub make-requires-2-clause-ready : goal.make-requires-2-clause-ready
-make-requires-2-clause-ready g c = λ k below. tt
-
-pub make_both-requires-clause-teams : goal.make_both-requires-clause-teams
-make_both-requires-clause-teams g c = c.in_ok-blocks.ensures.teams
-
-pub make-requires-2-clause-teams : goal.make-requires-2-clause-teams
-make-requires-2-clause-teams g c = c.in_ok-blocks-2.ensures.teams
-
-pub make_both-requires-2-clause-teams : goal.make_both-requires-2-clause-teams
-make_both-requires-2-clause-teams g c = c.in_ok-blocks-3.ensures.teams
-
-pub returns-clause-count : goal.returns-clause-count
-returns-clause-count g c =
-    let program = g.J.Course.program in
-    let rooms = c.note_rooms-rooms.result in
-    let later = c.note_rooms-rooms-2.result in
-    same_count_twice (made TakeRequests later program) (made Execute later program) c.with_requests_exchanged-blocks.result.items c.in_ok-blocks-4.blocks.items c.in_ok-blocks-4.ensures.blocks
-    ∙ c.with_requests_exchanged-blocks.ensures.only.count
-    ∙ same_count (made SendRequests later program) c.in_ok-blocks-2.blocks.items c.in_ok-blocks-3.blocks.items c.in_ok-blocks-3.ensures.blocks
-    ∙ same_count_twice (made TakeReplies rooms program) (made Serve rooms program) c.with_replies_exchanged-blocks.result.items c.in_ok-blocks-2.blocks.items c.in_ok-blocks-2.ensures.blocks
-    ∙ c.with_replies_exchanged-blocks.ensures.only.count
-    ∙ same_count (made SendReplies rooms program) c.args.blocks.items c.in_ok-blocks.blocks.items c.in_ok-blocks.ensures.blocks

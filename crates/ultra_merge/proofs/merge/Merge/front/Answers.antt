@@ -1,5 +1,3 @@
-use Rattle.std.proofs.Common.{arith}
-use Rattle.std.proofs.lemmas.List.{length-map}
 use Rattle.ultra_merge.proofs.Front.{past_empty, entry_within, sooner_is_front}
 use Rattle.ultra_merge.proofs.merge.Merge.front.Goals as goal
 
@@ -21,9 +19,3 @@ loop-place-preserved g c =
     (sooner_is_front (g.R.Ranking.rank_of c.self.inside.ranking) (g.R.Ranking.rank_count c.self.inside.ranking)
     c.deref-list-items.result.now c.loop-place.place c.list-item.result c.loop-place-test.true c.list-item.is
     (rw c.deref-list-items.ensures.0 c.self.invariant) c.in-Some.entry.now c.in-Some.ensures.value c.loop-place.front c.loop-place.invariant)
-
-pub returns-clause-none : goal.returns-clause-none
-returns-clause-none g c = grind (arith, length-map)
-
-pub returns-clause-some : goal.returns-clause-some
-returns-clause-some g c = grind (arith, length-map)

@@ -1,5 +1,4 @@
-use Rattle.std.proofs.Common.{length, ap, arith}
-use Rattle.ultra_merge.proofs.Front.{has_entry, place_within}
+use Rattle.std.proofs.Common.{arith}
 use Rattle.ultra_merge.proofs.Merged.{merged_none}
 use Rattle.ultra_merge.proofs.Taken.{left_ranked, left_merged}
 use Rattle.ultra_merge.proofs.merge.MergeIterator.next.Goals as goal
@@ -26,12 +25,4 @@ returns-clause-steps g c =
     c.index-deref_mut-front.result c.take_first.new.list c.take_first.result taken)
 
 pub returns-clause-goes : goal.returns-clause-goes
-returns-clause-goes g c =
-    let lengths = ap length (returns-clause-steps g c) in
-    record { on = λ _. (tt, tt, omega arith); keeps = tt; rests = λ _. tt }
-
-pub bounds-deref_mut-front : goal.bounds-deref_mut-front
-bounds-deref_mut-front g c = grind (arith, place_within)
-
-pub take_first-requires : goal.take_first-requires
-take_first-requires g c = grind (arith, has_entry)
+returns-clause-goes g c = grind (arith, returns-clause-steps)

@@ -1,4 +1,4 @@
-use Rattle.std.proofs.Common.{◌≡◌, ℕ, List, false, Option, None, refl, arith}
+use Rattle.std.proofs.Common.{◌≡◌, ℕ, List, false, Option, refl, arith}
 use Rattle.std.specs.Prelude.{IfSome, IfNone}
 use Rattle.ultra_units.specs.Set.{has_unit, HasNoneFrom, IsFirstFrom}
 use Rattle.ultra_section.specs.BlockState.{BlockState}
@@ -22,18 +22,3 @@ returns-clause-some c =
     let known = c.self.invariant in
     next_unit c.without-away.result c.args.self.now c.args.from c.next.result
     (none_away c.self.view_is inside.sets inside.replies c.without-away.result refl known.units known.replies c.without-away.ensures) c.next.ensures.some
-
-pub returns-clause-none : goal.returns-clause-none
-returns-clause-none c =
-    let inside = c.self.inside in
-    let known = c.self.invariant in
-    no_unit c.without-away.result c.args.self.now c.args.from c.next.result
-    (none_away c.self.view_is inside.sets inside.replies c.without-away.result refl known.units known.replies c.without-away.ensures) c.next.ensures.none
-
-pub returns-then-is_empty-clause-none : goal.returns-then-is_empty-clause-none
-returns-then-is_empty-clause-none c =
-    let inside = c.self.inside in
-    let known = c.self.invariant in
-    no_unit c.without-away.result c.args.self.now c.args.from None
-    (none_away c.self.view_is inside.sets inside.replies c.without-away.result refl known.units known.replies c.without-away.ensures)
-    (λ k _. c.is_empty.ensures c.if-is_empty.true k (omega arith))

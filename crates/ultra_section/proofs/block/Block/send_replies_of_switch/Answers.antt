@@ -12,7 +12,7 @@ use Rattle.ultra_switch.specs.declared.Ports.{Ports}
 use Rattle.ultra_switch.specs.declared.Switch.{Switch}
 use Rattle.ultra_section.specs.RepliesSent.{replies_sent_by}
 use Rattle.ultra_units.specs.Ways.{IsReplyWay, reply_targets, reply_ways}
-use Rattle.ultra_section.proofs.Entries.{beside_switch, switch_inside, switch_passed, switch_worked, switch_back}
+use Rattle.ultra_section.proofs.Entries.{beside_switch, switch_inside, switch_worked}
 use Rattle.ultra_section.proofs.block.Block.send_replies_of_switch.Goals as goal
 
 sending_done : (closed : List ℕ) (b : BlockState) (n s k : ℕ) (w v : Switch) (ways : Ports Bool) (replies : List (Option ReplyMessage)) → IsSwitch b.stages n s k → 1 ≤ b.stages → b.stages ≤ 6
@@ -22,22 +22,6 @@ sending_done : (closed : List ℕ) (b : BlockState) (n s k : ℕ) (w v : Switch)
 sending_done closed b n s k w v ways replies own low high are left put =
     let places = has_places b.stages n s k low high own in
     rw (left, put, places.first, places.second, are) refl
-
-pub invariant_of-self : goal.invariant_of-self
-invariant_of-self c = switch_back c.self.invariant c.args.number c.index_mut.ensures.value
-
-pub returns-in_default : goal.returns-in_default
-returns-in_default c =
-    switch_passed c.self.view_is (replies_sent_by c.args.closed.now c.args.number c.args.stage c.args.index) c.args.number c.index_mut.ensures.value c.in_default.is
-
-pub reply_targets-targets-requires : goal.reply_targets-targets-requires
-reply_targets-targets-requires c = grind arith
-
-pub index_mut-requires : goal.index_mut-requires
-index_mut-requires c = grind arith
-
-pub find_reply_ways-ways-requires : goal.find_reply_ways-ways-requires
-find_reply_ways-ways-requires c = assumption
 
 pub send_from_switch-requires : goal.send_from_switch-requires
 send_from_switch-requires c =

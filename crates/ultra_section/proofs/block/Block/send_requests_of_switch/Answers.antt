@@ -17,29 +17,6 @@ sending_done : (closed : Ports (List ℕ)) (b : BlockState) (n s k : ℕ) (w v :
     → record b { switches = set b.switches n (Some v); requests = requests } ≡ requests_sent_by closed n s k b w
 sending_done closed b n s k w v requests left put = rw (left, put) refl
 
-pub invariant_of-self : goal.invariant_of-self
-invariant_of-self c = switch_back c.self.invariant c.args.number c.index_mut.ensures.value
-
-pub returns-in_default : goal.returns-in_default
-returns-in_default c =
-    switch_passed c.self.view_is (requests_sent_by c.args.closed.now c.args.number c.args.stage c.args.index) c.args.number c.index_mut.ensures.value c.in_default.is
-
-pub request_targets-targets-requires : goal.request_targets-targets-requires
-request_targets-targets-requires c = grind arith
-
-pub index_mut-requires : goal.index_mut-requires
-index_mut-requires c = grind arith
-
-pub send_from_switch-requires : goal.send_from_switch-requires
-send_from_switch-requires c = record {
-  is = switch_inside c.self.view_is c.requires.is;
-  small = c.requires.small;
-  targets = beside_switch c.self.view_is request_targets c.requires.is c.self.invariant.network c.request_targets-targets.ensures.value;
-  zero = c.request_targets-targets.ensures.zero;
-  one = c.request_targets-targets.ensures.one;
-  known = c.self.invariant.requests;
-}
-
 pub note_requests_sent-requires : goal.note_requests_sent-requires
 note_requests_sent-requires c =
     let inside = c.self.inside in
@@ -49,11 +26,6 @@ note_requests_sent-requires c =
       small = c.requires.small;
       fewer = subst (HasFewerRequests (facts_at inside.sets c.args.number)) (sym c.send_from_switch.ensures.switch) (requests_left _ c.in-Some.switch was _);
     }
-
-pub returns : goal.returns
-returns c =
-    sending_done c.args.closed.now _ c.args.number c.args.stage c.args.index c.in-Some.switch c.send_from_switch.new.switch _ c.send_from_switch.ensures.switch c.send_from_switch.ensures.table
-    ∙ switch_worked c.self.view_is (requests_sent_by c.args.closed.now c.args.number c.args.stage c.args.index) c.requires.is c.self.invariant.units.switch_entries c.index_mut.ensures.value c.in-Some.is
 
 pub invariant_of-self-2 : goal.invariant_of-self-2
 invariant_of-self-2 c =

@@ -18,19 +18,6 @@ taking_done : (b : BlockState) (n s k : ℕ) (w v : Switch) (inlets : Ports ℕ)
     → record b { switches = set b.switches n (Some v); replies = replies } ≡ replies_taken_by n s k b w
 taking_done b n s k w v inlets replies are taken left = rw (taken, left, are) refl
 
-pub invariant_of-self : goal.invariant_of-self
-invariant_of-self c = switch_back c.self.invariant c.args.number c.index_mut.ensures.value
-
-pub returns-in_default : goal.returns-in_default
-returns-in_default c =
-    switch_passed c.self.view_is (replies_taken_by c.args.number c.args.stage c.args.index) c.args.number c.index_mut.ensures.value c.in_default.is
-
-pub reply_links-inlets-requires : goal.reply_links-inlets-requires
-reply_links-inlets-requires c = grind arith
-
-pub index_mut-requires : goal.index_mut-requires
-index_mut-requires c = grind arith
-
 pub take_into_switch-requires : goal.take_into_switch-requires
 take_into_switch-requires c =
     let inside = c.self.inside in
@@ -60,12 +47,6 @@ note_replies_taken-requires c =
       fewer = λ none. ap keeps_records taken
           ∙ keeps_none inside.net c.args.stage c.in-Some.switch (on_both inside.replies.table.items c.reply_links-inlets.result) (sym was.keeps_records ∙ none);
     }
-
-pub returns : goal.returns
-returns c =
-    let inlets = beside_switch c.self.view_is reply_links c.requires.is c.self.invariant.network c.reply_links-inlets.ensures in
-    taking_done _ c.args.number c.args.stage c.args.index c.in-Some.switch c.take_into_switch.new.switch c.reply_links-inlets.result _ inlets c.take_into_switch.ensures.switch c.take_into_switch.ensures.table
-    ∙ switch_worked c.self.view_is (replies_taken_by c.args.number c.args.stage c.args.index) c.requires.is c.self.invariant.units.switch_entries c.index_mut.ensures.value c.in-Some.is
 
 pub invariant_of-self-2 : goal.invariant_of-self-2
 invariant_of-self-2 c =

@@ -11,32 +11,13 @@ use Rattle.ultra_msg.specs.declared.ReplyMessage.{ReplyMessage}
 use Rattle.ultra_model.specs.Places.{present}
 use Rattle.ultra_model.specs.Phases.{delivery}
 use Rattle.ultra_units.specs.Marks.{delivery_link, on_link}
-use Rattle.ultra_section.proofs.Entries.{element_passed, element_worked, none_more, one_more, put_back_some, element_back, element_inside}
+use Rattle.ultra_section.proofs.Entries.{put_back_some, element_inside}
 use Rattle.ultra_section.proofs.block.Block.take_reply_of_element.Goals as goal
 
 delivery_done : (b : BlockState) (p : ℕ) (e v : ProcessingElement) (came : Option ReplyMessage) (replies : List (Option ReplyMessage)) (events : List Event)
     → came ≡ on_link b.replies (delivery_link b.stages p) → replies ≡ set b.replies (delivery_link b.stages p) None → v ≡ delivered_to e came → events ≡ b.events ++ present (delivery came ∷ [])
     → record b { elements = set b.elements p (Some v); replies = replies; events = events } ≡ reply_taken_by p b e
 delivery_done b p e v came replies events is left delivered more = rw (delivered, left, more, is) refl
-
-pub invariant_of-self : goal.invariant_of-self
-invariant_of-self c = element_back c.self.invariant c.args.pe c.index_mut.ensures.value
-
-pub returns-in_default : goal.returns-in_default
-returns-in_default c =
-    element_passed c.self.view_is (reply_taken_by c.args.pe) c.args.pe c.index_mut.ensures.value c.in_default.is
-
-pub returns-in-Some-came : goal.returns-in-Some-came
-returns-in-Some-came c =
-    delivery_done _ c.args.pe c.in-Some.element c.deliver.new.self c.take_at_element-came.result _ _ c.take_at_element-came.ensures.came c.take_at_element-came.ensures.table
-    (c.deliver.ensures ∙ ap (delivered_to c.in-Some.element) (sym c.in-Some-came.is)) (c.append.ensures.entries ∙ one_more c.self.inside.events.items (ap delivery c.in-Some-came.is))
-    ∙ element_worked c.self.view_is (reply_taken_by c.args.pe) c.requires.is c.self.invariant.units.element_entries c.index_mut.ensures.value c.in-Some.is
-
-pub returns-in_default-came : goal.returns-in_default-came
-returns-in_default-came c =
-    delivery_done _ c.args.pe c.in-Some.element c.in-Some.element c.take_at_element-came.result _ _ c.take_at_element-came.ensures.came c.take_at_element-came.ensures.table
-    (ap (delivered_to c.in-Some.element) (sym c.in_default-came.is)) (none_more c.self.inside.events.items (ap delivery c.in_default-came.is))
-    ∙ element_worked c.self.view_is (reply_taken_by c.args.pe) c.requires.is c.self.invariant.units.element_entries c.index_mut.ensures.value c.in-Some.is
 
 pub deliver-requires : goal.deliver-requires
 deliver-requires c =
@@ -61,9 +42,3 @@ invariant_of-self-in_default-came c =
     let is = element_inside c.self.view_is c.requires.is in
     still_kept known (element_same known.units c.in-Some.element is c.index_mut.ensures.value c.in-Some.is refl refl)
     (rests_same inside.net inside.program inside.awake inside.awake inside.elements.items known.rests _ (put_back_some inside.elements.items c.args.pe c.index_mut.ensures.value c.in-Some.is)) (c.take_at_element-came.ensures.known known.replies) known.requests (omega arith) (omega arith)
-
-pub index_mut-requires : goal.index_mut-requires
-index_mut-requires c = grind arith
-
-pub take_at_element-came-requires : goal.take_at_element-came-requires
-take_at_element-came-requires c = grind arith

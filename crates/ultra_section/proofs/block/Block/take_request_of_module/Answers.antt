@@ -8,7 +8,7 @@ use Rattle.ultra_section.proofs.Noted.{out_kept, request_came}
 use Rattle.ultra_msg.specs.declared.Request.{Request}
 use Rattle.ultra_mem.specs.Serve.{Bank}
 use Rattle.ultra_halves.specs.Modules.{bank_with}
-use Rattle.ultra_section.proofs.Entries.{module_inside, module_passed, module_worked, module_back}
+use Rattle.ultra_section.proofs.Entries.{module_inside}
 use Rattle.ultra_section.proofs.block.Block.take_request_of_module.Goals.{in-Some-came, in_default-came}
 use Rattle.ultra_section.proofs.block.Block.take_request_of_module.Goals as goal
 
@@ -16,24 +16,6 @@ taking_done : (b : BlockState) (m : ℕ) (bank v : Bank) (came : Option Request)
     → came ≡ on_link b.requests (memory_link b.stages m) → requests ≡ set b.requests (memory_link b.stages m) None → v ≡ bank_with (2 ^ b.stages) bank came
     → record b { modules = set b.modules m (Some v); requests = requests } ≡ request_taken_by m b bank
 taking_done b m bank v came requests is left taken = rw (taken, left, is) refl
-
-pub invariant_of-self : goal.invariant_of-self
-invariant_of-self c = module_back c.self.invariant c.args.module_number c.index_mut.ensures.value
-
-pub returns-in_default : goal.returns-in_default
-returns-in_default c =
-    module_passed c.self.view_is (request_taken_by c.args.module_number) c.args.module_number c.index_mut.ensures.value c.in_default.is
-
-pub returns : goal.returns
-returns c =
-    let inside = c.self.inside in
-    let taken : c.match-came.bank ≡ bank_with (2 ^ inside.net) c.in-Some.bank c.take_at_module-came.result =
-    elim c.match-came.branch [
-      | in-Some-came w ↦ w.bank-is ∙ w.take_request.ensures ∙ ap (bank_with (2 ^ inside.net) c.in-Some.bank) (sym w.in-Some-came.is)
-      | in_default-came w ↦ w.bank-is ∙ ap (bank_with (2 ^ inside.net) c.in-Some.bank) (sym w.in_default-came.is)
-    ] in
-    taking_done _ c.args.module_number c.in-Some.bank c.match-came.bank c.take_at_module-came.result _ c.take_at_module-came.ensures.came c.take_at_module-came.ensures.table taken
-    ∙ module_worked c.self.view_is (request_taken_by c.args.module_number) c.requires.is c.self.invariant.units.module_entries c.index_mut.ensures.value c.in-Some.is
 
 pub take_request-requires : goal.take_request-requires
 take_request-requires c =
@@ -59,12 +41,6 @@ invariant_of-self-2 c =
     still_kept known (module_changed known.units c.match-came.bank is c.note_request_came.ensures.others
     (request_noted _ _ c.in-Some.bank c.match-came.bank (ap (λ (b : Bank). b.out) taken ∙ out_kept _ c.in-Some.bank c.take_at_module-came.result) c.note_request_came.ensures.there was))
     known.rests known.replies (c.take_at_module-came.ensures.known known.requests) (omega arith) (omega arith)
-
-pub index_mut-requires : goal.index_mut-requires
-index_mut-requires c = grind arith
-
-pub take_at_module-came-requires : goal.take_at_module-came-requires
-take_at_module-came-requires c = grind arith
 
 pub note_request_came-requires : goal.note_request_came-requires
 note_request_came-requires c =

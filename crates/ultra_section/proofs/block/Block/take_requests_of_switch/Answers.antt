@@ -14,7 +14,7 @@ use Rattle.ultra_msg.specs.declared.Event.{Event}
 use Rattle.ultra_msg.specs.declared.Request.{Request}
 use Rattle.ultra_switch.specs.declared.Ports.{Ports}
 use Rattle.ultra_switch.specs.declared.Switch.{Switch}
-use Rattle.ultra_section.proofs.Entries.{beside_switch, switch_inside, switch_within, switch_passed, switch_worked, switch_back}
+use Rattle.ultra_section.proofs.Entries.{beside_switch, switch_inside, switch_within}
 use Rattle.ultra_section.proofs.block.Block.take_requests_of_switch.Goals as goal
 
 first_in_turn : (came : Ports (Option Request)) (zero_first : Bool) → (ports_in_turn zero_first came).0 ≡ elim zero_first [ true ↦ came.zero | false ↦ came.one ]
@@ -47,19 +47,6 @@ taking_done : (b : BlockState) (n s k : ℕ) (w v : Switch) (in_turn : ℕ × �
     → requests ≡ without_both b.requests (request_links b.stages s k) → events ≡ b.events ++ combinations_of_both b.stages s k w (on_link b.requests in_turn.0) (on_link b.requests in_turn.1)
     → record b { switches = set b.switches n (Some v); requests = requests; events = events } ≡ requests_taken_by n s k b w
 taking_done b n s k w v in_turn requests events turn taken left more = grind arith
-
-pub invariant_of-self : goal.invariant_of-self
-invariant_of-self c = switch_back c.self.invariant c.args.number c.index_mut.ensures.value
-
-pub returns-in_default-clause-value : goal.returns-in_default-clause-value
-returns-in_default-clause-value c =
-    switch_passed c.self.view_is (requests_taken_by c.args.number c.args.stage c.args.index) c.args.number c.index_mut.ensures.value c.in_default.is
-
-pub index_mut-requires : goal.index_mut-requires
-index_mut-requires c = grind arith
-
-pub request_links-requires : goal.request_links-requires
-request_links-requires c = grind arith
 
 pub take_into_switch-has_combined-requires : goal.take_into_switch-has_combined-requires
 take_into_switch-has_combined-requires c =
@@ -95,15 +82,6 @@ note_requests_taken-requires c =
       noted = λ none. was.keeps_records
           ∙ sym (ap keeps_records taken ∙ keeps_as_before inside.net c.args.stage c.args.index c.in-Some.switch _ _ (c.take_into_switch-has_combined.ensures.none.0 none));
     }
-
-pub returns-clause-value : goal.returns-clause-value
-returns-clause-value c =
-    let inside = c.self.inside in
-    let turn = c.ports_in_turn-in_turn.ensures
-    ∙ ap (ports_in_turn (inside.done % 2 == 0)) (beside_switch c.self.view_is request_links c.requires.is c.self.invariant.network c.request_links.ensures) in
-    taking_done _ c.args.number c.args.stage c.args.index c.in-Some.switch c.take_into_switch-has_combined.new.switch c.ports_in_turn-in_turn.result _ _ turn
-    c.take_into_switch-has_combined.ensures.switch c.take_into_switch-has_combined.ensures.table c.take_into_switch-has_combined.ensures.events
-    ∙ switch_worked c.self.view_is (requests_taken_by c.args.number c.args.stage c.args.index) c.requires.is c.self.invariant.units.switch_entries c.index_mut.ensures.value c.in-Some.is
 
 pub invariant_of-self-2 : goal.invariant_of-self-2
 invariant_of-self-2 c =

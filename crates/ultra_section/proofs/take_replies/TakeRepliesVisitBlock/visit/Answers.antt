@@ -4,9 +4,6 @@ use Rattle.ultra_units.specs.Units.{IsElement}
 use Rattle.ultra_section.proofs.RepliesTaken.{later_switch, later_element}
 use Rattle.ultra_section.proofs.take_replies.TakeRepliesVisitBlock.visit.Goals as goal
 
-pub take_reply_of_element-requires-clause-room : goal.take_reply_of_element-requires-clause-room
-take_reply_of_element-requires-clause-room c = omega (arith, c.requires.can.room)
-
 pub returns-in-Switch-clause-later : goal.returns-in-Switch-clause-later
 returns-in-Switch-clause-later c =
     λ k order can.

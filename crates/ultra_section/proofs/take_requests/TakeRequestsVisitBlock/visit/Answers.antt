@@ -1,11 +1,8 @@
-use Rattle.std.proofs.Common.{sym, subst, arith}
+use Rattle.std.proofs.Common.{sym, subst}
 use Rattle.ultra_section.specs.RequestsTaken.{CanTakeRequestsAt}
 use Rattle.ultra_units.specs.Units.{IsModule}
 use Rattle.ultra_section.proofs.RequestsTaken.{later_switch, later_module}
 use Rattle.ultra_section.proofs.take_requests.TakeRequestsVisitBlock.visit.Goals as goal
-
-pub take_requests_of_switch-requires-clause-room : goal.take_requests_of_switch-requires-clause-room
-take_requests_of_switch-requires-clause-room c = omega (arith, c.requires.can.room)
 
 pub returns-in-Switch-clause-later : goal.returns-in-Switch-clause-later
 returns-in-Switch-clause-later c =

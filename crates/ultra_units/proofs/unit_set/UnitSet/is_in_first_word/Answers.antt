@@ -4,4 +4,4 @@ use Rattle.ultra_units.proofs.Set.{none_past_first}
 use Rattle.ultra_units.proofs.unit_set.UnitSet.is_in_first_word.Goals as goal
 
 pub returns : goal.returns
-returns c = λ all k past. rw (← c.self.view_is) (none_past_first c.self.inside.words (omega arith) (eqb-true _ 0 all) k past)
+returns c = grind (arith, none_past_first, eqb-true)

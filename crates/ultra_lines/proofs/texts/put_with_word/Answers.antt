@@ -1,5 +1,0 @@
-use Rattle.ultra_io.proofs.Writing.{◌then◌}
-use Rattle.ultra_lines.proofs.texts.put_with_word.Goals as goal
-
-pub returns : goal.returns
-returns g c = c.put.ensures then c.put_number.ensures
