@@ -1,4 +1,4 @@
-use Rattle.std.proofs.Common.{ap, ◌∙◌, sym, replicate}
+use Rattle.std.proofs.Common.{ap, ◌∙◌, sym}
 use Rattle.ultra_units.specs.Numbers.{unit_count}
 use Rattle.std.proofs.Common.{◌≡◌, ◌<◌, ℕ, arith, subst, length, drop}
 use Rattle.std.specs.Prelude.{All}
