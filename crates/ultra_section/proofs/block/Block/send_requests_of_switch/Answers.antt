@@ -1,4 +1,4 @@
-use Rattle.std.proofs.Common.{ap, subst, sym, ◌≡◌, ℕ, List, Option, Some, set, refl, ◌∙◌, arith}
+use Rattle.std.proofs.Common.{ap, subst, sym, ◌≡◌, ℕ, List, Option, Some, set, refl, arith}
 use Rattle.ultra_halves.specs.Switches.{has_reply_room, holds_replies, keeps_records, request_heads, requests_leaving, without_requests}
 use Rattle.ultra_section.specs.BlockState.{BlockState}
 use Rattle.ultra_section.specs.Sets.{HasFewerRequests, facts_at}
@@ -8,8 +8,8 @@ use Rattle.ultra_msg.specs.declared.Request.{Request}
 use Rattle.ultra_switch.specs.declared.Ports.{Ports}
 use Rattle.ultra_switch.specs.declared.Switch.{Switch}
 use Rattle.ultra_section.specs.RequestsSent.{requests_sent_by}
-use Rattle.ultra_units.specs.Ways.{request_targets, request_ways, requests_put}
-use Rattle.ultra_section.proofs.Entries.{beside_switch, switch_inside, switch_passed, switch_worked, switch_back}
+use Rattle.ultra_units.specs.Ways.{request_ways, requests_put}
+use Rattle.ultra_section.proofs.Entries.{switch_inside}
 use Rattle.ultra_section.proofs.block.Block.send_requests_of_switch.Goals as goal
 
 sending_done : (closed : Ports (List ℕ)) (b : BlockState) (n s k : ℕ) (w v : Switch) (requests : List (Option Request))

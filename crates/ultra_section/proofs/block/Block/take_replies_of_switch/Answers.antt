@@ -10,7 +10,7 @@ use Rattle.ultra_section.proofs.Records.{keeps_none}
 use Rattle.ultra_msg.specs.declared.ReplyMessage.{ReplyMessage}
 use Rattle.ultra_switch.specs.declared.Ports.{Ports}
 use Rattle.ultra_switch.specs.declared.Switch.{Switch}
-use Rattle.ultra_section.proofs.Entries.{beside_switch, by_number, switch_inside, switch_within, switch_passed, switch_worked, switch_back}
+use Rattle.ultra_section.proofs.Entries.{beside_switch, by_number, switch_inside, switch_within}
 use Rattle.ultra_section.proofs.block.Block.take_replies_of_switch.Goals as goal
 
 taking_done : (b : BlockState) (n s k : ℕ) (w v : Switch) (inlets : Ports ℕ) (replies : List (Option ReplyMessage))

@@ -1,4 +1,4 @@
-use Rattle.std.proofs.Common.{sym, subst, arith}
+use Rattle.std.proofs.Common.{sym, subst}
 use Rattle.ultra_section.specs.RepliesTaken.{CanTakeRepliesAt}
 use Rattle.ultra_units.specs.Units.{IsElement}
 use Rattle.ultra_section.proofs.RepliesTaken.{later_switch, later_element}
