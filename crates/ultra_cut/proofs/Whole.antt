@@ -34,8 +34,8 @@ use Rattle.ultra_cut.proofs.Sent.{replies_sent, requests_sent}
 use Rattle.ultra_cut.proofs.Columns.{changed_at}
 
 module _ (d : ℕ) (partition : List ℕ) (program : List Instr) where
-  -- what is known of blocks in the course of a cycle: n cycles are done, and block k has listed this,
-  -- which is at most so many events, and no stops
+  -- what is known of blocks in the course of a cycle: n cycles are done; block k has listed the events
+  -- `listed k`, at most `most`, and no stops
   pub record AreAt (n most : ℕ) (listed : ℕ → List Event) (bs : List BlockState) : Type 0 where
     pub blocks : AreBlocks d partition bs
     pub runs : OfEach (λ b. b.program ≡ program) bs
