@@ -1,9 +1,7 @@
 -- how many cycles a trace has
-use Rattle.std.proofs.Common.{ℕ, zero, suc, ◌≡◌, ◌+◌, ◌-◌, ◌≤◌, ◌<◌, ◌⊎◌, inl, inr, List, ◌++◌, Bool, true, false, ◌||◌, Some, None, refl, sym, ◌∙◌, ap, arith, add-one, cond}
+use Rattle.std.proofs.Common.{ℕ, zero, suc, ◌≡◌, ◌+◌, ◌-◌, ◌≤◌, ◌<◌, ◌⊎◌, inl, inr, List, ◌++◌, Bool, true, false, ◌||◌, Some, None, refl, sym, ◌∙◌, ap, arith, add-one}
 use Rattle.std.specs.List.{find, range_with_len, flat_map}
 use Rattle.std.specs.Option.{unwrap_or}
-use Rattle.std.proofs.Math.Nat.{eq-or-lt_of_le}
-use Rattle.std.proofs.lemmas.Bool.{cases_lt}
 use Rattle.std.proofs.lemmas.List.Concat.{flat_map-append}
 use Rattle.ultra_isa.specs.declared.Instr.{Instr}
 use Rattle.ultra_model.specs.Machine.{Settings, Machine, start, is_quiet}
@@ -20,24 +18,15 @@ use Rattle.ultra_lines.proofs.Numbered.{range_parts, writes_number}
 module _ (test : ℕ → Bool) where
   none_found : (a n : ℕ) → ((j : ℕ) → a ≤ j → j < a + n → test j ≡ false) → find test (range_with_len a n) ≡ None
   none_found a zero h = refl
-  none_found a (suc n) h = rw (h a (omega arith) (omega arith)) (none_found (a + 1) n (λ j p q. h j (omega arith) (omega arith)))
+  none_found a (suc n) h = let rest = none_found (a + 1) n in grind arith
 
   found : (a n k : ℕ) → a ≤ k → k < a + n → test k ≡ true → ((j : ℕ) → a ≤ j → j < k → test j ≡ false) → find test (range_with_len a n) ≡ Some k
   found a zero k p q t h = absurd (omega arith)
-  found a (suc n) k p q t h = elim (eq-or-lt_of_le p) [
-    | inl e ↦ rw (e, t) refl
-    | inr l ↦ rw (h a (omega arith) l) (found (a + 1) n k (omega arith) (omega arith) t (λ j r s. h j (omega arith) s))
-  ]
+  found a (suc n) k p q t h = let rest = found (a + 1) n k in grind arith
 
   found_beyond : (a n b k : ℕ) → k ≤ b → k ≤ a + n → ((j : ℕ) → a ≤ j → j < k → test j ≡ false) → k ≤ unwrap_or (find test (range_with_len a n)) b
   found_beyond a zero b k p q h = p
-  found_beyond a (suc n) b k p q h = elim (cases_lt a k) [
-    | inl l ↦ rw (h a (omega arith) l) (found_beyond (a + 1) n b k p (omega arith) (λ j r s. h j (omega arith) s))
-    | inr l ↦ elim (test a) as (λ t. k ≤ unwrap_or (cond t (Some a) (find test (range_with_len (a + 1) n))) b) [
-      | true ↦ l
-      | false ↦ found_beyond (a + 1) n b k p (omega arith) (λ j r s. absurd (omega arith))
-    ]
-  ]
+  found_beyond a (suc n) b k p q h = let rest = found_beyond (a + 1) n b k in grind arith
 
 -- ---- the machine after n cycles
 module _ (c : Settings) (program : List Instr) where
@@ -56,32 +45,26 @@ module _ (c : Settings) (program : List Instr) where
   pub cycles_after : (n : ℕ) → (after c program n).cycles ≡ n
   unfolding after start
   cycles_after zero = refl
-  cycles_after (suc n) = cycles_next (after c program n) ∙ rw (cycles_after n, add-one) refl
+  cycles_after (suc n) = grind (arith, cycles_next, cycles_after n)
 
 -- ---- the blocks after n cycles
 module _ (c : Settings) (program : List Instr) (n : ℕ) where
   -- a cycle more
   pub next_after : (old new : BlocksState) → IsAfter c program n old → new ≡ record old { machine = cycle old.config old.program old.machine } → IsAfter c program (n + 1) new
-  next_after old new a made = record {
-    settings = ap (λ b. b.config) made ∙ a.settings;
-    instructions = ap (λ b. b.program) made ∙ a.instructions;
-    state =
-        ap (λ b. b.machine) made ∙ ap (λ d. cycle d old.program old.machine) a.settings ∙ ap (λ is. cycle c is old.machine) a.instructions
-        ∙ ap (λ m. cycle c program m) a.state ∙ sym (after_next c program n);
-  }
+  next_after old new a made = grind (arith, after_next)
 
   pub done_after : (b : BlocksState) → IsAfter c program n b → b.machine.cycles ≡ n
-  done_after b a = ap (λ m. m.cycles) a.state ∙ cycles_after c program n
+  done_after b a = grind (arith, cycles_after)
 
   pub quiet_after : (b : BlocksState) → IsAfter c program n b → is_quiet (after c program n) ≡ is_quiet b.machine
   quiet_after b a = ap (λ m. is_quiet m) (sym a.state)
 
   -- the lines of the last cycle, and those at the end
   pub cycle_after : (b : BlocksState) → IsAfter c program n b → cycle_text b.config b.machine ≡ cycle_text c (after c program n)
-  cycle_after b a = ap (λ d. cycle_text d b.machine) a.settings ∙ ap (λ m. cycle_text c m) a.state
+  cycle_after b a = cc
 
   pub end_after : (b : BlocksState) → IsAfter c program n b → end_text b.config b.machine ≡ end_text c (after c program n)
-  end_after b a = ap (λ d. end_text d b.machine) a.settings ∙ ap (λ m. end_text c m) a.state
+  end_after b a = cc
 
 -- where the machine is busy after n cycles, from the first on
 abbrev pub IsBusy : Settings → List Instr → ℕ → Type 0
@@ -89,25 +72,27 @@ IsBusy c program n = (j : ℕ) → 1 ≤ j → j ≤ n → is_quiet (after c pro
 
 module _ (c : Settings) (program : List Instr) where
   pub busy_none : IsBusy c program 0
-  busy_none j p q = absurd (omega arith)
+  busy_none = grind arith
 
   pub busy_more : (n : ℕ) → IsBusy c program n → is_quiet (after c program (n + 1)) ≡ false → IsBusy c program (n + 1)
-  busy_more n h b j p q = elim (eq-or-lt_of_le q) [ inl e ↦ rw e b | inr l ↦ h j p (omega arith) ]
+  busy_more n h b = grind arith
 
   -- the trace ends where the machine is quiet first
   pub count_quiet : (n : ℕ) → IsBusy c program n → n < c.cycles → is_quiet (after c program (n + 1)) ≡ true → cycle_count c program ≡ n + 1
   unfolding cycle_count
-  count_quiet n h p q = rw (found (λ k. is_quiet (after c program k)) 1 c.cycles (n + 1) (omega arith) (omega arith) q (λ j r s. h j r (omega arith))) refl
+  count_quiet n h p q =
+      let is = found (λ k. is_quiet (after c program k)) 1 c.cycles (n + 1) (omega arith) (omega arith) q in
+      grind arith
 
   -- and else with the last cycle that the settings allow
   pub count_limit : IsBusy c program c.cycles → cycle_count c program ≡ c.cycles
   unfolding cycle_count
-  count_limit h = rw (none_found (λ k. is_quiet (after c program k)) 1 c.cycles (λ j r s. h j r (omega arith))) refl
+  count_limit h = grind (arith, none_found)
 
   -- it has each cycle before which the machine was busy
   count_beyond : (n : ℕ) → IsBusy c program n → n < c.cycles → n + 1 ≤ cycle_count c program
   unfolding cycle_count
-  count_beyond n h p = found_beyond (λ k. is_quiet (after c program k)) 1 c.cycles c.cycles (n + 1) (omega arith) (omega arith) (λ j r s. h j r (omega arith))
+  count_beyond n h p = grind (arith, found_beyond)
 
 -- ---- the first lines of all
 pub first_lines : (line : ℕ → List ℕ) (n m : ℕ) → n ≤ m → (rest : List ℕ) × (by_number m line ≡ by_number n line ++ rest)
@@ -118,16 +103,10 @@ first_lines line n m h =
 
 -- ---- what has been written at the end, and the machine then
 one_of : (a b : Bool) → (a || b) ≡ true → (a ≡ true) ⊎ (b ≡ true)
-one_of true b h = inl refl
-one_of false b h = inr h
-
-none_of : (a b : Bool) → (a || b) ≡ false → a ≡ false
-none_of true b h = absurd cc
-none_of false b h = refl
+one_of a b h = grind arith
 
 pub not_second : (a b : Bool) → (a || b) ≡ false → b ≡ false
-not_second true b h = absurd cc
-not_second false b h = h
+not_second a b h = grind arith
 
 module _ (c : Settings) (program : List Instr) where
   all_written : (n : ℕ) {S : Type 0} {taken : S → List ℕ} {failures : S → ℕ} {s t : Page S} → cycle_count c program ≡ n → Writes taken failures (cycles_text c program n) s t → Writes taken failures (all_cycles_text c program) s t
@@ -166,25 +145,22 @@ module _ (c : Settings) (program : List Instr) (n : ℕ) where
     ]
 
     pub last_machine : (failed : Bool) → (is_quiet b.machine || failed) ≡ true → failed ≡ false → IsAfter c program (cycle_count c program) b
-    last_machine failed over f = elim (one_of (is_quiet b.machine) failed over) [
-      | inl q ↦ rw (counted q) a
-      | inr g ↦ absurd cc
-    ]
+    last_machine failed over f = grind (arith, counted)
 
     -- and else it goes on
     pub still_busy : (failed : Bool) → (is_quiet b.machine || failed) ≡ false → IsBusy c program (n + 1)
-    still_busy failed over = busy_more c program n h (quiet_after c program (n + 1) b a ∙ none_of (is_quiet b.machine) failed over)
+    still_busy failed over = grind (arith, busy_more, quiet_after)
 
   -- where the settings allow no more, that was the last
   module _ (all : n ≡ c.cycles) (h : IsBusy c program n) where
     limit : cycle_count c program ≡ n
-    limit = rw all (count_limit c program (rw all at h))
+    limit = grind (arith, count_limit)
 
     pub limit_written : {S : Type 0} {taken : S → List ℕ} {failures : S → ℕ} {s t : Page S} → Writes taken failures (cycles_text c program n) s t → Writes taken failures (all_cycles_text c program) s t
     limit_written w = all_written c program n limit w
 
     pub limit_machine : (b : BlocksState) → IsAfter c program n b → IsAfter c program (cycle_count c program) b
-    limit_machine b a = rw limit a
+    limit_machine b a = grind (arith, limit)
 
 module _ (c : Settings) (program : List Instr) where
   -- the lines at the end; after a fault it doesn't matter which

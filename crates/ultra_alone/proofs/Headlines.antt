@@ -1,10 +1,9 @@
 -- the headline of a run that has written its trace
-use Rattle.std.proofs.Common.{◌≡◌, ℕ, zero, suc, List, [], ◌∷◌, ◌++◌, refl, sym, ◌∙◌, ap}
+use Rattle.std.proofs.Common.{◌≡◌, ℕ, zero, suc, List, [], ◌∷◌, ◌++◌, refl, ◌∙◌, ap, arith}
 use Rattle.std.specs.Prelude.{Result, Ok, Err, OnOk}
 use Rattle.std.specs.List.{flat_map}
 use Rattle.std.proofs.lemmas.List.Concat.{flat_map-append}
 use Rattle.ultra_msg.specs.declared.Event.{Event}
-use Rattle.ultra_msg.specs.declared.Event.TheVariants.{Delivered, Served, Combined, Issued}
 use Rattle.ultra_isa.specs.declared.Instr.{Instr}
 use Rattle.ultra_model.specs.Machine.{Settings}
 use Rattle.ultra_model.specs.Phases.{after}
@@ -20,10 +19,7 @@ use Rattle.ultra_alone.specs.Headline.{got_lines, delivery_line, Headline}
 -- deliveries alone have `got` lines
 lines_of_cycle : (n : ℕ) (es : List Event) → flat_map got_line es ≡ flat_map delivery_line (deliveries_in n es)
 lines_of_cycle n [] = refl
-lines_of_cycle n (Delivered r ∷ es) = ap (λ t. got_line (Delivered r) ++ t) (lines_of_cycle n es)
-lines_of_cycle n (Served k r reply now ∷ es) = lines_of_cycle n es
-lines_of_cycle n (Combined s x a p q f ∷ es) = lines_of_cycle n es
-lines_of_cycle n (Issued r k ∷ es) = lines_of_cycle n es
+lines_of_cycle n (e ∷ es) = grind (arith, lines_of_cycle n es)
 
 module _ (c : Settings) (program : List Instr) where
   lines_are : (n : ℕ) → got_lines c program n ≡ flat_map delivery_line (deliveries c program n)
@@ -31,9 +27,10 @@ module _ (c : Settings) (program : List Instr) where
   lines_are zero = refl
   lines_are (suc n) =
       let es = (after c program (suc n)).events in
-      ap (λ t. t ++ flat_map got_line es) (lines_are n)
-      ∙ (ap (λ t. flat_map delivery_line (deliveries c program n) ++ t) (lines_of_cycle n es)
-      ∙ sym (flat_map-append delivery_line (deliveries c program n) (deliveries_in n es)))
+      let before = lines_are n in
+      let here = lines_of_cycle n es in
+      let joined = flat_map-append delivery_line (deliveries c program n) (deliveries_in n es) in
+      grind arith
 
   headline : AreInRange c → Headline c program (trace c program)
   headline range = record {

@@ -1,13 +1,6 @@
-pub mod Alone
-pub mod Dealt
-pub mod Firsts
-pub mod Mapped
 pub mod Homes
-pub mod Recut
 pub mod Seen
-pub mod Turn
 pub mod Filled
-pub mod Placed
 pub mod FreshBlock
 pub mod Carried
 pub mod Listing

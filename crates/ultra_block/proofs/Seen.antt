@@ -3,17 +3,8 @@ use Rattle.std.proofs.Common.{◌≡◌, ℕ, List, refl}
 use Rattle.ultra_model.specs.Machine.{Settings}
 use Rattle.ultra_section.specs.BlockState.{BlockState}
 use Rattle.ultra_course.specs.Whole.{whole}
-use Rattle.ultra_cut.specs.Events.{events_of, stops_of}
 use Rattle.ultra_cut.specs.Moments.{machine_in}
 
 pub cycles_are : (c : Settings) (partition : List ℕ) (n : ℕ) (bs : List BlockState) → (machine_in c partition n bs).cycles ≡ n
 unfolding whole
 cycles_are c partition n bs = refl
-
-pub events_are : (c : Settings) (partition : List ℕ) (n : ℕ) (bs : List BlockState) → (machine_in c partition n bs).events ≡ events_of c.stages bs
-unfolding whole
-events_are c partition n bs = refl
-
-pub stops_are : (c : Settings) (partition : List ℕ) (n : ℕ) (bs : List BlockState) → (machine_in c partition n bs).stops ≡ stops_of c.stages bs
-unfolding whole
-stops_are c partition n bs = refl

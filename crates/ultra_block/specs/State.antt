@@ -1,9 +1,11 @@
 -- a whole machine cut into blocks, as contracts see it
-use Rattle.std.specs.Prelude.{ℕ, ◌≤◌, List, length}
+use Rattle.std.specs.Prelude.{◌≡◌, ℕ, ◌+◌, ◌≤◌, List, length}
 use Rattle.ultra_msg.specs.declared.Event.{Event}
 use Rattle.ultra_isa.specs.declared.Instr.{Instr}
 use Rattle.ultra_model.specs.declared.Stop.{Stop}
 use Rattle.ultra_model.specs.Machine.{Settings, Machine}
+use Rattle.ultra_model.specs.Phases.{cycle}
+use Rattle.ultra_section.specs.BlockState.{BlockState}
 use Rattle.ultra_cut.specs.Events.{event_rank}
 use Rattle.ultra_merge.specs.Merging.{Remainder, merged}
 use Rattle.ultra_cut.specs.Moments.{AreWhole, machine_in}
@@ -41,3 +43,10 @@ events_left m = merged (event_rank m.ranking.net) 1280 m.lists
 
 abbrev pub stops_left : Remainder ByElement Stop → List Stop
 stops_left m = merged (λ (s : Stop). s.pe) 64 m.lists
+
+-- blocks that were the whole machine after n cycles have made the next cycle of the definition
+abbrev pub MakesCycle : Settings → List ℕ → ℕ → List BlockState → List BlockState → Type 0
+MakesCycle c partition n old now =
+    (program : List Instr) → AreWhole c program partition n old
+    → AreWhole c program partition (n + 1) now
+    × (machine_in c partition (n + 1) now ≡ cycle c program (machine_in c partition n old))

@@ -3,14 +3,15 @@
 ghost use Rattle.std.specs.Prelude.{◌≡◌, ◌-◌, ◌^◌, ◌<◌, ◌↔◌, ◌==◌, false, length, true, IfErr, IfOk, IsErrOf, OnOk};
 ghost use Rattle.ultra_model.specs.Machine.{bank_at, element_at, is_quiet, lane_at, replies_at, site, start};
 ghost use Rattle.ultra_model.specs.Phases.{cycle as next_cycle};
+ghost use Rattle.ultra_course.specs.Ports.{at_port};
 ghost use Rattle.ultra_cut.specs.Cut.{is_partition};
 ghost use Rattle.ultra_block.specs.Dealt.{IsLastNamed};
 ghost use Rattle.ultra_section.specs.Holding.{IsSetOf};
 ghost use Rattle.ultra_cut.specs.Holding.{holds};
 
+use crate::building::fresh_block;
 use crate::cycle::make_cycle;
-use crate::events::{events_in, stops_in};
-use crate::lent::{at, element_in, module_in, switch_in};
+use crate::dealing::deal;
 use crate::partition::{PartitionFault, names_all_units};
 use crate::parts::Parts;
 use crate::ranks::{ByElement, ByRules};
@@ -24,8 +25,8 @@ use ultra_merge::Merge;
 use ultra_model::{Config, Stop};
 use ultra_msg::{Event, Pe};
 use ultra_section::Held;
-use ultra_switch::{ToMm, ToPe};
-use ultra_units::{UnitSet, switch_number};
+use ultra_switch::{Ports, ToMm, ToPe};
+use ultra_units::{UnitSet, element_number, module_number, switch_number};
 
 /// A whole machine, cut into blocks, between two cycles: its settings, its program, the block in which each unit stands, and the blocks. Switches come first in the partition, then modules, then processing elements.
 ///
@@ -69,8 +70,15 @@ impl Blocks {
         if !names_all_units(config, partition) {
             return Err(PartitionFault::BadPartition);
         }
+        let mut block = fresh_block(alloc, config, program)?;
         Ok(Blocks {
-            parts: Parts::fresh(alloc, config, program, partition)?,
+            parts: Parts {
+                config: config.try_clone()?,
+                program: program.try_clone(alloc)?,
+                partition: Vec::from_slice(alloc, partition)?,
+                done: 0,
+                blocks: deal(alloc, partition, &mut block)?,
+            },
         })
     }
 
@@ -178,14 +186,24 @@ impl Blocks {
     pub fn events(&self) -> Merge<'_, Event, ByRules>
         ensures { events_left result ≡ self.now.machine.events }
     {
-        events_in(self.parts.blocks.as_slice(), self.parts.config.net())
+        let mut events = Merge::new(ByRules {
+            net: self.parts.config.net(),
+        });
+        for block in &self.parts.blocks {
+            events.add(block.events());
+        }
+        events
     }
 
     /// The faults of the last cycle, by processing element.
     pub fn stops(&self) -> Merge<'_, Stop, ByElement>
         ensures { stops_left result ≡ self.now.machine.stops }
     {
-        stops_in(self.parts.blocks.as_slice(), self.parts.config.net())
+        let mut stops = Merge::new(ByElement);
+        for block in &self.parts.blocks {
+            stops.add(block.stops());
+        }
+        stops
     }
 
     /// Whether all units stand in one block, so that nothing has to be merged.
@@ -222,12 +240,7 @@ impl Blocks {
         let net = self.parts.config.net();
         let _even = net.size();
         let number = switch_number(net, stage, position / 2);
-        let switch = switch_in(
-            self.parts.blocks.as_slice(),
-            self.parts.partition.as_slice(),
-            net,
-            number,
-        );
+        let switch = self.parts.home_of(number).switch(number);
         at(&switch.to_mm, position % 2)
     }
 
@@ -241,12 +254,7 @@ impl Blocks {
         let net = self.parts.config.net();
         let _even = net.size();
         let number = switch_number(net, stage, position / 2);
-        let switch = switch_in(
-            self.parts.blocks.as_slice(),
-            self.parts.partition.as_slice(),
-            net,
-            number,
-        );
+        let switch = self.parts.home_of(number).switch(number);
         at(&switch.to_pe, position % 2)
     }
 
@@ -256,13 +264,8 @@ impl Blocks {
         ensures state { result.now ≡ bank_at self.now.machine number }
         ensures cells { length result.now.cells ≡ self.now.config.cells }
     {
-        let net = self.parts.config.net();
-        module_in(
-            self.parts.blocks.as_slice(),
-            self.parts.partition.as_slice(),
-            net,
-            number,
-        )
+        let unit = module_number(self.parts.config.net(), number);
+        self.parts.home_of(unit).module(number)
     }
 
     /// A processing element, by its number.
@@ -272,12 +275,14 @@ impl Blocks {
         ensures site { result.now.processor.site ≡ site self.now.config pe }
         ensures most_open { result.now.interface.most_open ≡ self.now.config.most_open }
     {
-        let net = self.parts.config.net();
-        element_in(
-            self.parts.blocks.as_slice(),
-            self.parts.partition.as_slice(),
-            net,
-            pe,
-        )
+        let unit = element_number(self.parts.config.net(), pe);
+        self.parts.home_of(unit).element(pe)
     }
+}
+
+/// What there is at a port, by its number.
+fn at<T>(ports: &Ports<T>, port: u32) -> &T
+    ensures { result.now ≡ at_port ports.now port }
+{
+    if port == 0 { &ports.zero } else { &ports.one }
 }

@@ -1,9 +1,9 @@
 //! The units of a machine before its first cycle.
 
-ghost use Rattle.std.specs.Prelude.{◌≡◌, ℕ, ◌*◌, ◌^◌, ◌<◌, All, IfOk, OnOk};
+ghost use Rattle.std.specs.Prelude.{◌≡◌, ℕ, ◌*◌, ◌^◌, ◌<◌, All, IfOk};
 ghost use Rattle.ultra_mem.specs.Serve.{new_bank};
 ghost use Rattle.ultra_course.specs.Whole.{empty_switch};
-ghost use Rattle.ultra_block.specs.Fresh.{IsFresh, filled, first_bank, first_element, first_elements, first_modules, first_switches};
+ghost use Rattle.ultra_block.specs.Fresh.{IsFresh, filled, first_bank, first_element};
 
 use std::alloc::{AllocError, Global};
 use ultra_halves::ProcessingElement;
@@ -66,49 +66,25 @@ fn new_element(config: &Config, pe: Pe) -> ProcessingElement
     }
 }
 
-/// All switches are made and put into the block. An error says that memory was refused.
-fn add_switches(alloc: Global, config: &Config, block: &mut Block) -> Result<(), AllocError>
-    requires { block.old.stages ≡ config.now.stages }
-    ensures { OnOk result (block.new ≡ record block.old { switches = first_switches config.now }) }
-{
-    let net = block.net();
-    for number in 0..switch_count(net) {
-        block.put_switch(number, new_switch(alloc, config)?);
-    }
-    Ok(())
-}
-
-/// All memory modules are made and put into the block. An error says that memory was refused.
-fn add_modules(alloc: Global, config: &Config, block: &mut Block) -> Result<(), AllocError>
-    requires { block.old.stages ≡ config.now.stages }
-    ensures { OnOk result (block.new ≡ record block.old { modules = first_modules config.now }) }
-{
-    let net = block.net();
-    for number in 0..net.size() {
-        block.put_module(number, new_module(alloc, config, number)?);
-    }
-    Ok(())
-}
-
-/// All processing elements are made and put into the block.
-fn add_elements(config: &Config, block: &mut Block)
-    requires { block.old.stages ≡ config.now.stages }
-    ensures { block.new ≡ record block.old { elements = first_elements config.now } }
-{
-    let net = block.net();
-    for pe in 0..net.size() {
-        block.put_element(pe, new_element(config, pe));
-    }
-}
-
 /// All units of the machine before its first cycle, in one block, which keeps a copy of the program. An error says that memory was refused.
-pub fn fresh_block(alloc: Global, config: &Config, program: &Program) -> Result<Block, AllocError>
+pub(crate) fn fresh_block(
+    alloc: Global,
+    config: &Config,
+    program: &Program,
+) -> Result<Block, AllocError>
     ensures { IfOk result (λ b. IsFresh config.now program.now b) }
 {
     let _initial = config.initial();
-    let mut block = Block::empty(alloc, config.net(), program)?;
-    add_switches(alloc, config, &mut block)?;
-    add_modules(alloc, config, &mut block)?;
-    add_elements(config, &mut block);
+    let net = config.net();
+    let mut block = Block::empty(alloc, net, program)?;
+    for number in 0..switch_count(net) {
+        block.put_switch(number, new_switch(alloc, config)?);
+    }
+    for number in 0..net.size() {
+        block.put_module(number, new_module(alloc, config, number)?);
+    }
+    for pe in 0..net.size() {
+        block.put_element(pe, new_element(config, pe));
+    }
     Ok(block)
 }

@@ -1,23 +1,21 @@
 //! A cycle of all blocks.
 
-ghost use Rattle.std.specs.Prelude.{◌≡◌, ℕ, ◌+◌, ◌-◌, ◌^◌, ◌<◌, ◌∷◌, [], List};
+ghost use Rattle.std.specs.Prelude.{◌≡◌, ℕ, ◌-◌, ◌^◌, ◌<◌, ◌∷◌, [], List};
 ghost use Rattle.ultra_isa.specs.declared.Instr.{Instr};
 ghost use Rattle.ultra_model.specs.Machine.{Settings};
-ghost use Rattle.ultra_model.specs.Phases.{cycle as next_cycle};
-ghost use Rattle.ultra_cut.specs.Moments.{AreWhole, machine_in};
+ghost use Rattle.ultra_cut.specs.Halves.{AllCanMake, all_made_own};
+ghost use Rattle.ultra_cut.specs.Moments.{AreWhole};
+ghost use Rattle.ultra_block.specs.State.{MakesCycle};
 
-use crate::every_block::make;
 use ultra_cut::{exchange_replies, exchange_requests, note_rooms};
 use ultra_model::Config;
-use ultra_section::{Block, Half};
+use ultra_section::{Block, Half, Rooms};
 
 /// The blocks of a machine, which has made `done` cycles, make one more: replies, memory, requests, processors.
 pub(crate) fn make_cycle(blocks: &mut [Block], config: &Config, partition: &[u8], done: u32)
     requires whole { (program : List Instr) × AreWhole config.now program partition.now done blocks.old }
     requires counted { done < 2 ^ 32 - 1 }
-    ensures whole { (program : List Instr) → AreWhole config.now program partition.now done blocks.old → AreWhole config.now program partition.now (done + 1) blocks.new }
-    ensures state { (program : List Instr) → AreWhole config.now program partition.now done blocks.old
-        → machine_in config.now partition.now (done + 1) blocks.new ≡ next_cycle config.now program (machine_in config.now partition.now done blocks.old) }
+    ensures { MakesCycle config.now partition.now done blocks.old blocks.new }
 {
     if let [block] = blocks {
         make_cycle_of_one(block);
@@ -31,9 +29,7 @@ pub(crate) fn make_cycle(blocks: &mut [Block], config: &Config, partition: &[u8]
 fn make_cycle_of_several(blocks: &mut [Block], config: &Config, partition: &[u8], done: u32)
     requires whole { (program : List Instr) × AreWhole config.now program partition.now done blocks.old }
     requires counted { done < 2 ^ 32 - 1 }
-    ensures whole { (program : List Instr) → AreWhole config.now program partition.now done blocks.old → AreWhole config.now program partition.now (done + 1) blocks.new }
-    ensures state { (program : List Instr) → AreWhole config.now program partition.now done blocks.old
-        → machine_in config.now partition.now (done + 1) blocks.new ≡ next_cycle config.now program (machine_in config.now partition.now done blocks.old) }
+    ensures { MakesCycle config.now partition.now done blocks.old blocks.new }
 {
     let net = config.net();
     let rooms = note_rooms(blocks);
@@ -49,10 +45,10 @@ fn make_cycle_of_several(blocks: &mut [Block], config: &Config, partition: &[u8]
 }
 
 /// The one block in which a whole machine stands makes a cycle. It knows all rooms, and its messages lead to its own units.
+#[inline(never)]
 fn make_cycle_of_one(block: &mut Block)
     requires { (c : Settings) × (program : List Instr) × (partition : List ℕ) × (n : ℕ) × AreWhole c program partition n (block.old ∷ []) × (n < 2 ^ 32 - 1) }
-    ensures { (c : Settings) (program : List Instr) (partition : List ℕ) (n : ℕ) → AreWhole c program partition n (block.old ∷ []) → n < 2 ^ 32 - 1
-        → AreWhole c program partition (n + 1) (block.new ∷ []) × (machine_in c partition (n + 1) (block.new ∷ []) ≡ next_cycle c program (machine_in c partition n (block.old ∷ []))) }
+    ensures { (c : Settings) (partition : List ℕ) (n : ℕ) → n < 2 ^ 32 - 1 → MakesCycle c partition n (block.old ∷ []) (block.new ∷ []) }
 {
     block.send_replies_here();
     block.take_replies();
@@ -60,4 +56,15 @@ fn make_cycle_of_one(block: &mut Block)
     block.send_requests_here();
     block.take_requests();
     block.execute();
+}
+
+/// Every block makes this half of a cycle, with the rooms that were noted before it. Each block has to meet the half's conditions.
+#[inline(always)]
+fn make(blocks: &mut [Block], half: Half, rooms: &Rooms)
+    requires { (program : List Instr) × AllCanMake program half blocks.old }
+    ensures { blocks.new ≡ all_made_own half rooms.now blocks.old }
+{
+    for block in blocks.iter_mut() {
+        block.make(half, rooms);
+    }
 }

@@ -5,17 +5,12 @@ mod blocks;
 mod building;
 mod cycle;
 mod dealing;
-mod events;
-mod every_block;
-mod lent;
 mod partition;
 mod parts;
 mod ranks;
 
 pub use blocks::Blocks;
-pub use building::fresh_block;
-pub use dealing::deal;
-pub use partition::{MOST_BLOCKS, PartitionFault};
+pub use partition::{MOST_BLOCKS, PartitionFault, count_units};
 pub use parts::Parts;
 pub use ranks::{ByElement, ByRules};
 pub use ultra_cut::{exchange_replies, exchange_requests, note_rooms};

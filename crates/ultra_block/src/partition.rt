@@ -1,6 +1,6 @@
 //! Partitions, which name the block of each unit.
 
-ghost use Rattle.std.specs.Prelude.{◌≡◌, ℕ, nat_lt};
+ghost use Rattle.std.specs.Prelude.{◌≡◌, ℕ, ◌≤◌, nat_lt};
 ghost use Rattle.std.specs.List.{list_all};
 ghost use Rattle.ultra_units.specs.Numbers.{unit_count};
 ghost use Rattle.ultra_cut.specs.Cut.{is_partition};
@@ -34,9 +34,10 @@ impl From<AllocError> for PartitionFault {
     }
 }
 
-/// How many units a machine of these settings has.
-pub(crate) fn count_units(config: &Config) -> usize
-    ensures { result ≡ unit_count config.now.stages }
+/// How many units a machine of these settings has: at most 320.
+pub fn count_units(config: &Config) -> usize
+    ensures few { result ≤ 320 }
+    ensures value { result ≡ unit_count config.now.stages }
 {
     let net = config.net();
     switch_count(net) + 2 * net.size() as usize

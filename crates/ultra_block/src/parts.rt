@@ -1,13 +1,11 @@
 //! A machine in blocks, taken apart in the course of a cycle.
 
-ghost use Rattle.std.specs.Prelude.{◌≡◌, ◌≤◌, length, true, IfOk, OnErr, OnOk};
-ghost use Rattle.ultra_model.specs.Machine.{start};
-ghost use Rattle.ultra_cut.specs.Cut.{is_partition};
-ghost use Rattle.ultra_cut.specs.Moments.{AreWhole, machine_in};
+ghost use Rattle.std.specs.Prelude.{◌≡◌, ◌<◌, ◌≤◌, length, true, OnErr, OnOk};
+ghost use Rattle.ultra_units.specs.Numbers.{unit_count};
+ghost use Rattle.ultra_cut.specs.Cut.{block_at, home, is_partition};
 ghost use Rattle.ultra_block.specs.Dealt.{IsLastNamed};
 ghost use Rattle.ultra_block.specs.State.{AreParts, put_together};
 
-use crate::building::fresh_block;
 use crate::dealing::deal;
 use std::alloc::{AllocError, Global};
 use ultra_isa::Program;
@@ -29,52 +27,7 @@ pub struct Parts {
     pub blocks: Vec<Block>,
 }
 
-/// The blocks of a machine before its first cycle, each with a copy of the program. The partition names the block of each unit. An error says that memory was refused.
-fn fresh_blocks(
-    alloc: Global,
-    config: &Config,
-    program: &Program,
-    partition: &[u8],
-) -> Result<Vec<Block>, AllocError>
-    requires { is_partition config.now partition.now ≡ true }
-    ensures whole { IfOk result (λ bs. AreWhole config.now program.now partition.now 0 bs.items) }
-    ensures few { IfOk result (λ bs. length bs.items ≤ 64) }
-    ensures count { IfOk result (λ bs. IsLastNamed partition.now (length bs.items)) }
-    ensures state { IfOk result (λ bs. machine_in config.now partition.now 0 bs.items ≡ start config.now) }
-{
-    let mut block = fresh_block(alloc, config, program)?;
-    deal(alloc, config.net(), partition, &mut block)
-}
-
 impl Parts {
-    /// The parts of a machine before its first cycle, with copies of its own. The partition names the block of each unit. An error says that memory was refused.
-    pub(crate) fn fresh(
-        alloc: Global,
-        config: &Config,
-        program: &Program,
-        partition: &[u8],
-    ) -> Result<Parts, AllocError>
-        requires { is_partition config.now partition.now ≡ true }
-        ensures whole { IfOk result (λ p. AreParts p) }
-        ensures settings { IfOk result (λ p. p.config ≡ config.now) }
-        ensures program { IfOk result (λ p. p.program ≡ program.now) }
-        ensures partition { IfOk result (λ p. p.partition.items ≡ partition.now) }
-        ensures count { IfOk result (λ p. IsLastNamed partition.now (length p.blocks.items)) }
-        ensures state { IfOk result (λ p. (put_together p).machine ≡ start config.now) }
-    {
-        let settings = config.try_clone()?;
-        let own_program = program.try_clone(alloc)?;
-        let homes = Vec::from_slice(alloc, partition)?;
-        let blocks = fresh_blocks(alloc, config, program, partition)?;
-        Ok(Parts {
-            config: settings,
-            program: own_program,
-            partition: homes,
-            done: 0,
-            blocks,
-        })
-    }
-
     /// Cuts a machine that stands in one block by this partition. An error says that memory was refused; the parts are then as they were.
     pub(crate) fn cut(&mut self, alloc: Global, partition: &[u8]) -> Result<(), AllocError>
         requires whole { AreParts self.old }
@@ -86,9 +39,18 @@ impl Parts {
         ensures kept { OnErr result (put_together self.new ≡ put_together self.old) }
     {
         let homes = Vec::from_slice(alloc, partition)?;
-        let blocks = deal(alloc, self.config.net(), partition, &mut self.blocks[0])?;
+        let blocks = deal(alloc, partition, &mut self.blocks[0])?;
         self.partition = homes;
         self.blocks = blocks;
         Ok(())
+    }
+
+    /// The block in which the unit with this number stands.
+    pub(crate) fn home_of(&self, unit: usize) -> &Block
+        requires whole { AreParts self.now }
+        requires unit { unit < unit_count self.now.config.stages }
+        ensures { result.now ≡ block_at self.now.blocks.items (home self.now.partition.items unit) }
+    {
+        &self.blocks[self.partition[unit] as usize]
     }
 }

@@ -3,6 +3,4 @@ pub mod AtFrame
 pub mod Replies
 pub mod Regroup
 pub mod Requests
-pub mod Admitted
 pub mod Steps
-pub mod Law

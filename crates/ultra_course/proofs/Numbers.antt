@@ -1,7 +1,5 @@
 -- what stands at a port, at the number of a switch and on the link of a number
-use Rattle.std.proofs.Common.{◌≡◌, ℕ, ◌+◌, ◌*◌, ◌-◌, ◌/◌, ◌%◌, ◌^◌, ◌<◌, ◌≤◌, Bool, true, false, refl, arith, ap, ◌∙◌, subst}
-use Rattle.std.specs.Prelude.{nat_lt}
-use Rattle.std.proofs.lemmas.Bool.Decides.{nat_tests}
+use Rattle.std.proofs.Common.{◌≡◌, ℕ, ◌+◌, ◌*◌, ◌-◌, ◌/◌, ◌%◌, ◌^◌, ◌<◌, ◌≤◌, arith}
 use Rattle.std.proofs.lemmas.Nat.{pow_pos, div-mul-add, mod-mul-add, mul-add-lt}
 use Rattle.std.proofs.Math.Nat.{div-lt_iff_lt-mul}
 use Rattle.ultra_route.proofs.Table.{sizes}
@@ -12,24 +10,14 @@ use Rattle.ultra_halves.specs.Halves.{ports}
 use Rattle.ultra_course.specs.Ports.{at_port}
 use Rattle.ultra_course.specs.Course.{at_switch, on_links}
 
--- ---- tests
-pub pick_true : {X : Type 0} (b : Bool) (x y : X) → b ≡ true → elim b [ true ↦ x | false ↦ y ] ≡ x
-pick_true b x y h = grind arith
-
-pub pick_false : {X : Type 0} (b : Bool) (x y : X) → b ≡ false → elim b [ true ↦ x | false ↦ y ] ≡ y
-pick_false b x y h = grind arith
-
 -- ---- ports
-by_port : (P : ℕ → Type 0) (j : ℕ) → j < 2 → P 0 → P 1 → P j
-by_port P j h a b = grind arith
-
 -- of both ports
 pub at_two : {X Y Z : Type 0} (g : X → Z → Y) (p : Ports X) (q : Ports Z) (j : ℕ) → at_port (ports (g p.zero q.zero) (g p.one q.one)) j ≡ g (at_port p j) (at_port q j)
 at_two g p q j = grind arith
 
 -- by the port
 pub at_both : {X Y : Type 0} (g : ℕ → X → Y) (p : Ports X) (x : ℕ) → at_port (ports (g 0 p.zero) (g 1 p.one)) (x % 2) ≡ g (x % 2) (at_port p (x % 2))
-at_both g p x = by_port (λ j. at_port (ports (g 0 p.zero) (g 1 p.one)) j ≡ g j (at_port p j)) (x % 2) (omega arith) refl refl
+at_both g p x = grind arith
 
 -- by the position
 pub at_places : {X Y : Type 0} (g : ℕ → X → Y) (p : Ports X) (x : ℕ) → at_port (ports (g (2 * (x / 2)) p.zero) (g (2 * (x / 2) + 1) p.one)) (x % 2) ≡ g x (at_port p (x % 2))
@@ -44,45 +32,31 @@ at_odd g k = grind arith
 
 -- ---- numbers of switches
 pub at_number : {X : Type 0} (d : ℕ) (g : ℕ → ℕ → X) (s k : ℕ) → k < 2 ^ (d - 1) → at_switch d g (switch_number d s k) ≡ g s k
-at_number d g s k h = ap (λ a. g a (switch_number d s k % 2 ^ (d - 1))) (div-mul-add s (2 ^ (d - 1)) k h) ∙ ap (λ b. g s b) (mod-mul-add s (2 ^ (d - 1)) k h)
+at_number d g s k h = grind (arith, div-mul-add, mod-mul-add)
 
 -- what is made there of a switch and of what came to it
 pub with_came : {M X : Type 0} (d : ℕ) (g : ℕ → ℕ → Switch → M → X) (s k : ℕ) {v w : Switch} {o p : M} → k < 2 ^ (d - 1) → v ≡ w → o ≡ p → at_switch d (λ s k. g s k v o) (switch_number d s k) ≡ g s k w p
-with_came d g s k {v} {w} {o} {p} hk e i = at_number d (λ s k. g s k v o) s k hk ∙ ap (λ v. g s k v o) e ∙ ap (λ o. g s k w o) i
+with_came d g s k {v} {w} {o} {p} hk e i = grind (arith, at_number)
 
 pub number_small : (d s k : ℕ) → s < d → k < 2 ^ (d - 1) → switch_number d s k < switch_count d
-number_small d s k hs hk = omega (arith, mul-add-lt s (2 ^ (d - 1)) k d hs hk)
+number_small d s k hs hk = grind (arith, mul-add-lt)
 
 -- what holds of each switch of each stage holds of each number
 pub each_number : (d : ℕ) (P : ℕ → Type 0) → ((s k : ℕ) → s < d → k < 2 ^ (d - 1) → P (switch_number d s k)) → (n : ℕ) → n < switch_count d → P n
 each_number d P f n h =
-    let w = 2 ^ (d - 1) in
-    let some : 0 < w = pow_pos (d - 1) in
-    let row : n / w < d = (div-lt_iff_lt-mul some).1 h in
-    let here : switch_number d (n / w) (n % w) ≡ n = omega arith in
-    subst P here (f (n / w) (n % w) row (omega arith))
+    let some : 0 < 2 ^ (d - 1) = pow_pos (d - 1) in
+    let here = f (n / 2 ^ (d - 1)) (n % 2 ^ (d - 1)) in
+    grind (arith, div-lt_iff_lt-mul)
 
 -- ---- links
-place_small : (d s x : ℕ) → s ≤ d → x < 2 ^ d → place_number d s x < (d + 1) * 2 ^ d
-place_small d s x hs hx = omega (arith, mul-add-lt s (2 ^ d) x (d + 1) (omega (arith, hs)) hx)
-
-half_of : (a h y n : ℕ) → 2 * h ≡ n → (a * n + y) / 2 ≡ a * h + y / 2
-half_of a h y n e = subst (λ n. (a * n + y) / 2 ≡ a * h + y / 2) e (omega arith)
-
-rest_of : (a h y n : ℕ) → 2 * h ≡ n → (a * n + y) % 2 ≡ y % 2
-rest_of a h y n e = subst (λ n. (a * n + y) % 2 ≡ y % 2) e (omega arith)
-
 -- on links that what leaves was written on
 module _ {X : Type 0} (d : ℕ) (low : 1 ≤ d) (high : d ≤ 6) (g : ℕ → Ports X) (h : ℕ → X) (on : ℕ → X) (written : (l : ℕ) → l < (d + 1) * 2 ^ d → on l ≡ on_links d g h l) where
   pub at_link : (s x : ℕ) → s < d → x < 2 ^ d → on (place_number d s x) ≡ at_port (g (switch_number d s (x / 2))) (x % 2)
   at_link s x hs hx =
-      let two = (sizes d low high).0 in
-      let l = place_number d s x in
-      let below : nat_lt l (d * 2 ^ d) ≡ true = let inside = mul-add-lt s (2 ^ d) x d hs hx in grind (arith, nat_tests, inside) in
-      written l (place_small d s x (omega (arith, hs)) hx)
-      ∙ pick_true (nat_lt l (d * 2 ^ d)) (at_port (g (l / 2)) (l % 2)) (h (l - d * 2 ^ d)) below
-      ∙ ap (λ n. at_port (g n) (l % 2)) (half_of s (2 ^ (d - 1)) x (2 ^ d) two)
-      ∙ ap (λ j. at_port (g (switch_number d s (x / 2))) j) (rest_of s (2 ^ (d - 1)) x (2 ^ d) two)
+      let inside = mul-add-lt s (2 ^ d) x d hs hx in
+      let twice : s * 2 ^ d ≡ 2 * (s * 2 ^ (d - 1)) = rw (← (sizes d low high).0) (omega arith) in
+      let is = written (place_number d s x) (omega arith) in
+      grind arith
 
   -- behind all stages
   pub behind : (k : ℕ) → k < 2 ^ d → on (place_number d d k) ≡ h k

@@ -1,6 +1,6 @@
 -- a table of lists by stage and position, joined, and the same by the numbers of the switches
 use Rattle.std.proofs.lemmas.Grind.{common_steps}
-use Rattle.std.proofs.Common.{◌≡◌, ℕ, zero, suc, ◌+◌, ◌*◌, ◌-◌, ◌^◌, List, [], ◌∷◌, ◌++◌, refl, arith, ap, ◌∙◌, sym, append_assoc, append-nil}
+use Rattle.std.proofs.Common.{◌≡◌, ℕ, zero, suc, ◌+◌, ◌*◌, ◌-◌, ◌^◌, List, [], ◌∷◌, ◌++◌, refl, arith, ap, sym, append_assoc, append-nil}
 use Rattle.ultra_model.specs.Places.{places, table, joined}
 use Rattle.ultra_model.proofs.Each.{places_none, places_more}
 use Rattle.ultra_course.specs.Course.{at_switch}
@@ -22,20 +22,20 @@ joined_next g i n e = grind (arith, places_more, joined-append, append-nil)
 pub joined_split : {X : Type 0} (n k : ℕ) (g : ℕ → List X) → joined (places (n + k) g) ≡ joined (places n g) ++ joined (places k (λ i. g (n + i)))
 joined_split n zero g = grind (arith, append-nil, joined_none)
 joined_split n (suc k) g =
-    joined_next g (n + suc k) (n + k) (omega arith)
-    ∙ ap (λ xs. xs ++ g (n + k)) (joined_split n k g)
-    ∙ append_assoc (joined (places n g)) (joined (places k (λ i. g (n + i)))) (g (n + k))
-    ∙ ap (λ xs. joined (places n g) ++ xs) (sym (joined_next (λ i. g (n + i)) (suc k) k (omega arith)))
+    let next = joined_next g (n + suc k) (n + k) (omega arith) in
+    let last = joined_next (λ i. g (n + i)) (suc k) k (omega arith) in
+    let split = joined_split n k g in
+    grind (arith, append_assoc)
 
 -- two by two
 pairs : {X : Type 0} (h n : ℕ) (g : ℕ → List X) → n ≡ 2 * h → joined (places n g) ≡ joined (places h (λ k. g (2 * k) ++ g (2 * k + 1)))
 pairs zero n g e = grind (arith, joined_none)
 pairs (suc h) n g e =
-    let both = λ (k : ℕ). g (2 * k) ++ g (2 * k + 1) in
-    joined_next g n (2 * h + 1) (omega (arith, e))
-    ∙ ap (λ xs. xs ++ g (2 * h + 1)) (joined_next g (2 * h + 1) (2 * h) refl ∙ ap (λ xs. xs ++ g (2 * h)) (pairs h (2 * h) g refl))
-    ∙ append_assoc (joined (places h both)) (g (2 * h)) (g (2 * h + 1))
-    ∙ sym (joined_next both (suc h) h (omega arith))
+    let next = joined_next g n (2 * h + 1) (omega (arith, e)) in
+    let last = joined_next g (2 * h + 1) (2 * h) refl in
+    let both = joined_next (λ k. g (2 * k) ++ g (2 * k + 1)) (suc h) h (omega arith) in
+    let before = pairs h (2 * h) g refl in
+    grind (arith, append_assoc)
 
 module _ {X : Type 0} (d : ℕ) (two : 2 * 2 ^ (d - 1) ≡ 2 ^ d) (g : ℕ → ℕ → List X) where
   abbrev width : ℕ
@@ -52,16 +52,13 @@ module _ {X : Type 0} (d : ℕ) (two : 2 * 2 ^ (d - 1) ≡ 2 ^ d) (g : ℕ → �
 
   pub regroup : (m : ℕ) → joined (joined (table m (2 ^ d) g)) ≡ joined (places (m * width) numbered)
   regroup zero =
-      let none : 0 * width ≡ 0 = omega arith in
-      ap (λ xss. joined xss) (joined_none row) ∙ sym (ap (λ i. joined (places i numbered)) none ∙ joined_none numbered)
+      let none = joined_none row in
+      let empty = joined_none numbered in
+      grind arith
   regroup (suc m) =
-      let front = joined (places (m * width) numbered) in
-      let more : suc m * width ≡ m * width + width = omega arith in
-      let last : joined (row m) ≡ joined (places width (λ k. numbered (m * width + k))) =
-      pairs width (2 ^ d) (λ x. g m x) (sym two)
-      ∙ ap (λ xss. joined xss) (same_places width (λ k. of_switch m k) (λ k. numbered (m * width + k)) (λ k hk. sym (at_number d of_switch m k hk))) in
-      ap (λ xss. joined xss) (joined_next row (suc m) m (omega arith))
-      ∙ joined-append (joined (places m row)) (row m)
-      ∙ ap (λ xs. xs ++ joined (row m)) (regroup m)
-      ∙ ap (λ xs. front ++ xs) last
-      ∙ sym (ap (λ i. joined (places i numbered)) more ∙ joined_split (m * width) width numbered)
+      let next = joined_next row (suc m) m (omega arith) in
+      let split = joined_split (m * width) width numbered in
+      let last = pairs width (2 ^ d) (λ x. g m x) (sym two) in
+      let same = ap (λ xss. joined xss) (same_places width (λ k. of_switch m k) (λ k. numbered (m * width + k)) (λ k hk. sym (at_number d of_switch m k hk))) in
+      let before = regroup m in
+      grind (arith, joined-append)

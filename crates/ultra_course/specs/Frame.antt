@@ -26,21 +26,14 @@ pub record Rooms : Type 0 where
   pub request : ℕ → ℕ → Bool
   pub bank : ℕ → Bool
 
-abbrev pub rooms_of : Frame → Rooms
-rooms_of f = record {
-  reply = λ n. has_reply_room (f.switch n);
-  request = λ n j. at_port (has_request_room (f.switch n)) j;
-  bank = λ m. is_nothing (f.bank m).inp;
-}
-
 -- of a machine of d stages; what a frame has at other numbers doesn't matter
 module _ (d : ℕ) where
   -- these are the rooms of a frame
   pub record AreRooms (f : Frame) (rooms : Rooms) : Type 0 where
-    pub reply : (n : ℕ) → n < switch_count d → rooms.reply n ≡ (rooms_of f).reply n
+    pub reply : (n : ℕ) → n < switch_count d → rooms.reply n ≡ has_reply_room (f.switch n)
     pub request : (n j : ℕ) → n < switch_count d → j < 2
-        → rooms.request n j ≡ (rooms_of f).request n j
-    pub bank : (m : ℕ) → m < 2 ^ d → rooms.bank m ≡ (rooms_of f).bank m
+        → rooms.request n j ≡ at_port (has_request_room (f.switch n)) j
+    pub bank : (m : ℕ) → m < 2 ^ d → rooms.bank m ≡ is_nothing (f.bank m).inp
 
   -- two frames have the same units, and the same on their links
   pub record AreAlike (f g : Frame) : Type 0 where

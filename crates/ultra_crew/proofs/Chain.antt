@@ -13,23 +13,22 @@ use Rattle.ultra_section.specs.RepliesSent.{begun}
 use Rattle.ultra_section.specs.Making.{made}
 use Rattle.ultra_course.specs.Frame.{AreRooms}
 use Rattle.ultra_cut.specs.Cut.{block_at, frame_of, given, home, no_block, no_switch}
-use Rattle.ultra_cut.specs.Exchange.{AreRepliesThere, AreRequestsThere, OnlyRepliesMove, OnlyRequestsMove}
+use Rattle.ultra_cut.specs.Exchange.{AreThere, OnlyMove}
 use Rattle.ultra_cut.specs.Halves.{AreBlocks, all_made, noted}
 use Rattle.ultra_cut.proofs.Numbers.{few_units}
 use Rattle.ultra_cut.specs.declared.kind.Kind.TheVariants.{Replies, Requests}
 use Rattle.ultra_cut.proofs.Moved.{still_blocks}
 use Rattle.ultra_cut.proofs.Columns.{changed_at}
-use Rattle.ultra_cut.proofs.Sent.{replies_sent, requests_sent}
 use Rattle.ultra_cut.specs.Whole.{AreRoomsOfAll}
 use Rattle.ultra_cut.specs.Moments.{AreWhole}
 use Rattle.ultra_cut.proofs.Whole as whole
-use Rattle.ultra_crew.specs.Exchanged.{replies_exchanged, requests_exchanged}
+use Rattle.ultra_crew.specs.Exchanged.{exchanged}
 use Rattle.ultra_crew.specs.Start.{first_blocks, state_of}
 use Rattle.ultra_crew.specs.Course.{blocks_after, first_rooms, results_in, second_rooms, teams_of, with_memory_served, with_replies_sent, with_replies_taken, with_requests_sent, with_requests_taken, with_steps_made}
 use Rattle.ultra_crew.proofs.Words.{are_rooms}
 use Rattle.ultra_crew.proofs.RepliesSame.{replies_same}
 use Rattle.ultra_crew.proofs.RequestsSame.{requests_same}
-use Rattle.ultra_crew.proofs.Exchanged.{replies_are, requests_are}
+use Rattle.ultra_crew.proofs.Exchanged.{are_exchanged}
 use Rattle.ultra_crew.proofs.Started.{blocks_are}
 
 -- ---- blocks that are changed in the same way
@@ -106,16 +105,16 @@ module _ (c : Settings) (partition : List ℕ) (n : ℕ) (program : List Instr) 
       ∙ ap (all_made SendReplies words program) (blocks_are c program partition n bs start)
 
   sent_blocks : AreBlocks d partition sent
-  sent_blocks = subst (λ xs. AreBlocks d partition xs) (sym sent_is) (replies_sent d partition bs first program start.machine.blocks start.clear.replies).frame.blocks.blocks
+  sent_blocks = (whole.at_sent c partition n program bs start e net first first_noted sent sent_is).blocks
 
-  module _ (replies : List BlockState) (moved : OnlyRepliesMove sent replies) (there : AreRepliesThere e partition replies) where
-    replies_there : AreRepliesThere d partition replies
-    replies_there = subst (λ k. AreRepliesThere k partition replies) net there
+  module _ (replies : List BlockState) (moved : OnlyMove Replies sent replies) (there : AreThere Replies e partition replies) where
+    replies_there : AreThere Replies d partition replies
+    replies_there = subst (λ k. AreThere Replies k partition replies) net there
 
-    replies_come : replies ≡ replies_exchanged d partition (with_replies_sent d partition program from)
+    replies_come : replies ≡ exchanged Replies d partition (with_replies_sent d partition program from)
     replies_come =
-        replies_are d low high partition sent replies moved replies_there (still_blocks d partition sent replies Replies moved sent_blocks)
-        ∙ ap (replies_exchanged d partition) replies_sent_so
+        are_exchanged Replies d low high partition sent replies moved replies_there (still_blocks d partition sent replies Replies moved sent_blocks)
+        ∙ ap (exchanged Replies d partition) replies_sent_so
 
     module _ (taken : List BlockState) (taken_is : taken ≡ all_made TakeReplies first program replies) where
       pub replies_taken_so : taken ≡ with_replies_taken d partition program from
@@ -128,19 +127,8 @@ module _ (c : Settings) (partition : List ℕ) (n : ℕ) (program : List Instr) 
         memory_served_so = served_is ∙ ap (all_made Serve first program) replies_taken_so
 
         -- ---- requests
-        whole_served : served ≡ all_made Serve first program (all_made TakeReplies first program replies)
-        whole_served = served_is ∙ ap (all_made Serve first program) taken_is
-
-        moved_whole : OnlyRepliesMove (all_made SendReplies first program bs) replies
-        moved_whole = subst (λ xs. OnlyRepliesMove xs replies) sent_is moved
-
         served_blocks : AreBlocks d partition served
-        served_blocks = subst (λ xs. AreBlocks d partition xs) (sym whole_served) (whole.served_blocks c partition n program bs start first first_room replies moved_whole replies_there)
-
-        served_clear : (l : ℕ) → l < (d + 1) * 2 ^ d → (frame_of d partition served).requests l ≡ None
-        served_clear =
-            subst (λ xs. (l : ℕ) → l < (d + 1) * 2 ^ d → (frame_of d partition xs).requests l ≡ None) (sym whole_served)
-            (whole.served_clear c partition n program bs start first first_room replies moved_whole replies_there).requests
+        served_blocks = (whole.at_served c partition n program bs start e net first first_noted sent sent_is replies moved there taken taken_is served served_is).blocks
 
         module _ (second : BlockRooms) (second_noted : AreRoomsOfAll served second) (passed : List BlockState) (passed_is : passed ≡ all_made SendRequests second program served) where
           second_room : AreRooms d (frame_of d partition served) (noted d second)
@@ -159,14 +147,15 @@ module _ (c : Settings) (partition : List ℕ) (n : ℕ) (program : List Instr) 
               ∙ ap (all_made SendRequests words program) memory_served_so
 
           passed_blocks : AreBlocks d partition passed
-          passed_blocks = subst (λ xs. AreBlocks d partition xs) (sym passed_is) (requests_sent d partition served second program served_blocks served_clear).frame.blocks.blocks
+          passed_blocks =
+              (whole.at_sent_on c partition n program bs start e net first first_noted sent sent_is replies moved there taken taken_is served served_is second second_noted passed passed_is).blocks
 
-          module _ (requests : List BlockState) (moved_on : OnlyRequestsMove passed requests) (there_now : AreRequestsThere e partition requests) where
-            requests_come : requests ≡ requests_exchanged d partition (with_requests_sent d partition program from)
+          module _ (requests : List BlockState) (moved_on : OnlyMove Requests passed requests) (there_now : AreThere Requests e partition requests) where
+            requests_come : requests ≡ exchanged Requests d partition (with_requests_sent d partition program from)
             requests_come =
-                requests_are d low high partition passed requests moved_on (subst (λ k. AreRequestsThere k partition requests) net there_now)
+                are_exchanged Requests d low high partition passed requests moved_on (subst (λ k. AreThere Requests k partition requests) net there_now)
                 (still_blocks d partition passed requests Requests moved_on passed_blocks)
-                ∙ ap (requests_exchanged d partition) requests_sent_so
+                ∙ ap (exchanged Requests d partition) requests_sent_so
 
             module _ (waiting : List BlockState) (waiting_is : waiting ≡ all_made TakeRequests second program requests) where
               pub requests_taken_so : waiting ≡ with_requests_taken d partition program from

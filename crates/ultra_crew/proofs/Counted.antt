@@ -1,5 +1,5 @@
 -- Cycles that are made one after another, and the course of the workers.
-use Rattle.std.proofs.Common.{◌≡◌, ℕ, zero, suc, ◌+◌, List, refl, arith, ap, ◌∙◌, sym}
+use Rattle.std.proofs.Common.{◌≡◌, ℕ, zero, suc, ◌+◌, List, refl, arith, ap}
 use Rattle.ultra_isa.specs.declared.Instr.{Instr}
 use Rattle.ultra_model.specs.Machine.{Machine, Settings}
 use Rattle.ultra_model.specs.Phases.{cycle, memory_phase, processor_phase, reply_phase, request_phase}
@@ -29,16 +29,13 @@ more_later n b = let e : n + 1 ≡ suc n = omega arith in ap (λ k. later k b) e
 pub count_later : (n : ℕ) (b : BlocksState) → (later n b).machine.cycles ≡ b.machine.cycles + n
 unfolding cycles_on
 count_later zero b = omega arith
-count_later (suc n) b =
-    let more = cycles_one b.config b.program (cycles_on b.config b.program n b.machine) in
-    let before = count_later n b in
-    omega (arith, more, before)
+count_later (suc n) b = grind (arith, cycles_one, count_later n b)
 
 -- one first
 first_then : (c : Settings) (program : List Instr) (n : ℕ) (m : Machine) → cycles_on c program n (cycle c program m) ≡ cycles_on c program (suc n) m
 unfolding cycles_on
 first_then c program zero m = refl
-first_then c program (suc n) m = ap (cycle c program) (first_then c program n m)
+first_then c program (suc n) m = grind (arith, first_then c program n m)
 
 -- ---- courses
 pub own_course : (workers : ℕ) (b : BlocksState) → IsCourse (course_of workers b) b.program workers b
@@ -48,8 +45,9 @@ own_course workers b = grind arith
 module _ (results : ℕ → Half → ℕ → List Task) (program : List Instr) (workers : ℕ) (b : BlocksState) (course : IsCourse results program workers b) where
   pub results_now : (h : Half) (w : ℕ) → results b.machine.cycles h w ≡ results_in workers b h w
   results_now h w =
-      let e : b.machine.cycles ≡ b.machine.cycles + 0 = omega arith in
-      ap (λ k. results k h w) e ∙ course.results_are 0 h w ∙ ap (λ x. results_in workers x h w) (sym (none_later b))
+      let now = course.results_are 0 h w in
+      let same = none_later b in
+      grind arith
 
   pub course_goes_on : (next : BlocksState) → next ≡ record b { machine = cycle b.config b.program b.machine } → IsCourse results program workers next
   course_goes_on next is = grind (arith, cycles_one, first_then)

@@ -1,26 +1,26 @@
 -- What the workers have when blocks are dealt to them.
-use Rattle.std.proofs.Common.{◌≡◌, ℕ, zero, suc, ◌+◌, ◌<◌, List, [], ◌∷◌, true, false, refl, sym, ◌∙◌, ap, subst, arith, length, get_or, map, All, cond, Vec, Global}
+use Rattle.std.proofs.Common.{◌≡◌, ℕ, zero, suc, ◌+◌, ◌<◌, List, [], ◌∷◌, refl, subst, arith, length, get_or, map, All, Vec, Global}
 use Rattle.std.proofs.lemmas.List.{get_or_default}
 use Rattle.std.proofs.lemmas.List.Elements.{All-filter}
 use Rattle.ultra_isa.specs.declared.Instr.{Instr}
 use Rattle.ultra_section.specs.BlockState.{BlockState}
 use Rattle.ultra_section.specs.declared.half.Half.{Half}
 use Rattle.ultra_section.specs.declared.rooms.Rooms.{Rooms}
-use Rattle.ultra_section.specs.Making.{CanMake, made}
+use Rattle.ultra_section.specs.Making.{CanMake}
 use Rattle.ultra_cut.specs.Cut.{no_block}
 use Rattle.ultra_cut.specs.Halves.{AllCanMake, all_made}
-use Rattle.ultra_desk.specs.Tasks.{AreTeams, CanBeMade, is_of_worker, task, task_made, tasks_from, team}
+use Rattle.ultra_desk.specs.Tasks.{AreTeams, CanBeMade, is_of_worker, task_made, tasks_from, team}
 use Rattle.ultra_desk.specs.declared.task.Task.{Task}
 use Rattle.ultra_crew.specs.Course.{teams_of}
 
 -- blocks that are dealt to as many workers
 pub dealt_to : (m n : ℕ) (teams : List (Vec Task Global)) (bs : List BlockState) → m ≡ n → AreTeams m teams bs → AreTeams n teams bs
-dealt_to m n teams bs same dealt = subst (λ k. AreTeams k teams bs) same dealt
+dealt_to m n teams bs same dealt = grind arith
 
 -- teams that come back as those of these blocks
 pub given_back : (workers n : ℕ) (results : ℕ → List Task) (teams : List (Vec Task Global)) (bs : List BlockState) → n ≡ workers
     → ((w : ℕ) (d : Vec Task Global) → w < workers → (get_or teams w d).items ≡ results w) → ((w : ℕ) → results w ≡ teams_of workers bs w) → AreTeams n teams bs
-given_back workers n results teams bs same back settled = dealt_to workers n teams bs (sym same) (λ w d below. back w d below ∙ settled w)
+given_back workers n results teams bs same back settled = grind arith
 
 module _ (h : Half) (rooms : Rooms) (program : List Instr) where
   -- the tasks of a team, when they are done, are its tasks of the blocks when they are
@@ -28,11 +28,7 @@ module _ (h : Half) (rooms : Rooms) (program : List Instr) where
   team_made workers w k [] = refl
   team_made workers w k (b ∷ bs) =
       let more = team_made workers w (k + 1) bs in
-      elim (is_of_worker workers w (task k b)) as (λ q. map (task_made h rooms program) (cond q (task k b ∷ team workers w (tasks_from (k + 1) bs)) (team workers w (tasks_from (k + 1) bs)))
-      ≡ cond q (task k (made h rooms program b) ∷ team workers w (tasks_from (k + 1) (all_made h rooms program bs))) (team workers w (tasks_from (k + 1) (all_made h rooms program bs)))) [
-        | true ↦ ap (λ ts. task k (made h rooms program b) ∷ ts) more
-        | false ↦ more
-      ]
+      grind arith
 
   tasks_can : (k : ℕ) (bs : List BlockState) → All (CanMake program h) bs → All (CanBeMade program h) (tasks_from k bs)
   tasks_can k [] can i d below = absurd (omega arith)
@@ -45,8 +41,8 @@ module _ (h : Half) (rooms : Rooms) (program : List Instr) where
   module _ (workers : ℕ) (bs : List BlockState) (teams : List (Vec Task Global)) (many : length teams ≡ workers) (dealt : AreTeams workers teams bs) where
     pub teams_can : AllCanMake program h bs → (w : ℕ) (d : Vec Task Global) → w < length teams → All (CanBeMade program h) (get_or teams w d).items
     teams_can can w d below =
-        subst (λ ts. All (CanBeMade program h) ts) (sym (dealt w d (subst (λ n. w < n) many below)))
-        (All-filter (is_of_worker workers w) (CanBeMade program h) (tasks_from 0 bs) (tasks_can 0 bs (each_can bs can)))
+        let tasks = All-filter (is_of_worker workers w) (CanBeMade program h) (tasks_from 0 bs) (tasks_can 0 bs (each_can bs can)) in
+        grind arith
 
     pub teams_made : (w : ℕ) (d : Vec Task Global) → w < length teams → map (task_made h rooms program) (get_or teams w d).items ≡ teams_of workers (all_made h rooms program bs) w
-    teams_made w d below = ap (map (task_made h rooms program)) (dealt w d (subst (λ n. w < n) many below)) ∙ team_made workers w 0 bs
+    teams_made w d below = grind (arith, team_made)

@@ -14,7 +14,7 @@ use Rattle.ultra_section.specs.Making.{made}
 use Rattle.ultra_units.proofs.Standing.{unit_is}
 use Rattle.ultra_section.proofs.Once.{all_keep}
 use Rattle.ultra_course.specs.Frame.{Frame, AreRooms}
-use Rattle.ultra_course.proofs.Numbers.{number_small, pick_false}
+use Rattle.ultra_course.proofs.Numbers.{number_small}
 use Rattle.ultra_cut.specs.Halves.{noted}
 
 -- visits that are the same where a fact holds that they keep
@@ -44,7 +44,7 @@ module _ (d : ℕ) (low : 1 ≤ d) (high : d ≤ 6) (f : Frame) (x y : Rooms) (x
   half_small y h = let two = (sizes d low high).0 in omega (arith, h)
 
   target_small : (s y : ℕ) → s < d → y < 2 ^ d → (s == 0) ≡ false → reply_target d s y < switch_count d
-  target_small s y hs hy later = grind (arith, half_small, back, pick_false, number_small)
+  target_small s y hs hy later = grind (arith, half_small, back, number_small)
 
   same_way : (s y : ℕ) → s < d → y < 2 ^ d → has_reply_way c1 d s y ≡ has_reply_way c2 d s y
   same_way s y hs hy = grind (arith, agree, target_small)

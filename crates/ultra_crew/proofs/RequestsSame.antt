@@ -21,7 +21,7 @@ use Rattle.ultra_section.specs.Making.{made}
 use Rattle.ultra_section.proofs.OfKind.{by_kind}
 use Rattle.ultra_section.proofs.Standing.{is_switch}
 use Rattle.ultra_course.specs.Frame.{Frame, AreRooms}
-use Rattle.ultra_course.proofs.Numbers.{number_small, pick_false}
+use Rattle.ultra_course.proofs.Numbers.{number_small}
 use Rattle.ultra_cut.specs.Halves.{noted}
 use Rattle.ultra_crew.proofs.RepliesSame.{same_with}
 
@@ -50,7 +50,7 @@ module _ (d : ℕ) (low : 1 ≤ d) (high : d ≤ 6) (f : Frame) (x y : Rooms) (x
       grind arith
 
   target_small : (s a : ℕ) → s < d → a < 2 ^ d → (s == d - 1) ≡ false → request_target d s a < switch_count d
-  target_small s a hs ha before = grind (arith, common_steps, nat_tests, half_small, back, pick_false, number_small)
+  target_small s a hs ha before = grind (arith, common_steps, nat_tests, half_small, back, number_small)
 
   bank_same : (s a : ℕ) → a < 2 ^ d → (s == d - 1) ≡ true → not (has_unit c1.zero (request_target d s a)) ≡ not (has_unit c2.zero (request_target d s a))
   bank_same s a ha last = grind arith

@@ -1,13 +1,11 @@
 -- A machine between two cycles settles its blocks, but for what they list of the last one.
-use Rattle.std.proofs.lemmas.Grind.{common_steps}
 use Rattle.std.proofs.Common.{◌≡◌, ℕ, ◌+◌, ◌*◌, ◌^◌, ◌<◌, List, Bool, true, false, Option, Some, None, length, refl, sym, ◌∙◌, ap, subst, arith, map, replicate}
 use Rattle.std.specs.Prelude.{◌==◌, is_some}
 use Rattle.std.proofs.lemmas.Bool.{eqb-true}
 use Rattle.std.proofs.lemmas.List.{ext_get_or, get_or-map, get_or-replicate, length-map, length-replicate}
 use Rattle.ultra_isa.specs.declared.Instr.{Instr}
 use Rattle.ultra_model.specs.Places.{places}
-use Rattle.ultra_model.specs.Machine.{Machine, Settings, bank_at, lane_at, replies_at}
-use Rattle.ultra_model.proofs.Each.{length-places, places_at}
+use Rattle.ultra_model.specs.Machine.{Machine, Settings, bank_at}
 use Rattle.ultra_units.specs.Numbers.{element_number, module_number, switch_count, switch_number}
 use Rattle.ultra_section.specs.Units.{IsSwitch, index_of, stage_of}
 use Rattle.ultra_section.specs.BlockState.{BlockState}
@@ -16,8 +14,7 @@ use Rattle.ultra_section.specs.RepliesSent.{begun}
 use Rattle.ultra_section.specs.Shape.{IsShaped}
 use Rattle.ultra_section.proofs.Standing.{is_switch}
 use Rattle.ultra_course.specs.Frame.{Frame}
-use Rattle.ultra_course.proofs.AtFrame.{bank_is, element_is, even_small, lane_is, odd_small, replies_is, sizes_at}
-use Rattle.ultra_course.proofs.Numbers.{at_even, at_odd}
+use Rattle.ultra_course.proofs.AtFrame.{bank_is, element_is, lane_is, replies_is, size_is}
 use Rattle.ultra_cut.specs.Cut.{IsCut, block_at, frame_of, given, home, no_block}
 use Rattle.ultra_cut.specs.Events.{events_of, stops_of}
 use Rattle.ultra_cut.proofs.Columns.{column_none}
@@ -25,6 +22,7 @@ use Rattle.ultra_cut.proofs.Units as units
 use Rattle.ultra_cut.proofs.Units.{Sort, stands_at, unit}
 use Rattle.ultra_cut.specs.Moments.{AreWhole, machine_in}
 use Rattle.ultra_block.proofs.Seen.{cycles_are}
+use Rattle.ultra_crew.proofs.Exchanged.{all_places}
 use Rattle.ultra_crew.specs.Start.{element_in, first_block, first_blocks, if_home, state_of, switch_in}
 
 -- ---- what there is of one unit in a block, where that is known to be there just if its home is
@@ -34,13 +32,6 @@ entry_is partition k n None nothing x true home here value = absurd (let e : fal
 entry_is partition k n (Some y) nothing x true home here value = ap (λ (z : _). Some z) (value (eqb-true _ _ home))
 entry_is partition k n None nothing x false home here value = refl
 entry_is partition k n (Some y) nothing x false home here value = absurd (let e : true ≡ false = here in cc)
-
-all_entries : {X : Type 0} (table : List (Option X)) (m : ℕ) (entry : ℕ → Option X) → length table ≡ m
-    → ((n : ℕ) → n < m → on_link table n ≡ entry n) → table ≡ places m entry
-all_entries table m entry count each =
-    ext_get_or None table (places m entry) (count ∙ sym (length-places m entry)) (λ n inside.
-    let small : n < m = subst (λ j. n < j) count inside in
-    each n small ∙ sym (places_at m entry n None small))
 
 no_entries : {X : Type 0} (table : List (Option X)) (m : ℕ) → length table ≡ m → ((n : ℕ) → n < m → on_link table n ≡ None) → table ≡ replicate m None
 no_entries table m count each =
@@ -75,20 +66,16 @@ module _ (c : Settings) (program : List Instr) (partition : List ℕ) (n : ℕ) 
     own_switch : f.switch (switch_number d s k) ≡ f.switch i
     own_switch = ap f.switch (sym position.number)
 
-    lane_even : lane_at m s (2 * k) ≡ (f.switch i).to_mm.zero.lane
-    lane_even = grind (arith, common_steps, lane_is, even_small, at_even, own_switch)
-
-    lane_odd : lane_at m s (2 * k + 1) ≡ (f.switch i).to_mm.one.lane
-    lane_odd = grind (arith, common_steps, lane_is, odd_small, at_odd, own_switch)
-
-    replies_even : replies_at m s (2 * k) ≡ (f.switch i).to_pe.zero.replies
-    replies_even = grind (arith, common_steps, replies_is, even_small, at_even, own_switch)
-
-    replies_odd : replies_at m s (2 * k + 1) ≡ (f.switch i).to_pe.one.replies
-    replies_odd = grind (arith, common_steps, replies_is, odd_small, at_odd, own_switch)
-
     switch_is : f.switch i ≡ switch_in c m i
-    switch_is = grind (arith, sizes_at, lane_even, lane_odd, replies_even, replies_odd)
+    switch_is =
+        let two = size_is c w.machine.machine.range in
+        let at = position in
+        let sizes = w.machine.machine.fits.switches i h in
+        let even = lane_is c f n (events_of d bs) (stops_of d bs) s (2 * k) in
+        let odd = lane_is c f n (events_of d bs) (stops_of d bs) s (2 * k + 1) in
+        let replies_even = replies_is c f n (events_of d bs) (stops_of d bs) s (2 * k) in
+        let replies_odd = replies_is c f n (events_of d bs) (stops_of d bs) s (2 * k + 1) in
+        grind (arith, own_switch)
 
   module_is : (i : ℕ) → i < 2 ^ d → f.bank i ≡ bank_at m i
   module_is i h = sym (bank_is c f n (events_of d bs) (stops_of d bs) i h)
@@ -111,13 +98,13 @@ module _ (c : Settings) (program : List Instr) (partition : List ℕ) (n : ℕ) 
         (λ own. ap (λ j. given sort.nothing (sort.at (block_at bs j) i)) (sym own) ∙ is i h)
 
     switches : b.switches ≡ places (switch_count d) (λ i. if_home partition k i (switch_in c m i))
-    switches = all_entries b.switches (switch_count d) _ shape.switches (entry units.switches (switch_in c m) switch_is)
+    switches = all_places None b.switches (switch_count d) _ shape.switches (entry units.switches (switch_in c m) switch_is)
 
     modules : b.modules ≡ places (2 ^ d) (λ i. if_home partition k (module_number d i) (bank_at m i))
-    modules = all_entries b.modules (2 ^ d) _ shape.modules (entry units.modules (bank_at m) module_is)
+    modules = all_places None b.modules (2 ^ d) _ shape.modules (entry units.modules (bank_at m) module_is)
 
     elements : b.elements ≡ places (2 ^ d) (λ p. if_home partition k (element_number d p) (element_in c m p))
-    elements = all_entries b.elements (2 ^ d) _ shape.elements (entry units.elements (element_in c m) element_is_so)
+    elements = all_places None b.elements (2 ^ d) _ shape.elements (entry units.elements (element_in c m) element_is_so)
 
     replies : b.replies ≡ replicate ((d + 1) * 2 ^ d) None
     replies = no_entries b.replies ((d + 1) * 2 ^ d) shape.replies (λ l h. column_none (λ x. on_link x.replies l) bs (w.clear.replies l h) k within)
@@ -130,8 +117,4 @@ module _ (c : Settings) (program : List Instr) (partition : List ℕ) (n : ℕ) 
 
   pub blocks_are : map begun bs ≡ first_blocks (state_of c program partition n bs)
   unfolding first_blocks
-  blocks_are =
-      let first = first_block (state_of c program partition n bs) in
-      ext_get_or no_block (map begun bs) (places (length bs) first) (length-map bs begun ∙ sym (length-places (length bs) first)) (λ k inside.
-      let within : k < length bs = subst (λ j. k < j) (length-map bs begun) inside in
-      get_or-map begun bs k no_block no_block within ∙ block_is k within ∙ sym (places_at (length bs) first k no_block within))
+  blocks_are = all_places no_block (map begun bs) (length bs) _ (length-map bs begun) (λ k within. get_or-map begun bs k no_block no_block within ∙ block_is k within)

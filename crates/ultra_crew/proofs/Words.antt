@@ -1,5 +1,5 @@
 -- The words of a machine's rooms name the units that have none.
-use Rattle.std.proofs.Common.{◌≡◌, ℕ, zero, suc, ◌+◌, ◌-◌, ◌*◌, ◌^◌, ◌<◌, ◌≤◌, Bool, true, false, refl, ◌∙◌, ap, inl, inr, arith, eqb, lt-ltb, le-ltb}
+use Rattle.std.proofs.Common.{◌≡◌, ℕ, zero, suc, ◌+◌, ◌-◌, ◌*◌, ◌^◌, ◌<◌, ◌≤◌, Bool, ◌∙◌, ap, inl, inr, arith, eqb, lt-ltb, le-ltb}
 use Rattle.std.specs.Prelude.{not, is_some}
 use Rattle.std.proofs.lemmas.Bool.{cases_lt}
 use Rattle.std.proofs.lemmas.Nat.Bits.{bit_at_cat_low, bit_at_cat_high}
@@ -12,15 +12,13 @@ use Rattle.ultra_units.specs.Set.{has_unit}
 use Rattle.ultra_halves.specs.Switches.{has_request_room}
 use Rattle.ultra_course.specs.Ports.{at_port}
 use Rattle.ultra_course.specs.Frame.{Frame, AreRooms}
-use Rattle.ultra_course.proofs.Numbers.{pick_false, pick_true}
 use Rattle.ultra_cut.specs.Halves.{noted}
 use Rattle.ultra_crew.specs.Words.{bit_of_test, no_room_at_zero, units_with, word_of, words_of_rooms}
-use Rattle.std.specs.Prelude.{Option, Some, None}
+use Rattle.std.specs.Prelude.{Option}
 
 -- ---- one word
 bit_small : (b : Bool) (n : ℕ) → bit_of_test b * 2 ^ n ≤ 2 ^ n
-bit_small true n = omega arith
-bit_small false n = omega arith
+bit_small b n = grind arith
 
 word_small : (p : ℕ → Bool) (n : ℕ) → word_of p n < 2 ^ n
 unfolding word_of
@@ -32,8 +30,7 @@ word_small p (suc n) =
     omega (arith, low, high, double)
 
 lowest_bit : (b : Bool) → bit_at (bit_of_test b) 0 ≡ bit_of_test b
-lowest_bit true = refl
-lowest_bit false = refl
+lowest_bit b = grind arith
 
 bit_of_word : (p : ℕ → Bool) (n i : ℕ) → i < n → bit_at (word_of p n) i ≡ bit_of_test (p i)
 unfolding word_of
@@ -48,8 +45,7 @@ bit_of_word p (suc n) i within = elim (cases_lt i n) [
 ]
 
 is_set : (b : Bool) → eqb (bit_of_test b) 1 ≡ b
-is_set true = refl
-is_set false = refl
+is_set b = grind arith
 
 -- ---- a set
 pub has_units : (p : ℕ → Bool) (n : ℕ) → n < 320 → has_unit (units_with p) n ≡ p n
@@ -58,24 +54,20 @@ has_units p n within = grind (arith, places_at, bit_of_word, is_set)
 
 -- ---- the rooms
 not_twice : (b : Bool) → not (not b) ≡ b
-not_twice true = refl
-not_twice false = refl
+not_twice b = grind arith
 
 not_some : {X : Type 0} (o : Option X) → not (is_some o) ≡ is_nothing o
-not_some None = refl
-not_some (Some x) = refl
+not_some o = grind arith
 
 module _ (d : ℕ) (few : switch_count d + 2 ^ d ≤ 320) (f : Frame) where
   request_zero : (n : ℕ) → n < switch_count d → has_unit (units_with (no_room_at_zero d f)) n ≡ not (has_request_room (f.switch n)).zero
-  request_zero n h = grind (arith, has_units, pick_true, lt-ltb)
+  request_zero n h = grind (arith, has_units, lt-ltb)
 
   module_zero : (m : ℕ) → m < 2 ^ d → has_unit (units_with (no_room_at_zero d f)) (module_number d m) ≡ is_some (f.bank m).inp
-  module_zero m h = grind (arith, has_units, pick_false, le-ltb)
+  module_zero m h = grind (arith, has_units, le-ltb)
 
   request_is : (n j : ℕ) → n < switch_count d → j < 2 → (noted d (words_of_rooms d f)).request n j ≡ at_port (has_request_room (f.switch n)) j
-  request_is n zero h small = ap not (request_zero n h) ∙ not_twice (has_request_room (f.switch n)).zero
-  request_is n (suc j) h small =
-      ap not (has_units (λ n. not (has_request_room (f.switch n)).one) n (omega arith)) ∙ not_twice (has_request_room (f.switch n)).one
+  request_is n j h small = grind (arith, request_zero, not_twice, has_units)
 
   pub are_rooms : AreRooms d f (noted d (words_of_rooms d f))
   are_rooms = grind (arith, has_units, not_twice, request_is, module_zero, not_some)

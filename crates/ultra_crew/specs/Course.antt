@@ -7,13 +7,14 @@ use Rattle.ultra_section.specs.BlockState.{BlockState}
 use Rattle.ultra_section.specs.declared.half.Half.{Half}
 use Rattle.ultra_section.specs.declared.half.Half.TheVariants.{SendReplies, TakeReplies, Serve, SendRequests, TakeRequests, Execute}
 use Rattle.ultra_section.specs.declared.rooms.Rooms.{Rooms}
+use Rattle.ultra_cut.specs.declared.kind.Kind.TheVariants.{Replies, Requests}
 use Rattle.ultra_cut.specs.Cut.{frame_of}
 use Rattle.ultra_cut.specs.Halves.{all_made}
 use Rattle.ultra_block.specs.State.{BlocksState}
 use Rattle.ultra_desk.specs.Tasks.{tasks_from, team}
 use Rattle.ultra_desk.specs.declared.task.Task.{Task}
 use Rattle.ultra_crew.specs.Words.{words_of_rooms}
-use Rattle.ultra_crew.specs.Exchanged.{replies_exchanged, requests_exchanged}
+use Rattle.ultra_crew.specs.Exchanged.{exchanged}
 use Rattle.ultra_crew.specs.Start.{first_blocks}
 
 -- ---- several cycles
@@ -36,7 +37,7 @@ module _ (d : ℕ) (partition : List ℕ) (program : List Instr) (bs : List Bloc
 
   unfoldable pub with_replies_taken : List BlockState
   with_replies_taken =
-      all_made TakeReplies first_rooms program (replies_exchanged d partition with_replies_sent)
+      all_made TakeReplies first_rooms program (exchanged Replies d partition with_replies_sent)
 
   unfoldable pub with_memory_served : List BlockState
   with_memory_served = all_made Serve first_rooms program with_replies_taken
@@ -49,7 +50,7 @@ module _ (d : ℕ) (partition : List ℕ) (program : List Instr) (bs : List Bloc
 
   unfoldable pub with_requests_taken : List BlockState
   with_requests_taken =
-      all_made TakeRequests second_rooms program (requests_exchanged d partition with_requests_sent)
+      all_made TakeRequests second_rooms program (exchanged Requests d partition with_requests_sent)
 
   unfoldable pub with_steps_made : List BlockState
   with_steps_made = all_made Execute second_rooms program with_requests_taken

@@ -4,17 +4,18 @@ use Rattle.ultra_route.specs.Route.{shuffled}
 use Rattle.ultra_model.specs.Places.{places}
 use Rattle.ultra_units.specs.Numbers.{switch_number, reply_target, request_target}
 use Rattle.ultra_section.specs.BlockState.{BlockState}
-use Rattle.ultra_cut.specs.Cut.{block_at, home, first, replies_on, requests_on}
+use Rattle.ultra_cut.specs.declared.kind.Kind.{Kind}
+use Rattle.ultra_cut.specs.declared.kind.Kind.TheVariants.{Replies, Requests}
+use Rattle.ultra_cut.specs.Cut.{block_at, home, first}
+use Rattle.ultra_cut.specs.Exchange.{on_each, with_table}
 
 -- the unit of a machine of d stages to which a link leads
-abbrev pub reply_unit : ℕ → ℕ → ℕ
-reply_unit d l = elim (nat_lt l (d * 2 ^ d)) [
+abbrev pub unit_of : Kind → ℕ → ℕ → ℕ
+unit_of Replies d l = elim (nat_lt l (d * 2 ^ d)) [
   | true ↦ reply_target d (l / 2 ^ d) (l % 2 ^ d)
   | false ↦ switch_number d (d - 1) ((l - d * 2 ^ d) / 2)
 ]
-
-abbrev pub request_unit : ℕ → ℕ → ℕ
-request_unit d l = elim (nat_lt l (d * 2 ^ d)) [
+unit_of Requests d l = elim (nat_lt l (d * 2 ^ d)) [
   | true ↦ request_target d (l / 2 ^ d) (l % 2 ^ d)
   | false ↦ switch_number d 0 (shuffled d (l - d * 2 ^ d) / 2)
 ]
@@ -28,13 +29,7 @@ at_home d partition unit on k = places ((d + 1) * 2 ^ d) (λ l. elim (home parti
   | false ↦ None
 ])
 
-module _ (d : ℕ) (partition : List ℕ) (bs : List BlockState) where
-  unfoldable pub replies_exchanged : List BlockState
-  replies_exchanged = places (length bs) (λ k. record (block_at bs k) {
-    replies = at_home d partition (reply_unit d) (replies_on bs) k;
-  })
-
-  unfoldable pub requests_exchanged : List BlockState
-  requests_exchanged = places (length bs) (λ k. record (block_at bs k) {
-    requests = at_home d partition (request_unit d) (requests_on bs) k;
-  })
+-- messages of a kind have been exchanged
+unfoldable pub exchanged : Kind → ℕ → List ℕ → List BlockState → List BlockState
+exchanged kind d partition bs = places (length bs) (λ k.
+    with_table kind (at_home d partition (unit_of kind d) (on_each kind bs) k) (block_at bs k))

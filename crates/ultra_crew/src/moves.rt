@@ -2,7 +2,8 @@
 
 ghost use Rattle.std.specs.Prelude.{◌≡◌};
 ghost use Rattle.ultra_cut.specs.Cut.{IsCut};
-ghost use Rattle.ultra_cut.specs.Exchange.{AreRepliesThere, AreRequestsThere, AreSingleReplies, AreSingleRequests, OnlyRepliesMove, OnlyRequestsMove};
+ghost use Rattle.ultra_cut.specs.declared.kind.Kind.TheVariants.{Replies, Requests};
+ghost use Rattle.ultra_cut.specs.Exchange.{AreThere, AreSingle, OnlyMove};
 
 use ultra_cut::{exchange_replies, exchange_requests};
 use ultra_route::Net;
@@ -15,9 +16,9 @@ pub(crate) fn with_replies_exchanged(
     net: Net,
 ) -> Vec<Block>
     requires cut { IsCut net partition.now blocks.items }
-    requires single { AreSingleReplies blocks.items }
-    ensures only { OnlyRepliesMove blocks.items result.items }
-    ensures there { AreRepliesThere net partition.now result.items }
+    requires single { AreSingle Replies blocks.items }
+    ensures only { OnlyMove Replies blocks.items result.items }
+    ensures there { AreThere Replies net partition.now result.items }
 {
     exchange_replies(blocks.as_mut_slice(), partition, net);
     blocks
@@ -30,9 +31,9 @@ pub(crate) fn with_requests_exchanged(
     net: Net,
 ) -> Vec<Block>
     requires cut { IsCut net partition.now blocks.items }
-    requires single { AreSingleRequests blocks.items }
-    ensures only { OnlyRequestsMove blocks.items result.items }
-    ensures there { AreRequestsThere net partition.now result.items }
+    requires single { AreSingle Requests blocks.items }
+    ensures only { OnlyMove Requests blocks.items result.items }
+    ensures there { AreThere Requests net partition.now result.items }
 {
     exchange_requests(blocks.as_mut_slice(), partition, net);
     blocks

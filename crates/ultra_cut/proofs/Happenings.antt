@@ -10,7 +10,6 @@ use Rattle.ultra_switch.specs.declared.Switch.{Switch}
 use Rattle.ultra_switch.specs.Arrive.{Lane, arrive}
 use Rattle.ultra_mem.specs.Serve.{served}
 use Rattle.ultra_isa.specs.declared.Instr.{Instr}
-use Rattle.ultra_model.specs.declared.Stop.{Stop}
 use Rattle.ultra_model.specs.Places.{joined, places, present}
 use Rattle.ultra_model.specs.Phases.{delivery, serving, combinations, issue_event, stop_of}
 use Rattle.ultra_model.proofs.Each.{each-append}
@@ -22,15 +21,17 @@ use Rattle.ultra_section.specs.BlockState.{BlockState}
 use Rattle.ultra_section.proofs.Standing.{is_switch}
 use Rattle.ultra_course.specs.Frame.{Frame}
 use Rattle.ultra_course.specs.Course as course
+use Rattle.ultra_merge.specs.Merging.{merged, of_rank}
+use Rattle.ultra_merge.proofs.Merged.{merged_of}
 use Rattle.ultra_cut.specs.Cut.{block_at, frame_of, home, no_block}
-use Rattle.ultra_cut.specs.Exchange.{AreRepliesThere, AreRequestsThere}
+use Rattle.ultra_cut.specs.Exchange.{AreThere}
 use Rattle.ultra_cut.specs.Halves.{AreBlocks}
-use Rattle.ultra_cut.specs.Events.{event_rank, events_of, stops_of}
+use Rattle.ultra_cut.specs.Events.{event_rank, events_of, stop_rank, stops_of}
 use Rattle.ultra_cut.specs.Happenings.{combined_at, delivered_to, issued_by, listed_of, events_of_replies, events_of_requests, events_of_service, events_of_steps, stops_of_steps, Course, HaveListed, ListWhatHappens, HappeningsLaw}
 use Rattle.ultra_cut.specs.declared.kind.Kind.TheVariants.{Replies, Requests}
 use Rattle.ultra_cut.specs.InOrder.{IsInOrder, InOrderLaw}
 use Rattle.ultra_cut.proofs.Merged.{joined_same, joined_present, map_places}
-use Rattle.ultra_cut.proofs.Merged.{HaveRank, Merges, by_units, within, ascends, all_below, of_rank, one_then, same_lists}
+use Rattle.ultra_cut.proofs.Merged.{HaveRank, Merges, by_units, within, one_then, same_lists}
 use Rattle.ultra_cut.proofs.Units.{Sort, at_home, away, elements, home_small, modules, switches, unit}
 use Rattle.ultra_cut.proofs.Inlets.{end_there, switch_there}
 use Rattle.ultra_cut.proofs.Numbers.{few_units}
@@ -44,9 +45,6 @@ module _ (d : ℕ) where
 
   combinations_ranked : (n i s k : ℕ) (w : Switch) (came : Ports (Option Request)) → switch_number d s k ≡ i → HaveRank (event_rank d) (640 + i) (combinations_of d s k n w came)
   combinations_ranked n i s k w came at = grind (arith, each-append, each_ranked)
-
-abbrev pub stop_rank : Stop → ℕ
-stop_rank s = s.pe
 
 -- ---- of the units of a sort that stand in a block it lists what `list` says. Of the machine's units that is what `g`
 -- says, and has the rank of the unit
@@ -85,7 +83,7 @@ module _ (d : ℕ) (partition : List ℕ) (bs : List BlockState) (blocks : AreBl
   abbrev f : Frame
   f = frame_of d partition bs
 
-  of_replies : AreRepliesThere d partition bs → ((p : ℕ) → p < 2 ^ d → ForSome (course.reply_to d f p) (λ (r : ReplyMessage). r.pe ≡ p))
+  of_replies : AreThere Replies d partition bs → ((p : ℕ) → p < 2 ^ d → ForSome (course.reply_to d f p) (λ (r : ReplyMessage). r.pe ≡ p))
       → Merges (event_rank d) count 0 320 (λ k. events_of_replies d (block_at bs k)) (course.deliveries d f)
   unfolding events_of_replies course.deliveries
   of_replies come names =
@@ -99,7 +97,7 @@ module _ (d : ℕ) (partition : List ℕ) (bs : List BlockState) (blocks : AreBl
       part_present d partition bs blocks count same (event_rank d) 320 320 (320 + switch_count d) modules (omega arith) (omega (arith, few)) (λ b m bank. present (serving m (served bank) ∷ []))
       (λ m. serving m (served (f.bank m))) (λ m small. refl) (λ m small. grind arith)
 
-  of_requests : (n : ℕ) → AreRequestsThere d partition bs → Merges (event_rank d) count 640 320 (λ k. events_of_requests d n (block_at bs k)) (course.combinations d n f)
+  of_requests : (n : ℕ) → AreThere Requests d partition bs → Merges (event_rank d) count 640 320 (λ k. events_of_requests d n (block_at bs k)) (course.combinations d n f)
   unfolding events_of_requests course.combinations
   of_requests n come =
       part d partition bs blocks count same (event_rank d) 640 320 640 switches (omega arith) (omega (arith, few)) (combined_at d n)
@@ -122,9 +120,10 @@ module _ (d : ℕ) (partition : List ℕ) (bs : List BlockState) (blocks : AreBl
 
 -- what the blocks list, block by block
 by_blocks : {X : Type 0} (rank : X → ℕ) (get : BlockState → List X) (bs : List BlockState) (width : ℕ) (all : List X) → Merges rank (length bs) 0 width (λ k. get (block_at bs k)) all
-    → joined (places width (λ r. joined (map (λ b. of_rank rank r (get b)) bs))) ≡ all
+    → merged rank width (map get bs) ≡ all
 by_blocks rank get bs width all merges =
-    joined_same width (λ r. joined (map (λ b. of_rank rank r (get b)) bs)) (λ r. joined (places (length bs) (λ k. of_rank rank (0 + r) (get (block_at bs k)))))
+    merged_of rank width get bs
+    ∙ joined_same width (λ r. joined (map (λ b. of_rank rank r (get b)) bs)) (λ r. joined (places (length bs) (λ k. of_rank rank (0 + r) (get (block_at bs k)))))
     (λ r h. ap (λ xss. joined xss) (map_places (λ b. of_rank rank r (get b)) bs no_block) ∙ ap (λ q. joined (places (length bs) (λ k. of_rank rank q (get (block_at bs k))))) (omega arith))
     ∙ merges.merged
 
@@ -153,20 +152,15 @@ module _ (d n : ℕ) (partition : List ℕ) (program : List Instr) (x : Course) 
       same_lists stop_rank count 0 64 _ _ _ (λ k h. sym (sound.lists k h).stops)
       (of_stops d partition x.requests_taken sound.requests_taken.0 count sound.requests_taken.1 few program (omega arith))
 
-  list_what_happens : ListWhatHappens d n partition program x
+  pub list_what_happens : ListWhatHappens d n partition program x
   unfolding events_of stops_of
   list_what_happens = record {
     events = by_blocks (event_rank d) (λ b. b.events) x.steps_made 1280 _ events_merge;
     stops = by_blocks stop_rank (λ b. b.stops) x.steps_made 64 _ stops_merge;
   }
 
-  in_order : (k : ℕ) → k < count → IsInOrder d (block_at x.steps_made k)
-  in_order k h = record {
-    events = ascends 0 1280 _ (events_merge.ordered k h);
-    ranks = all_below (event_rank d) 0 1280 _ (events_merge.ordered k h);
-    stops = ascends 0 64 _ (stops_merge.ordered k h);
-    elements = all_below stop_rank 0 64 _ (stops_merge.ordered k h);
-  }
+  pub in_order : (k : ℕ) → k < count → IsInOrder d (block_at x.steps_made k)
+  in_order k h = let events = events_merge.ordered k h in let stops = stops_merge.ordered k h in grind arith
 
 pub happenings_law : HappeningsLaw
 happenings_law = list_what_happens

@@ -1,8 +1,10 @@
--- The links that lead to a unit. Each link leads to one: computed over every network of at most six stages. Where each
--- message is in the block to which it leads, what comes to a unit is what its block has for it.
-use Rattle.std.proofs.Common.{◌≡◌, ℕ, ◌+◌, ◌-◌, ◌*◌, ◌^◌, ◌<◌, ◌≤◌, Bool, true, Some, refl, subst, arith, inl, inr, ◌≢◌, List, None, length, sym, ◌∙◌, ap}
-use Rattle.std.specs.Prelude.{◌⊎◌, ◌&&◌, ◌||◌, ◌==◌, nat_lt}
-use Rattle.std.proofs.lemmas.Bool.{eqb-true}
+-- What is true of messages of each kind, and of the links that lead to a unit. Each link leads to one: computed over every
+-- network of at most six stages. Where each message is in the block to which it leads, what comes to a unit is what its
+-- block has for it.
+use Rattle.std.proofs.Common.{◌≡◌, ◌≢◌, ℕ, ◌+◌, ◌-◌, ◌*◌, ◌^◌, ◌<◌, ◌≤◌, Bool, true, false, List, Option, Some, None, length, refl, sym, ap, subst, arith}
+use Rattle.std.specs.Prelude.{◌&&◌, ◌||◌, ◌==◌, nat_lt}
+use Rattle.std.proofs.lemmas.Bool.Decides.{nat_tests}
+use Rattle.std.proofs.lemmas.List.{get_or_past}
 use Rattle.ultra_route.proofs.Table.{all_below, all_below_at}
 use Rattle.ultra_switch.specs.declared.Ports.{Ports}
 use Rattle.ultra_units.specs.Numbers.{switch_count, unit_count, module_number, element_number}
@@ -11,13 +13,42 @@ use Rattle.ultra_section.specs.Units.{stage_of, index_of}
 use Rattle.ultra_section.specs.Marks.{delivery_link, memory_link, reply_links, request_links, on_both, on_link}
 use Rattle.ultra_section.specs.BlockState.{BlockState}
 use Rattle.ultra_section.specs.Away.{AreEmpty}
+use Rattle.ultra_section.specs.Shape.{IsShaped}
+use Rattle.ultra_section.proofs.Readers.{each_network, reply_reader, request_reader}
+use Rattle.ultra_section.proofs.Standing.{unit_is}
+use Rattle.ultra_section.proofs.RepliesAway as replies_away
+use Rattle.ultra_section.proofs.RequestsAway as requests_away
 use Rattle.ultra_cut.specs.declared.kind.Kind.{Kind}
 use Rattle.ultra_cut.specs.declared.kind.Kind.TheVariants.{Replies, Requests}
-use Rattle.ultra_cut.specs.Exchange.{inlets, HasNoneFor, on_each, table}
 use Rattle.ultra_cut.specs.Cut.{IsCut, block_at, first, home}
-use Rattle.ultra_cut.proofs.BothKinds.{reader, lead_here}
-use Rattle.ultra_cut.proofs.Numbers.{below}
+use Rattle.ultra_cut.specs.Exchange.{AreThere, Message, inlets, message_on, on_each, table, with_table}
 use Rattle.ultra_cut.proofs.Columns.{column_first}
+
+-- ---- a block with something else on its links
+pub table_with : (kind : Kind) (t : List (Option (Message kind))) (b : BlockState) → table kind (with_table kind t b) ≡ t
+table_with Replies t b = refl
+table_with Requests t b = refl
+
+pub with_twice : (kind : Kind) (t u : List (Option (Message kind))) (b : BlockState) → with_table kind t (with_table kind u b) ≡ with_table kind t b
+with_twice Replies t u b = refl
+with_twice Requests t u b = refl
+
+pub with_own : (kind : Kind) (b : BlockState) → b ≡ with_table kind (table kind b) b
+with_own Replies b = refl
+with_own Requests b = refl
+
+pub links_of : (kind : Kind) (d : ℕ) (b : BlockState) → IsShaped d b → length (table kind b) ≡ (d + 1) * 2 ^ d
+links_of Replies d b shape = shape.replies
+links_of Requests d b shape = shape.requests
+
+pub shaped_with : (kind : Kind) (d : ℕ) (t : List (Option (Message kind))) (b : BlockState) → length t ≡ (d + 1) * 2 ^ d → IsShaped d b → IsShaped d (with_table kind t b)
+shaped_with Replies d t b links shape = grind arith
+shaped_with Requests d t b links shape = grind arith
+
+-- where there is no block there is nothing
+pub none_past : (kind : Kind) (bs : List BlockState) (l k : ℕ) → length bs ≤ k → message_on kind l (block_at bs k) ≡ None
+none_past Replies bs l k past = grind (arith, get_or_past)
+none_past Requests bs l k past = grind (arith, get_or_past)
 
 -- ---- the links to switch n, and the one to unit i of the sort in which the way ends
 abbrev pub links : Kind → ℕ → ℕ → Ports ℕ
@@ -38,66 +69,64 @@ switch_inlets kind d n h = grind arith
 pub end_inlets : (kind : Kind) (d i : ℕ) → i < 2 ^ d → inlets kind d (end_number kind d i) ≡ Some (ports (end_link kind d i) (end_link kind d i))
 end_inlets kind d p h = grind arith
 
-pub end_small : (kind : Kind) (d i : ℕ) → i < 2 ^ d → end_number kind d i < unit_count d
-end_small kind d p h = grind arith
-
 pub end_link_small : (kind : Kind) (d : ℕ) → 1 ≤ d → d ≤ 6 → (i : ℕ) → i < 2 ^ d → end_link kind d i < (d + 1) * 2 ^ d
 end_link_small kind d low high i h = grind arith
 
--- ---- link l leads to switch n, or to unit i of that sort
-pub record LeadsToSwitch (kind : Kind) (d l n : ℕ) : Type 0 where
-  pub switch : n < switch_count d
-  pub inlet : (l ≡ (links kind d n).zero) ⊎ (l ≡ (links kind d n).one)
+-- ---- the unit to which a link leads
+abbrev pub reader : Kind → ℕ → ℕ → ℕ
+reader Replies = reply_reader
+reader Requests = request_reader
 
-pub record LeadsToEnd (kind : Kind) (d l i : ℕ) : Type 0 where
-  pub small : i < 2 ^ d
-  pub inlet : l ≡ end_link kind d i
+-- the inlets of unit n lead to it
+pub record LeadHere (kind : Kind) (d n : ℕ) (p : Ports ℕ) : Type 0 where
+  pub zero_small : p.zero < (d + 1) * 2 ^ d
+  pub one_small : p.one < (d + 1) * 2 ^ d
+  pub zero_reader : reader kind d p.zero ≡ n
+  pub one_reader : reader kind d p.one ≡ n
 
-abbrev pub end_read : Kind → ℕ → ℕ → ℕ
-end_read Replies d l = reader Replies d l - (switch_count d + 2 ^ d)
-end_read Requests d l = reader Requests d l - switch_count d
+pub lead_here : (kind : Kind) (d : ℕ) → 1 ≤ d → d ≤ 6 → (n : ℕ) (p : Ports ℕ) → inlets kind d n ≡ Some p → LeadHere kind d n p
+lead_here Replies d low high n p is =
+    let it = replies_away.inlets d low high n p is in
+    grind arith
+lead_here Requests d low high n p is =
+    let it = requests_away.inlets d low high n p is in
+    grind arith
 
-abbrev leads_to_switch : Kind → ℕ → ℕ → ℕ → Bool
-leads_to_switch kind d l n = nat_lt n (switch_count d) && ((l == (links kind d n).zero) || (l == (links kind d n).one))
-
-abbrev leads_to_end : Kind → ℕ → ℕ → ℕ → Bool
-leads_to_end kind d l i = nat_lt i (2 ^ d) && (l == end_link kind d i)
+-- link l is one of these
+abbrev is_among : ℕ → Option (Ports ℕ) → Bool
+is_among l None = false
+is_among l (Some p) = (l == p.zero) || (l == p.one)
 
 abbrev leads : Kind → ℕ → ℕ → Bool
-leads kind d l = leads_to_switch kind d l (reader kind d l) || leads_to_end kind d l (end_read kind d l)
+leads kind d l = nat_lt (reader kind d l) (unit_count d) && is_among l (inlets kind d (reader kind d l))
 
 all_lead : (kind : Kind) → all_below (λ k. all_below (leads kind (k + 1)) ((k + 1 + 1) * 2 ^ (k + 1))) 6 ≡ true
 unfolding all_below
 all_lead Replies = refl
 all_lead Requests = refl
 
--- ---- tests
-both : (a b : Bool) → (a && b) ≡ true → (a ≡ true) × (b ≡ true)
-both a b h = grind arith
+pub record LeadsTo (kind : Kind) (d l n : ℕ) : Type 0 where
+  pub small : n < unit_count d
+  pub among : is_among l (inlets kind d n) ≡ true
 
-either : (a b : Bool) → (a || b) ≡ true → (a ≡ true) ⊎ (b ≡ true)
-either a b h = grind arith
+pub leads_to : (kind : Kind) (d : ℕ) → 1 ≤ d → d ≤ 6 → (l : ℕ) → l < (d + 1) * 2 ^ d → LeadsTo kind d l (reader kind d l)
+leads_to kind d low high l h =
+    let it = all_below_at (leads kind d) _ (each_network (λ d. all_below (leads kind d) ((d + 1) * 2 ^ d)) (all_lead kind) d low high) l h in
+    grind (arith, nat_tests)
 
-module _ (kind : Kind) (d : ℕ) (low : 1 ≤ d) (high : d ≤ 6) (l : ℕ) (h : l < (d + 1) * 2 ^ d) where
-  at_switch : (n : ℕ) → leads_to_switch kind d l n ≡ true → LeadsToSwitch kind d l n
-  at_switch n is = grind (arith, eqb-true)
+-- where nothing is on the inlets of a unit, nothing is on this one
+pub none_among : {M : Type 0} (t : List (Option M)) (l : ℕ) (o : Option (Ports ℕ)) → is_among l o ≡ true → AreEmpty t o → on_link t l ≡ None
+none_among t l None among none = cc
+none_among t l (Some p) among none = grind (arith, nat_tests)
 
-  at_end : (i : ℕ) → leads_to_end kind d l i ≡ true → LeadsToEnd kind d l i
-  at_end i is = let it = both _ _ is in record { small = below _ _ it.0; inlet = eqb-true _ _ it.1 }
+-- what holds of the inlets of each unit
+pub by_inlets : (kind : Kind) (d : ℕ) (P : ℕ → Option (Ports ℕ) → Type 0) → ((n : ℕ) → n < switch_count d → P n (Some (links kind d n)))
+    → ((i : ℕ) → i < 2 ^ d → P (end_number kind d i) (Some (ports (end_link kind d i) (end_link kind d i)))) → ((n : ℕ) → P n None) → (n : ℕ) → P n (inlets kind d n)
+by_inlets Replies d P switches ends none n = let switch = switches n in let end = ends (n - element_number d 0) in grind (arith, unit_is)
+by_inlets Requests d P switches ends none n = let switch = switches n in let end = ends (n - module_number d 0) in grind (arith, unit_is)
 
-  it_leads : leads kind d l ≡ true
-  it_leads =
-      let e : (d - 1) + 1 ≡ d = omega arith in
-      let small : d - 1 < 6 = omega arith in
-      all_below_at (leads kind d) ((d + 1) * 2 ^ d)
-      (subst (λ x. all_below (leads kind x) ((x + 1) * 2 ^ x) ≡ true) e (all_below_at (λ k. all_below (leads kind (k + 1)) ((k + 1 + 1) * 2 ^ (k + 1))) 6 (all_lead kind) (d - 1) small)) l h
-
-  pub leads_to : (LeadsToSwitch kind d l (reader kind d l)) ⊎ (LeadsToEnd kind d l (end_read kind d l))
-  leads_to = elim (either _ _ it_leads) [ inl e ↦ inl (at_switch (reader kind d l) e) | inr e ↦ inr (at_end (end_read kind d l) e) ]
-
-module _ (kind : Kind) (d : ℕ) (partition : List ℕ) (bs : List BlockState) (cut : IsCut d partition bs)
-    (there : (k n : ℕ) → k < length bs → n < unit_count d → HasNoneFor kind d partition bs k n) where
-  -- ---- unit n, to which two links lead
+module _ (kind : Kind) (d : ℕ) (partition : List ℕ) (bs : List BlockState) (cut : IsCut d partition bs) (there : AreThere kind d partition bs) where
+  -- what comes to unit n is in its block
   module _ (n : ℕ) (h : n < unit_count d) (p : Ports ℕ) (is : inlets kind d n ≡ Some p) where
     none_for : (k : ℕ) → k < length bs → k ≢ home partition n → AreEmpty (table kind (block_at bs k)) (Some p)
     none_for k within other = subst (λ o. AreEmpty (table kind (block_at bs k)) o) is (there k n within h (λ e. other (sym e)))
@@ -105,29 +134,13 @@ module _ (kind : Kind) (d : ℕ) (partition : List ℕ) (bs : List BlockState) (
     come : ports (first (on_each kind bs p.zero)) (first (on_each kind bs p.one)) ≡ on_both (table kind (block_at bs (home partition n))) p
     come = grind (arith, column_first, none_for)
 
-  -- ---- switch n
-  module _ (n : ℕ) (h : n < switch_count d) where
-    pub nothing_for_switch : (k : ℕ) → k < length bs → k ≢ home partition n → on_both (table kind (block_at bs k)) (links kind d n) ≡ ports None None
-    nothing_for_switch k within other = let none = none_for n (omega arith) (links kind d n) (switch_inlets kind d n h) k within other in rw (none.0, none.1) refl
+  pub switch_there : (n : ℕ) → n < switch_count d → ports (first (on_each kind bs (links kind d n).zero)) (first (on_each kind bs (links kind d n).one)) ≡ on_both (table kind (block_at bs (home partition n))) (links kind d n)
+  switch_there n h = come n (omega arith) (links kind d n) (switch_inlets kind d n h)
 
-    pub switch_there : ports (first (on_each kind bs (links kind d n).zero)) (first (on_each kind bs (links kind d n).one)) ≡ on_both (table kind (block_at bs (home partition n))) (links kind d n)
-    switch_there = come n (omega arith) (links kind d n) (switch_inlets kind d n h)
+  pub end_there : (i : ℕ) → i < 2 ^ d → first (on_each kind bs (end_link kind d i)) ≡ message_on kind (end_link kind d i) (block_at bs (home partition (end_number kind d i)))
+  end_there i h = ap (λ q. q.zero) (come (end_number kind d i) (grind arith) (ports (end_link kind d i) (end_link kind d i)) (end_inlets kind d i h))
 
-  -- ---- unit i in which the way ends
-  module _ (i : ℕ) (h : i < 2 ^ d) where
-    pub nothing_for_end : (k : ℕ) → k < length bs → k ≢ home partition (end_number kind d i) → on_link (table kind (block_at bs k)) (end_link kind d i) ≡ None
-    nothing_for_end k within other = (none_for (end_number kind d i) (end_small kind d i h) (ports (end_link kind d i) (end_link kind d i)) (end_inlets kind d i h) k within other).0
-
-    pub end_there : first (on_each kind bs (end_link kind d i)) ≡ on_link (table kind (block_at bs (home partition (end_number kind d i)))) (end_link kind d i)
-    end_there = ap (λ q. q.zero) (come (end_number kind d i) (end_small kind d i h) (ports (end_link kind d i) (end_link kind d i)) (end_inlets kind d i h))
-
-  -- ---- by links: what is on one is in the block of the unit to which it leads
-  pub nothing_away : 1 ≤ d → d ≤ 6 → (k l : ℕ) → k < length bs → l < (d + 1) * 2 ^ d → home partition (reader kind d l) ≢ k → on_link (table kind (block_at bs k)) l ≡ None
-  nothing_away low high k l within small away = elim (leads_to kind d low high l small) [
-    | inl it ↦ let none = nothing_for_switch (reader kind d l) it.switch k within (λ e. away (sym e)) in grind arith
-    | inr it ↦
-        let i : ℕ = end_read kind d l in
-        let read = (lead_here kind d low high (end_number kind d i) (ports (end_link kind d i) (end_link kind d i)) (end_inlets kind d i it.small)).zero_reader in
-        let none = nothing_for_end i it.small k within (λ e. away (ap (λ l. home partition (reader kind d l)) it.inlet ∙ ap (home partition) read ∙ sym e)) in
-        rw it.inlet none
-  ]
+  -- what is on a link is in the block of the unit to which it leads
+  pub nothing_away : 1 ≤ d → d ≤ 6 → (k l : ℕ) → k < length bs → l < (d + 1) * 2 ^ d → home partition (reader kind d l) ≢ k → message_on kind l (block_at bs k) ≡ None
+  nothing_away low high k l within small away =
+      let it = leads_to kind d low high l small in none_among (table kind (block_at bs k)) l _ it.among (there k (reader kind d l) within it.small away)

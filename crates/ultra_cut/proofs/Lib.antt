@@ -1,13 +1,9 @@
 pub mod Numbers
-pub mod BothKinds
 pub mod Moved
 pub mod Columns
 pub mod Acting
 pub mod Inlets
-pub mod Links
-pub mod Worked
-pub mod Taken
-pub mod Sent
+pub mod Halves
 pub mod Units
 pub mod Noted
 pub mod QuietMachine

@@ -1,17 +1,13 @@
 -- What a block lists in each half: unit by unit, and so kind by kind.
-use Rattle.std.proofs.Common.{◌≡◌, ℕ, zero, suc, ◌+◌, ◌-◌, ◌^◌, ◌<◌, ◌≤◌, List, [], ◌∷◌, ◌++◌, Option, refl, sym, ◌∙◌, ap, inl, inr, arith}
-use Rattle.std.proofs.lemmas.Bool.{cases_lt}
-use Rattle.ultra_mem.specs.Serve.{Bank, served as served_by}
+use Rattle.std.proofs.Common.{◌≡◌, ℕ, zero, suc, ◌+◌, ◌-◌, ◌^◌, ◌<◌, ◌≤◌, List, [], ◌++◌, refl, sym, ◌∙◌, ap, arith}
 use Rattle.ultra_isa.specs.declared.Instr.{Instr}
-use Rattle.ultra_model.specs.Places.{places, present, joined}
-use Rattle.ultra_model.specs.Phases.{serving}
-use Rattle.ultra_units.specs.Numbers.{switch_count, unit_count, module_number, element_number}
+use Rattle.ultra_model.specs.Places.{places, joined}
+use Rattle.ultra_units.specs.Numbers.{switch_count, unit_count}
 use Rattle.ultra_section.specs.declared.rooms.Rooms.{Rooms}
 use Rattle.ultra_section.specs.Units.{unit_of}
 use Rattle.ultra_section.specs.BlockState.{BlockState}
 use Rattle.ultra_section.specs.Shape.{IsShaped}
 use Rattle.ultra_section.specs.RepliesSent.{begun}
-use Rattle.ultra_section.proofs.OfKind.{unit_of_none}
 use Rattle.ultra_section.proofs.Standing.{unit_of_switch, unit_of_module, unit_of_element}
 use Rattle.ultra_section.proofs.Once.{entries_before}
 use Rattle.ultra_section.proofs.RepliesSentOnce as replies_sent
@@ -20,9 +16,9 @@ use Rattle.ultra_section.proofs.ServedOnce as served
 use Rattle.ultra_section.proofs.RequestsSentOnce as requests_sent
 use Rattle.ultra_section.proofs.RequestsTakenOnce as requests_taken
 use Rattle.ultra_section.proofs.ExecutedOnce as executed
-use Rattle.ultra_cut.proofs.Numbers.{few_units}
-use Rattle.ultra_cut.specs.Happenings.{listed_of, events_of_replies, events_of_service, events_of_requests, events_of_steps, stops_of_steps, AddsEvents, AddsStops, EventsAddedLaw}
 use Rattle.ultra_course.proofs.Regroup.{joined_next, joined_none}
+use Rattle.ultra_cut.specs.Happenings.{events_of_replies, events_of_service, events_of_requests, events_of_steps, stops_of_steps, AddsEvents, AddsStops, EventsAddedLaw}
+use Rattle.ultra_cut.proofs.Numbers.{few_units}
 use Rattle.ultra_cut.proofs.Merged.{joined_same, joined_window}
 
 -- what is listed of the units before a number, as lists joined
@@ -43,93 +39,51 @@ module _ (d : ℕ) (low : 1 ≤ d) (high : d ≤ 6) where
   few : unit_count d < 321
   few = few_units d low high
 
-  -- ---- only units of one sort have events
-  module _ {T E : Type 0} (listed : ℕ → T → List E) (t : T) (nothing : (i : ℕ) → unit_count d ≤ i → listed i t ≡ []) where
-    no_module : ((m : ℕ) → m < 2 ^ d → listed (module_number d m) t ≡ []) → (i : ℕ) → switch_count d ≤ i → i < switch_count d + 2 ^ d → listed i t ≡ []
-    no_module none i past h = let place : module_number d (i - switch_count d) ≡ i = omega arith in grind arith
-
-    no_element : ((p : ℕ) → p < 2 ^ d → listed (element_number d p) t ≡ []) → (i : ℕ) → switch_count d + 2 ^ d ≤ i → listed i t ≡ []
-    no_element none i past = elim (cases_lt i (unit_count d)) [
-      | inl within ↦
-          let p = i - (switch_count d + 2 ^ d) in
-          let place : element_number d p ≡ i = omega arith in grind arith
-      | inr behind ↦ nothing i behind
-    ]
-
-    switches_list : (g : ℕ → List E) → ((m : ℕ) → m < 2 ^ d → listed (module_number d m) t ≡ []) → ((p : ℕ) → p < 2 ^ d → listed (element_number d p) t ≡ [])
-        → ((i : ℕ) → i < switch_count d → listed i t ≡ g i) → entries_before listed 320 t ≡ joined (places (switch_count d) g)
-    switches_list g modules elements same =
-        listed_by_kind listed t 0 (switch_count d) g (omega (arith, few)) (λ i h. absurd (omega arith))
-        (grind (arith, no_module, no_element))
-        (grind arith)
-
-    modules_list : (g : ℕ → List E) → ((i : ℕ) → i < switch_count d → listed i t ≡ []) → ((p : ℕ) → p < 2 ^ d → listed (element_number d p) t ≡ [])
-        → ((m : ℕ) → m < 2 ^ d → listed (module_number d m) t ≡ g m) → entries_before listed 320 t ≡ joined (places (2 ^ d) g)
-    modules_list g switches elements same =
-        listed_by_kind listed t (switch_count d) (2 ^ d) g (omega (arith, few)) switches (no_element elements) same
-
-    elements_list : (g : ℕ → List E) → ((i : ℕ) → i < switch_count d → listed i t ≡ []) → ((m : ℕ) → m < 2 ^ d → listed (module_number d m) t ≡ [])
-        → ((p : ℕ) → p < 2 ^ d → listed (element_number d p) t ≡ g p) → entries_before listed 320 t ≡ joined (places (2 ^ d) g)
-    elements_list g switches modules same =
-        listed_by_kind listed t (switch_count d + 2 ^ d) (2 ^ d) g (omega (arith, few))
-        (grind (arith, no_module)) (λ i h. nothing i (omega arith)) same
-
   module _ (b : BlockState) where
     -- ---- replies
-
     listed_taking_replies : entries_before (λ n t. replies_taken.entries_of d low high t (unit_of d n)) 320 b ≡ events_of_replies d b
     unfolding events_of_replies
-    listed_taking_replies = grind (arith, elements_list, unit_of_switch, unit_of_module, unit_of_element)
+    listed_taking_replies = listed_by_kind _ b (switch_count d + 2 ^ d) (2 ^ d) _ (omega (arith, few)) (grind arith) (grind arith) (grind (arith, unit_of_element))
 
     -- ---- memory
-    serving_as : (m : ℕ) (o : Option Bank) → served.act_entries d o m ≡ listed_of (λ bank. present (serving m (served_by bank) ∷ [])) o
-    serving_as m o = grind arith
-
     listed_serving : entries_before (served.entries d) 320 b ≡ events_of_service d b
     unfolding events_of_service
-    listed_serving = grind (arith, modules_list, unit_of_none, unit_of_element, unit_of_module, serving_as)
+    listed_serving = listed_by_kind _ b (switch_count d) (2 ^ d) _ (omega (arith, few)) (grind arith) (grind arith) (grind (arith, unit_of_module))
 
     -- ---- requests
-    module _ (c : ℕ) where
-      listed_taking_requests : entries_before (λ n t. requests_taken.entries_of d c low high n t (unit_of d n)) 320 b ≡ events_of_requests d c b
-      unfolding events_of_requests
-      listed_taking_requests = grind (arith, switches_list, unit_of_none, unit_of_module, unit_of_element, unit_of_switch)
+    listed_taking_requests : (c : ℕ) → entries_before (λ n t. requests_taken.entries_of d c low high n t (unit_of d n)) 320 b ≡ events_of_requests d c b
+    unfolding events_of_requests
+    listed_taking_requests c = listed_by_kind _ b 0 (switch_count d) _ (omega (arith, few)) (grind arith) (grind arith) (grind (arith, unit_of_switch))
 
     -- ---- steps: issues or stops
     module _ (program : List Instr) where
       listed_issues : entries_before (λ n t. executed.entries_of program d (λ p o. executed.issue_entries program d o) t (unit_of d n)) 320 b ≡ events_of_steps d program b
       unfolding events_of_steps
-      listed_issues = grind (arith, elements_list, unit_of_none, unit_of_switch, unit_of_module, unit_of_element)
+      listed_issues = listed_by_kind _ b (switch_count d + 2 ^ d) (2 ^ d) _ (omega (arith, few)) (grind arith) (grind arith) (grind (arith, unit_of_element))
 
       listed_stops : entries_before (λ n t. executed.entries_of program d (executed.stop_entries program d) t (unit_of d n)) 320 b ≡ stops_of_steps d program b
       unfolding stops_of_steps
-      listed_stops = grind (arith, elements_list, unit_of_switch, unit_of_module, unit_of_element)
+      listed_stops = listed_by_kind _ b (switch_count d + 2 ^ d) (2 ^ d) _ (omega (arith, few)) (grind arith) (grind arith) (grind (arith, unit_of_element))
 
     -- ---- the halves
     module _ (rooms : Rooms) (program : List Instr) (shape : IsShaped d b) where
-      begun_shape : IsShaped d (begun b)
-      begun_shape = assumption
-
-      in_cycle : requests_taken.InCycle d b.done b
-      in_cycle = record { shape = shape; done = refl }
-
       adds_events : AddsEvents d rooms program b
       adds_events = record {
-        sending_replies = replies_sent.kept_by_sending rooms.no_reply_room d low high (λ (t : BlockState). t.events) (λ n s k t w. refl) (λ m t bank. refl) (begun b) begun_shape;
+        sending_replies = replies_sent.kept_by_sending rooms.no_reply_room d low high (λ (t : BlockState). t.events) (λ n s k t w. refl) (λ m t bank. refl) (begun b) (assumption);
         taking_replies = grind (arith, replies_taken.events_after_taking, listed_taking_replies);
-        serving = served.events_after_serving d b shape ∙ ap (λ es. b.events ++ es) listed_serving;
+        serving = grind (arith, served.events_after_serving, listed_serving);
         sending_requests = requests_sent.kept_by_sending rooms.no_request_room d low high (λ (t : BlockState). t.events) (λ n s k t w. refl) (λ p t e. refl) b shape;
-        taking_requests = requests_taken.events_after_taking d b.done low high b in_cycle ∙ ap (λ es. b.events ++ es) (listed_taking_requests b.done);
+        taking_requests = let all = requests_taken.events_after_taking d b.done low high b record { shape = shape; done = refl } in grind (arith, listed_taking_requests);
         executing = executed.events_after_executing program d b shape ∙ ap (λ es. b.events ++ es) (listed_issues program);
       }
 
       adds_stops : AddsStops d rooms program b
       adds_stops = record {
-        sending_replies = replies_sent.kept_by_sending rooms.no_reply_room d low high (λ (t : BlockState). t.stops) (λ n s k t w. refl) (λ m t bank. refl) (begun b) begun_shape;
+        sending_replies = replies_sent.kept_by_sending rooms.no_reply_room d low high (λ (t : BlockState). t.stops) (λ n s k t w. refl) (λ m t bank. refl) (begun b) (assumption);
         taking_replies = replies_taken.kept_by_taking d low high (λ (t : BlockState). t.stops) (λ n s k t w. refl) (λ p t e. refl) b shape;
         serving = served.kept_by_serving d (λ (t : BlockState). t.stops) (λ m t bank. refl) b shape;
         sending_requests = requests_sent.kept_by_sending rooms.no_request_room d low high (λ (t : BlockState). t.stops) (λ n s k t w. refl) (λ p t e. refl) b shape;
-        taking_requests = requests_taken.kept_by_taking d b.done low high (λ (t : BlockState). t.stops) (λ n s k t w. refl) (λ m t bank. refl) b in_cycle;
+        taking_requests = requests_taken.kept_by_taking d b.done low high (λ (t : BlockState). t.stops) (λ n s k t w. refl) (λ m t bank. refl) b record { shape = shape; done = refl };
         executing = executed.stops_after_executing program d b shape ∙ ap (λ ss. b.stops ++ ss) (listed_stops program);
       }
 

@@ -1,28 +1,21 @@
 -- What blocks note one after another: of a unit without room, once its home has.
-use Rattle.std.proofs.Common.{◌≡◌, ℕ, ◌+◌, ◌^◌, ◌<◌, List, Bool, Option, length, sym, subst, arith}
-use Rattle.std.specs.Prelude.{◌&&◌, ◌||◌, is_some, nat_lt, not}
-use Rattle.ultra_mem.specs.Serve.{Bank}
-use Rattle.ultra_model.specs.Machine.{is_nothing}
+use Rattle.std.proofs.Common.{◌≡◌, ℕ, ◌+◌, ◌^◌, ◌<◌, List, Bool, length, arith}
+use Rattle.std.specs.Prelude.{◌&&◌, is_some, nat_lt, not}
 use Rattle.ultra_units.specs.Set.{has_unit, HasNoneFrom}
 use Rattle.ultra_units.specs.Numbers.{switch_count, module_number}
 use Rattle.ultra_halves.specs.Switches.{has_reply_room, has_request_room}
-use Rattle.ultra_section.specs.BlockState.{BlockState, module_at}
+use Rattle.ultra_section.specs.BlockState.{BlockState}
 use Rattle.ultra_section.specs.Rooms.{HasNoted}
-use Rattle.ultra_section.specs.Sets.{if_here}
 use Rattle.ultra_section.specs.declared.rooms.Rooms.{Rooms}
 use Rattle.ultra_course.specs.Ports.{at_port}
 use Rattle.ultra_course.specs.Frame.{AreRooms, Frame}
 use Rattle.ultra_cut.specs.Cut.{IsCut, block_at, frame_of, home}
 use Rattle.ultra_cut.specs.Halves.{noted}
-use Rattle.ultra_cut.proofs.Units.{Sort, modules, stands_at, switches, unit}
-
--- ---- tests
+use Rattle.ultra_cut.proofs.Numbers.{one_more}
+use Rattle.ultra_cut.proofs.Units.{if_home, modules, switches}
 
 not_twice : (b : Bool) → not (not b) ≡ b
 not_twice b = grind arith
-
-not_some : {X : Type 0} (o : Option X) → not (is_some o) ≡ is_nothing o
-not_some o = grind arith
 
 module _ (d : ℕ) (partition : List ℕ) (bs : List BlockState) where
   abbrev frame : Frame
@@ -44,36 +37,17 @@ module _ (d : ℕ) (partition : List ℕ) (bs : List BlockState) where
   none_noted rooms replies zeros ones = grind arith
 
   module _ (cut : IsCut d partition bs) where
-    -- unit u of a sort
-    module _ {X : Type 0} (sort : Sort X) (u : ℕ) (h : u < sort.count d) where
-      abbrev n : ℕ
-      n = sort.number d u
-
-      abbrev own : X
-      own = unit sort d partition bs cut u h
-
-      next_unit : (p : X → Bool) (i : ℕ) → i < length bs → (was now : Bool) → was ≡ (nat_lt (home partition n) i && p own)
-          → now ≡ (was || if_here p (sort.at (block_at bs i) u)) → now ≡ (nat_lt (home partition n) (i + 1) && p own)
-      next_unit p i within was now before is =
-          let stands = stands_at sort d partition bs cut u h i within in
-          search arith
-
     -- block i notes its own
     module _ (i : ℕ) (within : i < length bs) (old now : Rooms) (before : HaveNoted i old) (notes : HasNoted (block_at bs i) old now) where
-      switch_small : (n : ℕ) → n < switch_count d → n < switch_count (block_at bs i).stages
-      switch_small n h = subst (λ e. n < switch_count e) (sym (cut.stages i within)) h
-
-      module_noted : (m : ℕ) → m < 2 ^ d → has_unit now.no_request_room.zero (module_number d m)
-          ≡ (has_unit old.no_request_room.zero (module_number d m) || if_here (λ (bank : Bank). is_some bank.inp) (module_at (block_at bs i).modules m))
-      module_noted m h = grind arith
-
       pub next_noted : HaveNoted (i + 1) now
-      next_noted = record {
-        replies = λ n h. next_unit switches n h (λ w. not (has_reply_room w)) i within _ _ (before.replies n h) (notes.replies n (switch_small n h));
-        zero_port = λ n h. next_unit switches n h (λ w. not (has_request_room w).zero) i within _ _ (before.zero_port n h) (notes.requests_zero n (switch_small n h));
-        one_port = λ n h. next_unit switches n h (λ w. not (has_request_room w).one) i within _ _ (before.one_port n h) (notes.requests_one n (switch_small n h));
-        modules = λ m h. next_unit modules m h (λ b. is_some b.inp) i within _ _ (before.modules m h) (module_noted m h);
-      }
+      next_noted =
+          let stages = cut.stages i within in
+          record {
+            replies = λ n h. one_more _ i _ (before.replies n h) (if_home switches d partition bs cut n h (λ w. not (has_reply_room w)) i within) (notes.replies n (rw stages h));
+            zero_port = λ n h. one_more _ i _ (before.zero_port n h) (if_home switches d partition bs cut n h (λ w. not (has_request_room w).zero) i within) (notes.requests_zero n (rw stages h));
+            one_port = λ n h. one_more _ i _ (before.one_port n h) (if_home switches d partition bs cut n h (λ w. not (has_request_room w).one) i within) (notes.requests_one n (rw stages h));
+            modules = λ m h. one_more _ i _ (before.modules m h) (if_home modules d partition bs cut m h (λ bank. is_some bank.inp) i within) (rw stages at (notes.modules m (rw stages h)));
+          }
 
     -- all have noted theirs
     module _ (rooms : Rooms) (i : ℕ) (all : i ≡ length bs) (have : HaveNoted i rooms) where

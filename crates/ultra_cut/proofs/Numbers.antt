@@ -1,9 +1,10 @@
 -- Facts about numbers.
-use Rattle.std.proofs.Common.{◌≡◌, ◌≢◌, ℕ, ◌+◌, ◌-◌, ◌<◌, ◌≤◌, true, false, refl, subst, arith}
-use Rattle.std.specs.Prelude.{◌==◌, nat_lt}
+use Rattle.std.proofs.Common.{◌≡◌, ◌≢◌, ℕ, ◌+◌, ◌<◌, ◌≤◌, Bool, true, false, refl, arith}
+use Rattle.std.specs.Prelude.{◌==◌, ◌&&◌, ◌||◌, nat_lt}
 use Rattle.std.proofs.lemmas.Bool.Decides.{nat_tests}
-use Rattle.ultra_route.proofs.Table.{all_below, all_below_at}
+use Rattle.ultra_route.proofs.Table.{all_below}
 use Rattle.ultra_units.specs.Numbers.{unit_count}
+use Rattle.ultra_units.proofs.Readers.{each_network}
 
 pub differs : (a b : ℕ) → (a == b) ≡ false → a ≢ b
 differs a b h = grind (arith, nat_tests)
@@ -11,11 +12,9 @@ differs a b h = grind (arith, nat_tests)
 pub not_equal : (a b : ℕ) → a ≢ b → (a == b) ≡ false
 not_equal a b h = grind (arith, nat_tests)
 
-pub equal : (a b : ℕ) → a ≡ b → (a == b) ≡ true
-equal a b h = grind (arith, nat_tests)
-
-pub below : (a b : ℕ) → nat_lt a b ≡ true → a < b
-below a b h = grind (arith, nat_tests)
+-- what is true below i or at i is true below i + 1
+pub one_more : (a i : ℕ) (p : Bool) {was own now : Bool} → was ≡ (nat_lt a i && p) → own ≡ ((a == i) && p) → now ≡ (was || own) → now ≡ (nat_lt a (i + 1) && p)
+one_more a i p was own now = search arith
 
 units_right : all_below (λ k. nat_lt (unit_count (k + 1)) 321) 6 ≡ true
 unfolding all_below
@@ -23,7 +22,4 @@ units_right = refl
 
 -- a machine has at most 320 units
 pub few_units : (d : ℕ) → 1 ≤ d → d ≤ 6 → unit_count d < 321
-few_units d low high =
-    let e : (d - 1) + 1 ≡ d = omega arith in
-    let small : d - 1 < 6 = omega arith in
-    subst (λ x. unit_count x < 321) e (below _ _ (all_below_at (λ k. nat_lt (unit_count (k + 1)) 321) 6 units_right (d - 1) small))
+few_units d low high = let it = each_network (λ d. nat_lt (unit_count d) 321) units_right d low high in grind (arith, nat_tests)

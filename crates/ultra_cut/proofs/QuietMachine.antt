@@ -1,18 +1,17 @@
 -- A machine is quiet where each of its units is, and so where each of its blocks is.
 use Rattle.std.proofs.lemmas.Grind.{common_steps}
-use Rattle.std.proofs.Common.{◌≡◌, ℕ, suc, ◌+◌, ◌*◌, ◌/◌, ◌^◌, ◌<◌, ◌≤◌, List, [], ◌∷◌, Bool, true, refl, arith, ◌∙◌, sym, subst, length, get_or, Option, None, ap}
-use Rattle.std.specs.Prelude.{◌&&◌, is_some}
+use Rattle.std.proofs.Common.{◌≡◌, ℕ, suc, ◌+◌, ◌*◌, ◌/◌, ◌%◌, ◌^◌, ◌<◌, ◌≤◌, List, [], ◌∷◌, Bool, true, refl, arith, subst, length, get_or, None}
+use Rattle.std.specs.Prelude.{◌&&◌}
 use Rattle.std.specs.List.{list_all}
 use Rattle.ultra_msg.specs.declared.Event.{Event}
 use Rattle.ultra_msg.specs.declared.ReplyMessage.{ReplyMessage}
 use Rattle.ultra_route.proofs.Table.{sizes}
 use Rattle.ultra_switch.specs.Arrive.{Lane}
 use Rattle.ultra_switch.specs.declared.Switch.{Switch}
-use Rattle.ultra_mem.specs.Serve.{Bank}
 use Rattle.ultra_isa.specs.Step.{has_stopped}
 use Rattle.ultra_model.specs.declared.Stop.{Stop}
 use Rattle.ultra_model.specs.Places.{places, table}
-use Rattle.ultra_model.specs.Machine.{Settings, Machine, Element, size, is_empty, is_nothing, is_quiet}
+use Rattle.ultra_model.specs.Machine.{Settings, Machine, Element, size, is_empty, is_quiet}
 use Rattle.ultra_model.proofs.Each.{places_at, length-places}
 use Rattle.ultra_units.specs.Numbers.{switch_number, switch_count}
 use Rattle.ultra_halves.specs.Halves.{has_none}
@@ -21,36 +20,28 @@ use Rattle.ultra_halves.specs.Modules.{quiet_bank}
 use Rattle.ultra_halves.specs.Elements.{element_of, quiet_element}
 use Rattle.ultra_halves.specs.declared.elements.ProcessingElement.{ProcessingElement}
 use Rattle.ultra_section.specs.BlockState.{BlockState}
+use Rattle.ultra_section.specs.Units.{index_of, stage_of}
+use Rattle.ultra_section.proofs.Standing.{is_switch}
 use Rattle.ultra_section.specs.Quiet.{or_elsewhere, quiet_block}
 use Rattle.ultra_course.specs.Ports.{at_port}
 use Rattle.ultra_course.specs.Frame.{Frame}
 use Rattle.ultra_course.specs.Whole.{sized_lane, sized_replies, whole}
-use Rattle.ultra_course.proofs.Numbers.{each_number}
-use Rattle.ultra_cut.specs.Cut.{block_at, frame_of, given, no_block}
+use Rattle.ultra_cut.specs.Cut.{block_at, frame_of, no_block}
 use Rattle.ultra_cut.specs.Halves.{AreBlocks}
-use Rattle.ultra_cut.proofs.Units.{Sort, element_at_home, elements, modules, switches, unit, unit_is}
+use Rattle.ultra_cut.proofs.Units.{Sort, element_at_home, elements, here, modules, switches, unit}
 
--- ---- tests
-pub both_true : (a b : Bool) → a ≡ true → b ≡ true → (a && b) ≡ true
-both_true a b h k = grind arith
-
-pub left_true : (a b : Bool) → (a && b) ≡ true → a ≡ true
-left_true a b h = grind arith
-
-pub right_true : (a b : Bool) → (a && b) ≡ true → b ≡ true
-right_true a b h = grind arith
-
-pub same_truth : (a b : Bool) → (a ≡ true → b ≡ true) → (b ≡ true → a ≡ true) → a ≡ b
+same_truth : (a b : Bool) → (a ≡ true → b ≡ true) → (b ≡ true → a ≡ true) → a ≡ b
 same_truth a b f g = grind arith
 
 none_test : {X : Type 0} (xs : List X) → has_none xs ≡ is_empty xs
 none_test xs = grind arith
 
-pub all_if : {X : Type 0} (t : X → Bool) (d : X) (xs : List X) → ((i : ℕ) → i < length xs → t (get_or xs i d) ≡ true) → list_all t xs ≡ true
+-- ---- of each element of a list
+all_if : {X : Type 0} (t : X → Bool) (d : X) (xs : List X) → ((i : ℕ) → i < length xs → t (get_or xs i d) ≡ true) → list_all t xs ≡ true
 all_if t d [] h = refl
-all_if t d (x ∷ xs) h = both_true (t x) (list_all t xs) (h 0 (omega arith)) (all_if t d xs (λ i l. h (suc i) (omega (arith, l))))
+all_if t d (x ∷ xs) h = let first = h 0 (omega arith) in let rest = all_if t d xs (λ i l. h (suc i) (omega (arith, l))) in grind arith
 
-pub all_at : {X : Type 0} (t : X → Bool) (d : X) (xs : List X) (i : ℕ) → i < length xs → list_all t xs ≡ true → t (get_or xs i d) ≡ true
+all_at : {X : Type 0} (t : X → Bool) (d : X) (xs : List X) (i : ℕ) → i < length xs → list_all t xs ≡ true → t (get_or xs i d) ≡ true
 all_at t d xs i l h = grind (arith, common_steps)
 
 -- of a list that is given place by place
@@ -84,28 +75,12 @@ stopped e = has_stopped e.core.activity && is_empty e.interface.opened && is_emp
 quiet_lane_is : (w : Switch) (j : ℕ) → j < 2 → quiet_switch w ≡ true → idle (at_port w.to_mm j).lane ≡ true
 quiet_lane_is w j h q = grind (arith, none_test)
 
-switch_if : (w : Switch) → idle w.to_mm.zero.lane ≡ true → idle w.to_mm.one.lane ≡ true → is_empty w.to_pe.zero.replies ≡ true
-    → is_empty w.to_pe.one.replies ≡ true → quiet_switch w ≡ true
-switch_if w a b x y = grind arith
-
 element_is : (e : ProcessingElement) → quiet_element e ≡ stopped (element_of e)
 element_is e = grind arith
 
 module _ (c : Settings) (low : 1 ≤ c.stages) (high : c.stages ≤ 6) (f : Frame) (n : ℕ) (events : List Event) (stops : List Stop) where
   abbrev m : Machine
   m = whole c f n events stops
-
-  abbrev lanes_idle : Bool
-  lanes_idle = list_all (λ (ls : List Lane). list_all (λ (l : Lane). is_empty l.queue && is_empty l.records) ls) m.lanes
-
-  abbrev replies_gone : Bool
-  replies_gone = list_all (λ (qs : List (List ReplyMessage)). list_all (λ (q : List ReplyMessage). is_empty q) qs) m.replies
-
-  abbrev banks_idle : Bool
-  banks_idle = list_all (λ (b : Bank). is_nothing b.inp && is_nothing b.out) m.banks
-
-  abbrev elements_stopped : Bool
-  elements_stopped = list_all (λ (e : Element). has_stopped e.core.activity && is_empty e.interface.opened && is_empty e.interface.pending) m.elements
 
   switch_small : (s x : ℕ) → s < c.stages → x < size c → switch_number c.stages s (x / 2) < switch_count c.stages
   switch_small s x hs hx = grind (arith, sizes)
@@ -117,59 +92,38 @@ module _ (c : Settings) (low : 1 ≤ c.stages) (high : c.stages ≤ 6) (f : Fram
   pub quiet_units : is_quiet m ≡ true → AreQuiet c.stages f
   unfolding whole
   quiet_units q =
-      let two = (sizes c.stages low high).0 in
-      let first = left_true (lanes_idle && replies_gone && banks_idle) elements_stopped q in
-      let queues = left_true (lanes_idle && replies_gone) banks_idle first in
-      let lane = at_table idle c.stages (size c) (λ s x. (sized_lane c f s x).lane) (left_true lanes_idle replies_gone queues) in
-      let queue = at_table (λ (q : List ReplyMessage). is_empty q) c.stages (size c) (λ s y. (sized_replies c f s y).replies) (right_true lanes_idle replies_gone queues) in
+      let lane = at_table idle c.stages (size c) (λ s x. (sized_lane c f s x).lane) (grind arith) in
+      let queue = at_table (λ (q : List ReplyMessage). is_empty q) c.stages (size c) (λ s y. (sized_replies c f s y).replies) (grind arith) in
       record {
-        switches = each_number c.stages (λ n. quiet_switch (f.switch n) ≡ true) (λ s k hs hk.
-            let even : 2 * k < size c = omega (arith, two, hk) in
-            let odd : 2 * k + 1 < size c = omega (arith, two, hk) in
-            switch_if (f.switch (switch_number c.stages s k))
-            (sym (grind arith) ∙ lane s (2 * k) hs even)
-            (sym (grind arith) ∙ lane s (2 * k + 1) hs odd)
-            (sym (grind arith) ∙ queue s (2 * k) hs even)
-            (sym (grind arith) ∙ queue s (2 * k + 1) hs odd));
+        switches = λ n h.
+            let two = (sizes c.stages low high).0 in
+            let is = is_switch c.stages n h in
+            let s : ℕ = stage_of c.stages n in
+            let k : ℕ = index_of c.stages n in
+            let even : (2 * k / 2 ≡ k) × (2 * k % 2 ≡ 0) = omega arith in
+            let odd : ((2 * k + 1) / 2 ≡ k) × ((2 * k + 1) % 2 ≡ 1) = omega arith in
+            let zero = lane s (2 * k) is.stage_small (omega arith) in
+            let one = lane s (2 * k + 1) is.stage_small (omega arith) in
+            let zero_queue = queue s (2 * k) is.stage_small (omega arith) in
+            let one_queue = queue s (2 * k + 1) is.stage_small (omega arith) in
+            grind (arith, none_test);
         banks = λ k hk. at_place quiet_bank (size c) (λ k. f.bank k) (grind arith) k hk;
-        elements = λ p hp. element_is (f.element p) ∙ at_place stopped (size c) (λ p. element_of (f.element p)) (grind arith) p hp;
+        elements = λ p hp. let it = at_place stopped (size c) (λ p. element_of (f.element p)) (grind arith) p hp in grind (arith, element_is);
       }
 
--- ---- one entry
-here_if : {X : Type 0} (p : X → Bool) (nothing : X) (o : Option X) → (is_some o ≡ true → p (given nothing o) ≡ true) → or_elsewhere p o ≡ true
-here_if p nothing o h = grind arith
-
--- ---- one block
--- the three kinds of units of a block
-pub record IsQuiet (b : BlockState) : Type 0 where
-  pub switches : list_all (or_elsewhere quiet_switch) b.switches ≡ true
-  pub modules : list_all (or_elsewhere quiet_bank) b.modules ≡ true
-  pub elements : list_all (or_elsewhere quiet_element) b.elements ≡ true
-
-block_if : (b : BlockState) → IsQuiet b → quiet_block b ≡ true
-block_if b q = grind arith
-
-parts : (b : BlockState) → quiet_block b ≡ true → IsQuiet b
-parts b q = grind arith
-
+-- ---- all blocks
 module _ (d : ℕ) (partition : List ℕ) (bs : List BlockState) (are : AreBlocks d partition bs) where
-  module _ (k : ℕ) (within : k < length bs) where
-    sort_quiet : {X : Type 0} (sort : Sort X) (p : X → Bool) → ((i : ℕ) (h : i < sort.count d) → p (unit sort d partition bs are.cut i h) ≡ true)
-        → (i : ℕ) → i < sort.count d → or_elsewhere p (sort.at (block_at bs k) i) ≡ true
-    sort_quiet sort p quiet i h =
-        here_if p sort.nothing (sort.at (block_at bs k) i) (λ some. ap p (sym (unit_is sort d partition bs are.cut i h k within some)) ∙ quiet i h)
-
-    block_quiet : AreQuiet d (frame_of d partition bs) → IsQuiet (block_at bs k)
-    block_quiet q =
-        let shape = are.shaped k within in
-        record {
-          switches = all_if (or_elsewhere quiet_switch) None _ (λ n small. sort_quiet switches quiet_switch q.switches n (omega (arith, shape.switches, small)));
-          modules = all_if (or_elsewhere quiet_bank) None _ (λ m small. sort_quiet modules quiet_bank q.banks m (omega (arith, shape.modules, small)));
-          elements = all_if (or_elsewhere quiet_element) None _ (λ p small. sort_quiet elements quiet_element q.elements p (omega (arith, shape.elements, small)));
-        }
+  sort_quiet : {X : Type 0} (sort : Sort X) (p : X → Bool) → ((i : ℕ) (h : i < sort.count d) → p (unit sort d partition bs are.cut i h) ≡ true)
+      → (k : ℕ) → k < length bs → (i : ℕ) → i < sort.count d → or_elsewhere p (sort.at (block_at bs k) i) ≡ true
+  sort_quiet sort p quiet k within i h = let it = quiet i h in grind (arith, here)
 
   pub blocks_quiet : AreQuiet d (frame_of d partition bs) → list_all quiet_block bs ≡ true
-  blocks_quiet q = all_if quiet_block no_block bs (λ k within. block_if (block_at bs k) (block_quiet k within q))
+  blocks_quiet q = all_if quiet_block no_block bs (λ k within.
+      let shape = are.shaped k within in
+      let switch = all_if (or_elsewhere quiet_switch) None (block_at bs k).switches (λ n small. sort_quiet switches quiet_switch q.switches k within n (omega arith)) in
+      let bank = all_if (or_elsewhere quiet_bank) None (block_at bs k).modules (λ m small. sort_quiet modules quiet_bank q.banks k within m (omega arith)) in
+      let element = all_if (or_elsewhere quiet_element) None (block_at bs k).elements (λ p small. sort_quiet elements quiet_element q.elements k within p (omega arith)) in
+      grind arith)
 
   pub units_quiet : list_all quiet_block bs ≡ true → AreQuiet d (frame_of d partition bs)
   units_quiet q = grind (arith, all_at, elements, element_at_home)

@@ -1,23 +1,17 @@
 -- The units of a machine in its blocks: each stands at home, in the block that the partition names, and in no other.
-use Rattle.std.proofs.Common.{◌≡◌, ◌≢◌, ℕ, ◌^◌, ◌<◌, List, true, false, Option, Some, None, length, refl, sym, ◌∙◌, ap, arith}
-use Rattle.std.specs.Prelude.{◌==◌, is_some}
-use Rattle.std.proofs.lemmas.Bool.{eqb-true}
+use Rattle.std.proofs.Common.{◌≡◌, ◌≢◌, ℕ, ◌^◌, ◌<◌, List, Bool, true, Option, Some, None, length, sym, ◌∙◌, arith}
+use Rattle.std.specs.Prelude.{◌==◌, ◌&&◌, is_some}
+use Rattle.std.proofs.lemmas.Bool.Decides.{nat_tests}
 use Rattle.ultra_switch.specs.declared.Switch.{Switch}
 use Rattle.ultra_mem.specs.Serve.{Bank, empty_bank}
 use Rattle.ultra_units.specs.Numbers.{switch_count, unit_count, module_number, element_number}
 use Rattle.ultra_halves.specs.declared.elements.ProcessingElement.{ProcessingElement}
 use Rattle.ultra_section.specs.BlockState.{BlockState, switch_at, module_at, element_at}
 use Rattle.ultra_section.specs.Away.{stands}
+use Rattle.ultra_section.specs.Sets.{if_here}
 use Rattle.ultra_section.proofs.OfKind.{switch_stands, module_stands, element_stands}
 use Rattle.ultra_cut.specs.Cut.{IsCut, block_at, given, home, no_element, no_switch}
-use Rattle.ultra_cut.proofs.Numbers.{equal, not_equal}
-
--- a unit that stands there is what is given of it
-pub is_given : {X : Type 0} (nothing : X) (o : Option X) → is_some o ≡ true → o ≡ Some (given nothing o)
-is_given nothing o some = grind arith
-
-is_none : {X : Type 0} (o : Option X) → is_some o ≡ false → o ≡ None
-is_none o none = grind arith
+use Rattle.ultra_cut.proofs.Numbers.{not_equal}
 
 -- ---- switches, modules, processing elements
 -- units of one sort: what a block has of number i among them, and the number of that among all units
@@ -74,28 +68,23 @@ module _ {X : Type 0} (sort : Sort X) (d : ℕ) (partition : List ℕ) (bs : Lis
   stands_at k within = sym (sort.stand d (block_at bs k) (cut.stages k within) i h) ∙ cut.stand k n within (sort.small d i h)
 
   pub there : is_some (sort.at (block_at bs (home partition n)) i) ≡ true
-  there = stands_at (home partition n) home_small ∙ equal (home partition n) (home partition n) refl
+  there = let it = stands_at (home partition n) home_small in grind (arith, nat_tests)
 
   pub at_home : sort.at (block_at bs (home partition n)) i ≡ Some unit
-  at_home = is_given sort.nothing (sort.at (block_at bs (home partition n)) i) there
+  at_home = let it = there in grind arith
 
   pub away : (k : ℕ) → k < length bs → k ≢ home partition n → sort.at (block_at bs k) i ≡ None
-  away k within other = is_none (sort.at (block_at bs k) i) (stands_at k within ∙ not_equal (home partition n) k (λ e. other (sym e)))
+  away k within other = let it = stands_at k within in grind (arith, not_equal)
 
-  -- where one stands is its home
-  pub home_is : (k : ℕ) → k < length bs → is_some (sort.at (block_at bs k) i) ≡ true → home partition n ≡ k
-  home_is k within some = eqb-true _ _ (sym (stands_at k within) ∙ some)
+  -- what stands in a block is at home there, and is that of the machine
+  pub here : (k : ℕ) → k < length bs → (x : X) → sort.at (block_at bs k) i ≡ Some x → (home partition n ≡ k) × (unit ≡ x)
+  here k within x is = let it = stands_at k within in grind (arith, nat_tests)
 
-  pub unit_is : (k : ℕ) → k < length bs → is_some (sort.at (block_at bs k) i) ≡ true → unit ≡ given sort.nothing (sort.at (block_at bs k) i)
-  unit_is k within some = ap (λ j. given sort.nothing (sort.at (block_at bs j) i)) (home_is k within some)
+  -- a test of what stands in a block is that of the machine's unit, if it stands there
+  pub if_home : (p : X → Bool) (k : ℕ) → k < length bs → if_here p (sort.at (block_at bs k) i) ≡ ((home partition n == k) && p unit)
+  if_home p k within = let stands = stands_at k within in grind (arith, here)
 
 -- ---- by their sorts
 module _ (d : ℕ) (partition : List ℕ) (bs : List BlockState) (cut : IsCut d partition bs) where
-  pub switch_at_home : (n : ℕ) → n < switch_count d → is_some (switch_at (block_at bs (home partition n)).switches n) ≡ true
-  switch_at_home n h = there switches d partition bs cut n h
-
-  pub module_at_home : (m : ℕ) → m < 2 ^ d → is_some (module_at (block_at bs (home partition (module_number d m))).modules m) ≡ true
-  module_at_home m h = there modules d partition bs cut m h
-
   pub element_at_home : (p : ℕ) → p < 2 ^ d → is_some (element_at (block_at bs (home partition (element_number d p))).elements p) ≡ true
   element_at_home p h = there elements d partition bs cut p h

@@ -1,5 +1,5 @@
--- A cycle of blocks that are a whole machine, half by half: what each half asks is met, and after the last one the
--- blocks are the machine after one cycle of the definition.
+-- A cycle of blocks that are a whole machine, half by half, as steps give them: what each half asks is met, and after the
+-- last one the blocks are the machine after one cycle of the definition.
 use Rattle.std.proofs.Common.{◌≡◌, ℕ, ◌+◌, ◌<◌, ◌≤◌, List, [], ◌++◌, length, arith, ◌^◌, sym, ap, subst}
 use Rattle.std.specs.Prelude.{◌-◌}
 use Rattle.std.specs.Option.{ForSome}
@@ -11,6 +11,7 @@ use Rattle.ultra_model.specs.Phases.{cycle, memory_phase, processor_phase, reply
 use Rattle.ultra_model.proofs.Routes.{delivered_well}
 use Rattle.ultra_section.specs.declared.rooms.Rooms.{Rooms}
 use Rattle.ultra_section.specs.BlockState.{BlockState}
+use Rattle.ultra_section.specs.Making.{made}
 use Rattle.ultra_section.specs.declared.half.Half.TheVariants.{SendReplies, TakeReplies, Serve, SendRequests, TakeRequests, Execute}
 use Rattle.ultra_course.specs.Frame.{Frame, AreAlike, AreRooms, IsClear}
 use Rattle.ultra_course.specs.Course.{combinations, deliveries, executes, issues, reply_to, sends_replies, sends_requests, serves, servings, stops, takes_replies, takes_requests}
@@ -20,54 +21,64 @@ use Rattle.ultra_course.proofs.Steps as step
 use Rattle.ultra_cut.specs.declared.kind.Kind.{Kind}
 use Rattle.ultra_cut.specs.declared.kind.Kind.TheVariants.{Replies, Requests}
 use Rattle.ultra_cut.specs.Cut.{block_at, IsCut, frame_of}
-use Rattle.ultra_cut.specs.Exchange.{OnlyMove, AreRepliesThere, AreRequestsThere, AreSingleReplies, AreSingleRequests, OnlyRepliesMove, OnlyRequestsMove}
-use Rattle.ultra_cut.specs.Halves.{AreBlocks, AreBlocksAfter, HasHalfRoom, OfEach, AllCanMake, HaveFrame, all_made, noted, AreMade, AreSent}
-use Rattle.ultra_cut.specs.Happenings.{AddsEvents, AddsStops, Course, HaveListed, ListWhatHappens, events_of_replies, events_of_requests, events_of_service}
+use Rattle.ultra_cut.specs.Exchange.{OnlyMove, AreThere, AreSingle}
+use Rattle.ultra_cut.specs.Halves.{AreBlocks, HasHalfRoom, OfEach, AllCanMake, HaveFrame, all_made, noted, AreMade, AreSent}
+use Rattle.ultra_cut.specs.Happenings.{AddsEvents, AddsStops, Course, HasListed, HaveListed, ListWhatHappens}
 use Rattle.ultra_cut.specs.Events.{events_of, stops_of}
 use Rattle.ultra_cut.specs.Moments.{AreMachine, AreWhole, machine_in}
+use Rattle.ultra_cut.specs.Whole.{AreRoomsOfAll}
 use Rattle.ultra_cut.proofs.Listing.{events_added_law}
 use Rattle.ultra_cut.proofs.Moved.{still_blocks, alike}
-use Rattle.ultra_cut.proofs.Taken as taking
-use Rattle.ultra_cut.proofs.Worked as working
 use Rattle.ultra_cut.proofs.Happenings.{happenings_law, in_order_law}
-use Rattle.ultra_cut.proofs.Sent.{replies_sent, requests_sent}
+use Rattle.ultra_cut.proofs.Halves as half
 use Rattle.ultra_cut.proofs.Columns.{changed_at}
 
-module _ (d : ℕ) (partition : List ℕ) (program : List Instr) where
-  -- what is known of blocks in the course of a cycle: n cycles are done; block k has listed the events
-  -- `listed k`, at most `most`, and no stops
-  pub record AreAt (n most : ℕ) (listed : ℕ → List Event) (bs : List BlockState) : Type 0 where
+module _ (d : ℕ) (partition : List ℕ) (program : List Instr) (n : ℕ) where
+  -- what is known of blocks in the course of a cycle: n cycles are done; each block has listed at most `most` events and
+  -- no stops
+  pub record AreAt (most : ℕ) (bs : List BlockState) : Type 0 where
     pub blocks : AreBlocks d partition bs
     pub runs : OfEach (λ b. b.program ≡ program) bs
     pub done : OfEach (λ b. b.done ≡ n) bs
-    pub lists : (k : ℕ) → k < length bs → (block_at bs k).events ≡ listed k
     pub few : OfEach (λ b. length b.events ≤ most) bs
     pub no_stops : OfEach (λ b. b.stops ≡ []) bs
 
-  -- there is memory for the events of one more half
-  pub half_room : (n most : ℕ) (listed : ℕ → List Event) (bs : List BlockState) → AreAt n most listed bs → most ≤ 1920 → OfEach HasHalfRoom bs
-  half_room n most listed bs at small k h = let few = at.few k h in omega arith
+  module _ (most : ℕ) (bs : List BlockState) (at : AreAt most bs) where
+    -- there is memory for the events of one more half
+    pub half_room : most ≤ 1920 → OfEach HasHalfRoom bs
+    half_room small k h = let few = at.few k h in omega arith
 
-  -- what each half adds to the lists of block k
-  pub adds : (rooms : Rooms) (bs : List BlockState) → AreBlocks d partition bs → (k : ℕ) → k < length bs
-      → AddsEvents d rooms program (block_at bs k) × AddsStops d rooms program (block_at bs k)
-  adds rooms bs blocks k h = events_added_law d rooms program (block_at bs k) blocks.some_stages blocks.few_stages (blocks.shaped k h)
+    -- what each half adds to the lists of block k
+    pub adds : (rooms : Rooms) (k : ℕ) → k < length bs → AddsEvents d rooms program (block_at bs k) × AddsStops d rooms program (block_at bs k)
+    adds rooms k h = events_added_law d rooms program (block_at bs k) at.blocks.some_stages at.blocks.few_stages (at.blocks.shaped k h)
 
-  module _ (n most : ℕ) (listed : ℕ → List Event) (old now : List BlockState) (was : AreAt n most listed old) where
     -- messages have gone to other blocks
-    pub at_moved : (kind : Kind) → OnlyMove kind old now → AreAt n most listed now
-    at_moved Replies only = grind (arith, still_blocks)
-    at_moved Requests only = grind (arith, still_blocks)
+    pub at_moved : (kind : Kind) (now : List BlockState) → OnlyMove kind bs now → AreAt most now
+    at_moved Replies now only = grind (arith, still_blocks)
+    at_moved Requests now only = grind (arith, still_blocks)
 
-    -- each block has made a half, and has listed a few events more
-    pub at_after : (more : ℕ) (events : ℕ → List Event) → AreBlocksAfter d partition 0 old now
-        → ((k : ℕ) → k < length old → length (block_at now k).events ≤ length (block_at old k).events + more)
-        → ((k : ℕ) → k < length old → (block_at now k).events ≡ (block_at old k).events ++ events k)
-        → ((k : ℕ) → k < length old → (block_at now k).stops ≡ (block_at old k).stops) → AreAt n (most + more) (λ k. listed k ++ events k) now
-    at_after more events after few adds stops = grind arith
+    -- each block has made a half
+    pub at_made : (now : List BlockState) (g : Frame) → AreMade d partition 0 bs now g → AreAt (most + 640) now
+    at_made now g made = grind arith
 
-module _ (c : Settings) (partition : List ℕ) (n : ℕ) (program : List Instr) (bs : List BlockState) (start : AreWhole c program partition n bs)
-    (first : Rooms) (first_room : AreRooms c.stages (frame_of c.stages partition bs) (noted c.stages first)) where
+  -- what a block has listed after a cycle: after each half it is this
+  module _ (x : Course) (first second : Rooms) (served : List BlockState) (k : ℕ) (a : AreAt 0 x.replies_sent) (b : AreAt 640 x.replies_taken) (g : AreAt 1280 x.requests_sent) (w : AreAt 1920 x.requests_taken)
+      (h : k < length x.replies_sent) (hb : k < length x.replies_taken) (hg : k < length x.requests_sent) (hw : k < length x.requests_taken)
+      (taken : block_at x.replies_taken k ≡ made TakeReplies first program (block_at x.replies_sent k)) (acted : block_at served k ≡ made Serve first program (block_at x.replies_taken k))
+      (none : (block_at x.replies_sent k).events ≡ []) (same : (block_at x.requests_sent k).events ≡ (block_at served k).events)
+      (waiting : block_at x.requests_taken k ≡ made TakeRequests second program (block_at x.requests_sent k)) (stepped : block_at x.steps_made k ≡ made Execute second program (block_at x.requests_taken k)) where
+    lists : HasListed d n partition program x k
+    lists =
+        let t = adds 0 x.replies_sent a first k h in
+        let s = adds 640 x.replies_taken b first k hb in
+        let r = adds 1280 x.requests_sent g second k hg in
+        let i = adds 1920 x.requests_taken w second k hw in
+        let done = g.done k hg in
+        let none_stop = w.no_stops k hw in
+        record { events = cc; stops = cc }
+
+module _ (c : Settings) (partition : List ℕ) (n : ℕ) (program : List Instr) (bs : List BlockState) (start : AreWhole c program partition n bs) (e : ℕ) (net : e ≡ c.stages)
+    (first : Rooms) (first_noted : AreRoomsOfAll bs first) (sent : List BlockState) (sent_is : sent ≡ all_made SendReplies first program bs) where
   abbrev d : ℕ
   d = c.stages
 
@@ -77,202 +88,186 @@ module _ (c : Settings) (partition : List ℕ) (n : ℕ) (program : List Instr) 
   abbrev m : Machine
   m = machine_in c partition n bs
 
+  first_room : AreRooms d (f bs) (noted d first)
+  first_room = first_noted d partition start.machine.blocks
+
   -- ---- replies have left
-  abbrev sent : List BlockState
-  sent = all_made SendReplies first program bs
-
   are_sent : AreSent d partition Replies bs sent (sends_replies d (noted d first) (f bs))
-  are_sent = replies_sent d partition bs first program start.machine.blocks start.clear.replies
+  are_sent = rw sent_is (half.replies_sent d partition bs first program start.machine.blocks start.clear.replies)
 
-  pub sent_cut : IsCut d partition sent
-  sent_cut = are_sent.frame.blocks.blocks.cut
+  pub sent_cut : IsCut e partition sent
+  sent_cut = rw net are_sent.frame.blocks.blocks.cut
 
-  pub sent_single : AreSingleReplies sent
+  pub sent_single : AreSingle Replies sent
   sent_single = are_sent.single
 
-  at_sent : AreAt d partition program n 0 (λ k. []) sent
+  pub at_sent : AreAt d partition program n 0 sent
   at_sent = grind (arith, are_sent)
 
   -- ---- they have been exchanged
-  module _ (replies : List BlockState) (replies_moved : OnlyRepliesMove sent replies) (replies_there : AreRepliesThere d partition replies) where
+  module _ (replies : List BlockState) (moved : OnlyMove Replies sent replies) (there : AreThere Replies e partition replies) where
+    replies_there : AreThere Replies d partition replies
+    replies_there = rw (← net) there
+
     as_sent : AreAlike d (f replies) (sends_replies d (noted d first) (f bs))
-    as_sent = alike d partition sent replies Replies (sends_replies d (noted d first) (f bs)) replies_moved are_sent.frame.frame
+    as_sent = alike d partition sent replies Replies (sends_replies d (noted d first) (f bs)) moved are_sent.frame.frame
 
     -- each reply on the link to a processing element names it
     replies_home : (p : ℕ) → p < 2 ^ d → ForSome (reply_to d (f replies) p) (λ (r : ReplyMessage). r.pe ≡ p)
     replies_home p hp r is =
         let sound = start.machine.machine.sound in
         let well = delivered_well c start.machine.machine.range m sound.routes p hp in
-        let came = comes_home c (f bs) n (events_of d bs) (stops_of d bs) start.machine.machine.range start.machine.machine.fits (noted d first) first_room (f replies) as_sent p hp in
+        let came = comes_home c n (f bs) (events_of d bs) (stops_of d bs) m start.machine.machine (noted d first) first_room (f replies) as_sent p hp in
         grind arith
 
-    at_replies : AreAt d partition program n 0 (λ k. []) replies
-    at_replies = at_moved d partition program n 0 (λ k. []) sent replies at_sent Replies replies_moved
+    at_replies : AreAt d partition program n 0 replies
+    at_replies = at_moved d partition program n 0 sent at_sent Replies replies moved
 
     pub can_take_replies : AllCanMake program TakeReplies replies
     can_take_replies =
-        taking.can_take_replies d partition program replies at_replies.blocks (half_room d partition program n 0 (λ k. []) replies at_replies (omega arith)) replies_there
+        half.can_take_replies d partition program replies at_replies.blocks (half_room d partition program n 0 replies at_replies (omega arith)) replies_there
         (step.can_take_replies c n (f bs) (events_of d bs) (stops_of d bs) m start.machine.machine (noted d first) first_room (f replies) as_sent)
 
     -- ---- they have been taken
-    abbrev taken : List BlockState
-    taken = all_made TakeReplies first program replies
+    module _ (taken : List BlockState) (taken_is : taken ≡ all_made TakeReplies first program replies) where
+      are_taken : AreMade d partition 0 replies taken (takes_replies d (f replies))
+      are_taken = rw taken_is (half.replies_taken d partition replies first program at_replies.blocks replies_there)
 
-    are_taken : AreMade d partition 0 replies taken (takes_replies d (f replies))
-    are_taken = taking.replies_taken d partition replies first program at_replies.blocks replies_there
+      at_taken : AreAt d partition program n 640 taken
+      at_taken = at_made d partition program n 0 replies at_replies taken _ are_taken
 
-    abbrev delivered : ℕ → List Event
-    delivered k = events_of_replies d (block_at replies k)
+      frame_taken : IsFrameOf c n (f taken) (deliveries d (f replies)) [] (reply_phase c m)
+      frame_taken = step.replied c n (f bs) (events_of d bs) (stops_of d bs) m start.machine.machine (noted d first) first_room (f replies) as_sent (f taken) are_taken.frame.frame
 
-    at_taken : AreAt d partition program n 640 delivered taken
-    at_taken = at_after d partition program n 0 (λ k. []) replies taken at_replies 640 delivered are_taken.frame.blocks are_taken.events
-        (λ k h. let it = adds d partition program first replies at_replies.blocks k h in grind (arith, changed_at)) are_taken.stops
+      pub can_serve : AllCanMake program Serve taken
+      can_serve = half.can_serve_law program taken (half_room d partition program n 640 taken at_taken (omega arith))
 
-    frame_taken : IsFrameOf c n (f taken) (deliveries d (f replies)) [] (reply_phase c m)
-    frame_taken = step.replied c n (f bs) (events_of d bs) (stops_of d bs) m start.machine.machine (noted d first) first_room (f replies) as_sent (f taken) are_taken.frame.frame
+      -- ---- memory has served
+      module _ (served : List BlockState) (served_is : served ≡ all_made Serve first program taken) where
+        have_served : AreMade d partition 0 taken served (serves d (f taken))
+        have_served = rw served_is (half.have_served d partition taken first program at_taken.blocks)
 
-    pub can_serve : AllCanMake program Serve taken
-    can_serve = working.can_serve_law program taken (half_room d partition program n 640 delivered taken at_taken (omega arith))
+        pub at_served : AreAt d partition program n 1280 served
+        at_served = at_made d partition program n 640 taken at_taken served _ have_served
 
-    -- ---- memory has served
-    abbrev served : List BlockState
-    served = all_made Serve first program taken
+        abbrev so_far : List Event
+        so_far = deliveries d (f replies) ++ servings d (f taken)
 
-    have_served : AreMade d partition 0 taken served (serves d (f taken))
-    have_served = working.have_served d partition taken first program at_taken.blocks
+        abbrev middle : Machine
+        middle = memory_phase c (reply_phase c m)
 
-    abbrev listed : ℕ → List Event
-    listed k = delivered k ++ events_of_service d (block_at taken k)
+        frame_served : IsFrameOf c n (f served) so_far [] middle
+        frame_served = step.served c n (f taken) (deliveries d (f replies)) [] (reply_phase c m) frame_taken (f served) have_served.frame.frame
 
-    at_served : AreAt d partition program n 1280 listed served
-    at_served = at_after d partition program n 640 delivered taken served at_taken 640 (λ k. events_of_service d (block_at taken k)) have_served.frame.blocks have_served.events
-        (λ k h. let it = adds d partition program first taken at_taken.blocks k h in grind (arith, changed_at)) have_served.stops
+        pub served_clear : IsClear d (f served)
+        served_clear = grind (arith, have_served, are_taken, as_sent)
 
-    abbrev so_far : List Event
-    so_far = deliveries d (f replies) ++ servings d (f taken)
+        -- ---- requests have left
+        module _ (second : Rooms) (second_noted : AreRoomsOfAll served second) (sent_on : List BlockState) (sent_on_is : sent_on ≡ all_made SendRequests second program served) where
+          second_room : AreRooms d (f served) (noted d second)
+          second_room = second_noted d partition at_served.blocks
 
-    abbrev middle : Machine
-    middle = memory_phase c (reply_phase c m)
+          are_sent_on : AreSent d partition Requests served sent_on (sends_requests d (noted d second) (f served))
+          are_sent_on = rw sent_on_is (half.requests_sent d partition served second program at_served.blocks served_clear.requests)
 
-    frame_served : IsFrameOf c n (f served) so_far [] middle
-    frame_served = step.served c n (f taken) (deliveries d (f replies)) [] (reply_phase c m) frame_taken (f served) have_served.frame.frame
+          pub sent_on_cut : IsCut e partition sent_on
+          sent_on_cut = rw net are_sent_on.frame.blocks.blocks.cut
 
-    pub served_blocks : AreBlocks d partition served
-    served_blocks = at_served.blocks
+          pub sent_on_single : AreSingle Requests sent_on
+          sent_on_single = are_sent_on.single
 
-    pub served_clear : IsClear d (f served)
-    served_clear = grind (arith, have_served, are_taken, as_sent)
+          pub at_sent_on : AreAt d partition program n 1280 sent_on
+          at_sent_on = grind (arith, at_served, are_sent_on)
 
-    -- ---- requests have left
-    module _ (second : Rooms) (second_room : AreRooms d (f served) (noted d second)) where
-      abbrev sent_on : List BlockState
-      sent_on = all_made SendRequests second program served
+          -- ---- they have been exchanged
+          module _ (requests : List BlockState) (moved_on : OnlyMove Requests sent_on requests) (there_now : AreThere Requests e partition requests) where
+            requests_there : AreThere Requests d partition requests
+            requests_there = rw (← net) there_now
 
-      are_sent_on : AreSent d partition Requests served sent_on (sends_requests d (noted d second) (f served))
-      are_sent_on = requests_sent d partition served second program at_served.blocks served_clear.requests
+            as_sent_on : AreAlike d (f requests) (sends_requests d (noted d second) (f served))
+            as_sent_on = alike d partition sent_on requests Requests (sends_requests d (noted d second) (f served)) moved_on are_sent_on.frame.frame
 
-      pub sent_on_cut : IsCut d partition sent_on
-      sent_on_cut = are_sent_on.frame.blocks.blocks.cut
+            at_requests : AreAt d partition program n 1280 requests
+            at_requests = at_moved d partition program n 1280 sent_on at_sent_on Requests requests moved_on
 
-      pub sent_on_single : AreSingleRequests sent_on
-      sent_on_single = are_sent_on.single
+            pub can_take_requests : AllCanMake program TakeRequests requests
+            can_take_requests =
+                half.can_take_requests d partition program requests at_requests.blocks (half_room d partition program n 1280 requests at_requests (omega arith)) requests_there
+                (step.can_take_requests c n (f served) so_far [] middle frame_served (noted d second) second_room (f requests) as_sent_on)
 
-      at_sent_on : AreAt d partition program n 1280 listed sent_on
-      at_sent_on = grind (arith, at_served, are_sent_on)
+            -- ---- they have been taken
+            module _ (early : n < 2 ^ 32 - 1) (waiting : List BlockState) (waiting_is : waiting ≡ all_made TakeRequests second program requests) where
+              are_waiting : AreMade d partition 0 requests waiting (takes_requests d n (f requests))
+              are_waiting = rw waiting_is (half.requests_taken d partition requests second program at_requests.blocks n at_requests.done requests_there)
 
-      -- ---- they have been exchanged
-      module _ (requests : List BlockState) (requests_moved : OnlyRequestsMove sent_on requests) (requests_there : AreRequestsThere d partition requests) where
-        as_sent_on : AreAlike d (f requests) (sends_requests d (noted d second) (f served))
-        as_sent_on = alike d partition sent_on requests Requests (sends_requests d (noted d second) (f served)) requests_moved are_sent_on.frame.frame
+              at_waiting : AreAt d partition program n 1920 waiting
+              at_waiting = at_made d partition program n 1280 requests at_requests waiting _ are_waiting
 
-        at_requests : AreAt d partition program n 1280 listed requests
-        at_requests = at_moved d partition program n 1280 listed sent_on requests at_sent_on Requests requests_moved
+              abbrev third : Machine
+              third = request_phase c middle
 
-        pub can_take_requests : AllCanMake program TakeRequests requests
-        can_take_requests =
-            taking.can_take_requests d partition program requests at_requests.blocks (half_room d partition program n 1280 listed requests at_requests (omega arith)) requests_there
-            (step.can_take_requests c n (f served) so_far [] middle frame_served (noted d second) second_room (f requests) as_sent_on)
+              frame_waiting : IsFrameOf c n (f waiting) (so_far ++ combinations d n (f requests)) [] third
+              frame_waiting = step.requested c n (f served) so_far [] middle frame_served (noted d second) second_room (f requests) as_sent_on (f waiting) are_waiting.frame.frame
 
-        -- ---- they have been taken
-        abbrev waiting : List BlockState
-        waiting = all_made TakeRequests second program requests
+              pub can_execute : AllCanMake program Execute waiting
+              can_execute =
+                  half.can_execute d partition program waiting at_waiting.blocks (half_room d partition program n 1920 waiting at_waiting (omega arith))
+                  at_waiting.runs (grind (arith, at_waiting)) (step.can_execute c n (f waiting) (so_far ++ combinations d n (f requests)) [] third frame_waiting early) at_waiting.no_stops
 
-        are_waiting : AreMade d partition 0 requests waiting (takes_requests d n (f requests))
-        are_waiting = taking.requests_taken d partition requests second program at_requests.blocks n at_requests.done requests_there
+              -- ---- processing elements have made a step
+              module _ (stepped : List BlockState) (stepped_is : stepped ≡ all_made Execute second program waiting) where
+                have_executed : HaveFrame d partition 1 waiting stepped (executes d program (f waiting))
+                have_executed = rw stepped_is (half.have_executed d partition waiting second program at_waiting.blocks)
 
-        abbrev combined : ℕ → List Event
-        combined k = events_of_requests d n (block_at requests k)
+                frame_stepped : IsFrameOf c (n + 1) (f stepped) ((so_far ++ combinations d n (f requests)) ++ issues d program (f waiting)) (stops d program (f waiting)) (processor_phase c program third)
+                frame_stepped = step.stepped c n (f waiting) (so_far ++ combinations d n (f requests)) [] third frame_waiting program (f stepped) have_executed.frame
 
-        at_waiting : AreAt d partition program n 1920 (λ k. listed k ++ combined k) waiting
-        at_waiting = at_after d partition program n 1280 listed requests waiting at_requests 640 combined are_waiting.frame.blocks are_waiting.events
-            (λ k h. let it = adds d partition program second requests at_requests.blocks k h in grind (arith, changed_at, at_requests)) are_waiting.stops
+                -- ---- what the blocks have listed
+                abbrev course : Course
+                course = record {
+                  replies_sent = replies;
+                  replies_taken = taken;
+                  requests_sent = requests;
+                  requests_taken = waiting;
+                  steps_made = stepped;
+                }
 
-        abbrev third : Machine
-        third = request_phase c middle
+                have_listed : HaveListed d n partition program course
+                have_listed = record {
+                  replies_sent = (at_replies.blocks, grind (arith, are_taken, have_served, are_sent_on, are_waiting, have_executed));
+                  replies_taken = (at_taken.blocks, grind (arith, have_served, are_sent_on, are_waiting, have_executed));
+                  requests_sent = (at_requests.blocks, grind (arith, are_waiting, have_executed));
+                  requests_taken = (at_waiting.blocks, grind (arith, have_executed));
+                  replies_there = replies_there;
+                  requests_there = requests_there;
+                  replies_home = replies_home;
+                  sites = λ p hp. ap (λ s. s.pe) (frame_waiting.fits.sites p hp);
+                  lists = λ k h.
+                      let start_sent = are_sent in let t = are_taken in let s = have_served in let o = are_sent_on in let w = are_waiting in let y = have_executed in
+                      lists d partition program n course first second served k at_replies at_taken at_requests at_waiting (omega arith) (omega arith) (omega arith) (omega arith)
+                      (rw taken_is (changed_at _ replies k (omega arith))) (rw served_is (changed_at _ taken k (omega arith))) (let rest = moved.rest k in let none = start_sent.events k (omega arith) in grind arith) (let rest = moved_on.rest k in let same = o.events k (omega arith) in grind arith)
+                      (rw waiting_is (changed_at _ requests k (omega arith))) (rw stepped_is (changed_at _ waiting k (omega arith)));
+                }
 
-        frame_waiting : IsFrameOf c n (f waiting) (so_far ++ combinations d n (f requests)) [] third
-        frame_waiting = step.requested c n (f served) so_far [] middle frame_served (noted d second) second_room (f requests) as_sent_on (f waiting) are_waiting.frame.frame
+                what_happens : ListWhatHappens d n partition program course
+                what_happens = happenings_law d n partition program course have_listed
 
-        pub can_execute : n < 2 ^ 32 - 1 → AllCanMake program Execute waiting
-        can_execute early =
-            working.can_execute d partition waiting at_waiting.blocks (step.can_execute c n (f waiting) (so_far ++ combinations d n (f requests)) [] third frame_waiting early)
-            program at_waiting.runs (grind (arith, at_waiting)) (half_room d partition program n 1920 (λ k. listed k ++ combined k) waiting at_waiting (omega arith)) at_waiting.no_stops
+                cycled : AreMachine c program partition (n + 1) (events_of d stepped) (stops_of d stepped) (cycle c program m) stepped
+                unfolding cycle
+                cycled = record {
+                  blocks = have_executed.blocks.blocks;
+                  runs = grind (arith, at_waiting, have_executed);
+                  done = grind (arith, at_waiting, have_executed);
+                  machine = rw (what_happens.events, what_happens.stops) frame_stepped;
+                }
 
-        -- ---- processing elements have made a step
-        abbrev stepped : List BlockState
-        stepped = all_made Execute second program waiting
+                -- ---- the cycle is over
+                pub next_machine : machine_in c partition (n + 1) stepped ≡ cycle c program m
+                next_machine = cycled.machine.machine
 
-        have_executed : HaveFrame d partition 1 waiting stepped (executes d program (f waiting))
-        have_executed = working.have_executed d partition waiting second program at_waiting.blocks
-
-        frame_stepped : IsFrameOf c (n + 1) (f stepped) ((so_far ++ combinations d n (f requests)) ++ issues d program (f waiting)) (stops d program (f waiting)) (processor_phase c program third)
-        frame_stepped = step.stepped c n (f waiting) (so_far ++ combinations d n (f requests)) [] third frame_waiting program (f stepped) have_executed.frame
-
-        -- ---- what the blocks have listed
-        abbrev course : Course
-        course = record {
-          replies_sent = replies;
-          replies_taken = taken;
-          requests_sent = requests;
-          requests_taken = waiting;
-          steps_made = stepped;
-        }
-
-        have_listed : HaveListed d n partition program course
-        have_listed = record {
-          replies_sent = (at_replies.blocks, grind (arith, are_taken, have_served, are_sent_on, are_waiting, have_executed));
-          replies_taken = (at_taken.blocks, grind (arith, have_served, are_sent_on, are_waiting, have_executed));
-          requests_sent = (at_requests.blocks, grind (arith, are_waiting, have_executed));
-          requests_taken = (at_waiting.blocks, grind (arith, have_executed));
-          replies_there = replies_there;
-          requests_there = requests_there;
-          replies_home = replies_home;
-          sites = λ p hp. ap (λ s. s.pe) (frame_waiting.fits.sites p hp);
-          lists = λ k h.
-              let within : k < length waiting = omega (arith, have_executed.blocks.count, h) in
-              let it = adds d partition program second waiting at_waiting.blocks k within in
-              grind (arith, changed_at, at_waiting);
-        }
-
-        what_happens : ListWhatHappens d n partition program course
-        what_happens = happenings_law d n partition program course have_listed
-
-        cycled : AreMachine c program partition (n + 1) (events_of d stepped) (stops_of d stepped) (cycle c program m) stepped
-        unfolding cycle
-        cycled = record {
-          blocks = have_executed.blocks.blocks;
-          runs = grind (arith, at_waiting, have_executed);
-          done = grind (arith, at_waiting, have_executed);
-          machine = rw (what_happens.events, what_happens.stops) frame_stepped;
-        }
-
-        -- ---- the cycle is over
-        pub next_machine : machine_in c partition (n + 1) stepped ≡ cycle c program m
-        next_machine = cycled.machine.machine
-
-        pub next_whole : AreWhole c program partition (n + 1) stepped
-        next_whole = record {
-          machine = subst (λ m. AreMachine c program partition (n + 1) (events_of d stepped) (stops_of d stepped) m stepped) (sym next_machine) cycled;
-          clear = grind (arith, have_executed, are_waiting, as_sent_on, served_clear);
-          in_order = in_order_law d n partition program course have_listed;
-        }
+                pub next_whole : AreWhole c program partition (n + 1) stepped
+                next_whole = record {
+                  machine = subst (λ m. AreMachine c program partition (n + 1) (events_of d stepped) (stops_of d stepped) m stepped) (sym next_machine) cycled;
+                  clear = grind (arith, have_executed, are_waiting, as_sent_on, served_clear);
+                  in_order = in_order_law d n partition program course have_listed;
+                }

@@ -1,8 +1,6 @@
 -- a machine cut into blocks by a partition, which names the block of each unit
 use Rattle.std.specs.Prelude.{◌≡◌, ℕ, ◌<◌, ◌==◌, ◌&&◌, Bool, nat_lt, List, [], ◌∷◌, Option, Some, None, length, map, slice_index, slice_index_or}
 use Rattle.std.specs.List.{list_all}
-use Rattle.ultra_msg.specs.declared.Request.{Request}
-use Rattle.ultra_msg.specs.declared.ReplyMessage.{ReplyMessage}
 use Rattle.ultra_switch.specs.declared.Switch.{Switch}
 use Rattle.ultra_switch.specs.Queues.{empty_requests, empty_replies}
 use Rattle.ultra_mem.specs.Serve.{empty_bank}
@@ -68,13 +66,6 @@ first [] = None
 first (None ∷ xs) = first xs
 first (Some x ∷ xs) = Some x
 
--- what each block has on a link
-abbrev pub replies_on : List BlockState → ℕ → List (Option ReplyMessage)
-replies_on bs l = map (λ b. on_link b.replies l) bs
-
-abbrev pub requests_on : List BlockState → ℕ → List (Option Request)
-requests_on bs l = map (λ b. on_link b.requests l) bs
-
 module _ (d : ℕ) (partition : List ℕ) where
   -- each unit of a machine of d stages stands in the block that the partition names, and in no
   -- other
@@ -91,6 +82,6 @@ module _ (d : ℕ) (partition : List ℕ) where
     switch = λ n. given no_switch (switch_at (block_at bs (home partition n)).switches n);
     bank = λ m. given empty_bank (module_at (block_at bs (home partition (module_number d m))).modules m);
     element = λ p. given no_element (element_at (block_at bs (home partition (element_number d p))).elements p);
-    replies = λ l. first (replies_on bs l);
-    requests = λ l. first (requests_on bs l);
+    replies = λ l. first (map (λ b. on_link b.replies l) bs);
+    requests = λ l. first (map (λ b. on_link b.requests l) bs);
   }

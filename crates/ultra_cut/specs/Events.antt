@@ -1,10 +1,10 @@
 -- what blocks list in a cycle, in the order of the rules
-use Rattle.std.specs.Prelude.{ℕ, ◌+◌, ◌/◌, ◌==◌, List, filter, map}
+use Rattle.std.specs.Prelude.{ℕ, ◌+◌, ◌/◌, List, map}
 use Rattle.ultra_msg.specs.declared.Event.{Event}
 use Rattle.ultra_msg.specs.declared.Event.TheVariants.{Delivered, Served, Combined, Issued}
 use Rattle.ultra_model.specs.declared.Stop.{Stop}
-use Rattle.ultra_model.specs.Places.{places, joined}
 use Rattle.ultra_units.specs.Numbers.{switch_number, module_number, element_number}
+use Rattle.ultra_merge.specs.Merging.{merged}
 use Rattle.ultra_section.specs.BlockState.{BlockState}
 
 -- the order in which the rules list what happens in a cycle of a machine of d stages: deliveries by
@@ -15,12 +15,14 @@ event_rank d (Served m r reply now) = 320 + module_number d m
 event_rank d (Combined s x a old new first) = 640 + switch_number d s (x / 2)
 event_rank d (Issued r n) = 960 + element_number d r.pe
 
+-- faults are listed by processing element
+abbrev pub stop_rank : Stop → ℕ
+stop_rank s = s.pe
+
 -- the events of all blocks, in that order; those of one unit in the order in which they happened
 unfoldable pub events_of : ℕ → List BlockState → List Event
-events_of d bs =
-    joined (places 1280 (λ i. joined (map (λ b. filter (λ e. event_rank d e == i) b.events) bs)))
+events_of d bs = merged (event_rank d) 1280 (map (λ b. b.events) bs)
 
--- their faults, by processing element
+-- their faults
 unfoldable pub stops_of : ℕ → List BlockState → List Stop
-stops_of d bs =
-    joined (places (64) (λ p. joined (map (λ b. filter (λ (s : Stop). s.pe == p) b.stops) bs)))
+stops_of d bs = merged stop_rank 64 (map (λ b. b.stops) bs)

@@ -1,6 +1,6 @@
 -- messages go to the block of the unit to which they lead. What is said of replies and of requests
 -- is said of a kind
-use Rattle.std.specs.Prelude.{◌≡◌, ◌≢◌, ℕ, ◌+◌, ◌*◌, ◌^◌, ◌<◌, ◌≤◌, ◌==◌, List, Option, Some, None, true, false, length, map, slice_index_or, slice_set}
+use Rattle.std.specs.Prelude.{◌≡◌, ◌≢◌, ℕ, ◌+◌, ◌*◌, ◌^◌, ◌<◌, ◌≤◌, ◌==◌, List, Option, Some, None, true, false, length, map, slice_set}
 use Rattle.ultra_msg.specs.declared.Request.{Request}
 use Rattle.ultra_msg.specs.declared.ReplyMessage.{ReplyMessage}
 use Rattle.ultra_switch.specs.declared.Ports.{Ports}
@@ -30,18 +30,19 @@ abbrev pub inlets : Kind → ℕ → ℕ → Option (Ports ℕ)
 inlets Replies d n = reply_inlets d n
 inlets Requests d n = request_inlets d n
 
--- what each block has on a link
-abbrev pub on_each : (kind : Kind) → List BlockState → ℕ → List (Option (Message kind))
-on_each kind bs l = map (λ b. on_link (table kind b) l) bs
+-- what a block has on a link, and what each block has there
+abbrev pub message_on : (kind : Kind) → ℕ → BlockState → Option (Message kind)
+message_on kind l b = on_link (table kind b) l
 
--- no two entries are there
-abbrev pub IsSingle : {X : Type 0} → List (Option X) → Type 0
-IsSingle xs = (i j : ℕ) → i ≢ j → slice_index_or xs i None ≢ None → slice_index_or xs j None ≡ None
+abbrev pub on_each : (kind : Kind) → List BlockState → ℕ → List (Option (Message kind))
+on_each kind bs l = map (message_on kind l) bs
 
 -- ---- before and after
 -- no link has a message in two blocks
 abbrev pub AreSingle : Kind → List BlockState → Type 0
-AreSingle kind bs = (l : ℕ) → IsSingle (on_each kind bs l)
+AreSingle kind bs =
+    (l i j : ℕ) → i ≢ j → message_on kind l (block_at bs i) ≢ None
+    → message_on kind l (block_at bs j) ≡ None
 
 -- of the blocks nothing has changed but where messages of the kind are; on each link is what was
 -- there
@@ -63,24 +64,6 @@ HasNoneFor kind d partition bs k n =
 abbrev pub AreThere : Kind → ℕ → List ℕ → List BlockState → Type 0
 AreThere kind d partition bs =
     (k n : ℕ) → k < length bs → n < unit_count d → HasNoneFor kind d partition bs k n
-
-abbrev pub AreSingleReplies : List BlockState → Type 0
-AreSingleReplies = AreSingle Replies
-
-abbrev pub AreSingleRequests : List BlockState → Type 0
-AreSingleRequests = AreSingle Requests
-
-abbrev pub OnlyRepliesMove : List BlockState → List BlockState → Type 0
-OnlyRepliesMove = OnlyMove Replies
-
-abbrev pub OnlyRequestsMove : List BlockState → List BlockState → Type 0
-OnlyRequestsMove = OnlyMove Requests
-
-abbrev pub AreRepliesThere : ℕ → List ℕ → List BlockState → Type 0
-AreRepliesThere = AreThere Replies
-
-abbrev pub AreRequestsThere : ℕ → List ℕ → List BlockState → Type 0
-AreRequestsThere = AreThere Requests
 
 -- ---- one move
 -- nothing leads from a block to a unit that stands elsewhere, from number `from` on and below `to`

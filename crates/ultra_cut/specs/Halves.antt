@@ -16,7 +16,7 @@ use Rattle.ultra_course.specs.Conditions.{CanExecute, CanTakeReplies, CanTakeReq
 use Rattle.ultra_cut.specs.Cut.{IsCut, block_at, frame_of, first}
 use Rattle.ultra_cut.specs.declared.kind.Kind.{Kind}
 use Rattle.ultra_cut.specs.declared.kind.Kind.TheVariants.{Replies, Requests}
-use Rattle.ultra_cut.specs.Exchange.{AreRepliesThere, AreRequestsThere, AreSingle, AreSingleReplies, AreSingleRequests, on_each}
+use Rattle.ultra_cut.specs.Exchange.{AreThere, AreSingle, on_each}
 
 -- what has room in the machine, as its blocks have noted it
 abbrev pub noted : ℕ → BlockRooms → Rooms
@@ -124,21 +124,21 @@ module _ (d : ℕ) (partition : List ℕ) where
           HasNone Replies d bs
           → AreSent Replies bs (after SendReplies) (sends_replies d (noted d rooms) f)
       pub replies_taken :
-          AreRepliesThere d partition bs → AreSingleReplies bs
+          AreThere Replies d partition bs
           → AreMade 0 bs (after TakeReplies) (takes_replies d f)
       pub can_take_replies :
-          AreRepliesThere d partition bs → AreSingleReplies bs → CanTakeReplies d f
+          AreThere Replies d partition bs → CanTakeReplies d f
           → OfEach HasHalfRoom bs → AllCanMake program TakeReplies bs
       pub served : AreMade 0 bs (after Serve) (serves d f)
       pub requests_sent :
           HasNone Requests d bs
           → AreSent Requests bs (after SendRequests) (sends_requests d (noted d rooms) f)
       pub requests_taken :
-          (n : ℕ) → AreRequestsThere d partition bs → AreSingleRequests bs
+          (n : ℕ) → AreThere Requests d partition bs
           → OfEach (λ b. b.done ≡ n) bs
           → AreMade 0 bs (after TakeRequests) (takes_requests d n f)
       pub can_take_requests :
-          AreRequestsThere d partition bs → AreSingleRequests bs → CanTakeRequests d f
+          AreThere Requests d partition bs → CanTakeRequests d f
           → OfEach HasHalfRoom bs → AllCanMake program TakeRequests bs
       -- one cycle more is done
       pub executed : HaveFrame d partition 1 bs (after Execute) (executes d program f)

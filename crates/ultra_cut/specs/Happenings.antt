@@ -24,7 +24,8 @@ use Rattle.ultra_section.specs.Making.{made}
 use Rattle.ultra_course.specs.Frame.{Frame}
 use Rattle.ultra_course.specs.Course.{reply_to, deliveries, servings, combinations, issues, stops}
 use Rattle.ultra_cut.specs.Cut.{block_at, frame_of}
-use Rattle.ultra_cut.specs.Exchange.{AreRepliesThere, AreRequestsThere}
+use Rattle.ultra_cut.specs.declared.kind.Kind.TheVariants.{Replies, Requests}
+use Rattle.ultra_cut.specs.Exchange.{AreThere}
 use Rattle.ultra_cut.specs.Halves.{AreBlocks}
 use Rattle.ultra_cut.specs.Events.{events_of, stops_of}
 
@@ -136,8 +137,8 @@ module _ (d n : ℕ) (partition : List ℕ) (program : List Instr) (x : Course) 
     pub replies_taken : AreAllBlocks x.replies_taken
     pub requests_sent : AreAllBlocks x.requests_sent
     pub requests_taken : AreAllBlocks x.requests_taken
-    pub replies_there : AreRepliesThere d partition x.replies_sent
-    pub requests_there : AreRequestsThere d partition x.requests_sent
+    pub replies_there : AreThere Replies d partition x.replies_sent
+    pub requests_there : AreThere Requests d partition x.requests_sent
     pub replies_home : AreRepliesHome (frame_of d partition x.replies_sent)
     pub sites : AreSites (frame_of d partition x.requests_taken)
     pub lists : (k : ℕ) → k < length x.steps_made → HasListed k

@@ -3,9 +3,8 @@
 ghost use Rattle.std.specs.Prelude.{◌≡◌, ℕ, ◌<◌, IfNone, IfSome, length};
 ghost use Rattle.ultra_units.specs.Numbers.{unit_count};
 ghost use Rattle.ultra_cut.specs.Cut.{IsCut, block_at, home};
-ghost use Rattle.ultra_cut.specs.Exchange.{AreRepliesThere, AreRequestsThere, AreSingleReplies, AreSingleRequests, OnlyRepliesMove, OnlyRequestsMove};
+ghost use Rattle.ultra_cut.specs.Exchange.{AreSingle, AreThere, HasLinks, HasNoneFor, IsNext, NoneLeavesWithin, OnlyMove, moved};
 ghost use Rattle.ultra_cut.specs.declared.kind.Kind.TheVariants.{Replies, Requests};
-ghost use Rattle.ultra_cut.specs.Exchange.{AreSingle, HasLinks, HasNoneFor, IsNext, NoneLeavesWithin, OnlyMove, moved};
 
 use crate::kind::Kind;
 use ultra_route::Net;
@@ -23,46 +22,6 @@ fn next_for(block: &Block, kind: Kind, from: usize) -> Option<usize>
     }
 }
 
-/// Moves the replies in block `from` that lead to a unit to block `home`, in which the unit stands.
-#[inline(always)]
-fn move_replies(blocks: &mut [Block], net: Net, from: usize, home: usize, unit: usize)
-    requires from { from < length blocks.old }
-    requires home { home < length blocks.old }
-    requires unit { unit < 320 }
-    requires from_stages { (block_at blocks.old from).stages ≡ net }
-    requires home_stages { (block_at blocks.old home).stages ≡ net }
-    ensures moved { blocks.new ≡ moved Replies net from home unit blocks.old }
-    ensures links { HasLinks Replies net from home unit blocks.old }
-{
-    if home == from {
-        return;
-    }
-    if let Some(inlets) = reply_inlets(net, unit) {
-        let replies = blocks[from].hand_over_replies(unit, inlets);
-        blocks[home].receive_replies(unit, inlets, replies);
-    }
-}
-
-/// Moves the requests in block `from` that lead to a unit to block `home`, in which the unit stands.
-#[inline(always)]
-fn move_requests(blocks: &mut [Block], net: Net, from: usize, home: usize, unit: usize)
-    requires from { from < length blocks.old }
-    requires home { home < length blocks.old }
-    requires unit { unit < 320 }
-    requires from_stages { (block_at blocks.old from).stages ≡ net }
-    requires home_stages { (block_at blocks.old home).stages ≡ net }
-    ensures moved { blocks.new ≡ moved Requests net from home unit blocks.old }
-    ensures links { HasLinks Requests net from home unit blocks.old }
-{
-    if home == from {
-        return;
-    }
-    if let Some(inlets) = request_inlets(net, unit) {
-        let requests = blocks[from].hand_over_requests(unit, inlets);
-        blocks[home].receive_requests(unit, inlets, requests);
-    }
-}
-
 /// Moves the messages of a kind in block `from` that lead to a unit to block `home`, in which the unit stands.
 #[inline(always)]
 fn move_messages(blocks: &mut [Block], kind: Kind, net: Net, from: usize, home: usize, unit: usize)
@@ -74,9 +33,22 @@ fn move_messages(blocks: &mut [Block], kind: Kind, net: Net, from: usize, home: 
     ensures moved { blocks.new ≡ moved kind net from home unit blocks.old }
     ensures links { HasLinks kind net from home unit blocks.old }
 {
+    if home == from {
+        return;
+    }
     match kind {
-        Kind::Replies => move_replies(blocks, net, from, home, unit),
-        Kind::Requests => move_requests(blocks, net, from, home, unit),
+        Kind::Replies => {
+            if let Some(inlets) = reply_inlets(net, unit) {
+                let replies = blocks[from].hand_over_replies(unit, inlets);
+                blocks[home].receive_replies(unit, inlets, replies);
+            }
+        }
+        Kind::Requests => {
+            if let Some(inlets) = request_inlets(net, unit) {
+                let requests = blocks[from].hand_over_requests(unit, inlets);
+                blocks[home].receive_requests(unit, inlets, requests);
+            }
+        }
     }
 }
 
@@ -135,9 +107,9 @@ fn exchange(blocks: &mut [Block], partition: &[u8], kind: Kind, net: Net)
 #[inline(always)]
 pub fn exchange_replies(blocks: &mut [Block], partition: &[u8], net: Net)
     requires cut { IsCut net partition.now blocks.old }
-    requires single { AreSingleReplies blocks.old }
-    ensures only { OnlyRepliesMove blocks.old blocks.new }
-    ensures there { AreRepliesThere net partition.now blocks.new }
+    requires single { AreSingle Replies blocks.old }
+    ensures only { OnlyMove Replies blocks.old blocks.new }
+    ensures there { AreThere Replies net partition.now blocks.new }
 {
     exchange(blocks, partition, Kind::Replies, net);
 }
@@ -146,9 +118,9 @@ pub fn exchange_replies(blocks: &mut [Block], partition: &[u8], net: Net)
 #[inline(always)]
 pub fn exchange_requests(blocks: &mut [Block], partition: &[u8], net: Net)
     requires cut { IsCut net partition.now blocks.old }
-    requires single { AreSingleRequests blocks.old }
-    ensures only { OnlyRequestsMove blocks.old blocks.new }
-    ensures there { AreRequestsThere net partition.now blocks.new }
+    requires single { AreSingle Requests blocks.old }
+    ensures only { OnlyMove Requests blocks.old blocks.new }
+    ensures there { AreThere Requests net partition.now blocks.new }
 {
     exchange(blocks, partition, Kind::Requests, net);
 }

@@ -1,24 +1,20 @@
 -- units that hold nothing have no line
-use Rattle.std.proofs.Common.{ℕ, ◌≡◌, ◌+◌, ◌-◌, ◌*◌, ◌/◌, ◌%◌, ◌^◌, ◌<◌, List, [], ◌++◌, false, ◌∙◌, ap, subst, sym, arith}
+use Rattle.std.proofs.Common.{ℕ, ◌≡◌, ◌+◌, ◌-◌, ◌*◌, ◌/◌, ◌%◌, ◌^◌, ◌<◌, List, [], false, ◌∙◌, sym, arith}
 use Rattle.std.proofs.Math.Nat.{mod-lt}
 use Rattle.std.proofs.lemmas.Nat.{div-add-mod', div_below, pow_pos}
-use Rattle.ultra_msg.specs.declared.Request.{Request as Message}
-use Rattle.ultra_msg.specs.declared.ReplyMessage.{ReplyMessage}
-use Rattle.ultra_switch.specs.declared.Entry.{Entry}
-use Rattle.ultra_switch.specs.declared.WaitRecord.{WaitRecord}
 use Rattle.ultra_model.specs.Machine.{Machine}
 use Rattle.ultra_units.specs.Numbers.{switch_count, switch_number, module_number, element_number}
 use Rattle.ultra_block.specs.Held.{Held}
 use Rattle.ultra_block.specs.Held.TheVariants.{Reply, Request, Record}
 use Rattle.ultra_block.specs.Holding.{holds}
 use Rattle.ultra_block.proofs.NothingHeld.{no_replies, no_requests, no_records, no_reply, no_request, none_pending}
-use Rattle.ultra_model.specs.Trace.{pni_line, req_line, wait_line, inp_line, out_line, rep_line, pni_of, req_of, wait_of, inp_of, out_of, rep_of}
+use Rattle.ultra_model.specs.Trace.{pni_of, req_of, wait_of, inp_of, out_of, rep_of}
 use Rattle.ultra_lines.specs.Ports.{port_line}
 use Rattle.ultra_lines.proofs.Rows.{lines_at}
 use Rattle.ultra_lines.proofs.Skipped.{two_lines}
 
 two_none : (line : ℕ → List ℕ) (k : ℕ) → line (2 * k) ≡ [] → line (2 * k + 1) ≡ [] → two_lines line k ≡ []
-two_none line k first second = ap (λ t. t ++ line (2 * k + 1)) first ∙ second
+two_none line k first second = cc
 
 module _ (d : ℕ) (m : Machine) where
   -- ---- switch n
@@ -40,18 +36,18 @@ module _ (d : ℕ) (m : Machine) where
 
     no_request_lines : holds d m Request (0 + n) ≡ false → lines_at (2 ^ (d - 1)) (req_of m) n ≡ []
     no_request_lines none =
-        let empty = no_requests d m s k hs hk (subst (λ n. holds d m Request n ≡ false) number_is none) in
-        two_none (req_of m s) k (ap (λ (es : List Entry). req_line s (2 * k) es) empty.0) (ap (λ (es : List Entry). req_line s (2 * k + 1) es) empty.1)
+        let empty = no_requests d m s k hs hk in
+        grind (arith, number_is)
 
     no_record_lines : holds d m Record (0 + n) ≡ false → lines_at (2 ^ (d - 1)) (wait_of m) n ≡ []
     no_record_lines none =
-        let empty = no_records d m s k hs hk (subst (λ n. holds d m Record n ≡ false) number_is none) in
-        two_none (wait_of m s) k (ap (λ (ws : List WaitRecord). wait_line s (2 * k) ws) empty.0) (ap (λ (ws : List WaitRecord). wait_line s (2 * k + 1) ws) empty.1)
+        let empty = no_records d m s k hs hk in
+        grind (arith, number_is)
 
     no_reply_lines : holds d m Reply (0 + n) ≡ false → lines_at (2 ^ (d - 1)) (rep_of m) n ≡ []
     no_reply_lines none =
-        let empty = no_replies d m s k hs hk (subst (λ n. holds d m Reply n ≡ false) number_is none) in
-        two_none (rep_of m s) k (ap (λ (rs : List ReplyMessage). rep_line s (2 * k) rs) empty.0) (ap (λ (rs : List ReplyMessage). rep_line s (2 * k + 1) rs) empty.1)
+        let empty = no_replies d m s k hs hk in
+        grind (arith, number_is)
 
     -- of any kind
     pub no_port_lines : (held : Held) → holds d m held (0 + n) ≡ false → lines_at (2 ^ (d - 1)) (port_line held m) n ≡ []
@@ -62,17 +58,11 @@ module _ (d : ℕ) (m : Machine) where
   -- ---- module k
   module _ (k : ℕ) (hk : k < 2 ^ d) where
     pub no_inp_line_of : holds d m Request (module_number d 0 + k) ≡ false → inp_of m k ≡ []
-    no_inp_line_of none =
-        let same : module_number d 0 + k ≡ module_number d k = omega arith in
-        ap (λ o. inp_line k o) (no_request d m k hk (subst (λ n. holds d m Request n ≡ false) same none))
+    no_inp_line_of none = let empty = no_request d m k hk in grind arith
 
     pub no_out_line_of : holds d m Reply (module_number d 0 + k) ≡ false → out_of m k ≡ []
-    no_out_line_of none =
-        let same : module_number d 0 + k ≡ module_number d k = omega arith in
-        ap (λ o. out_line k o) (no_reply d m k hk (subst (λ n. holds d m Reply n ≡ false) same none))
+    no_out_line_of none = let empty = no_reply d m k hk in grind arith
 
     -- ---- processing element k
     pub no_pni_line_of : holds d m Request (element_number d 0 + k) ≡ false → pni_of m k ≡ []
-    no_pni_line_of none =
-        let same : element_number d 0 + k ≡ element_number d k = omega arith in
-        ap (λ (rs : List Message). pni_line k rs) (none_pending d m k hk (subst (λ n. holds d m Request n ≡ false) same none))
+    no_pni_line_of none = let empty = none_pending d m k hk in grind arith

@@ -1,8 +1,7 @@
 -- lines one after another
-use Rattle.std.proofs.Common.{ℕ, zero, suc, ◌≡◌, ◌+◌, ◌<◌, ◌≤◌, List, [], ◌∷◌, ◌++◌, length, take, get_or, refl, ◌∙◌, ap, arith, append-nil, add-one, slice_get}
+use Rattle.std.proofs.Common.{ℕ, zero, suc, ◌≡◌, ◌+◌, List, [], ◌∷◌, ◌++◌, get_or, refl, ◌∙◌, ap, arith, append-nil, add-one, slice_get}
 use Rattle.std.specs.Option.{unwrap_or}
 use Rattle.std.specs.List.{flat_map, range_with_len}
-use Rattle.std.proofs.lemmas.List.{take_more, take_all}
 use Rattle.std.proofs.lemmas.List.Concat.{flat_map-append}
 use Rattle.ultra_io.specs.declared.page.Page.{Page}
 use Rattle.ultra_io.specs.Page.{Writes}
@@ -11,29 +10,16 @@ use Rattle.ultra_io.proofs.Writing.{◌then◌}
 
 one_more : (a n b : ℕ) → a + n ≡ b → range_with_len a (suc n) ≡ range_with_len a n ++ b ∷ []
 one_more a zero b e = let same : a ≡ b = omega arith in ap (λ k. k ∷ []) same
-one_more a (suc n) b e = ap (λ ks. a ∷ ks) (one_more (a + 1) n b (omega arith))
+one_more a (suc n) b e = let rest = one_more (a + 1) n b in grind arith
 
 pub range_parts : (a n k m : ℕ) → n + k ≡ m → range_with_len a m ≡ range_with_len a n ++ range_with_len (a + n) k
 range_parts a zero k m e = let same : k ≡ m = omega arith in let start : a + 0 ≡ a = omega arith in rw (← same, start) refl
 range_parts a (suc n) k zero e = absurd (omega arith)
-range_parts a (suc n) k (suc m) e =
-    let on : a + 1 + n ≡ a + suc n = omega arith in ap (λ ks. a ∷ ks) (rw on at (range_parts (a + 1) n k m (omega arith)))
+range_parts a (suc n) k (suc m) e = let rest = range_parts (a + 1) n k m in grind arith
 
 module _ {X : Type 0} (line : X → List ℕ) where
   pub last_line : (xs : List X) (x : X) → flat_map line (xs ++ x ∷ []) ≡ flat_map line xs ++ line x
   last_line xs x = flat_map-append line xs (x ∷ []) ∙ ap (λ t. flat_map line xs ++ t) (append-nil (line x))
-
-  -- the lines up to an index, and the one there
-  pub lines_more : (xs : List X) (i : ℕ) (d : X) → i < length xs → flat_map line (take (i + 1) xs) ≡ flat_map line (take i xs) ++ line (get_or xs i d)
-  lines_more xs i d h = ap (flat_map line) (take_more xs i d h) ∙ last_line (take i xs) (get_or xs i d)
-
--- a loop over values writes the line of the one at its index, and in the end all
-module _ {S : Type 0} {taken : S → List ℕ} {failures : S → ℕ} {X : Type 0} (line : X → List ℕ) (xs : List X) (i : ℕ) where
-  pub writes_next : (d : X) {s t u : Page S} → i < length xs → Writes taken failures (flat_map line (take i xs)) s t → Writes taken failures (line (get_or xs i d)) t u → Writes taken failures (flat_map line (take (i + 1) xs)) s u
-  writes_next d h v w = rw (lines_more line xs i d h) (v then w)
-
-  pub writes_all : {s t : Page S} → length xs ≤ i → Writes taken failures (flat_map line (take i xs)) s t → Writes taken failures (flat_map line xs) s t
-  writes_all h w = rw (take_all i xs h) at w
 
 -- the lines by number, and the next
 pub by_number_more : (n : ℕ) (line : ℕ → List ℕ) → by_number (n + 1) line ≡ by_number n line ++ line n

@@ -1,5 +1,5 @@
 -- lines of switches, one stage after another
-use Rattle.std.proofs.Common.{ℕ, zero, suc, ◌≡◌, ◌+◌, ◌*◌, ◌/◌, ◌%◌, ◌<◌, ◌≤◌, List, ◌++◌, add-one, refl, sym, ◌∙◌, ap, ap₂, arith}
+use Rattle.std.proofs.Common.{ℕ, zero, suc, ◌≡◌, ◌+◌, ◌*◌, ◌/◌, ◌%◌, ◌<◌, ◌≤◌, List, refl, arith}
 use Rattle.std.specs.List.{range_with_len, flat_map}
 use Rattle.std.proofs.lemmas.List.Concat.{flat_map-append}
 use Rattle.std.proofs.lemmas.Nat.{div-mul-add, mod-mul-add}
@@ -14,12 +14,13 @@ lines_at w line n = two_lines (line (n / w)) (n % w)
 alike : (f g : ℕ → List ℕ) (a b n : ℕ) → ((i j : ℕ) → a ≤ i → i < a + n → i + b ≡ j + a → f i ≡ g j) → flat_map f (range_with_len a n) ≡ flat_map g (range_with_len b n)
 alike f g a b zero same = refl
 alike f g a b (suc n) same =
-    ap₂ ◌++◌ (same a b (omega arith) (omega arith) (omega arith))
-    (alike f g (a + 1) (b + 1) n (λ i j from to e. same i j (omega arith) (omega arith) (omega arith)))
+    let rest = alike f g (a + 1) (b + 1) n in
+    let here = same a b in
+    grind arith
 
 module _ (line : ℕ → ℕ → List ℕ) (w : ℕ) where
   in_row : (s i j : ℕ) → j < w → i ≡ s * w + j → lines_at w line i ≡ two_lines (line s) j
-  in_row s i j within e = rw (e, div-mul-add s w j within, mod-mul-add s w j within) refl
+  in_row s i j within e = grind (arith, div-mul-add, mod-mul-add)
 
   -- those of d stages, each of which has twice as many positions
   pub by_rows : (d n : ℕ) → n ≡ 2 * w → flat_map (lines_at w line) (range_with_len 0 (d * w)) ≡ by_number d (λ s. by_number n (line s))
@@ -27,8 +28,7 @@ module _ (line : ℕ → ℕ → List ℕ) (w : ℕ) where
   by_rows (suc d) n twice =
       let parts = range_parts 0 (d * w) w (suc d * w) (omega arith) in
       let row = alike (lines_at w line) (two_lines (line d)) (0 + d * w) 0 w (λ i j from to e. in_row d i j (omega arith) (omega arith)) in
-      let more = rw add-one at (by_number_more d (λ s. by_number n (line s))) in
-      ap (flat_map (lines_at w line)) parts
-      ∙ flat_map-append (lines_at w line) (range_with_len 0 (d * w)) (range_with_len (0 + d * w) w)
-      ∙ ap₂ ◌++◌ (by_rows d n twice) (row ∙ by_twos (line d) w n twice)
-      ∙ sym more
+      let more = by_number_more d (λ s. by_number n (line s)) in
+      let twos = by_twos (line d) w n twice in
+      let before = by_rows d n twice in
+      grind (arith, flat_map-append)

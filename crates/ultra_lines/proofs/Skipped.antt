@@ -1,39 +1,25 @@
 -- numbers that pass a test, and lines of the others, which are empty
-use Rattle.std.proofs.Common.{ℕ, zero, suc, ◌≡◌, ◌+◌, ◌-◌, ◌*◌, ◌<◌, ◌≤◌, inl, inr, List, [], ◌∷◌, ◌++◌, length, get_or, cond, Bool, true, false, refl, sym, ◌∙◌, ap, subst, arith, append_assoc, length-append}
+use Rattle.std.proofs.lemmas.Grind.{common_steps}
+use Rattle.std.proofs.Common.{ℕ, zero, suc, ◌≡◌, ◌+◌, ◌-◌, ◌*◌, ◌<◌, ◌≤◌, List, [], ◌∷◌, ◌++◌, length, Bool, true, false, refl, subst, arith, append_assoc}
 use Rattle.std.specs.Prelude.{All}
 use Rattle.std.specs.List.{filter, range_with_len, flat_map}
-use Rattle.std.proofs.Math.Nat.{eq-or-lt_of_le}
 use Rattle.std.proofs.lemmas.List.Elements.{All-filter}
-use Rattle.ultra_io.proofs.Writing.{either}
 use Rattle.ultra_units.specs.Set.{HasNoneFrom, IsFirstFrom, has_unit}
 
 module _ (p : ℕ → Bool) where
   -- ---- of the n numbers from a on, those that pass
-  passing_one : (a n : ℕ) → p a ≡ true → filter p (range_with_len a (suc n)) ≡ a ∷ filter p (range_with_len (a + 1) n)
-  passing_one a n there = ap (λ b. cond b (a ∷ filter p (range_with_len (a + 1) n)) (filter p (range_with_len (a + 1) n))) there
-
-  passing_none : (a n : ℕ) → p a ≡ false → filter p (range_with_len a (suc n)) ≡ filter p (range_with_len (a + 1) n)
-  passing_none a n there = ap (λ b. cond b (a ∷ filter p (range_with_len (a + 1) n)) (filter p (range_with_len (a + 1) n))) there
-
   pub none_passes : (a n : ℕ) → ((k : ℕ) → a ≤ k → k < a + n → p k ≡ false) → filter p (range_with_len a n) ≡ []
   none_passes a zero none = refl
-  none_passes a (suc n) none =
-      passing_none a n (none a (omega arith) (omega arith)) ∙ none_passes (a + 1) n (λ k from to. none k (omega arith) (omega arith))
+  none_passes a (suc n) none = let rest = none_passes (a + 1) n in grind arith
 
   -- k is the first of them
   pub first_passes : (a n k m : ℕ) → a ≤ k → k + 1 + m ≡ a + n → p k ≡ true → ((j : ℕ) → a ≤ j → j < k → p j ≡ false)
       → filter p (range_with_len a n) ≡ k ∷ filter p (range_with_len (k + 1) m)
   first_passes a zero k m from to there before = absurd (omega arith)
-  first_passes a (suc n) k m from to there before = elim (eq-or-lt_of_le from) [
-    | inl e ↦
-        let same : m ≡ n = omega arith in
-        passing_one a n (subst (λ j. p j ≡ true) (sym e) there)
-        ∙ ap (λ j. j ∷ filter p (range_with_len (j + 1) n)) e
-        ∙ ap (λ j. k ∷ filter p (range_with_len (k + 1) j)) (sym same)
-    | inr l ↦
-        passing_none a n (before a (omega arith) l)
-        ∙ first_passes (a + 1) n k m (omega arith) (omega arith) there (λ j after to. before j (omega arith) to)
-  ]
+  first_passes a (suc n) k m from to there before =
+      let rest = first_passes (a + 1) n k m in
+      let same : a ≡ k → n ≡ m = omega arith in
+      grind arith
 
   -- ---- each of them is one of the numbers
   range_within : (a n b : ℕ) → a + n ≤ b → All (λ k. k < b) (range_with_len a n)
@@ -41,29 +27,20 @@ module _ (p : ℕ → Bool) where
   range_within a (suc n) b to zero d inside = omega arith
   range_within a (suc n) b to (suc i) d inside = range_within (a + 1) n b (omega arith) i d (omega arith)
 
-  at_middle : (came rest : List ℕ) (x d : ℕ) → get_or (came ++ x ∷ rest) (length came) d ≡ x
-  at_middle [] rest x d = refl
-  at_middle (y ∷ came) rest x d = at_middle came rest x d
-
-  passing_small : (n : ℕ) (came rest : List ℕ) (x : ℕ) → came ++ x ∷ rest ≡ filter p (range_with_len 0 n) → x < n
-  passing_small n came rest x parts =
-      let within = subst (All (λ k. k < n)) (sym parts) (All-filter p (λ k. k < n) (range_with_len 0 n) (range_within 0 n n (omega arith))) in
-      let inside : length came < length (came ++ x ∷ rest) = omega (arith, length-append came (x ∷ rest)) in
-      subst (λ k. k < n) (at_middle came rest x 0) (within (length came) 0 inside)
-
   -- the next of them is one, after those that came
   pub next_small : (n : ℕ) (came left rest : List ℕ) (x : ℕ) → came ++ left ≡ filter p (range_with_len 0 n) → left ≡ x ∷ rest → x < n
-  next_small n came left rest x parts next = passing_small n came rest x (ap (λ xs. came ++ xs) (sym next) ∙ parts)
+  next_small n came left rest x parts next =
+      let all : All (λ k. k < n) (filter p (range_with_len 0 n)) = All-filter p (λ k. k < n) (range_with_len 0 n) (range_within 0 n n (omega arith)) in
+      let here = all (length came) 0 in
+      grind (arith, common_steps)
 
   -- ---- lines
   pub skipped : (line : ℕ → List ℕ) (a n : ℕ) → ((k : ℕ) → k < a + n → p k ≡ false → line k ≡ []) → flat_map line (filter p (range_with_len a n)) ≡ flat_map line (range_with_len a n)
   skipped line a zero empty = refl
   skipped line a (suc n) empty =
       let rest = skipped line (a + 1) n (λ k to none. empty k (omega arith) none) in
-      elim (either (p a)) [
-        | inl passes ↦ ap (flat_map line) (passing_one a n passes) ∙ ap (λ t. line a ++ t) rest
-        | inr none ↦ ap (flat_map line) (passing_none a n none) ∙ rest ∙ ap (λ t. t ++ flat_map line (range_with_len (a + 1) n)) (sym (empty a (omega arith) none))
-      ]
+      let here = empty a in
+      grind arith
 
 -- lines of two numbers at a time
 abbrev pub two_lines : (ℕ → List ℕ) → ℕ → List ℕ
@@ -75,9 +52,8 @@ two_by_two line a zero b (suc m) from count = absurd (omega arith)
 two_by_two line a (suc n) b zero from count = absurd (omega arith)
 two_by_two line a (suc n) b (suc zero) from count = absurd (omega arith)
 two_by_two line a (suc n) b (suc (suc m)) from count =
-    append_assoc (line (2 * a)) (line (2 * a + 1)) (flat_map (two_lines line) (range_with_len (a + 1) n))
-    ∙ ap (λ t. line (2 * a) ++ (line (2 * a + 1) ++ t)) (two_by_two line (a + 1) n (b + 1 + 1) m (omega arith) (omega arith))
-    ∙ ap (λ k. line k ++ (line (k + 1) ++ flat_map line (range_with_len (b + 1 + 1) m))) (sym from)
+    let rest = two_by_two line (a + 1) n (b + 1 + 1) m in
+    grind (arith, append_assoc)
 
 pub by_twos : (line : ℕ → List ℕ) (n m : ℕ) → m ≡ 2 * n → flat_map (two_lines line) (range_with_len 0 n) ≡ flat_map line (range_with_len 0 m)
 by_twos line n m count = two_by_two line 0 n 0 m (omega arith) count
@@ -94,7 +70,7 @@ module _ (units : List ℕ) (base from end : ℕ) where
     pub left_beyond : end ≤ unit - base → left from ≡ []
     left_beyond beyond =
         let after = first.after in
-        none_passes (λ k. has_unit units (base + k)) from (end - from) (λ k since to. first.between (base + k) (omega arith) (omega arith))
+        none_passes _ from (end - from) (λ k since to. first.between (base + k) (omega arith) (omega arith))
 
     pub left_first : unit - base < end → left from ≡ (unit - base) ∷ left (unit - base + 1)
     left_first within =

@@ -1,6 +1,6 @@
 -- lines of the items of an iterator or a list, one after another
-use Rattle.std.proofs.Common.{ℕ, ◌≡◌, ◌+◌, ◌<◌, ◌≤◌, List, [], ◌∷◌, ◌++◌, length, take, get_or, sym, ◌∙◌, ap, append_assoc, append-nil}
-use Rattle.std.proofs.lemmas.List.{take_more, take_all}
+use Rattle.std.proofs.Common.{ℕ, ◌≡◌, ◌+◌, ◌<◌, List, [], ◌∷◌, ◌++◌, length, take, get_or, sym, ◌∙◌, ap, append_assoc, append-nil}
+use Rattle.std.proofs.lemmas.List.{take_more}
 use Rattle.std.specs.List.{flat_map}
 use Rattle.ultra_io.specs.declared.page.Page.{Page}
 use Rattle.ultra_io.specs.Page.{Writes}
@@ -28,6 +28,3 @@ module _ {S X : Type 0} {taken : S → List ℕ} {failures : S → ℕ} {line : 
 module _ {S : Type 0} {taken : S → List ℕ} {failures : S → ℕ} {X : Type 0} (line : X → List ℕ) (all : List X) (n : ℕ) where
   pub writes_next : {s t u : Page S} (d : X) → n < length all → Writes taken failures (flat_map line (take n all)) s t → Writes taken failures (line (get_or all n d)) t u → Writes taken failures (flat_map line (take (n + 1) all)) s u
   writes_next d here v w = rw (take_more all n d here, last_line line (take n all) (get_or all n d)) (v then w)
-
-  pub writes_all : {s t : Page S} (es : List X) → length all ≤ n → all ≡ es → Writes taken failures (flat_map line (take n all)) s t → Writes taken failures (flat_map line es) s t
-  writes_all es end same v = rw (take_all n all end, same) at v

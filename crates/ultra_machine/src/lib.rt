@@ -8,6 +8,3 @@ pub use ultra_block::{Blocks, PartitionFault};
 pub use ultra_halves::ProcessingElement;
 pub use ultra_model::{Config, ConfigFault, Field, RawSettings, Stop};
 pub use ultra_route::MOST_STAGES;
-
-/// The most units, those of 6 stages: 6 times 32 switches, 64 modules and 64 processing elements.
-pub(crate) const MOST_UNITS: usize = 320;

@@ -1,23 +1,24 @@
 //! The whole machine.
 
-ghost use Rattle.std.specs.Prelude.{◌≡◌, ◌-◌, ◌^◌, ◌<◌, ◌≤◌, ◌↔◌, true, false, IfOk, OnOk, IfErr};
+ghost use Rattle.std.specs.Prelude.{◌≡◌, ◌-◌, ◌^◌, ◌<◌, ◌↔◌, true, false, IfOk, OnOk, IfErr};
 ghost use Rattle.ultra_model.specs.Machine.{start, is_quiet as quiet, lane_at, replies_at, bank_at, element_at, site};
 ghost use Rattle.ultra_model.specs.Phases.{cycle as next_cycle};
 ghost use Rattle.ultra_halves.specs.Elements.{element_of};
-ghost use Rattle.ultra_units.specs.Numbers.{unit_count};
 ghost use Rattle.ultra_block.specs.Cut.{is_partition};
 ghost use Rattle.ultra_block.specs.Dealt.{IsLastNamed};
 
-use crate::MOST_UNITS;
 use std::alloc::{AllocError, Global};
 use std::marker::Model;
-use ultra_block::{Blocks, PartitionFault};
+use ultra_block::{Blocks, PartitionFault, count_units};
 use ultra_halves::ProcessingElement;
 use ultra_isa::Program;
 use ultra_mem::Module;
 use ultra_model::{Config, Stop};
 use ultra_msg::{Event, Pe};
 use ultra_switch::{ToMm, ToPe};
+
+/// The most units, those of 6 stages: 6 times 32 switches, 64 modules and 64 processing elements.
+const MOST_UNITS: usize = 320;
 
 /// A machine: its settings, its program, and its units as they stand after some cycles.
 ///
@@ -45,9 +46,12 @@ impl Machine {
     pub fn new(alloc: Global, config: &Config, program: &Program) -> Result<Machine, AllocError>
         ensures { IfOk result (λ m. m ≡ record { settings = config.now; program = program.now; state = start config.now }) }
     {
-        Ok(Machine {
-            blocks: in_one_block(alloc, config, program)?,
-        })
+        let all_in_one = [0; MOST_UNITS];
+        match Blocks::new(alloc, config, program, &all_in_one[..count_units(config)]) {
+            Ok(blocks) => Ok(Machine { blocks }),
+            Err(PartitionFault::NoMemory) => Err(AllocError),
+            Err(PartitionFault::BadPartition) => unreachable!(),
+        }
     }
 
     /// The machine makes one cycle: replies, memory, requests, processors. It takes no memory and always succeeds.
@@ -156,28 +160,4 @@ impl Machine {
     {
         self.blocks.is_quiet()
     }
-}
-
-/// The machine before its first cycle, with all units in block 0. An error says that memory was refused.
-fn in_one_block(alloc: Global, config: &Config, program: &Program) -> Result<Blocks, AllocError>
-    ensures settings { IfOk result (λ b. b.config ≡ config.now) }
-    ensures program { IfOk result (λ b. b.program ≡ program.now) }
-    ensures count { IfOk result (λ b. b.count ≡ 1) }
-    ensures state { IfOk result (λ b. b.machine ≡ start config.now) }
-{
-    let all_in_one = [0; MOST_UNITS];
-    match Blocks::new(alloc, config, program, &all_in_one[..units(config)]) {
-        Ok(blocks) => Ok(blocks),
-        Err(PartitionFault::NoMemory) => Err(AllocError),
-        Err(PartitionFault::BadPartition) => unreachable!(),
-    }
-}
-
-/// How many units a machine of these settings has.
-fn units(config: &Config) -> usize
-    ensures value { result ≡ unit_count config.now.stages }
-    ensures few { result ≤ MOST_UNITS }
-{
-    let net = config.net();
-    (net.stages() * (net.size() / 2) + 2 * net.size()) as usize
 }

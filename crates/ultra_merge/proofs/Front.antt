@@ -1,49 +1,42 @@
--- The search for the list whose first entry comes next, list by list.
-use Rattle.std.proofs.Common.{◌≡◌, ℕ, ◌+◌, ◌<◌, ◌≤◌, List, [], ◌∷◌, length, get_or, drop, Option, Some, None, Bool, cond, leb, refl, sym, ◌∙◌, ap, subst, arith, map, Bor}
+-- The search for the list whose first entry comes next, list by list, and what is left when that has gone.
+use Rattle.std.proofs.Common.{◌≡◌, ℕ, ◌+◌, ◌<◌, ◌≤◌, List, [], ◌∷◌, length, get_or, drop, Option, Some, None, refl, sym, ◌∙◌, ap, subst, arith, map, Bor, set, length-set}
 use Rattle.std.proofs.lemmas.Bool.{leb-true}
-use Rattle.std.proofs.lemmas.List.Elements.{All-nil, All-head}
-use Rattle.std.proofs.lemmas.List.{get_or-map, length-map}
+use Rattle.std.proofs.lemmas.List.{get_or-map, append-nil, drop_all, length-map, map-set, take_all}
 use Rattle.std.specs.Prelude.{All, slice_get, MatchOption}
 use Rattle.std.specs.List.Sorted.{IsNonDecreasingBy}
 use Rattle.ultra_merge.specs.declared.merge.Front.{Front}
 use Rattle.ultra_merge.specs.Front.{sooner}
-use Rattle.ultra_merge.specs.Merging.{AreEmpty, IsNextPlace, IsRanked}
-use Rattle.ultra_merge.proofs.Ranked.{first_is_least}
+use Rattle.ultra_merge.specs.Merging.{AreEmpty, IsNextPlace, IsRanked, merged}
+use Rattle.std.proofs.lemmas.List.Elements.{All-set}
+use Rattle.std.specs.List.{refill}
+use Rattle.ultra_merge.proofs.Merged.{first_is_least, merged_next, ranked_rest}
 
 -- a list by its first element
-pub empty_list : {T : Type 0} (xs : List T) → None ≡ slice_get xs 0 → xs ≡ []
+empty_list : {T : Type 0} (xs : List T) → None ≡ slice_get xs 0 → xs ≡ []
 empty_list [] none = refl
 empty_list (x ∷ xs) none = cc
 
-pub from_first : {T : Type 0} (xs : List T) (x : T) → Some x ≡ slice_get xs 0 → xs ≡ x ∷ drop 1 xs
-from_first [] x is = cc
-from_first (y ∷ xs) x is = cc
+from_first : {T : Type 0} (xs : List T) (x : T) → Some x ≡ slice_get xs 0 → xs ≡ x ∷ drop 1 xs
+from_first xs x is = grind arith
 
-module _ {T : Type 0} (rank : T → ℕ) (lists : List (List T)) (n : ℕ) where
-  module _ (x : T) (xs : List T) (is : get_or lists n [] ≡ x ∷ xs) (ascends : IsNonDecreasingBy rank (get_or lists n [])) where
+-- of the first n lists
+module _ {T : Type 0} (rank : T → ℕ) (lists : List (List T)) where
+  abbrev pub IsFront : Option Front → ℕ → Type 0
+  IsFront front n = MatchOption front (AreEmpty lists n) (λ f. IsNextPlace rank lists n f.place f.rank)
+
+  module _ (n : ℕ) (x : T) (xs : List T) (is : get_or lists n [] ≡ x ∷ xs) (ascends : IsNonDecreasingBy rank (get_or lists n [])) where
     least_here : All (λ e. rank x ≤ rank e) (get_or lists n [])
     least_here = subst (All (λ e. rank x ≤ rank e)) (sym is) (first_is_least rank x xs (subst (IsNonDecreasingBy rank) is ascends))
 
-    pub front_before : (k r : ℕ) → IsNextPlace rank lists n k r → r ≤ rank x → IsNextPlace rank lists (n + 1) k r
-    front_before k r front order = grind (arith, least_here)
+    still_front : (k r : ℕ) → IsNextPlace rank lists n k r → r ≤ rank x → IsNextPlace rank lists (n + 1) k r
+    still_front k r front order = grind (arith, least_here)
 
-    -- one with an entry that comes sooner
-    front_taken : ((i : ℕ) → i < n → All (λ e. rank x < rank e) (get_or lists i [])) → IsNextPlace rank lists (n + 1) n (rank x)
-    front_taken later = record {
-      within = omega arith;
-      entry = x;
-      rest = xs;
-      is = is;
-      ranked = refl;
-      before = later;
-      behind = λ i from to. let last : n ≡ i = omega arith in subst (λ j. All (λ e. rank x ≤ rank e) (get_or lists j [])) last least_here;
-    }
+    new_front : ((i : ℕ) → i < n → All (λ e. rank x < rank e) (get_or lists i [])) → IsNextPlace rank lists (n + 1) n (rank x)
+    new_front later = let least = least_here in grind arith
 
-    pub first_front : AreEmpty lists n → IsNextPlace rank lists (n + 1) n (rank x)
-    first_front empty = front_taken (λ i h. subst (All (λ e. rank x < rank e)) (sym (empty i h)) (All-nil (λ e. rank x < rank e)))
-
-    pub sooner_front : (k r : ℕ) → IsNextPlace rank lists n k r → rank x < r → IsNextPlace rank lists (n + 1) n (rank x)
-    sooner_front k r front less = grind (arith, front_taken)
+    -- the search goes on from the one that comes first
+    sooner_front : (front : Option Front) → IsFront front n → IsFront (Some (sooner front record { place = n; rank = rank x })) (n + 1)
+    sooner_front front before = grind (arith, leb-true, still_front, new_front)
 
 -- ---- the list at place n, behind a reference
 module _ {T : Type 0} (rank : T → ℕ) (count : ℕ) (items : List (Bor (List T))) (n : ℕ) (list : Bor (List T)) (within : n < length items) (is : list ≡ get_or items n list) where
@@ -53,10 +46,7 @@ module _ {T : Type 0} (rank : T → ℕ) (count : ℕ) (items : List (Bor (List 
   here : get_or lists n [] ≡ list.now
   here = get_or-map (λ l. l.now) items n list [] within ∙ ap (λ l. l.now) (sym is)
 
-  abbrev pub IsFront : Option Front → ℕ → Type 0
-  IsFront front n = MatchOption front (AreEmpty lists n) (λ f. IsNextPlace rank lists n f.place f.rank)
-
-  pub past_empty : (front : Option Front) → IsFront front n → None ≡ slice_get list.now 0 → IsFront front (n + 1)
+  pub past_empty : (front : Option Front) → IsFront rank lists front n → None ≡ slice_get list.now 0 → IsFront rank lists front (n + 1)
   past_empty front empty none = grind (arith, here, empty_list)
 
   module _ (all : All (λ l. IsRanked rank count l.now) items) (x : T) (first : Some x ≡ slice_get list.now 0) where
@@ -64,26 +54,41 @@ module _ {T : Type 0} (rank : T → ℕ) (count : ℕ) (items : List (Bor (List 
     ranked = subst (λ l. IsRanked rank count l.now) (sym is) (all n list within)
 
     pub entry_within : rank x < count
-    entry_within = All-head (λ e. rank e < count) x (drop 1 list.now) (subst (All (λ e. rank e < count)) (from_first list.now x first) ranked.within)
+    entry_within =
+        let within = ranked.within in
+        let is = from_first list.now x first in
+        grind arith
 
-    ascends : IsNonDecreasingBy rank (get_or lists n [])
-    ascends = subst (IsNonDecreasingBy rank) (sym here) ranked.ascends
+    pub sooner_is_front : (front : Option Front) → IsFront rank lists front n → IsFront rank lists (Some (sooner front record { place = n; rank = rank x })) (n + 1)
+    sooner_is_front =
+        sooner_front rank lists n x (drop 1 list.now) (here ∙ from_first list.now x first) (subst (IsNonDecreasingBy rank) (sym here) ranked.ascends)
 
-    past_later : (f : Front) → IsFront (Some f) n → f.rank ≤ rank x → IsFront (Some f) (n + 1)
-    past_later f next later = front_before rank lists n x (drop 1 list.now) (here ∙ from_first list.now x first) ascends f.place f.rank next later
+-- ---- the lists, after the one at a place has given its first entry
+module _ {T : Type 0} (rank : T → ℕ) (count : ℕ) (items : List (Bor (List T))) (all : All (λ l. IsRanked rank count l.now) items)
+    (place r : ℕ) (next : IsNextPlace rank (map (λ l. l.now) items) (length (map (λ l. l.now) items)) place r)
+    (old new : Bor (List T)) (x : T) (taken : (get_or items place old).now ≡ x ∷ new.now) where
+  abbrev pub left : List (Bor (List T))
+  left = refill (length items) items (set items place new)
 
-    chosen : (f : Front) (b : Bool) → leb f.rank (rank x) ≡ b → IsFront (Some f) n → IsFront (Some (cond b f record { place = n; rank = rank x })) (n + 1)
-    chosen f b is next = grind (arith, past_later, leb-true, sooner_front, here, from_first, ascends)
+  left_is : left ≡ set items place new
+  left_is = grind (arith, length-set, drop_all, append-nil, take_all)
 
-    -- the search goes on from the one that comes first
-    pub sooner_is_front : (front : Option Front) → IsFront front n → IsFront (Some (sooner front record { place = n; rank = rank x })) (n + 1)
-    sooner_is_front front empty = grind (arith, first_front, here, from_first, ascends, chosen)
+  within : place < length items
+  within = grind (arith, length-map)
 
--- ---- the search has seen all lists
--- the list of the front has an entry
-module _ {T : Type 0} (rank : T → ℕ) (items : List (Bor (List T))) (k r : ℕ) (next : IsNextPlace rank (map (λ l. l.now) items) (length (map (λ l. l.now) items)) k r) where
-  pub place_within : k < length items
-  place_within = omega (arith, next.within, length-map items (λ (l : Bor (List T)). l.now))
+  was_ranked : IsRanked rank count (x ∷ new.now)
+  was_ranked = subst (IsRanked rank count) taken (all place old within)
 
-  pub has_entry : (d : Bor (List T)) → 0 < length (get_or items k d).now
-  has_entry d = grind (arith, get_or-map, place_within)
+  pub left_ranked : All (λ l. IsRanked rank count l.now) left
+  left_ranked =
+      let P = λ (l : Bor (List T)). IsRanked rank count l.now in
+      subst (All P) (sym left_is) (All-set P items place new (ranked_rest rank count x new.now was_ranked) all)
+
+  there : get_or (map (λ l. l.now) items) place [] ≡ x ∷ new.now
+  there = grind (arith, get_or-map, within)
+
+  pub left_merged : merged rank count (map (λ l. l.now) items) ≡ x ∷ merged rank count (map (λ l. l.now) left)
+  left_merged =
+      let merged_is = merged_next rank count (map (λ l. l.now) items) place r in
+      let first = was_ranked.within 0 x in
+      grind (arith, there, left_is, map-set)

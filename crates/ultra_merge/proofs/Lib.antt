@@ -1,4 +1,2 @@
-pub mod Ranked
 pub mod Merged
 pub mod Front
-pub mod Taken

@@ -129,16 +129,17 @@ pub struct Request {
 }
 
 /// What a request is answered. That a store is acknowledged is this project's profile.
-#[derive(Clone, Copy, PartialEq, Eq, Debug, Drop)]
+#[derive(Clone, Copy, PartialEq, Eq, Debug, Default, Drop)]
 pub enum Reply {
     /// The value that the cell had before the request.
     Value(Word),
     /// A store was done.
+    #[default]
     Ack,
 }
 
 /// A reply on its way to a processing element (PE). The PE and the cell are its identity in the network.
-#[derive(Clone, Copy, PartialEq, Eq, Debug, Drop)]
+#[derive(Clone, Copy, PartialEq, Eq, Debug, Default, Drop)]
 pub struct ReplyMessage {
     /// The PE that it goes to.
     pub pe: Pe,

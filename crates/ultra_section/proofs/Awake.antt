@@ -19,10 +19,6 @@ use Rattle.ultra_switch.specs.declared.Switch.{Switch}
 use Rattle.ultra_section.specs.declared.sets.Sets.{Sets}
 use Rattle.ultra_section.specs.BlockState.{IsKept}
 
-abbrev rests_where : List Instr → Option ProcessingElement → Type 0
-rests_where program None = Unit {0}
-rests_where program (Some e) = IsTrue (is_at_rest program e)
-
 abbrev pub IsAtRest : List Instr → Option ProcessingElement → Type 0
 IsAtRest program o = ForSome o (λ e. IsTrue (is_at_rest program e))
 

@@ -1,20 +1,11 @@
 -- What the sets of a block say of what a unit may hold is true of each number.
-use Rattle.std.proofs.Common.{◌≡◌, ℕ, ◌^◌, ◌<◌, ◌≤◌, List, ap, arith}
-use Rattle.ultra_units.specs.Set.{has_unit}
+use Rattle.std.proofs.Common.{◌≡◌, ℕ, ◌^◌, ◌<◌, ◌≤◌, ap}
 use Rattle.ultra_units.specs.Numbers.{switch_count, unit_count, module_number, element_number}
-use Rattle.ultra_section.specs.declared.sets.Sets.{Sets}
-use Rattle.ultra_section.specs.declared.held.Held.{Held}
 use Rattle.ultra_units.specs.declared.unit.Unit.{Unit}
 use Rattle.ultra_units.specs.declared.unit.Unit.TheVariants as unit
 use Rattle.ultra_units.specs.Units.{of_unit, stage_of, index_of}
-use Rattle.ultra_section.specs.Sets.{fact_of, facts_at}
-use Rattle.ultra_section.specs.BlockState.{BlockState, UnitsAreKnown}
-use Rattle.ultra_section.specs.Holding.{IsSetOf, holds_at}
-use Rattle.ultra_units.proofs.Standing.{unit_is, unit_of_switch, unit_of_module, unit_of_element}
+use Rattle.ultra_units.proofs.Standing.{unit_of_switch, unit_of_module, unit_of_element}
 use Rattle.ultra_section.proofs.OfKind.{unit_of_none}
-
-pub set_is : (held : Held) (b : BlockState) (s : Sets) → UnitsAreKnown b.stages s b.switches b.modules b.elements → (set : List ℕ) → ((k : ℕ) → has_unit set k ≡ fact_of held (facts_at s k)) → IsSetOf (holds_at b held) set
-set_is held b s known set is n = grind (arith, unit_is)
 
 -- ---- what there is at the number of a unit of each kind
 module _ {X : Type 0} (d : ℕ) (switch : ℕ → ℕ → X) (bank element : ℕ → X) (x : X) where
@@ -29,6 +20,3 @@ module _ {X : Type 0} (d : ℕ) (switch : ℕ → ℕ → X) (bank element : ℕ
 
   pub at_element : (p : ℕ) → p < 2 ^ d → of_unit d switch bank element x (element_number d p) ≡ element p
   at_element p h = ap picked (unit_of_element d p h)
-
-  pub at_none : (n : ℕ) → unit_count d ≤ n → of_unit d switch bank element x n ≡ x
-  at_none n past = ap picked (unit_of_none d n past)

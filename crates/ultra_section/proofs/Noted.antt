@@ -4,8 +4,7 @@ use Rattle.std.specs.Prelude.{not, nat_le, ◌==◌, ◌&&◌}
 use Rattle.std.proofs.lemmas.Bool.Decides.{nat_tests}
 use Rattle.ultra_msg.specs.declared.Request.{Request}
 use Rattle.ultra_msg.specs.declared.ReplyMessage.{ReplyMessage}
-use Rattle.ultra_mem.specs.declared.Placed.{Placed}
-use Rattle.ultra_mem.specs.Serve.{Bank, after_serving, serve, to_serve}
+use Rattle.ultra_mem.specs.Serve.{Bank}
 use Rattle.ultra_switch.specs.declared.Ports.{Ports}
 use Rattle.ultra_switch.specs.declared.Switch.{Switch}
 use Rattle.ultra_model.specs.Places.{after_leaving}
@@ -14,7 +13,7 @@ use Rattle.ultra_halves.specs.Modules.{bank_with}
 use Rattle.ultra_halves.specs.Halves.{both_coming, going_by}
 use Rattle.ultra_halves.specs.Switches.{after_both, after_replies, without_replies, without_requests}
 use Rattle.ultra_halves.proofs.Arrivals.{arrive_all_no_shorter}
-use Rattle.ultra_section.specs.Sets.{HasFewerReplies, HasFewerRequests, HasMoreReplies, HasMoreRequests, HasReplyLess, HasRequestMore, HasServed, KnowsModule, KnowsSwitch, UnitFacts}
+use Rattle.ultra_section.specs.Sets.{HasFewerReplies, HasFewerRequests, HasMoreReplies, HasMoreRequests, HasRequestMore, KnowsModule, KnowsSwitch, UnitFacts}
 
 -- ---- of two queues at least one holds something, and a queue has no room
 held_more : (a b c d : ℕ) → a ≤ c → b ≤ d → not ((a == 0) && (b == 0)) ≡ true → not ((c == 0) && (d == 0)) ≡ true
@@ -82,12 +81,3 @@ inp_kept b o = grind arith
 module _ (f : UnitFacts) (b : Bank) (known : KnowsModule f (Some b)) where
   pub request_came : (n : ℕ) (o : Option Request) → HasRequestMore f (bank_with n b o)
   request_came n o = grind arith
-
-  pub reply_left : (o : Option ReplyMessage) → HasReplyLess f (without_reply b o)
-  reply_left o = grind arith
-
-  served_as : (o : Option Placed) → HasServed f (after_serving b o)
-  served_as o = grind arith
-
-  pub has_served : HasServed f (serve b)
-  has_served = served_as (to_serve b)

@@ -1,14 +1,12 @@
 -- The unit with a number by its kind: whether it stands in a block, and a block without it or with it.
-use Rattle.std.proofs.Common.{◌≡◌, ℕ, sym, ◌^◌, ◌<◌, ◌≤◌, None, subst, set, arith}
+use Rattle.std.proofs.Common.{◌≡◌, ℕ, sym, ◌^◌, ◌<◌, ◌≤◌, subst, arith}
 use Rattle.std.specs.Prelude.{is_some}
 use Rattle.ultra_units.specs.Numbers.{switch_count, unit_count, module_number, element_number}
 use Rattle.ultra_units.specs.declared.unit.Unit.{Unit}
 use Rattle.ultra_units.specs.declared.unit.Unit.TheVariants as unit
 use Rattle.ultra_units.specs.Units.{unit_of, IsUnit}
-use Rattle.ultra_units.specs.Links.{put_on}
 use Rattle.ultra_section.specs.BlockState.{BlockState, switch_at, module_at, element_at}
 use Rattle.ultra_section.specs.Away.{stands}
-use Rattle.ultra_section.specs.Building.{with_unit, without_unit}
 use Rattle.ultra_units.proofs.Standing.{unit_is, unit_of_module}
 
 -- what holds of each switch, each module, each processing element, and of what is none of them
@@ -37,23 +35,3 @@ module _ (d : ℕ) (b : BlockState) (stages : b.stages ≡ d) where
 
   pub element_stands : (p : ℕ) → p < 2 ^ d → stands (element_number d p) b ≡ is_some (element_at b.elements p)
   element_stands p h = grind arith
-
-  pub without_switch : (n : ℕ) → n < switch_count d → without_unit n b ≡ record b { switches = set b.switches n None }
-  without_switch n h = grind arith
-
-  pub without_module : (m : ℕ) → m < 2 ^ d → without_unit (module_number d m) b ≡ record b { modules = set b.modules m None }
-  without_module m h = grind arith
-
-  pub without_element : (p : ℕ) → p < 2 ^ d → without_unit (element_number d p) b ≡ record b { elements = set b.elements p None }
-  without_element p h = grind arith
-
-  -- and another block with it
-  module _ (to : BlockState) where
-    pub with_switch : (n : ℕ) → n < switch_count d → with_unit n b to ≡ record to { switches = put_on to.switches n (switch_at b.switches n) }
-    with_switch n h = grind arith
-
-    pub with_module : (m : ℕ) → m < 2 ^ d → with_unit (module_number d m) b to ≡ record to { modules = put_on to.modules m (module_at b.modules m) }
-    with_module m h = grind arith
-
-    pub with_element : (p : ℕ) → p < 2 ^ d → with_unit (element_number d p) b to ≡ record to { elements = put_on to.elements p (element_at b.elements p) }
-    with_element p h = grind arith

@@ -8,7 +8,7 @@ ghost use Rattle.ultra_units.specs.Units.{IsElement};
 
 use crate::block::Block;
 use ultra_halves::{Outcome, append};
-use ultra_units::{Unit, UnitSet, Visit, visit_all};
+use ultra_units::{UnitSet, Visit, visit_all};
 
 impl Block {
     /// A processing element makes a step of the program.
@@ -59,9 +59,8 @@ impl Visit<Block> for Execute {
 
     #[inline(always)]
     fn visit(&self, block: &mut Block, unit: usize) {
-        match block.unit(unit) {
-            Unit::Element(pe) => block.execute_element(unit, pe),
-            Unit::Switch { .. } | Unit::Module(_) | Unit::Nothing => {}
+        if let Some(pe) = block.wiring.element(unit) {
+            block.execute_element(unit, pe);
         }
     }
 }

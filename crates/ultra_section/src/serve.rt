@@ -9,7 +9,7 @@ ghost use Rattle.ultra_units.specs.Units.{IsModule};
 use crate::block::Block;
 use ultra_halves::append;
 use ultra_msg::Event;
-use ultra_units::{Unit, UnitSet, Visit, visit_all};
+use ultra_units::{UnitSet, Visit, visit_all};
 
 impl Block {
     /// A module serves the request that waits, if no reply is in its way.
@@ -52,9 +52,8 @@ impl Visit<Block> for Serve {
 
     #[inline(always)]
     fn visit(&self, block: &mut Block, unit: usize) {
-        match block.unit(unit) {
-            Unit::Module(number) => block.serve_module(unit, number),
-            Unit::Switch { .. } | Unit::Element(_) | Unit::Nothing => {}
+        if let Some(number) = block.wiring.module(unit) {
+            block.serve_module(unit, number);
         }
     }
 }

@@ -3,6 +3,7 @@
 ghost use Rattle.std.specs.Prelude.{◌≡◌, ◌+◌, ◌^◌, ◌<◌, ◌≤◌, ◌==◌, [], ◌∷◌, ◌++◌, length, drop, slice_get, slice_set, IfOk, Some};
 ghost use Rattle.circular_buffer.specs.Buffer.{buffer};
 
+use crate::slot::Slot;
 use circular_buffer::HeapCircularBuffer;
 use std::alloc::{AllocError, Global};
 use std::marker::Model;
@@ -10,7 +11,7 @@ use std::marker::Model;
 /// A queue of a fixed number of places: the item at the front, and a ring of those behind it. Most queues of a switch hold no more than one message, which never goes through the ring.
 #[derive(Drop)]
 pub(crate) struct Queue<T> {
-    front: Option<T>,
+    front: Slot<T>,
     rest: HeapCircularBuffer<T>,
     /// How many places are free.
     free: usize,
@@ -29,13 +30,13 @@ impl<T> Model for Queue<T> {
     ghost invariant = { λ q. IsInPlace q.front q.rest.items q.rest.capacity q.free };
 }
 
-impl<T: Copy> Queue<T> {
+impl<T: Copy + Default> Queue<T> {
     /// An empty queue of this many places.
     pub(crate) fn with_capacity(alloc: Global, capacity: usize) -> Result<Queue<T>, AllocError>
         ensures { IfOk result (λ q. q ≡ buffer [] capacity) }
     {
         Ok(Queue {
-            front: None,
+            front: Slot::empty(),
             rest: HeapCircularBuffer::with_capacity(alloc, capacity)?,
             free: capacity,
         })
@@ -68,7 +69,7 @@ impl<T: Copy> Queue<T> {
     pub(crate) fn is_empty(&self) -> bool
         ensures { result ≡ (length self.now.items == 0) }
     {
-        self.front.is_none()
+        self.front.is_empty()
     }
 
     /// The item at this place, counted from 0 at the front.
@@ -77,7 +78,7 @@ impl<T: Copy> Queue<T> {
         ensures { slice_get self.now.items place ≡ Some result }
     {
         if place == 0 {
-            self.front.unwrap()
+            self.front.get().unwrap()
         } else {
             *self.rest.get(place - 1).unwrap()
         }
@@ -89,7 +90,7 @@ impl<T: Copy> Queue<T> {
         ensures { self.new ≡ buffer (slice_set self.old.items place item) self.old.capacity }
     {
         if place == 0 {
-            self.front = Some(item);
+            self.front.fill(item);
         } else {
             put_at(&mut self.rest, place - 1, item);
         }
@@ -99,7 +100,7 @@ impl<T: Copy> Queue<T> {
     pub(crate) fn front(&self) -> Option<T>
         ensures { result ≡ slice_get self.now.items 0 }
     {
-        self.front
+        self.front.get()
     }
 
     /// Puts an item at the end. There has to be a free place.
@@ -107,8 +108,8 @@ impl<T: Copy> Queue<T> {
         requires { length self.old.items < self.old.capacity }
         ensures { self.new ≡ buffer (self.old.items ++ item ∷ []) self.old.capacity }
     {
-        if self.front.is_none() {
-            self.front = Some(item);
+        if self.front.is_empty() {
+            self.front.fill(item);
         } else {
             self.rest.push_back(item);
         }
@@ -120,9 +121,11 @@ impl<T: Copy> Queue<T> {
         ensures value { result ≡ slice_get self.old.items 0 }
         ensures items { self.new ≡ buffer (drop 1 self.old.items) self.old.capacity }
     {
-        let first = self.front?;
+        let first = self.front.take()?;
         let _places = self.rest.capacity();
-        self.front = self.rest.pop_front();
+        if let Some(next) = self.rest.pop_front() {
+            self.front.fill(next);
+        }
         self.free += 1;
         Some(first)
     }

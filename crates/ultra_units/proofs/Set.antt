@@ -2,9 +2,9 @@
 use Rattle.std.proofs.Common.{◌≡◌, ℕ, min, Bool, ◌&&◌, ◌||◌, ◌+◌, ◌-◌, ◌*◌, ◌/◌, ◌%◌, ◌^◌, ◌<◌, ◌≤◌, true, false, List, length, get_or, set, eqb, sym, ◌∙◌, ap, inl, inr, arith, eq-eqb, get_or-set_same, get_or-set_other, replicate, w64}
 use Rattle.std.proofs.lemmas.Bool.{cases_lt}
 use Rattle.std.proofs.lemmas.List.{get_or-replicate, get_or_past, length-replicate}
-use Rattle.std.proofs.lemmas.Nat.{pow_below, shr-shr, shr_le, le_or_l, le_or_r}
-use Rattle.std.proofs.lemmas.Nat.Bits.{bit_at-zero, bit_at-lt, shr_and_one, bit_at_above, bit_at_and, bit_at_not, bit_at_or, bit_at_set_same, bit_at_set_other, bit_at_clear_same, bit_at_clear_other, bit_at-trailing_zeros}
-use Rattle.std.specs.Prelude.{bit_and, bit_or, not, ◌≢◌, Option, IfSome, IfNone}
+use Rattle.std.proofs.lemmas.Nat.{pow_below, shr-shr, le_or_l, le_or_r}
+use Rattle.std.proofs.lemmas.Nat.Bits.{bit_at-lt, shr_and_one, bit_at_above, bit_at_and, bit_at_not, bit_at_or, bit_at_set_same, bit_at_set_other, bit_at_clear_same, bit_at_clear_other, bit_at-trailing_zeros}
+use Rattle.std.specs.Prelude.{bit_and, bit_or, not, ◌≢◌, Option, Some, None, IfSome, IfNone}
 use Rattle.std.specs.Int.{bit_at, bit_not, trailing_zeros}
 use Rattle.ultra_units.specs.Set.{IsBitOf, has_bit, has_unit, HasNoneWithin, HasNoneFrom, IsFirstFrom, HasNoBitFrom, IsFirstBit}
 
@@ -14,20 +14,28 @@ use Rattle.ultra_units.specs.Set.{IsBitOf, has_bit, has_unit, HasNoneWithin, Has
 shifted : (n from i : ℕ) → bit_at (n / 2 ^ from) i ≡ bit_at n (from + i)
 shifted n from i = ap (λ x. x % 2) (shr-shr n from i)
 
-module _ (word from : ℕ) (fits : word < 2 ^ 64) where
-  pub no_bit : word / 2 ^ from ≡ 0 → HasNoBitFrom word from
-  no_bit none i after within = let there = shifted word from (i - from) in grind (arith, bit_at-zero)
+module _ (word : ℕ) (fits : word < 2 ^ 64) where
+  below_64 : (i : ℕ) → bit_at word i ≡ 1 → i < 64
+  below_64 i here = elim (cases_lt i 64) [ inl below ↦ below | inr past ↦ absurd (let none = bit_at_above word 64 i fits past in omega arith) ]
 
-  pub first_of_bits : 0 < word / 2 ^ from → IsFirstBit word from (from + trailing_zeros w64 (word / 2 ^ from))
+  pub first_of_bits : 0 < word → IsFirstBit word 0 (trailing_zeros w64 word)
   first_of_bits some =
-      let t : ℕ = trailing_zeros w64 (word / 2 ^ from) in
-      let lowest = bit_at-trailing_zeros w64 (word / 2 ^ from) some (omega (arith, shr_le word from)) in
-      let here : bit_at word (from + t) ≡ 1 = sym (shifted word from t) ∙ lowest.1 in
+      let lowest = bit_at-trailing_zeros w64 word some fits in
+      record { after = omega arith; within = below_64 _ lowest.1; set = lowest.1; between = λ i _ before. lowest.2 i before }
+
+  -- the same of the bits from `from` on
+  pub none_from : (from : ℕ) (o : Option ℕ) → IfNone o (HasNoBitFrom (word / 2 ^ from) 0) → IfNone o (HasNoBitFrom word from)
+  none_from from None none = λ i after within. (let there = shifted word from (i - from) in grind arith)
+  none_from from (Some bit) none = none
+
+  pub first_from : (from distance : ℕ) → IsFirstBit (word / 2 ^ from) 0 distance → IsFirstBit word from (from + distance)
+  first_from from distance first =
+      let here : bit_at word (from + distance) ≡ 1 = sym (shifted word from distance) ∙ first.set in
       record {
         after = omega arith;
-        within = elim (cases_lt (from + t) 64) [ inl below ↦ below | inr past ↦ absurd (let none = bit_at_above word 64 (from + t) fits past in omega arith) ];
+        within = below_64 _ here;
         set = here;
-        between = λ i after before. let there = shifted word from (i - from) in let low = lowest.2 (i - from) (omega arith) in grind arith;
+        between = λ i after before. let there = shifted word from (i - from) in let low = first.between (i - from) (omega arith) (omega arith) in grind arith;
       }
 
 -- ---- one unit
@@ -106,12 +114,12 @@ module _ (words : List ℕ) (from w b : ℕ) (place : from ≡ w * 64 + b) where
   pub none_in_word : HasNoBitFrom (get_or words w 0) b → HasNoneWithin words from ((w + 1) * 64)
   none_in_word zeros k after before = clear_bits words w b 64 (omega arith) zeros k (omega arith) (omega arith)
 
-  pub first_in_word : (distance : ℕ) → w < 5 → IsFirstBit (get_or words w 0) b (b + distance) → IsFirstFrom words from (from + distance)
-  first_in_word distance small first = let there = at_bit words w (b + distance) first.within in record {
-    after = omega arith;
+  pub first_in_word : (bit k : ℕ) → k ≡ w * 64 + bit → w < 5 → IsFirstBit (get_or words w 0) b bit → IsFirstFrom words from k
+  first_in_word bit k is small first = let there = at_bit words w bit first.within in record {
+    after = omega (arith, first.after);
     within = omega (arith, first.within);
     there = grind arith;
-    between = λ k after before. clear_bits words w b (b + distance) (omega (arith, first.within)) first.between k (omega arith) (omega arith);
+    between = λ j after before. clear_bits words w b bit (omega (arith, first.within)) first.between j (omega arith) (omega arith);
   }
 
 -- ---- units one after another

@@ -1,5 +1,5 @@
 -- which unit of a machine of d stages has a number
-use Rattle.std.specs.Prelude.{◌≡◌, ℕ, ◌+◌, ◌-◌, ◌/◌, ◌%◌, ◌^◌, ◌<◌, ◌≤◌, true, false, nat_lt}
+use Rattle.std.specs.Prelude.{◌≡◌, ℕ, ◌+◌, ◌-◌, ◌/◌, ◌%◌, ◌^◌, ◌<◌, ◌≤◌, true, false, nat_lt, Option, Some, None}
 use Rattle.ultra_units.specs.Numbers.{switch_count, switch_number, module_number, element_number, unit_count}
 use Rattle.ultra_units.specs.declared.unit.Unit.{Unit}
 use Rattle.ultra_units.specs.declared.unit.Unit.TheVariants.{Switch, Module, Element, Nothing}
@@ -19,6 +19,19 @@ unit_of d n = elim (nat_lt n (switch_count d)) [
     | false ↦ elim (nat_lt n (unit_count d)) [ true ↦ Element (n - switch_count d - 2 ^ d) | false ↦ Nothing ]
   ]
 ]
+
+-- the number of a module among modules, and of a processing element among those, if the unit is one
+abbrev pub module_in : Unit → Option ℕ
+module_in (Switch s k) = None
+module_in (Module m) = Some m
+module_in (Element p) = None
+module_in Nothing = None
+
+abbrev pub element_in : Unit → Option ℕ
+element_in (Switch s k) = None
+element_in (Module m) = None
+element_in (Element p) = Some p
+element_in Nothing = None
 
 -- number n is that of switch k of stage s
 pub record IsSwitch (d n s k : ℕ) : Type 0 where
@@ -55,9 +68,8 @@ of_unit d switch bank element x n = elim (unit_of d n) [
   | Nothing ↦ x
 ]
 
--- where the numbers of each kind begin: those of modules, of processing elements, and those that no
--- unit has
-pub record IsNumbering (d first_module first_element count : ℕ) : Type 0 where
+-- where the numbers of modules and of processing elements begin, and how many there are of each
+pub record IsNumbering (d first_module first_element size : ℕ) : Type 0 where
   pub modules : first_module ≡ switch_count d
   pub elements : first_element ≡ switch_count d + 2 ^ d
-  pub units : count ≡ unit_count d
+  pub count : size ≡ 2 ^ d

@@ -6,28 +6,28 @@ ghost use Rattle.ultra_units.specs.Inlets.{taken_by_turns};
 ghost use Rattle.ultra_units.specs.Links.{put_on};
 ghost use Rattle.ultra_units.specs.Marks.{ports_in_turn, on_both, without_both};
 
-use crate::entries::no_entries;
+use crate::entries::no_items;
 use crate::unit_set::UnitSet;
 use std::alloc::{AllocError, Global};
-use ultra_switch::Ports;
+use ultra_switch::{Ports, Slot};
 
 /// Links by their numbers, each with the message on it, and the units to which messages lead.
 #[derive(Drop)]
 pub struct Links<M> {
     /// By the link's number, what is on it.
-    pub table: Vec<Option<M>>,
+    pub table: Vec<Slot<M>>,
     /// At least the units to which a message leads.
     pub targets: UnitSet,
 }
 
-impl<M: Drop> Links<M> {
+impl<M: Copy + Default> Links<M> {
     /// Links with nothing on them. An error says that memory was refused.
     pub fn empty(alloc: Global, count: usize) -> Result<Links<M>, AllocError>
         ensures table { IfOk result (λ l. l.table.items ≡ replicate count None) }
         ensures targets { IfOk result (λ l. HasNoneFrom l.targets 0) }
     {
         Ok(Links {
-            table: no_entries(alloc, count)?,
+            table: no_items(alloc, count)?,
             targets: UnitSet::empty(),
         })
     }
@@ -45,7 +45,7 @@ pub fn ports_in_turn(links: Ports<usize>, zero_first: bool) -> (usize, usize)
     }
 }
 
-impl<M: Copy> Links<M> {
+impl<M: Copy + Default> Links<M> {
     /// Puts a message, if there is one, on a link, which leads to the unit `target`.
     #[inline(always)]
     pub fn put(&mut self, link: usize, target: usize, message: Option<M>)
@@ -56,10 +56,10 @@ impl<M: Copy> Links<M> {
         ensures kept { (k : ℕ) → has_unit self.old.targets k ≡ true → has_unit self.new.targets k ≡ true }
         ensures others { (k : ℕ) → k ≢ target → has_unit self.new.targets k ≡ has_unit self.old.targets k }
     {
-        if message.is_none() {
+        let Some(message) = message else {
             return;
-        }
-        self.table[link] = message;
+        };
+        self.table[link].fill(message);
         self.targets.insert(target);
     }
 
@@ -71,9 +71,7 @@ impl<M: Copy> Links<M> {
         ensures table { self.new.table.items ≡ slice_set self.old.table.items link None }
         ensures targets { self.new.targets ≡ self.old.targets }
     {
-        let message = self.table[link];
-        self.table[link] = None;
-        message
+        self.table[link].take()
     }
 
     /// Takes what is on the links that lead to a unit.

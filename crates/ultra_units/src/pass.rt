@@ -45,9 +45,9 @@ fn visit_some<T, V: Visit<T>>(visit: &V, target: &mut T)
     requires { (k : ℕ) → k < 320 → V.can_visit visit.now k target.old }
     ensures { target.new ≡ after_units (V.visited visit.now) 320 target.old }
 {
-    let mut from = 0;
-    while let Some(unit) = visit.units(target).next(from) {
+    let mut next = visit.units(target).next(0);
+    while let Some(unit) = next {
         visit.visit(target, unit);
-        from = unit + 1;
+        next = visit.units(target).next_after(unit);
     }
 }

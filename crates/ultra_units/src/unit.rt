@@ -1,8 +1,8 @@
 //! Which unit has a number.
 
-ghost use Rattle.std.specs.Prelude.{◌≡◌, ℕ, ◌<◌, nat_lt};
+ghost use Rattle.std.specs.Prelude.{◌≡◌, ℕ, ◌+◌, ◌-◌, ◌<◌, ◌≤◌, ◌^◌, nat_lt, IfNone, IfSome};
 ghost use Rattle.ultra_units.specs.Numbers.{switch_count as count_of_switches};
-ghost use Rattle.ultra_units.specs.Units.{IsSwitch, IsUnit, unit_of};
+ghost use Rattle.ultra_units.specs.Units.{IsElement, IsModule, IsSwitch, IsUnit, element_in, module_in, unit_of};
 
 use crate::numbers::switch_count;
 use std::marker::Model;
@@ -29,8 +29,8 @@ pub(crate) struct Numbering {
     modules: usize,
     /// The number of the first processing element.
     elements: usize,
-    /// How many units there are.
-    units: usize,
+    /// How many modules there are, and how many processing elements.
+    size: usize,
 }
 
 impl Model for Numbering {
@@ -41,7 +41,7 @@ impl Model for Numbering {
 
     ghost view = { λ n. n.net };
 
-    ghost invariant = { λ n. IsNumbering n.net n.modules n.elements n.units };
+    ghost invariant = { λ n. IsNumbering n.net n.modules n.elements n.size };
 }
 
 impl Numbering {
@@ -55,7 +55,7 @@ impl Numbering {
             net,
             modules,
             elements: modules + size,
-            units: modules + 2 * size,
+            size,
         }
     }
 
@@ -84,14 +84,52 @@ impl Numbering {
         let _size = self.net.size();
         if number < self.modules {
             let (stage, index) = place_of(self.net, number);
-            Unit::Switch { stage, index }
-        } else if number < self.elements {
-            Unit::Module((number - self.modules) as u32)
-        } else if number < self.units {
-            Unit::Element((number - self.elements) as u32)
-        } else {
-            Unit::Nothing
+            return Unit::Switch { stage, index };
         }
+        if number < self.elements {
+            return Unit::Module((number - self.modules) as u32);
+        }
+        match self.element(number) {
+            Some(pe) => Unit::Element(pe),
+            None => Unit::Nothing,
+        }
+    }
+
+    /// The module with this number, by its number among modules, or `None` where another unit or none has it.
+    #[inline(always)]
+    pub(crate) fn module(&self, number: usize) -> Option<u32>
+        ensures value { result ≡ module_in (unit_of self.now number) }
+        ensures is { IfSome result (IsModule self.now number) }
+    {
+        let (_size, _count) = (self.net.size(), switch_count(self.net));
+        place_from(number, self.modules, self.size)
+    }
+
+    /// The processing element with this number, by its number among those, or `None` where another unit or none has it.
+    #[inline(always)]
+    pub(crate) fn element(&self, number: usize) -> Option<u32>
+        ensures value { result ≡ element_in (unit_of self.now number) }
+        ensures is { IfSome result (IsElement self.now number) }
+    {
+        let (_size, _count) = (self.net.size(), switch_count(self.net));
+        place_from(number, self.elements, self.size)
+    }
+}
+
+/// The place of a number among the `size` numbers from `first` on, or `None` where it isn't one of those.
+#[inline(always)]
+fn place_from(number: usize, first: usize, size: usize) -> Option<u32>
+    requires small { first < 2 ^ 32 }
+    requires few { size < 2 ^ 32 }
+    ensures some { IfSome result (λ place. (place < size) × (number ≡ first + place)) }
+    ensures none { IfNone result ((first ≤ number) → first + size ≤ number) }
+{
+    // below `first` it wraps to a great number
+    let place = number.wrapping_sub(first);
+    if place < size {
+        Some(place as u32)
+    } else {
+        None
     }
 }
 

@@ -173,13 +173,25 @@ impl UnitSet {
         ensures some { IfSome result (λ k. IsFirstFrom self.now from k) }
         ensures none { IfNone result (HasNoneFrom self.now from) }
     {
-        let words = &self.words;
-        if UNITS <= from {
-            return None;
+        if from == 0 {
+            return self.next_of_words(0);
         }
-        let word = from / 64;
-        match first_bit(words[word], from % 64) {
-            Some(distance) => Some(from + distance),
+        if UNITS < from {
+            return self.next_of_words(WORDS);
+        }
+        self.next_after(from - 1)
+    }
+
+    /// The first unit of the set behind the unit of this number.
+    #[inline(always)]
+    pub fn next_after(&self, number: usize) -> Option<usize>
+        requires { number < 320 }
+        ensures some { IfSome result (λ k. IsFirstFrom self.now (number + 1) k) }
+        ensures none { IfNone result (HasNoneFrom self.now (number + 1)) }
+    {
+        let word = number / 64;
+        match first_bit_behind(self.words[word], number % 64) {
+            Some(distance) => Some(number + 1 + distance),
             None if word == 0 && self.is_in_first_word() => None,
             None => self.next_of_words(word + 1),
         }
@@ -202,7 +214,7 @@ impl UnitSet {
         ensures none { IfNone result (HasNoneFrom self.now (first * 64)) }
     {
         for word in first..WORDS {
-            if let Some(distance) = first_bit(self.words[word], 0) {
+            if let Some(distance) = first_bit(self.words[word]) {
                 return Some(word * 64 + distance);
             }
         }
@@ -218,16 +230,24 @@ fn bits_without(word: u64, other: u64) -> u64
     word & !other
 }
 
-/// How far from `from` the first bit of the word is that is set, of those from there on.
+/// The first bit of the word that is set.
 #[inline(always)]
-fn first_bit(word: u64, from: usize) -> Option<usize>
-    requires { from < 64 }
-    ensures some { IfSome result (λ distance. IsFirstBit word from (from + distance)) }
-    ensures none { IfNone result (HasNoBitFrom word from) }
+fn first_bit(word: u64) -> Option<usize>
+    ensures some { IfSome result (IsFirstBit word 0) }
+    ensures none { IfNone result (HasNoBitFrom word 0) }
 {
-    let rest = word >> from;
-    if rest == 0 {
+    if word == 0 {
         return None;
     }
-    Some(rest.trailing_zeros() as usize)
+    Some(word.trailing_zeros() as usize)
+}
+
+/// How far behind the one after `bit` the first bit of the word is that is set, of those behind `bit`.
+#[inline(always)]
+fn first_bit_behind(word: u64, bit: usize) -> Option<usize>
+    requires { bit < 64 }
+    ensures some { IfSome result (λ distance. IsFirstBit word (bit + 1) (bit + 1 + distance)) }
+    ensures none { IfNone result (HasNoBitFrom word (bit + 1)) }
+{
+    first_bit(word >> bit >> 1)
 }

@@ -2,7 +2,7 @@ use Rattle.std.proofs.Common.{◌∙◌, arith}
 use Rattle.ultra_section.specs.declared.half.Half.TheVariants.{Execute}
 use Rattle.ultra_cut.specs.Halves.{AllCanMake}
 use Rattle.ultra_cut.proofs.OwnProgram.{all_by_own}
-use Rattle.ultra_block.proofs.Turn.{can_execute, can_serve, can_take_replies, can_take_requests, next_machine, next_whole, sent_cut, sent_on_cut, sent_on_single, sent_single}
+use Rattle.ultra_cut.proofs.Whole.{can_execute, can_serve, can_take_replies, can_take_requests, next_machine, next_whole, sent_cut, sent_on_cut, sent_on_single, sent_single}
 use Rattle.ultra_block.proofs.cycle.make_cycle_of_several.Goals as goal
 
 pub exchange_replies-requires-clause-cut : goal.exchange_replies-requires-clause-cut
@@ -29,14 +29,8 @@ make-requires-5 c = search (arith, can_take_requests)
 pub make-requires-6 : goal.make-requires-6
 make-requires-6 c = (c.requires.whole.0, search (arith, can_execute) fits 4000)
 
-pub returns-clause-whole : goal.returns-clause-whole
-returns-clause-whole c = λ program whole.
+pub returns : goal.returns
+returns c = λ program whole.
     let can : AllCanMake program Execute c.make-5.new.blocks = search (arith, can_execute) fits 4000 in
     let executed = c.make-6.ensures ∙ all_by_own program Execute c.note_rooms-rooms-2.result c.make-5.new.blocks can in
-    search (arith, next_whole) fits 4000
-
-pub returns-clause-state : goal.returns-clause-state
-returns-clause-state c = λ program whole.
-    let can : AllCanMake program Execute c.make-5.new.blocks = search (arith, can_execute) fits 4000 in
-    let executed = c.make-6.ensures ∙ all_by_own program Execute c.note_rooms-rooms-2.result c.make-5.new.blocks can in
-    search (arith, next_machine) fits 4000
+    (search (arith, next_whole) fits 4000, search (arith, next_machine) fits 4000)

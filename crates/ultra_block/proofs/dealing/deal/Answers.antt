@@ -1,30 +1,29 @@
-use Rattle.std.proofs.Common.{ap, ◌∙◌, sym}
-use Rattle.ultra_units.specs.Numbers.{unit_count}
-use Rattle.std.proofs.Common.{◌≡◌, ◌<◌, ℕ, arith, subst, length, drop}
-use Rattle.std.specs.Prelude.{All}
-use Rattle.std.proofs.lemmas.List.{get_or_default, length-replicate, take_at}
-use Rattle.ultra_block.specs.Dealt.{AreCarried, IsLastNamed}
-use Rattle.ultra_block.proofs.Parted.{is_dealt, first_block}
+use Rattle.std.proofs.Common.{◌≡◌, ◌<◌, length, refl, arith}
+use Rattle.std.proofs.lemmas.List.{get_or_default, length-replicate, length-set}
+use Rattle.ultra_cut.specs.Cut.{block_at, home}
+use Rattle.ultra_block.proofs.Carried.{none_carried, unit_carried}
+use Rattle.ultra_block.proofs.Parted.{is_dealt}
 use Rattle.ultra_block.proofs.dealing.deal.Goals as goal
+
+pub loop-unit-init : goal.loop-unit-init
+loop-unit-init c =
+    record {
+      carried = none_carried c.args.block.now.stages c.args.partition.now c.args.block.now c.count_blocks.result _ _ c.in_ok-blocks.blocks.items refl c.count_blocks.ensures.last.0 c.in_ok-blocks.ensures (grind (arith, get_or_default)) (grind arith);
+      count = refl;
+    }
+
+pub loop-unit-preserved : goal.loop-unit-preserved
+loop-unit-preserved c =
+    let b = c.args.block.now in
+    let bs = c.loop-unit.blocks.items in
+    let h = home c.args.partition.now c.loop-unit.unit in
+    let within : h < length bs = grind (arith, length-replicate, length-set) in
+    let carried = unit_carried b.stages c.args.partition.now b c.loop-unit.unit c.loop-unit.block bs within c.loop-unit.invariant.carried in
+    let item : c.index_mut-in-loop-unit.result.now ≡ block_at bs h = grind (arith, get_or_default) in
+    rw (c.move_unit.ensures.left, c.move_unit.ensures.there, item) record { carried = carried; count = grind (arith, length-set) }
 
 pub returns-clause-dealt : goal.returns-clause-dealt
 returns-clause-dealt c =
-    let d = c.args.net in
-    let partition = c.args.partition.now in
-    let b = c.args.block.now in
-    let bs = c.carry.new.blocks in
-    let count : length bs ≡ c.count_blocks-count.result = grind (arith, length-replicate) in
-    let named : All (λ (k : ℕ). k < length bs) partition = rw count c.count_blocks-count.ensures.named in
-    let last : IsLastNamed partition (length bs) = rw count c.count_blocks-count.ensures.last in
-    let most = c.count_blocks-count.ensures.few c.requires.named in
-    let some = c.count_blocks-count.ensures.some in
-    let carried = subst (λ e. AreCarried e partition b bs) (c.requires.blocks.cut.stages 0 (omega arith)) c.carry.ensures.carried in
-    let first : c.take_story.new.self ≡ first_block b bs = grind (arith, get_or_default, take_at) in
-    rw (take_at bs (drop (length bs) c.in_ok-blocks.blocks.items) c.in_ok-blocks.blocks.len (omega arith), first)
-    (is_dealt d partition b bs c.requires.blocks c.requires.clear c.requires.partition named (omega (arith, count, some)) carried (omega (arith, count, most)) last)
-
-pub carry-requires-clause-count : goal.carry-requires-clause-count
-carry-requires-clause-count c = c.requires.partition ∙ ap unit_count (sym (c.requires.blocks.cut.stages 0 (omega arith)))
-
-pub carry-requires-clause-named : goal.carry-requires-clause-named
-carry-requires-clause-named c = grind (arith, length-replicate)
+    let bs = c.loop-unit.blocks.items in
+    let count : length bs ≡ c.count_blocks.result = grind (arith, length-replicate, length-set) in
+    is_dealt c.args.partition.now c.args.block.now c.loop-unit.block bs c.loop-unit.unit (omega arith) c.loop-unit.invariant.carried (grind arith) (rw count c.count_blocks.ensures.last) (rw count c.count_blocks.ensures.named)

@@ -1,10 +1,11 @@
 use Rattle.std.proofs.Common.{rules, sym, subst}
-use Rattle.ultra_cut.specs.Exchange.{AreRequestsThere}
+use Rattle.ultra_cut.specs.declared.kind.Kind.TheVariants.{Requests}
+use Rattle.ultra_cut.specs.Exchange.{AreThere}
 use Rattle.ultra_crew.proofs.Held.{held}
 use Rattle.ultra_crew.proofs.moves.with_requests_exchanged.Goals as goal
 
 pub returns-clause-there : goal.returns-clause-there
 returns-clause-there c =
-    subst (λ xs. AreRequestsThere c.args.net c.args.partition.now xs)
+    subst (λ xs. AreThere Requests c.args.net c.args.partition.now xs)
     (sym (held c.args.blocks c.as_mut_slice.result.now c.exchange_requests.new.blocks c.exchange_requests.ensures.only.count (search rules)))
     c.exchange_requests.ensures.there

@@ -33,7 +33,7 @@ loop-unit-preserved c =
       only = both_moved c.args.kind c.args.blocks.now bs now known.only c.move_home.ensures.only;
       gone = below_more _ _ (λ n before small. c.move_home.ensures.kept c.args.from n (elim (cases_lt n c.loop-unit.next) [
         | inl early ↦ known.gone n early small
-        | inr late ↦ none_leaves c.args.kind net (omega arith) (omega arith) partition bs c.args.from c.loop-unit.next unit cut there (subst (λ b. NoneLeavesWithin c.args.kind b c.loop-unit.next unit) same next.between) n late before small
+        | inr late ↦ none_leaves c.args.kind net partition bs c.args.from c.loop-unit.next unit cut there (subst (λ b. NoneLeavesWithin c.args.kind b c.loop-unit.next unit) same next.between) n late before small
       ])) c.move_home.ensures.gone;
       kept = λ k n was. c.move_home.ensures.kept k n (known.kept k n was);
     }

@@ -1,23 +1,22 @@
-use Rattle.std.proofs.Common.{arith}
-use Rattle.ultra_units.proofs.Visits.{skipped, visited_next, none_visited}
+use Rattle.std.proofs.Common.{◌+◌, arith}
+use Rattle.ultra_units.proofs.Visits.{none_visited, reached, visited_next}
 use Rattle.ultra_units.proofs.pass.visit_some.Goals as goal
 
-pub loop-unit-init : goal.loop-unit-init
-loop-unit-init g c = grind (arith, none_visited)
-
-pub loop-unit-preserved : goal.loop-unit-preserved
-loop-unit-preserved g c =
+pub loop-next-init : goal.loop-next-init
+loop-next-init g c =
     let f = g.V.Visit.visited c.args.visit.now in
-    let first = c.in-Some.ensures.some in
+    let t = c.args.target.now in
+    let there = reached f t t _ c.units.ensures 0 (omega arith) (none_visited f t) c.next-next.result c.next-next.ensures.some c.next-next.ensures.none in
+    (there.within, there.visited, λ k _ within. c.requires k within)
+
+pub loop-next-preserved : goal.loop-next-preserved
+loop-next-preserved g c =
+    let f = g.V.Visit.visited c.args.visit.now in
     let unit = c.in-Some.unit in
-    let here = skipped f c.args.target.now c.loop-unit.target c.loop-unit.from unit first.after c.loop-unit.invariant.1 (λ k after before. c.units.ensures k (first.between k after before)) in (
-      omega (arith, first.within),
-      visited_next f c.args.target.now c.loop-unit.target c.visit.new.target unit here c.visit.ensures.visited,
-      λ k after within. c.visit.ensures.later k (omega arith) (c.loop-unit.invariant.2 k (omega (arith, first.after)) within),
+    let within = c.loop-next.invariant.0 unit c.in-Some.is in
+    let visited = visited_next f c.args.target.now c.loop-next.target c.visit.new.target unit (rw (c.in-Some.is) at c.loop-next.invariant.1) c.visit.ensures.visited in
+    let there = reached f c.args.target.now c.visit.new.target _ c.units-in-Some.ensures (unit + 1) (omega arith) visited c.next_after-next.result c.next_after-next.ensures.some c.next_after-next.ensures.none in (
+      there.within,
+      there.visited,
+      λ k after small. c.visit.ensures.later k (omega (arith, there.after)) (c.loop-next.invariant.2 k (rw (c.in-Some.is) (omega (arith, there.after))) small),
     )
-
-pub returns : goal.returns
-returns g c =
-    let f = g.V.Visit.visited c.args.visit.now in
-    skipped f c.args.target.now c.loop-unit.target c.loop-unit.from 320 c.loop-unit.invariant.0 c.loop-unit.invariant.1
-    (λ k after _. c.units.ensures k (c.in_default.ensures.none k after))

@@ -13,6 +13,6 @@ pub invariant_of-self : goal.invariant_of-self
 invariant_of-self c =
     let b = c.self.inside.parts in
     let bs = c.make_cycle.new.blocks in
-    let now = c.make_cycle.ensures.whole b.program (rw (c.as_mut_slice.ensures.value, c.as_slice.ensures.value) c.self.invariant.whole) in
+    let now = c.make_cycle.ensures b.program (rw (c.as_mut_slice.ensures.value, c.as_slice.ensures.value) c.self.invariant.whole) in
     let held : take b.blocks.len (bs ++ drop (length bs) b.blocks.items) ≡ bs = take_at bs (drop (length bs) b.blocks.items) b.blocks.len (grind arith) in
-    record { whole = rw held (rw c.as_slice.ensures.value at now); few = grind arith }
+    record { whole = rw held (rw c.as_slice.ensures.value at now.0); few = grind arith }

@@ -1,18 +1,9 @@
-use Rattle.std.proofs.Common.{◌≡◌, ◌∙◌, List, ap, length, refl}
-use Rattle.std.specs.Prelude.{map}
-use Rattle.std.proofs.lemmas.List.{length-map}
+use Rattle.std.proofs.Common.{◌∙◌, refl}
 use Rattle.ultra_section.specs.declared.half.Half.TheVariants.{SendReplies, TakeReplies, Serve, SendRequests, TakeRequests, Execute}
 use Rattle.ultra_cut.specs.Halves.{all_made}
-use Rattle.ultra_block.proofs.Turn.{can_execute, can_serve, can_take_replies, can_take_requests, next_machine, next_whole, sent_cut, sent_on_cut, sent_on_single, sent_single}
+use Rattle.ultra_cut.proofs.Whole.{can_execute, can_serve, can_take_replies, can_take_requests, next_machine, next_whole, sent_cut, sent_on_cut, sent_on_single, sent_single}
 use Rattle.ultra_crew.proofs.Chain.{memory_served_so, noted_in, replies_sent_so, replies_taken_so, requests_sent_so, requests_taken_so, settled_by, steps_made_so}
 use Rattle.ultra_crew.proofs.shift.Shift.make_cycle.Goals as goal
-
--- blocks that all make a half, or two, are as many as before
-same_count : {X : Type 0} (f : X → X) (xs ys : List X) → ys ≡ map f xs → length ys ≡ length xs
-same_count f xs ys e = ap length e ∙ length-map xs f
-
-same_count_twice : {X : Type 0} (f h : X → X) (xs ys : List X) → ys ≡ map h (map f xs) → length ys ≡ length xs
-same_count_twice f h xs ys e = ap length e ∙ length-map (map f xs) h ∙ length-map xs f
 
 pub make-requires-clause-settled : goal.make-requires-clause-settled
 make-requires-clause-settled g c w =

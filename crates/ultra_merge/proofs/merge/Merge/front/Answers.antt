@@ -1,11 +1,9 @@
+use Rattle.std.proofs.Common.{arith}
 use Rattle.ultra_merge.proofs.Front.{past_empty, entry_within, sooner_is_front}
 use Rattle.ultra_merge.proofs.merge.Merge.front.Goals as goal
 
 pub loop-place-preserved-in_default : goal.loop-place-preserved-in_default
-loop-place-preserved-in_default g c =
-    past_empty (g.R.Ranking.rank_of c.self.inside.ranking) (g.R.Ranking.rank_count c.self.inside.ranking)
-    c.deref-list-items.result.now c.loop-place.place c.list-item.result c.loop-place-test.true c.list-item.is
-    c.loop-place.front c.loop-place.invariant c.in_default.ensures.value
+loop-place-preserved-in_default g c = grind (arith, past_empty)
 
 pub rank-rank-requires : goal.rank-rank-requires
 rank-rank-requires g c =

@@ -1,8 +1,7 @@
-use Rattle.std.specs.Prelude.{map, MatchOption}
-use Rattle.ultra_merge.specs.Merging.{IsNextPlace, AreEmpty}
+use Rattle.std.specs.Prelude.{map}
+use Rattle.ultra_merge.proofs.Front.{IsFront}
 use Rattle.ultra_merge.proofs.merge.Merge.front.Given as goal
 
 abbrev pub invariant-loop-place : goal.invariant-loop-place
 invariant-loop-place g l =
-    let lists = map (λ list. list.now) l.list-items in
-    MatchOption l.front (AreEmpty lists l.place) (λ f. IsNextPlace (g.R.Ranking.rank_of l.self-inside.ranking) lists l.place f.place f.rank)
+    IsFront (g.R.Ranking.rank_of l.self-inside.ranking) (map (λ list. list.now) l.list-items) l.front l.place

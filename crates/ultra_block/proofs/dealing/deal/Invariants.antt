@@ -1,0 +1,9 @@
+use Rattle.std.proofs.Common.{◌≡◌, length}
+use Rattle.ultra_block.proofs.Carried.{AreCarried}
+use Rattle.ultra_block.proofs.dealing.deal.Given as goal
+
+abbrev pub invariant-loop-unit : goal.invariant-loop-unit
+invariant-loop-unit l = record {
+  carried : AreCarried l.fn.block.stages l.partition l.fn.block l.unit l.block l.blocks.items;
+  count : length l.blocks.items ≡ length l.initial.blocks.items;
+}
