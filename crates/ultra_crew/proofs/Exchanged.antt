@@ -15,19 +15,19 @@ use Rattle.ultra_cut.specs.Halves.{AreBlocks}
 use Rattle.ultra_cut.proofs.Inlets.{links_of, nothing_away, reader}
 use Rattle.ultra_cut.proofs.Numbers.{differs}
 use Rattle.ultra_cut.proofs.Columns.{column_first}
-use Rattle.ultra_crew.specs.Exchanged.{at_home, exchanged, unit_of}
+use Rattle.ultra_crew.specs.Exchanged.{at_home, exchanged, unit_behind}
 
 -- a list that is known place by place
 pub all_places : {X : Type 0} (d : X) (xs : List X) (m : ℕ) (f : ℕ → X) → length xs ≡ m → ((k : ℕ) → k < m → get_or xs k d ≡ f k) → xs ≡ places m f
 all_places d xs m f count each = ext_get_or d xs (places m f) (count ∙ sym (length-places m f)) (λ k inside. grind (arith, places_at))
 
-unit_is : (kind : Kind) (d l : ℕ) → reader kind d l ≡ unit_of kind d l
+unit_is : (kind : Kind) (d l : ℕ) → reader kind d l ≡ unit_behind kind d l
 unit_is Replies d l = refl
 unit_is Requests d l = refl
 
 module _ (kind : Kind) (d : ℕ) (low : 1 ≤ d) (high : d ≤ 6) (partition : List ℕ) (old now : List BlockState)
     (moved : OnlyMove kind old now) (there : AreThere kind d partition now) (blocks : AreBlocks d partition now) where
-  on_one : (k l : ℕ) → k < length now → l < (d + 1) * 2 ^ d → (own : Bool) → (home partition (unit_of kind d l) == k) ≡ own
+  on_one : (k l : ℕ) → k < length now → l < (d + 1) * 2 ^ d → (own : Bool) → (home partition (unit_behind kind d l) == k) ≡ own
       → on_link (table kind (block_at now k)) l ≡ elim own [ true ↦ first (on_each kind old l) | false ↦ None ]
   on_one k l within small own is =
       let away = λ (j : ℕ) (h : j < length now). nothing_away kind d partition now blocks.cut there low high j l h small in
@@ -36,7 +36,7 @@ module _ (kind : Kind) (d : ℕ) (low : 1 ≤ d) (high : d ≤ 6) (partition : L
       let unit = unit_is kind d l in
       grind (arith, eqb-true, differs)
 
-  all_at_home : (k : ℕ) → k < length now → table kind (block_at now k) ≡ at_home d partition (unit_of kind d) (on_each kind old) k
+  all_at_home : (k : ℕ) → k < length now → table kind (block_at now k) ≡ at_home d partition (unit_behind kind d) (on_each kind old) k
   all_at_home k within = all_places None _ ((d + 1) * 2 ^ d) _ (links_of kind d (block_at now k) (blocks.shaped k within)) (λ l small. on_one k l within small _ refl)
 
   pub are_exchanged : now ≡ exchanged kind d partition old

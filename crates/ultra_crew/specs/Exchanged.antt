@@ -10,12 +10,12 @@ use Rattle.ultra_cut.specs.Cut.{block_at, home, first}
 use Rattle.ultra_cut.specs.Exchange.{on_each, with_table}
 
 -- the unit of a machine of d stages to which a link leads
-abbrev pub unit_of : Kind → ℕ → ℕ → ℕ
-unit_of Replies d l = elim (nat_lt l (d * 2 ^ d)) [
+abbrev pub unit_behind : Kind → ℕ → ℕ → ℕ
+unit_behind Replies d l = elim (nat_lt l (d * 2 ^ d)) [
   | true ↦ reply_target d (l / 2 ^ d) (l % 2 ^ d)
   | false ↦ switch_number d (d - 1) ((l - d * 2 ^ d) / 2)
 ]
-unit_of Requests d l = elim (nat_lt l (d * 2 ^ d)) [
+unit_behind Requests d l = elim (nat_lt l (d * 2 ^ d)) [
   | true ↦ request_target d (l / 2 ^ d) (l % 2 ^ d)
   | false ↦ switch_number d 0 (shuffled d (l - d * 2 ^ d) / 2)
 ]
@@ -32,4 +32,4 @@ at_home d partition unit on k = places ((d + 1) * 2 ^ d) (λ l. elim (home parti
 -- messages of a kind have been exchanged
 unfoldable pub exchanged : Kind → ℕ → List ℕ → List BlockState → List BlockState
 exchanged kind d partition bs = places (length bs) (λ k.
-    with_table kind (at_home d partition (unit_of kind d) (on_each kind bs) k) (block_at bs k))
+    with_table kind (at_home d partition (unit_behind kind d) (on_each kind bs) k) (block_at bs k))

@@ -21,17 +21,17 @@ unit_of d n = elim (nat_lt n (switch_count d)) [
 ]
 
 -- the number of a module among modules, and of a processing element among those, if the unit is one
-abbrev pub module_in : Unit → Option ℕ
-module_in (Switch s k) = None
-module_in (Module m) = Some m
-module_in (Element p) = None
-module_in Nothing = None
+abbrev pub module_among : Unit → Option ℕ
+module_among (Switch s k) = None
+module_among (Module m) = Some m
+module_among (Element p) = None
+module_among Nothing = None
 
-abbrev pub element_in : Unit → Option ℕ
-element_in (Switch s k) = None
-element_in (Module m) = None
-element_in (Element p) = Some p
-element_in Nothing = None
+abbrev pub element_among : Unit → Option ℕ
+element_among (Switch s k) = None
+element_among (Module m) = None
+element_among (Element p) = Some p
+element_among Nothing = None
 
 -- number n is that of switch k of stage s
 pub record IsSwitch (d n s k : ℕ) : Type 0 where

@@ -2,7 +2,7 @@
 
 ghost use Rattle.std.specs.Prelude.{◌≡◌, ℕ, ◌+◌, ◌-◌, ◌<◌, ◌≤◌, ◌^◌, nat_lt, IfNone, IfSome};
 ghost use Rattle.ultra_units.specs.Numbers.{switch_count as count_of_switches};
-ghost use Rattle.ultra_units.specs.Units.{IsElement, IsModule, IsSwitch, IsUnit, element_in, module_in, unit_of};
+ghost use Rattle.ultra_units.specs.Units.{IsElement, IsModule, IsSwitch, IsUnit, element_among, module_among, unit_of};
 
 use crate::numbers::switch_count;
 use std::marker::Model;
@@ -98,7 +98,7 @@ impl Numbering {
     /// The module with this number, by its number among modules, or `None` where another unit or none has it.
     #[inline(always)]
     pub(crate) fn module(&self, number: usize) -> Option<u32>
-        ensures value { result ≡ module_in (unit_of self.now number) }
+        ensures value { result ≡ module_among (unit_of self.now number) }
         ensures is { IfSome result (IsModule self.now number) }
     {
         let (_size, _count) = (self.net.size(), switch_count(self.net));
@@ -108,7 +108,7 @@ impl Numbering {
     /// The processing element with this number, by its number among those, or `None` where another unit or none has it.
     #[inline(always)]
     pub(crate) fn element(&self, number: usize) -> Option<u32>
-        ensures value { result ≡ element_in (unit_of self.now number) }
+        ensures value { result ≡ element_among (unit_of self.now number) }
         ensures is { IfSome result (IsElement self.now number) }
     {
         let (_size, _count) = (self.net.size(), switch_count(self.net));

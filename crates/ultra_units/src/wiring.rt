@@ -3,7 +3,7 @@
 ghost use Rattle.std.specs.Prelude.{◌≡◌, ◌-◌, ◌^◌, ◌<◌, IfOk, IfSome};
 ghost use Rattle.ultra_units.specs.Marks.{reply_links as links_of_replies, request_links as links_of_requests};
 ghost use Rattle.ultra_units.specs.Numbers.{switch_count as count_of_switches};
-ghost use Rattle.ultra_units.specs.Units.{IsElement, IsModule, IsUnit, element_in, index_of, module_in, stage_of, unit_of};
+ghost use Rattle.ultra_units.specs.Units.{IsElement, IsModule, IsUnit, element_among, index_of, module_among, stage_of, unit_of};
 ghost use Rattle.ultra_units.specs.Ways.{reply_targets as targets_of_replies, request_targets as targets_of_requests};
 ghost use Rattle.ultra_units.specs.Wiring.{neighbours};
 
@@ -149,7 +149,7 @@ impl Wiring {
     /// The module with this number, by its number among modules, or `None` where another unit or none has it.
     #[inline(always)]
     pub fn module(&self, number: usize) -> Option<u32>
-        ensures value { result ≡ module_in (unit_of self.now number) }
+        ensures value { result ≡ module_among (unit_of self.now number) }
         ensures is { IfSome result (IsModule self.now number) }
     {
         self.numbering.module(number)
@@ -158,7 +158,7 @@ impl Wiring {
     /// The processing element with this number, by its number among those, or `None` where another unit or none has it.
     #[inline(always)]
     pub fn element(&self, number: usize) -> Option<u32>
-        ensures value { result ≡ element_in (unit_of self.now number) }
+        ensures value { result ≡ element_among (unit_of self.now number) }
         ensures is { IfSome result (IsElement self.now number) }
     {
         self.numbering.element(number)
