@@ -1,9 +1,6 @@
-pub mod Homes
 pub mod Seen
 pub mod Filled
 pub mod FreshBlock
-pub mod Carried
-pub mod Listing
-pub mod Parted
+pub mod Dealt
 pub use Rattle.ultra_cut.proofs.NothingHeld
 pub mod TurnOfOne

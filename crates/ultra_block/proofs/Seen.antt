@@ -1,10 +1,42 @@
 -- A machine in blocks as contracts see it.
-use Rattle.std.proofs.Common.{◌≡◌, ℕ, List, refl}
+use Rattle.std.proofs.Common.{◌≡◌, ℕ, List, [], ◌∷◌, length, refl, arith}
+use Rattle.std.proofs.lemmas.Grind.{common_steps}
+use Rattle.std.proofs.lemmas.List.{get_or_default}
 use Rattle.ultra_model.specs.Machine.{Settings}
 use Rattle.ultra_section.specs.BlockState.{BlockState}
 use Rattle.ultra_course.specs.Whole.{whole}
+use Rattle.ultra_merge.proofs.Merged.{merged_alone}
+use Rattle.ultra_cut.specs.Cut.{block_at}
+use Rattle.ultra_cut.specs.Events.{IsInOrder, event_rank, events_of, stop_rank, stops_of}
+use Rattle.ultra_cut.specs.Halves.{OfEach}
 use Rattle.ultra_cut.specs.Moments.{machine_in}
 
-pub cycles_are : (c : Settings) (partition : List ℕ) (n : ℕ) (bs : List BlockState) → (machine_in c partition n bs).cycles ≡ n
-unfolding whole
-cycles_are c partition n bs = refl
+module _ (c : Settings) (partition : List ℕ) (n : ℕ) (bs : List BlockState) where
+  pub cycles_are : (machine_in c partition n bs).cycles ≡ n
+  unfolding whole
+  cycles_are = refl
+
+  pub events_are : (machine_in c partition n bs).events ≡ events_of c.stages bs
+  unfolding whole
+  events_are = refl
+
+  pub stops_are : (machine_in c partition n bs).stops ≡ stops_of c.stages bs
+  unfolding whole
+  stops_are = refl
+
+-- the lists of one block are those of the machine
+module _ (c : Settings) (partition : List ℕ) (n : ℕ) (bs : List BlockState) (one : length bs ≡ 1) (order : OfEach (IsInOrder c.stages) bs) where
+  only : bs ≡ block_at bs 0 ∷ []
+  only = grind (arith, common_steps)
+
+  pub one_events : (machine_in c partition n bs).events ≡ (block_at bs 0).events
+  unfolding whole events_of
+  one_events = rw only (merged_alone (event_rank c.stages) 1280 (block_at bs 0).events (order 0 (omega arith)).events)
+
+  pub one_stops : (machine_in c partition n bs).stops ≡ (block_at bs 0).stops
+  unfolding whole stops_of
+  one_stops = rw only (merged_alone stop_rank 64 (block_at bs 0).stops (order 0 (omega arith)).stops)
+
+pub ruleset list_steps = (events_are, stops_are, common_steps)
+
+pub ruleset one_steps = (one_events, one_stops, get_or_default)

@@ -13,7 +13,7 @@ use Rattle.ultra_cut.specs.declared.kind.Kind.{Kind}
 use Rattle.ultra_cut.specs.declared.kind.Kind.TheVariants.{Replies, Requests}
 use Rattle.ultra_cut.specs.Exchange.{AreThere, OnlyMove}
 use Rattle.ultra_cut.specs.Moments.{AreWhole, machine_in}
-use Rattle.ultra_cut.proofs.OneBlock.{own_are_all}
+use Rattle.ultra_cut.proofs.Questions.{own_are_all}
 use Rattle.ultra_cut.proofs.Whole as turn
 
 -- no message goes to another block

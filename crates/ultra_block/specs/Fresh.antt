@@ -1,11 +1,12 @@
 -- the units of a machine before its first cycle, all in one block
-use Rattle.std.specs.Prelude.{◌≡◌, ℕ, ◌+◌, ◌*◌, List, [], ◌∷◌, None}
+use Rattle.std.specs.Prelude.{◌≡◌, ℕ, ◌+◌, ◌*◌, List, [], ◌∷◌, None, replicate}
 use Rattle.ultra_mem.specs.Serve.{Bank}
 use Rattle.ultra_pni.specs.Interface.{empty_interface}
 use Rattle.ultra_isa.specs.Step.{fresh_core}
 use Rattle.ultra_isa.specs.declared.Instr.{Instr}
 use Rattle.ultra_model.specs.Places.{places}
 use Rattle.ultra_model.specs.Machine.{Settings, given_value, site, size, start}
+use Rattle.ultra_units.specs.Numbers.{unit_count}
 use Rattle.ultra_halves.specs.declared.elements.ProcessingElement.{ProcessingElement}
 use Rattle.ultra_section.specs.BlockState.{BlockState}
 use Rattle.ultra_cut.specs.Moments.{AreWhole, machine_in}
@@ -30,8 +31,11 @@ module _ (c : Settings) where
     issued = 0;
   }
 
--- the block is the whole machine of the definition before its first cycle, by some partition
+-- the partition of a machine of d stages that puts all units into block 0
+abbrev pub all_in_one : ℕ → List ℕ
+all_in_one d = replicate (unit_count d) 0
+
+-- the block is the whole machine of the definition before its first cycle
 pub record IsFresh (c : Settings) (program : List Instr) (b : BlockState) : Type 0 where
-  pub partition : List ℕ
-  pub whole : AreWhole c program partition 0 (b ∷ [])
-  pub machine : machine_in c partition 0 (b ∷ []) ≡ start c
+  pub whole : AreWhole c program (all_in_one c.stages) 0 (b ∷ [])
+  pub machine : machine_in c (all_in_one c.stages) 0 (b ∷ []) ≡ start c

@@ -3,19 +3,20 @@
 ghost use Rattle.std.specs.Prelude.{◌≡◌, ◌-◌, ◌^◌, ◌<◌, ◌↔◌, ◌==◌, false, length, true, IfErr, IfOk, IsErrOf, OnOk};
 ghost use Rattle.ultra_model.specs.Machine.{bank_at, element_at, is_quiet, lane_at, replies_at, site, start};
 ghost use Rattle.ultra_model.specs.Phases.{cycle as next_cycle};
-ghost use Rattle.ultra_course.specs.Ports.{at_port};
+ghost use Rattle.ultra_course.specs.Frame.{at_port};
 ghost use Rattle.ultra_cut.specs.Cut.{is_partition};
 ghost use Rattle.ultra_block.specs.Dealt.{IsLastNamed};
+ghost use Rattle.ultra_block.specs.Fresh.{all_in_one};
 ghost use Rattle.ultra_section.specs.Holding.{IsSetOf};
 ghost use Rattle.ultra_cut.specs.Holding.{holds};
 
 use crate::building::fresh_block;
 use crate::cycle::make_cycle;
 use crate::dealing::deal;
-use crate::partition::{PartitionFault, names_all_units};
+use crate::partition::{PartitionFault, count_units, names_all_units};
 use crate::parts::Parts;
 use crate::ranks::{ByElement, ByRules};
-use std::alloc::Global;
+use std::alloc::{AllocError, Global};
 use std::marker::Model;
 use ultra_cut::{are_quiet, holders};
 use ultra_halves::ProcessingElement;
@@ -50,36 +51,48 @@ impl Blocks {
     ghost use Rattle.ultra_halves.specs.Elements.{element_of};
     ghost use Rattle.ultra_block.specs.State.{AreParts, events_left, put_together, stops_left};
 
-    /// The machine of these settings and this program before its first cycle: all registers and cells are 0 but for the initial ones, and nothing is on its way. The partition names the block of each unit, 0 to 63: switches come first, then modules, then processing elements. Blocks may be empty; their count is one more than the greatest number in the partition.
+    /// The machine of these settings and this program before its first cycle, with all units in one block: all registers and cells are 0 but for the initial ones, and nothing is on its way.
     ///
-    /// It keeps copies of its own. `BadPartition` says that the partition is not of this length, or that a block is above 63; it is found before memory is asked for. `NoMemory` says that memory was refused.
+    /// It keeps copies of its own. An error says that memory was refused.
+    pub fn in_one_block(
+        alloc: Global,
+        config: &Config,
+        program: &Program,
+    ) -> Result<Blocks, AllocError>
+        ensures { IfOk result (λ b. b ≡ record { config = config.now; program = program.now; partition = all_in_one config.now.stages; count = 1; machine = start config.now }) }
+    {
+        Ok(Blocks {
+            parts: Parts {
+                config: config.try_clone()?,
+                program: program.try_clone(alloc)?,
+                partition: vec![in alloc; 0; count_units(config)]?,
+                done: 0,
+                blocks: vec![in alloc; fresh_block(alloc, config, program)?]?,
+            },
+        })
+    }
+
+    /// The machine of these settings and this program before its first cycle, as by `in_one_block`, but cut by a partition. That names the block of each unit, 0 to 63: switches come first, then modules, then processing elements. Blocks may be empty; their count is one more than the greatest number in the partition.
+    ///
+    /// `BadPartition` says that the partition is not of this length, or that a block is above 63; it is found before memory is asked for. `NoMemory` says that memory was refused.
     pub fn new(
         alloc: Global,
         config: &Config,
         program: &Program,
         partition: &[u8],
     ) -> Result<Blocks, PartitionFault>
-        ensures settings { IfOk result (λ b. b.config ≡ config.now) }
-        ensures program { IfOk result (λ b. b.program ≡ program.now) }
-        ensures partition { IfOk result (λ b. b.partition ≡ partition.now) }
+        ensures state { IfOk result (λ b. b ≡ record { config = config.now; program = program.now; partition = partition.now; count = b.count; machine = start config.now }) }
         ensures count { IfOk result (λ b. IsLastNamed partition.now b.count) }
-        ensures state { IfOk result (λ b. b.machine ≡ start config.now) }
         ensures accepted { OnOk result (is_partition config.now partition.now ≡ true) }
         ensures refused { IsErrOf result PartitionFault.BadPartition ↔ (is_partition config.now partition.now ≡ false) }
     {
         if !names_all_units(config, partition) {
             return Err(PartitionFault::BadPartition);
         }
-        let mut block = fresh_block(alloc, config, program)?;
-        Ok(Blocks {
-            parts: Parts {
-                config: config.try_clone()?,
-                program: program.try_clone(alloc)?,
-                partition: Vec::from_slice(alloc, partition)?,
-                done: 0,
-                blocks: deal(alloc, partition, &mut block)?,
-            },
-        })
+        match Blocks::in_one_block(alloc, config, program)?.recut(alloc, partition) {
+            Ok(blocks) => Ok(blocks),
+            Err((_, fault)) => Err(fault),
+        }
     }
 
     /// The same machine cut by a partition: its units move to other blocks, and nothing else changes. All of them have to stand in one block before. The partition names the block of each unit as for `new`.
@@ -87,11 +100,8 @@ impl Blocks {
     /// `BadPartition` says that it is not one; it is found before memory is asked for. `NoMemory` says that memory was refused. With either the same machine is given back.
     pub fn recut(self, alloc: Global, partition: &[u8]) -> Result<Blocks, (Blocks, PartitionFault)>
         requires { self.count ≡ 1 }
-        ensures settings { IfOk result (λ b. b.config ≡ self.config) }
-        ensures program { IfOk result (λ b. b.program ≡ self.program) }
-        ensures partition { IfOk result (λ b. b.partition ≡ partition.now) }
+        ensures state { IfOk result (λ b. b ≡ record self { partition = partition.now; count = b.count }) }
         ensures count { IfOk result (λ b. IsLastNamed partition.now b.count) }
-        ensures state { IfOk result (λ b. b.machine ≡ self.machine) }
         ensures accepted { OnOk result (is_partition self.config partition.now ≡ true) }
         ensures refused { IfErr result (λ e. (e.1 ≡ PartitionFault.BadPartition) ↔ (is_partition self.config partition.now ≡ false)) }
         ensures given_back { IfErr result (λ e. e.0 ≡ self) }
@@ -99,11 +109,16 @@ impl Blocks {
         if !names_all_units(&self.parts.config, partition) {
             return Err((self, PartitionFault::BadPartition));
         }
+        let Ok(homes) = Vec::from_slice(alloc, partition) else {
+            return Err((self, PartitionFault::NoMemory));
+        };
         let mut parts = self.parts;
-        match parts.cut(alloc, partition) {
-            Ok(()) => Ok(Blocks { parts }),
-            Err(_) => Err((Blocks { parts }, PartitionFault::NoMemory)),
-        }
+        let Ok(blocks) = deal(alloc, partition, &mut parts.blocks[0]) else {
+            return Err((Blocks { parts }, PartitionFault::NoMemory));
+        };
+        parts.partition = homes;
+        parts.blocks = blocks;
+        Ok(Blocks { parts })
     }
 
     /// Takes the machine apart, for a cycle that others make.
@@ -126,6 +141,7 @@ impl Blocks {
     ///
     /// Its count of cycles has to be below `2^32 - 1`.
     #[inline(always)]
+    #[tactic(auto, using(crate::proofs::Seen::cycles_are))]
     pub fn cycle(&mut self)
         requires { self.old.machine.cycles < 2 ^ 32 - 1 }
         ensures { self.new ≡ record self.old { machine = next_cycle self.old.config self.old.program self.old.machine } }
@@ -147,6 +163,7 @@ impl Blocks {
     }
 
     /// How many cycles the machine has made.
+    #[tactic(auto, using(crate::proofs::Seen::cycles_are))]
     pub fn done(&self) -> u32
         ensures { result ≡ self.now.machine.cycles }
     {
@@ -183,6 +200,7 @@ impl Blocks {
     }
 
     /// What happened in the last cycle, in the order of the rules: deliveries by processing element, servings by module, combinations by stage, position and arrival, issues by processing element.
+    #[tactic(auto, using(crate::proofs::Seen::list_steps), unfolding(ultra_cut::specs::Events::events_of))]
     pub fn events(&self) -> Merge<'_, Event, ByRules>
         ensures { events_left result ≡ self.now.machine.events }
     {
@@ -196,6 +214,7 @@ impl Blocks {
     }
 
     /// The faults of the last cycle, by processing element.
+    #[tactic(auto, using(crate::proofs::Seen::list_steps), unfolding(ultra_cut::specs::Events::stops_of))]
     pub fn stops(&self) -> Merge<'_, Stop, ByElement>
         ensures { stops_left result ≡ self.now.machine.stops }
     {
@@ -214,6 +233,7 @@ impl Blocks {
     }
 
     /// What happened in the last cycle of a machine in one block, in the order of the rules.
+    #[tactic(auto, using(crate::proofs::Seen::one_steps))]
     pub fn events_of_one(&self) -> &[Event]
         requires { self.now.count ≡ 1 }
         ensures { result.now ≡ self.now.machine.events }
@@ -222,6 +242,7 @@ impl Blocks {
     }
 
     /// The faults of the last cycle of a machine in one block, by processing element.
+    #[tactic(auto, using(crate::proofs::Seen::one_steps))]
     pub fn stops_of_one(&self) -> &[Stop]
         requires { self.now.count ≡ 1 }
         ensures { result.now ≡ self.now.machine.stops }
@@ -230,6 +251,7 @@ impl Blocks {
     }
 
     /// The queue toward memory at a memory-side position of a stage, with its wait buffer. Stages count from 0, positions too.
+    #[tactic(auto, using(ultra_course::proofs::AtFrame::lane_is))]
     pub fn lane(&self, stage: u32, position: u32) -> &ToMm
         requires stage { stage < self.now.config.stages }
         requires position { position < 2 ^ self.now.config.stages }
@@ -245,6 +267,7 @@ impl Blocks {
     }
 
     /// The queue toward the processing elements at a PE-side position of a stage.
+    #[tactic(auto, using(ultra_course::proofs::AtFrame::replies_is))]
     pub fn reply_queue(&self, stage: u32, position: u32) -> &ToPe
         requires stage { stage < self.now.config.stages }
         requires position { position < 2 ^ self.now.config.stages }
@@ -259,6 +282,7 @@ impl Blocks {
     }
 
     /// A memory module, by its number.
+    #[tactic(auto, using(ultra_course::proofs::AtFrame::bank_is))]
     pub fn bank(&self, number: u32) -> &Module
         requires number { number < 2 ^ self.now.config.stages }
         ensures state { result.now ≡ bank_at self.now.machine number }
@@ -269,6 +293,7 @@ impl Blocks {
     }
 
     /// A processing element, by its number.
+    #[tactic(auto, using(ultra_course::proofs::AtFrame::element_is))]
     pub fn element(&self, pe: Pe) -> &ProcessingElement
         requires pe { pe < 2 ^ self.now.config.stages }
         ensures state { element_of result.now ≡ element_at self.now.machine pe }

@@ -67,6 +67,7 @@ fn new_element(config: &Config, pe: Pe) -> ProcessingElement
 }
 
 /// All units of the machine before its first cycle, in one block, which keeps a copy of the program. An error says that memory was refused.
+#[tactic(auto, using(crate::proofs::FreshBlock::rows))]
 pub(crate) fn fresh_block(
     alloc: Global,
     config: &Config,

@@ -19,6 +19,7 @@ fn count_blocks(partition: &[u8]) -> usize
 }
 
 /// `count` blocks without units of the machine of this block, after as many cycles. An error says that memory was refused.
+#[tactic(auto, using(crate::proofs::Dealt::more_empty))]
 fn empty_blocks(alloc: Global, block: &Block, count: usize) -> Result<Vec<Block>, AllocError>
     ensures { IfOk result (λ v. v.items ≡ replicate count (empty_beside block.now)) }
 {

@@ -1,5 +1,5 @@
 -- the machine that the units of a frame make up, place by place
-use Rattle.std.proofs.Common.{◌≡◌, ℕ, zero, suc, ◌+◌, ◌*◌, ◌-◌, ◌/◌, ◌%◌, ◌^◌, ◌<◌, List, [], refl, arith, ap}
+use Rattle.std.proofs.Common.{◌≡◌, ℕ, zero, suc, ◌+◌, ◌*◌, ◌-◌, ◌/◌, ◌%◌, ◌^◌, ◌<◌, List, [], refl, arith, ap, ◌∙◌}
 use Rattle.std.specs.Prelude.{map, length, nat_le, Option, true}
 use Rattle.std.proofs.lemmas.Bool.Decides.{nat_tests}
 use Rattle.std.specs.List.{range_with_len}
@@ -12,16 +12,16 @@ use Rattle.ultra_model.specs.declared.Stop.{Stop}
 use Rattle.ultra_model.specs.Places.{places, table, after_leaving}
 use Rattle.ultra_model.specs.Machine.{Settings, Machine, size, fresh_element, lane_at, replies_at, bank_at, element_at}
 use Rattle.ultra_model.specs.Ranges.{AreInRange}
+use Rattle.ultra_model.specs.Sound.{IsSound}
 use Rattle.ultra_model.specs.Phases as phase
 use Rattle.ultra_model.proofs.Capacities.{after_leaving_shorter}
 use Rattle.ultra_model.proofs.Each.{places_at, table_at}
 use Rattle.ultra_units.specs.Numbers.{switch_number}
 use Rattle.ultra_halves.specs.Halves.{ports}
 use Rattle.ultra_halves.specs.Elements.{element_of}
-use Rattle.ultra_course.specs.Ports.{at_port}
-use Rattle.ultra_course.specs.Frame.{Frame, Rooms, AreRooms, AreAlike}
+use Rattle.ultra_course.specs.Frame.{Frame, Rooms, AreRooms, AreAlike, at_port}
 use Rattle.ultra_course.specs.Course.{at_switch}
-use Rattle.ultra_course.specs.Whole.{sized_lane, sized_replies, whole, Fits}
+use Rattle.ultra_course.specs.Whole.{sized_lane, sized_replies, whole, Fits, IsFrameOf}
 use Rattle.ultra_course.proofs.Numbers.{at_number, number_small}
 
 -- ---- equal place by place
@@ -82,14 +82,7 @@ module _ (c : Settings) (f : Frame) (n : ℕ) (events : List Event) (stops : Lis
   -- ---- rooms, by the definition and as they are noted
   module _ (range : AreInRange c) (fits : Fits c n f) (rooms : Rooms) (noted : AreRooms c.stages f rooms) where
     pub reply_room_is : (s k : ℕ) → s < c.stages → k < 2 ^ (c.stages - 1) → rooms.reply (switch_number c.stages s k) ≡ phase.has_reply_room c m s k
-    reply_room_is s k hs hk =
-        let small = number_small c.stages s k hs hk in
-        let sizes = fits.switches (switch_number c.stages s k) small in
-        let was = noted.reply (switch_number c.stages s k) small in
-        let even = replies_is s (2 * k) hs in
-        let odd = replies_is s (2 * k + 1) hs in
-        let two = size_is c range in
-        grind arith
+    reply_room_is s k hs hk = grind (arith, number_small, sizes, replies_is, size_is)
 
     pub request_room_is : (s x : ℕ) → s < c.stages → x < size c → rooms.request (switch_number c.stages s (x / 2)) (x % 2) ≡ phase.has_request_room c m s x
     request_room_is s x hs hx = let two = size_is c range in grind (arith, lane_is)
@@ -106,3 +99,10 @@ module _ (c : Settings) (range : AreInRange c) (f g : Frame) (a : AreAlike c.sta
       let queues = same_table c.stages (size c) _ _ (λ s y. alike_at (λ w. (at_port w.to_pe (y % 2)).replies) s y) in
       let elements = same_places (size c) _ _ (λ p hp. ap (λ e. element_of e) (a.elements p hp)) in
       same_machine _ _ lanes queues (same_places (size c) _ _ a.banks) elements refl refl refl
+
+-- the machine after a phase: what is alike to the frame after it makes that up
+pub becomes : (c : Settings) (n : ℕ) (f : Frame) (events : List Event) (stops : List Stop) (m : Machine) → IsFrameOf c n f events stops m
+    → (k : ℕ) (h after : Frame) (now : List Event) (stopped : List Stop) (phase : Machine → Machine) → Fits c k h → whole c after k now stopped ≡ phase (whole c f n events stops) → IsSound c (phase m) → AreAlike c.stages h after
+    → IsFrameOf c k h now stopped (phase m)
+becomes c n f events stops m w k h after now stopped phase fits is sound alike =
+    record { range = w.range; fits = fits; machine = whole_alike c w.range h after alike k now stopped ∙ is ∙ ap phase w.machine; sound = sound }

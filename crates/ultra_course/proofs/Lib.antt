@@ -1,6 +1,4 @@
 pub mod Numbers
 pub mod AtFrame
-pub mod Replies
 pub mod Regroup
-pub mod Requests
-pub mod Steps
+pub mod Phases

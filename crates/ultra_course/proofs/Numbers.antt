@@ -1,13 +1,13 @@
 -- what stands at a port, at the number of a switch and on the link of a number
 use Rattle.std.proofs.Common.{◌≡◌, ℕ, ◌+◌, ◌*◌, ◌-◌, ◌/◌, ◌%◌, ◌^◌, ◌<◌, ◌≤◌, arith}
-use Rattle.std.proofs.lemmas.Nat.{pow_pos, div-mul-add, mod-mul-add, mul-add-lt}
+use Rattle.std.proofs.lemmas.Nat.{div-mul-add, mod-mul-add, mul-add-lt}
 use Rattle.std.proofs.Math.Nat.{div-lt_iff_lt-mul}
 use Rattle.ultra_route.proofs.Table.{sizes}
 use Rattle.ultra_switch.specs.declared.Ports.{Ports}
 use Rattle.ultra_switch.specs.declared.Switch.{Switch}
 use Rattle.ultra_units.specs.Numbers.{switch_number, switch_count, place_number}
 use Rattle.ultra_halves.specs.Halves.{ports}
-use Rattle.ultra_course.specs.Ports.{at_port}
+use Rattle.ultra_course.specs.Frame.{at_port}
 use Rattle.ultra_course.specs.Course.{at_switch, on_links}
 
 -- ---- ports
@@ -23,13 +23,6 @@ at_both g p x = grind arith
 pub at_places : {X Y : Type 0} (g : ℕ → X → Y) (p : Ports X) (x : ℕ) → at_port (ports (g (2 * (x / 2)) p.zero) (g (2 * (x / 2) + 1) p.one)) (x % 2) ≡ g x (at_port p (x % 2))
 at_places g p x = grind arith
 
--- of the two positions of switch k of a stage
-pub at_even : {X : Type 0} (g : ℕ → ℕ → X) (k : ℕ) → g (2 * k / 2) (2 * k % 2) ≡ g k 0
-at_even g k = grind arith
-
-pub at_odd : {X : Type 0} (g : ℕ → ℕ → X) (k : ℕ) → g ((2 * k + 1) / 2) ((2 * k + 1) % 2) ≡ g k 1
-at_odd g k = grind arith
-
 -- ---- numbers of switches
 pub at_number : {X : Type 0} (d : ℕ) (g : ℕ → ℕ → X) (s k : ℕ) → k < 2 ^ (d - 1) → at_switch d g (switch_number d s k) ≡ g s k
 at_number d g s k h = grind (arith, div-mul-add, mod-mul-add)
@@ -44,7 +37,6 @@ number_small d s k hs hk = grind (arith, mul-add-lt)
 -- what holds of each switch of each stage holds of each number
 pub each_number : (d : ℕ) (P : ℕ → Type 0) → ((s k : ℕ) → s < d → k < 2 ^ (d - 1) → P (switch_number d s k)) → (n : ℕ) → n < switch_count d → P n
 each_number d P f n h =
-    let some : 0 < 2 ^ (d - 1) = pow_pos (d - 1) in
     let here = f (n / 2 ^ (d - 1)) (n % 2 ^ (d - 1)) in
     grind (arith, div-lt_iff_lt-mul)
 
@@ -55,7 +47,6 @@ module _ {X : Type 0} (d : ℕ) (low : 1 ≤ d) (high : d ≤ 6) (g : ℕ → Po
   at_link s x hs hx =
       let inside = mul-add-lt s (2 ^ d) x d hs hx in
       let twice : s * 2 ^ d ≡ 2 * (s * 2 ^ (d - 1)) = rw (← (sizes d low high).0) (omega arith) in
-      let is = written (place_number d s x) (omega arith) in
       grind arith
 
   -- behind all stages

@@ -16,8 +16,7 @@ use Rattle.ultra_halves.specs.Switches.{replies_leaving, without_replies, after_
 use Rattle.ultra_halves.specs.Modules.{bank_with}
 use Rattle.ultra_halves.specs.Elements.{element_of, delivered_to, element_without, step_at, executed}
 use Rattle.ultra_halves.specs.declared.elements.ProcessingElement.{ProcessingElement}
-use Rattle.ultra_course.specs.Ports.{at_port}
-use Rattle.ultra_course.specs.Frame.{Frame, Rooms}
+use Rattle.ultra_course.specs.Frame.{Frame, Rooms, at_port}
 
 abbrev pub pending_head : ProcessingElement → Option Request
 pending_head e = slice_get e.interface.interface.pending 0

@@ -1,14 +1,19 @@
 -- a whole machine in the course of a cycle
-use Rattle.std.specs.Prelude.{◌≡◌, ℕ, ◌+◌, ◌*◌, ◌^◌, ◌<◌, Bool, Option, None}
+use Rattle.std.specs.Prelude.{◌≡◌, ℕ, zero, suc, ◌+◌, ◌*◌, ◌^◌, ◌<◌, Bool, Option, None}
 use Rattle.ultra_msg.specs.declared.Request.{Request}
 use Rattle.ultra_msg.specs.declared.ReplyMessage.{ReplyMessage}
+use Rattle.ultra_switch.specs.declared.Ports.{Ports}
 use Rattle.ultra_switch.specs.declared.Switch.{Switch}
 use Rattle.ultra_mem.specs.Serve.{Bank}
 use Rattle.ultra_halves.specs.declared.elements.ProcessingElement.{ProcessingElement}
 use Rattle.ultra_halves.specs.Switches.{has_reply_room, has_request_room}
 use Rattle.ultra_model.specs.Machine.{is_nothing}
 use Rattle.ultra_units.specs.Numbers.{switch_count}
-use Rattle.ultra_course.specs.Ports.{at_port}
+
+-- what there is at the two ports of a switch
+abbrev pub at_port : {X : Type 0} → Ports X → ℕ → X
+at_port p zero = p.zero
+at_port p (suc n) = p.one
 
 -- its units: switches by their numbers over all stages, modules, and processing elements; and what
 -- is on its links, by their numbers

@@ -11,8 +11,7 @@ use Rattle.ultra_model.specs.Sound.{IsSound}
 use Rattle.ultra_units.specs.Numbers.{switch_number, switch_count}
 use Rattle.ultra_halves.specs.Halves.{ports}
 use Rattle.ultra_halves.specs.Elements.{element_of}
-use Rattle.ultra_course.specs.Ports.{at_port}
-use Rattle.ultra_course.specs.Frame.{Frame}
+use Rattle.ultra_course.specs.Frame.{Frame, at_port}
 
 module _ (c : Settings) (f : Frame) where
   -- the queues at position x of stage s

@@ -1,5 +1,5 @@
 -- The blocks after each half of a cycle are those that follow from the machine at its start.
-use Rattle.std.proofs.Common.{◌≡◌, ℕ, ◌+◌, ◌*◌, ◌^◌, ◌<◌, ◌≤◌, List, [], ◌∷◌, None, length, map, arith, refl, sym, ◌∙◌, ap, subst}
+use Rattle.std.proofs.Common.{◌≡◌, ℕ, ◌+◌, ◌^◌, ◌<◌, ◌≤◌, List, [], ◌∷◌, length, map, arith, refl, sym, ◌∙◌, ap, subst}
 use Rattle.std.proofs.lemmas.List.{ext_get_or, length-map}
 use Rattle.ultra_isa.specs.declared.Instr.{Instr}
 use Rattle.ultra_model.specs.Machine.{Settings}
@@ -19,8 +19,7 @@ use Rattle.ultra_cut.proofs.Numbers.{few_units}
 use Rattle.ultra_cut.specs.declared.kind.Kind.TheVariants.{Replies, Requests}
 use Rattle.ultra_cut.proofs.Moved.{still_blocks}
 use Rattle.ultra_cut.proofs.Columns.{changed_at}
-use Rattle.ultra_cut.specs.Whole.{AreRoomsOfAll}
-use Rattle.ultra_cut.specs.Moments.{AreWhole}
+use Rattle.ultra_cut.specs.Moments.{AreRoomsOfAll, AreWhole}
 use Rattle.ultra_cut.proofs.Whole as whole
 use Rattle.ultra_crew.specs.Exchanged.{exchanged}
 use Rattle.ultra_crew.specs.Start.{first_blocks, state_of}

@@ -17,9 +17,9 @@ pub none_later : (b : BlocksState) → b ≡ later 0 b
 unfolding cycles_on
 none_later b = refl
 
-pub one_later : (b : BlocksState) → later 1 b ≡ record b { machine = cycle b.config b.program b.machine }
+pub one_on : (c : Settings) (program : List Instr) (m : Machine) → cycles_on c program 1 m ≡ cycle c program m
 unfolding cycles_on
-one_later b = refl
+one_on c program m = refl
 
 -- one more
 pub more_later : (n : ℕ) (b : BlocksState) → later (n + 1) b ≡ record (later n b) { machine = cycle b.config b.program (later n b).machine }

@@ -12,7 +12,7 @@ use Rattle.ultra_cut.specs.declared.kind.Kind.TheVariants.{Replies, Requests}
 use Rattle.ultra_cut.specs.Cut.{block_at, first, home, no_block}
 use Rattle.ultra_cut.specs.Exchange.{AreThere, OnlyMove, on_each, table, with_table}
 use Rattle.ultra_cut.specs.Halves.{AreBlocks}
-use Rattle.ultra_cut.proofs.Inlets.{links_of, nothing_away, reader}
+use Rattle.ultra_cut.proofs.Moved.{links_of, nothing_away, reader}
 use Rattle.ultra_cut.proofs.Numbers.{differs}
 use Rattle.ultra_cut.proofs.Columns.{column_first}
 use Rattle.ultra_crew.specs.Exchanged.{at_home, exchanged, unit_behind}

@@ -1,4 +1,3 @@
-mod Held
 pub mod Words
 pub mod RepliesSame
 pub mod RequestsSame

@@ -10,8 +10,7 @@ use Rattle.ultra_model.proofs.Each.{places_at}
 use Rattle.ultra_units.specs.Numbers.{switch_count, module_number}
 use Rattle.ultra_units.specs.Set.{has_unit}
 use Rattle.ultra_halves.specs.Switches.{has_request_room}
-use Rattle.ultra_course.specs.Ports.{at_port}
-use Rattle.ultra_course.specs.Frame.{Frame, AreRooms}
+use Rattle.ultra_course.specs.Frame.{Frame, AreRooms, at_port}
 use Rattle.ultra_cut.specs.Halves.{noted}
 use Rattle.ultra_crew.specs.Words.{bit_of_test, no_room_at_zero, units_with, word_of, words_of_rooms}
 use Rattle.std.specs.Prelude.{Option}

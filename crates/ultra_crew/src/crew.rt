@@ -34,10 +34,11 @@ impl Crew {
     /// The machine's count of cycles has to be below `2^32 - 1`. The call may wait. In every end the threads that were started are joined.
     ///
     /// `NoThread` says that a thread could not be started or was gone, `NoMemory` that memory was refused; the blocks are then given up. With one worker the call succeeds.
+    #[tactic(auto, using(crate::proofs::Counted::one_on))]
     pub fn cycle<R: Threads + Wait + Sync, G: Gate + Sync>(
         rt: &R,
         alloc: Global,
-        mut blocks: Blocks,
+        blocks: Blocks,
         workers: usize,
         gate: &G,
     ) -> Result<Blocks, CrewFault>
@@ -47,13 +48,7 @@ impl Crew {
         ensures state { IfOk result (λ b. b ≡ record blocks { machine = next_cycle blocks.config blocks.program blocks.machine }) }
         ensures alone { workers ≡ 1 → IsOk result }
     {
-        if workers == 1 {
-            cycle_alone(&mut blocks);
-            return Ok(blocks);
-        }
-        let (blocks, busy) = count_busy(blocks, workers);
-        let blocks = cycles_together::<Brand, R, G>(rt, alloc, blocks, busy, gate, 1)?;
-        Ok(blocks)
+        Crew::cycles(rt, alloc, blocks, workers, gate, 1)
     }
 
     /// The machine makes n cycles, each as by `cycle`, but the workers' threads are started once. With one worker the call succeeds.

@@ -1,18 +1,15 @@
 -- What blocks have somewhere, where at most one has it.
-use Rattle.std.proofs.Common.{◌≡◌, ◌≢◌, ℕ, zero, suc, ◌<◌, List, [], ◌∷◌, map, Option, None, length, get_or, refl, arith}
+use Rattle.std.proofs.Common.{◌≡◌, ◌≢◌, ℕ, zero, suc, ◌<◌, List, [], ◌∷◌, map, Option, None, length, refl, sym, ◌∙◌, arith}
 use Rattle.std.proofs.lemmas.List.{get_or-map, ext_get_or, length-map}
 use Rattle.ultra_section.specs.BlockState.{BlockState}
 use Rattle.ultra_cut.specs.Cut.{first, block_at, no_block}
-
-first_none : {X : Type 0} (o : Option X) (xs : List (Option X)) → first (o ∷ xs) ≡ None → (o ≡ None) × (first xs ≡ None)
-first_none o xs none = grind arith
 
 module _ {X : Type 0} (g : BlockState → Option X) where
   -- no block has it
   pub column_none : (bs : List BlockState) → first (map g bs) ≡ None → (k : ℕ) → k < length bs → g (block_at bs k) ≡ None
   column_none [] none k within = absurd (omega arith)
-  column_none (b ∷ bs) none zero within = (first_none (g b) (map g bs) none).0
-  column_none (b ∷ bs) none (suc k) within = column_none bs (first_none (g b) (map g bs) none).1 k (omega arith)
+  column_none (b ∷ bs) none zero within = grind arith
+  column_none (b ∷ bs) none (suc k) within = let rest : first (map g bs) ≡ None = grind arith in column_none bs rest k (omega arith)
 
   pub column_empty : (bs : List BlockState) → ((k : ℕ) → k < length bs → g (block_at bs k) ≡ None) → first (map g bs) ≡ None
   column_empty [] none = refl
@@ -26,12 +23,13 @@ module _ {X : Type 0} (g : BlockState → Option X) where
       let here = away zero (omega arith) (λ e. absurd (omega arith)) in
       let rest = column_first bs h (omega arith) (λ k l other. away (suc k) (omega arith) (λ e. other (omega arith))) in grind arith
 
-  column_at : (bs : List BlockState) (k : ℕ) → k < length bs → get_or (map g bs) k None ≡ g (block_at bs k)
-  column_at bs k within = get_or-map g bs k no_block None within
-
-  -- as many blocks have the same
-  pub same_entries : (old now : List BlockState) → length now ≡ length old → ((k : ℕ) → k < length old → g (block_at now k) ≡ g (block_at old k)) → map g now ≡ map g old
-  same_entries old now count same = ext_get_or None (map g now) (map g old) (grind (arith, length-map)) (grind (arith, length-map, column_at))
+-- as many blocks have this, where those had that
+pub same_entries : {X : Type 0} (f g : BlockState → X) (old now : List BlockState) → length now ≡ length old → ((k : ℕ) → k < length old → g (block_at now k) ≡ f (block_at old k)) → map g now ≡ map f old
+same_entries f g old now count same =
+    let now_long = length-map now g in
+    let old_long = length-map old f in
+    ext_get_or (g no_block) (map g now) (map f old) (omega arith) (λ k h.
+    get_or-map g now k no_block (g no_block) (omega arith) ∙ same k (omega arith) ∙ sym (get_or-map f old k no_block (g no_block) (omega arith)))
 
 -- the blocks after something was done to each
 pub changed_at : (f : BlockState → BlockState) (bs : List BlockState) (k : ℕ) → k < length bs → block_at (map f bs) k ≡ f (block_at bs k)

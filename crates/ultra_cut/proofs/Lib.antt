@@ -2,16 +2,10 @@ pub mod Numbers
 pub mod Moved
 pub mod Columns
 pub mod Acting
-pub mod Inlets
 pub mod Halves
 pub mod Units
-pub mod Noted
-pub mod QuietMachine
-pub mod Held
 pub mod NothingHeld
-pub mod Listing
 pub mod Happenings
 pub mod Merged
 pub mod Whole
-pub mod OneBlock
-pub mod OwnProgram
+pub mod Questions

@@ -1,23 +1,138 @@
--- Messages that lead from one block to a unit in another go there, and nothing else changes.
-use Rattle.std.proofs.Common.{◌≡◌, ◌≢◌, ℕ, ◌+◌, ◌*◌, ◌^◌, ◌<◌, ◌≤◌, List, Option, Some, None, Bool, true, false, length, map, refl, sym, ◌∙◌, ap, get_or-set_same, get_or-set_other, inl, inr, arith}
-use Rattle.std.specs.Prelude.{◌⊎◌, ◌==◌}
-use Rattle.std.proofs.lemmas.List.{length-set}
+-- Messages on links: to which unit each link leads, computed over every network of at most six stages, and what is true of
+-- messages of each kind. Where each message is in the block to which it leads, what comes to a unit is what its block has
+-- for it. Messages that lead from one block to a unit in another go there, and nothing else changes.
+use Rattle.std.proofs.Common.{◌≡◌, ◌≢◌, ℕ, ◌+◌, ◌-◌, ◌*◌, ◌^◌, ◌<◌, ◌≤◌, Bool, true, false, List, Option, Some, None, length, refl, sym, ap, subst, arith, map, ◌∙◌, get_or-set_same, get_or-set_other, inl, inr}
+use Rattle.std.specs.Prelude.{◌&&◌, ◌||◌, ◌==◌, nat_lt, ◌⊎◌}
+use Rattle.std.proofs.lemmas.Bool.Decides.{nat_tests}
+use Rattle.std.proofs.lemmas.List.{get_or_past, length-set}
+use Rattle.ultra_route.proofs.Table.{all_below, all_below_at}
 use Rattle.ultra_switch.specs.declared.Ports.{Ports}
-use Rattle.ultra_units.specs.Numbers.{unit_count}
-use Rattle.ultra_section.specs.Marks.{on_link, without_both}
+use Rattle.ultra_units.specs.Numbers.{switch_count, unit_count, module_number, element_number}
+use Rattle.ultra_halves.specs.Halves.{ports}
+use Rattle.ultra_section.specs.Units.{stage_of, index_of}
+use Rattle.ultra_section.specs.Marks.{delivery_link, memory_link, reply_links, request_links, on_both, on_link, without_both}
 use Rattle.ultra_section.specs.BlockState.{BlockState}
-use Rattle.ultra_section.specs.Away.{AreEmpty, put_on_both, taken_by_turns}
+use Rattle.ultra_section.specs.Away.{AreEmpty, put_on_both, reply_inlets, request_inlets, taken_by_turns}
+use Rattle.ultra_section.specs.Shape.{IsShaped}
+use Rattle.ultra_section.proofs.Readers.{are_read, each_network, replies_read, reply_reader, request_reader, requests_read}
+use Rattle.ultra_section.proofs.Standing.{unit_is}
 use Rattle.ultra_section.proofs.Marks.{emptied, emptied_first, length-put_on}
 use Rattle.ultra_section.proofs.Put.{put_apart, put_or, put_there}
 use Rattle.ultra_course.specs.Frame.{AreAlike, Frame}
 use Rattle.ultra_cut.specs.declared.kind.Kind.{Kind}
 use Rattle.ultra_cut.specs.declared.kind.Kind.TheVariants.{Replies, Requests}
-use Rattle.ultra_cut.specs.Cut.{IsCut, block_at, frame_of, home, first}
+use Rattle.ultra_cut.specs.Cut.{IsCut, block_at, first, home, frame_of}
+use Rattle.ultra_cut.specs.Exchange.{AreThere, MessageOf, inlets, message_on, on_each, table, with_table, AreSingle, HasNoneFor, NoneLeavesWithin, OnlyMove, carried, moved}
 use Rattle.ultra_cut.specs.Halves.{AreBlocks}
-use Rattle.ultra_cut.specs.Exchange.{AreSingle, HasNoneFor, Message, NoneLeavesWithin, OnlyMove, carried, inlets, message_on, moved, table, with_table}
 use Rattle.ultra_cut.proofs.Columns.{column_first, same_entries}
-use Rattle.ultra_cut.proofs.Inlets.{lead_here, links_of, reader, shaped_with, table_with, with_own, with_twice}
 use Rattle.ultra_cut.proofs.Numbers.{differs, not_equal}
+
+-- ---- a block with something else on its links
+pub table_with : (kind : Kind) (t : List (Option (MessageOf kind))) (b : BlockState) → table kind (with_table kind t b) ≡ t
+table_with Replies t b = refl
+table_with Requests t b = refl
+
+pub with_twice : (kind : Kind) (t u : List (Option (MessageOf kind))) (b : BlockState) → with_table kind t (with_table kind u b) ≡ with_table kind t b
+with_twice Replies t u b = refl
+with_twice Requests t u b = refl
+
+pub with_own : (kind : Kind) (b : BlockState) → b ≡ with_table kind (table kind b) b
+with_own Replies b = refl
+with_own Requests b = refl
+
+pub links_of : (kind : Kind) (d : ℕ) (b : BlockState) → IsShaped d b → length (table kind b) ≡ (d + 1) * 2 ^ d
+links_of Replies d b shape = shape.replies
+links_of Requests d b shape = shape.requests
+
+-- where there is no block there is nothing
+pub none_past : (kind : Kind) (bs : List BlockState) (l k : ℕ) → length bs ≤ k → message_on kind l (block_at bs k) ≡ None
+none_past Replies bs l k past = grind (arith, get_or_past)
+none_past Requests bs l k past = grind (arith, get_or_past)
+
+-- ---- the links to switch n, and the one to unit i of the sort in which the way ends
+abbrev pub links : Kind → ℕ → ℕ → Ports ℕ
+links Replies d n = reply_links d (stage_of d n) (index_of d n)
+links Requests d n = request_links d (stage_of d n) (index_of d n)
+
+abbrev pub end_link : Kind → ℕ → ℕ → ℕ
+end_link Replies d p = delivery_link d p
+end_link Requests d m = memory_link d m
+
+abbrev pub end_number : Kind → ℕ → ℕ → ℕ
+end_number Replies d p = element_number d p
+end_number Requests d m = module_number d m
+
+pub end_link_small : (kind : Kind) (d : ℕ) → 1 ≤ d → d ≤ 6 → (i : ℕ) → i < 2 ^ d → end_link kind d i < (d + 1) * 2 ^ d
+end_link_small kind d low high i h = grind arith
+
+-- ---- the unit to which a link leads
+abbrev pub reader : Kind → ℕ → ℕ → ℕ
+reader Replies = reply_reader
+reader Requests = request_reader
+
+-- the inlets of unit n lead to it
+pub record LeadHere (kind : Kind) (d n : ℕ) (p : Ports ℕ) : Type 0 where
+  pub zero_small : p.zero < (d + 1) * 2 ^ d
+  pub one_small : p.one < (d + 1) * 2 ^ d
+  pub zero_reader : reader kind d p.zero ≡ n
+  pub one_reader : reader kind d p.one ≡ n
+
+pub lead_here : (kind : Kind) (d : ℕ) → 1 ≤ d → d ≤ 6 → (n : ℕ) (p : Ports ℕ) → inlets kind d n ≡ Some p → LeadHere kind d n p
+lead_here Replies d low high n p is = let it = are_read reply_inlets reply_reader replies_read d low high n p is in grind arith
+lead_here Requests d low high n p is = let it = are_read request_inlets request_reader requests_read d low high n p is in grind arith
+
+-- link l is one of these
+abbrev is_among : ℕ → Option (Ports ℕ) → Bool
+is_among l None = false
+is_among l (Some p) = (l == p.zero) || (l == p.one)
+
+abbrev leads : Kind → ℕ → ℕ → Bool
+leads kind d l = nat_lt (reader kind d l) (unit_count d) && is_among l (inlets kind d (reader kind d l))
+
+all_lead : (kind : Kind) → all_below (λ k. all_below (leads kind (k + 1)) ((k + 1 + 1) * 2 ^ (k + 1))) 6 ≡ true
+unfolding all_below
+all_lead Replies = refl
+all_lead Requests = refl
+
+pub record LeadsTo (kind : Kind) (d l n : ℕ) : Type 0 where
+  pub small : n < unit_count d
+  pub among : is_among l (inlets kind d n) ≡ true
+
+pub leads_to : (kind : Kind) (d : ℕ) → 1 ≤ d → d ≤ 6 → (l : ℕ) → l < (d + 1) * 2 ^ d → LeadsTo kind d l (reader kind d l)
+leads_to kind d low high l h =
+    let it = all_below_at (leads kind d) _ (each_network (λ d. all_below (leads kind d) ((d + 1) * 2 ^ d)) (all_lead kind) d low high) l h in
+    grind (arith, nat_tests)
+
+-- where nothing is on the inlets of a unit, nothing is on this one
+pub none_among : {M : Type 0} (t : List (Option M)) (l : ℕ) (o : Option (Ports ℕ)) → is_among l o ≡ true → AreEmpty t o → on_link t l ≡ None
+none_among t l None among none = cc
+none_among t l (Some p) among none = grind (arith, nat_tests)
+
+-- what holds of the inlets of each unit
+pub by_inlets : (kind : Kind) (d : ℕ) (P : ℕ → Option (Ports ℕ) → Type 0) → ((n : ℕ) → n < switch_count d → P n (Some (links kind d n)))
+    → ((i : ℕ) → i < 2 ^ d → P (end_number kind d i) (Some (ports (end_link kind d i) (end_link kind d i)))) → ((n : ℕ) → P n None) → (n : ℕ) → P n (inlets kind d n)
+by_inlets Replies d P switches ends none n = let switch = switches n in let end = ends (n - element_number d 0) in grind (arith, unit_is)
+by_inlets Requests d P switches ends none n = let switch = switches n in let end = ends (n - module_number d 0) in grind (arith, unit_is)
+
+module _ (kind : Kind) (d : ℕ) (partition : List ℕ) (bs : List BlockState) (cut : IsCut d partition bs) (there : AreThere kind d partition bs) where
+  -- what comes to unit n is in its block
+  module _ (n : ℕ) (h : n < unit_count d) (p : Ports ℕ) (is : inlets kind d n ≡ Some p) where
+    none_for : (k : ℕ) → k < length bs → k ≢ home partition n → AreEmpty (table kind (block_at bs k)) (Some p)
+    none_for k within other = subst (λ o. AreEmpty (table kind (block_at bs k)) o) is (there k n within h (λ e. other (sym e)))
+
+    come : ports (first (on_each kind bs p.zero)) (first (on_each kind bs p.one)) ≡ on_both (table kind (block_at bs (home partition n))) p
+    come = grind (arith, column_first, none_for)
+
+  pub switch_there : (n : ℕ) → n < switch_count d → ports (first (on_each kind bs (links kind d n).zero)) (first (on_each kind bs (links kind d n).one)) ≡ on_both (table kind (block_at bs (home partition n))) (links kind d n)
+  switch_there n h = come n (omega arith) (links kind d n) (grind arith)
+
+  pub end_there : (i : ℕ) → i < 2 ^ d → first (on_each kind bs (end_link kind d i)) ≡ message_on kind (end_link kind d i) (block_at bs (home partition (end_number kind d i)))
+  end_there i h = ap (λ q. q.zero) (come (end_number kind d i) (grind arith) (ports (end_link kind d i) (end_link kind d i)) (grind arith))
+
+  -- what is on a link is in the block of the unit to which it leads
+  pub nothing_away : 1 ≤ d → d ≤ 6 → (k l : ℕ) → k < length bs → l < (d + 1) * 2 ^ d → home partition (reader kind d l) ≢ k → message_on kind l (block_at bs k) ≡ None
+  nothing_away low high k l within small away =
+      let it = leads_to kind d low high l small in none_among (table kind (block_at bs k)) l _ it.among (there k (reader kind d l) within it.small away)
 
 -- ---- two tables: what the one has on two links goes to the other
 abbrev left : {M : Type 0} → List (Option M) → Ports ℕ → List (Option M)
@@ -55,12 +170,12 @@ module _ {X : Type 0} (g : BlockState → Option X) (k h : ℕ) (bs now : List B
     single_after goes i j other there = grind arith
 
     first_by : Goes → (o : Option X) → g (block_at bs k) ≡ o → first (map g now) ≡ first (map g bs)
-    first_by goes None is = ap first (same_entries g bs now count (grind arith))
+    first_by goes None is = ap first (same_entries g g bs now count (grind arith))
     first_by goes (Some x) is = column_first g now h (omega arith) (grind arith) ∙ grind arith ∙ sym (column_first g bs k k_within (grind arith))
 
     first_after : Goes ⊎ Stays → first (map g now) ≡ first (map g bs)
     first_after (inl goes) = first_by goes (g (block_at bs k)) refl
-    first_after (inr stays) = ap first (same_entries g bs now count (λ j h. stays j))
+    first_after (inr stays) = ap first (same_entries g g bs now count (λ j h. stays j))
 
 module _ (kind : Kind) where
   pub nothing_moved : (bs : List BlockState) → AreSingle kind bs → OnlyMove kind bs bs
@@ -80,7 +195,7 @@ module _ (kind : Kind) where
     abbrev after : List BlockState
     after = carried kind k h p bs
 
-    abbrev was : ℕ → List (Option (Message kind))
+    abbrev was : ℕ → List (Option (MessageOf kind))
     was j = table kind (block_at bs j)
 
     count : length after ≡ length bs
@@ -95,38 +210,15 @@ module _ (kind : Kind) where
     others : (j : ℕ) → j ≢ k → j ≢ h → block_at after j ≡ block_at bs j
     others j nk nh = grind (arith, get_or-set_other)
 
-    table_k : table kind (block_at after k) ≡ left (was k) p
-    table_k = ap (table kind) at_k ∙ table_with kind (left (was k) p) (block_at bs k)
-
-    table_h : table kind (block_at after h) ≡ got (was k) (was h) p
-    table_h = ap (table kind) at_h ∙ table_with kind (got (was k) (was h) p) (block_at bs h)
-
     module _ (zero_small : p.zero < length (was h)) (one_small : p.one < length (was h)) where
       goes : (l : ℕ) → (l ≡ p.zero) ⊎ (l ≡ p.one) → Goes (message_on kind l) k h bs after
-      goes l inlet = let it = at_inlet (was k) (was h) p zero_small one_small l inlet in record {
-        left = ap (λ t. on_link t l) table_k ∙ it.0;
-        got = ap (λ t. on_link t l) table_h ∙ it.1;
-        others = λ j nk nh. ap (message_on kind l) (others j nk nh);
-      }
+      goes l inlet = let it = at_inlet (was k) (was h) p zero_small one_small l inlet in grind (arith, at_k, at_h, others, table_with)
 
       stays : (l : ℕ) → l ≢ p.zero → l ≢ p.one → Stays (message_on kind l) k h bs after
-      stays l zero one j =
-          let it = at_other (was k) (was h) p l zero one in
-          let same_k : message_on kind l (block_at after k) ≡ message_on kind l (block_at bs k) = ap (λ t. on_link t l) table_k ∙ it.0 in
-          let same_h : message_on kind l (block_at after h) ≡ message_on kind l (block_at bs h) = ap (λ t. on_link t l) table_h ∙ it.1 in
-          grind (arith, others)
+      stays l zero one j = let it = at_other (was k) (was h) p l zero one in grind (arith, at_k, at_h, others, table_with)
 
       moves : (l : ℕ) → Goes (message_on kind l) k h bs after ⊎ Stays (message_on kind l) k h bs after
       moves l = grind (arith, goes, stays)
-
-      only_moved : AreSingle kind bs → OnlyMove kind bs after
-      only_moved single = record {
-        count = count;
-        rest = grind (arith, at_k, at_h, others, table_with, with_own);
-        lengths = grind (arith, at_k, at_h, others, table_with, lengths);
-        links = λ l. first_after (message_on kind l) k h bs after count apart k_within h_within (single l) (moves l);
-        single = λ l. single_after (message_on kind l) k h bs after count apart k_within h_within (single l) (moves l);
-      }
 
       -- if that is unit n, which stands there, no other block has anything more for a unit
       module _ (d : ℕ) (low : 1 ≤ d) (high : d ≤ 6) (partition : List ℕ) (n : ℕ) (at_home : home partition n ≡ h) (is : inlets kind d n ≡ Some p) where
@@ -142,23 +234,33 @@ module _ (kind : Kind) where
             (still_none j m q.zero elsewhere it.zero_reader none.0, still_none j m q.one elsewhere it.one_reader none.1)
 
         carried_step : AreSingle kind bs → Step d partition k n bs after
-        carried_step single = record { only = only_moved single; gone = grind (arith, goes); kept = grind (arith, kept_at) }
+        carried_step single = record {
+          only = record {
+            count = count;
+            rest = grind (arith, at_k, at_h, others, table_with, with_own);
+            lengths = grind (arith, at_k, at_h, others, table_with, lengths);
+            links = λ l. first_after (message_on kind l) k h bs after count apart k_within h_within (single l) (moves l);
+            single = λ l. single_after (message_on kind l) k h bs after count apart k_within h_within (single l) (moves l);
+          };
+          gone = grind (arith, goes);
+          kept = grind (arith, kept_at);
+        }
 
   module _ (d : ℕ) (low : 1 ≤ d) (high : d ≤ 6) (partition : List ℕ) (bs : List BlockState) (k n : ℕ) (single : AreSingle kind bs) (k_within : k < length bs) (h_within : home partition n < length bs)
       (links : home partition n ≢ k → (p : Ports ℕ) → inlets kind d n ≡ Some p → length (table kind (block_at bs (home partition n))) ≡ (d + 1) * 2 ^ d) where
-    by_inlets : (o : Option (Ports ℕ)) → inlets kind d n ≡ o → home partition n ≢ k → Step d partition k n bs (elim o [ None ↦ bs | Some p ↦ carried kind k (home partition n) p bs ])
-    by_inlets None is apart = grind (arith, nothing_moved)
-    by_inlets (Some p) is apart =
+    step_by_inlets : (o : Option (Ports ℕ)) → inlets kind d n ≡ o → home partition n ≢ k → Step d partition k n bs (elim o [ None ↦ bs | Some p ↦ carried kind k (home partition n) p bs ])
+    step_by_inlets None is apart = grind (arith, nothing_moved)
+    step_by_inlets (Some p) is apart =
         let it = lead_here kind d low high n p is in
         let all = links apart p is in
         carried_step bs k (home partition n) p apart k_within h_within (omega arith) (omega arith) d low high partition n refl is single
 
-    by_home : (here : Bool) → (home partition n == k) ≡ here → Step d partition k n bs (elim here [ true ↦ bs | false ↦ elim (inlets kind d n) [ None ↦ bs | Some p ↦ carried kind k (home partition n) p bs ] ])
-    by_home true same = grind (arith, nothing_moved)
-    by_home false same = by_inlets (inlets kind d n) refl (differs (home partition n) k same)
+    step_by_home : (here : Bool) → (home partition n == k) ≡ here → Step d partition k n bs (elim here [ true ↦ bs | false ↦ elim (inlets kind d n) [ None ↦ bs | Some p ↦ carried kind k (home partition n) p bs ] ])
+    step_by_home true same = grind (arith, nothing_moved)
+    step_by_home false same = step_by_inlets (inlets kind d n) refl (differs (home partition n) k same)
 
     pub moved_step : (now : List BlockState) → now ≡ moved kind d k (home partition n) n bs → Step d partition k n bs now
-    moved_step now is = rw is (by_home (home partition n == k) refl)
+    moved_step now is = rw is (step_by_home (home partition n == k) refl)
 
 -- where nothing leaves a block for units elsewhere
 pub none_leaves : (kind : Kind) (d : ℕ) (partition : List ℕ) (bs : List BlockState) (k from to : ℕ) → IsCut d partition bs → k < length bs → NoneLeavesWithin kind (block_at bs k) from to
@@ -171,7 +273,8 @@ module _ (d : ℕ) (partition : List ℕ) (bs now : List BlockState) where
   still_cut kind only cut = grind arith
 
   pub still_blocks : (kind : Kind) → OnlyMove kind bs now → AreBlocks d partition bs → AreBlocks d partition now
-  still_blocks kind only blocks = grind (arith, still_cut, shaped_with, links_of)
+  still_blocks Replies only blocks = grind (arith, still_cut)
+  still_blocks Requests only blocks = grind (arith, still_cut)
 
   -- the machine's units, and what is on each link
   pub alike : (kind : Kind) (g : Frame) → OnlyMove kind bs now → AreAlike d (frame_of d partition bs) g → AreAlike d (frame_of d partition now) g

@@ -83,8 +83,3 @@ module _ {X : Type 0} (sort : Sort X) (d : ℕ) (partition : List ℕ) (bs : Lis
   -- a test of what stands in a block is that of the machine's unit, if it stands there
   pub if_home : (p : X → Bool) (k : ℕ) → k < length bs → if_here p (sort.at (block_at bs k) i) ≡ ((home partition n == k) && p unit)
   if_home p k within = let stands = stands_at k within in grind (arith, here)
-
--- ---- by their sorts
-module _ (d : ℕ) (partition : List ℕ) (bs : List BlockState) (cut : IsCut d partition bs) where
-  pub element_at_home : (p : ℕ) → p < 2 ^ d → is_some (element_at (block_at bs (home partition (element_number d p))).elements p) ≡ true
-  element_at_home p h = there elements d partition bs cut p h

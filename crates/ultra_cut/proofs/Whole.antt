@@ -1,273 +1,248 @@
 -- A cycle of blocks that are a whole machine, half by half, as steps give them: what each half asks is met, and after the
 -- last one the blocks are the machine after one cycle of the definition.
-use Rattle.std.proofs.Common.{◌≡◌, ℕ, ◌+◌, ◌<◌, ◌≤◌, List, [], ◌++◌, length, arith, ◌^◌, sym, ap, subst}
+use Rattle.std.proofs.Common.{◌≡◌, ℕ, ◌+◌, ◌*◌, ◌<◌, ◌≤◌, List, [], refl, ◌++◌, ◌∙◌, length, arith, ◌^◌, sym, ap, subst}
 use Rattle.std.specs.Prelude.{◌-◌}
-use Rattle.std.specs.Option.{ForSome}
 use Rattle.ultra_msg.specs.declared.Event.{Event}
-use Rattle.ultra_msg.specs.declared.ReplyMessage.{ReplyMessage}
 use Rattle.ultra_isa.specs.declared.Instr.{Instr}
 use Rattle.ultra_model.specs.Machine.{Settings, Machine}
-use Rattle.ultra_model.specs.Phases.{cycle, memory_phase, processor_phase, reply_phase, request_phase}
+use Rattle.ultra_model.specs.Phases.{cycle, memory_phase, reply_phase, request_phase}
 use Rattle.ultra_model.proofs.Routes.{delivered_well}
 use Rattle.ultra_section.specs.declared.rooms.Rooms.{Rooms}
 use Rattle.ultra_section.specs.BlockState.{BlockState}
-use Rattle.ultra_section.specs.Making.{made}
+use Rattle.ultra_section.specs.declared.half.Half.{Half}
 use Rattle.ultra_section.specs.declared.half.Half.TheVariants.{SendReplies, TakeReplies, Serve, SendRequests, TakeRequests, Execute}
-use Rattle.ultra_course.specs.Frame.{Frame, AreAlike, AreRooms, IsClear}
-use Rattle.ultra_course.specs.Course.{combinations, deliveries, executes, issues, reply_to, sends_replies, sends_requests, serves, servings, stops, takes_replies, takes_requests}
+use Rattle.ultra_course.specs.Frame.{Frame, AreAlike, IsClear}
+use Rattle.ultra_course.specs.Course.{combinations, deliveries, executes, issues, sends_replies, sends_requests, serves, servings, stops, takes_replies, takes_requests}
 use Rattle.ultra_course.specs.Whole.{IsFrameOf}
-use Rattle.ultra_course.proofs.Replies.{comes_home}
-use Rattle.ultra_course.proofs.Steps as step
+use Rattle.ultra_course.proofs.Phases as step
+use Rattle.ultra_course.proofs.Phases.{comes_home}
 use Rattle.ultra_cut.specs.declared.kind.Kind.{Kind}
 use Rattle.ultra_cut.specs.declared.kind.Kind.TheVariants.{Replies, Requests}
 use Rattle.ultra_cut.specs.Cut.{block_at, IsCut, frame_of}
 use Rattle.ultra_cut.specs.Exchange.{OnlyMove, AreThere, AreSingle}
-use Rattle.ultra_cut.specs.Halves.{AreBlocks, HasHalfRoom, OfEach, AllCanMake, HaveFrame, all_made, noted, AreMade, AreSent}
-use Rattle.ultra_cut.specs.Happenings.{AddsEvents, AddsStops, Course, HasListed, HaveListed, ListWhatHappens}
-use Rattle.ultra_cut.specs.Events.{events_of, stops_of}
-use Rattle.ultra_cut.specs.Moments.{AreMachine, AreWhole, machine_in}
-use Rattle.ultra_cut.specs.Whole.{AreRoomsOfAll}
-use Rattle.ultra_cut.proofs.Listing.{events_added_law}
+use Rattle.ultra_cut.specs.Halves.{all_made, AllCanMake, AreBlocks, AreBlocksAfter, AreMerged, cycles_made, events_of_replies, events_of_requests, events_of_service, events_of_steps, HasHalfRoom, HaveFrame, Lists, lists_after, ListWhatHappens, noted, OfEach, stops_of_steps}
+use Rattle.ultra_cut.specs.Events.{event_rank, events_of, stop_rank, stops_of}
+use Rattle.ultra_cut.specs.Moments.{AreMachine, AreRoomsOfAll, AreWhole, machine_in}
+use Rattle.ultra_cut.proofs.Halves.{added_law}
 use Rattle.ultra_cut.proofs.Moved.{still_blocks, alike}
-use Rattle.ultra_cut.proofs.Happenings.{happenings_law, in_order_law}
+use Rattle.ultra_cut.proofs.Happenings.{happenings_law, merged_law}
+use Rattle.ultra_cut.proofs.Merged.{listed_behind, nothing_listed, same_listed}
 use Rattle.ultra_cut.proofs.Halves as half
-use Rattle.ultra_cut.proofs.Columns.{changed_at}
 
-module _ (d : ℕ) (partition : List ℕ) (program : List Instr) (n : ℕ) where
-  -- what is known of blocks in the course of a cycle: n cycles are done; each block has listed at most `most` events and
-  -- no stops
-  pub record AreAt (most : ℕ) (bs : List BlockState) : Type 0 where
-    pub blocks : AreBlocks d partition bs
-    pub runs : OfEach (λ b. b.program ≡ program) bs
-    pub done : OfEach (λ b. b.done ≡ n) bs
-    pub few : OfEach (λ b. length b.events ≤ most) bs
-    pub no_stops : OfEach (λ b. b.stops ≡ []) bs
-
-  module _ (most : ℕ) (bs : List BlockState) (at : AreAt most bs) where
-    -- there is memory for the events of one more half
-    pub half_room : most ≤ 1920 → OfEach HasHalfRoom bs
-    half_room small k h = let few = at.few k h in omega arith
-
-    -- what each half adds to the lists of block k
-    pub adds : (rooms : Rooms) (k : ℕ) → k < length bs → AddsEvents d rooms program (block_at bs k) × AddsStops d rooms program (block_at bs k)
-    adds rooms k h = events_added_law d rooms program (block_at bs k) at.blocks.some_stages at.blocks.few_stages (at.blocks.shaped k h)
-
-    -- messages have gone to other blocks
-    pub at_moved : (kind : Kind) (now : List BlockState) → OnlyMove kind bs now → AreAt most now
-    at_moved Replies now only = grind (arith, still_blocks)
-    at_moved Requests now only = grind (arith, still_blocks)
-
-    -- each block has made a half
-    pub at_made : (now : List BlockState) (g : Frame) → AreMade d partition 0 bs now g → AreAt (most + 640) now
-    at_made now g made = grind arith
-
-  -- what a block has listed after a cycle: after each half it is this
-  module _ (x : Course) (first second : Rooms) (served : List BlockState) (k : ℕ) (a : AreAt 0 x.replies_sent) (b : AreAt 640 x.replies_taken) (g : AreAt 1280 x.requests_sent) (w : AreAt 1920 x.requests_taken)
-      (h : k < length x.replies_sent) (hb : k < length x.replies_taken) (hg : k < length x.requests_sent) (hw : k < length x.requests_taken)
-      (taken : block_at x.replies_taken k ≡ made TakeReplies first program (block_at x.replies_sent k)) (acted : block_at served k ≡ made Serve first program (block_at x.replies_taken k))
-      (none : (block_at x.replies_sent k).events ≡ []) (same : (block_at x.requests_sent k).events ≡ (block_at served k).events)
-      (waiting : block_at x.requests_taken k ≡ made TakeRequests second program (block_at x.requests_sent k)) (stepped : block_at x.steps_made k ≡ made Execute second program (block_at x.requests_taken k)) where
-    lists : HasListed d n partition program x k
-    lists =
-        let t = adds 0 x.replies_sent a first k h in
-        let s = adds 640 x.replies_taken b first k hb in
-        let r = adds 1280 x.requests_sent g second k hg in
-        let i = adds 1920 x.requests_taken w second k hw in
-        let done = g.done k hg in
-        let none_stop = w.no_stops k hw in
-        record { events = cc; stops = cc }
-
-module _ (c : Settings) (partition : List ℕ) (n : ℕ) (program : List Instr) (bs : List BlockState) (start : AreWhole c program partition n bs) (e : ℕ) (net : e ≡ c.stages)
-    (first : Rooms) (first_noted : AreRoomsOfAll bs first) (sent : List BlockState) (sent_is : sent ≡ all_made SendReplies first program bs) where
+module _ (c : Settings) (partition : List ℕ) (n : ℕ) (program : List Instr) where
   abbrev d : ℕ
   d = c.stages
 
-  abbrev f : List BlockState → Frame
-  f xs = frame_of d partition xs
+  -- what is known of blocks in the course of a cycle: n cycles are done; they have listed what has happened so far, in the
+  -- ranks below `top`, a block at most two events for each of these; and no stops
+  pub record AreAt (top : ℕ) (so_far : List Event) (bs : List BlockState) : Type 0 where
+    pub blocks : AreBlocks d partition bs
+    pub runs : OfEach (λ b. b.program ≡ program) bs
+    pub done : OfEach (λ b. b.done ≡ n) bs
+    pub few : OfEach (λ b. length b.events ≤ 2 * top) bs
+    pub listed : AreMerged (event_rank d) 0 top (λ b. b.events) bs so_far
+    pub no_stops : OfEach (λ b. b.stops ≡ []) bs
 
-  abbrev m : Machine
-  m = machine_in c partition n bs
+  module _ (top : ℕ) (so_far : List Event) (bs : List BlockState) (at : AreAt top so_far bs) where
+    -- there is memory for the events of one more half
+    half_room : top ≤ 960 → OfEach HasHalfRoom bs
+    half_room small k h = let few = at.few k h in omega arith
 
-  first_room : AreRooms d (f bs) (noted d first)
-  first_room = first_noted d partition start.machine.blocks
-
-  -- ---- replies have left
-  are_sent : AreSent d partition Replies bs sent (sends_replies d (noted d first) (f bs))
-  are_sent = rw sent_is (half.replies_sent d partition bs first program start.machine.blocks start.clear.replies)
-
-  pub sent_cut : IsCut e partition sent
-  sent_cut = rw net are_sent.frame.blocks.blocks.cut
-
-  pub sent_single : AreSingle Replies sent
-  sent_single = are_sent.single
-
-  pub at_sent : AreAt d partition program n 0 sent
-  at_sent = grind (arith, are_sent)
-
-  -- ---- they have been exchanged
-  module _ (replies : List BlockState) (moved : OnlyMove Replies sent replies) (there : AreThere Replies e partition replies) where
-    replies_there : AreThere Replies d partition replies
-    replies_there = rw (← net) there
-
-    as_sent : AreAlike d (f replies) (sends_replies d (noted d first) (f bs))
-    as_sent = alike d partition sent replies Replies (sends_replies d (noted d first) (f bs)) moved are_sent.frame.frame
-
-    -- each reply on the link to a processing element names it
-    replies_home : (p : ℕ) → p < 2 ^ d → ForSome (reply_to d (f replies) p) (λ (r : ReplyMessage). r.pe ≡ p)
-    replies_home p hp r is =
-        let sound = start.machine.machine.sound in
-        let well = delivered_well c start.machine.machine.range m sound.routes p hp in
-        let came = comes_home c n (f bs) (events_of d bs) (stops_of d bs) m start.machine.machine (noted d first) first_room (f replies) as_sent p hp in
+    -- nothing more is listed
+    at_same : (now : List BlockState) → AreBlocksAfter d partition SendRequests program bs now → AreAt top so_far now
+    at_same now after =
+        let listed = same_listed (event_rank d) 0 top bs now (λ b. b.events) (λ b. b.events) so_far after.count (λ k h. ap (λ (l : Lists). l.events) (after.lists k h)) at.listed in
         grind arith
 
-    at_replies : AreAt d partition program n 0 replies
-    at_replies = at_moved d partition program n 0 sent at_sent Replies replies moved
+    -- messages have gone to other blocks
+    at_moved : (kind : Kind) (now : List BlockState) → OnlyMove kind bs now → AreAt top so_far now
+    at_moved Replies now only = at_same now (grind (arith, still_blocks))
+    at_moved Requests now only = at_same now (grind (arith, still_blocks))
 
-    pub can_take_replies : AllCanMake program TakeReplies replies
-    can_take_replies =
-        half.can_take_replies d partition program replies at_replies.blocks (half_room d partition program n 0 replies at_replies (omega arith)) replies_there
-        (step.can_take_replies c n (f bs) (events_of d bs) (stops_of d bs) m start.machine.machine (noted d first) first_room (f replies) as_sent)
+    -- each block has made a half in which it lists this
+    at_made : (half : Half) (now : List BlockState) (g : Frame) (more : BlockState → List Event) (rest : List Event) → HaveFrame d partition half program bs now g → cycles_made half ≡ 0
+        → OfEach (λ b. lists_after d half program b ≡ record { events = b.events ++ more b; stops = b.stops }) bs
+        → AreMerged (event_rank d) top (top + 320) more bs rest → AreAt (top + 320) (so_far ++ rest) now
+    at_made half now g more rest is same adds merged =
+        let listed =
+        listed_behind (event_rank d) 0 top (top + 320) (omega arith) (omega arith) bs now is.blocks.count (λ b. b.events) more (λ b. b.events)
+        (λ k h. ap (λ (l : Lists). l.events) (is.blocks.lists k h ∙ adds k h)) so_far rest at.listed merged in
+        grind arith
 
-    -- ---- they have been taken
-    module _ (taken : List BlockState) (taken_is : taken ≡ all_made TakeReplies first program replies) where
-      are_taken : AreMade d partition 0 replies taken (takes_replies d (f replies))
-      are_taken = rw taken_is (half.replies_taken d partition replies first program at_replies.blocks replies_there)
+  module _ (bs : List BlockState) (start : AreWhole c program partition n bs) (e : ℕ) (net : e ≡ c.stages)
+      (first : Rooms) (first_noted : AreRoomsOfAll bs first) (sent : List BlockState) (sent_is : sent ≡ all_made SendReplies first program bs) where
+    abbrev f : List BlockState → Frame
+    f xs = frame_of d partition xs
 
-      at_taken : AreAt d partition program n 640 taken
-      at_taken = at_made d partition program n 0 replies at_replies taken _ are_taken
+    abbrev m : Machine
+    m = machine_in c partition n bs
 
-      frame_taken : IsFrameOf c n (f taken) (deliveries d (f replies)) [] (reply_phase c m)
-      frame_taken = step.replied c n (f bs) (events_of d bs) (stops_of d bs) m start.machine.machine (noted d first) first_room (f replies) as_sent (f taken) are_taken.frame.frame
+    -- ---- replies have left
+    are_sent : HaveFrame d partition SendReplies program bs sent (sends_replies d (noted d first) (f bs)) × AreSingle Replies sent
+    are_sent = rw sent_is (half.replies_sent d partition bs first program start.machine.blocks start.clear.replies)
 
-      pub can_serve : AllCanMake program Serve taken
-      can_serve = half.can_serve_law program taken (half_room d partition program n 640 taken at_taken (omega arith))
+    pub sent_cut : IsCut e partition sent
+    sent_cut = rw net are_sent.0.blocks.blocks.cut
 
-      -- ---- memory has served
-      module _ (served : List BlockState) (served_is : served ≡ all_made Serve first program taken) where
-        have_served : AreMade d partition 0 taken served (serves d (f taken))
-        have_served = rw served_is (half.have_served d partition taken first program at_taken.blocks)
+    pub sent_single : AreSingle Replies sent
+    sent_single = are_sent.1
 
-        pub at_served : AreAt d partition program n 1280 served
-        at_served = at_made d partition program n 640 taken at_taken served _ have_served
+    pub at_sent : AreAt 0 [] sent
+    at_sent =
+        let after = are_sent.0.blocks in
+        let none : OfEach (λ b. b.events ≡ []) sent = grind arith in
+        let listed = nothing_listed (event_rank d) 0 0 (λ b. b.events) sent none in
+        grind arith
 
-        abbrev so_far : List Event
-        so_far = deliveries d (f replies) ++ servings d (f taken)
+    -- ---- they have been exchanged
+    module _ (replies : List BlockState) (moved : OnlyMove Replies sent replies) (there : AreThere Replies e partition replies) where
+      replies_there : AreThere Replies d partition replies
+      replies_there = rw (← net) there
 
-        abbrev middle : Machine
-        middle = memory_phase c (reply_phase c m)
+      as_sent : AreAlike d (f replies) (sends_replies d (noted d first) (f bs))
+      as_sent = alike d partition sent replies Replies (sends_replies d (noted d first) (f bs)) moved are_sent.0.frame
 
-        frame_served : IsFrameOf c n (f served) so_far [] middle
-        frame_served = step.served c n (f taken) (deliveries d (f replies)) [] (reply_phase c m) frame_taken (f served) have_served.frame.frame
+      at_replies : AreAt 0 [] replies
+      at_replies = at_moved 0 [] sent at_sent Replies replies moved
 
-        pub served_clear : IsClear d (f served)
-        served_clear = grind (arith, have_served, are_taken, as_sent)
+      pub can_take_replies : AllCanMake program TakeReplies replies
+      can_take_replies =
+          half.can_take_replies d partition program replies at_replies.blocks (half_room 0 [] replies at_replies (omega arith)) replies_there
+          (step.can_take_replies c n (f bs) (events_of d bs) (stops_of d bs) m start.machine.machine (noted d first) (first_noted d partition start.machine.blocks) (f replies) as_sent)
 
-        -- ---- requests have left
-        module _ (second : Rooms) (second_noted : AreRoomsOfAll served second) (sent_on : List BlockState) (sent_on_is : sent_on ≡ all_made SendRequests second program served) where
-          second_room : AreRooms d (f served) (noted d second)
-          second_room = second_noted d partition at_served.blocks
+      -- ---- they have been taken
+      module _ (taken : List BlockState) (taken_is : taken ≡ all_made TakeReplies first program replies) where
+        are_taken : HaveFrame d partition TakeReplies program replies taken (takes_replies d (f replies))
+        are_taken = rw taken_is (half.replies_taken d partition replies first program at_replies.blocks replies_there)
 
-          are_sent_on : AreSent d partition Requests served sent_on (sends_requests d (noted d second) (f served))
-          are_sent_on = rw sent_on_is (half.requests_sent d partition served second program at_served.blocks served_clear.requests)
+        at_taken : AreAt 320 (deliveries d (f replies)) taken
+        at_taken =
+            let happens = (happenings_law d n partition program replies at_replies.blocks).taking_replies replies_there (λ p hp r is.
+            let sound = start.machine.machine.sound in
+            let well = delivered_well c start.machine.machine.range m sound.routes p hp in
+            let came = comes_home c n (f bs) (events_of d bs) (stops_of d bs) m start.machine.machine (noted d first) (first_noted d partition start.machine.blocks) (f replies) as_sent p hp in
+            grind arith) in
+            at_made 0 [] replies at_replies TakeReplies taken (takes_replies d (f replies)) (events_of_replies d) (deliveries d (f replies)) are_taken refl (λ k h. refl) happens
 
-          pub sent_on_cut : IsCut e partition sent_on
-          sent_on_cut = rw net are_sent_on.frame.blocks.blocks.cut
+        frame_taken : IsFrameOf c n (f taken) (deliveries d (f replies)) [] (reply_phase c m)
+        frame_taken = step.replied c n (f bs) (events_of d bs) (stops_of d bs) m start.machine.machine (noted d first) (first_noted d partition start.machine.blocks) (f replies) as_sent (f taken) are_taken.frame
 
-          pub sent_on_single : AreSingle Requests sent_on
-          sent_on_single = are_sent_on.single
+        pub can_serve : AllCanMake program Serve taken
+        can_serve = half.can_serve_law program taken (half_room 320 (deliveries d (f replies)) taken at_taken (omega arith))
 
-          pub at_sent_on : AreAt d partition program n 1280 sent_on
-          at_sent_on = grind (arith, at_served, are_sent_on)
+        -- ---- memory has served
+        module _ (served : List BlockState) (served_is : served ≡ all_made Serve first program taken) where
+          have_served : HaveFrame d partition Serve program taken served (serves d (f taken))
+          have_served = rw served_is (half.have_served d partition taken first program at_taken.blocks)
 
-          -- ---- they have been exchanged
-          module _ (requests : List BlockState) (moved_on : OnlyMove Requests sent_on requests) (there_now : AreThere Requests e partition requests) where
-            requests_there : AreThere Requests d partition requests
-            requests_there = rw (← net) there_now
+          abbrev so_far : List Event
+          so_far = deliveries d (f replies) ++ servings d (f taken)
 
-            as_sent_on : AreAlike d (f requests) (sends_requests d (noted d second) (f served))
-            as_sent_on = alike d partition sent_on requests Requests (sends_requests d (noted d second) (f served)) moved_on are_sent_on.frame.frame
+          pub at_served : AreAt 640 so_far served
+          at_served =
+              let happens = (happenings_law d n partition program taken at_taken.blocks).serving in
+              at_made 320 (deliveries d (f replies)) taken at_taken Serve served (serves d (f taken)) (events_of_service d) (servings d (f taken)) have_served refl (λ k h. refl) happens
 
-            at_requests : AreAt d partition program n 1280 requests
-            at_requests = at_moved d partition program n 1280 sent_on at_sent_on Requests requests moved_on
+          abbrev middle : Machine
+          middle = memory_phase c (reply_phase c m)
 
-            pub can_take_requests : AllCanMake program TakeRequests requests
-            can_take_requests =
-                half.can_take_requests d partition program requests at_requests.blocks (half_room d partition program n 1280 requests at_requests (omega arith)) requests_there
-                (step.can_take_requests c n (f served) so_far [] middle frame_served (noted d second) second_room (f requests) as_sent_on)
+          frame_served : IsFrameOf c n (f served) so_far [] middle
+          frame_served = step.served c n (f taken) (deliveries d (f replies)) [] (reply_phase c m) frame_taken (f served) have_served.frame
 
-            -- ---- they have been taken
-            module _ (early : n < 2 ^ 32 - 1) (waiting : List BlockState) (waiting_is : waiting ≡ all_made TakeRequests second program requests) where
-              are_waiting : AreMade d partition 0 requests waiting (takes_requests d n (f requests))
-              are_waiting = rw waiting_is (half.requests_taken d partition requests second program at_requests.blocks n at_requests.done requests_there)
+          pub served_clear : IsClear d (f served)
+          served_clear = grind (arith, have_served, are_taken, as_sent)
 
-              at_waiting : AreAt d partition program n 1920 waiting
-              at_waiting = at_made d partition program n 1280 requests at_requests waiting _ are_waiting
+          -- ---- requests have left
+          module _ (second : Rooms) (second_noted : AreRoomsOfAll served second) (sent_on : List BlockState) (sent_on_is : sent_on ≡ all_made SendRequests second program served) where
+            are_sent_on : HaveFrame d partition SendRequests program served sent_on (sends_requests d (noted d second) (f served)) × AreSingle Requests sent_on
+            are_sent_on = rw sent_on_is (half.requests_sent d partition served second program at_served.blocks served_clear.requests)
 
-              abbrev third : Machine
-              third = request_phase c middle
+            pub sent_on_cut : IsCut e partition sent_on
+            sent_on_cut = rw net are_sent_on.0.blocks.blocks.cut
 
-              frame_waiting : IsFrameOf c n (f waiting) (so_far ++ combinations d n (f requests)) [] third
-              frame_waiting = step.requested c n (f served) so_far [] middle frame_served (noted d second) second_room (f requests) as_sent_on (f waiting) are_waiting.frame.frame
+            pub sent_on_single : AreSingle Requests sent_on
+            sent_on_single = are_sent_on.1
 
-              pub can_execute : AllCanMake program Execute waiting
-              can_execute =
-                  half.can_execute d partition program waiting at_waiting.blocks (half_room d partition program n 1920 waiting at_waiting (omega arith))
-                  at_waiting.runs (grind (arith, at_waiting)) (step.can_execute c n (f waiting) (so_far ++ combinations d n (f requests)) [] third frame_waiting early) at_waiting.no_stops
+            pub at_sent_on : AreAt 640 so_far sent_on
+            at_sent_on = at_same 640 so_far served at_served sent_on are_sent_on.0.blocks
 
-              -- ---- processing elements have made a step
-              module _ (stepped : List BlockState) (stepped_is : stepped ≡ all_made Execute second program waiting) where
-                have_executed : HaveFrame d partition 1 waiting stepped (executes d program (f waiting))
-                have_executed = rw stepped_is (half.have_executed d partition waiting second program at_waiting.blocks)
+            -- ---- they have been exchanged
+            module _ (requests : List BlockState) (moved_on : OnlyMove Requests sent_on requests) (there_now : AreThere Requests e partition requests) where
+              requests_there : AreThere Requests d partition requests
+              requests_there = rw (← net) there_now
 
-                frame_stepped : IsFrameOf c (n + 1) (f stepped) ((so_far ++ combinations d n (f requests)) ++ issues d program (f waiting)) (stops d program (f waiting)) (processor_phase c program third)
-                frame_stepped = step.stepped c n (f waiting) (so_far ++ combinations d n (f requests)) [] third frame_waiting program (f stepped) have_executed.frame
+              as_sent_on : AreAlike d (f requests) (sends_requests d (noted d second) (f served))
+              as_sent_on = alike d partition sent_on requests Requests (sends_requests d (noted d second) (f served)) moved_on are_sent_on.0.frame
 
-                -- ---- what the blocks have listed
-                abbrev course : Course
-                course = record {
-                  replies_sent = replies;
-                  replies_taken = taken;
-                  requests_sent = requests;
-                  requests_taken = waiting;
-                  steps_made = stepped;
-                }
+              at_requests : AreAt 640 so_far requests
+              at_requests = at_moved 640 so_far sent_on at_sent_on Requests requests moved_on
 
-                have_listed : HaveListed d n partition program course
-                have_listed = record {
-                  replies_sent = (at_replies.blocks, grind (arith, are_taken, have_served, are_sent_on, are_waiting, have_executed));
-                  replies_taken = (at_taken.blocks, grind (arith, have_served, are_sent_on, are_waiting, have_executed));
-                  requests_sent = (at_requests.blocks, grind (arith, are_waiting, have_executed));
-                  requests_taken = (at_waiting.blocks, grind (arith, have_executed));
-                  replies_there = replies_there;
-                  requests_there = requests_there;
-                  replies_home = replies_home;
-                  sites = λ p hp. ap (λ s. s.pe) (frame_waiting.fits.sites p hp);
-                  lists = λ k h.
-                      let start_sent = are_sent in let t = are_taken in let s = have_served in let o = are_sent_on in let w = are_waiting in let y = have_executed in
-                      lists d partition program n course first second served k at_replies at_taken at_requests at_waiting (omega arith) (omega arith) (omega arith) (omega arith)
-                      (rw taken_is (changed_at _ replies k (omega arith))) (rw served_is (changed_at _ taken k (omega arith))) (let rest = moved.rest k in let none = start_sent.events k (omega arith) in grind arith) (let rest = moved_on.rest k in let same = o.events k (omega arith) in grind arith)
-                      (rw waiting_is (changed_at _ requests k (omega arith))) (rw stepped_is (changed_at _ waiting k (omega arith)));
-                }
+              pub can_take_requests : AllCanMake program TakeRequests requests
+              can_take_requests =
+                  half.can_take_requests d partition program requests at_requests.blocks (half_room 640 so_far requests at_requests (omega arith)) requests_there
+                  (step.can_take_requests c n (f served) so_far [] middle frame_served (noted d second) (second_noted d partition at_served.blocks) (f requests) as_sent_on)
 
-                what_happens : ListWhatHappens d n partition program course
-                what_happens = happenings_law d n partition program course have_listed
+              -- ---- they have been taken
+              module _ (early : n < 2 ^ 32 - 1) (waiting : List BlockState) (waiting_is : waiting ≡ all_made TakeRequests second program requests) where
+                are_waiting : HaveFrame d partition TakeRequests program requests waiting (takes_requests d n (f requests))
+                are_waiting = rw waiting_is (half.requests_taken d partition requests second program at_requests.blocks n requests_there at_requests.done)
 
-                cycled : AreMachine c program partition (n + 1) (events_of d stepped) (stops_of d stepped) (cycle c program m) stepped
-                unfolding cycle
-                cycled = record {
-                  blocks = have_executed.blocks.blocks;
-                  runs = grind (arith, at_waiting, have_executed);
-                  done = grind (arith, at_waiting, have_executed);
-                  machine = rw (what_happens.events, what_happens.stops) frame_stepped;
-                }
+                abbrev before_steps : List Event
+                before_steps = so_far ++ combinations d n (f requests)
 
-                -- ---- the cycle is over
-                pub next_machine : machine_in c partition (n + 1) stepped ≡ cycle c program m
-                next_machine = cycled.machine.machine
+                at_waiting : AreAt 960 before_steps waiting
+                at_waiting =
+                    let happens = (happenings_law d n partition program requests at_requests.blocks).taking_requests requests_there in
+                    at_made 640 so_far requests at_requests TakeRequests waiting (takes_requests d n (f requests)) (events_of_requests d n) (combinations d n (f requests)) are_waiting refl (λ k h. rw (at_requests.done k h) refl) happens
 
-                pub next_whole : AreWhole c program partition (n + 1) stepped
-                next_whole = record {
-                  machine = subst (λ m. AreMachine c program partition (n + 1) (events_of d stepped) (stops_of d stepped) m stepped) (sym next_machine) cycled;
-                  clear = grind (arith, have_executed, are_waiting, as_sent_on, served_clear);
-                  in_order = in_order_law d n partition program course have_listed;
-                }
+                abbrev third : Machine
+                third = request_phase c middle
+
+                frame_waiting : IsFrameOf c n (f waiting) before_steps [] third
+                frame_waiting = step.requested c n (f served) so_far [] middle frame_served (noted d second) (second_noted d partition at_served.blocks) (f requests) as_sent_on (f waiting) are_waiting.frame
+
+                pub can_execute : AllCanMake program Execute waiting
+                can_execute =
+                    half.can_execute d partition program waiting at_waiting.blocks (half_room 960 before_steps waiting at_waiting (omega arith))
+                    at_waiting.runs (grind (arith, at_waiting)) (step.can_execute c n (f waiting) before_steps [] third frame_waiting early) at_waiting.no_stops
+
+                -- ---- processing elements have made a step
+                module _ (stepped : List BlockState) (stepped_is : stepped ≡ all_made Execute second program waiting) where
+                  have_executed : HaveFrame d partition Execute program waiting stepped (executes d program (f waiting))
+                  have_executed = rw stepped_is (half.have_executed d partition waiting second program at_waiting.blocks)
+
+                  -- ---- what the blocks have listed
+                  happens : ListWhatHappens d partition waiting n program
+                  happens = happenings_law d n partition program waiting at_waiting.blocks
+
+                  listed : AreMerged (event_rank d) 0 1280 (λ b. b.events) stepped (before_steps ++ issues d program (f waiting))
+                  listed =
+                      listed_behind (event_rank d) 0 960 1280 (omega arith) (omega arith) waiting stepped have_executed.blocks.count (λ b. b.events) (events_of_steps d program) (λ b. b.events)
+                      (λ k h. ap (λ (l : Lists). l.events) (have_executed.blocks.lists k h)) before_steps (issues d program (f waiting)) at_waiting.listed
+                      (happens.executing (λ p hp. ap (λ s. s.pe) (frame_waiting.fits.sites p hp)))
+
+                  stopped : AreMerged stop_rank 0 64 (λ b. b.stops) stepped (stops d program (f waiting))
+                  stopped =
+                      same_listed stop_rank 0 64 waiting stepped (stops_of_steps d program) (λ b. b.stops) (stops d program (f waiting)) have_executed.blocks.count
+                      (λ k h. ap (λ (l : Lists). l.stops) (have_executed.blocks.lists k h) ∙ ap (λ ss. ss ++ stops_of_steps d program (block_at waiting k)) (at_waiting.no_stops k h)) happens.stopping
+
+                  cycled : AreMachine c program partition (n + 1) (events_of d stepped) (stops_of d stepped) (cycle c program m) stepped
+                  unfolding cycle
+                  cycled = record {
+                    blocks = have_executed.blocks.blocks;
+                    runs = grind (arith, at_waiting, have_executed);
+                    done = grind (arith, at_waiting, have_executed);
+                    machine = let all = merged_law d stepped _ _ listed stopped in
+                        rw (all.0, all.1) (step.stepped c n (f waiting) before_steps [] third frame_waiting program (f stepped) have_executed.frame);
+                  }
+
+                  -- ---- the cycle is over
+                  pub next_machine : machine_in c partition (n + 1) stepped ≡ cycle c program m
+                  next_machine = cycled.machine.machine
+
+                  pub next_whole : AreWhole c program partition (n + 1) stepped
+                  next_whole = record {
+                    machine = subst (λ m. AreMachine c program partition (n + 1) (events_of d stepped) (stops_of d stepped) m stepped) (sym next_machine) cycled;
+                    clear = grind (arith, have_executed, are_waiting, as_sent_on, served_clear);
+                    in_order = (merged_law d stepped _ _ listed stopped).2;
+                  }

@@ -4,7 +4,7 @@ use Rattle.ultra_msg.specs.declared.Event.{Event}
 use Rattle.ultra_msg.specs.declared.Event.TheVariants.{Delivered, Served, Combined, Issued}
 use Rattle.ultra_model.specs.declared.Stop.{Stop}
 use Rattle.ultra_units.specs.Numbers.{switch_number, module_number, element_number}
-use Rattle.ultra_merge.specs.Merging.{merged}
+use Rattle.ultra_merge.specs.Merging.{IsRanked, merged}
 use Rattle.ultra_section.specs.BlockState.{BlockState}
 
 -- the order in which the rules list what happens in a cycle of a machine of d stages: deliveries by
@@ -26,3 +26,9 @@ events_of d bs = merged (event_rank d) 1280 (map (λ b. b.events) bs)
 -- their faults
 unfoldable pub stops_of : ℕ → List BlockState → List Stop
 stops_of d bs = merged stop_rank 64 (map (λ b. b.stops) bs)
+
+-- a block of a machine of d stages has events in the order of the rules, and stops by processing
+-- element
+pub record IsInOrder (d : ℕ) (b : BlockState) : Type 0 where
+  pub events : IsRanked (event_rank d) 1280 b.events
+  pub stops : IsRanked stop_rank 64 b.stops

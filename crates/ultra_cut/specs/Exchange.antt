@@ -12,16 +12,16 @@ use Rattle.ultra_cut.specs.declared.kind.Kind.{Kind}
 use Rattle.ultra_cut.specs.declared.kind.Kind.TheVariants.{Replies, Requests}
 use Rattle.ultra_cut.specs.Cut.{block_at, home, first}
 
-abbrev pub Message : Kind → Type 0
-Message Replies = ReplyMessage
-Message Requests = Request
+abbrev pub MessageOf : Kind → Type 0
+MessageOf Replies = ReplyMessage
+MessageOf Requests = Request
 
 -- what a block has of a kind on its links, and the block with something else there
-abbrev pub table : (kind : Kind) → BlockState → List (Option (Message kind))
+abbrev pub table : (kind : Kind) → BlockState → List (Option (MessageOf kind))
 table Replies b = b.replies
 table Requests b = b.requests
 
-abbrev pub with_table : (kind : Kind) → List (Option (Message kind)) → BlockState → BlockState
+abbrev pub with_table : (kind : Kind) → List (Option (MessageOf kind)) → BlockState → BlockState
 with_table Replies t b = record b { replies = t }
 with_table Requests t b = record b { requests = t }
 
@@ -31,10 +31,10 @@ inlets Replies d n = reply_inlets d n
 inlets Requests d n = request_inlets d n
 
 -- what a block has on a link, and what each block has there
-abbrev pub message_on : (kind : Kind) → ℕ → BlockState → Option (Message kind)
+abbrev pub message_on : (kind : Kind) → ℕ → BlockState → Option (MessageOf kind)
 message_on kind l b = on_link (table kind b) l
 
-abbrev pub on_each : (kind : Kind) → List BlockState → ℕ → List (Option (Message kind))
+abbrev pub on_each : (kind : Kind) → List BlockState → ℕ → List (Option (MessageOf kind))
 on_each kind bs l = map (message_on kind l) bs
 
 -- ---- before and after

@@ -1,22 +1,37 @@
--- what each half of a cycle does to a machine cut into blocks, and what it asks
-use Rattle.std.specs.Prelude.{◌≡◌, ℕ, ◌+◌, ◌<◌, ◌≤◌, not, List, length, map, ◌-◌, ◌*◌, ◌^◌, [], None}
+-- what each half of a cycle does to a machine cut into blocks, what it asks, and what blocks list
+-- in it
+use Rattle.std.specs.Prelude.{◌≡◌, ℕ, ◌+◌, ◌<◌, ◌≤◌, not, List, length, map, ◌-◌, ◌*◌, ◌^◌, [], None, ◌∷◌, Option, Some, ◌++◌, All}
+use Rattle.std.specs.Option.{ForSome}
+use Rattle.ultra_msg.specs.declared.Event.{Event}
+use Rattle.ultra_msg.specs.declared.ReplyMessage.{ReplyMessage}
+use Rattle.ultra_switch.specs.declared.Switch.{Switch}
+use Rattle.ultra_mem.specs.Serve.{served}
 use Rattle.ultra_isa.specs.declared.Instr.{Instr}
+use Rattle.ultra_model.specs.declared.Stop.{Stop}
+use Rattle.ultra_model.specs.Places.{places, present, joined}
+use Rattle.ultra_model.specs.Phases.{delivery, serving, issue_event, stop_of}
 use Rattle.ultra_units.specs.Set.{has_unit}
-use Rattle.ultra_units.specs.Numbers.{module_number}
+use Rattle.ultra_units.specs.Numbers.{module_number, switch_count}
+use Rattle.ultra_halves.specs.Switches.{combinations_of}
+use Rattle.ultra_halves.specs.Elements.{element_of, step_at}
+use Rattle.ultra_halves.specs.declared.elements.ProcessingElement.{ProcessingElement}
 use Rattle.ultra_section.specs.declared.half.Half.{Half}
 use Rattle.ultra_section.specs.declared.rooms.Rooms.{Rooms as BlockRooms}
-use Rattle.ultra_section.specs.BlockState.{BlockState, most_events}
+use Rattle.ultra_section.specs.BlockState.{BlockState, most_events, switch_at, module_at, element_at}
 use Rattle.ultra_section.specs.Shape.{IsShaped}
 use Rattle.ultra_section.specs.Making.{CanMake, made, own_made}
 use Rattle.ultra_section.specs.declared.half.Half.TheVariants.{SendReplies, TakeReplies, Serve, SendRequests, TakeRequests, Execute}
-use Rattle.ultra_course.specs.Ports.{at_port}
-use Rattle.ultra_course.specs.Frame.{Frame, Rooms, AreAlike}
-use Rattle.ultra_course.specs.Course.{executes, sends_replies, sends_requests, serves, takes_replies, takes_requests}
-use Rattle.ultra_course.specs.Conditions.{CanExecute, CanTakeReplies, CanTakeRequests}
+use Rattle.ultra_section.specs.Units.{stage_of, index_of}
+use Rattle.ultra_section.specs.Marks.{on_link, on_both, delivery_link, request_links}
+use Rattle.ultra_course.specs.Frame.{Frame, Rooms, AreAlike, at_port}
+use Rattle.ultra_course.specs.Course.{executes, sends_replies, sends_requests, serves, takes_replies, takes_requests, reply_to, deliveries, servings, combinations, issues, stops}
+use Rattle.ultra_course.specs.Law.{CanExecute, CanTakeReplies, CanTakeRequests}
+use Rattle.ultra_merge.specs.Merging.{IsRanked, of_rank}
 use Rattle.ultra_cut.specs.Cut.{IsCut, block_at, frame_of, first}
 use Rattle.ultra_cut.specs.declared.kind.Kind.{Kind}
 use Rattle.ultra_cut.specs.declared.kind.Kind.TheVariants.{Replies, Requests}
 use Rattle.ultra_cut.specs.Exchange.{AreThere, AreSingle, on_each}
+use Rattle.ultra_cut.specs.Events.{IsInOrder, event_rank, events_of, stop_rank, stops_of}
 
 -- what has room in the machine, as its blocks have noted it
 abbrev pub noted : ℕ → BlockRooms → Rooms
@@ -46,6 +61,100 @@ HasHalfRoom b = length b.events + 640 ≤ most_events
 abbrev pub AllCanMake : List Instr → Half → List BlockState → Type 0
 AllCanMake program half bs = OfEach (CanMake program half) bs
 
+-- ---- what blocks list in a half, unit by unit, as they are before it
+
+pub record Lists : Type 0 where
+  pub events : List Event
+  pub stops : List Stop
+
+abbrev pub lists_of : BlockState → Lists
+lists_of b = record { events = b.events; stops = b.stops }
+
+-- what is listed of a unit: nothing if it stands elsewhere
+abbrev pub listed_of : {X E : Type 0} → (X → List E) → Option X → List E
+listed_of list None = []
+listed_of list (Some x) = list x
+
+module _ (d : ℕ) where
+  -- what processing element p is given: the reply on its link
+  abbrev pub delivered_to : BlockState → ℕ → ProcessingElement → List Event
+  delivered_to b p e = present (delivery (on_link b.replies (delivery_link d p)) ∷ [])
+
+  unfoldable pub events_of_replies : BlockState → List Event
+  events_of_replies b =
+      joined (places (2 ^ d) (λ p. listed_of (delivered_to b p) (element_at b.elements p)))
+
+  unfoldable pub events_of_service : BlockState → List Event
+  events_of_service b =
+      joined (places (2 ^ d) (λ m.
+      listed_of (λ bank. present (serving m (served bank) ∷ [])) (module_at b.modules m)))
+
+  -- in cycle n, what switch i combines of the requests on its links
+  abbrev pub combined_at : ℕ → BlockState → ℕ → Switch → List Event
+  combined_at n b i w =
+      let came = on_both b.requests (request_links d (stage_of d i) (index_of d i)) in
+      combinations_of d (stage_of d i) (index_of d i) n w came
+
+  unfoldable pub events_of_requests : ℕ → BlockState → List Event
+  events_of_requests n b =
+      joined (places (switch_count d) (λ i. listed_of (combined_at n b i) (switch_at b.switches i)))
+
+  -- what a processing element issues when it makes a step of the program, and its faults
+  abbrev pub issued_by : List Instr → ProcessingElement → List Event
+  issued_by program e = present (issue_event (element_of e) (step_at program e).sent ∷ [])
+
+  unfoldable pub events_of_steps : List Instr → BlockState → List Event
+  events_of_steps program b =
+      joined (places (2 ^ d) (λ p. listed_of (issued_by program) (element_at b.elements p)))
+
+  unfoldable pub stops_of_steps : List Instr → BlockState → List Stop
+  stops_of_steps program b =
+      joined (places (2 ^ d) (λ p.
+      listed_of (λ e. present (stop_of p (step_at program e).was ∷ [])) (element_at b.elements p)))
+
+  -- a block's lists after a half, which adds to their ends; a cycle begins with empty lists
+  abbrev pub lists_after : Half → List Instr → BlockState → Lists
+  lists_after SendReplies program b = record { events = []; stops = [] }
+  lists_after TakeReplies program b =
+      record { events = b.events ++ events_of_replies b; stops = b.stops }
+  lists_after Serve program b = record { events = b.events ++ events_of_service b; stops = b.stops }
+  lists_after SendRequests program b = lists_of b
+  lists_after TakeRequests program b =
+      record { events = b.events ++ events_of_requests b.done b; stops = b.stops }
+  lists_after Execute program b = record {
+    events = b.events ++ events_of_steps program b;
+    stops = b.stops ++ stops_of_steps program b;
+  }
+
+module _ {X : Type 0} (rank : X → ℕ) (low high : ℕ) where
+  -- the ranks ascend, from `low` on and below `high`
+  pub record InRanks (xs : List X) : Type 0 where
+    pub ranked : IsRanked rank high xs
+    pub from : All (λ x. low ≤ rank x) xs
+
+  -- what blocks list is merged into this: each list ascends by rank, and so does the whole, which
+  -- has of each rank what they have, block by block
+  pub record AreMerged (list : BlockState → List X) (bs : List BlockState) (all : List X)
+      : Type 0 where
+    pub each : OfEach (λ b. InRanks (list b)) bs
+    pub whole : InRanks all
+    pub same : (r : ℕ) → of_rank rank r (joined (map list bs)) ≡ of_rank rank r all
+
+-- ---- the halves
+
+-- the last one completes a cycle
+abbrev pub cycles_made : Half → ℕ
+cycles_made SendReplies = 0
+cycles_made TakeReplies = 0
+cycles_made Serve = 0
+cycles_made SendRequests = 0
+cycles_made TakeRequests = 0
+cycles_made Execute = 1
+
+-- no message of a kind is on a link of a machine of d stages
+abbrev pub HasNone : Kind → ℕ → List BlockState → Type 0
+HasNone kind d bs = (l : ℕ) → l < (d + 1) * 2 ^ d → first (on_each kind bs l) ≡ None
+
 module _ (d : ℕ) (partition : List ℕ) where
   -- the blocks of a machine of d stages, cut by the partition
   pub record AreBlocks (bs : List BlockState) : Type 0 where
@@ -54,97 +163,85 @@ module _ (d : ℕ) (partition : List ℕ) where
     pub cut : IsCut d partition bs
     pub shaped : OfEach (IsShaped d) bs
 
-  -- what holds of blocks before and after each half: they run the same program, and as many cycles
-  -- are done, or `more` are
-  pub record AreBlocksAfter (more : ℕ) (old now : List BlockState) : Type 0 where
-    pub blocks : AreBlocks now
-    pub count : length now ≡ length old
-    pub done : (k : ℕ) → k < length old → (block_at now k).done ≡ (block_at old k).done + more
-    pub program : (k : ℕ) → k < length old → (block_at now k).program ≡ (block_at old k).program
+  module _ (half : Half) (program : List Instr) (old now : List BlockState) where
+    -- what holds of blocks before and after a half: they run the same program, have the lists of
+    -- the half, and none has many more events
+    pub record AreBlocksAfter : Type 0 where
+      pub blocks : AreBlocks now
+      pub count : length now ≡ length old
+      pub done : (k : ℕ) → k < length old
+          → (block_at now k).done ≡ (block_at old k).done + cycles_made half
+      pub runs : (k : ℕ) → k < length old → (block_at now k).program ≡ (block_at old k).program
+      pub lists : (k : ℕ) → k < length old
+          → lists_of (block_at now k) ≡ lists_after d half program (block_at old k)
+      pub few : (k : ℕ) → k < length old
+          → length (block_at now k).events ≤ length (block_at old k).events + 640
 
-  -- they are the frame of the machine after the half
-  pub record HaveFrame (more : ℕ) (old now : List BlockState) (after : Frame) : Type 0 where
-    pub blocks : AreBlocksAfter more old now
-    pub frame : AreAlike d (frame_of d partition now) after
+    -- they are the frame of the machine after the half
+    pub record HaveFrame (after : Frame) : Type 0 where
+      pub blocks : AreBlocksAfter
+      pub frame : AreAlike d (frame_of d partition now) after
 
--- after a half no block has many more events: at most 640
-abbrev pub FewMoreEvents : List BlockState → List BlockState → Type 0
-FewMoreEvents old now =
-    (k : ℕ) → k < length old → length (block_at now k).events ≤ length (block_at old k).events + 640
-
--- no message of a kind is on a link of a machine of d stages
-abbrev pub HasNone : Kind → ℕ → List BlockState → Type 0
-HasNone kind d bs = (l : ℕ) → l < (d + 1) * 2 ^ d → first (on_each kind bs l) ≡ None
-
--- what is left of a list when messages of a kind have been sent: with replies a cycle begins, and
--- nothing has happened in it
-abbrev pub left_of : {X : Type 0} → Kind → List X → List X
-left_of Replies xs = []
-left_of Requests xs = xs
-
--- each block keeps its list of stops
-abbrev pub AreSameStops : List BlockState → List BlockState → Type 0
-AreSameStops old now = (k : ℕ) → k < length old → (block_at now k).stops ≡ (block_at old k).stops
-
--- one cycle more can be counted
-abbrev pub CanCount : BlockState → Type 0
-CanCount b = b.done < 2 ^ 32 - 1
-
--- no stop is listed yet
-abbrev pub HasNoStops : BlockState → Type 0
-HasNoStops b = b.stops ≡ []
-
-module _ (d : ℕ) (partition : List ℕ) where
-  -- messages of a kind have been sent: the blocks are the frame after that
-  pub record AreSent (kind : Kind) (old now : List BlockState) (after : Frame) : Type 0 where
-    pub frame : HaveFrame d partition 0 old now after
-    pub single : AreSingle kind now
-    pub events : (k : ℕ) → k < length old
-        → (block_at now k).events ≡ left_of kind (block_at old k).events
-    pub stops : (k : ℕ) → k < length old
-        → (block_at now k).stops ≡ left_of kind (block_at old k).stops
-
-  -- messages have been taken, or modules have served
-  pub record AreMade (more : ℕ) (old now : List BlockState) (after : Frame) : Type 0 where
-    pub frame : HaveFrame d partition more old now after
-    pub events : FewMoreEvents old now
-    pub stops : AreSameStops old now
-
-  module _ (bs : List BlockState) (rooms : BlockRooms) (program : List Instr) where
+  module _ (bs : List BlockState) where
     abbrev f : Frame
     f = frame_of d partition bs
 
-    abbrev after : Half → List BlockState
-    after half = all_made half rooms program bs
+    module _ (rooms : BlockRooms) (program : List Instr) where
+      -- after the half all blocks are that frame
+      abbrev Become : Half → Frame → Type 0
+      Become half after = HaveFrame half program bs (all_made half rooms program bs) after
 
-    -- a half of all blocks is that half of the whole machine; and it can be made if the whole
-    -- machine can make it, and each block has memory for the events
-    pub record HalfLaws : Type 0 where
-      pub replies_sent :
-          HasNone Replies d bs
-          → AreSent Replies bs (after SendReplies) (sends_replies d (noted d rooms) f)
-      pub replies_taken :
-          AreThere Replies d partition bs
-          → AreMade 0 bs (after TakeReplies) (takes_replies d f)
-      pub can_take_replies :
-          AreThere Replies d partition bs → CanTakeReplies d f
-          → OfEach HasHalfRoom bs → AllCanMake program TakeReplies bs
-      pub served : AreMade 0 bs (after Serve) (serves d f)
-      pub requests_sent :
-          HasNone Requests d bs
-          → AreSent Requests bs (after SendRequests) (sends_requests d (noted d rooms) f)
-      pub requests_taken :
-          (n : ℕ) → AreThere Requests d partition bs
-          → OfEach (λ b. b.done ≡ n) bs
-          → AreMade 0 bs (after TakeRequests) (takes_requests d n f)
-      pub can_take_requests :
-          AreThere Requests d partition bs → CanTakeRequests d f
-          → OfEach HasHalfRoom bs → AllCanMake program TakeRequests bs
-      -- one cycle more is done
-      pub executed : HaveFrame d partition 1 bs (after Execute) (executes d program f)
-      pub can_execute :
-          OfEach (λ b. b.program ≡ program) bs → OfEach CanCount bs → CanExecute d f
-          → OfEach HasHalfRoom bs → OfEach HasNoStops bs → AllCanMake program Execute bs
+      -- a half of all blocks is that half of the whole machine; and it can be made if the whole
+      -- machine can make it, and each block has memory for the events
+      pub record HalfLaws : Type 0 where
+        pub replies_sent :
+            HasNone Replies d bs
+            → Become SendReplies (sends_replies d (noted d rooms) f)
+            × AreSingle Replies (all_made SendReplies rooms program bs)
+        pub replies_taken :
+            AreThere Replies d partition bs → Become TakeReplies (takes_replies d f)
+        pub can_take_replies :
+            AreThere Replies d partition bs → CanTakeReplies d f
+            → OfEach HasHalfRoom bs → AllCanMake program TakeReplies bs
+        pub served : Become Serve (serves d f)
+        pub requests_sent :
+            HasNone Requests d bs
+            → Become SendRequests (sends_requests d (noted d rooms) f)
+            × AreSingle Requests (all_made SendRequests rooms program bs)
+        pub requests_taken :
+            (n : ℕ) → AreThere Requests d partition bs
+            → OfEach (λ b. b.done ≡ n) bs
+            → Become TakeRequests (takes_requests d n f)
+        pub can_take_requests :
+            AreThere Requests d partition bs → CanTakeRequests d f
+            → OfEach HasHalfRoom bs → AllCanMake program TakeRequests bs
+        pub executed : Become Execute (executes d program f)
+        pub can_execute :
+            OfEach (λ b. b.program ≡ program) bs → OfEach (λ b. b.done < 2 ^ 32 - 1) bs
+            → CanExecute d f → OfEach HasHalfRoom bs → OfEach (λ b. b.stops ≡ []) bs
+            → AllCanMake program Execute bs
+
+    -- a reply on the link to a processing element names it
+    abbrev pub AreRepliesHome : Type 0
+    AreRepliesHome = (p : ℕ) → p < 2 ^ d → ForSome (reply_to d f p) (λ (r : ReplyMessage). r.pe ≡ p)
+
+    -- each processing element knows which one it is
+    abbrev pub AreSites : Type 0
+    AreSites = (p : ℕ) → p < 2 ^ d → (f.element p).processor.site.pe ≡ p
+
+    -- what they list in each half, in cycle n, is what happens in it to the whole machine
+    pub record ListWhatHappens (n : ℕ) (program : List Instr) : Type 0 where
+      pub taking_replies :
+          AreThere Replies d partition bs → AreRepliesHome
+          → AreMerged (event_rank d) 0 320 (events_of_replies d) bs (deliveries d f)
+      pub serving : AreMerged (event_rank d) 320 640 (events_of_service d) bs (servings d f)
+      pub taking_requests :
+          AreThere Requests d partition bs
+          → AreMerged (event_rank d) 640 960 (events_of_requests d n) bs (combinations d n f)
+      pub executing :
+          AreSites
+          → AreMerged (event_rank d) 960 1280 (events_of_steps d program) bs (issues d program f)
+      pub stopping : AreMerged stop_rank 0 64 (stops_of_steps d program) bs (stops d program f)
 
 abbrev pub HalfLaw : Type 0
 HalfLaw =
@@ -155,3 +252,34 @@ abbrev pub CanServeLaw : Type 0
 CanServeLaw =
     (program : List Instr) (bs : List BlockState)
     → OfEach HasHalfRoom bs → AllCanMake program Serve bs
+
+abbrev pub AddedLaw : Type 0
+AddedLaw =
+    (d : ℕ) (half : Half) (rooms : BlockRooms) (program : List Instr) (b : BlockState)
+    → 1 ≤ d → d ≤ 6 → IsShaped d b
+    → lists_of (made half rooms program b) ≡ lists_after d half program b
+
+abbrev pub HappeningsLaw : Type 0
+HappeningsLaw =
+    (d n : ℕ) (partition : List ℕ) (program : List Instr) (bs : List BlockState)
+    → AreBlocks d partition bs → ListWhatHappens d partition bs n program
+
+-- what is listed behind what has happened so far is merged behind it
+abbrev pub ListedBehindLaw : Type 0
+ListedBehindLaw =
+    (d mid high : ℕ) (old now : List BlockState) (more : BlockState → List Event)
+    (so_far rest : List Event)
+    → mid ≤ high → length now ≡ length old
+    → ((k : ℕ) → k < length old
+    → (block_at now k).events ≡ (block_at old k).events ++ more (block_at old k))
+    → AreMerged (event_rank d) 0 mid (λ b. b.events) old so_far
+    → AreMerged (event_rank d) mid high more old rest
+    → AreMerged (event_rank d) 0 high (λ b. b.events) now (so_far ++ rest)
+
+-- what is merged so is what the blocks list together
+abbrev pub MergedLaw : Type 0
+MergedLaw =
+    (d : ℕ) (bs : List BlockState) (events : List Event) (stops : List Stop)
+    → AreMerged (event_rank d) 0 1280 (λ b. b.events) bs events
+    → AreMerged stop_rank 0 64 (λ b. b.stops) bs stops
+    → (events_of d bs ≡ events) × (stops_of d bs ≡ stops) × OfEach (IsInOrder d) bs

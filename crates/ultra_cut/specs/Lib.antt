@@ -2,8 +2,5 @@ pub mod Cut
 pub mod Exchange
 pub mod Events
 pub mod Halves
-pub mod Whole
 pub mod Holding
-pub mod Happenings
-pub mod InOrder
 pub mod Moments

@@ -1,16 +1,16 @@
--- a machine cut into blocks in the course of a cycle
-use Rattle.std.specs.Prelude.{◌≡◌, ℕ, List}
+-- a machine cut into blocks in the course of a cycle, and what is asked of it, however it is cut
+use Rattle.std.specs.Prelude.{◌≡◌, ℕ, List, Bool}
 use Rattle.ultra_msg.specs.declared.Event.{Event}
 use Rattle.ultra_isa.specs.declared.Instr.{Instr}
 use Rattle.ultra_model.specs.declared.Stop.{Stop}
-use Rattle.ultra_model.specs.Machine.{Settings, Machine}
+use Rattle.ultra_model.specs.Machine.{Settings, Machine, is_quiet}
 use Rattle.ultra_section.specs.BlockState.{BlockState}
-use Rattle.ultra_course.specs.Frame.{IsClear}
+use Rattle.ultra_section.specs.declared.rooms.Rooms.{Rooms}
+use Rattle.ultra_course.specs.Frame.{IsClear, AreRooms}
 use Rattle.ultra_course.specs.Whole.{IsFrameOf, whole}
 use Rattle.ultra_cut.specs.Cut.{frame_of}
-use Rattle.ultra_cut.specs.InOrder.{IsInOrder}
-use Rattle.ultra_cut.specs.Halves.{AreBlocks, OfEach}
-use Rattle.ultra_cut.specs.Events.{events_of, stops_of}
+use Rattle.ultra_cut.specs.Halves.{AreBlocks, OfEach, noted}
+use Rattle.ultra_cut.specs.Events.{IsInOrder, events_of, stops_of}
 
 -- each block runs the program and has made n cycles, and together they are the machine m, in which
 -- this has happened in the cycle so far
@@ -35,3 +35,16 @@ pub record AreWhole (c : Settings) (program : List Instr) (partition : List ℕ)
       (machine_in c partition n bs) bs
   pub clear : IsClear c.stages (frame_of c.stages partition bs)
   pub in_order : OfEach (IsInOrder c.stages) bs
+
+-- these are the rooms of the whole machine that some blocks make up
+abbrev pub AreRoomsOfAll : List BlockState → Rooms → Type 0
+AreRoomsOfAll bs rooms =
+    (d : ℕ) (partition : List ℕ)
+    → AreBlocks d partition bs → AreRooms d (frame_of d partition bs) (noted d rooms)
+
+-- this is whether that machine is quiet
+abbrev pub IsQuietOfAll : List BlockState → Bool → Type 0
+IsQuietOfAll bs quiet =
+    (c : Settings) (partition : List ℕ) (n : ℕ) (events : List Event) (stops : List Stop)
+    → AreBlocks c.stages partition bs
+    → quiet ≡ is_quiet (whole c (frame_of c.stages partition bs) n events stops)

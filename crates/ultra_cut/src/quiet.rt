@@ -3,7 +3,7 @@
 ghost use Rattle.std.specs.Prelude.{◌≡◌, false, true};
 ghost use Rattle.std.specs.List.{list_all};
 ghost use Rattle.ultra_section.specs.Quiet.{quiet_block};
-ghost use Rattle.ultra_cut.specs.Whole.{IsQuietOfAll};
+ghost use Rattle.ultra_cut.specs.Moments.{IsQuietOfAll};
 
 use ultra_section::Block;
 

@@ -1,6 +1,6 @@
 //! Where there is no room for the messages that may come in a cycle, as all blocks note it.
 
-ghost use Rattle.ultra_cut.specs.Whole.{AreRoomsOfAll};
+ghost use Rattle.ultra_cut.specs.Moments.{AreRoomsOfAll};
 
 use ultra_section::{Block, Rooms};
 

@@ -1,4 +1,5 @@
 -- a request that arrives takes at most one place of a queue and frees none, and the record that is kept gives its combination
+use Rattle.std.proofs.lemmas.Grind.{common_steps}
 use Rattle.std.proofs.Common.{◌≡◌, ℕ, ◌+◌, ◌-◌, ◌≤◌, List, [], ◌∷◌, ◌++◌, refl, arith, length, length-append}
 use Rattle.std.specs.Prelude.{Option, Some, IfSome, slice_get, not}
 use Rattle.ultra_msg.specs.declared.Request.{Request}
@@ -7,30 +8,23 @@ use Rattle.ultra_msg.specs.Pair.{is_fixed}
 use Rattle.ultra_switch.specs.declared.Entry.{Entry}
 use Rattle.ultra_switch.specs.declared.WaitRecord.{WaitRecord}
 use Rattle.ultra_switch.specs.declared.Arrived.TheVariants.{CombinedWith}
-use Rattle.ultra_switch.specs.Arrive.{Lane, Combination, behind, can_combine, combine, combine_within, after_arrival, arrive, outcome}
+use Rattle.ultra_switch.specs.Arrive.{Lane, Combination, combine, after_arrival, arrive, outcome}
 use Rattle.ultra_halves.specs.Halves.{combination_event}
 use Rattle.ultra_model.specs.Phases.{arrive_all}
-use Rattle.ultra_model.proofs.Each.{if_tested}
 
 -- ---- how long the queue is
 abbrev KeepsLength : List Entry → Option Combination → Type 0
 KeepsLength es o = IfSome o (λ c. length c.queue ≡ length es)
 
-behind_keeps : (e : Entry) (es : List Entry) (o : Option Combination) → KeepsLength es o → KeepsLength (e ∷ es) (behind e o)
-behind_keeps e es o h = grind arith
-
 combine_keeps : (r : Request) (es : List Entry) → KeepsLength es (combine r es)
 combine_keeps r [] = tt
-combine_keeps r (e ∷ es) = if_tested (can_combine r e) (λ o. KeepsLength (e ∷ es) o) _ _ (λ z. refl) (λ z. behind_keeps e es (combine r es) (combine_keeps r es))
-
-combined_keeps : (w : ℕ) (l : Lane) (r : Request) → KeepsLength l.queue (combine_within w l r)
-combined_keeps w l r = grind (arith, combine_keeps)
+combine_keeps r (e ∷ es) = grind (arith, combine_keeps r es)
 
 pub arrive_longer : (w : ℕ) (l : Lane) (r : Request) → length (arrive w l r).queue ≤ length l.queue + 1
-arrive_longer w l r = let kept = combined_keeps w l r in grind (arith, length-append)
+arrive_longer w l r = let kept = combine_keeps r l.queue in grind (arith, length-append)
 
 arrive_no_shorter : (w : ℕ) (l : Lane) (r : Request) → length l.queue ≤ length (arrive w l r).queue
-arrive_no_shorter w l r = let kept = combined_keeps w l r in grind (arith, length-append)
+arrive_no_shorter w l r = let kept = combine_keeps r l.queue in grind (arith, length-append)
 
 pub arrive_all_no_shorter : (w : ℕ) (l : Lane) (rs : List Request) → length l.queue ≤ length (arrive_all w l rs).queue
 arrive_all_no_shorter w l [] = omega arith
@@ -41,12 +35,9 @@ at_end : {X : Type 0} (xs : List X) (y : X) → slice_get (xs ++ y ∷ []) (leng
 at_end [] y = refl
 at_end (x ∷ xs) y = at_end xs y
 
-last_of : {X : Type 0} (xs : List X) (y : X) → slice_get (xs ++ y ∷ []) (length (xs ++ y ∷ []) - 1) ≡ Some y
-last_of xs y =
-    let e : length (xs ++ y ∷ []) - 1 ≡ length xs = omega (arith, length-append xs (y ∷ [])) in
-    rw e (at_end xs y)
-
 pub combination_kept : (s x p : ℕ) (r : Request) (l : Lane) (o : Option Combination) (w : WaitRecord) → outcome o ≡ CombinedWith p
     → slice_get (after_arrival l r o).records (length (after_arrival l r o).records - 1) ≡ Some w
     → combination_event s x r o ≡ Some (Combined s x r.cell p r.pe (not (is_fixed w.give_old)))
-combination_kept s x p r l o w e h = grind (arith, last_of)
+combination_kept s x p r l o w e h = let last = at_end l.records in grind (arith, at_end, length-append)
+
+pub ruleset arrivals = (common_steps, arrive_longer, combination_kept)

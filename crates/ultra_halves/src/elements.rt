@@ -6,7 +6,7 @@ ghost use Rattle.ultra_model.specs.Phases.{issue_event, stop_of};
 
 use ultra_isa::{Processor, Program, Step};
 use ultra_model::Stop;
-use ultra_msg::{Event, Pe, Reply, ReplyMessage, Request};
+use ultra_msg::{Event, Pe, Reply, ReplyMessage, RequestPacket};
 use ultra_pni::Pni;
 
 /// A processing element: its processor, its network interface, and how many requests it has issued.
@@ -50,18 +50,18 @@ impl ProcessingElement {
 
     /// The request that leaves next, or `None` where none waits.
     #[inline(always)]
-    pub fn request_head(&self) -> Option<Request>
+    pub fn request_head(&self) -> Option<RequestPacket>
         ensures { result ≡ slice_get self.now.interface.interface.pending 0 }
     {
-        self.interface.head()
+        Some(RequestPacket::of(self.interface.head()?))
     }
 
     /// The first request that waits leaves; its cell stays open. `None` says that none waited.
-    pub fn send_request(&mut self) -> Option<Request>
+    pub fn send_request(&mut self) -> Option<RequestPacket>
         ensures sent { result ≡ slice_get self.old.interface.interface.pending 0 }
         ensures left { self.new ≡ element_without self.old result }
     {
-        self.interface.leave()
+        Some(RequestPacket::of(self.interface.leave()?))
     }
 
     /// One step of the program. `pe` is the number of the processing element.

@@ -6,24 +6,29 @@ ghost use Rattle.ultra_halves.specs.Halves.{where_room};
 ghost use Rattle.ultra_halves.specs.Modules.{bank_with, quiet_bank};
 
 use ultra_mem::Module;
-use ultra_msg::{ReplyMessage, Request};
+use ultra_msg::{ReplyPacket, RequestPacket};
 use ultra_route::Net;
 
 /// The reply that waits leaves if `goes` says so. `None` says that nothing leaves.
-pub fn send_reply(bank: &mut Module, goes: bool) -> Option<ReplyMessage>
+pub fn send_reply(bank: &mut Module, goes: bool) -> Option<ReplyPacket>
     ensures sent { result ≡ where_room goes bank.old.out }
     ensures left { bank.new ≡ without_reply bank.old result }
 {
-    if goes { bank.take_reply() } else { None }
+    if goes {
+        Some(ReplyPacket::of(bank.take_reply()?))
+    } else {
+        None
+    }
 }
 
 /// A request goes into the module's register, with the offset of its cell. The cell is one of the module's, and the register is empty.
-pub fn take_request(bank: &mut Module, net: Net, request: Request)
+pub fn take_request(bank: &mut Module, net: Net, request: RequestPacket)
     requires within { request.cell / 2 ^ net < length bank.old.cells }
     requires empty { bank.old.inp ≡ None }
     ensures { bank.new ≡ bank_with (2 ^ net) bank.old (Some request) }
 {
-    bank.put(request, request.cell / net.size());
+    let offset = request.cell() / net.size();
+    bank.put(request.request(), offset);
 }
 
 /// Whether a reply waits to leave.

@@ -5,32 +5,32 @@ ghost use Rattle.std.specs.Option.{ForSome};
 ghost use Rattle.ultra_model.specs.Phases.{replies_made};
 ghost use Rattle.ultra_halves.specs.Halves.{going_by, lane_after_reply, replies_without, where_room, with_replies};
 
-use ultra_msg::ReplyMessage;
+use ultra_msg::ReplyPacket;
 use ultra_route::Net;
 use ultra_switch::{Ports, Split, ToMm, ToPe};
 
 /// The first reply of a queue leaves, if there is room for it where it goes. `None` stands where nothing leaves.
 #[inline(always)]
-pub fn leave_where(has_room: bool, queue: &mut ToPe) -> Option<ReplyMessage>
+pub fn leave_where(has_room: bool, queue: &mut ToPe) -> Option<ReplyPacket>
     ensures sent { result ≡ where_room has_room (slice_get queue.old.replies 0) }
     ensures left { queue.new ≡ replies_without queue.old result }
 {
-    if has_room { queue.leave() } else { None }
+    if has_room { queue.send() } else { None }
 }
 
 /// Puts a reply into the queue by which it leaves the stage.
 #[inline(always)]
-fn put_reply(to_pe: &mut Ports<ToPe>, net: Net, stage: u32, reply: ReplyMessage)
+fn put_reply(to_pe: &mut Ports<ToPe>, net: Net, stage: u32, reply: ReplyPacket)
     requires stage { stage < net }
     requires zero { length to_pe.old.zero.replies < to_pe.old.zero.places }
     requires one { length to_pe.old.one.replies < to_pe.old.one.places }
     ensures zero { to_pe.new.zero ≡ with_replies to_pe.old.zero (going_by net stage 0 (reply ∷ [])) }
     ensures one { to_pe.new.one ≡ with_replies to_pe.old.one (going_by net stage 1 (reply ∷ [])) }
 {
-    if net.reply_port(stage, reply.pe) == 0 {
-        to_pe.zero.put(reply);
+    if net.reply_port(stage, reply.pe()) == 0 {
+        to_pe.zero.receive(reply);
     } else {
-        to_pe.one.put(reply);
+        to_pe.one.receive(reply);
     }
 }
 
@@ -41,7 +41,7 @@ pub fn take_reply(
     to_pe: &mut Ports<ToPe>,
     net: Net,
     stage: u32,
-    reply: Option<ReplyMessage>,
+    reply: Option<ReplyPacket>,
 )
     requires stage { stage < net }
     requires zero { ForSome reply (λ _. length to_pe.old.zero.replies + 2 ≤ to_pe.old.zero.places) }
@@ -53,7 +53,7 @@ pub fn take_reply(
     let Some(reply) = reply else {
         return;
     };
-    match to_mm.split(reply) {
+    match to_mm.divide(reply) {
         Split::One(reply) => put_reply(to_pe, net, stage, reply),
         Split::Two(old, new) => {
             put_reply(to_pe, net, stage, old);

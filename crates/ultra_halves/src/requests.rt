@@ -10,26 +10,26 @@ ghost use Rattle.ultra_model.specs.Places.{present};
 ghost use Rattle.ultra_halves.specs.Halves.{combination_by, combination_in, coming_to, in_order, is_turned, lane_with, lane_without, leaves_by, where_room};
 
 use crate::lists::append;
-use ultra_msg::{Cell, Event, Pe, Request};
+use ultra_msg::{Cell, Event, Pe, RequestPacket};
 use ultra_route::Net;
 use ultra_switch::{Arrived, Ports, ToMm};
 
 /// The first request of a queue toward memory leaves, if there is room for it where it goes. `None` stands where nothing leaves.
 #[inline(always)]
-pub fn leave_where(has_room: bool, queue: &mut ToMm) -> Option<Request>
+pub fn leave_where(has_room: bool, queue: &mut ToMm) -> Option<RequestPacket>
     ensures sent { result ≡ where_room has_room (request_of (slice_get queue.old.lane.queue 0)) }
     ensures left { queue.new ≡ lane_without queue.old result }
 {
-    if has_room { queue.leave() } else { None }
+    if has_room { queue.send() } else { None }
 }
 
 /// The memory-side port by which a request leaves a stage.
-fn exit(net: Net, stage: u32, request: Request) -> u32
+fn exit(net: Net, stage: u32, request: &RequestPacket) -> u32
     requires { stage < net }
-    ensures value { result ≡ bit_of (net - 1 - stage) (request.cell % 2 ^ net) }
+    ensures value { result ≡ bit_of (net - 1 - stage) (request.now.cell % 2 ^ net) }
     ensures small { result < 2 }
 {
-    net.request_port(stage, request.cell)
+    net.request_port(stage, request.cell())
 }
 
 /// Appends a combination. Few requests combine, so this code stands apart from that of a visit.
@@ -60,23 +60,24 @@ fn append_combination(
 
 /// A request comes to a queue toward memory, which is at a position of a stage: it combines, or it goes to the end. Its combination is appended to `events`. Answers whether there is one.
 #[inline(always)]
+#[tactic(auto, using(crate::proofs::Arrivals::arrivals))]
 fn arrive(
     to_mm: &mut ToMm,
     stage: u32,
     position: u32,
-    request: Request,
+    request: &RequestPacket,
     events: &mut Vec<Event>,
 ) -> bool
     requires room { length to_mm.old.lane.queue < to_mm.old.request_places }
     requires event_room { length events.old.items < vec_capacity events.old }
-    ensures lane { to_mm.new ≡ lane_with to_mm.old (request ∷ []) }
+    ensures lane { to_mm.new ≡ lane_with to_mm.old (request.now ∷ []) }
     ensures longer { length to_mm.new.lane.queue ≤ length to_mm.old.lane.queue + 1 }
-    ensures events { events.new.items ≡ events.old.items ++ present (combination_in stage position to_mm.old request ∷ []) }
+    ensures events { events.new.items ≡ events.old.items ++ present (combination_in stage position to_mm.old request.now ∷ []) }
     ensures places { vec_capacity events.old ≤ vec_capacity events.new }
     ensures few { length events.new.items ≤ length events.old.items + 1 }
-    ensures combined { result ≡ is_some (combination_in stage position to_mm.old request) }
+    ensures combined { result ≡ is_some (combination_in stage position to_mm.old request.now) }
 {
-    match to_mm.arrive(request) {
+    match to_mm.receive(request) {
         Arrived::Appended => false,
         Arrived::CombinedWith(pe) => {
             let record = to_mm.record(to_mm.record_count() - 1);
@@ -85,9 +86,9 @@ fn arrive(
                 events,
                 stage,
                 position,
-                request.cell,
+                request.cell(),
                 pe,
-                request.pe,
+                request.pe(),
                 old_first,
             );
             true
@@ -102,22 +103,22 @@ pub fn take_request(
     net: Net,
     stage: u32,
     index: u32,
-    request: Option<Request>,
+    request: &Option<RequestPacket>,
     events: &mut Vec<Event>,
 ) -> bool
     requires stage { stage < net }
     requires index { index < 2 ^ (net - 1) }
-    requires room_zero { ForSome request (λ r. IsTrue (leaves_by net stage 0 r) → length to_mm.old.zero.lane.queue < to_mm.old.zero.request_places) }
-    requires room_one { ForSome request (λ r. IsTrue (leaves_by net stage 1 r) → length to_mm.old.one.lane.queue < to_mm.old.one.request_places) }
+    requires room_zero { ForSome request.now (λ r. IsTrue (leaves_by net stage 0 r) → length to_mm.old.zero.lane.queue < to_mm.old.zero.request_places) }
+    requires room_one { ForSome request.now (λ r. IsTrue (leaves_by net stage 1 r) → length to_mm.old.one.lane.queue < to_mm.old.one.request_places) }
     requires event_room { length events.old.items < vec_capacity events.old }
-    ensures zero { to_mm.new.zero ≡ lane_with to_mm.old.zero (coming_to net stage 0 request) }
-    ensures one { to_mm.new.one ≡ lane_with to_mm.old.one (coming_to net stage 1 request) }
+    ensures zero { to_mm.new.zero ≡ lane_with to_mm.old.zero (coming_to net stage 0 request.now) }
+    ensures one { to_mm.new.one ≡ lane_with to_mm.old.one (coming_to net stage 1 request.now) }
     ensures longer_zero { length to_mm.new.zero.lane.queue ≤ length to_mm.old.zero.lane.queue + 1 }
     ensures longer_one { length to_mm.new.one.lane.queue ≤ length to_mm.old.one.lane.queue + 1 }
-    ensures events { events.new.items ≡ events.old.items ++ present (combination_by net stage index to_mm.old request ∷ []) }
+    ensures events { events.new.items ≡ events.old.items ++ present (combination_by net stage index to_mm.old request.now ∷ []) }
     ensures places { vec_capacity events.old ≤ vec_capacity events.new }
     ensures few { length events.new.items ≤ length events.old.items + 1 }
-    ensures combined { result ≡ is_some (combination_by net stage index to_mm.old request) }
+    ensures combined { result ≡ is_some (combination_by net stage index to_mm.old request.now) }
 {
     let Some(request) = request else {
         return false;
@@ -132,6 +133,7 @@ pub fn take_request(
 
 /// The last two events change places, if `is_turned`.
 #[inline(never)]
+#[tactic(auto, using(crate::proofs::Combinations::last_turned))]
 pub fn put_in_order(events: &mut Vec<Event>, is_turned: bool)
     requires { 2 ≤ length events.old.items }
     ensures entries { (front : List Event) (a b : Event) → events.old.items ≡ front ++ a ∷ b ∷ [] → events.new.items ≡ front ++ in_order is_turned a b }
@@ -148,9 +150,14 @@ pub fn put_in_order(events: &mut Vec<Event>, is_turned: bool)
 
 /// Whether of two requests the second leaves the stage by port 0, and the first by port 1.
 #[inline(always)]
-pub fn is_turned(net: Net, stage: u32, first: Option<Request>, second: Option<Request>) -> bool
+pub fn is_turned(
+    net: Net,
+    stage: u32,
+    first: &Option<RequestPacket>,
+    second: &Option<RequestPacket>,
+) -> bool
     requires { stage < net }
-    ensures { result ≡ is_turned net stage first second }
+    ensures { result ≡ is_turned net stage first.now second.now }
 {
     match (first, second) {
         (Some(first), Some(second)) => {

@@ -9,16 +9,13 @@ ghost use Rattle.ultra_block.specs.Dealt.{IsLastNamed};
 
 use std::alloc::{AllocError, Global};
 use std::marker::Model;
-use ultra_block::{Blocks, PartitionFault, count_units};
+use ultra_block::{Blocks, PartitionFault};
 use ultra_halves::ProcessingElement;
 use ultra_isa::Program;
 use ultra_mem::Module;
 use ultra_model::{Config, Stop};
 use ultra_msg::{Event, Pe};
 use ultra_switch::{ToMm, ToPe};
-
-/// The most units, those of 6 stages: 6 times 32 switches, 64 modules and 64 processing elements.
-const MOST_UNITS: usize = 320;
 
 /// A machine: its settings, its program, and its units as they stand after some cycles.
 ///
@@ -46,12 +43,8 @@ impl Machine {
     pub fn new(alloc: Global, config: &Config, program: &Program) -> Result<Machine, AllocError>
         ensures { IfOk result (λ m. m ≡ record { settings = config.now; program = program.now; state = start config.now }) }
     {
-        let all_in_one = [0; MOST_UNITS];
-        match Blocks::new(alloc, config, program, &all_in_one[..count_units(config)]) {
-            Ok(blocks) => Ok(Machine { blocks }),
-            Err(PartitionFault::NoMemory) => Err(AllocError),
-            Err(PartitionFault::BadPartition) => unreachable!(),
-        }
+        let blocks = Blocks::in_one_block(alloc, config, program)?;
+        Ok(Machine { blocks })
     }
 
     /// The machine makes one cycle: replies, memory, requests, processors. It takes no memory and always succeeds.
@@ -72,10 +65,7 @@ impl Machine {
         alloc: Global,
         partition: &[u8],
     ) -> Result<Blocks, (Machine, PartitionFault)>
-        ensures state { IfOk result (λ b. b.machine ≡ self.state) }
-        ensures settings { IfOk result (λ b. b.config ≡ self.settings) }
-        ensures program { IfOk result (λ b. b.program ≡ self.program) }
-        ensures partition { IfOk result (λ b. b.partition ≡ partition.now) }
+        ensures state { IfOk result (λ b. b ≡ record { config = self.settings; program = self.program; partition = partition.now; count = b.count; machine = self.state }) }
         ensures count { IfOk result (λ b. IsLastNamed partition.now b.count) }
         ensures accepted { OnOk result (is_partition self.settings partition.now ≡ true) }
         ensures refused { IfErr result (λ e. (e.1 ≡ PartitionFault.BadPartition) ↔ (is_partition self.settings partition.now ≡ false)) }

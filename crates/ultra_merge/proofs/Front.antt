@@ -28,15 +28,12 @@ module _ {T : Type 0} (rank : T → ℕ) (lists : List (List T)) where
     least_here : All (λ e. rank x ≤ rank e) (get_or lists n [])
     least_here = subst (All (λ e. rank x ≤ rank e)) (sym is) (first_is_least rank x xs (subst (IsNonDecreasingBy rank) is ascends))
 
-    still_front : (k r : ℕ) → IsNextPlace rank lists n k r → r ≤ rank x → IsNextPlace rank lists (n + 1) k r
-    still_front k r front order = grind (arith, least_here)
-
     new_front : ((i : ℕ) → i < n → All (λ e. rank x < rank e) (get_or lists i [])) → IsNextPlace rank lists (n + 1) n (rank x)
     new_front later = let least = least_here in grind arith
 
     -- the search goes on from the one that comes first
     sooner_front : (front : Option Front) → IsFront front n → IsFront (Some (sooner front record { place = n; rank = rank x })) (n + 1)
-    sooner_front front before = grind (arith, leb-true, still_front, new_front)
+    sooner_front front before = grind (arith, leb-true, new_front, least_here)
 
 -- ---- the list at place n, behind a reference
 module _ {T : Type 0} (rank : T → ℕ) (count : ℕ) (items : List (Bor (List T))) (n : ℕ) (list : Bor (List T)) (within : n < length items) (is : list ≡ get_or items n list) where

@@ -1,18 +1,17 @@
 -- Entries by rank, in one list and in several, and what a merge gives of them, entry by entry.
-use Rattle.std.proofs.Common.{◌≡◌, ◌≢◌, ℕ, zero, suc, ◌<◌, ◌≤◌, List, [], ◌∷◌, map, length, get_or, set, refl, arith, ◌+◌, inl, inr}
+use Rattle.std.proofs.Common.{◌≡◌, ◌≢◌, ℕ, zero, suc, ◌<◌, ◌≤◌, List, [], ◌∷◌, map, length, get_or, set, refl, arith, ◌+◌, ◌++◌, inl, inr}
 use Rattle.std.proofs.lemmas.Bool.Decides.{nat_tests}
-use Rattle.std.proofs.lemmas.List.Elements.{All-head, All-tail}
+use Rattle.std.proofs.lemmas.List.Elements.{All-head, All-tail, filter-append}
 use Rattle.std.specs.Prelude.{All}
 use Rattle.std.specs.List.Sorted.{IsNonDecreasingBy}
 use Rattle.ultra_model.specs.Places.{joined, places}
 use Rattle.ultra_merge.specs.Merging.{of_rank, IsRanked, merged, AreEmpty, IsNextPlace}
 use Rattle.std.proofs.lemmas.Bool.{cases_eq}
-use Rattle.std.proofs.lemmas.Simd.{map-map}
 use Rattle.std.specs.List.{range_with_len}
 
 module _ {T : Type 0} (rank : T → ℕ) where
-  -- ---- in one list
-  of_rank_none : (i : ℕ) (xs : List T) → All (λ e. rank e ≢ i) xs → of_rank rank i xs ≡ []
+  -- ---- entries of one rank
+  pub of_rank_none : (i : ℕ) (xs : List T) → All (λ e. rank e ≢ i) xs → of_rank rank i xs ≡ []
   of_rank_none i [] others = refl
   of_rank_none i (x ∷ xs) others =
       let P = λ (e : T). rank e ≢ i in
@@ -20,35 +19,23 @@ module _ {T : Type 0} (rank : T → ℕ) where
       let rest = of_rank_none i xs (All-tail P x xs others) in
       grind (arith, nat_tests)
 
-  -- ---- in several
-  -- the entries of one rank, list by list
-  abbrev pub all_of_rank : ℕ → List (List T) → List T
-  all_of_rank i lists = joined (map (of_rank rank i) lists)
-
-  pub all_of_rank_none : (i : ℕ) (lists : List (List T)) → ((j : ℕ) → j < length lists → All (λ e. rank e ≢ i) (get_or lists j []))
-      → all_of_rank i lists ≡ []
-  all_of_rank_none i [] others = refl
-  all_of_rank_none i (xs ∷ lists) others =
+  -- no list has any
+  pub none_in_lists : (i : ℕ) (lists : List (List T)) → ((j : ℕ) → j < length lists → All (λ e. rank e ≢ i) (get_or lists j [])) → of_rank rank i (joined lists) ≡ []
+  none_in_lists i [] others = refl
+  none_in_lists i (xs ∷ lists) others =
       let here = of_rank_none i xs (others zero (omega arith)) in
-      let rest = all_of_rank_none i lists (λ j h. others (suc j) (omega arith)) in
-      grind arith
+      let rest = none_in_lists i lists (λ j h. others (suc j) (omega arith)) in
+      grind (arith, filter-append)
 
-  -- an entry of another rank goes
-  pub all_of_rank_other : (i k : ℕ) (lists : List (List T)) (x : T) (rest : List T) → get_or lists k [] ≡ x ∷ rest → rank x ≢ i
-      → all_of_rank i lists ≡ all_of_rank i (set lists k rest)
-  all_of_rank_other i k [] x rest is other = cc
-  all_of_rank_other i zero (xs ∷ lists) x rest is other = grind (arith, nat_tests)
-  all_of_rank_other i (suc k) (xs ∷ lists) x rest is other = let later = all_of_rank_other i k lists x rest is other in grind arith
-
-  -- the first entry of the rank goes
-  pub all_of_rank_same : (i k : ℕ) (lists : List (List T)) (x : T) (rest : List T) → get_or lists k [] ≡ x ∷ rest → rank x ≡ i
-      → ((j : ℕ) → j < k → All (λ e. rank e ≢ i) (get_or lists j [])) → all_of_rank i lists ≡ x ∷ all_of_rank i (set lists k rest)
-  all_of_rank_same i k [] x rest is same before = cc
-  all_of_rank_same i zero (xs ∷ lists) x rest is same before = grind (arith, nat_tests)
-  all_of_rank_same i (suc k) (xs ∷ lists) x rest is same before =
-      let none = of_rank_none i xs (before zero (omega arith)) in
-      let later = all_of_rank_same i k lists x rest is same (λ j h. before (suc j) (omega arith)) in
-      grind arith
+  -- an entry goes; if it is of the rank, the lists before have none of it
+  pub entry_gone : (i k : ℕ) (lists : List (List T)) (x : T) (rest : List T) → get_or lists k [] ≡ x ∷ rest → (rank x ≡ i → (j : ℕ) → j < k → All (λ e. rank e ≢ i) (get_or lists j []))
+      → of_rank rank i (joined lists) ≡ of_rank rank i (x ∷ []) ++ of_rank rank i (joined (set lists k rest))
+  entry_gone i k [] x rest is before = cc
+  entry_gone i zero (xs ∷ lists) x rest is before = grind (arith, filter-append, nat_tests)
+  entry_gone i (suc k) (xs ∷ lists) x rest is before =
+      let none = λ (same : rank x ≡ i). of_rank_none i xs (before same zero (omega arith)) in
+      let later = entry_gone i k lists x rest is (λ same j h. before same (suc j) (omega arith)) in
+      grind (arith, filter-append, nat_tests)
 
   -- ---- lists in the order of the ranks
 
@@ -98,28 +85,16 @@ module _ {T : Type 0} (rank : T → ℕ) (count : ℕ) where
   -- ---- entry by entry
   pub merged_none : (lists : List (List T)) → AreEmpty lists (length lists) → merged rank count lists ≡ []
   unfolding merged places
-  merged_none lists empty = grind (arith, none_joined, all_of_rank_none)
-
-  -- no entry has a smaller rank than the one that comes next
-  none_less : (lists : List (List T)) (k r : ℕ) → IsNextPlace rank lists (length lists) k r → (i j : ℕ) → i < r → j < length lists
-      → All (λ e. rank e ≢ i) (get_or lists j [])
-  none_less lists k r next i j less within e d h = grind arith
+  merged_none lists empty = grind (arith, none_joined, none_in_lists)
 
   pub merged_next : (lists : List (List T)) (k r : ℕ) → r < count → (next : IsNextPlace rank lists (length lists) k r)
       → merged rank count lists ≡ next.entry ∷ merged rank count (set lists k next.rest)
   unfolding merged places
   merged_next lists k r within next =
-      let others = λ (i : ℕ). all_of_rank_other rank i k lists next.entry next.rest next.is in
-      let same = all_of_rank_same rank r k lists next.entry next.rest next.is next.ranked in
-      let none = λ (i : ℕ). all_of_rank_none rank i lists in
-      let first = first_joined (λ i. all_of_rank rank i lists) (λ i. all_of_rank rank i (set lists k next.rest)) next.entry r in
-      grind (arith, none_less)
-
-  -- ---- the lists of several holders
-  pub merged_of : {B : Type 0} (of : B → List T) (bs : List B)
-      → merged rank count (map of bs) ≡ joined (places count (λ i. joined (map (λ b. of_rank rank i (of b)) bs)))
-  unfolding merged places
-  merged_of of bs = grind (arith, map-map)
+      let gone = λ (i : ℕ). entry_gone rank i k lists next.entry next.rest next.is in
+      let none = λ (i : ℕ). none_in_lists rank i lists in
+      let first = first_joined (λ i. of_rank rank i (joined lists)) (λ i. of_rank rank i (joined (set lists k next.rest))) next.entry r in
+      grind (arith, nat_tests)
 
   -- ---- merges of what was merged
   alone_next : (x : T) (xs : List T) → IsRanked rank count (x ∷ xs) → IsNextPlace rank ((x ∷ xs) ∷ []) 1 0 (rank x)

@@ -1,5 +1,5 @@
 -- lists of entries, each in the order of the ranks, and the one list that they make together
-use Rattle.std.specs.Prelude.{◌≡◌, ℕ, ◌<◌, ◌≤◌, ◌==◌, List, [], ◌∷◌, All, filter, map, refl, slice_index_or}
+use Rattle.std.specs.Prelude.{◌≡◌, ℕ, ◌<◌, ◌≤◌, ◌==◌, List, [], ◌∷◌, All, filter, refl, slice_index_or}
 use Rattle.std.specs.List.Sorted.{IsNonDecreasingBy}
 use Rattle.std.specs.Coded.{Coded, code_by, coded×, coded_list}
 use Rattle.ultra_model.specs.Places.{places, joined}
@@ -11,7 +11,7 @@ module _ {T : Type 0} (rank : T → ℕ) where
 
   -- the entries of all lists by rank, below a bound, and those of one rank list by list
   unfoldable pub merged : ℕ → List (List T) → List T
-  merged count lists = joined (places count (λ i. joined (map (of_rank i) lists)))
+  merged count lists = joined (places count (λ i. of_rank i (joined lists)))
 
   -- entries stand in the order of their ranks, which are below a bound
   pub record IsRanked (count : ℕ) (entries : List T) : Type 0 where

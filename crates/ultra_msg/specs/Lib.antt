@@ -1,3 +1,4 @@
 pub mod Act
 pub mod Pair
 pub mod Bytes
+pub mod Packet

@@ -5,10 +5,12 @@ ghost use Rattle.std.specs.Prelude.{◌≡◌, ℕ, ◌^◌, ◌<◌, ◌≤◌,
 ghost use Rattle.ultra_msg.specs.Act.{reply_given};
 ghost use Rattle.ultra_msg.specs.Pair.{pair_of, is_fixed, KeepsBoth};
 
+mod packet;
 mod pieces;
 mod sink;
 mod taking;
 
+pub use packet::{ReplyPacket, RequestPacket};
 pub use pieces::write_pieces;
 pub use sink::{Sink, SinkFault, write_all};
 use std::marker::Model;

@@ -5,21 +5,11 @@ use Rattle.std.proofs.lemmas.List.{set-get_or}
 use Rattle.ultra_switch.specs.declared.Switch.{Switch}
 use Rattle.ultra_units.specs.Numbers.{switch_count}
 use Rattle.ultra_switch.specs.declared.Ports.{Ports}
-use Rattle.ultra_units.specs.Units.{IsSwitch, IsModule, IsElement, stage_of, index_of}
+use Rattle.ultra_units.specs.Units.{IsSwitch, stage_of, index_of}
 use Rattle.ultra_section.specs.BlockState.{BlockState, switch_at}
 
--- ---- `o` is what was read of entry i
-module _ {X : Type 0} (xs : List (Option X)) (i : ℕ) {o : Option X} (read : o ≡ get_or xs i o) where
-  pub put_back : set xs i o ≡ xs
-  put_back = ap (λ x. set xs i x) read ∙ set-get_or xs i o
-
-  pub put_back_some : {x : X} → o ≡ Some x → set xs i (Some x) ≡ xs
-  put_back_some {x} is = ap (λ x. set xs i x) (sym is) ∙ put_back
-
-  none_there : {B : Type 0} (b : B) (act : X → B) → o ≡ None → b ≡ elim (get_or xs i None) [ None ↦ b | Some x ↦ act x ]
-  none_there b act none = grind arith
-
--- ---- what may have happened, at the end of what has
+pub same_entry : {X : Type 0} (xs : List (Option X)) (i : ℕ) (o : Option X) → get_or xs i None ≡ o → set xs i o ≡ xs
+same_entry xs i o is = ap (λ x. set xs i x) (sym is) ∙ set-get_or xs i None
 
 -- ---- what is said of a switch by its number, in a wiring that is the network's
 pub by_number : (f : ℕ → ℕ → ℕ → Ports ℕ) (wiring d n : ℕ) → wiring ≡ d → f wiring (stage_of wiring n) (index_of wiring n) ≡ f d (stage_of d n) (index_of d n)
@@ -27,16 +17,6 @@ by_number f wiring d n same = rw same refl
 
 -- ---- a half at one unit of a block, which is `inside` before: `act` is what the half does to a unit that stands there
 module _ {inside b : BlockState} (same : inside ≡ b) where
-  -- the number of a unit, and that there is an entry for it
-  pub switch_inside : {n s k : ℕ} → IsSwitch b.stages n s k → IsSwitch inside.stages n s k
-  switch_inside own = grind arith
-
-  pub module_inside : {n m : ℕ} → IsModule b.stages n m → IsModule inside.stages n m
-  module_inside {n} {m} own = grind arith
-
-  pub element_inside : {n p : ℕ} → IsElement b.stages n p → IsElement inside.stages n p
-  element_inside own = grind arith
-
   pub beside_switch : (f : ℕ → ℕ → ℕ → Ports ℕ) {n s k wiring : ℕ} {p : Ports ℕ} → IsSwitch b.stages n s k → wiring ≡ inside.stages → p ≡ f wiring (stage_of wiring n) (index_of wiring n) → p ≡ f inside.stages s k
   beside_switch f own network is = grind arith
 

@@ -12,7 +12,7 @@ use Rattle.ultra_units.specs.Units.{IsElement}
 use Rattle.ultra_section.specs.BlockState.{AreOthersAtRest, BlockState, HasEventRoom, HasStopRoom, element_at}
 use Rattle.ultra_section.specs.Execution.{element_executes, executes, executes_own, CanExecuteAt}
 use Rattle.ultra_units.proofs.Standing.{unit_is}
-use Rattle.ultra_section.proofs.Empty.{same_entry}
+use Rattle.ultra_section.proofs.Entries.{same_entry}
 use Rattle.ultra_section.proofs.Once.{all_keep}
 
 module _ (program : List Instr) (b : BlockState) where

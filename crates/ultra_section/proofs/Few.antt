@@ -1,12 +1,12 @@
 -- In each half a unit has at most two events, so there is memory for all events of a cycle.
-use Rattle.std.proofs.Common.{ℕ, zero, suc, ◌+◌, ◌*◌, ◌≤◌, List, Bool, Option, length, length-append, subst, arith}
+use Rattle.std.proofs.Common.{ℕ, zero, suc, ◌+◌, ◌*◌, ◌≤◌, List, Bool, Option, length, length-append, refl, subst, arith}
 use Rattle.ultra_msg.specs.declared.Request.{Request}
 use Rattle.ultra_switch.specs.declared.Switch.{Switch}
 use Rattle.ultra_switch.specs.declared.Ports.{Ports}
 use Rattle.ultra_model.specs.Places.{present}
-use Rattle.ultra_halves.specs.Halves.{in_order, first_of, second_of}
+use Rattle.ultra_halves.specs.Halves.{coming_to, first_of, in_order, lane_with, ports, second_of}
 use Rattle.ultra_halves.specs.Switches.{combinations_of}
-use Rattle.ultra_halves.proofs.Combinations.{combined}
+use Rattle.ultra_halves.proofs.Combinations.{all_in_order}
 use Rattle.ultra_section.specs.BlockState.{BlockState, HasEventRoom, most_events}
 use Rattle.ultra_section.proofs.Once.{entries_before}
 
@@ -21,7 +21,8 @@ ordered_present turned x y = grind arith
 -- a switch makes at most two combinations in a cycle
 pub two_combine : (d s k n : ℕ) (w : Switch) (came : Ports (Option Request)) → length (combinations_of d s k n w came) ≤ 2
 two_combine d s k n w came =
-    subst (λ es. length es ≤ 2) (combined s k w.to_mm d (first_of n came) (second_of n came)) (ordered_present _ _ _)
+    let lanes = ports (lane_with w.to_mm.zero (coming_to d s 0 (first_of n came))) (lane_with w.to_mm.one (coming_to d s 1 (first_of n came))) in
+    subst (λ es. length es ≤ 2) (all_in_order d s k w (first_of n came) (second_of n came) lanes refl refl) (ordered_present _ _ _)
 
 -- where at most n events have happened, there is room for those of one half
 pub room_for_half : (b : BlockState) → length b.events + 640 ≤ most_events → (n : ℕ) → HasEventRoom n b

@@ -1,190 +1,92 @@
 -- What the sets of a block say of its units is kept when one of them is put anew and noted.
-use Rattle.std.proofs.lemmas.Grind.{common_steps}
-use Rattle.std.proofs.Common.{◌≡◌, ◌≢◌, ℕ, ◌^◌, ◌<◌, ◌≤◌, List, Bool, true, false, Option, Some, None, set, get_or, refl, sym, ◌∙◌, ap, subst, arith, get_or-set_same, get_or-set_other}
-use Rattle.std.specs.Prelude.{not, is_some, length, slice_index_or}
+use Rattle.std.proofs.Common.{◌≡◌, ◌≢◌, ℕ, ◌<◌, ◌≤◌, List, Option, Some, None, set, get_or, refl, sym, ◌∙◌, ap, arith, get_or-set_same, get_or-set_other}
+use Rattle.std.specs.Prelude.{length, slice_index_or}
 use Rattle.std.proofs.lemmas.List.{length-set, get_or_default}
-use Rattle.ultra_switch.specs.declared.Switch.{Switch}
-use Rattle.ultra_mem.specs.Serve.{Bank}
-use Rattle.ultra_isa.specs.Step.{has_stopped}
-use Rattle.ultra_isa.specs.declared.Instr.{Instr}
-use Rattle.ultra_units.specs.Numbers.{switch_count, module_number, element_number}
-use Rattle.ultra_halves.specs.Switches.{has_reply_room, has_request_room, holds_replies, holds_requests, keeps_records}
-use Rattle.ultra_halves.specs.Elements.{holds_request}
-use Rattle.ultra_halves.specs.declared.elements.ProcessingElement.{ProcessingElement}
-use Rattle.ultra_units.specs.Units.{IsModule, IsElement}
-use Rattle.ultra_section.specs.declared.sets.Sets.{Sets}
-use Rattle.ultra_section.specs.Sets.{UnitFacts, facts_at, would_serve, KnowsSwitch, KnowsModule, KnowsElement}
 use Rattle.ultra_msg.specs.declared.Request.{Request}
 use Rattle.ultra_msg.specs.declared.ReplyMessage.{ReplyMessage}
-use Rattle.ultra_units.specs.declared.links.Links.{Links}
-use Rattle.ultra_section.specs.BlockState.{AreOthersAtRest, IsKept, UnitsAreKnown}
-use Rattle.ultra_units.specs.Marks.{RepliesAreKnown, RequestsAreKnown}
+use Rattle.ultra_switch.specs.declared.Switch.{Switch}
+use Rattle.ultra_mem.specs.Serve.{Bank}
+use Rattle.ultra_isa.specs.declared.Instr.{Instr}
+use Rattle.ultra_halves.specs.declared.elements.ProcessingElement.{ProcessingElement}
+use Rattle.ultra_model.specs.Phases.{without_reply}
+use Rattle.ultra_halves.specs.Modules.{bank_with}
+use Rattle.ultra_units.specs.Links.{LinksState}
+use Rattle.ultra_units.specs.Numbers.{switch_count}
+use Rattle.ultra_units.specs.Units.{IsModule, IsElement, IsSwitch, of_unit}
+use Rattle.ultra_units.proofs.Standing.{unit_is, unit_of_element, unit_of_module, unit_of_switch}
+use Rattle.ultra_section.specs.declared.sets.Sets.{Sets}
+use Rattle.ultra_section.specs.Sets.{AreNoted, UnitFacts, facts_at, no_facts, switch_facts, module_facts, element_facts, reply_noted, request_noted}
+use Rattle.ultra_section.proofs.Holding.{at_switch}
+use Rattle.ultra_section.specs.BlockState.{AreOthersAtRest, BlockState, IsKept, UnitsAreKnown}
 
--- the sets agree on all units but one
-abbrev pub AgreeBut : ℕ → Sets → Sets → Type 0
-AgreeBut n old now = (k : ℕ) → k ≢ n → facts_at now k ≡ facts_at old k
+-- where nothing is noted anew
+pub same_facts : (s : Sets) (n : ℕ) → AreNoted n (facts_at s n) s s
+same_facts s n = record { there = refl; others = λ k other. refl }
 
--- ---- in a list of units of a kind, whose numbers `number` gives
-module _ {X : Type 0} (Knows : UnitFacts → Option X → Type 0) (number : ℕ → ℕ) (old now : Sets) (xs : List (Option X)) where
-  one_changed : (i : ℕ) (o : Option X) → AgreeBut (number i) old now → Knows (facts_at now (number i)) o → (k : ℕ) → (k ≢ i → number k ≢ number i) → i < length xs
-      → Knows (facts_at old (number k)) (slice_index_or xs k None) → Knows (facts_at now (number k)) (slice_index_or (set xs i o) k None)
-  one_changed i o agree there k apart within was = grind (arith, get_or-set_same, get_or-set_other)
+-- ---- facts of units, where `fs`, `fb` and `fe` give those of a switch, of a module and of a processing element
+module _ (d : ℕ) {S B E F : Type 0} (fs : Option S → F) (fb : Option B → F) (fe : Option E → F) (none : F) where
+  abbrev all_facts : List (Option S) → List (Option B) → List (Option E) → ℕ → F
+  all_facts ws bs es n = of_unit d (λ s k. fs (slice_index_or ws n None)) (λ m. fb (slice_index_or bs m None)) (λ p. fe (slice_index_or es p None)) none n
 
-  one_kept : (n : ℕ) → AgreeBut n old now → (k : ℕ) → number k ≢ n
-      → Knows (facts_at old (number k)) (slice_index_or xs k None) → Knows (facts_at now (number k)) (slice_index_or xs k None)
-  one_kept n agree k other was = grind arith
+  module _ (ws : List (Option S)) (bs : List (Option B)) (es : List (Option E)) (old now : ℕ → F) (known : (k : ℕ) → old k ≡ all_facts ws bs es k) (n : ℕ) (same : (k : ℕ) → k ≢ n → now k ≡ old k) where
+    switch_anew : (o : Option S) → n < switch_count d → n < length ws → now n ≡ fs o → (k : ℕ) → now k ≡ all_facts (set ws n o) bs es k
+    switch_anew o own within is k = grind (arith, unit_is, unit_of_switch, get_or-set_same, get_or-set_other)
 
--- ---- in a block
-module _ {d : ℕ} {old now : Sets} {ws : List (Option Switch)} {bs : List (Option Bank)} {es : List (Option ProcessingElement)} (known : UnitsAreKnown d old ws bs es) where
-  pub switch_known : (n : ℕ) (o : Option Switch) → n < switch_count d → AgreeBut n old now → KnowsSwitch (facts_at now n) o
-      → UnitsAreKnown d now (set ws n o) bs es
-  switch_known n o within agree there = record {
-    switch_entries = length-set ws n o ∙ known.switch_entries;
-    module_entries = known.module_entries;
-    element_entries = known.element_entries;
-    switches = λ k h. one_changed KnowsSwitch (λ k. k) old now ws n o agree there k (λ other. other) (omega (arith, known.switch_entries)) (known.switches k h);
-    modules = λ m h. one_kept KnowsModule (λ m. module_number d m) old now bs n agree m (omega arith) (known.modules m h);
-    elements = λ p h. one_kept KnowsElement (λ p. element_number d p) old now es n agree p (omega arith) (known.elements p h);
-    others = λ k past. agree k (omega arith) ∙ known.others k past;
-  }
+    module_anew : (m : ℕ) (o : Option B) → IsModule d n m → m < length bs → now n ≡ fb o → (k : ℕ) → now k ≡ all_facts ws (set bs m o) es k
+    module_anew m o own within is k = grind (arith, unit_is, unit_of_module, get_or-set_same, get_or-set_other)
 
-  pub module_known : (m : ℕ) (o : Option Bank) → m < 2 ^ d → AgreeBut (module_number d m) old now → KnowsModule (facts_at now (module_number d m)) o
-      → UnitsAreKnown d now ws (set bs m o) es
-  module_known m o within agree there = record {
-    switch_entries = known.switch_entries;
-    module_entries = length-set bs m o ∙ known.module_entries;
-    element_entries = known.element_entries;
-    switches = λ k h. one_kept KnowsSwitch (λ k. k) old now ws (module_number d m) agree k (omega arith) (known.switches k h);
-    modules = λ k h. one_changed KnowsModule (λ m. module_number d m) old now bs m o agree there k (λ other same. other (omega arith)) (omega (arith, known.module_entries)) (known.modules k h);
-    elements = λ p h. one_kept KnowsElement (λ p. element_number d p) old now es (module_number d m) agree p (omega arith) (known.elements p h);
-    others = λ k past. agree k (omega arith) ∙ known.others k past;
-  }
+    element_anew : (p : ℕ) (o : Option E) → IsElement d n p → p < length es → now n ≡ fe o → (k : ℕ) → now k ≡ all_facts ws bs (set es p o) k
+    element_anew p o own within is k = grind (arith, unit_is, unit_of_element, get_or-set_same, get_or-set_other)
 
-  pub element_known : (p : ℕ) (o : Option ProcessingElement) → p < 2 ^ d → AgreeBut (element_number d p) old now → KnowsElement (facts_at now (element_number d p)) o
-      → UnitsAreKnown d now ws bs (set es p o)
-  element_known p o within agree there = record {
-    switch_entries = known.switch_entries;
-    module_entries = known.module_entries;
-    element_entries = length-set es p o ∙ known.element_entries;
-    switches = λ k h. one_kept KnowsSwitch (λ k. k) old now ws (element_number d p) agree k (omega arith) (known.switches k h);
-    modules = λ m h. one_kept KnowsModule (λ m. module_number d m) old now bs (element_number d p) agree m (omega arith) (known.modules m h);
-    elements = λ k h. one_changed KnowsElement (λ p. element_number d p) old now es p o agree there k (λ other same. other (omega arith)) (omega (arith, known.element_entries)) (known.elements k h);
-    others = λ k past. agree k (omega arith) ∙ known.others k past;
-  }
+module _ {d : ℕ} {old now : Sets} {ws : List (Option Switch)} {bs : List (Option Bank)} {es : List (Option ProcessingElement)} (known : UnitsAreKnown d old ws bs es)
+    {n : ℕ} {f : UnitFacts} (noted : AreNoted n f old now) where
+  pub switch_known : (o : Option Switch) → n < switch_count d → f ≡ switch_facts o → UnitsAreKnown d now (set ws n o) bs es
+  switch_known o own is =
+      let facts = switch_anew d switch_facts module_facts element_facts no_facts ws bs es (facts_at old) (facts_at now) known.facts n noted.others o own (omega (arith, known.switch_entries)) (noted.there ∙ is) in
+      record { switch_entries = length-set ws n o ∙ known.switch_entries; module_entries = known.module_entries; element_entries = known.element_entries; facts = facts }
 
--- ---- what is noted of one
--- a switch, where `kept` says whether it keeps records
-abbrev with_replies : UnitFacts → Switch → Bool → UnitFacts
-with_replies f v kept = record f { holds_replies = holds_replies v; no_reply_room = not (has_reply_room v); keeps_records = kept }
+  pub module_known : (m : ℕ) (o : Option Bank) → IsModule d n m → f ≡ module_facts o → UnitsAreKnown d now ws (set bs m o) es
+  module_known m o own is =
+      let facts = module_anew d switch_facts module_facts element_facts no_facts ws bs es (facts_at old) (facts_at now) known.facts n noted.others m o own (omega (arith, known.module_entries, own.small)) (noted.there ∙ is) in
+      record { switch_entries = known.switch_entries; module_entries = length-set bs m o ∙ known.module_entries; element_entries = known.element_entries; facts = facts }
 
-abbrev with_requests : UnitFacts → Switch → Bool → UnitFacts
-with_requests f v kept = record f { holds_requests = holds_requests v; no_room_zero = not (has_request_room v).zero; no_room_one = not (has_request_room v).one; keeps_records = kept }
-
-pub replies_noted : (f g : UnitFacts) (w v : Switch) (kept : Bool) → KnowsSwitch f (Some w) → g ≡ with_replies f v kept
-    → holds_requests v ≡ holds_requests w → has_request_room v ≡ has_request_room w → kept ≡ keeps_records v → KnowsSwitch g (Some v)
-replies_noted f g w v kept known is held room records = grind arith
-
-pub requests_noted : (f g : UnitFacts) (w v : Switch) (kept : Bool) → KnowsSwitch f (Some w) → g ≡ with_requests f v kept
-    → holds_replies v ≡ holds_replies w → has_reply_room v ≡ has_reply_room w → kept ≡ keeps_records v → KnowsSwitch g (Some v)
-requests_noted f g w v kept known is held room records = grind arith
-
--- a module
-pub request_noted : (f g : UnitFacts) (b c : Bank) → c.out ≡ b.out → g ≡ record f { holds_requests = is_some c.inp; no_room_zero = is_some c.inp; to_serve = would_serve c }
-    → KnowsModule f (Some b) → KnowsModule g (Some c)
-request_noted f g b c out is known = grind arith
-
-pub reply_noted : (f g : UnitFacts) (b c : Bank) → c.inp ≡ b.inp → g ≡ record f { holds_replies = is_some c.out; to_serve = would_serve c }
-    → KnowsModule f (Some b) → KnowsModule g (Some c)
-reply_noted f g b c inp is known = grind arith
-
-pub serving_noted : (f g : UnitFacts) (b c : Bank) → g ≡ record f { holds_replies = is_some c.out; holds_requests = is_some c.inp; no_room_zero = is_some c.inp; to_serve = would_serve c }
-    → KnowsModule f (Some b) → KnowsModule g (Some c)
-serving_noted f g b c is known = grind arith
-
--- a processing element that has issued a request, one that has stopped, and one that a request has left
-pub issue_noted : (f g : UnitFacts) (e v : ProcessingElement) → g ≡ record f { holds_requests = true } → holds_request v ≡ true
-    → has_stopped v.processor.core.activity ≡ has_stopped e.processor.core.activity → KnowsElement f (Some e) → KnowsElement g (Some v)
-issue_noted f g e v is holds runs known = grind arith
-
-pub stop_noted : (f g : UnitFacts) (e v : ProcessingElement) → g ≡ record f { running = false } → holds_request v ≡ holds_request e
-    → has_stopped v.processor.core.activity ≡ true → KnowsElement f (Some e) → KnowsElement g (Some v)
-stop_noted f g e v is holds stopped known = grind arith
-
-pub leaving_noted : (f g : UnitFacts) (e v : ProcessingElement) → g ≡ record f { holds_requests = holds_request v }
-    → has_stopped v.processor.core.activity ≡ has_stopped e.processor.core.activity → KnowsElement f (Some e) → KnowsElement g (Some v)
-leaving_noted f g e v is runs known = grind arith
+  pub element_known : (p : ℕ) (o : Option ProcessingElement) → IsElement d n p → f ≡ element_facts o → UnitsAreKnown d now ws bs (set es p o)
+  element_known p o own is =
+      let facts = element_anew d switch_facts module_facts element_facts no_facts ws bs es (facts_at old) (facts_at now) known.facts n noted.others p o own (omega (arith, known.element_entries, own.small)) (noted.there ∙ is) in
+      record { switch_entries = known.switch_entries; module_entries = known.module_entries; element_entries = length-set es p o ∙ known.element_entries; facts = facts }
 
 -- what a read of an entry gives
 pub stands : {X : Type 0} (xs : List (Option X)) (n : ℕ) {o : Option X} {x : X} → n < length xs → o ≡ get_or xs n o → o ≡ Some x → slice_index_or xs n None ≡ Some x
 stands xs n {o} {x} within read is = get_or_default xs n None o within ∙ sym read ∙ is
 
--- ---- what the sets say of a unit that stands in a block: `o` is what was read of its entry
-module _ {d : ℕ} {s : Sets} {ws : List (Option Switch)} {bs : List (Option Bank)} {es : List (Option ProcessingElement)} (known : UnitsAreKnown d s ws bs es) where
-  pub switch_was : (n : ℕ) {o : Option Switch} {w : Switch} → n < switch_count d → o ≡ get_or ws n o → o ≡ Some w → KnowsSwitch (facts_at s n) (Some w)
-  switch_was n {o} {w} within read is = grind (arith, common_steps)
+-- ---- a unit that stands in a block, which is `inside`: `o` is what was read of its entry
+module _ {inside b : BlockState} (same : inside ≡ b) {s : Sets} (known : UnitsAreKnown inside.stages s inside.switches inside.modules inside.elements) where
+  pub switch_here : {n i k : ℕ} {o : Option Switch} {w : Switch} → IsSwitch b.stages n i k → o ≡ get_or inside.switches n o → o ≡ Some w → IsSwitch inside.stages n i k × (facts_at s n ≡ switch_facts (Some w))
+  switch_here {n} {i} {k} {o} {w} own read is =
+      let here : IsSwitch inside.stages n i k = grind arith in
+      (here, known.facts n ∙ at_switch inside.stages _ _ _ _ n here.within ∙ ap switch_facts (stands inside.switches n (omega (arith, known.switch_entries, here.within)) read is))
 
-  pub module_was : {n m : ℕ} {o : Option Bank} {b : Bank} → IsModule d n m → o ≡ get_or bs m o → o ≡ Some b → KnowsModule (facts_at s n) (Some b)
-  module_was {n} {m} {o} {b} own read is = grind (arith, facts_at, module_number, stands)
+  pub module_here : {n m : ℕ} {o : Option Bank} {x : Bank} → IsModule b.stages n m → o ≡ get_or inside.modules m o → o ≡ Some x → IsModule inside.stages n m × (facts_at s n ≡ module_facts (Some x))
+  module_here {n} {m} {o} {x} own read is = grind (arith, known.facts, unit_of_module, stands)
 
-  pub element_was : {n p : ℕ} {o : Option ProcessingElement} {e : ProcessingElement} → IsElement d n p → o ≡ get_or es p o → o ≡ Some e → KnowsElement (facts_at s n) (Some e)
-  element_was {n} {p} {o} {e} own read is = grind (arith, facts_at, element_number, stands)
+  pub element_here : {n p : ℕ} {o : Option ProcessingElement} {e : ProcessingElement} → IsElement b.stages n p → o ≡ get_or inside.elements p o → o ≡ Some e → IsElement inside.stages n p × (facts_at s n ≡ element_facts (Some e))
+  element_here {n} {p} {o} {e} own read is = grind (arith, known.facts, unit_of_element, stands)
 
-  -- a processing element is changed so that what is known of it is still true
-  pub element_same : {n p : ℕ} {o : Option ProcessingElement} {e : ProcessingElement} (v : ProcessingElement) → IsElement d n p → o ≡ get_or es p o → o ≡ Some e
-      → holds_request v ≡ holds_request e → has_stopped v.processor.core.activity ≡ has_stopped e.processor.core.activity → UnitsAreKnown d s ws bs (set es p (Some v))
-  element_same {n} {p} {o} {e} v own read is pending stopped =
-      let was = subst (λ x. KnowsElement (facts_at s (element_number d p)) x) (stands es p (omega (arith, known.element_entries, own.small)) read is) (known.elements p own.small) in
-      element_known known p (Some v) own.small (λ k _. refl)
-      record { here = was.here; holds_replies = was.holds_replies; holds_requests = was.holds_requests ∙ sym pending; running = was.running ∙ ap (λ b. not b) (sym stopped); keeps_records = was.keeps_records }
+-- ---- what is noted of a module
+pub reply_left : (b : Bank) (o : Option ReplyMessage) → reply_noted (without_reply b o) (module_facts (Some b)) ≡ module_facts (Some (without_reply b o))
+reply_left b o = grind arith
 
--- ---- such a unit is changed, and noted
-module _ {d : ℕ} {old now : Sets} {ws : List (Option Switch)} {bs : List (Option Bank)} {es : List (Option ProcessingElement)} (known : UnitsAreKnown d old ws bs es) where
-  pub switch_replies_changed : (n : ℕ) {o : Option Switch} {w : Switch} (v : Switch) → n < switch_count d → o ≡ get_or ws n o → o ≡ Some w → AgreeBut n old now
-      → facts_at now n ≡ record (facts_at old n) { holds_replies = holds_replies v; no_reply_room = not (has_reply_room v) }
-      → holds_requests v ≡ holds_requests w → has_request_room v ≡ has_request_room w → keeps_records v ≡ keeps_records w → UnitsAreKnown d now (set ws n (Some v)) bs es
-  switch_replies_changed n {o} {w} v within read is agree noted held room records =
-      let was = switch_was known n within read is in
-      switch_known known n (Some v) within agree
-      (replies_noted (facts_at old n) (facts_at now n) w v (facts_at old n).keeps_records was noted held room (was.keeps_records ∙ sym records))
+pub request_taken : (n : ℕ) (b : Bank) (o : Option Request) → request_noted (bank_with n b o) (module_facts (Some b)) ≡ module_facts (Some (bank_with n b o))
+request_taken n b o = grind arith
 
-  -- and it is noted whether it keeps records
-  pub switch_replies_taken : (n : ℕ) {o : Option Switch} {w : Switch} (v : Switch) → n < switch_count d → o ≡ get_or ws n o → o ≡ Some w → AgreeBut n old now
-      → facts_at now n ≡ record (facts_at old n) { holds_replies = holds_replies v; no_reply_room = not (has_reply_room v); keeps_records = keeps_records v }
-      → holds_requests v ≡ holds_requests w → has_request_room v ≡ has_request_room w → UnitsAreKnown d now (set ws n (Some v)) bs es
-  switch_replies_taken n {o} {w} v within read is agree noted held room =
-      switch_known known n (Some v) within agree
-      (replies_noted (facts_at old n) (facts_at now n) w v (keeps_records v) (switch_was known n within read is) noted held room refl)
-
-  pub switch_requests_changed : (n : ℕ) {o : Option Switch} {w : Switch} (v : Switch) → n < switch_count d → o ≡ get_or ws n o → o ≡ Some w → AgreeBut n old now
-      → facts_at now n ≡ record (facts_at old n) { holds_requests = holds_requests v; no_room_zero = not (has_request_room v).zero; no_room_one = not (has_request_room v).one }
-      → holds_replies v ≡ holds_replies w → has_reply_room v ≡ has_reply_room w → keeps_records v ≡ keeps_records w → UnitsAreKnown d now (set ws n (Some v)) bs es
-  switch_requests_changed n {o} {w} v within read is agree noted held room records =
-      let was = switch_was known n within read is in
-      switch_known known n (Some v) within agree
-      (requests_noted (facts_at old n) (facts_at now n) w v (facts_at old n).keeps_records was noted held room (was.keeps_records ∙ sym records))
-
-  pub switch_requests_taken : (n : ℕ) {o : Option Switch} {w : Switch} (v : Switch) → n < switch_count d → o ≡ get_or ws n o → o ≡ Some w → AgreeBut n old now
-      → facts_at now n ≡ record (facts_at old n) { holds_requests = holds_requests v; no_room_zero = not (has_request_room v).zero; no_room_one = not (has_request_room v).one; keeps_records = keeps_records v }
-      → holds_replies v ≡ holds_replies w → has_reply_room v ≡ has_reply_room w → UnitsAreKnown d now (set ws n (Some v)) bs es
-  switch_requests_taken n {o} {w} v within read is agree noted held room =
-      switch_known known n (Some v) within agree
-      (requests_noted (facts_at old n) (facts_at now n) w v (keeps_records v) (switch_was known n within read is) noted held room refl)
-
-  pub module_changed : {n m : ℕ} (c : Bank) → IsModule d n m → AgreeBut n old now → KnowsModule (facts_at now n) (Some c) → UnitsAreKnown d now ws (set bs m (Some c)) es
-  module_changed {n} {m} c own agree there =
-      module_known known m (Some c) own.small (subst (λ k. AgreeBut k old now) own.number agree)
-      (subst (λ k. KnowsModule (facts_at now k) (Some c)) own.number there)
-
-  pub element_changed : {n p : ℕ} {o : Option ProcessingElement} {e : ProcessingElement} (v : ProcessingElement) → IsElement d n p → o ≡ get_or es p o → o ≡ Some e → AgreeBut n old now
-      → (KnowsElement (facts_at old n) (Some e) → KnowsElement (facts_at now n) (Some v)) → UnitsAreKnown d now ws bs (set es p (Some v))
-  element_changed {n} {p} {o} {e} v own read is agree noted =
-      element_known known p (Some v) own.small (subst (λ k. AgreeBut k old now) own.number agree)
-      (subst (λ k. KnowsElement (facts_at now k) (Some v)) own.number (noted (element_was known own read is)))
+-- ---- links on which something has changed are those of the same machine
+pub same_stages : {M : Type 0} {l m : LinksState M} {d : ℕ} → m ≡ l → l.stages ≡ d → m.stages ≡ d
+same_stages {M} {l} {m} is stages = ap (λ (l : LinksState M). l.stages) is ∙ stages
 
 -- ---- a block whose units have changed, or what is on its links
 pub still_kept : {d wiring : ℕ} {program : List Instr} {old now : Sets} {awake woken : List ℕ} {ws vs : List (Option Switch)} {bs cs : List (Option Bank)} {es fs : List (Option ProcessingElement)}
-    {old_replies for_replies : Links ReplyMessage} {old_requests for_requests : Links Request} {event_places stop_places more_event_places more_stop_places : ℕ}
+    {old_replies for_replies : LinksState ReplyMessage} {old_requests for_requests : LinksState Request} {event_places stop_places more_event_places more_stop_places : ℕ}
     → IsKept d wiring program old awake ws bs es old_replies old_requests event_places stop_places → UnitsAreKnown d now vs cs fs → AreOthersAtRest d program woken fs
-    → RepliesAreKnown d for_replies → RequestsAreKnown d for_requests → event_places ≤ more_event_places → stop_places ≤ more_stop_places
+    → for_replies.stages ≡ d → for_requests.stages ≡ d → event_places ≤ more_event_places → stop_places ≤ more_stop_places
     → IsKept d wiring program now woken vs cs fs for_replies for_requests more_event_places more_stop_places
 still_kept kept units rests replies requests more_events more_stops = grind arith

@@ -7,9 +7,7 @@ pub mod Records
 pub mod Known
 pub mod Noted
 pub mod Entries
-pub mod Moved
 pub mod OfKind
-pub mod Empty
 pub mod Once
 pub mod RepliesSentOnce
 pub mod RequestsSentOnce
@@ -18,14 +16,10 @@ pub mod ExecutedOnce
 pub mod Few
 pub mod RepliesTakenOnce
 pub mod RequestsTakenOnce
-pub mod RepliesSent
-pub mod Serving
-pub mod RepliesTaken
+pub mod Idle
+pub mod Taken
 pub mod Execution
-pub mod RequestsSent
-pub mod RequestsTaken
-pub mod RepliesAway
-pub mod RequestsAway
+mod Elsewhere
 pub mod Holding
 pub mod OwnRooms
 pub mod OwnProgram

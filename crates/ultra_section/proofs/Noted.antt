@@ -1,5 +1,5 @@
 -- What is noted of a switch or a module once messages have come to it or left it: the queues of the switch are longer then, or shorter.
-use Rattle.std.proofs.Common.{◌≡◌, ℕ, ◌+◌, ◌≤◌, List, ◌++◌, Bool, true, false, Option, Some, length, length-append, sym, ◌∙◌, arith}
+use Rattle.std.proofs.Common.{◌≡◌, ℕ, ◌+◌, ◌≤◌, List, ◌++◌, Bool, true, false, Option, Some, length, length-append, arith}
 use Rattle.std.specs.Prelude.{not, nat_le, ◌==◌, ◌&&◌}
 use Rattle.std.proofs.lemmas.Bool.Decides.{nat_tests}
 use Rattle.ultra_msg.specs.declared.Request.{Request}
@@ -8,12 +8,13 @@ use Rattle.ultra_mem.specs.Serve.{Bank}
 use Rattle.ultra_switch.specs.declared.Ports.{Ports}
 use Rattle.ultra_switch.specs.declared.Switch.{Switch}
 use Rattle.ultra_model.specs.Places.{after_leaving}
-use Rattle.ultra_model.specs.Phases.{replies_made, without_reply}
+use Rattle.ultra_model.specs.Phases.{replies_made}
 use Rattle.ultra_halves.specs.Modules.{bank_with}
 use Rattle.ultra_halves.specs.Halves.{both_coming, going_by}
 use Rattle.ultra_halves.specs.Switches.{after_both, after_replies, without_replies, without_requests}
 use Rattle.ultra_halves.proofs.Arrivals.{arrive_all_no_shorter}
-use Rattle.ultra_section.specs.Sets.{HasFewerReplies, HasFewerRequests, HasMoreReplies, HasMoreRequests, HasRequestMore, KnowsModule, KnowsSwitch, UnitFacts}
+use Rattle.ultra_section.proofs.Records.{no_fewer}
+use Rattle.ultra_section.specs.Sets.{HasFewerReplies, HasFewerRequests, HasMoreReplies, HasMoreRequests, HasRequestMore, module_facts, switch_facts}
 
 -- ---- of two queues at least one holds something, and a queue has no room
 held_more : (a b c d : ℕ) → a ≤ c → b ≤ d → not ((a == 0) && (b == 0)) ≡ true → not ((c == 0) && (d == 0)) ≡ true
@@ -36,48 +37,29 @@ shorter o xs = grind arith
 longer : {X : Type 0} (xs ys zs : List X) → length xs ≤ length ((xs ++ ys) ++ zs)
 longer xs ys zs = omega (arith, length-append xs ys, length-append (xs ++ ys) zs)
 
--- ---- what is known of a switch, once it has changed
-module _ (f : UnitFacts) (w : Switch) (known : KnowsSwitch f (Some w)) where
-  pub requests_came : (d s : ℕ) (first second : Option Request) → HasMoreRequests f (after_both d s w first second)
+-- ---- a switch, once it has changed
+module _ (w : Switch) where
+  pub requests_came : (d s : ℕ) (first second : Option Request) → HasMoreRequests (switch_facts (Some w)) (after_both d s w first second)
   requests_came d s first second =
       let zero = arrive_all_no_shorter w.to_mm.zero.wait_places w.to_mm.zero.lane (both_coming d s 0 first second) in
       let one = arrive_all_no_shorter w.to_mm.one.wait_places w.to_mm.one.lane (both_coming d s 1 first second) in
-      record {
-        holds = λ was. held_more _ _ _ _ zero one (sym known.holds_requests ∙ was);
-        full_zero = λ was. full_more 2 _ _ _ zero (sym known.no_room_zero ∙ was);
-        full_one = λ was. full_more 2 _ _ _ one (sym known.no_room_one ∙ was);
-      }
+      record { records = held_more _ _ _ _ (no_fewer _ w.to_mm.zero.lane (both_coming d s 0 first second)) (no_fewer _ w.to_mm.one.lane (both_coming d s 1 first second)); holds = held_more _ _ _ _ zero one; full_zero = full_more 2 _ _ _ zero; full_one = full_more 2 _ _ _ one }
 
-  pub requests_left : {X : Type 0} (out : Ports (Option X)) → HasFewerRequests f (without_requests w out)
+  pub requests_left : {X : Type 0} (out : Ports (Option X)) → HasFewerRequests (switch_facts (Some w)) (without_requests w out)
   requests_left out =
       let zero = shorter out.zero w.to_mm.zero.lane.queue in
       let one = shorter out.one w.to_mm.one.lane.queue in
-      record {
-        holds = λ was. unless _ _ (held_more _ _ _ _ zero one) (sym known.holds_requests ∙ was);
-        full_zero = λ was. unless _ _ (full_more 2 _ _ _ zero) (sym known.no_room_zero ∙ was);
-        full_one = λ was. unless _ _ (full_more 2 _ _ _ one) (sym known.no_room_one ∙ was);
-      }
+      record { holds = unless _ _ (held_more _ _ _ _ zero one); full_zero = unless _ _ (full_more 2 _ _ _ zero); full_one = unless _ _ (full_more 2 _ _ _ one) }
 
-  pub replies_came : (d s : ℕ) (came : Ports (Option ReplyMessage)) → HasMoreReplies f (after_replies d s w came)
+  pub replies_came : (d s : ℕ) (came : Ports (Option ReplyMessage)) → HasMoreReplies (switch_facts (Some w)) (after_replies d s w came)
   replies_came d s came = grind (arith, longer, going_by, replies_made, held_more, both_full_more)
 
-  pub replies_left : {X : Type 0} (out : Ports (Option X)) → HasFewerReplies f (without_replies w out)
+  pub replies_left : {X : Type 0} (out : Ports (Option X)) → HasFewerReplies (switch_facts (Some w)) (without_replies w out)
   replies_left out =
       let zero = shorter out.zero w.to_pe.zero.replies in
       let one = shorter out.one w.to_pe.one.replies in
-      record {
-        holds = λ was. unless _ _ (held_more _ _ _ _ zero one) (sym known.holds_replies ∙ was);
-        full = λ was. unless _ _ (both_full_more 4 _ _ _ _ _ _ zero one) (sym known.no_reply_room ∙ was);
-      }
+      record { holds = unless _ _ (held_more _ _ _ _ zero one); full = unless _ _ (both_full_more 4 _ _ _ _ _ _ zero one) }
 
--- ---- what is known of a module, once it has changed
-
-pub out_kept : (n : ℕ) (b : Bank) (o : Option Request) → (bank_with n b o).out ≡ b.out
-out_kept n b o = grind arith
-
-pub inp_kept : (b : Bank) (o : Option ReplyMessage) → (without_reply b o).inp ≡ b.inp
-inp_kept b o = grind arith
-
-module _ (f : UnitFacts) (b : Bank) (known : KnowsModule f (Some b)) where
-  pub request_came : (n : ℕ) (o : Option Request) → HasRequestMore f (bank_with n b o)
-  request_came n o = grind arith
+-- ---- a module
+pub request_came : (b : Bank) (n : ℕ) (o : Option Request) → HasRequestMore (module_facts (Some b)) (bank_with n b o)
+request_came b n o = grind arith

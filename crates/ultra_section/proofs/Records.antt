@@ -1,6 +1,6 @@
 -- When the wait buffers of a switch keep records as before.
 use Rattle.std.proofs.lemmas.Grind.{common_steps}
-use Rattle.std.proofs.Common.{[], ◌≡◌, ℕ, List, ◌∷◌, ◌++◌, true, false, Option, refl, ◌∙◌, arith}
+use Rattle.std.proofs.Common.{[], ◌≡◌, ℕ, ◌≤◌, List, ◌∷◌, ◌++◌, true, false, Option, length, length-append, refl, ◌∙◌, arith}
 use Rattle.ultra_msg.specs.declared.Request.{Request}
 use Rattle.ultra_msg.specs.declared.ReplyMessage.{ReplyMessage}
 use Rattle.ultra_switch.specs.declared.Ports.{Ports}
@@ -18,7 +18,15 @@ none_left ws o h = grind (arith, common_steps)
 pub keeps_none : (d s : ℕ) (w : Switch) (came : Ports (Option ReplyMessage)) → keeps_records w ≡ false → keeps_records (after_replies d s w came) ≡ false
 keeps_none d s w came h = grind (arith, none_left)
 
--- ---- requests: one comes only with a combination
+-- ---- requests: none goes
+no_fewer_yet : (l : Lane) (r : Request) (o : Option Combination) → length l.records ≤ length (after_arrival l r o).records
+no_fewer_yet l r o = grind (arith, length-append)
+
+pub no_fewer : (n : ℕ) (l : Lane) (rs : List Request) → length l.records ≤ length (arrive_all n l rs).records
+no_fewer n l [] = omega arith
+no_fewer n l (r ∷ rs) = omega (arith, no_fewer_yet l r (combine_within n l r), no_fewer n (arrive n l r) rs)
+
+-- one comes only with a combination
 both_empty : {X : Type 0} (xs ys : List X) → xs ++ ys ≡ [] → (xs ≡ []) × (ys ≡ [])
 both_empty [] ys h = (refl, h)
 both_empty (x ∷ xs) ys h = cc

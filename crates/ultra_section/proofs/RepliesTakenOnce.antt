@@ -21,8 +21,7 @@ use Rattle.ultra_section.specs.BlockState.{BlockState, switch_at, element_at}
 use Rattle.ultra_section.specs.Shape.{IsShaped}
 use Rattle.ultra_section.specs.RepliesTaken.{replies_taken_by, reply_taken_by, takes_replies}
 use Rattle.ultra_units.proofs.Standing.{is_switch, unit_is}
-use Rattle.ultra_units.proofs.Readers.{reply_reader, reply_to_element}
-use Rattle.ultra_units.proofs.ReplyMarks.{both_links}
+use Rattle.ultra_units.proofs.Readers.{reply_reader, replies_to_switch, reply_to_element}
 use Rattle.ultra_units.proofs.Marks.{emptied, emptied_first}
 use Rattle.ultra_section.proofs.Once.{all_keep, changed_once, entries_before, all_entries}
 
@@ -40,7 +39,7 @@ module _ (d : ℕ) (low : 1 ≤ d) (high : d ≤ 6) where
 
   -- what is on a link that belongs to another unit
   read_by : (j s k l : ℕ) → IsSwitch d j s k → reply_reader d l ≢ j → (l ≢ (reply_links d s k).zero) × (l ≢ (reply_links d s k).one)
-  read_by j s k l is other = let there = both_links d low high j s k is in grind arith
+  read_by j s k l is other = let there = replies_to_switch d low high j s k is in grind arith
 
   link_stays : (l j : ℕ) (t : BlockState) → t.stages ≡ d → reply_reader d l ≢ j → on_link (takes_replies j t).replies l ≡ on_link t.replies l
   link_stays l j t stages other = grind (arith, get_or-set_other, unit_is, read_by, reply_to_element)
@@ -57,7 +56,7 @@ module _ (d : ℕ) (low : 1 ≤ d) (high : d ≤ 6) where
       → at_switch n (after_units takes_replies 320 b) ≡ after_taking_switch (stage_of d n) (index_of d n) (at_switch n b)
   switch_after_taking b shape n h small =
       changed_once takes_replies (IsShaped d) kept (at_switch n) n
-      (λ j t shape other. grind (arith, get_or-set_other, link_stays, both_links, is_switch))
+      (λ j t shape other. grind (arith, get_or-set_other, link_stays, replies_to_switch, is_switch))
       (after_taking_switch (stage_of d n) (index_of d n))
       (λ t shape. grind (arith, get_or-set_same, emptied_first, emptied)) 320 b shape small
 

@@ -19,8 +19,7 @@ use Rattle.ultra_section.specs.BlockState.{BlockState, switch_at, module_at}
 use Rattle.ultra_section.specs.Shape.{IsShaped}
 use Rattle.ultra_section.specs.RequestsTaken.{requests_taken_by, request_taken_by, takes_requests}
 use Rattle.ultra_units.proofs.Standing.{is_switch, unit_is}
-use Rattle.ultra_units.proofs.Readers.{request_reader, request_to_module}
-use Rattle.ultra_units.proofs.RequestMarks.{both_links}
+use Rattle.ultra_units.proofs.Readers.{request_reader, requests_to_switch, request_to_module}
 use Rattle.ultra_units.proofs.Marks.{emptied, emptied_first}
 use Rattle.ultra_section.proofs.Once.{all_keep, changed_once, entries_before, all_entries}
 
@@ -43,10 +42,13 @@ module _ (d c : ℕ) (low : 1 ≤ d) (high : d ≤ 6) where
 
   -- what is on a link that belongs to another unit
   read_by : (j s k l : ℕ) → IsSwitch d j s k → request_reader d l ≢ j → (l ≢ (request_links d s k).zero) × (l ≢ (request_links d s k).one)
-  read_by j s k l is other = let there = both_links d low high j s k is in grind arith
+  read_by j s k l is other = let there = requests_to_switch d low high j s k is in grind arith
+
+  end_read : (m : ℕ) → m < 2 ^ d → request_reader d (memory_link d m) ≡ module_number d m
+  end_read m h = (request_to_module d low high _ m record { small = h; number = refl }).zero_reader
 
   link_stays : (l j : ℕ) (t : BlockState) → t.stages ≡ d → request_reader d l ≢ j → on_link (takes_requests j t).requests l ≡ on_link t.requests l
-  link_stays l j t stages other = grind (arith, get_or-set_other, unit_is, read_by, request_to_module)
+  link_stays l j t stages other = grind (arith, get_or-set_other, unit_is, read_by, end_read)
 
   -- ---- a switch, and what is on its two links
   abbrev at_switch : ℕ → ℕ → ℕ → BlockState → Option Switch × Ports (Option Request)
@@ -57,7 +59,7 @@ module _ (d c : ℕ) (low : 1 ≤ d) (high : d ≤ 6) where
   after_taking_switch s k (Some w, came) = (Some (after_requests d s c w came), ports None None)
 
   switch_stays : (n s k : ℕ) → IsSwitch d n s k → (j : ℕ) (t : BlockState) → InCycle d c t → j ≢ n → at_switch n s k (takes_requests j t) ≡ at_switch n s k t
-  switch_stays n s k is j t p other = grind (arith, get_or-set_other, link_stays, both_links)
+  switch_stays n s k is j t p other = grind (arith, get_or-set_other, link_stays, requests_to_switch)
 
   pub switch_after_taking : (b : BlockState) → InCycle d c b → (n : ℕ) → n < switch_count d → n < 320
       → at_switch n (stage_of d n) (index_of d n) (after_units takes_requests 320 b) ≡ after_taking_switch (stage_of d n) (index_of d n) (at_switch n (stage_of d n) (index_of d n) b)
@@ -78,7 +80,7 @@ module _ (d c : ℕ) (low : 1 ≤ d) (high : d ≤ 6) where
       → at_module p (after_units takes_requests 320 b) ≡ after_taking_module (at_module p b)
   module_after_taking b shape p h small link =
       changed_once takes_requests (InCycle d c) kept (at_module p) (module_number d p)
-      (λ j t p other. grind (arith, get_or-set_other, link_stays, request_to_module, unit_is))
+      (λ j t p other. grind (arith, get_or-set_other, link_stays, end_read, unit_is))
       after_taking_module
       (λ t p. grind (arith, get_or-set_same, emptied)) 320 b shape small
 

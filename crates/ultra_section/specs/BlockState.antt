@@ -8,14 +8,14 @@ use Rattle.ultra_switch.specs.declared.Switch.{Switch}
 use Rattle.ultra_mem.specs.Serve.{Bank}
 use Rattle.ultra_isa.specs.declared.Instr.{Instr}
 use Rattle.ultra_model.specs.declared.Stop.{Stop}
-use Rattle.ultra_units.specs.Numbers.{switch_count, module_number, element_number, unit_count}
+use Rattle.ultra_units.specs.Numbers.{switch_count, element_number}
 use Rattle.ultra_units.specs.Set.{has_unit}
+use Rattle.ultra_units.specs.Units.{of_unit}
 use Rattle.ultra_halves.specs.Elements.{is_at_rest}
 use Rattle.ultra_halves.specs.declared.elements.ProcessingElement.{ProcessingElement}
 use Rattle.ultra_section.specs.declared.sets.Sets.{Sets}
-use Rattle.ultra_units.specs.declared.links.Links.{Links}
-use Rattle.ultra_section.specs.Sets.{facts_at, no_facts, KnowsSwitch, KnowsModule, KnowsElement}
-use Rattle.ultra_units.specs.Marks.{RepliesAreKnown, RequestsAreKnown}
+use Rattle.ultra_units.specs.Links.{LinksState}
+use Rattle.ultra_section.specs.Sets.{facts_at, no_facts, switch_facts, module_facts, element_facts}
 
 -- the program that its processing elements run, the units that stand there, by their numbers, what
 -- is on each link, and what has happened in the cycle
@@ -40,16 +40,18 @@ module_at bs m = slice_index_or bs m None
 abbrev pub element_at : List (Option ProcessingElement) → ℕ → Option ProcessingElement
 element_at es p = slice_index_or es p None
 
--- there is an entry for each unit, and what the sets say of it is true
+-- there is an entry for each unit, and the sets say what is true of it
 pub record UnitsAreKnown (d : ℕ) (s : Sets) (ws : List (Option Switch)) (bs : List (Option Bank)) (es : List (Option ProcessingElement)) : Type 0 where
   pub switch_entries : length ws ≡ switch_count d
   pub module_entries : length bs ≡ 2 ^ d
   pub element_entries : length es ≡ 2 ^ d
-  pub switches : (n : ℕ) → n < switch_count d → KnowsSwitch (facts_at s n) (switch_at ws n)
-  pub modules : (m : ℕ) → m < 2 ^ d → KnowsModule (facts_at s (module_number d m)) (module_at bs m)
-  pub elements : (p : ℕ) → p < 2 ^ d
-      → KnowsElement (facts_at s (element_number d p)) (element_at es p)
-  pub others : (n : ℕ) → unit_count d ≤ n → facts_at s n ≡ no_facts
+  pub facts :
+      (n : ℕ) → facts_at s n
+      ≡ of_unit d
+      (λ s k. switch_facts (switch_at ws n))
+      (λ m. module_facts (module_at bs m))
+      (λ p. element_facts (element_at es p))
+      no_facts n
 
 -- the processing elements outside a set are at rest: a step of the program leaves each as it is
 abbrev pub AreOthersAtRest : ℕ → List Instr → List ℕ → List (Option ProcessingElement) → Type 0
@@ -64,12 +66,12 @@ most_events = 2560
 abbrev pub most_stops : ℕ
 most_stops = 320
 
-pub record IsKept (d wiring : ℕ) (program : List Instr) (s : Sets) (awake : List ℕ) (ws : List (Option Switch)) (bs : List (Option Bank)) (es : List (Option ProcessingElement)) (for_replies : Links ReplyMessage) (for_requests : Links Request) (event_places stop_places : ℕ) : Type 0 where
+pub record IsKept (d wiring : ℕ) (program : List Instr) (s : Sets) (awake : List ℕ) (ws : List (Option Switch)) (bs : List (Option Bank)) (es : List (Option ProcessingElement)) (for_replies : LinksState ReplyMessage) (for_requests : LinksState Request) (event_places stop_places : ℕ) : Type 0 where
   pub network : wiring ≡ d
   pub units : UnitsAreKnown d s ws bs es
   pub rests : AreOthersAtRest d program awake es
-  pub replies : RepliesAreKnown d for_replies
-  pub requests : RequestsAreKnown d for_requests
+  pub replies : for_replies.stages ≡ d
+  pub requests : for_requests.stages ≡ d
   pub events_fit : most_events ≤ event_places
   pub stops_fit : most_stops ≤ stop_places
 

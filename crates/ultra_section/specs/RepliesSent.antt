@@ -9,7 +9,9 @@ use Rattle.ultra_halves.specs.Switches.{replies_leaving, without_replies}
 use Rattle.ultra_units.specs.declared.unit.Unit.TheVariants as unit
 use Rattle.ultra_units.specs.Units.{unit_of}
 use Rattle.ultra_units.specs.Links.{put_on}
-pub use Rattle.ultra_units.specs.Ways.{reply_targets, replies_put, has_reply_way, reply_ways, has_way_from_module}
+use Rattle.ultra_units.specs.Inlets.{put_on_both}
+use Rattle.ultra_units.specs.Ways.{places_of}
+pub use Rattle.ultra_units.specs.Ways.{reply_targets, has_reply_way, reply_ways, has_way_from_module}
 use Rattle.ultra_section.specs.BlockState.{BlockState, switch_at, module_at}
 
 -- `closed` are the switches without room for replies
@@ -20,7 +22,7 @@ module _ (closed : List ℕ) where
       let out = replies_leaving (reply_ways closed b.stages s k) w in
       record b {
         switches = slice_set b.switches n (Some (without_replies w out));
-        replies = replies_put b.stages s k out b.replies;
+        replies = put_on_both b.replies (places_of b.stages s k) out;
       }
 
   abbrev pub switch_sends_replies : ℕ → ℕ → ℕ → BlockState → BlockState

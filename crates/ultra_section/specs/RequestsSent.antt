@@ -12,7 +12,9 @@ use Rattle.ultra_halves.specs.Elements.{element_without}
 use Rattle.ultra_units.specs.declared.unit.Unit.TheVariants as unit
 use Rattle.ultra_units.specs.Units.{unit_of}
 use Rattle.ultra_units.specs.Links.{put_on}
-pub use Rattle.ultra_units.specs.Ways.{request_targets, requests_put, has_room_at, has_request_way, request_ways, has_way_from_element}
+use Rattle.ultra_units.specs.Inlets.{put_on_both}
+use Rattle.ultra_units.specs.Ways.{places_of}
+pub use Rattle.ultra_units.specs.Ways.{request_targets, has_room_at, has_request_way, request_ways, has_way_from_element}
 use Rattle.ultra_section.specs.BlockState.{BlockState, switch_at, element_at}
 
 -- `closed` are, by the memory-side port, the switches whose queue there has no room for requests;
@@ -30,7 +32,7 @@ module _ (closed : Ports (List ℕ)) where
       let out = requests_leaving (request_ways closed b.stages s k (request_heads w)) w in
       record b {
         switches = slice_set b.switches n (Some (without_requests w out));
-        requests = requests_put b.stages s k out b.requests;
+        requests = put_on_both b.requests (places_of b.stages s k) out;
       }
 
   abbrev pub switch_sends_requests : ℕ → ℕ → ℕ → BlockState → BlockState

@@ -1,5 +1,5 @@
 -- what is known of one unit of a block
-use Rattle.std.specs.Prelude.{◌≡◌, ℕ, Bool, true, false, not, ◌&&◌, Option, Some, None, is_some}
+use Rattle.std.specs.Prelude.{◌≡◌, ◌≢◌, ℕ, Bool, true, false, not, ◌&&◌, Option, Some, None, is_some}
 use Rattle.ultra_switch.specs.declared.Switch.{Switch}
 use Rattle.ultra_mem.specs.Serve.{Bank}
 use Rattle.ultra_isa.specs.Step.{has_stopped}
@@ -66,36 +66,71 @@ abbrev pub if_here : {X : Type 0} → (X → Bool) → Option X → Bool
 if_here p None = false
 if_here p (Some x) = p x
 
--- what is said of a switch is true of it, or of none that would stand here
-pub record KnowsSwitch (f : UnitFacts) (o : Option Switch) : Type 0 where
-  pub here : f.here ≡ is_some o
-  pub holds_replies : f.holds_replies ≡ if_here holds_replies o
-  pub no_reply_room : f.no_reply_room ≡ if_here (λ w. not (has_reply_room w)) o
-  pub holds_requests : f.holds_requests ≡ if_here holds_requests o
-  pub no_room_zero : f.no_room_zero ≡ if_here (λ w. not (has_request_room w).zero) o
-  pub no_room_one : f.no_room_one ≡ if_here (λ w. not (has_request_room w).one) o
-  pub keeps_records : f.keeps_records ≡ if_here keeps_records o
+-- what is true of a switch, or of none that would stand here
+abbrev pub switch_facts : Option Switch → UnitFacts
+switch_facts o = record no_facts {
+  here = is_some o;
+  holds_replies = if_here holds_replies o;
+  no_reply_room = if_here (λ w. not (has_reply_room w)) o;
+  holds_requests = if_here holds_requests o;
+  no_room_zero = if_here (λ w. not (has_request_room w).zero) o;
+  no_room_one = if_here (λ w. not (has_request_room w).one) o;
+  keeps_records = if_here keeps_records o;
+}
 
 -- of a module
-pub record KnowsModule (f : UnitFacts) (o : Option Bank) : Type 0 where
-  pub here : f.here ≡ is_some o
-  pub holds_replies : f.holds_replies ≡ if_here (λ b. is_some b.out) o
-  pub holds_requests : f.holds_requests ≡ if_here (λ b. is_some b.inp) o
-  pub no_room_zero : f.no_room_zero ≡ if_here (λ b. is_some b.inp) o
-  pub to_serve : f.to_serve ≡ if_here would_serve o
-  pub keeps_records : f.keeps_records ≡ false
+abbrev pub module_facts : Option Bank → UnitFacts
+module_facts o = record no_facts {
+  here = is_some o;
+  holds_replies = if_here (λ b. is_some b.out) o;
+  holds_requests = if_here (λ b. is_some b.inp) o;
+  no_room_zero = if_here (λ b. is_some b.inp) o;
+  to_serve = if_here would_serve o;
+}
 
 -- of a processing element
-pub record KnowsElement (f : UnitFacts) (o : Option ProcessingElement) : Type 0 where
-  pub here : f.here ≡ is_some o
-  pub holds_replies : f.holds_replies ≡ false
-  pub holds_requests : f.holds_requests ≡ if_here holds_request o
-  pub running : f.running ≡ if_here (λ e. not (has_stopped e.processor.core.activity)) o
-  pub keeps_records : f.keeps_records ≡ false
+abbrev pub element_facts : Option ProcessingElement → UnitFacts
+element_facts o = record no_facts {
+  here = is_some o;
+  holds_requests = if_here holds_request o;
+  running = if_here (λ e. not (has_stopped e.processor.core.activity)) o;
+}
+
+-- ---- what is said of a unit once some of it is noted anew
+abbrev pub replies_noted : Switch → UnitFacts → UnitFacts
+replies_noted w f =
+    record f { holds_replies = holds_replies w; no_reply_room = not (has_reply_room w) }
+
+abbrev pub requests_noted : Switch → UnitFacts → UnitFacts
+requests_noted w f = record f {
+  holds_requests = holds_requests w;
+  no_room_zero = not (has_request_room w).zero;
+  no_room_one = not (has_request_room w).one;
+}
+
+abbrev pub records_noted : Switch → UnitFacts → UnitFacts
+records_noted w f = record f { keeps_records = keeps_records w }
+
+-- of a module
+abbrev pub reply_noted : Bank → UnitFacts → UnitFacts
+reply_noted b f = record f { holds_replies = is_some b.out; to_serve = would_serve b }
+
+abbrev pub request_noted : Bank → UnitFacts → UnitFacts
+request_noted b f = record f {
+  holds_requests = is_some b.inp;
+  no_room_zero = is_some b.inp;
+  to_serve = would_serve b;
+}
+
+-- this is said of unit n now, and of the others what was said before
+pub record AreNoted (n : ℕ) (f : UnitFacts) (old now : Sets) : Type 0 where
+  pub there : facts_at now n ≡ f
+  pub others : (k : ℕ) → k ≢ n → facts_at now k ≡ facts_at old k
 
 -- ---- how what is said of a switch changes
--- a switch has no fewer requests than when this was noted
+-- a switch has no fewer requests than when this was noted, and no fewer records
 pub record HasMoreRequests (f : UnitFacts) (w : Switch) : Type 0 where
+  pub records : f.keeps_records ≡ true → keeps_records w ≡ true
   pub holds : f.holds_requests ≡ true → holds_requests w ≡ true
   pub full_zero : f.no_room_zero ≡ true → not (has_request_room w).zero ≡ true
   pub full_one : f.no_room_one ≡ true → not (has_request_room w).one ≡ true

@@ -9,7 +9,7 @@ use ultra_halves::ProcessingElement;
 use ultra_isa::Program;
 use ultra_mem::Module;
 use ultra_model::Stop;
-use ultra_msg::{Event, ReplyMessage, Request};
+use ultra_msg::{Event, ReplyPacket, RequestPacket};
 use ultra_route::Net;
 use ultra_switch::Switch;
 use ultra_units::{Links, Unit, UnitSet, Wiring};
@@ -34,8 +34,8 @@ pub struct Block {
     pub(crate) sets: Sets,
     /// At least the processing elements that may do something in a step. All others are at rest until a reply is delivered.
     pub(crate) awake: UnitSet,
-    pub(crate) replies: Links<ReplyMessage>,
-    pub(crate) requests: Links<Request>,
+    pub(crate) replies: Links<ReplyPacket>,
+    pub(crate) requests: Links<RequestPacket>,
     /// What has happened in the cycle, in the order of the rules.
     pub(crate) events: Vec<Event>,
     /// The faults of the cycle, by the number of the processing element.
@@ -55,8 +55,8 @@ impl Model for Block {
       switches = b.switches.items;
       modules = b.modules.items;
       elements = b.elements.items;
-      replies = b.replies.table.items;
-      requests = b.requests.table.items;
+      replies = b.replies.table;
+      requests = b.requests.table;
       events = b.events.items;
       stops = b.stops.items;
     } };

@@ -1,10 +1,9 @@
 //! Blocks without units, units that are put into a block or taken out of it, and what goes from one block to another.
 
-ghost use Rattle.std.specs.Prelude.{◌≡◌, ◌+◌, ◌*◌, ◌<◌, ◌≤◌, ◌^◌, [], IfOk, None, Some, replicate, slice_set, vec_capacity};
+ghost use Rattle.std.specs.Prelude.{◌≡◌, ◌<◌, ◌^◌, IfOk, None, Some, slice_set};
 ghost use Rattle.ultra_units.specs.Numbers.{switch_count as count_of_switches};
-ghost use Rattle.ultra_section.specs.BlockState.{element_at, module_at, most_events, most_stops, switch_at};
+ghost use Rattle.ultra_section.specs.BlockState.{element_at, module_at, switch_at};
 ghost use Rattle.ultra_section.specs.Building.{empty_block, with_unit, without_unit};
-ghost use Rattle.ultra_units.specs.Links.{put_on};
 
 use crate::block::Block;
 use crate::sets::Sets;
@@ -14,11 +13,12 @@ use ultra_halves::ProcessingElement;
 use ultra_isa::Program;
 use ultra_mem::Module;
 use ultra_model::Stop;
-use ultra_msg::{Event, ReplyMessage, Request};
+use ultra_msg::{Event, ReplyPacket, RequestPacket};
 use ultra_route::Net;
 use ultra_switch::Switch;
 use ultra_units::{
-    Links, Unit, UnitSet, Wiring, element_number, module_number, no_entries, switch_count,
+    Links, Unit, UnitNumber, UnitSet, Wiring, element_number, module_number, no_entries,
+    switch_count,
 };
 
 /// For how many events a block has memory: at most two of each of 320 units in each of four halves.
@@ -27,34 +27,6 @@ const MOST_EVENTS: usize = 2560;
 /// For how many stops a block has memory.
 const MOST_STOPS: usize = 320;
 
-/// The entries of the units of a machine with this network, where none stands. An error says that memory was refused.
-fn no_units(
-    alloc: Global,
-    net: Net,
-) -> Result<
-    (
-        Vec<Option<Switch>>,
-        Vec<Option<Module>>,
-        Vec<Option<ProcessingElement>>,
-    ),
-    AllocError,
->
-    ensures { IfOk result (λ all. (all.0.items ≡ replicate (count_of_switches net) None) × (all.1.items ≡ replicate (2 ^ net) None) × (all.2.items ≡ replicate (2 ^ net) None)) }
-{
-    let size = net.size() as usize;
-    let switches = no_entries(alloc, switch_count(net))?;
-    Ok((switches, no_entries(alloc, size)?, no_entries(alloc, size)?))
-}
-
-/// The links of a machine with this network, with no replies and no requests on them. An error says that memory was refused.
-fn no_messages(alloc: Global, net: Net) -> Result<(Links<ReplyMessage>, Links<Request>), AllocError>
-    ensures { IfOk result (λ both. (both.0.table.items ≡ replicate ((net + 1) * 2 ^ net) None) × (both.1.table.items ≡ replicate ((net + 1) * 2 ^ net) None)) }
-{
-    let size = net.size() as usize;
-    let links = (net.stages() as usize + 1) * size;
-    Ok((Links::empty(alloc, links)?, Links::empty(alloc, links)?))
-}
-
 impl Block {
     /// A block without units, of a machine with this network that runs this program, before its first cycle. It keeps a copy of the program. An error says that memory was refused.
     pub fn empty(alloc: Global, net: Net, program: &Program) -> Result<Block, AllocError>
@@ -62,8 +34,12 @@ impl Block {
     {
         let program = program.try_clone(alloc)?;
         let wiring = Wiring::of(alloc, net)?;
-        let (switches, modules, elements) = no_units(alloc, net)?;
-        let (replies, requests) = no_messages(alloc, net)?;
+        let size = net.size() as usize;
+        let switches = no_entries(alloc, switch_count(net))?;
+        let modules = no_entries(alloc, size)?;
+        let elements = no_entries(alloc, size)?;
+        let replies = Links::empty(alloc, net)?;
+        let requests = Links::empty(alloc, net)?;
         let events = Vec::with_capacity(alloc, MOST_EVENTS)?;
         let stops = Vec::with_capacity(alloc, MOST_STOPS)?;
         Ok(Block {
@@ -103,7 +79,7 @@ impl Block {
         ensures { self.new ≡ record self.old { switches = slice_set self.old.switches number (Some switch) } }
     {
         let _count = switch_count(self.net);
-        self.sets.stand_switch(number, &switch);
+        self.sets.stand_switch(UnitNumber::of(number), &switch);
         self.switches[number] = Some(switch);
     }
 
@@ -112,7 +88,7 @@ impl Block {
         requires { number < 2 ^ self.old.stages }
         ensures { self.new ≡ record self.old { modules = slice_set self.old.modules number (Some bank) } }
     {
-        let unit = module_number(self.net, number);
+        let unit = UnitNumber::of(module_number(self.net, number));
         self.sets.stand_module(unit, &bank);
         self.modules[number as usize] = Some(bank);
     }
@@ -122,7 +98,7 @@ impl Block {
         requires { pe < 2 ^ self.old.stages }
         ensures { self.new ≡ record self.old { elements = slice_set self.old.elements pe (Some element) } }
     {
-        let unit = element_number(self.net, pe);
+        let unit = UnitNumber::of(element_number(self.net, pe));
         self.sets.stand_element(unit, &element);
         self.awake.insert(unit);
         self.elements[pe as usize] = Some(element);
@@ -135,7 +111,7 @@ impl Block {
         ensures rest { self.new ≡ record self.old { switches = slice_set self.old.switches number None } }
     {
         let _count = switch_count(self.net);
-        self.sets.leave(number);
+        self.sets.leave(UnitNumber::of(number));
         self.switches[number].take()
     }
 
@@ -145,7 +121,7 @@ impl Block {
         ensures bank { result ≡ module_at self.old.modules number }
         ensures rest { self.new ≡ record self.old { modules = slice_set self.old.modules number None } }
     {
-        let unit = module_number(self.net, number);
+        let unit = UnitNumber::of(module_number(self.net, number));
         self.sets.leave(unit);
         self.modules[number as usize].take()
     }
@@ -156,46 +132,10 @@ impl Block {
         ensures element { result ≡ element_at self.old.elements pe }
         ensures rest { self.new ≡ record self.old { elements = slice_set self.old.elements pe None } }
     {
-        let unit = element_number(self.net, pe);
+        let unit = UnitNumber::of(element_number(self.net, pe));
         self.sets.leave(unit);
         self.awake.remove(unit);
         self.elements[pe as usize].take()
-    }
-
-    /// The switch of this number goes to another block, if it stands here.
-    fn move_switch(&mut self, number: usize, to: &mut Block)
-        requires number { number < count_of_switches self.old.stages }
-        requires machine { to.old.stages ≡ self.old.stages }
-        ensures left { self.new ≡ record self.old { switches = slice_set self.old.switches number None } }
-        ensures there { to.new ≡ record to.old { switches = put_on to.old.switches number (switch_at self.old.switches number) } }
-    {
-        if let Some(switch) = self.take_switch(number) {
-            to.put_switch(number, switch);
-        }
-    }
-
-    /// The memory module of this number goes to another block, if it stands here.
-    fn move_module(&mut self, number: u32, to: &mut Block)
-        requires number { number < 2 ^ self.old.stages }
-        requires machine { to.old.stages ≡ self.old.stages }
-        ensures left { self.new ≡ record self.old { modules = slice_set self.old.modules number None } }
-        ensures there { to.new ≡ record to.old { modules = put_on to.old.modules number (module_at self.old.modules number) } }
-    {
-        if let Some(bank) = self.take_module(number) {
-            to.put_module(number, bank);
-        }
-    }
-
-    /// The processing element of this number goes to another block, if it stands here.
-    fn move_element(&mut self, pe: u32, to: &mut Block)
-        requires number { pe < 2 ^ self.old.stages }
-        requires machine { to.old.stages ≡ self.old.stages }
-        ensures left { self.new ≡ record self.old { elements = slice_set self.old.elements pe None } }
-        ensures there { to.new ≡ record to.old { elements = put_on to.old.elements pe (element_at self.old.elements pe) } }
-    {
-        if let Some(element) = self.take_element(pe) {
-            to.put_element(pe, element);
-        }
     }
 
     /// The unit of this number goes to another block of the machine, if it stands here.
@@ -205,9 +145,21 @@ impl Block {
         ensures there { to.new ≡ with_unit number self.old to.old }
     {
         match self.unit(number) {
-            Unit::Switch { .. } => self.move_switch(number, to),
-            Unit::Module(module) => self.move_module(module, to),
-            Unit::Element(pe) => self.move_element(pe, to),
+            Unit::Switch { .. } => {
+                if let Some(switch) = self.take_switch(number) {
+                    to.put_switch(number, switch);
+                }
+            }
+            Unit::Module(module) => {
+                if let Some(bank) = self.take_module(module) {
+                    to.put_module(module, bank);
+                }
+            }
+            Unit::Element(pe) => {
+                if let Some(element) = self.take_element(pe) {
+                    to.put_element(pe, element);
+                }
+            }
             Unit::Nothing => {}
         }
     }

@@ -8,16 +8,15 @@ ghost use Rattle.ultra_units.specs.Units.{IsElement};
 
 use crate::block::Block;
 use ultra_halves::{Outcome, append};
-use ultra_units::{UnitSet, Visit, visit_all};
+use ultra_units::{UnitNumber, UnitSet, Visit, visit_all};
 
 impl Block {
     /// A processing element makes a step of the program.
-    fn execute_element(&mut self, number: usize, pe: u32)
-        requires is { IsElement self.old.stages number pe }
+    fn execute_element(&mut self, unit: UnitNumber, pe: u32)
+        requires is { IsElement self.old.stages unit pe }
         requires issued { ElementCanExecute pe self.old }
         requires event_room { length self.old.events < most_events }
         requires stop_room { length self.old.stops < most_stops }
-        requires small { number < 320 }
         ensures { self.new ≡ element_executes self.old.program pe self.old }
     {
         let Some(element) = &mut self.elements[pe as usize] else {
@@ -25,18 +24,18 @@ impl Block {
         };
         let outcome = element.execute(&self.program, pe);
         match outcome {
-            Outcome::AtRest => self.awake.remove(number),
+            Outcome::AtRest => self.awake.remove(unit),
             Outcome::Done => {
                 if element.has_stopped() {
-                    self.sets.note_stopped(number);
+                    self.sets.note_stopped(unit);
                 }
             }
             Outcome::Issued(event) => {
-                self.sets.note_issued(number);
+                self.sets.note_issued(unit);
                 append(&mut self.events, event);
             }
             Outcome::Faulted(stop) => {
-                self.sets.note_stopped(number);
+                self.sets.note_stopped(unit);
                 append(&mut self.stops, stop);
             }
         }
@@ -58,8 +57,8 @@ impl Visit<Block> for Execute {
     }
 
     #[inline(always)]
-    fn visit(&self, block: &mut Block, unit: usize) {
-        if let Some(pe) = block.wiring.element(unit) {
+    fn visit(&self, block: &mut Block, unit: UnitNumber) {
+        if let Some(pe) = block.wiring.element(unit.number()) {
             block.execute_element(unit, pe);
         }
     }

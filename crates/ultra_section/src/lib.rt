@@ -17,6 +17,7 @@
 //! | `targets`, of each kind of message | at least the units, here or elsewhere, to which a message leads | a half that sends adds, the one that takes and the exchange remove | the half that takes, and the exchange of messages between blocks |
 #![tactic(auto)]
 
+mod away;
 mod block;
 mod building;
 mod execute;
@@ -25,8 +26,6 @@ mod held;
 mod lent;
 mod making;
 mod quiet;
-mod replies_away;
-mod requests_away;
 mod rooms;
 mod send_replies;
 mod send_requests;

@@ -48,6 +48,8 @@ impl Block {
         ensures value { result ≡ self.now.stages }
         ensures shape { IsShaped result self.now }
     {
+        let _replies = self.replies.targets();
+        let _requests = self.requests.targets();
         self.net
     }
 

@@ -13,55 +13,34 @@ use ultra_mem::Module;
 use ultra_switch::Switch;
 use ultra_units::Unit;
 
-/// Whether nothing is in a switch, if it stands here.
-fn is_switch_quiet(entry: &Option<Switch>) -> bool
-    ensures { result ≡ or_elsewhere quiet_switch entry.now }
-{
-    match entry {
-        Some(switch) => switches::is_quiet(switch),
-        None => true,
-    }
-}
-
-/// Whether nothing is in a module, if it stands here.
-fn is_module_quiet(entry: &Option<Module>) -> bool
-    ensures { result ≡ or_elsewhere quiet_bank entry.now }
-{
-    match entry {
-        Some(bank) => modules::is_quiet(bank),
-        None => true,
-    }
-}
-
-/// Whether a processing element has ended and waits for nothing, if it stands here.
-fn is_element_quiet(entry: &Option<ProcessingElement>) -> bool
-    ensures { result ≡ or_elsewhere quiet_element entry.now }
-{
-    match entry {
-        Some(element) => element.is_quiet(),
-        None => true,
-    }
-}
-
 /// Whether each switch that stands here is quiet.
 fn are_switches_quiet(entries: &[Option<Switch>]) -> bool
     ensures { result ≡ list_all (or_elsewhere quiet_switch) entries.now }
 {
-    entries.iter().all(|entry| is_switch_quiet(entry))
+    entries.iter().all(|entry| match entry {
+        Some(switch) => switches::is_quiet(switch),
+        None => true,
+    })
 }
 
 /// Whether each module that stands here is quiet.
 fn are_modules_quiet(entries: &[Option<Module>]) -> bool
     ensures { result ≡ list_all (or_elsewhere quiet_bank) entries.now }
 {
-    entries.iter().all(|entry| is_module_quiet(entry))
+    entries.iter().all(|entry| match entry {
+        Some(bank) => modules::is_quiet(bank),
+        None => true,
+    })
 }
 
 /// Whether each processing element that stands here is quiet.
 fn are_elements_quiet(entries: &[Option<ProcessingElement>]) -> bool
     ensures { result ≡ list_all (or_elsewhere quiet_element) entries.now }
 {
-    entries.iter().all(|entry| is_element_quiet(entry))
+    entries.iter().all(|entry| match entry {
+        Some(element) => element.is_quiet(),
+        None => true,
+    })
 }
 
 impl Block {

@@ -1,6 +1,5 @@
 //! Where there is no room for the messages that may come in a cycle.
 
-ghost use Rattle.std.specs.Prelude.{ℕ};
 ghost use Rattle.ultra_units.specs.Set.{HasNoneFrom};
 ghost use Rattle.ultra_section.specs.Rooms.{HasNoted};
 

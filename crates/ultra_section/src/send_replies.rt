@@ -2,9 +2,8 @@
 
 ghost use Rattle.std.specs.Prelude.{◌≡◌, ◌+◌, ◌<◌};
 ghost use Rattle.ultra_halves.specs.Switches.{replies_leaving, without_replies};
+ghost use Rattle.ultra_units.specs.Inlets.{LeadsTo, reply_inlets};
 ghost use Rattle.ultra_units.specs.Links.{put_on};
-ghost use Rattle.ultra_units.specs.Marks.{RepliesAreKnown};
-ghost use Rattle.ultra_units.specs.Ways.{IsReplyWay};
 ghost use Rattle.ultra_section.specs.Rooms.{AreOwnRooms};
 ghost use Rattle.ultra_section.specs.declared.rooms.Rooms.{Rooms};
 ghost use Rattle.ultra_section.specs.RepliesSent.{begun, module_sends_reply, sends_replies, switch_sends_replies};
@@ -15,61 +14,58 @@ use crate::block::Block;
 use crate::rooms::Rooms;
 use ultra_halves::modules;
 use ultra_halves::replies::leave_where;
-use ultra_msg::ReplyMessage;
-use ultra_route::Net;
+use ultra_msg::ReplyPacket;
 use ultra_switch::{Ports, Switch};
-use ultra_units::replies::{leave_module, leave_switch};
-use ultra_units::{Links, Unit, UnitSet, Visit, find_reply_ways, switch_number, visit_all};
+use ultra_units::{
+    Links, Unit, UnitNumber, UnitSet, Visit, find_reply_ways, leave_module, switch_number,
+    visit_all,
+};
 
 /// The first reply of each queue of a switch goes onto its link, where there is a way. One port is done with before the other: `link` is the link of port 0, and that of port 1 comes after it.
 #[inline(always)]
 fn send_from_switch(
     switch: &mut Switch,
-    links: &mut Links<ReplyMessage>,
-    net: Net,
+    links: &mut Links<ReplyPacket>,
     link: usize,
     targets: Ports<usize>,
     ways: Ports<bool>,
 )
-    requires zero { IsReplyWay net link targets.zero }
-    requires one { IsReplyWay net (link + 1) targets.one }
+    requires zero { LeadsTo (reply_inlets links.old.stages) links.old.stages link targets.zero }
+    requires one { LeadsTo (reply_inlets links.old.stages) links.old.stages (link + 1) targets.one }
     requires zero_small { targets.zero < 320 }
     requires one_small { targets.one < 320 }
     requires link { link < 640 }
-    requires known { RepliesAreKnown net links.old }
     ensures switch { switch.new ≡ without_replies switch.old (replies_leaving ways switch.old) }
-    ensures table { links.new.table.items ≡ put_on (put_on links.old.table.items link (replies_leaving ways switch.old).zero) (link + 1) (replies_leaving ways switch.old).one }
-    ensures known { RepliesAreKnown net links.new }
+    ensures links { links.new ≡ record links.old { table = put_on (put_on links.old.table link (replies_leaving ways switch.old).zero) (link + 1) (replies_leaving ways switch.old).one; targets = links.new.targets } }
 {
     let to_pe = &mut switch.to_pe;
     let zero = leave_where(ways.zero, &mut to_pe.zero);
-    leave_switch(links, net, link, targets.zero, zero);
+    links.put(link, targets.zero, zero);
     let one = leave_where(ways.one, &mut to_pe.one);
-    leave_switch(links, net, link + 1, targets.one, one);
+    links.put(link + 1, targets.one, one);
 }
 
 impl Block {
     /// The first reply of each queue of a switch goes onto its link, where there is a way.
-    fn send_replies_of_switch(&mut self, closed: &UnitSet, number: usize, stage: u32, index: u32)
-        requires is { IsSwitch self.old.stages number stage index }
-        requires small { number < 320 }
-        ensures { self.new ≡ switch_sends_replies closed.now number stage index self.old }
+    fn send_replies_of_switch(&mut self, closed: &UnitSet, unit: UnitNumber, stage: u32, index: u32)
+        requires is { IsSwitch self.old.stages unit stage index }
+        ensures { self.new ≡ switch_sends_replies closed.now unit stage index self.old }
     {
         let net = self.net;
         let _stages = net.stages();
-        let targets = self.wiring.reply_targets(number);
+        let targets = self.wiring.reply_targets(unit);
+        let number = unit.number();
         let Some(switch) = &mut self.switches[number] else {
             return;
         };
         let ways = find_reply_ways(closed, stage, targets);
-        send_from_switch(switch, &mut self.replies, net, 2 * number, targets, ways);
-        self.sets.note_replies_sent(number, switch);
+        send_from_switch(switch, &mut self.replies, 2 * number, targets, ways);
+        self.sets.note_replies_sent(unit, switch);
     }
 
     /// The reply of a module goes onto its link, if there is a way.
-    fn send_reply_of_module(&mut self, closed: &UnitSet, number: usize, module_number: u32)
-        requires is { IsModule self.old.stages number module_number }
-        requires small { number < 320 }
+    fn send_reply_of_module(&mut self, closed: &UnitSet, unit: UnitNumber, module_number: u32)
+        requires is { IsModule self.old.stages unit module_number }
         ensures { self.new ≡ module_sends_reply closed.now module_number self.old }
     {
         let net = self.net;
@@ -79,7 +75,7 @@ impl Block {
         };
         let target = switch_number(net, net.stages() - 1, module_number / 2);
         let out = modules::send_reply(bank, !closed.has(target));
-        self.sets.note_reply_left(number, bank);
+        self.sets.note_reply_left(unit, bank);
         leave_module(&mut self.replies, net, module_number, out);
     }
 }
@@ -96,13 +92,14 @@ impl Visit<Block> for SendReplies<'_> {
     ghost visited = { λ v n b. sends_replies v.closed.now n b };
 
     #[inline(always)]
+    #[tactic(auto, using(crate::proofs::Idle::sends_no_reply))]
     fn units<'t>(&self, block: &'t Block) -> &'t UnitSet {
         &block.sets.holds_replies
     }
 
     #[inline(always)]
-    fn visit(&self, block: &mut Block, unit: usize) {
-        match block.unit(unit) {
+    fn visit(&self, block: &mut Block, unit: UnitNumber) {
+        match block.unit(unit.number()) {
             Unit::Switch { stage, index } => {
                 block.send_replies_of_switch(self.closed, unit, stage, index);
             }

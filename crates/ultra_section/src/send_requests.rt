@@ -3,10 +3,10 @@
 ghost use Rattle.std.specs.Prelude.{◌≡◌, ℕ, ◌<◌};
 ghost use Rattle.ultra_halves.specs.Halves.{lane_without};
 ghost use Rattle.ultra_halves.specs.Switches.{request_heads, requests_leaving, without_requests};
+ghost use Rattle.ultra_units.specs.Inlets.{LeadsTo, put_on_both, request_inlets};
 ghost use Rattle.ultra_units.specs.Links.{put_on};
-ghost use Rattle.ultra_units.specs.Marks.{RequestsAreKnown};
 ghost use Rattle.ultra_units.specs.Numbers.{request_target};
-ghost use Rattle.ultra_units.specs.Ways.{IsRequestWay, request_targets, request_ways, requests_put};
+ghost use Rattle.ultra_units.specs.Ways.{places_of, request_targets, request_ways};
 ghost use Rattle.ultra_units.specs.Visits.{after_units};
 ghost use Rattle.ultra_section.specs.Rooms.{AreOwnRooms};
 ghost use Rattle.ultra_section.specs.declared.rooms.Rooms.{Rooms};
@@ -16,17 +16,19 @@ ghost use Rattle.ultra_units.specs.Units.{IsElement, IsSwitch};
 use crate::block::Block;
 use crate::rooms::Rooms;
 use ultra_halves::requests::leave_where;
-use ultra_msg::Request;
+use ultra_msg::RequestPacket;
 use ultra_route::Net;
 use ultra_switch::{Ports, Switch, ToMm};
-use ultra_units::requests::{leave_element, leave_switch};
-use ultra_units::{Links, Unit, UnitSet, Visit, has_request_way, has_way_from_element, visit_all};
+use ultra_units::{
+    Links, Unit, UnitNumber, UnitSet, Visit, has_request_way, has_way_from_element, leave_element,
+    visit_all,
+};
 
 /// The first request of a queue of a switch of this stage goes onto its link, if there is a way to the unit `target`, to which the link leads.
 #[inline(always)]
 fn send_from_queue(
     queue: &mut ToMm,
-    links: &mut Links<Request>,
+    links: &mut Links<RequestPacket>,
     net: Net,
     closed: &Ports<UnitSet>,
     stage: u32,
@@ -34,23 +36,21 @@ fn send_from_queue(
     target: usize,
 )
     requires stage { stage < net }
-    requires leads { IsRequestWay net link target }
+    requires leads { LeadsTo (request_inlets links.old.stages) links.old.stages link target }
     requires small { target < 320 }
-    requires known { RequestsAreKnown net links.old }
     ensures queue { (x : ℕ) → target ≡ request_target net stage x → queue.new ≡ lane_without queue.old (request_leaving closed.now net stage x queue.old) }
-    ensures table { (x : ℕ) → target ≡ request_target net stage x → links.new.table.items ≡ put_on links.old.table.items link (request_leaving closed.now net stage x queue.old) }
-    ensures known { RequestsAreKnown net links.new }
+    ensures links { (x : ℕ) → target ≡ request_target net stage x → links.new ≡ record links.old { table = put_on links.old.table link (request_leaving closed.now net stage x queue.old); targets = links.new.targets } }
 {
-    let goes = has_request_way(net, closed, stage, target, queue.head());
+    let goes = has_request_way(net, closed, stage, target, queue.front());
     let out = leave_where(goes, queue);
-    leave_switch(links, net, link, target, out);
+    links.put(link, target, out);
 }
 
-/// The first request of each queue of a switch goes onto its link, where there is a way to the unit in `targets`. One port is done with before the other. `number` is the number of the unit.
+/// The first request of each queue of a switch goes onto its link, where there is a way to the unit in `targets`. One port is done with before the other.
 #[inline(always)]
 fn send_from_switch(
     switch: &mut Switch,
-    links: &mut Links<Request>,
+    links: &mut Links<RequestPacket>,
     net: Net,
     closed: &Ports<UnitSet>,
     number: usize,
@@ -63,10 +63,9 @@ fn send_from_switch(
     requires targets { targets ≡ request_targets net stage index }
     requires zero { targets.zero < 320 }
     requires one { targets.one < 320 }
-    requires known { RequestsAreKnown net links.old }
+    requires stages { links.old.stages ≡ net }
     ensures switch { switch.new ≡ without_requests switch.old (requests_leaving (request_ways closed.now net stage index (request_heads switch.old)) switch.old) }
-    ensures table { links.new.table.items ≡ requests_put net stage index (requests_leaving (request_ways closed.now net stage index (request_heads switch.old)) switch.old) links.old.table.items }
-    ensures known { RequestsAreKnown net links.new }
+    ensures links { links.new ≡ record links.old { table = put_on_both links.old.table (places_of net stage index) (requests_leaving (request_ways closed.now net stage index (request_heads switch.old)) switch.old); targets = links.new.targets } }
 {
     let _stages = net.stages();
     let Ports { zero, one } = &mut switch.to_mm;
@@ -80,28 +79,27 @@ impl Block {
     fn send_requests_of_switch(
         &mut self,
         closed: &Ports<UnitSet>,
-        number: usize,
+        unit: UnitNumber,
         stage: u32,
         index: u32,
     )
-        requires is { IsSwitch self.old.stages number stage index }
-        requires small { number < 320 }
-        ensures { self.new ≡ switch_sends_requests closed.now number stage index self.old }
+        requires is { IsSwitch self.old.stages unit stage index }
+        ensures { self.new ≡ switch_sends_requests closed.now unit stage index self.old }
     {
         let net = self.net;
-        let targets = self.wiring.request_targets(number);
+        let targets = self.wiring.request_targets(unit);
+        let number = unit.number();
         let Some(switch) = &mut self.switches[number] else {
             return;
         };
         let links = &mut self.requests;
         send_from_switch(switch, links, net, closed, number, stage, index, targets);
-        self.sets.note_requests_sent(number, switch);
+        self.sets.note_requests_sent(unit, switch);
     }
 
     /// The first request of a processing element goes onto its link, if there is a way.
-    fn send_request_of_element(&mut self, closed: &Ports<UnitSet>, number: usize, pe: u32)
-        requires is { IsElement self.old.stages number pe }
-        requires small { number < 320 }
+    fn send_request_of_element(&mut self, closed: &Ports<UnitSet>, unit: UnitNumber, pe: u32)
+        requires is { IsElement self.old.stages unit pe }
         ensures { self.new ≡ element_sends_request closed.now pe self.old }
     {
         let net = self.net;
@@ -113,7 +111,7 @@ impl Block {
             return;
         }
         let out = element.send_request();
-        self.sets.note_request_left(number, element);
+        self.sets.note_request_left(unit, element);
         leave_element(&mut self.requests, net, pe, out);
     }
 }
@@ -130,13 +128,14 @@ impl Visit<Block> for SendRequests<'_> {
     ghost visited = { λ v n b. sends_requests v.closed.now n b };
 
     #[inline(always)]
+    #[tactic(auto, using(crate::proofs::Idle::sends_no_request))]
     fn units<'t>(&self, block: &'t Block) -> &'t UnitSet {
         &block.sets.holds_requests
     }
 
     #[inline(always)]
-    fn visit(&self, block: &mut Block, unit: usize) {
-        match block.unit(unit) {
+    fn visit(&self, block: &mut Block, unit: UnitNumber) {
+        match block.unit(unit.number()) {
             Unit::Switch { stage, index } => {
                 block.send_requests_of_switch(self.closed, unit, stage, index);
             }

@@ -9,21 +9,20 @@ ghost use Rattle.ultra_units.specs.Units.{IsModule};
 use crate::block::Block;
 use ultra_halves::append;
 use ultra_msg::Event;
-use ultra_units::{UnitSet, Visit, visit_all};
+use ultra_units::{UnitNumber, UnitSet, Visit, visit_all};
 
 impl Block {
     /// A module serves the request that waits, if no reply is in its way.
-    fn serve_module(&mut self, number: usize, module_number: u32)
-        requires is { IsModule self.old.stages number module_number }
+    fn serve_module(&mut self, unit: UnitNumber, module_number: u32)
+        requires is { IsModule self.old.stages unit module_number }
         requires room { length self.old.events < most_events }
-        requires small { number < 320 }
         ensures { self.new ≡ module_serves module_number self.old }
     {
         let Some(bank) = &mut self.modules[module_number as usize] else {
             return;
         };
         let served = bank.serve();
-        self.sets.note_served(number, bank);
+        self.sets.note_served(unit, bank);
         if let Some(served) = served {
             let event = Event::Served {
                 module: module_number,
@@ -46,13 +45,14 @@ impl Visit<Block> for Serve {
     ghost visited = { λ v n b. serves n b };
 
     #[inline(always)]
+    #[tactic(auto, using(crate::proofs::Idle::serves_none))]
     fn units<'t>(&self, block: &'t Block) -> &'t UnitSet {
         &block.sets.to_serve
     }
 
     #[inline(always)]
-    fn visit(&self, block: &mut Block, unit: usize) {
-        if let Some(number) = block.wiring.module(unit) {
+    fn visit(&self, block: &mut Block, unit: UnitNumber) {
+        if let Some(number) = block.wiring.module(unit.number()) {
             block.serve_module(unit, number);
         }
     }

@@ -1,17 +1,17 @@
 //! What is known of the units that stand in a block, as sets of their numbers.
 
-ghost use Rattle.std.specs.Prelude.{◌≡◌, ◌≢◌, ℕ, ◌<◌, true, false, not, Some, is_some};
+ghost use Rattle.std.specs.Prelude.{◌≡◌, ℕ, ◌<◌, true, false, Some};
 ghost use Rattle.ultra_isa.specs.Step.{has_stopped};
 ghost use Rattle.ultra_halves.specs.Elements.{holds_request};
 ghost use Rattle.ultra_halves.specs.Switches.{has_reply_room, has_request_room, holds_replies, holds_requests, keeps_records};
-ghost use Rattle.ultra_section.specs.Sets.{HasFewerReplies, HasFewerRequests, HasMoreReplies, HasMoreRequests, HasReplyLess, HasRequestMore, HasServed, KnowsElement, KnowsModule, KnowsSwitch, fact_of, facts_at, no_facts, would_serve};
+ghost use Rattle.ultra_section.specs.Sets.{HasFewerReplies, HasFewerRequests, HasMoreReplies, HasMoreRequests, HasReplyLess, HasRequestMore, HasServed, AreNoted, element_facts, fact_of, facts_at, module_facts, no_facts, records_noted, replies_noted, reply_noted, request_noted, requests_noted, switch_facts};
 ghost use Rattle.ultra_units.specs.Set.{has_unit};
 
 use crate::held::Held;
 use ultra_halves::{ProcessingElement, modules, switches};
 use ultra_mem::Module;
 use ultra_switch::{Ports, Switch};
-use ultra_units::{UnitBit, UnitSet};
+use ultra_units::{UnitNumber, UnitSet};
 
 /// What is known of the units that stand in a block, as sets of their numbers. Each is exactly the set of the units for which it is true.
 #[derive(Drop)]
@@ -56,65 +56,54 @@ impl Sets {
     }
 
     /// A unit stands here from now on. What is true of it is noted then.
-    pub(crate) fn stand(&mut self, number: usize)
-        requires { number < 320 }
-        ensures there { facts_at self.new number ≡ record no_facts { here = true } }
-        ensures others { (k : ℕ) → k ≢ number → facts_at self.new k ≡ facts_at self.old k }
+    pub(crate) fn stand(&mut self, unit: UnitNumber)
+        ensures { AreNoted unit (record no_facts { here = true }) self.old self.new }
     {
-        self.leave(number);
-        self.here.insert(number);
+        self.leave(unit);
+        self.here.insert(unit);
     }
 
     /// A switch stands here from now on, and what is true of it is noted.
-    pub(crate) fn stand_switch(&mut self, number: usize, switch: &Switch)
-        requires { number < 320 }
-        ensures there { KnowsSwitch (facts_at self.new number) (Some switch.now) }
-        ensures others { (k : ℕ) → k ≢ number → facts_at self.new k ≡ facts_at self.old k }
+    pub(crate) fn stand_switch(&mut self, unit: UnitNumber, switch: &Switch)
+        ensures { AreNoted unit (switch_facts (Some switch.now)) self.old self.new }
     {
-        self.stand(number);
-        self.note_requests_taken(number, switch, true);
-        self.note_replies_taken(number, switch);
+        self.stand(unit);
+        self.note_requests_taken(unit, switch, true);
+        self.note_replies_taken(unit, switch);
     }
 
     /// A module stands here from now on, and what is true of it is noted.
-    pub(crate) fn stand_module(&mut self, number: usize, bank: &Module)
-        requires { number < 320 }
-        ensures there { KnowsModule (facts_at self.new number) (Some bank.now) }
-        ensures others { (k : ℕ) → k ≢ number → facts_at self.new k ≡ facts_at self.old k }
+    pub(crate) fn stand_module(&mut self, unit: UnitNumber, bank: &Module)
+        ensures { AreNoted unit (module_facts (Some bank.now)) self.old self.new }
     {
-        self.stand(number);
+        self.stand(unit);
         self.holds_replies
-            .insert_if(UnitBit::of(number), modules::holds_reply(bank));
-        self.note_request_came(number, bank);
+            .insert_if(unit, modules::holds_reply(bank));
+        self.note_request_came(unit, bank);
     }
 
     /// A processing element stands here from now on, and what is true of it is noted.
-    pub(crate) fn stand_element(&mut self, number: usize, element: &ProcessingElement)
-        requires { number < 320 }
-        ensures there { KnowsElement (facts_at self.new number) (Some element.now) }
-        ensures others { (k : ℕ) → k ≢ number → facts_at self.new k ≡ facts_at self.old k }
+    pub(crate) fn stand_element(&mut self, unit: UnitNumber, element: &ProcessingElement)
+        ensures { AreNoted unit (element_facts (Some element.now)) self.old self.new }
     {
-        self.stand(number);
-        let unit = UnitBit::of(number);
+        self.stand(unit);
         self.holds_requests.insert_if(unit, element.holds_request());
         self.running.insert_if(unit, !element.has_stopped());
     }
 
     /// A unit doesn't stand here any more.
-    pub(crate) fn leave(&mut self, number: usize)
-        requires { number < 320 }
-        ensures there { facts_at self.new number ≡ no_facts }
-        ensures others { (k : ℕ) → k ≢ number → facts_at self.new k ≡ facts_at self.old k }
+    pub(crate) fn leave(&mut self, unit: UnitNumber)
+        ensures { AreNoted unit no_facts self.old self.new }
     {
-        self.here.remove(number);
-        self.holds_replies.remove(number);
-        self.no_reply_room.remove(number);
-        self.holds_requests.remove(number);
-        self.no_request_room.zero.remove(number);
-        self.no_request_room.one.remove(number);
-        self.to_serve.remove(number);
-        self.running.remove(number);
-        self.keeps_records.remove(number);
+        self.here.remove(unit);
+        self.holds_replies.remove(unit);
+        self.no_reply_room.remove(unit);
+        self.holds_requests.remove(unit);
+        self.no_request_room.zero.remove(unit);
+        self.no_request_room.one.remove(unit);
+        self.to_serve.remove(unit);
+        self.running.remove(unit);
+        self.keeps_records.remove(unit);
     }
 
     /// The units that hold what is asked for.
@@ -131,13 +120,10 @@ impl Sets {
 
     /// Notes what is true of the replies of a switch that stands here, once replies have left it.
     #[inline(always)]
-    pub(crate) fn note_replies_sent(&mut self, number: usize, switch: &Switch)
-        requires small { number < 320 }
-        requires fewer { HasFewerReplies (facts_at self.old number) switch.now }
-        ensures there { facts_at self.new number ≡ record (facts_at self.old number) { holds_replies = holds_replies switch.now; no_reply_room = not (has_reply_room switch.now) } }
-        ensures others { (k : ℕ) → k ≢ number → facts_at self.new k ≡ facts_at self.old k }
+    pub(crate) fn note_replies_sent(&mut self, unit: UnitNumber, switch: &Switch)
+        requires fewer { HasFewerReplies (facts_at self.old unit) switch.now }
+        ensures { AreNoted unit (replies_noted switch.now (facts_at self.old unit)) self.old self.new }
     {
-        let unit = UnitBit::of(number);
         let is_full = !switches::has_reply_room(switch);
         self.holds_replies
             .remove_unless(unit, switches::holds_replies(switch));
@@ -146,13 +132,10 @@ impl Sets {
 
     /// Notes what is true of the requests of a switch that stands here, once requests have left it.
     #[inline(always)]
-    pub(crate) fn note_requests_sent(&mut self, number: usize, switch: &Switch)
-        requires small { number < 320 }
-        requires fewer { HasFewerRequests (facts_at self.old number) switch.now }
-        ensures there { facts_at self.new number ≡ record (facts_at self.old number) { holds_requests = holds_requests switch.now; no_room_zero = not (has_request_room switch.now).zero; no_room_one = not (has_request_room switch.now).one } }
-        ensures others { (k : ℕ) → k ≢ number → facts_at self.new k ≡ facts_at self.old k }
+    pub(crate) fn note_requests_sent(&mut self, unit: UnitNumber, switch: &Switch)
+        requires fewer { HasFewerRequests (facts_at self.old unit) switch.now }
+        ensures { AreNoted unit (requests_noted switch.now (facts_at self.old unit)) self.old self.new }
     {
-        let unit = UnitBit::of(number);
         let room = switches::has_request_room(switch);
         self.holds_requests
             .remove_unless(unit, switches::holds_requests(switch));
@@ -162,19 +145,16 @@ impl Sets {
 
     /// Notes what is true of a switch that stands here, once replies have come to it. It keeps no record that it didn't keep before.
     #[inline(always)]
-    pub(crate) fn note_replies_taken(&mut self, number: usize, switch: &Switch)
-        requires small { number < 320 }
-        requires more { HasMoreReplies (facts_at self.old number) switch.now }
-        requires fewer { (facts_at self.old number).keeps_records ≡ false → keeps_records switch.now ≡ false }
-        ensures there { facts_at self.new number ≡ record (facts_at self.old number) { holds_replies = holds_replies switch.now; no_reply_room = not (has_reply_room switch.now); keeps_records = keeps_records switch.now } }
-        ensures others { (k : ℕ) → k ≢ number → facts_at self.new k ≡ facts_at self.old k }
+    pub(crate) fn note_replies_taken(&mut self, unit: UnitNumber, switch: &Switch)
+        requires more { HasMoreReplies (facts_at self.old unit) switch.now }
+        requires fewer { (facts_at self.old unit).keeps_records ≡ false → keeps_records switch.now ≡ false }
+        ensures { AreNoted unit (records_noted switch.now (replies_noted switch.now (facts_at self.old unit))) self.old self.new }
     {
-        let unit = UnitBit::of(number);
         let is_full = !switches::has_reply_room(switch);
         self.holds_replies
             .insert_if(unit, switches::holds_replies(switch));
         self.no_reply_room.insert_if(unit, is_full);
-        if self.keeps_records.has(number) {
+        if self.keeps_records.has(unit.number()) {
             self.keeps_records
                 .remove_unless(unit, switches::keeps_records(switch));
         }
@@ -182,14 +162,16 @@ impl Sets {
 
     /// Notes what is true of a switch that stands here, once requests have come to it. Unless its records `may_differ`, they are noted already.
     #[inline(always)]
-    pub(crate) fn note_requests_taken(&mut self, number: usize, switch: &Switch, may_differ: bool)
-        requires small { number < 320 }
-        requires more { HasMoreRequests (facts_at self.old number) switch.now }
-        requires noted { may_differ ≡ false → (facts_at self.old number).keeps_records ≡ keeps_records switch.now }
-        ensures there { facts_at self.new number ≡ record (facts_at self.old number) { holds_requests = holds_requests switch.now; no_room_zero = not (has_request_room switch.now).zero; no_room_one = not (has_request_room switch.now).one; keeps_records = keeps_records switch.now } }
-        ensures others { (k : ℕ) → k ≢ number → facts_at self.new k ≡ facts_at self.old k }
+    pub(crate) fn note_requests_taken(
+        &mut self,
+        unit: UnitNumber,
+        switch: &Switch,
+        may_differ: bool,
+    )
+        requires more { HasMoreRequests (facts_at self.old unit) switch.now }
+        requires noted { may_differ ≡ false → (facts_at self.old unit).keeps_records ≡ keeps_records switch.now }
+        ensures { AreNoted unit (records_noted switch.now (requests_noted switch.now (facts_at self.old unit))) self.old self.new }
     {
-        let unit = UnitBit::of(number);
         let room = switches::has_request_room(switch);
         self.holds_requests
             .insert_if(unit, switches::holds_requests(switch));
@@ -197,19 +179,16 @@ impl Sets {
         self.no_request_room.one.insert_if(unit, !room.one);
         if may_differ {
             self.keeps_records
-                .note(number, switches::keeps_records(switch));
+                .insert_if(unit, switches::keeps_records(switch));
         }
     }
 
     /// Notes what is true of a module that stands here, once a request has come to it.
     #[inline(always)]
-    pub(crate) fn note_request_came(&mut self, number: usize, bank: &Module)
-        requires small { number < 320 }
-        requires more { HasRequestMore (facts_at self.old number) bank.now }
-        ensures there { facts_at self.new number ≡ record (facts_at self.old number) { holds_requests = is_some bank.now.inp; no_room_zero = is_some bank.now.inp; to_serve = would_serve bank.now } }
-        ensures others { (k : ℕ) → k ≢ number → facts_at self.new k ≡ facts_at self.old k }
+    pub(crate) fn note_request_came(&mut self, unit: UnitNumber, bank: &Module)
+        requires more { HasRequestMore (facts_at self.old unit) bank.now }
+        ensures { AreNoted unit (request_noted bank.now (facts_at self.old unit)) self.old self.new }
     {
-        let unit = UnitBit::of(number);
         let holds_request = modules::holds_request(bank);
         self.holds_requests.insert_if(unit, holds_request);
         self.no_request_room.zero.insert_if(unit, holds_request);
@@ -219,13 +198,10 @@ impl Sets {
 
     /// Notes what is true of a module that stands here, once it has served.
     #[inline(always)]
-    pub(crate) fn note_served(&mut self, number: usize, bank: &Module)
-        requires small { number < 320 }
-        requires served { HasServed (facts_at self.old number) bank.now }
-        ensures there { facts_at self.new number ≡ record (facts_at self.old number) { holds_replies = is_some bank.now.out; holds_requests = is_some bank.now.inp; no_room_zero = is_some bank.now.inp; to_serve = would_serve bank.now } }
-        ensures others { (k : ℕ) → k ≢ number → facts_at self.new k ≡ facts_at self.old k }
+    pub(crate) fn note_served(&mut self, unit: UnitNumber, bank: &Module)
+        requires served { HasServed (facts_at self.old unit) bank.now }
+        ensures { AreNoted unit (reply_noted bank.now (request_noted bank.now (facts_at self.old unit))) self.old self.new }
     {
-        let unit = UnitBit::of(number);
         let holds_reply = modules::holds_reply(bank);
         let holds_request = modules::holds_request(bank);
         self.holds_replies.insert_if(unit, holds_reply);
@@ -237,13 +213,10 @@ impl Sets {
 
     /// Notes what is true of a module that stands here, once a reply has left it.
     #[inline(always)]
-    pub(crate) fn note_reply_left(&mut self, number: usize, bank: &Module)
-        requires small { number < 320 }
-        requires less { HasReplyLess (facts_at self.old number) bank.now }
-        ensures there { facts_at self.new number ≡ record (facts_at self.old number) { holds_replies = is_some bank.now.out; to_serve = would_serve bank.now } }
-        ensures others { (k : ℕ) → k ≢ number → facts_at self.new k ≡ facts_at self.old k }
+    pub(crate) fn note_reply_left(&mut self, unit: UnitNumber, bank: &Module)
+        requires less { HasReplyLess (facts_at self.old unit) bank.now }
+        ensures { AreNoted unit (reply_noted bank.now (facts_at self.old unit)) self.old self.new }
     {
-        let unit = UnitBit::of(number);
         let holds_reply = modules::holds_reply(bank);
         self.holds_replies.remove_unless(unit, holds_reply);
         self.to_serve
@@ -252,33 +225,27 @@ impl Sets {
 
     /// Notes that a processing element holds a request.
     #[inline(always)]
-    pub(crate) fn note_issued(&mut self, number: usize)
-        requires { number < 320 }
-        ensures there { facts_at self.new number ≡ record (facts_at self.old number) { holds_requests = true } }
-        ensures others { (k : ℕ) → k ≢ number → facts_at self.new k ≡ facts_at self.old k }
+    pub(crate) fn note_issued(&mut self, unit: UnitNumber)
+        ensures { AreNoted unit (record (facts_at self.old unit) { holds_requests = true }) self.old self.new }
     {
-        self.holds_requests.insert(number);
+        self.holds_requests.insert(unit);
     }
 
     /// Notes that a processing element has stopped.
     #[inline(always)]
-    pub(crate) fn note_stopped(&mut self, number: usize)
-        requires { number < 320 }
-        ensures there { facts_at self.new number ≡ record (facts_at self.old number) { running = false } }
-        ensures others { (k : ℕ) → k ≢ number → facts_at self.new k ≡ facts_at self.old k }
+    pub(crate) fn note_stopped(&mut self, unit: UnitNumber)
+        ensures { AreNoted unit (record (facts_at self.old unit) { running = false }) self.old self.new }
     {
-        self.running.remove(number);
+        self.running.remove(unit);
     }
 
     /// Notes what is true of the requests of a processing element, once one has left it.
     #[inline(always)]
-    pub(crate) fn note_request_left(&mut self, number: usize, element: &ProcessingElement)
-        requires small { number < 320 }
-        requires fewer { (facts_at self.old number).holds_requests ≡ false → holds_request element.now ≡ false }
-        ensures there { facts_at self.new number ≡ record (facts_at self.old number) { holds_requests = holds_request element.now } }
-        ensures others { (k : ℕ) → k ≢ number → facts_at self.new k ≡ facts_at self.old k }
+    pub(crate) fn note_request_left(&mut self, unit: UnitNumber, element: &ProcessingElement)
+        requires fewer { (facts_at self.old unit).holds_requests ≡ false → holds_request element.now ≡ false }
+        ensures { AreNoted unit (record (facts_at self.old unit) { holds_requests = holds_request element.now }) self.old self.new }
     {
         self.holds_requests
-            .remove_unless(UnitBit::of(number), element.holds_request());
+            .remove_unless(unit, element.holds_request());
     }
 }

@@ -1,9 +1,9 @@
 //! The half of a cycle in which requests come to switches and modules.
 
-ghost use Rattle.std.specs.Prelude.{◌≡◌, ℕ, ◌+◌, ◌<◌, ◌≤◌, ◌↔◌, ◌++◌, [], Bool, false, List, length, vec_capacity};
+ghost use Rattle.std.specs.Prelude.{◌≡◌, ℕ, ◌+◌, ◌<◌, ◌≤◌, ◌↔◌, ◌++◌, [], Bool, false, length, vec_capacity};
 ghost use Rattle.std.specs.Option.{ForSome};
 ghost use Rattle.ultra_halves.specs.Switches.{HasWay, after_both, combinations_of_both};
-ghost use Rattle.ultra_units.specs.Marks.{HasAllLinks, RequestsAreKnown, on_link, ports_in_turn, request_links, without_both};
+ghost use Rattle.ultra_units.specs.Marks.{on_link, ports_in_turn, request_links, without_both};
 ghost use Rattle.ultra_units.specs.Visits.{after_units};
 ghost use Rattle.ultra_section.specs.BlockState.{most_events};
 ghost use Rattle.ultra_section.specs.RequestsTaken.{CanTakeRequestsAt, ModuleCanTakeRequest, SwitchCanTakeRequests, module_takes_request, switch_takes_requests, takes_requests};
@@ -12,89 +12,87 @@ ghost use Rattle.ultra_units.specs.Units.{IsModule, IsSwitch};
 use crate::block::Block;
 use ultra_halves::modules;
 use ultra_halves::requests::{is_turned, put_in_order, take_request};
-use ultra_msg::{Event, Request};
+use ultra_msg::{Event, RequestPacket};
 use ultra_route::Net;
 use ultra_switch::Switch;
-use ultra_units::requests::take_at_module;
-use ultra_units::{Links, Unit, UnitSet, Visit, ports_in_turn, visit_all};
+use ultra_units::{
+    Links, Unit, UnitNumber, UnitSet, Visit, ports_in_turn, take_at_module, visit_all,
+};
 
-/// What comes to a switch by two links, one after the other, goes into its queues, where it may combine. One request is done with before the other. `number` is the number of the unit. Combinations are appended to `events`: by position, and at one position in the order of the arrivals. Answers whether there are any.
+/// What comes to a switch by two links, one after the other, goes into its queues, where it may combine. One request is done with before the other. Combinations are appended to `events`: by position, and at one position in the order of the arrivals. Answers whether there are any.
 #[inline(always)]
 fn take_into_switch(
     switch: &mut Switch,
-    links: &mut Links<Request>,
+    links: &mut Links<RequestPacket>,
     net: Net,
-    number: usize,
+    unit: UnitNumber,
     stage: u32,
     index: u32,
     in_turn: (usize, usize),
     events: &mut Vec<Event>,
 ) -> bool
-    requires is { IsSwitch net number stage index }
-    requires small { number < 320 }
+    requires is { IsSwitch net unit stage index }
     requires turn { (zero_first : Bool) × (in_turn ≡ ports_in_turn zero_first (request_links net stage index)) }
-    requires all { HasAllLinks net links.old }
-    requires first { ForSome (on_link links.old.table.items in_turn.0) (HasWay net stage switch.old) }
-    requires second { ForSome (on_link links.old.table.items in_turn.1) (HasWay net stage switch.old) }
+    requires stages { links.old.stages ≡ net }
+    requires first { ForSome (on_link links.old.table in_turn.0) (HasWay net stage switch.old) }
+    requires second { ForSome (on_link links.old.table in_turn.1) (HasWay net stage switch.old) }
     requires event_room { length events.old.items + 2 ≤ vec_capacity events.old }
-    ensures switch { switch.new ≡ after_both net stage switch.old (on_link links.old.table.items in_turn.0) (on_link links.old.table.items in_turn.1) }
-    ensures events { events.new.items ≡ events.old.items ++ combinations_of_both net stage index switch.old (on_link links.old.table.items in_turn.0) (on_link links.old.table.items in_turn.1) }
+    ensures switch { switch.new ≡ after_both net stage switch.old (on_link links.old.table in_turn.0) (on_link links.old.table in_turn.1) }
+    ensures events { events.new.items ≡ events.old.items ++ combinations_of_both net stage index switch.old (on_link links.old.table in_turn.0) (on_link links.old.table in_turn.1) }
     ensures places { vec_capacity events.old ≤ vec_capacity events.new }
     ensures few { length events.new.items ≤ length events.old.items + 2 }
-    ensures none { (result ≡ false) ↔ (combinations_of_both net stage index switch.old (on_link links.old.table.items in_turn.0) (on_link links.old.table.items in_turn.1) ≡ []) }
-    ensures table { links.new.table.items ≡ without_both links.old.table.items (request_links net stage index) }
-    ensures known { RequestsAreKnown net links.old → RequestsAreKnown net links.new }
+    ensures none { (result ≡ false) ↔ (combinations_of_both net stage index switch.old (on_link links.old.table in_turn.0) (on_link links.old.table in_turn.1) ≡ []) }
+    ensures links { links.new ≡ record links.old { table = without_both links.old.table (request_links net stage index); targets = links.new.targets } }
 {
     let to_mm = &mut switch.to_mm;
     let first = links.take(in_turn.0);
-    let first_combines = take_request(to_mm, net, stage, index, first, events);
+    let first_combines = take_request(to_mm, net, stage, index, &first, events);
     let second = links.take(in_turn.1);
-    let second_combines = take_request(to_mm, net, stage, index, second, events);
-    links.targets.remove(number);
+    let second_combines = take_request(to_mm, net, stage, index, &second, events);
+    links.clear(unit);
     if first_combines & second_combines {
-        put_in_order(events, is_turned(net, stage, first, second));
+        put_in_order(events, is_turned(net, stage, &first, &second));
     }
     first_combines | second_combines
 }
 
 impl Block {
     /// What comes to a switch goes into its queues, where it may combine: port 0 goes first in even cycles, port 1 in odd ones.
-    fn take_requests_of_switch(&mut self, number: usize, stage: u32, index: u32)
-        requires is { IsSwitch self.old.stages number stage index }
-        requires can { SwitchCanTakeRequests number stage index self.old }
+    fn take_requests_of_switch(&mut self, unit: UnitNumber, stage: u32, index: u32)
+        requires is { IsSwitch self.old.stages unit stage index }
+        requires can { SwitchCanTakeRequests unit stage index self.old }
         requires room { length self.old.events + 2 ≤ most_events }
-        requires small { number < 320 }
-        ensures value { self.new ≡ switch_takes_requests number stage index self.old }
+        ensures value { self.new ≡ switch_takes_requests unit stage index self.old }
         ensures few { length self.new.events ≤ length self.old.events + 2 }
     {
         let net = self.net;
-        let in_turn = ports_in_turn(self.wiring.request_links(number), self.done % 2 == 0);
+        let in_turn = ports_in_turn(self.wiring.request_links(unit), self.done % 2 == 0);
+        let number = unit.number();
         let Some(switch) = &mut self.switches[number] else {
             return;
         };
         let (links, events) = (&mut self.requests, &mut self.events);
         let has_combined = take_into_switch(
-            switch, links, net, number, stage, index, in_turn, events,
+            switch, links, net, unit, stage, index, in_turn, events,
         );
-        self.sets.note_requests_taken(number, switch, has_combined);
+        self.sets.note_requests_taken(unit, switch, has_combined);
     }
 
     /// What comes to a module goes into its register.
-    fn take_request_of_module(&mut self, number: usize, module_number: u32)
-        requires is { IsModule self.old.stages number module_number }
+    fn take_request_of_module(&mut self, unit: UnitNumber, module_number: u32)
+        requires is { IsModule self.old.stages unit module_number }
         requires can { ModuleCanTakeRequest module_number self.old }
-        requires small { number < 320 }
         ensures { self.new ≡ module_takes_request module_number self.old }
     {
         let net = self.net;
         let Some(bank) = &mut self.modules[module_number as usize] else {
             return;
         };
-        let came = take_at_module(&mut self.requests, net, number, module_number);
+        let came = take_at_module(&mut self.requests, net, unit, module_number);
         if let Some(request) = came {
             modules::take_request(bank, net, request);
         }
-        self.sets.note_request_came(number, bank);
+        self.sets.note_request_came(unit, bank);
     }
 }
 
@@ -108,13 +106,14 @@ impl Visit<Block> for TakeRequests {
     ghost visited = { λ v n b. takes_requests n b };
 
     #[inline(always)]
+    #[tactic(auto, using(crate::proofs::Taken::takes_no_request))]
     fn units<'t>(&self, block: &'t Block) -> &'t UnitSet {
-        &block.requests.targets
+        block.requests.targets()
     }
 
     #[inline(always)]
-    fn visit(&self, block: &mut Block, unit: usize) {
-        match block.unit(unit) {
+    fn visit(&self, block: &mut Block, unit: UnitNumber) {
+        match block.unit(unit.number()) {
             Unit::Switch { stage, index } => block.take_requests_of_switch(unit, stage, index),
             Unit::Module(number) => block.take_request_of_module(unit, number),
             Unit::Element(_) | Unit::Nothing => {}

@@ -30,6 +30,6 @@ replies_of m (w ∷ ws) =
     elim (is_of m w) [ true ↦ old_reply m w ∷ new_reply m w ∷ [] | false ↦ replies_of m ws ]
 
 -- the replies that a split gives
-abbrev pub replies_in : Split → List ReplyMessage
+abbrev pub replies_in : Split ReplyMessage → List ReplyMessage
 replies_in (One m) = m ∷ []
 replies_in (Two old new) = old ∷ new ∷ []

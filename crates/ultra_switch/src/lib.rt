@@ -54,11 +54,11 @@ pub enum Arrived {
 
 /// What came of a reply at a switch.
 #[derive(Clone, Copy, PartialEq, Eq, Debug, Drop)]
-pub enum Split {
+pub enum Split<M = ReplyMessage> {
     /// The reply itself: its request had not combined here.
-    One(ReplyMessage),
+    One(M),
     /// The replies to the two requests of a combined pair: that to the one that stood in the queue, then that to the one that came to it.
-    Two(ReplyMessage, ReplyMessage),
+    Two(M, M),
 }
 
 /// Why a switch could not be made.

@@ -10,7 +10,7 @@ use crate::marks::Marks;
 use crate::queue::Queue;
 use std::alloc::{AllocError, Global};
 use std::marker::Model;
-use ultra_msg::Request;
+use ultra_msg::RequestPacket;
 
 /// The most places that a queue toward memory can have: the bits of a word.
 pub(crate) const MOST_REQUEST_PLACES: usize = 32;
@@ -18,7 +18,7 @@ pub(crate) const MOST_REQUEST_PLACES: usize = 32;
 /// A queue of requests, each with a mark, of a fixed number of places.
 #[derive(Drop)]
 pub(crate) struct MarkedQueue {
-    requests: Queue<Request>,
+    requests: Queue<RequestPacket>,
     marks: Marks,
 }
 
@@ -83,20 +83,20 @@ impl MarkedQueue {
         ensures { slice_get self.now.entries place ≡ Some result }
     {
         Entry {
-            request: self.requests.get(place),
+            request: self.requests.get(place).request(),
             combined: self.marks.has(place),
         }
     }
 
     /// The request at the front, or `None` where the queue is empty.
-    pub(crate) fn front(&self) -> Option<Request>
+    pub(crate) fn front(&self) -> Option<RequestPacket>
         ensures { result ≡ request_of (slice_get self.now.entries 0) }
     {
         self.requests.front()
     }
 
     /// Puts a request without a mark at the end. There has to be a free place.
-    pub(crate) fn push(&mut self, request: Request)
+    pub(crate) fn push(&mut self, request: RequestPacket)
         requires { length self.old.entries < self.old.places }
         ensures { self.new ≡ record self.old { entries = self.old.entries ++ entry request false ∷ [] } }
     {
@@ -104,7 +104,7 @@ impl MarkedQueue {
     }
 
     /// Takes the request at the front out of the queue, or answers `None` where the queue is empty. The marks of the others move with them.
-    pub(crate) fn pop(&mut self) -> Option<Request>
+    pub(crate) fn pop(&mut self) -> Option<RequestPacket>
         ensures value { result ≡ request_of (slice_get self.old.entries 0) }
         ensures entries { self.new ≡ record self.old { entries = drop 1 self.old.entries } }
     {
@@ -113,7 +113,7 @@ impl MarkedQueue {
     }
 
     /// Puts a marked request in the place of another.
-    pub(crate) fn replace(&mut self, place: usize, request: Request)
+    pub(crate) fn replace(&mut self, place: usize, request: RequestPacket)
         requires { place < length self.old.entries }
         ensures { self.new ≡ record self.old { entries = slice_set self.old.entries place (entry request true) } }
     {
@@ -122,8 +122,8 @@ impl MarkedQueue {
     }
 
     /// The place of the frontmost request without a mark that is for the same cell as this one.
-    pub(crate) fn partner(&self, request: Request) -> Option<usize>
-        ensures { IsFirst (can_combine request) self.now.entries result }
+    pub(crate) fn partner(&self, request: &RequestPacket) -> Option<usize>
+        ensures { IsFirst (can_combine request.now) self.now.entries result }
     {
         if self.is_empty() {
             return None;
@@ -131,15 +131,15 @@ impl MarkedQueue {
         (0..self.len()).find(
             |&place|
                 requires { place < length self.now.entries }
-                ensures { IfSome (slice_get self.entry.now.entries place) (λ e. result ≡ can_combine request e) }
+                ensures { IfSome (slice_get self.entry.now.entries place) (λ e. result ≡ can_combine request.entry.now e) }
             { can_combine(request, self.entry(place)) },
         )
     }
 }
 
 /// Whether the request can combine with the entry: it has no mark and is for the same cell.
-fn can_combine(request: Request, entry: Entry) -> bool
-    ensures { result ≡ can_combine request entry }
+fn can_combine(request: &RequestPacket, entry: Entry) -> bool
+    ensures { result ≡ can_combine request.now entry }
 {
-    !entry.combined && entry.request.cell == request.cell
+    !entry.combined && entry.request.cell == request.cell()
 }

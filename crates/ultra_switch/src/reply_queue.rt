@@ -6,12 +6,12 @@ ghost use Rattle.ultra_switch.specs.Queues.{empty_replies};
 use crate::queue::Queue;
 use std::alloc::{AllocError, Global};
 use std::marker::Model;
-use ultra_msg::ReplyMessage;
+use ultra_msg::{ReplyMessage, ReplyPacket};
 
 /// A queue toward the processing elements, of one PE-side port of a switch.
 #[derive(Drop)]
 pub struct ToPe {
-    queue: Queue<ReplyMessage>,
+    queue: Queue<ReplyPacket>,
 }
 
 impl Model for ToPe {
@@ -62,14 +62,14 @@ impl ToPe {
         requires { index < length self.now.replies }
         ensures { slice_get self.now.replies index ≡ Some result }
     {
-        self.queue.get(index)
+        self.queue.get(index).message()
     }
 
     /// The reply at the front, or `None` where the queue is empty.
     pub fn head(&self) -> Option<ReplyMessage>
         ensures { result ≡ slice_get self.now.replies 0 }
     {
-        self.queue.front()
+        Some(self.queue.front()?.message())
     }
 
     /// A reply comes to the end of the queue.
@@ -77,11 +77,27 @@ impl ToPe {
         requires { length self.old.replies < self.old.places }
         ensures { self.new ≡ record self.old { replies = self.old.replies ++ reply ∷ [] } }
     {
-        self.queue.push(reply);
+        self.receive(ReplyPacket::of(reply));
     }
 
     /// Takes the reply at the front out of the queue, or answers `None` where the queue is empty.
     pub fn leave(&mut self) -> Option<ReplyMessage>
+        ensures value { result ≡ slice_get self.old.replies 0 }
+        ensures queue { self.new ≡ record self.old { replies = drop 1 self.old.replies } }
+    {
+        Some(self.send()?.message())
+    }
+
+    /// A reply comes from a link to the end of the queue.
+    pub fn receive(&mut self, reply: ReplyPacket)
+        requires { length self.old.replies < self.old.places }
+        ensures { self.new ≡ record self.old { replies = self.old.replies ++ reply ∷ [] } }
+    {
+        self.queue.push(reply);
+    }
+
+    /// Takes the reply at the front out of the queue for its link, or answers `None` where the queue is empty.
+    pub fn send(&mut self) -> Option<ReplyPacket>
         ensures value { result ≡ slice_get self.old.replies 0 }
         ensures queue { self.new ≡ record self.old { replies = drop 1 self.old.replies } }
     {

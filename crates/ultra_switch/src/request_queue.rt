@@ -12,7 +12,7 @@ use crate::{Arrived, Entry, Split, WaitRecord};
 use arrayvec::ArrayVec;
 use std::alloc::{AllocError, Global};
 use std::marker::Model;
-use ultra_msg::{ReplyMessage, Request, pair, take_out};
+use ultra_msg::{ReplyMessage, ReplyPacket, Request, RequestPacket, pair, take_out};
 
 /// The most places that a wait buffer can have.
 const MOST_WAIT_PLACES: usize = 16;
@@ -111,6 +111,13 @@ impl ToMm {
     pub fn head(&self) -> Option<Request>
         ensures { result ≡ request_of (slice_get self.now.lane.queue 0) }
     {
+        Some(self.front()?.request())
+    }
+
+    /// The request at the front as it would go onto a link, or `None` where the queue is empty.
+    pub fn front(&self) -> Option<RequestPacket>
+        ensures { result ≡ request_of (slice_get self.now.lane.queue 0) }
+    {
         self.queue.front()
     }
 
@@ -119,29 +126,47 @@ impl ToMm {
         ensures value { result ≡ request_of (slice_get self.old.lane.queue 0) }
         ensures queue { self.new ≡ record self.old { lane = record self.old.lane { queue = drop 1 self.old.lane.queue } } }
     {
+        Some(self.send()?.request())
+    }
+
+    /// Takes the request at the front out of the queue for its link, or answers `None` where the queue is empty.
+    pub fn send(&mut self) -> Option<RequestPacket>
+        ensures value { result ≡ request_of (slice_get self.old.lane.queue 0) }
+        ensures queue { self.new ≡ record self.old { lane = record self.old.lane { queue = drop 1 self.old.lane.queue } } }
+    {
         self.queue.pop()
     }
 
     /// A request arrives. It combines with the frontmost entry for its cell that hasn't combined in this queue, where there is one and the wait buffer has a free place; otherwise it goes to the end of the queue. The record of a combination goes behind those that are there.
-    #[inline(always)]
     pub fn arrive(&mut self, request: Request) -> Arrived
         requires { length self.old.lane.queue < self.old.request_places }
         ensures outcome { result ≡ arrival self.old.wait_places self.old.lane request }
         ensures lane { self.new ≡ record self.old { lane = arrive self.old.wait_places self.old.lane request } }
     {
-        let Some(place) = self.partner(request) else {
-            self.queue.push(request);
+        self.receive(&RequestPacket::of(request))
+    }
+
+    /// A request arrives from a link, as `arrive` says.
+    #[inline(always)]
+    pub fn receive(&mut self, packet: &RequestPacket) -> Arrived
+        requires { length self.old.lane.queue < self.old.request_places }
+        ensures outcome { result ≡ arrival self.old.wait_places self.old.lane packet.now }
+        ensures lane { self.new ≡ record self.old { lane = arrive self.old.wait_places self.old.lane packet.now } }
+    {
+        let Some(place) = self.partner(packet) else {
+            self.queue.push(*packet);
             return Arrived::Appended;
         };
-        let old = self.queue.entry(place);
-        self.queue.replace(place, sent_for(old.request, request));
+        let (old, request) = (self.queue.entry(place), packet.request());
+        let sent = sent_for(old.request, request);
+        self.queue.replace(place, RequestPacket::of(sent));
         self.records.push(wait_record(old, request));
         Arrived::CombinedWith(old.request.pe)
     }
 
     /// The place of the entry that the request combines with, if it combines.
-    fn partner(&self, request: Request) -> Option<usize>
-        ensures { IsPartner self.now.wait_places self.now.lane request result }
+    fn partner(&self, request: &RequestPacket) -> Option<usize>
+        ensures { IsPartner self.now.wait_places self.now.lane request.now result }
     {
         if self.records.len() < self.wait_places {
             self.queue.partner(request)
@@ -151,13 +176,24 @@ impl ToMm {
     }
 
     /// A reply comes back. Where the wait buffer has a record of its processing element and cell, the oldest such record goes, and the replies to the two requests of that pair are made by it; otherwise the reply goes on itself.
-    #[inline(always)]
     pub fn split(&mut self, reply: ReplyMessage) -> Split
         ensures replies { replies_in result ≡ replies_of reply self.old.lane.records }
         ensures records { self.new ≡ record self.old { lane = record self.old.lane { records = records_after reply self.old.lane.records } } }
     {
-        match record_place(&self.records, reply) {
-            Some(place) => replies_by(take_out(&mut self.records, place), reply),
+        match self.divide(ReplyPacket::of(reply)) {
+            Split::One(reply) => Split::One(reply.message()),
+            Split::Two(old, new) => Split::Two(old.message(), new.message()),
+        }
+    }
+
+    /// A reply comes back by a link, as `split` says.
+    #[inline(always)]
+    pub fn divide(&mut self, reply: ReplyPacket) -> Split<ReplyPacket>
+        ensures replies { replies_in result ≡ replies_of reply self.old.lane.records }
+        ensures records { self.new ≡ record self.old { lane = record self.old.lane { records = records_after reply self.old.lane.records } } }
+    {
+        match record_place(&self.records, &reply) {
+            Some(place) => replies_by(take_out(&mut self.records, place), reply.message()),
             None => Split::One(reply),
         }
     }
@@ -189,33 +225,33 @@ fn wait_record(old: Entry, request: Request) -> WaitRecord
 }
 
 /// Whether the record has the identity of the reply.
-fn is_of(reply: ReplyMessage, kept: &WaitRecord) -> bool
-    ensures { result ≡ is_of reply kept.now }
+fn is_of(reply: &ReplyPacket, kept: &WaitRecord) -> bool
+    ensures { result ≡ is_of reply.now kept.now }
 {
-    kept.pe == reply.pe && kept.cell == reply.cell
+    kept.pe == reply.pe() && kept.cell == reply.cell()
 }
 
 /// The place of the oldest record with the identity of the reply.
-fn record_place(records: &[WaitRecord], reply: ReplyMessage) -> Option<usize>
-    ensures { result ≡ position (is_of reply) records.now }
+fn record_place(records: &[WaitRecord], reply: &ReplyPacket) -> Option<usize>
+    ensures { result ≡ position (is_of reply.now) records.now }
 {
     records.iter().position(|kept| is_of(reply, kept))
 }
 
 /// The replies to the two requests of the record's pair.
-fn replies_by(kept: WaitRecord, reply: ReplyMessage) -> Split
+fn replies_by(kept: WaitRecord, reply: ReplyMessage) -> Split<ReplyPacket>
     ensures { replies_in result ≡ old_reply reply kept ∷ new_reply reply kept ∷ [] }
 {
     Split::Two(
-        ReplyMessage {
+        ReplyPacket::of(ReplyMessage {
             pe: reply.pe,
             cell: reply.cell,
             reply: kept.give_old.of(reply.reply),
-        },
-        ReplyMessage {
+        }),
+        ReplyPacket::of(ReplyMessage {
             pe: kept.partner,
             cell: reply.cell,
             reply: kept.give_new.of(reply.reply),
-        },
+        }),
     )
 }

@@ -1,12 +1,12 @@
--- What is known of links is kept when something is put on one, and when something is taken.
-use Rattle.std.proofs.Common.{◌≡◌, ◌≢◌, ℕ, List, true, false, Option, None, length, replicate, set, get_or, arith, get_or-set_same, get_or-set_other}
-use Rattle.std.specs.Prelude.{is_some, ◌⊎◌}
-use Rattle.std.proofs.lemmas.List.{length-set, length-replicate, get_or-replicate, get_or_past}
+-- What is on links once something has been put on one, or taken, and the units to which messages lead then.
+use Rattle.std.proofs.Common.{◌≡◌, ◌≢◌, ℕ, Bool, List, true, Option, Some, None, length, replicate, set, get_or, arith, get_or-set_same, get_or-set_other}
+use Rattle.std.specs.Prelude.{◌⊎◌}
+use Rattle.std.proofs.lemmas.List.{length-set, length-replicate, get_or-replicate, get_or_past, set_comm}
 use Rattle.ultra_switch.specs.declared.Ports.{Ports}
 use Rattle.ultra_units.specs.Set.{has_unit}
 use Rattle.ultra_units.specs.Links.{put_on}
-use Rattle.ultra_units.specs.Marks.{IsMarked, on_link, without_both}
-use Rattle.ultra_units.specs.declared.links.Links.{Links}
+use Rattle.ultra_units.specs.Inlets.{AreTargets, LeadsTo}
+use Rattle.ultra_units.specs.Marks.{on_link, ports_in_turn, without_both}
 
 pub length-put_on : {M : Type 0} (t : List (Option M)) (link : ℕ) (o : Option M) → length (put_on t link o) ≡ length t
 length-put_on t link o = grind (arith, length-set)
@@ -28,34 +28,15 @@ fewer_both t a b link = grind (arith, fewer_set)
 pub emptied_first : {M : Type 0} (t : List (Option M)) (a b : ℕ) → on_link (set (set t a None) b None) a ≡ None
 emptied_first t a b = grind (arith, fewer_set, emptied)
 
-either_emptied : {M : Type 0} (t : List (Option M)) (p : Ports ℕ) (link : ℕ) → (link ≡ p.zero) ⊎ (link ≡ p.one) → on_link (without_both t p) link ≡ None
-either_emptied t p link either = grind (arith, emptied_first, emptied)
-
--- ---- the units to which something is known to lead
-module _ {M : Type 0} (l m : Links M) where
-  -- what a message put on a link, which leads to a unit, leaves of what is known
-  pub record HasPut (at target : ℕ) (o : Option M) : Type 0 where
-    pub table : m.table.items ≡ put_on l.table.items at o
-    pub there : is_some o ≡ true → has_unit m.targets target ≡ true
-    pub kept : (k : ℕ) → has_unit l.targets k ≡ true → has_unit m.targets k ≡ true
-
-  pub put_marked : (at target : ℕ) (o : Option M) → HasPut at target o → (unit link : ℕ) → (link ≡ at → unit ≡ target)
-      → IsMarked l unit link → IsMarked m unit link
-  put_marked at target o put unit link leads_only was some = grind (arith, get_or-set_other)
-
-  -- what is left of them when what is on the links that lead to unit n is taken
-  pub record HasTaken (n : ℕ) (p : Ports ℕ) : Type 0 where
-    pub table : m.table.items ≡ without_both l.table.items p
-    pub others : (k : ℕ) → k ≢ n → has_unit m.targets k ≡ has_unit l.targets k
-
-  pub taken_marked : (n : ℕ) (p : Ports ℕ) → HasTaken n p → (unit link : ℕ) → (unit ≡ n → (link ≡ p.zero) ⊎ (link ≡ p.one))
-      → IsMarked l unit link → IsMarked m unit link
-  taken_marked n p taken unit link leads_only was = grind (arith, either_emptied, fewer_both)
-
--- a unit that isn't among them
-pub nothing_there : {M : Type 0} (l : Links M) (unit link : ℕ) → IsMarked l unit link → has_unit l.targets unit ≡ false → on_link l.table.items link ≡ None
-nothing_there l unit link marked none = grind arith
+pub emptied_in_turn : {M : Type 0} (t : List (Option M)) (p : Ports ℕ) (zero_first : Bool) → p.zero ≢ p.one
+    → set (set t (ports_in_turn zero_first p).0 None) (ports_in_turn zero_first p).1 None ≡ without_both t p
+emptied_in_turn t p zero_first apart = grind (arith, set_comm)
 
 -- ---- nothing is on links
 pub no_entry : {X : Type 0} (xs : List (Option X)) (m n : ℕ) → xs ≡ replicate m None → get_or xs n None ≡ None
 no_entry xs m n is = grind (arith, get_or-replicate, get_or_past, length-replicate)
+
+-- ---- the units to which messages lead once one more is put on a link
+pub one_more : (inlets : ℕ → Option (Ports ℕ)) (d : ℕ) {M : Type 0} (t : List (Option M)) (targets now : List ℕ) (link unit : ℕ) (m : M) → AreTargets inlets d t targets → LeadsTo inlets d link unit
+    → ((k : ℕ) → k ≢ unit → has_unit now k ≡ has_unit targets k) → has_unit now unit ≡ true → AreTargets inlets d (set t link (Some m)) now
+one_more inlets d t targets now link unit m are lead others there = grind (arith, length-set, get_or-set_other)

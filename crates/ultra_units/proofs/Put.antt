@@ -1,12 +1,15 @@
 -- What is on links, after something was put on others or on them; and that no two places have one link.
-use Rattle.std.proofs.Common.{◌≡◌, ◌≢◌, ℕ, ◌+◌, ◌-◌, ◌*◌, ◌/◌, ◌^◌, ◌<◌, ◌≤◌, true, false, List, Option, Some, None, length, get_or-set_same, get_or-set_other, ◌∙◌, ap, arith}
+use Rattle.std.proofs.Common.{◌≡◌, ◌≢◌, ℕ, ◌+◌, ◌-◌, ◌*◌, ◌/◌, ◌^◌, ◌<◌, ◌≤◌, true, false, List, Option, Some, None, length, get_or-set_same, get_or-set_other, ◌∙◌, ap, subst, arith}
 use Rattle.std.specs.Prelude.{nat_lt}
 use Rattle.ultra_route.proofs.Table.{sizes}
 use Rattle.ultra_switch.specs.declared.Ports.{Ports}
 use Rattle.ultra_units.specs.Numbers.{switch_count, place_number}
 use Rattle.ultra_units.specs.Units.{IsSwitch}
 use Rattle.ultra_units.specs.Links.{put_on}
-use Rattle.ultra_units.specs.Ways.{IsReplyWay, IsRequestWay, reply_targets, request_targets}
+use Rattle.ultra_units.specs.Inlets.{LeadsTo, put_on_both, reply_inlets, request_inlets}
+pub use Rattle.ultra_units.specs.Ways.{places_of}
+use Rattle.ultra_units.specs.Ways.{reply_targets, request_targets}
+use Rattle.ultra_units.proofs.Readers.{reply_leads, request_leads}
 use Rattle.ultra_units.specs.Marks.{on_link}
 
 -- what is on a link on which something may have been put
@@ -21,19 +24,11 @@ module _ {M : Type 0} (t : List (Option M)) where
   pub put_there : (a : ℕ) (o : Option M) → a < length t → on_link (put_on t a o) a ≡ put_or o (on_link t a)
   put_there a o within = grind (arith, get_or-set_same)
 
--- two links on which something may have been put
-abbrev pub put_both : {M : Type 0} → List (Option M) → Ports ℕ → Ports (Option M) → List (Option M)
-put_both t p out = put_on (put_on t p.zero out.zero) p.one out.one
-
 module _ {M : Type 0} (t : List (Option M)) (p : Ports ℕ) (out : Ports (Option M)) where
-  pub link_apart_put : (x : ℕ) → x ≢ p.zero → x ≢ p.one → on_link (put_both t p out) x ≡ on_link t x
+  pub link_apart_put : (x : ℕ) → x ≢ p.zero → x ≢ p.one → on_link (put_on_both t p out) x ≡ on_link t x
   link_apart_put x zero one = grind (arith, put_apart)
 
 -- ---- places
--- the two places of switch k of stage s
-abbrev pub places_of : ℕ → ℕ → ℕ → Ports ℕ
-places_of d s k = record { zero = place_number d s (2 * k); one = place_number d s (2 * k + 1) }
-
 row : (d n : ℕ) → (d + 1) * n ≡ d * n + n
 row d n = grind arith
 
@@ -68,7 +63,7 @@ module _ (d behind : ℕ) (low : 1 ≤ d) (high : d ≤ 6) where
 
   -- what a switch puts on its links leaves those of others
   pub written_apart : {M : Type 0} (t : List (Option M)) (out : Ports (Option M)) (n s k l : ℕ) → IsSwitch d n s k → writer d behind l ≢ n
-      → on_link (put_both t (places_of d s k) out) l ≡ on_link t l
+      → on_link (put_on_both t (places_of d s k) out) l ≡ on_link t l
   written_apart t out n s k l is other =
       let own = written n s k is in
       link_apart_put t (places_of d s k) out l (λ same. other (ap (writer d behind) same ∙ own.0)) (λ same. other (ap (writer d behind) same ∙ own.1))
@@ -78,8 +73,17 @@ module _ (d n s k : ℕ) (low : 1 ≤ d) (high : d ≤ 6) (is : IsSwitch d n s k
   odd : 2 * k + 1 < 2 ^ d
   odd = omega (arith, is.index_small, (sizes d low high).0)
 
-  pub request_ways_of : IsRequestWay d (2 * n) (request_targets d s k).zero × IsRequestWay d (2 * n + 1) (request_targets d s k).one
-  request_ways_of = grind (arith, has_places, odd)
+  at : HasPlaces d n s k
+  at = has_places d n s k low high is
 
-  pub reply_ways_of : IsReplyWay d (2 * n) (reply_targets d s k).zero × IsReplyWay d (2 * n + 1) (reply_targets d s k).one
-  reply_ways_of = grind (arith, has_places, odd)
+  pub requests_lead : LeadsTo (request_inlets d) d (2 * n) (request_targets d s k).zero × LeadsTo (request_inlets d) d (2 * n + 1) (request_targets d s k).one
+  requests_lead = (
+    subst (λ l. LeadsTo (request_inlets d) d l (request_targets d s k).zero) at.first (request_leads d low high s (2 * k) is.stage_small (omega (arith, odd))),
+    subst (λ l. LeadsTo (request_inlets d) d l (request_targets d s k).one) at.second (request_leads d low high s (2 * k + 1) is.stage_small odd),
+  )
+
+  pub replies_lead : LeadsTo (reply_inlets d) d (2 * n) (reply_targets d s k).zero × LeadsTo (reply_inlets d) d (2 * n + 1) (reply_targets d s k).one
+  replies_lead = (
+    subst (λ l. LeadsTo (reply_inlets d) d l (reply_targets d s k).zero) at.first (reply_leads d low high s (2 * k) is.stage_small (omega (arith, odd))),
+    subst (λ l. LeadsTo (reply_inlets d) d l (reply_targets d s k).one) at.second (reply_leads d low high s (2 * k + 1) is.stage_small odd),
+  )

@@ -6,7 +6,7 @@ use Rattle.std.proofs.lemmas.Nat.{pow_below, shr-shr, le_or_l, le_or_r}
 use Rattle.std.proofs.lemmas.Nat.Bits.{bit_at-lt, shr_and_one, bit_at_above, bit_at_and, bit_at_not, bit_at_or, bit_at_set_same, bit_at_set_other, bit_at_clear_same, bit_at_clear_other, bit_at-trailing_zeros}
 use Rattle.std.specs.Prelude.{bit_and, bit_or, not, ◌≢◌, Option, Some, None, IfSome, IfNone}
 use Rattle.std.specs.Int.{bit_at, bit_not, trailing_zeros}
-use Rattle.ultra_units.specs.Set.{IsBitOf, has_bit, has_unit, HasNoneWithin, HasNoneFrom, IsFirstFrom, HasNoBitFrom, IsFirstBit}
+use Rattle.ultra_units.specs.Set.{has_bit, has_unit, HasNoneWithin, HasNoneFrom, IsFirstFrom, HasNoBitFrom, IsFirstBit}
 
 -- ---- bits of one word
 
@@ -83,20 +83,6 @@ module _ (words : List ℕ) (number : ℕ) (within : number < 64 * length words)
 
   pub removed_others : (k : ℕ) → k ≢ number → has_unit (set words (number / 64) unmarked) k ≡ has_unit words k
   removed_others = others_kept unmarked (λ i inside other. bit_at_clear_other w64 _ (number % 64) (omega arith) i inside other)
-
-  -- the same by where its bit is
-  module _ {w b : ℕ} (is : IsBitOf number w b) where
-    pub bit_inserted : has_unit (set words w (bit_or (get_or words w 0) b)) number ≡ true
-    bit_inserted = grind (arith, alone, inserted_there)
-
-    pub bit_inserted_others : (k : ℕ) → k ≢ number → has_unit (set words w (bit_or (get_or words w 0) b)) k ≡ has_unit words k
-    bit_inserted_others k other = let kept = inserted_others k other in grind (arith, alone)
-
-    pub bit_removed : has_unit (set words w (bit_and (get_or words w 0) (bit_not w64 b))) number ≡ false
-    bit_removed = grind (arith, alone, removed_there)
-
-    pub bit_removed_others : (k : ℕ) → k ≢ number → has_unit (set words w (bit_and (get_or words w 0) (bit_not w64 b))) k ≡ has_unit words k
-    bit_removed_others k other = let kept = removed_others k other in grind (arith, alone)
 
 -- ---- the units of a word
 

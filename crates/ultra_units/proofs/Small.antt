@@ -1,31 +1,24 @@
--- The units to which messages go from a switch have numbers below 320: computed over every network of at most six stages.
-use Rattle.std.proofs.Common.{◌≡◌, ℕ, ◌+◌, ◌<◌, ◌≤◌, Bool, true, ◌&&◌, refl, arith}
-use Rattle.std.specs.Prelude.{nat_lt}
-use Rattle.ultra_switch.specs.declared.Ports.{Ports}
-use Rattle.ultra_route.proofs.Table.{all_below, all_below_at}
-use Rattle.ultra_units.specs.Numbers.{switch_count}
+-- The units to which messages go from a switch have numbers below 320.
+use Rattle.std.proofs.Common.{ℕ, ◌+◌, ◌-◌, ◌*◌, ◌^◌, ◌<◌, ◌≤◌, mul-le-mul_right, arith}
+use Rattle.ultra_route.proofs.Table.{back, sizes}
+use Rattle.ultra_units.specs.Numbers.{reply_target, request_target, switch_count}
 use Rattle.ultra_units.specs.Units.{stage_of, index_of}
 use Rattle.ultra_units.specs.Ways.{reply_targets, request_targets}
-use Rattle.ultra_units.proofs.Readers.{each_network}
+use Rattle.ultra_units.proofs.Standing.{is_switch}
 
-abbrev targets_small : ℕ → ℕ → Bool
-targets_small d n =
-    let requests = request_targets d (stage_of d n) (index_of d n) in
-    let replies = reply_targets d (stage_of d n) (index_of d n) in
-    nat_lt requests.zero 320 && (nat_lt requests.one 320 && (nat_lt replies.zero 320 && nat_lt replies.one 320))
+module _ (d : ℕ) (low : 1 ≤ d) (high : d ≤ 6) where
+  reply_small : (s y : ℕ) → s < d → y < 2 ^ d → reply_target d s y < 320
+  reply_small s y stage within = let rows = mul-le-mul_right (2 ^ (d - 1)) high in let size = sizes d low high in let lines = back d y low high within in grind arith
 
-all_small : all_below (λ k. all_below (targets_small (k + 1)) (switch_count (k + 1))) 6 ≡ true
-unfolding all_below
-all_small = refl
+  request_small : (s x : ℕ) → s < d → x < 2 ^ d → request_target d s x < 320
+  request_small s x stage within = let rows = mul-le-mul_right (2 ^ (d - 1)) high in let size = sizes d low high in let lines = back d x low high within in grind arith
 
-pub record AreSmall (p : Ports ℕ) : Type 0 where
-  pub zero : p.zero < 320
-  pub one : p.one < 320
+  module _ (n : ℕ) (within : n < switch_count d) where
+    odd : 2 * index_of d n + 1 < 2 ^ d
+    odd = omega (arith, (is_switch d n within).index_small, (sizes d low high).0)
 
-four_small : (p q : Ports ℕ) → (nat_lt p.zero 320 && (nat_lt p.one 320 && (nat_lt q.zero 320 && nat_lt q.one 320))) ≡ true → AreSmall p × AreSmall q
-four_small p q h = grind arith
+    pub replies_small : ((reply_targets d (stage_of d n) (index_of d n)).zero < 320) × ((reply_targets d (stage_of d n) (index_of d n)).one < 320)
+    replies_small = let is = is_switch d n within in (reply_small _ _ is.stage_small (omega (arith, odd)), reply_small _ _ is.stage_small odd)
 
-pub small : (d n : ℕ) → 1 ≤ d → d ≤ 6 → n < switch_count d
-    → AreSmall (request_targets d (stage_of d n) (index_of d n)) × AreSmall (reply_targets d (stage_of d n) (index_of d n))
-small d n low high within =
-    four_small _ _ (all_below_at (targets_small d) (switch_count d) (each_network (λ d. all_below (targets_small d) (switch_count d)) all_small d low high) n within)
+    pub requests_small : ((request_targets d (stage_of d n) (index_of d n)).zero < 320) × ((request_targets d (stage_of d n) (index_of d n)).one < 320)
+    requests_small = let is = is_switch d n within in (request_small _ _ is.stage_small (omega (arith, odd)), request_small _ _ is.stage_small odd)

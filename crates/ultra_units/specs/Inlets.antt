@@ -1,8 +1,9 @@
 -- by which links messages come to the unit with a number, and what goes from one table of links to
 -- another
-use Rattle.std.specs.Prelude.{◌≡◌, ℕ, List, Option, Some, None, slice_set}
+use Rattle.std.specs.Prelude.{◌≡◌, ℕ, ◌+◌, ◌*◌, ◌^◌, ◌<◌, ◌⊎◌, false, length, List, Option, Some, None, slice_set}
 use Rattle.ultra_switch.specs.declared.Ports.{Ports}
 use Rattle.ultra_units.specs.declared.unit.Unit.TheVariants as unit
+use Rattle.ultra_units.specs.Set.{has_unit}
 use Rattle.ultra_units.specs.Units.{unit_of}
 use Rattle.ultra_units.specs.Links.{put_on}
 use Rattle.ultra_units.specs.Marks.{on_link, reply_links, delivery_link, request_links, memory_link}
@@ -43,3 +44,26 @@ put_on_both table p o = put_on (put_on table p.zero o.zero) p.one o.one
 abbrev pub AreEmpty : {M : Type 0} → List (Option M) → Option (Ports ℕ) → Type 0
 AreEmpty table None = Unit {0}
 AreEmpty table (Some p) = (on_link table p.zero ≡ None) × (on_link table p.one ≡ None)
+
+-- ---- the links of a machine of d stages: one for each position of a stage, and one for each
+-- module or processing element
+abbrev pub link_count : ℕ → ℕ
+link_count d = (d + 1) * 2 ^ d
+
+-- `inlets` are those of the unit with a number
+module _ (inlets : ℕ → Option (Ports ℕ)) (d : ℕ) where
+  -- a link to the unit, and to no other
+  pub record LeadsTo (link unit : ℕ) : Type 0 where
+    pub small : link < link_count d
+    pub alone :
+        (n : ℕ) (p : Ports ℕ) → inlets n ≡ Some p → (link ≡ p.zero) ⊎ (link ≡ p.one) → n ≡ unit
+
+  pub record AreInlets (unit : ℕ) (p : Ports ℕ) : Type 0 where
+    pub are : inlets unit ≡ Some p
+    pub zero : LeadsTo p.zero unit
+    pub one : LeadsTo p.one unit
+
+  -- messages lead to these units alone
+  pub record AreTargets {M : Type 0} (table : List (Option M)) (targets : List ℕ) : Type 0 where
+    pub count : length table ≡ link_count d
+    pub others : (n : ℕ) → has_unit targets n ≡ false → AreEmpty table (inlets n)

@@ -1,5 +1,5 @@
 -- a set of units as words of 64 bits
-use Rattle.std.specs.Prelude.{◌≡◌, ℕ, ◌/◌, ◌%◌, ◌^◌, ◌<◌, ◌≤◌, Bool, true, false, List, ◌==◌, slice_index}
+use Rattle.std.specs.Prelude.{◌≡◌, ℕ, ◌/◌, ◌%◌, ◌<◌, ◌≤◌, Bool, true, false, List, ◌==◌, slice_index}
 use Rattle.std.specs.Int.{bit_at}
 
 -- bit i of the word is set
@@ -35,9 +35,3 @@ pub record IsFirstBit (word from bit : ℕ) : Type 0 where
   pub within : bit < 64
   pub set : bit_at word bit ≡ 1
   pub between : (i : ℕ) → from ≤ i → i < bit → bit_at word i ≡ 0
-
--- where the bit of unit n is: in which word, and the word with that bit alone
-pub record IsBitOf (n word bit : ℕ) : Type 0 where
-  pub small : n < 320
-  pub row : word ≡ n / 64
-  pub alone : bit ≡ 2 ^ (n % 64)

@@ -67,9 +67,3 @@ of_unit d switch bank element x n = elim (unit_of d n) [
   | Element p ↦ element p
   | Nothing ↦ x
 ]
-
--- where the numbers of modules and of processing elements begin, and how many there are of each
-pub record IsNumbering (d first_module first_element size : ℕ) : Type 0 where
-  pub modules : first_module ≡ switch_count d
-  pub elements : first_element ≡ switch_count d + 2 ^ d
-  pub count : size ≡ 2 ^ d

@@ -1,27 +1,19 @@
 -- where messages go from a unit, and where there is a way: the unit that they go to has room
-use Rattle.std.specs.Prelude.{◌≡◌, ◌<◌, ℕ, ◌+◌, ◌-◌, ◌*◌, ◌/◌, ◌%◌, ◌^◌, List, Bool, true, false, not, ◌==◌, Option, Some, None}
+use Rattle.std.specs.Prelude.{ℕ, ◌+◌, ◌-◌, ◌*◌, ◌/◌, ◌%◌, ◌^◌, List, Bool, true, false, not, ◌==◌, Option, Some, None}
 use Rattle.ultra_msg.specs.declared.Request.{Request}
-use Rattle.ultra_msg.specs.declared.ReplyMessage.{ReplyMessage}
 use Rattle.ultra_route.specs.Route.{shuffled, bit_of}
 use Rattle.ultra_switch.specs.declared.Ports.{Ports}
 use Rattle.ultra_units.specs.Set.{has_unit}
 use Rattle.ultra_units.specs.Numbers.{place_number, reply_target, request_target, switch_number}
-use Rattle.ultra_units.specs.Links.{put_on}
+
+-- the links by which messages leave switch k of stage s
+abbrev pub places_of : ℕ → ℕ → ℕ → Ports ℕ
+places_of d s k = record { zero = place_number d s (2 * k); one = place_number d s (2 * k + 1) }
 
 -- ---- replies
 -- the units to which replies go from switch k of stage s, by the PE-side port
 abbrev pub reply_targets : ℕ → ℕ → ℕ → Ports ℕ
 reply_targets d s k = record { zero = reply_target d s (2 * k); one = reply_target d s (2 * k + 1) }
-
--- what is on the links once what leaves switch k of stage s has been put there
-abbrev pub replies_put : ℕ → ℕ → ℕ → Ports (Option ReplyMessage) → List (Option ReplyMessage)
-    → List (Option ReplyMessage)
-replies_put d s k out table =
-    put_on (put_on table (place_number d s (2 * k)) out.zero) (place_number d s (2 * k + 1)) out.one
-
--- the link leads from a PE-side position of a stage to the unit
-abbrev pub IsReplyWay : ℕ → ℕ → ℕ → Type 0
-IsReplyWay d link target = (s : ℕ) × (y : ℕ) × (s < d) × (y < 2 ^ d) × (link ≡ place_number d s y) × (target ≡ reply_target d s y)
 
 -- `closed` are the switches without room for replies
 module _ (closed : List ℕ) where
@@ -43,16 +35,6 @@ module _ (closed : List ℕ) where
 abbrev pub request_targets : ℕ → ℕ → ℕ → Ports ℕ
 request_targets d s k =
     record { zero = request_target d s (2 * k); one = request_target d s (2 * k + 1) }
-
--- what is on the links once what leaves switch k of stage s has been put there
-abbrev pub requests_put : ℕ → ℕ → ℕ → Ports (Option Request) → List (Option Request)
-    → List (Option Request)
-requests_put d s k out table =
-    put_on (put_on table (place_number d s (2 * k)) out.zero) (place_number d s (2 * k + 1)) out.one
-
--- the link leads from a memory-side position of a stage to the unit
-abbrev pub IsRequestWay : ℕ → ℕ → ℕ → Type 0
-IsRequestWay d link target = (s : ℕ) × (x : ℕ) × (s < d) × (x < 2 ^ d) × (link ≡ place_number d s x) × (target ≡ request_target d s x)
 
 -- `closed` are, by the memory-side port, the switches whose queue there has no room for requests;
 -- in `zero` also the modules whose register holds one

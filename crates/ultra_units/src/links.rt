@@ -1,36 +1,53 @@
 //! The links of one kind of message, and the units to which messages lead.
 
-ghost use Rattle.std.specs.Prelude.{◌≡◌, ◌≢◌, ℕ, ◌<◌, true, false, IfOk, None, is_some, length, replicate, slice_index_or, slice_set};
-ghost use Rattle.ultra_units.specs.Set.{HasNoneFrom, has_unit};
-ghost use Rattle.ultra_units.specs.Inlets.{taken_by_turns};
+ghost use Rattle.std.specs.Prelude.{◌≡◌, ◌≢◌, ℕ, ◌<◌, true, false, Option, IfOk, None, is_some, length, replicate, slice_set};
+ghost use Rattle.ultra_switch.specs.declared.Ports.{Ports};
+ghost use Rattle.ultra_units.specs.Inlets.{AreEmpty, AreInlets, AreTargets, LeadsTo, link_count, put_on_both, reply_inlets, request_inlets, taken_by_turns};
 ghost use Rattle.ultra_units.specs.Links.{put_on};
-ghost use Rattle.ultra_units.specs.Marks.{ports_in_turn, on_both, without_both};
+ghost use Rattle.ultra_units.specs.Set.{HasNoneFrom, has_unit};
+ghost use Rattle.ultra_units.specs.Marks.{on_link, ports_in_turn, without_both};
 
 use crate::entries::no_items;
-use crate::unit_set::UnitSet;
+use crate::unit_set::{UnitNumber, UnitSet};
 use std::alloc::{AllocError, Global};
+use std::marker::Model;
+use ultra_msg::{ReplyPacket, RequestPacket};
+use ultra_route::Net;
 use ultra_switch::{Ports, Slot};
 
-/// Links by their numbers, each with the message on it, and the units to which messages lead.
-#[derive(Drop)]
-pub struct Links<M> {
-    /// By the link's number, what is on it.
-    pub table: Vec<Slot<M>>,
-    /// At least the units to which a message leads.
-    pub targets: UnitSet,
+/// What goes over links, each of which leads to one unit.
+pub trait Message: Copy + Default {
+    /// In a machine of so many stages, the links by which it comes to the unit with a number, if it can.
+    ghost inlets: { ℕ → ℕ → Option (Ports ℕ) };
 }
 
-impl<M: Copy + Default> Links<M> {
-    /// Links with nothing on them. An error says that memory was refused.
-    pub fn empty(alloc: Global, count: usize) -> Result<Links<M>, AllocError>
-        ensures table { IfOk result (λ l. l.table.items ≡ replicate count None) }
-        ensures targets { IfOk result (λ l. HasNoneFrom l.targets 0) }
-    {
-        Ok(Links {
-            table: no_items(alloc, count)?,
-            targets: UnitSet::empty(),
-        })
-    }
+impl Message for ReplyPacket {
+    ghost inlets = { reply_inlets };
+}
+
+impl Message for RequestPacket {
+    ghost inlets = { request_inlets };
+}
+
+/// The links of a network by their numbers, each with the message on it, and the units to which messages lead.
+#[derive(Drop)]
+pub struct Links<M: Message> {
+    net: Net,
+    /// By the link's number, what is on it.
+    table: Vec<Slot<M>>,
+    /// At least the units to which a message leads.
+    targets: UnitSet,
+}
+
+impl<M: Message> Model for Links<M> {
+    ghost use Rattle.ultra_units.specs.Inlets.{AreTargets};
+    ghost use Rattle.ultra_units.specs.Links.{LinksState};
+
+    ghost Value = { LinksState M };
+
+    ghost view = { λ l. record { stages = l.net; table = l.table.items; targets = l.targets } };
+
+    ghost invariant = { λ l. AreTargets (M.inlets l.net) l.net l.table.items l.targets };
 }
 
 /// The links at two ports, one after the other.
@@ -45,13 +62,36 @@ pub fn ports_in_turn(links: Ports<usize>, zero_first: bool) -> (usize, usize)
     }
 }
 
-impl<M: Copy + Default> Links<M> {
+impl<M: Message> Links<M> {
+    /// Links with nothing on them. An error says that memory was refused.
+    pub fn empty(alloc: Global, net: Net) -> Result<Links<M>, AllocError>
+        ensures stages { IfOk result (λ l. l.stages ≡ net) }
+        ensures table { IfOk result (λ l. l.table ≡ replicate (link_count net) None) }
+        ensures targets { IfOk result (λ l. HasNoneFrom l.targets 0) }
+    {
+        let count = (net.stages() as usize + 1) * net.size() as usize;
+        Ok(Links {
+            net,
+            table: no_items(alloc, count)?,
+            targets: UnitSet::empty(),
+        })
+    }
+
+    /// At least the units to which a message leads.
+    #[inline(always)]
+    pub fn targets(&self) -> &UnitSet
+        ensures value { result.now ≡ self.now.targets }
+        ensures right { AreTargets (M.inlets self.now.stages) self.now.stages self.now.table result.now }
+    {
+        &self.targets
+    }
+
     /// Puts a message, if there is one, on a link, which leads to the unit `target`.
     #[inline(always)]
     pub fn put(&mut self, link: usize, target: usize, message: Option<M>)
-        requires link { link < length self.old.table.items }
-        requires target { target < 320 }
-        ensures table { self.new.table.items ≡ put_on self.old.table.items link message }
+        requires small { target < 320 }
+        requires leads { LeadsTo (M.inlets self.old.stages) self.old.stages link target }
+        ensures table { self.new ≡ record self.old { table = put_on self.old.table link message; targets = self.new.targets } }
         ensures there { is_some message ≡ true → has_unit self.new.targets target ≡ true }
         ensures kept { (k : ℕ) → has_unit self.old.targets k ≡ true → has_unit self.new.targets k ≡ true }
         ensures others { (k : ℕ) → k ≢ target → has_unit self.new.targets k ≡ has_unit self.old.targets k }
@@ -60,33 +100,56 @@ impl<M: Copy + Default> Links<M> {
             return;
         };
         self.table[link].fill(message);
-        self.targets.insert(target);
+        self.targets.insert(UnitNumber::of(target));
     }
 
     /// Takes what is on a link.
     #[inline(always)]
     pub fn take(&mut self, link: usize) -> Option<M>
-        requires { link < length self.old.table.items }
-        ensures value { result ≡ slice_index_or self.old.table.items link None }
-        ensures table { self.new.table.items ≡ slice_set self.old.table.items link None }
-        ensures targets { self.new.targets ≡ self.old.targets }
+        requires { link < link_count self.old.stages }
+        ensures value { result ≡ on_link self.old.table link }
+        ensures rest { self.new ≡ record self.old { table = slice_set self.old.table link None } }
     {
         self.table[link].take()
     }
 
+    /// All that led to a unit has been taken.
+    #[inline(always)]
+    pub fn clear(&mut self, unit: UnitNumber)
+        requires none { AreEmpty self.old.table (M.inlets self.old.stages unit) }
+        ensures rest { self.new ≡ record self.old { targets = self.new.targets } }
+        ensures others { (k : ℕ) → k ≢ unit → has_unit self.new.targets k ≡ has_unit self.old.targets k }
+        ensures gone { has_unit self.new.targets unit ≡ false }
+    {
+        self.targets.remove(unit);
+    }
+
     /// Takes what is on the links that lead to a unit.
     pub fn hand_over(&mut self, unit: usize, inlets: Ports<usize>) -> Ports<Option<M>>
-        requires unit { unit < 320 }
-        requires zero { inlets.zero < length self.old.table.items }
-        requires one { inlets.one < length self.old.table.items }
-        ensures value { result ≡ taken_by_turns self.old.table.items inlets }
-        ensures table { self.new.table.items ≡ without_both self.old.table.items inlets }
+        requires small { unit < 320 }
+        requires inlets { AreInlets (M.inlets self.old.stages) self.old.stages unit inlets }
+        ensures value { result ≡ taken_by_turns self.old.table inlets }
+        ensures rest { self.new ≡ record self.old { table = without_both self.old.table inlets; targets = self.new.targets } }
         ensures others { (k : ℕ) → k ≢ unit → has_unit self.new.targets k ≡ has_unit self.old.targets k }
         ensures gone { has_unit self.new.targets unit ≡ false }
     {
         let zero = self.take(inlets.zero);
         let one = self.take(inlets.one);
-        self.targets.remove(unit);
+        self.clear(UnitNumber::of(unit));
         Ports { zero, one }
+    }
+
+    /// Puts messages on the links that lead to a unit.
+    #[inline(always)]
+    pub fn receive(&mut self, unit: usize, inlets: Ports<usize>, messages: Ports<Option<M>>)
+        requires small { unit < 320 }
+        requires inlets { AreInlets (M.inlets self.old.stages) self.old.stages unit inlets }
+        ensures received { self.new ≡ record self.old { table = put_on_both self.old.table inlets messages; targets = self.new.targets } }
+        ensures others { (k : ℕ) → k ≢ unit → has_unit self.new.targets k ≡ has_unit self.old.targets k }
+        ensures count { length self.old.table ≡ link_count self.old.stages }
+    {
+        let _count = &self.table;
+        self.put(inlets.zero, unit, messages.zero);
+        self.put(inlets.one, unit, messages.one);
     }
 }

@@ -1,6 +1,6 @@
 //! The numbers of units and of the links between them.
 
-ghost use Rattle.std.specs.Prelude.{◌≡◌, ℕ, ◌+◌, ◌-◌, ◌*◌, ◌^◌, ◌<◌, ◌≤◌};
+ghost use Rattle.std.specs.Prelude.{◌≡◌, ◌+◌, ◌-◌, ◌*◌, ◌^◌, ◌<◌, ◌≤◌};
 ghost use Rattle.ultra_units.specs.Marks.{reply_links, request_links};
 ghost use Rattle.ultra_units.specs.Numbers.{element_number as number_of_element, module_number as number_of_module, place_number as number_of_place, reply_source as source_of_reply, reply_target as target_of_reply, request_source as source_of_request, request_target as target_of_request, switch_count as count_of_switches, switch_number as number_of_switch};
 

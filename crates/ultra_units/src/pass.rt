@@ -4,7 +4,7 @@ ghost use Rattle.std.specs.Prelude.{◌≡◌, ℕ, ◌<◌, false};
 ghost use Rattle.ultra_units.specs.Set.{has_unit};
 ghost use Rattle.ultra_units.specs.Visits.{after_units};
 
-use crate::unit_set::UnitSet;
+use crate::unit_set::{UnitNumber, UnitSet};
 
 /// What is done to the units of something, one after another by their numbers.
 pub trait Visit<T> {
@@ -19,8 +19,7 @@ pub trait Visit<T> {
         ensures { (k : ℕ) → has_unit result.now k ≡ false → visited self.now k target.now ≡ target.now };
 
     /// Visits a unit. Where the conditions of later visits are met before it, they are met after it too.
-    fn visit(&self, target: &mut T, unit: usize)
-        requires within { unit < 320 }
+    fn visit(&self, target: &mut T, unit: UnitNumber)
         requires can { can_visit self.now unit target.old }
         ensures visited { target.new ≡ visited self.now unit target.old }
         ensures later { (k : ℕ) → unit < k → can_visit self.now k target.old → can_visit self.now k target.new };
@@ -47,7 +46,7 @@ fn visit_some<T, V: Visit<T>>(visit: &V, target: &mut T)
 {
     let mut next = visit.units(target).next(0);
     while let Some(unit) = next {
-        visit.visit(target, unit);
+        visit.visit(target, UnitNumber::of(unit));
         next = visit.units(target).next_after(unit);
     }
 }

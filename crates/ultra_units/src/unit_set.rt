@@ -1,6 +1,6 @@
 //! Sets of units.
 
-ghost use Rattle.std.specs.Prelude.{◌≡◌, ◌≢◌, ℕ, ◌+◌, ◌*◌, ◌<◌, ◌≤◌, ◌↔◌, Bool, ◌&&◌, ◌||◌, true, false, not, IfNone, IfSome};
+ghost use Rattle.std.specs.Prelude.{◌≡◌, ◌≢◌, ℕ, ◌+◌, ◌*◌, ◌<◌, ◌≤◌, ◌&&◌, ◌||◌, true, false, not, IfNone, IfSome};
 ghost use Rattle.ultra_units.specs.Set.{HasNoBitFrom, HasNoneFrom, IsFirstBit, IsFirstFrom, has_bit, has_unit};
 
 use std::marker::Model;
@@ -28,39 +28,41 @@ impl Model for UnitSet {
     ghost inverse = { λ words. record { words = words } };
 }
 
-/// A unit, and where its bit is in a set. It is worked out once where several sets may change for the unit.
+/// A unit, by its number, which is below 320.
 #[derive(Clone, Copy, Drop)]
-pub struct UnitBit {
+pub struct UnitNumber {
     number: usize,
-    word: usize,
-    bit: u64,
 }
 
-impl Model for UnitBit {
-    ghost use Rattle.std.specs.Prelude.{ℕ, ◌/◌, ◌%◌, ◌^◌};
-    ghost use Rattle.ultra_units.specs.Set.{IsBitOf};
+impl Model for UnitNumber {
+    ghost use Rattle.std.specs.Prelude.{ℕ, ◌<◌};
 
     ghost Value = { ℕ };
 
     ghost view = { λ u. u.number };
 
-    ghost invariant = { λ u. IsBitOf u.number u.word u.bit };
+    ghost invariant = { λ u. u.number < 320 };
 
-    ghost inverse = { λ n. record { number = n; word = n / 64; bit = 2 ^ (n % 64) } };
+    ghost inverse = { λ n. record { number = n } };
 }
 
-impl UnitBit {
-    /// That of the unit of this number.
+impl UnitNumber {
+    /// The unit of this number.
     #[inline(always)]
-    pub fn of(number: usize) -> UnitBit
+    pub fn of(number: usize) -> UnitNumber
         requires { number < 320 }
         ensures { result ≡ number }
     {
-        UnitBit {
-            number,
-            word: number / 64,
-            bit: 1 << (number % 64),
-        }
+        UnitNumber { number }
+    }
+
+    /// The unit's number.
+    #[inline(always)]
+    pub fn number(self) -> usize
+        ensures value { result ≡ self }
+        ensures small { result < 320 }
+    {
+        self.number
     }
 }
 
@@ -74,6 +76,7 @@ impl UnitSet {
 
     /// Whether no unit is in the set.
     #[inline(always)]
+    #[tactic(auto, using(crate::proofs::Set::none_in_words))]
     pub fn is_empty(&self) -> bool
         ensures { result ≡ true → HasNoneFrom self.now 0 }
     {
@@ -82,6 +85,7 @@ impl UnitSet {
 
     /// Whether the unit of this number is in the set.
     #[inline(always)]
+    #[tactic(auto, using(crate::proofs::Set::read_bit))]
     pub fn has(&self, number: usize) -> bool
         requires { number < 320 }
         ensures { result ≡ has_unit self.now number }
@@ -89,59 +93,45 @@ impl UnitSet {
         self.words[number / 64] >> (number % 64) & 1 == 1
     }
 
-    /// Puts the unit of this number into the set.
+    /// Puts a unit into the set.
     #[inline(always)]
-    pub fn insert(&mut self, number: usize)
-        requires { number < 320 }
-        ensures others { (k : ℕ) → k ≢ number → has_unit self.new k ≡ has_unit self.old k }
-        ensures there { has_unit self.new number ≡ true }
+    pub fn insert(&mut self, unit: UnitNumber)
+        ensures others { (k : ℕ) → k ≢ unit → has_unit self.new k ≡ has_unit self.old k }
+        ensures there { has_unit self.new unit ≡ true }
     {
-        self.words[number / 64] |= 1u64 << (number % 64);
+        self.words[unit.number / 64] |= 1u64 << (unit.number % 64);
     }
 
-    /// Takes the unit of this number out of the set, if it is there.
+    /// Takes a unit out of the set, if it is there.
     #[inline(always)]
-    pub fn remove(&mut self, number: usize)
-        requires { number < 320 }
-        ensures others { (k : ℕ) → k ≢ number → has_unit self.new k ≡ has_unit self.old k }
-        ensures gone { has_unit self.new number ≡ false }
+    pub fn remove(&mut self, unit: UnitNumber)
+        ensures others { (k : ℕ) → k ≢ unit → has_unit self.new k ≡ has_unit self.old k }
+        ensures gone { has_unit self.new unit ≡ false }
     {
-        self.words[number / 64] &= !(1u64 << (number % 64));
-    }
-
-    /// Puts the unit of this number into the set, or takes it out.
-    #[inline(always)]
-    pub fn note(&mut self, number: usize, is_in: bool)
-        requires { number < 320 }
-        ensures others { (k : ℕ) → k ≢ number → has_unit self.new k ≡ has_unit self.old k }
-        ensures there { has_unit self.new number ≡ is_in }
-    {
-        let bit = 1u64 << (number % 64);
-        let word = self.words[number / 64];
-        self.words[number / 64] = if is_in { word | bit } else { word & !bit };
+        self.words[unit.number / 64] &= !(1u64 << (unit.number % 64));
     }
 
     /// Puts a unit into the set, if `is_in`. One that is there already has to stay.
     #[inline(always)]
-    pub fn insert_if(&mut self, unit: UnitBit, is_in: bool)
+    pub fn insert_if(&mut self, unit: UnitNumber, is_in: bool)
         requires { has_unit self.old unit ≡ true → is_in ≡ true }
         ensures others { (k : ℕ) → k ≢ unit → has_unit self.new k ≡ has_unit self.old k }
         ensures there { has_unit self.new unit ≡ is_in }
     {
         if is_in {
-            self.words[unit.word] |= unit.bit;
+            self.insert(unit);
         }
     }
 
     /// Takes a unit out of the set, unless `is_in`. One that isn't there has to stay away.
     #[inline(always)]
-    pub fn remove_unless(&mut self, unit: UnitBit, is_in: bool)
+    pub fn remove_unless(&mut self, unit: UnitNumber, is_in: bool)
         requires { has_unit self.old unit ≡ false → is_in ≡ false }
         ensures others { (k : ℕ) → k ≢ unit → has_unit self.new k ≡ has_unit self.old k }
         ensures there { has_unit self.new unit ≡ is_in }
     {
         if !is_in {
-            self.words[unit.word] &= !unit.bit;
+            self.remove(unit);
         }
     }
 
@@ -224,6 +214,7 @@ impl UnitSet {
 
 /// The bits of a word that aren't set in the other.
 #[inline(always)]
+#[tactic(auto, using(crate::proofs::Set::bits_left))]
 fn bits_without(word: u64, other: u64) -> u64
     ensures { (i : ℕ) → i < 64 → has_bit result i ≡ has_bit word i && not (has_bit other i) }
 {

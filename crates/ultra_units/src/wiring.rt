@@ -10,7 +10,8 @@ ghost use Rattle.ultra_units.specs.Wiring.{neighbours};
 use crate::numbers::{
     positions, reply_sources, reply_target, request_sources, request_target, switch_count,
 };
-use crate::unit::{Numbering, Unit, place_of};
+use crate::unit::{Unit, place_from, place_of};
+use crate::unit_set::UnitNumber;
 use std::alloc::{AllocError, Global};
 use std::marker::Model;
 use ultra_route::Net;
@@ -88,21 +89,26 @@ fn widen(numbers: Ports<u16>) -> Ports<usize>
 /// The wiring of a network: which unit has a number, and what is beside each switch.
 #[derive(Drop)]
 pub struct Wiring {
-    numbering: Numbering,
+    net: Net,
+    /// The number of the first module. Switches come before it.
+    modules: usize,
+    /// The number of the first processing element.
+    elements: usize,
+    /// How many modules there are, and how many processing elements.
+    size: usize,
     /// By the number of the switch, where it is, and what is beside it.
     switches: Vec<Neighbours>,
 }
 
 impl Model for Wiring {
     ghost use Rattle.std.specs.Prelude.{ℕ};
-    ghost use Rattle.ultra_units.specs.Numbers.{switch_count};
-    ghost use Rattle.ultra_units.specs.Wiring.{AreNeighbours};
+    ghost use Rattle.ultra_units.specs.Wiring.{IsWired};
 
     ghost Value = { ℕ };
 
-    ghost view = { λ w. w.numbering };
+    ghost view = { λ w. w.net };
 
-    ghost invariant = { λ w. AreNeighbours w.numbering (switch_count w.numbering) w.switches.items };
+    ghost invariant = { λ w. IsWired w.net w.modules w.elements w.size w.switches.items };
 }
 
 impl Wiring {
@@ -110,14 +116,18 @@ impl Wiring {
     pub fn of(alloc: Global, net: Net) -> Result<Wiring, AllocError>
         ensures { IfOk result (λ w. w ≡ net) }
     {
-        let count = switch_count(net);
-        let mut switches = Vec::with_capacity(alloc, count)?;
-        for number in 0..count {
+        let modules = switch_count(net);
+        let size = net.size() as usize;
+        let mut switches = Vec::with_capacity(alloc, modules)?;
+        for number in 0..modules {
             let (stage, index) = place_of(net, number);
             switches.push(Neighbours::of(net, stage, index))?;
         }
         Ok(Wiring {
-            numbering: Numbering::of(net),
+            net,
+            modules,
+            elements: modules + size,
+            size,
             switches,
         })
     }
@@ -127,7 +137,7 @@ impl Wiring {
     pub fn net(&self) -> Net
         ensures { result ≡ self.now }
     {
-        self.numbering.net()
+        self.net
     }
 
     /// The unit with this number.
@@ -136,14 +146,21 @@ impl Wiring {
         ensures value { result ≡ unit_of self.now number }
         ensures is { IsUnit self.now number result }
     {
-        if self.numbering.is_of_switch(number) {
+        let _size = self.net.size();
+        if number < self.modules {
             let Neighbours { stage, index, .. } = self.beside(number);
             return Unit::Switch {
                 stage: u32::from(stage),
                 index: u32::from(index),
             };
         }
-        self.numbering.unit(number)
+        if number < self.elements {
+            return Unit::Module((number - self.modules) as u32);
+        }
+        match self.element(number) {
+            Some(pe) => Unit::Element(pe),
+            None => Unit::Nothing,
+        }
     }
 
     /// The module with this number, by its number among modules, or `None` where another unit or none has it.
@@ -152,7 +169,8 @@ impl Wiring {
         ensures value { result ≡ module_among (unit_of self.now number) }
         ensures is { IfSome result (IsModule self.now number) }
     {
-        self.numbering.module(number)
+        let (_size, _count) = (self.net.size(), switch_count(self.net));
+        place_from(number, self.modules, self.size)
     }
 
     /// The processing element with this number, by its number among those, or `None` where another unit or none has it.
@@ -161,7 +179,8 @@ impl Wiring {
         ensures value { result ≡ element_among (unit_of self.now number) }
         ensures is { IfSome result (IsElement self.now number) }
     {
-        self.numbering.element(number)
+        let (_size, _count) = (self.net.size(), switch_count(self.net));
+        place_from(number, self.elements, self.size)
     }
 
     /// What is beside a switch.
@@ -175,43 +194,43 @@ impl Wiring {
 
     /// The links by which requests come to a switch, by the PE-side port.
     #[inline(always)]
-    pub fn request_links(&self, number: usize) -> Ports<usize>
-        requires { number < count_of_switches self.now }
-        ensures { result ≡ links_of_requests self.now (stage_of self.now number) (index_of self.now number) }
+    pub fn request_links(&self, unit: UnitNumber) -> Ports<usize>
+        requires { unit < count_of_switches self.now }
+        ensures { result ≡ links_of_requests self.now (stage_of self.now unit) (index_of self.now unit) }
     {
-        widen(self.beside(number).request_links)
+        widen(self.beside(unit.number()).request_links)
     }
 
     /// The units to which requests go from a switch, by the memory-side port.
     #[inline(always)]
-    pub fn request_targets(&self, number: usize) -> Ports<usize>
-        requires { number < count_of_switches self.now }
-        ensures value { result ≡ targets_of_requests self.now (stage_of self.now number) (index_of self.now number) }
+    pub fn request_targets(&self, unit: UnitNumber) -> Ports<usize>
+        requires { unit < count_of_switches self.now }
+        ensures value { result ≡ targets_of_requests self.now (stage_of self.now unit) (index_of self.now unit) }
         ensures zero { result.zero < 320 }
         ensures one { result.one < 320 }
     {
-        let _stages = self.net().stages();
-        widen(self.beside(number).request_targets)
+        let _stages = self.net.stages();
+        widen(self.beside(unit.number()).request_targets)
     }
 
     /// The links by which replies come to a switch, by the memory-side port.
     #[inline(always)]
-    pub fn reply_links(&self, number: usize) -> Ports<usize>
-        requires { number < count_of_switches self.now }
-        ensures { result ≡ links_of_replies self.now (stage_of self.now number) (index_of self.now number) }
+    pub fn reply_links(&self, unit: UnitNumber) -> Ports<usize>
+        requires { unit < count_of_switches self.now }
+        ensures { result ≡ links_of_replies self.now (stage_of self.now unit) (index_of self.now unit) }
     {
-        widen(self.beside(number).reply_links)
+        widen(self.beside(unit.number()).reply_links)
     }
 
     /// The units to which replies go from a switch, by the PE-side port.
     #[inline(always)]
-    pub fn reply_targets(&self, number: usize) -> Ports<usize>
-        requires { number < count_of_switches self.now }
-        ensures value { result ≡ targets_of_replies self.now (stage_of self.now number) (index_of self.now number) }
+    pub fn reply_targets(&self, unit: UnitNumber) -> Ports<usize>
+        requires { unit < count_of_switches self.now }
+        ensures value { result ≡ targets_of_replies self.now (stage_of self.now unit) (index_of self.now unit) }
         ensures zero { result.zero < 320 }
         ensures one { result.one < 320 }
     {
-        let _stages = self.net().stages();
-        widen(self.beside(number).reply_targets)
+        let _stages = self.net.stages();
+        widen(self.beside(unit.number()).reply_targets)
     }
 }

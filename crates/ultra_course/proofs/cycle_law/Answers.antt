@@ -1,4 +1,4 @@
-use Rattle.ultra_course.proofs.Steps.{cycle_law}
+use Rattle.ultra_course.proofs.Phases.{cycle_law}
 use Rattle.ultra_course.proofs.cycle_law.Goals as goal
 
 pub returns : goal.returns

@@ -1,7 +1,7 @@
 use Rattle.std.proofs.Common.{◌∙◌, arith}
 use Rattle.ultra_section.specs.declared.half.Half.TheVariants.{Execute}
 use Rattle.ultra_cut.specs.Halves.{AllCanMake}
-use Rattle.ultra_cut.proofs.OwnProgram.{all_by_own}
+use Rattle.ultra_cut.proofs.Halves.{all_by_own}
 use Rattle.ultra_cut.proofs.Whole.{can_execute, can_serve, can_take_replies, can_take_requests, next_machine, next_whole, sent_cut, sent_on_cut, sent_on_single, sent_single}
 use Rattle.ultra_block.proofs.cycle.make_cycle_of_several.Goals as goal
 

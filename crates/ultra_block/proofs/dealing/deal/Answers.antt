@@ -1,8 +1,7 @@
 use Rattle.std.proofs.Common.{◌≡◌, ◌<◌, length, refl, arith}
 use Rattle.std.proofs.lemmas.List.{get_or_default, length-replicate, length-set}
 use Rattle.ultra_cut.specs.Cut.{block_at, home}
-use Rattle.ultra_block.proofs.Carried.{none_carried, unit_carried}
-use Rattle.ultra_block.proofs.Parted.{is_dealt}
+use Rattle.ultra_block.proofs.Dealt.{is_dealt, none_carried, unit_carried}
 use Rattle.ultra_block.proofs.dealing.deal.Goals as goal
 
 pub loop-unit-init : goal.loop-unit-init
@@ -19,8 +18,7 @@ loop-unit-preserved c =
     let h = home c.args.partition.now c.loop-unit.unit in
     let within : h < length bs = grind (arith, length-replicate, length-set) in
     let carried = unit_carried b.stages c.args.partition.now b c.loop-unit.unit c.loop-unit.block bs within c.loop-unit.invariant.carried in
-    let item : c.index_mut-in-loop-unit.result.now ≡ block_at bs h = grind (arith, get_or_default) in
-    rw (c.move_unit.ensures.left, c.move_unit.ensures.there, item) record { carried = carried; count = grind (arith, length-set) }
+    grind (arith, get_or_default, length-set)
 
 pub returns-clause-dealt : goal.returns-clause-dealt
 returns-clause-dealt c =

@@ -1,5 +1,5 @@
 use Rattle.std.proofs.Common.{◌≡◌, length}
-use Rattle.ultra_block.proofs.Carried.{AreCarried}
+use Rattle.ultra_block.proofs.Dealt.{AreCarried}
 use Rattle.ultra_block.proofs.dealing.deal.Given as goal
 
 abbrev pub invariant-loop-unit : goal.invariant-loop-unit

@@ -1,11 +1,6 @@
-use Rattle.std.proofs.Common.{rules, sym, subst}
-use Rattle.ultra_cut.specs.declared.kind.Kind.TheVariants.{Replies}
-use Rattle.ultra_cut.specs.Exchange.{AreThere}
-use Rattle.ultra_crew.proofs.Held.{held}
+use Rattle.std.proofs.Common.{arith}
+use Rattle.std.proofs.lemmas.List.{with_items_is}
 use Rattle.ultra_crew.proofs.moves.with_replies_exchanged.Goals as goal
 
 pub returns-clause-there : goal.returns-clause-there
-returns-clause-there c =
-    subst (λ xs. AreThere Replies c.args.net c.args.partition.now xs)
-    (sym (held c.args.blocks c.as_mut_slice.result.now c.exchange_replies.new.blocks c.exchange_replies.ensures.only.count (search rules)))
-    c.exchange_replies.ensures.there
+returns-clause-there c = rw (with_items_is c.args.blocks c.exchange_replies.new.blocks (grind arith)) c.exchange_replies.ensures.there

@@ -1,7 +1,7 @@
 use Rattle.std.proofs.Common.{◌≡◌, ◌∙◌, arith}
 use Rattle.std.proofs.lemmas.List.{get_or_default}
 use Rattle.ultra_cut.specs.Cut.{block_at}
-use Rattle.ultra_cut.proofs.Held.{all_below, next_below}
+use Rattle.ultra_cut.proofs.Questions.{all_below, next_below}
 use Rattle.ultra_cut.proofs.holding.holders.Goals as goal
 
 pub loop-block-preserved : goal.loop-block-preserved

@@ -4,7 +4,7 @@ use Rattle.ultra_model.specs.declared.Stop.{Stop}
 use Rattle.ultra_model.specs.Machine.{Settings}
 use Rattle.ultra_cut.specs.Halves.{AreBlocks}
 use Rattle.ultra_section.specs.Holding.{IsSetOf}
-use Rattle.ultra_cut.proofs.Held.{below}
+use Rattle.ultra_cut.proofs.Questions.{below}
 use Rattle.ultra_cut.proofs.holding.holders.Given as goal
 
 abbrev pub invariant-loop-block : goal.invariant-loop-block

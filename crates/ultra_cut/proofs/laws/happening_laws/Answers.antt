@@ -1,6 +1,6 @@
-use Rattle.ultra_cut.proofs.Happenings.{happenings_law, in_order_law}
-use Rattle.ultra_cut.proofs.Listing.{events_added_law}
+use Rattle.ultra_cut.proofs.Happenings.{happenings_law, listed_behind_law, merged_law}
+use Rattle.ultra_cut.proofs.Halves.{added_law}
 use Rattle.ultra_cut.proofs.laws.happening_laws.Goals as goal
 
 pub returns : goal.returns
-returns c = record { merged = happenings_law; added = events_added_law; in_order = in_order_law }
+returns c = record { happens = happenings_law; added = added_law; behind = listed_behind_law; merged = merged_law }

@@ -1,5 +1,5 @@
 use Rattle.std.proofs.Common.{◌∙◌, arith}
-use Rattle.ultra_cut.proofs.QuietMachine.{quiet_is}
+use Rattle.ultra_cut.proofs.Questions.{quiet_is}
 use Rattle.ultra_cut.proofs.quiet.are_quiet.Goals as goal
 
 pub returns-then-not-is_one_stepping : goal.returns-then-not-is_one_stepping

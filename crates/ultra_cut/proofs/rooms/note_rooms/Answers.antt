@@ -1,7 +1,7 @@
 use Rattle.std.proofs.Common.{◌≡◌, arith}
 use Rattle.std.proofs.lemmas.List.{get_or_default}
 use Rattle.ultra_cut.specs.Cut.{block_at}
-use Rattle.ultra_cut.proofs.Noted.{next_noted, rooms_are}
+use Rattle.ultra_cut.proofs.Questions.{next_noted, rooms_are}
 use Rattle.ultra_cut.proofs.rooms.note_rooms.Goals as goal
 
 pub loop-block-preserved : goal.loop-block-preserved

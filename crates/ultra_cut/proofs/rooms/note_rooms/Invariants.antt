@@ -1,6 +1,6 @@
 use Rattle.std.proofs.Common.{ℕ, List}
 use Rattle.ultra_cut.specs.Halves.{AreBlocks}
-use Rattle.ultra_cut.proofs.Noted.{HaveNoted}
+use Rattle.ultra_cut.proofs.Questions.{HaveNoted}
 use Rattle.ultra_cut.proofs.rooms.note_rooms.Given as goal
 
 abbrev pub invariant-loop-block : goal.invariant-loop-block

@@ -14,9 +14,9 @@ loop-next-preserved g c =
     let f = g.V.Visit.visited c.args.visit.now in
     let unit = c.in-Some.unit in
     let within = c.loop-next.invariant.0 unit c.in-Some.is in
-    let visited = visited_next f c.args.target.now c.loop-next.target c.visit.new.target unit (rw (c.in-Some.is) at c.loop-next.invariant.1) c.visit.ensures.visited in
+    let visited = visited_next f c.args.target.now c.loop-next.target c.visit.new.target unit (rw (c.in-Some.is) at c.loop-next.invariant.1) (rw (c.of.ensures) at c.visit.ensures.visited) in
     let there = reached f c.args.target.now c.visit.new.target _ c.units-in-Some.ensures (unit + 1) (omega arith) visited c.next_after-next.result c.next_after-next.ensures.some c.next_after-next.ensures.none in (
       there.within,
       there.visited,
-      λ k after small. c.visit.ensures.later k (omega (arith, there.after)) (c.loop-next.invariant.2 k (rw (c.in-Some.is) (omega (arith, there.after))) small),
+      λ k after small. (rw (c.of.ensures) at c.visit.ensures.later) k (omega (arith, there.after)) (c.loop-next.invariant.2 k (rw (c.in-Some.is) (omega (arith, there.after))) small),
     )

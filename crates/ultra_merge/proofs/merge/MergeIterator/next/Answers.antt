@@ -10,19 +10,13 @@ pub invariant_of-self : goal.invariant_of-self
 invariant_of-self g c =
     let next = rw (← c.self.view_is) at c.in_ok-front.ensures.some in
     let taken = rw c.deref_mut.ensures.value at c.take_first.ensures in
-    rw c.deref_mut.ensures.value
-    (left_ranked (g.R.Ranking.rank_of c.self.inside.ranking) (g.R.Ranking.rank_count c.self.inside.ranking)
-    c.self.inside.lists.items c.self.invariant c.in_ok-front.front.place c.in_ok-front.front.rank next
-    c.index-deref_mut-front.result c.take_first.new.list c.take_first.result taken)
+    rw c.deref_mut.ensures.value (search (arith, left_ranked))
 
 pub returns-clause-steps : goal.returns-clause-steps
 returns-clause-steps g c =
     let next = rw (← c.self.view_is) at c.in_ok-front.ensures.some in
     let taken = rw c.deref_mut.ensures.value at c.take_first.ensures in
-    rw (← c.self.view_is, c.deref_mut.ensures.value)
-    (left_merged (g.R.Ranking.rank_of c.self.inside.ranking) (g.R.Ranking.rank_count c.self.inside.ranking)
-    c.self.inside.lists.items c.self.invariant c.in_ok-front.front.place c.in_ok-front.front.rank next
-    c.index-deref_mut-front.result c.take_first.new.list c.take_first.result taken)
+    rw (← c.self.view_is, c.deref_mut.ensures.value) (search (arith, left_merged))
 
 pub returns-clause-goes : goal.returns-clause-goes
 returns-clause-goes g c = grind (arith, returns-clause-steps)

@@ -1,4 +1,4 @@
-use Rattle.std.proofs.Common.{arith, ◌<◌, Some, sym, subst}
+use Rattle.std.proofs.Common.{arith, ◌<◌, Some, refl, sym, subst}
 use Rattle.ultra_units.specs.Numbers.{switch_count}
 use Rattle.ultra_section.specs.BlockState.{BlockState}
 use Rattle.ultra_section.proofs.Known.{switch_known, still_kept}
@@ -6,9 +6,7 @@ use Rattle.ultra_section.proofs.block.Block.put_switch.Goals as goal
 
 pub invariant_of-self : goal.invariant_of-self
 invariant_of-self c =
-    let inside = c.self.inside in
     let known = c.self.invariant in
-    let within : c.args.number < switch_count inside.net = subst (λ (b : BlockState). c.args.number < switch_count b.stages) (sym c.self.view_is) c.requires in
-    let there = c.stand_switch.ensures.there in
-    still_kept known (switch_known known.units c.args.number (Some c.args.switch) within c.stand_switch.ensures.others there)
+    let within = subst (λ (b : BlockState). c.args.number < switch_count b.stages) (sym c.self.view_is) c.requires in
+    still_kept known (switch_known known.units (rw (c.of.ensures) at c.stand_switch.ensures) (Some c.args.switch) within refl)
     known.rests known.replies known.requests (omega arith) (omega arith)

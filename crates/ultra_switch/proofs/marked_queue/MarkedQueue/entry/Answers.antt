@@ -11,4 +11,4 @@ has-requires c =
     omega (arith, within, c.self.invariant.within, c.self.invariant.most)
 
 pub returns : goal.returns
-returns c = rw (← c.self.view_is, c.has.ensures) (get-marked_by c.self.inside.marks c.args.place c.self.inside.requests.items c.get.result c.get.ensures)
+returns c = rw (← c.self.view_is, c.has.ensures, c.request.ensures) (get-marked_by c.self.inside.marks c.args.place c.self.inside.requests.items c.get.result c.get.ensures)

@@ -3,7 +3,7 @@ use Rattle.ultra_units.proofs.Set.{inserted_there, inserted_others}
 use Rattle.ultra_units.proofs.unit_set.UnitSet.insert.Goals as goal
 
 pub returns-clause-others : goal.returns-clause-others
-returns-clause-others c = grind (arith, inserted_others)
+returns-clause-others c = λ k other. grind (arith, inserted_others)
 
 pub returns-clause-there : goal.returns-clause-there
-returns-clause-there c = inserted_there c.self.inside.words c.args.number (omega arith)
+returns-clause-there c = grind (arith, inserted_there)

@@ -1,0 +1,212 @@
+-- A machine that stands in one block is dealt to the blocks that a partition names: it stays the same machine.
+use Rattle.std.proofs.Common.{◌≡◌, ◌≢◌, ℕ, zero, suc, ◌+◌, ◌*◌, ◌^◌, ◌<◌, ◌≤◌, List, [], ◌∷◌, Option, None, Bool, true, false, length, map, replicate, set, refl, sym, ◌∙◌, subst, ap, arith, get_or-set_same, get_or-set_other}
+use Rattle.std.specs.Prelude.{◌==◌, All, is_some}
+use Rattle.std.proofs.lemmas.Grind.{common_steps}
+use Rattle.std.proofs.lemmas.Bool.{eq-eqb}
+use Rattle.std.proofs.lemmas.Bool.Decides.{nat_tests}
+use Rattle.std.proofs.lemmas.List.{get_or-replicate, get_or_past, length-replicate, length-set, replicate-append-replicate}
+use Rattle.ultra_isa.specs.declared.Instr.{Instr}
+use Rattle.ultra_model.specs.Places.{joined, places}
+use Rattle.ultra_model.specs.Machine.{Settings}
+use Rattle.ultra_units.specs.Numbers.{unit_count}
+use Rattle.ultra_units.proofs.Marks.{length-put_on}
+use Rattle.ultra_units.proofs.Put.{put_apart, put_there}
+use Rattle.ultra_section.specs.Away.{stands}
+use Rattle.ultra_section.specs.BlockState.{BlockState}
+use Rattle.ultra_section.specs.Building.{with_unit, without_unit}
+use Rattle.ultra_section.specs.Marks.{on_link}
+use Rattle.ultra_section.specs.Shape.{IsShaped}
+use Rattle.ultra_section.proofs.OfKind.{by_kind}
+use Rattle.ultra_course.specs.Frame.{AreAlike}
+use Rattle.ultra_course.proofs.AtFrame.{whole_alike}
+use Rattle.ultra_merge.specs.Merging.{merged, of_rank}
+use Rattle.ultra_cut.specs.Cut.{block_at, first, frame_of, given, home, no_block}
+use Rattle.ultra_cut.specs.Events.{IsInOrder, event_rank, events_of, stop_rank, stops_of}
+use Rattle.ultra_cut.specs.Halves.{AreBlocks, OfEach}
+use Rattle.ultra_cut.specs.Moments.{AreWhole, machine_in}
+use Rattle.ultra_cut.proofs.Units.{Sort, switches, modules, elements}
+use Rattle.ultra_block.specs.Dealt.{IsDealt, IsLastNamed, empty_beside}
+
+-- ---- one block put for another
+module _ (bs : List BlockState) (h : ℕ) (x : BlockState) where
+  block_now : h < length bs → block_at (set bs h x) h ≡ x
+  block_now within = get_or-set_same bs h x no_block within
+
+  block_still : (k : ℕ) → k ≢ h → block_at (set bs h x) k ≡ block_at bs k
+  block_still k other = get_or-set_other bs h k x no_block other
+
+-- ---- blocks that list what others list
+module _ {X : Type 0} (list : BlockState → List X) (nothing : list no_block ≡ []) where
+  same_joined : (bs now : List BlockState) → length bs ≤ length now → ((k : ℕ) → list (block_at now k) ≡ list (block_at bs k)) → joined (map list now) ≡ joined (map list bs)
+  same_joined [] [] less same = refl
+  same_joined (b ∷ bs) [] less same = absurd (omega arith)
+  same_joined [] (x ∷ now) less same = rw (same 0, nothing) (same_joined [] now (omega arith) (λ k. same (suc k)))
+  same_joined (b ∷ bs) (x ∷ now) less same = rw (same 0, same_joined bs now (omega arith) (λ k. same (suc k))) refl
+
+-- ---- blocks of a machine of d stages, which stood in block b
+-- what there is, if it belongs here
+abbrev only_if : {X : Type 0} → Bool → Option X → Option X
+only_if true o = o
+only_if false o = None
+
+module _ (d : ℕ) (partition : List ℕ) (b : BlockState) where
+  -- but for units and lists it is as block b with nothing on its links
+  pub record IsBeside (x : BlockState) : Type 0 where
+    pub shaped : IsShaped d x
+    runs : x.program ≡ b.program
+    done : x.done ≡ b.done
+    replies : x.replies ≡ replicate ((d + 1) * 2 ^ d) None
+    requests : x.requests ≡ replicate ((d + 1) * 2 ^ d) None
+
+  -- of the units of a sort those with numbers below n stand in their blocks, and the others are left
+  record SortIsCarried {X : Type 0} (sort : Sort X) (n : ℕ) (left : BlockState) (now : List BlockState) : Type 0 where
+    rest : (i : ℕ) → i < sort.count d → n ≤ sort.number d i → sort.at left i ≡ sort.at b i
+    there : (k i : ℕ) → k < length now → i < sort.count d → sort.number d i < n
+        → sort.at (block_at now k) i ≡ only_if (home partition (sort.number d i) == k) (sort.at b i)
+    nowhere : (k i : ℕ) → k < length now → i < sort.count d → n ≤ sort.number d i → sort.at (block_at now k) i ≡ None
+
+  -- block 0 lists what block b listed
+  pub record AreCarried (n : ℕ) (left : BlockState) (now : List BlockState) : Type 0 where
+    pub stages : left.stages ≡ d
+    pub beside : OfEach IsBeside now
+    events : (k : ℕ) → (block_at now k).events ≡ (block_at (b ∷ []) k).events
+    stops : (k : ℕ) → (block_at now k).stops ≡ (block_at (b ∷ []) k).stops
+    switches : SortIsCarried switches n left now
+    modules : SortIsCarried modules n left now
+    elements : SortIsCarried elements n left now
+
+  -- ---- no unit yet
+  pub none_carried : (count : ℕ) (x left : BlockState) (bs : List BlockState) → b.stages ≡ d → 0 < count → bs ≡ replicate count (empty_beside b)
+      → x ≡ record (block_at bs 0) { events = b.events; stops = b.stops } → left ≡ record b { events = left.events; stops = left.stops } → AreCarried 0 left (set bs 0 x)
+  none_carried count x left bs stages some are is rest =
+      let long = length-set bs 0 x in
+      let here = block_now bs 0 x (grind (arith, length-replicate)) in
+      grind (arith, block_still, get_or-replicate, get_or_past, length-replicate)
+
+  -- ---- one unit more
+  module _ (n : ℕ) (left : BlockState) (now : List BlockState) (within : home partition n < length now) (was : AreCarried n left now) where
+    abbrev h : ℕ
+    h = home partition n
+
+    abbrev y : BlockState
+    y = with_unit n left (block_at now h)
+
+    -- what there is of a sort in block h then, and in what is left
+    record HasMoved {X : Type 0} (sort : Sort X) : Type 0 where
+      own : (i : ℕ) → i < sort.count d → sort.number d i ≡ n → sort.at (block_at now h) i ≡ None → sort.at y i ≡ sort.at left i
+      other : (i : ℕ) → i < sort.count d → sort.number d i ≢ n → sort.at y i ≡ sort.at (block_at now h) i
+      stays : (i : ℕ) → i < sort.count d → sort.number d i ≢ n → sort.at (without_unit n left) i ≡ sort.at left i
+
+    sort_next : {X : Type 0} (sort : Sort X) → HasMoved sort → SortIsCarried sort n left now → SortIsCarried sort (n + 1) (without_unit n left) (set now h y)
+    sort_next sort moved carried =
+        let long = length-set now h y in
+        let here = block_now now h y within in
+        grind (arith, block_still)
+
+    still_beside : IsBeside y
+    still_beside = grind (arith, length-put_on)
+
+    pub unit_carried : AreCarried (n + 1) (without_unit n left) (set now h y)
+    unit_carried =
+        let shaped = (was.beside h within).shaped in
+        let switches = sort_next switches (grind (arith, put_there, put_apart, get_or-set_other)) was.switches in
+        let modules = sort_next modules (grind (arith, put_there, put_apart, get_or-set_other)) was.modules in
+        let elements = sort_next elements (grind (arith, put_there, put_apart, get_or-set_other)) was.elements in
+        grind (arith, block_now, block_still, still_beside, length-set)
+
+-- ---- all units
+some_only : {X : Type 0} (e : Bool) (o : Option X) → is_some o ≡ true → is_some (only_if e o) ≡ e
+some_only e o some = grind arith
+
+-- nothing is on a link that is empty in each block
+none_first : {X : Type 0} (links : BlockState → List (Option X)) (count l : ℕ) (bs : List BlockState) → l < count → OfEach (λ b. links b ≡ replicate count None) bs
+    → first (map (λ b. on_link (links b) l) bs) ≡ None
+none_first links count l [] h empty = refl
+none_first {X = X} links count l (b ∷ bs) h empty = rw (empty 0 (omega arith), get_or-replicate {A = Option X} count l None None h) (none_first links count l bs h (λ k small. empty (suc k) (omega arith)))
+
+in_order_at : (d k : ℕ) (x b : BlockState) → x.events ≡ (block_at (b ∷ []) k).events → x.stops ≡ (block_at (b ∷ []) k).stops → IsInOrder d b → IsInOrder d x
+in_order_at d zero x b events stops order = grind arith
+in_order_at d (suc k) x b events stops order = grind arith
+
+module _ (c : Settings) (program : List Instr) (was : List ℕ) (n : ℕ) (b : BlockState) (whole : AreWhole c program was n (b ∷ [])) (partition : List ℕ) (left : BlockState) (now : List BlockState)
+    (carried : AreCarried c.stages partition b (unit_count c.stages) left now) (count : length partition ≡ unit_count c.stages) (named : All (λ (k : ℕ). k < length now) partition) (some : 1 ≤ length now) where
+  abbrev d : ℕ
+  d = c.stages
+
+  -- ---- where units stand
+  homes : (u : ℕ) → u < unit_count d → home partition u < length now
+  homes u h = named u 0 (omega arith)
+
+  home_was : (u : ℕ) → u < unit_count d → home was u ≡ 0
+  home_was u h = let at = whole.machine.blocks.cut.homes u h in omega arith
+
+  module _ {X : Type 0} (sort : Sort X) (there : SortIsCarried d partition b sort (unit_count d) left now) (i : ℕ) (small : i < sort.count d) where
+    abbrev u : ℕ
+    u = sort.number d i
+
+    sort_stands : (k : ℕ) → k < length now → stands u (block_at now k) ≡ (home partition u == k)
+    sort_stands k h =
+        let stood = whole.machine.blocks.cut.stand 0 u (omega arith) (sort.small d i small) in
+        let was_here = sort.stand d b (whole.machine.blocks.cut.stages 0 (omega arith)) i small in
+        let here = sort.stand d (block_at now k) (carried.beside k h).shaped.stages i small in
+        grind (arith, some_only, home_was)
+
+    alike_at : given sort.nothing (sort.at (block_at now (home partition u)) i) ≡ given sort.nothing (sort.at (block_at (b ∷ []) (home was u)) i)
+    alike_at =
+        let at_home = homes u (sort.small d i small) in
+        let first = home_was u (sort.small d i small) in
+        grind (arith, eq-eqb)
+
+  stand_now : (k : ℕ) → k < length now → (u : ℕ) → u < unit_count d → stands u (block_at now k) ≡ (home partition u == k)
+  stand_now k h =
+      by_kind d (λ u. u < unit_count d → stands u (block_at now k) ≡ (home partition u == k))
+      (λ i is small. sort_stands switches carried.switches i is k h)
+      (λ i is small. sort_stands modules carried.modules i is k h)
+      (λ i is small. sort_stands elements carried.elements i is k h)
+      (λ u past small. absurd (omega arith))
+
+  are_blocks : AreBlocks d partition now
+  are_blocks = grind (arith, homes, stand_now)
+
+  -- ---- they are the same machine
+  alike : AreAlike d (frame_of d partition now) (frame_of d was (b ∷ []))
+  alike = record {
+    switches = alike_at switches carried.switches;
+    banks = alike_at modules carried.modules;
+    elements = alike_at elements carried.elements;
+    replies = λ l h. none_first (λ x. x.replies) ((d + 1) * 2 ^ d) l now h (λ k hk. (carried.beside k hk).replies) ∙ sym (whole.clear.replies l h);
+    requests = λ l h. none_first (λ x. x.requests) ((d + 1) * 2 ^ d) l now h (λ k hk. (carried.beside k hk).requests) ∙ sym (whole.clear.requests l h);
+  }
+
+  same_events : events_of d now ≡ events_of d (b ∷ [])
+  unfolding events_of merged
+  same_events = ap (λ all. joined (places 1280 (λ i. of_rank (event_rank d) i all))) (same_joined (λ x. x.events) refl (b ∷ []) now some carried.events)
+
+  same_stops : stops_of d now ≡ stops_of d (b ∷ [])
+  unfolding stops_of merged
+  same_stops = ap (λ all. joined (places 64 (λ i. of_rank stop_rank i all))) (same_joined (λ x. x.stops) refl (b ∷ []) now some carried.stops)
+
+  same_machine : machine_in c partition n now ≡ machine_in c was n (b ∷ [])
+  same_machine = grind (arith, whole_alike c whole.machine.machine.range (frame_of d partition now) (frame_of d was (b ∷ [])) alike, same_events, same_stops)
+
+  still_whole : AreWhole c program partition n now
+  still_whole = record {
+    machine = grind (arith, same_machine, alike, are_blocks);
+    clear = grind (arith, alike);
+    in_order = λ k h. in_order_at d k (block_at now k) b (carried.events k) (carried.stops k) (whole.in_order 0 (omega arith));
+  }
+
+module _ (partition : List ℕ) (b left : BlockState) (now : List BlockState) (u : ℕ) (all : u ≡ length partition) (carried : AreCarried b.stages partition b u left now)
+    (few : length now ≤ 64) (last : IsLastNamed partition (length now)) (named : All (λ (k : ℕ). k < length now) partition) where
+  pub is_dealt : IsDealt partition b now
+  is_dealt = record {
+    few = few;
+    last = last;
+    whole = λ c program was n is whole.
+        let count : length partition ≡ unit_count c.stages = grind (arith, nat_tests) in
+        let stages = whole.machine.blocks.cut.stages 0 (omega arith) in
+        let at : AreCarried c.stages partition b (unit_count c.stages) left now = subst (λ e. AreCarried e partition b (unit_count c.stages) left now) stages (rw (all, count) at carried) in
+        (still_whole c program was n b whole partition left now at count named last.0, same_machine c program was n b whole partition left now at count named last.0);
+  }
+
+pub ruleset more_empty = (common_steps, replicate-append-replicate)

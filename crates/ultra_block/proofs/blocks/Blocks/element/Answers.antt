@@ -1,6 +1,0 @@
-use Rattle.std.proofs.Common.{arith}
-use Rattle.ultra_course.proofs.AtFrame.{element_is}
-use Rattle.ultra_block.proofs.blocks.Blocks.element.Goals as goal
-
-pub returns-clause-state : goal.returns-clause-state
-returns-clause-state c = grind (arith, element_is)

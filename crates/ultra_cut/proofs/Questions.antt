@@ -1,0 +1,205 @@
+-- What is asked of all blocks: where there is no room, which units hold something, and whether anything is left to do. What
+-- they answer is true of the whole machine that they make up.
+use Rattle.std.proofs.Common.{◌≡◌, ℕ, ◌+◌, ◌^◌, ◌<◌, List, Bool, length, arith, [], ◌∷◌, refl, ◌*◌, ◌/◌, ◌≤◌, true, subst, get_or, None}
+use Rattle.std.specs.Prelude.{◌&&◌, is_some, nat_lt, not, ◌==◌, ◌||◌}
+use Rattle.std.specs.List.{list_all}
+use Rattle.std.proofs.lemmas.List.Elements.{All-from_get_or}
+use Rattle.std.proofs.lemmas.List.Sums.{AllPass-from_list_all, list_all-from_AllPass}
+use Rattle.ultra_msg.specs.declared.Event.{Event}
+use Rattle.ultra_msg.specs.declared.ReplyMessage.{ReplyMessage}
+use Rattle.ultra_route.proofs.Table.{sizes}
+use Rattle.ultra_switch.specs.Arrive.{Lane}
+use Rattle.ultra_isa.specs.Step.{has_stopped}
+use Rattle.ultra_model.specs.declared.Stop.{Stop}
+use Rattle.ultra_model.specs.Machine.{Settings, Element, size, is_empty, is_quiet}
+use Rattle.ultra_model.specs.Places.{places, table}
+use Rattle.ultra_model.proofs.Each.{places_at, length-places}
+use Rattle.ultra_units.specs.Set.{has_unit}
+use Rattle.ultra_units.specs.Numbers.{switch_count, module_number, switch_number}
+use Rattle.ultra_units.proofs.Set.{none_there}
+use Rattle.ultra_halves.specs.Switches.{has_reply_room, has_request_room, quiet_switch}
+use Rattle.ultra_halves.specs.Halves.{has_none}
+use Rattle.ultra_halves.specs.Modules.{quiet_bank}
+use Rattle.ultra_halves.specs.Elements.{element_of, quiet_element}
+use Rattle.ultra_halves.specs.declared.elements.ProcessingElement.{ProcessingElement}
+use Rattle.ultra_section.specs.BlockState.{BlockState}
+use Rattle.ultra_section.specs.Rooms.{HasNoted, AreOwnRooms, all_open}
+use Rattle.ultra_section.specs.declared.rooms.Rooms.{Rooms}
+use Rattle.ultra_section.specs.declared.held.Held.{Held}
+use Rattle.ultra_section.specs.Holding.{holds_at, switch_holds, module_holds, element_holds}
+use Rattle.ultra_section.proofs.Standing.{is_switch, unit_of_module, unit_of_element}
+use Rattle.ultra_section.proofs.OfKind.{by_kind, unit_of_none}
+use Rattle.ultra_section.specs.Units.{index_of, stage_of}
+use Rattle.ultra_section.specs.Quiet.{or_elsewhere, quiet_block}
+use Rattle.ultra_course.specs.Frame.{AreRooms, Frame}
+use Rattle.ultra_course.specs.Whole.{whole, sized_lane, sized_replies}
+use Rattle.ultra_course.proofs.AtFrame.{lane_is, replies_is, bank_is, element_is}
+use Rattle.ultra_cut.specs.Cut.{IsCut, block_at, frame_of, home, no_block}
+use Rattle.ultra_cut.specs.Halves.{noted, AreBlocks}
+use Rattle.ultra_cut.specs.Moments.{AreRoomsOfAll}
+use Rattle.ultra_cut.specs.Holding.{holds}
+use Rattle.ultra_cut.proofs.Numbers.{one_more}
+use Rattle.ultra_cut.proofs.Units.{if_home, modules, switches, elements, Sort, here, unit, there}
+
+-- ---- rooms, as blocks note them one after another: of a unit without room, once its home has
+
+module _ (d : ℕ) (partition : List ℕ) (bs : List BlockState) where
+  abbrev frame : Frame
+  frame = frame_of d partition bs
+
+  -- what the blocks below i have noted
+  pub record HaveNoted (i : ℕ) (rooms : Rooms) : Type 0 where
+    pub replies : (n : ℕ) → n < switch_count d
+        → has_unit rooms.no_reply_room n ≡ (nat_lt (home partition n) i && not (has_reply_room (frame.switch n)))
+    pub zero_port : (n : ℕ) → n < switch_count d
+        → has_unit rooms.no_request_room.zero n ≡ (nat_lt (home partition n) i && not (has_request_room (frame.switch n)).zero)
+    pub one_port : (n : ℕ) → n < switch_count d
+        → has_unit rooms.no_request_room.one n ≡ (nat_lt (home partition n) i && not (has_request_room (frame.switch n)).one)
+    pub modules : (m : ℕ) → m < 2 ^ d
+        → has_unit rooms.no_request_room.zero (module_number d m) ≡ (nat_lt (home partition (module_number d m)) i && is_some (frame.bank m).inp)
+
+  module _ (cut : IsCut d partition bs) where
+    -- block i notes its own
+    module _ (i : ℕ) (within : i < length bs) (old now : Rooms) (before : HaveNoted i old) (notes : HasNoted (block_at bs i) old now) where
+      pub next_noted : HaveNoted (i + 1) now
+      next_noted =
+          let stages = cut.stages i within in
+          record {
+            replies = λ n h. one_more _ i _ (before.replies n h) (if_home switches d partition bs cut n h (λ w. not (has_reply_room w)) i within) (notes.replies n (rw stages h));
+            zero_port = λ n h. one_more _ i _ (before.zero_port n h) (if_home switches d partition bs cut n h (λ w. not (has_request_room w).zero) i within) (notes.requests_zero n (rw stages h));
+            one_port = λ n h. one_more _ i _ (before.one_port n h) (if_home switches d partition bs cut n h (λ w. not (has_request_room w).one) i within) (notes.requests_one n (rw stages h));
+            modules = λ m h. one_more _ i _ (before.modules m h) (if_home modules d partition bs cut m h (λ bank. is_some bank.inp) i within) (rw stages at (notes.modules m (rw stages h)));
+          }
+
+    -- all have noted theirs
+    module _ (rooms : Rooms) (i : ℕ) (all : i ≡ length bs) (have : HaveNoted i rooms) where
+      pub rooms_are : AreRooms d frame (noted d rooms)
+      rooms_are = grind arith
+
+-- in a machine that stands in one block its own rooms are all there are
+pub own_are_all : (b : BlockState) (rooms : Rooms) → AreOwnRooms b rooms → AreRoomsOfAll (b ∷ []) rooms
+own_are_all b rooms own = λ d partition are.
+    let none : HaveNoted d partition (b ∷ []) 0 all_open = let nowhere = none_there 5 in grind arith in
+    rooms_are d partition (b ∷ []) are.cut rooms 1 refl (next_noted d partition (b ∷ []) are.cut 0 (omega arith) all_open rooms none own)
+
+-- ---- which units hold something, as blocks say it one after another
+
+module _ (c : Settings) (partition : List ℕ) (bs : List BlockState) (are : AreBlocks c.stages partition bs) (n : ℕ) (events : List Event) (stops : List Stop) (held : Held) where
+  abbrev f : Frame
+  f = frame_of c.stages partition bs
+
+  abbrev pub whole_holds : ℕ → Bool
+  whole_holds u = holds c.stages (whole c f n events stops) held u
+
+  -- block i holds what its own units do
+  module _ (i : ℕ) (within : i < length bs) where
+    holds_here : (u : ℕ) → holds_at (block_at bs i) held u ≡ ((home partition u == i) && whole_holds u)
+    holds_here =
+        let stages = are.cut.stages i within in
+        by_kind c.stages (λ u. holds_at (block_at bs i) held u ≡ ((home partition u == i) && whole_holds u))
+        (λ u h. let mine = if_home switches c.stages partition bs are.cut u h (switch_holds held) i within in let two = sizes c.stages are.some_stages are.few_stages in grind (arith, is_switch, replies_is, lane_is))
+        (λ j h. let mine = if_home modules c.stages partition bs are.cut j h (module_holds held) i within in grind (arith, unit_of_module, bank_is))
+        (λ p h. let mine = if_home elements c.stages partition bs are.cut p h (element_holds held) i within in grind (arith, unit_of_element, element_is))
+        (grind (arith, unit_of_none))
+
+  -- of the units of the blocks below i
+  abbrev pub below : ℕ → ℕ → Bool
+  below i u = nat_lt (home partition u) i && whole_holds u
+
+  pub next_below : (i : ℕ) → i < length bs → (u : ℕ) → (below i u || holds_at (block_at bs i) held u) ≡ below (i + 1) u
+  next_below i within u = one_more (home partition u) i (whole_holds u) refl (holds_here i within u) refl
+
+  pub all_below : (i : ℕ) → i ≡ length bs → (u : ℕ) → below i u ≡ whole_holds u
+  all_below i all u = search arith
+
+-- ---- a machine is quiet where each of its units is, and so where each of its blocks is
+
+none_test : {X : Type 0} (xs : List X) → has_none xs ≡ is_empty xs
+none_test xs = grind arith
+
+-- ---- of each element of a list
+all_if : {X : Type 0} (t : X → Bool) (d : X) (xs : List X) → ((i : ℕ) → i < length xs → t (get_or xs i d) ≡ true) → list_all t xs ≡ true
+all_if t d xs h = list_all-from_AllPass t xs (All-from_get_or (λ x. t x ≡ true) xs d h)
+
+all_at : {X : Type 0} (t : X → Bool) (d : X) (xs : List X) (i : ℕ) → i < length xs → list_all t xs ≡ true → t (get_or xs i d) ≡ true
+all_at t d xs i l h = AllPass-from_list_all t xs h i d l
+
+-- of a list that is given place by place
+module _ {X : Type 0} (t : X → Bool) (n : ℕ) (f : ℕ → X) where
+  all_places : ((k : ℕ) → k < n → t (f k) ≡ true) → list_all t (places n f) ≡ true
+  all_places h =
+      all_if t (f 0) (places n f)
+      (grind (arith, length-places, places_at))
+
+  at_place : list_all t (places n f) ≡ true → (k : ℕ) → k < n → t (f k) ≡ true
+  at_place h k l =
+      let long = length-places n f in
+      subst (λ x. t x ≡ true) (places_at n f k (f 0) l) (grind (arith, all_at))
+
+-- or of a table
+at_table : {X : Type 0} (t : X → Bool) (m n : ℕ) (f : ℕ → ℕ → X) → list_all (λ xs. list_all t xs) (table m n f) ≡ true → (s x : ℕ) → s < m → x < n → t (f s x) ≡ true
+at_table t m n f h s x hs hx = at_place t n (f s) (at_place (λ xs. list_all t xs) m (λ s. places n (f s)) h s hs) x hx
+
+-- ---- units by their numbers
+pub record AreQuiet (d : ℕ) (f : Frame) : Type 0 where
+  pub switches : (n : ℕ) → n < switch_count d → quiet_switch (f.switch n) ≡ true
+  pub banks : (m : ℕ) → m < 2 ^ d → quiet_bank (f.bank m) ≡ true
+  pub elements : (p : ℕ) → p < 2 ^ d → quiet_element (f.element p) ≡ true
+
+abbrev idle : Lane → Bool
+idle l = is_empty l.queue && is_empty l.records
+
+abbrev stopped : Element → Bool
+stopped e = has_stopped e.core.activity && is_empty e.interface.opened && is_empty e.interface.pending
+
+stopped_is : (e : ProcessingElement) → quiet_element e ≡ stopped (element_of e)
+stopped_is e = grind arith
+
+module _ (c : Settings) (low : 1 ≤ c.stages) (high : c.stages ≤ 6) (f : Frame) (n : ℕ) (events : List Event) (stops : List Stop) where
+  switch_small : (s x : ℕ) → s < c.stages → x < size c → switch_number c.stages s (x / 2) < switch_count c.stages
+  switch_small s x hs hx = grind (arith, sizes)
+
+  pub quiet_if : AreQuiet c.stages f → is_quiet (whole c f n events stops) ≡ true
+  unfolding whole
+  quiet_if q = grind (arith, all_places, switch_small, stopped_is, none_test)
+
+  pub quiet_units : is_quiet (whole c f n events stops) ≡ true → AreQuiet c.stages f
+  unfolding whole
+  quiet_units q =
+      let lane = at_table idle c.stages (size c) (λ s x. (sized_lane c f s x).lane) (grind arith) in
+      let queue = at_table (λ (q : List ReplyMessage). is_empty q) c.stages (size c) (λ s y. (sized_replies c f s y).replies) (grind arith) in
+      record {
+        switches = λ n h.
+            let two = (sizes c.stages low high).0 in
+            let is = is_switch c.stages n h in
+            let s : ℕ = stage_of c.stages n in
+            let k : ℕ = index_of c.stages n in
+            let zero = lane s (2 * k) is.stage_small (omega arith) in
+            let one = lane s (2 * k + 1) is.stage_small (omega arith) in
+            let zero_queue = queue s (2 * k) is.stage_small (omega arith) in
+            let one_queue = queue s (2 * k + 1) is.stage_small (omega arith) in
+            grind (arith, none_test);
+        banks = λ k hk. at_place quiet_bank (size c) (λ k. f.bank k) (grind arith) k hk;
+        elements = λ p hp. let it = at_place stopped (size c) (λ p. element_of (f.element p)) (grind arith) p hp in grind (arith, stopped_is);
+      }
+
+-- ---- all blocks
+module _ (d : ℕ) (partition : List ℕ) (bs : List BlockState) (are : AreBlocks d partition bs) where
+  sort_quiet : {X : Type 0} (sort : Sort X) (p : X → Bool) → ((i : ℕ) (h : i < sort.count d) → p (unit sort d partition bs are.cut i h) ≡ true)
+      → (k : ℕ) → k < length bs → (i : ℕ) → i < sort.count d → or_elsewhere p (sort.at (block_at bs k) i) ≡ true
+  sort_quiet sort p quiet k within i h = let it = quiet i h in grind (arith, here)
+
+  pub blocks_quiet : AreQuiet d (frame_of d partition bs) → list_all quiet_block bs ≡ true
+  blocks_quiet q = all_if quiet_block no_block bs (λ k within.
+      let shape = are.shaped k within in
+      let switch = all_if (or_elsewhere quiet_switch) None (block_at bs k).switches (λ n small. sort_quiet switches quiet_switch q.switches k within n (omega arith)) in
+      let bank = all_if (or_elsewhere quiet_bank) None (block_at bs k).modules (λ m small. sort_quiet modules quiet_bank q.banks k within m (omega arith)) in
+      let element = all_if (or_elsewhere quiet_element) None (block_at bs k).elements (λ p small. sort_quiet elements quiet_element q.elements k within p (omega arith)) in
+      grind arith)
+
+  pub units_quiet : list_all quiet_block bs ≡ true → AreQuiet d (frame_of d partition bs)
+  units_quiet q = let stands = there elements d partition bs are.cut in grind (arith, all_at)
+
+pub quiet_is : (c : Settings) (partition : List ℕ) (bs : List BlockState) → AreBlocks c.stages partition bs → (n : ℕ) (events : List Event) (stops : List Stop)
+    → list_all quiet_block bs ≡ is_quiet (whole c (frame_of c.stages partition bs) n events stops)
+quiet_is c partition bs are n events stops = grind (arith, quiet_if, units_quiet, blocks_quiet, quiet_units)

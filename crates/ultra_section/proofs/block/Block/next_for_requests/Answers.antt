@@ -1,0 +1,8 @@
+use Rattle.std.proofs.Common.{refl}
+use Rattle.ultra_units.specs.Inlets.{request_inlets}
+use Rattle.ultra_section.specs.BlockState.{BlockState}
+use Rattle.ultra_section.proofs.Elsewhere.{next_away}
+use Rattle.ultra_section.proofs.block.Block.next_for_requests.Goals as goal
+
+pub returns-clause-some : goal.returns-clause-some
+returns-clause-some c = next_away request_inlets (λ (b : BlockState). b.requests) c.self.view_is c.self.invariant.units c.self.inside.requests c.self.invariant.requests refl _ c.without.result c.targets.ensures.right c.without.ensures c.args.from c.next_of.result c.next_of.ensures.some

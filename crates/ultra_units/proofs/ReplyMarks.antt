@@ -1,2 +1,0 @@
--- What is known of the links of replies is kept.
-pub use Rattle.ultra_units.proofs.ReplyInlets.{both_links, known_put}

@@ -1,0 +1,87 @@
+//! Messages at the ends of the network: they leave memory modules and processing elements, and come to them.
+
+ghost use Rattle.std.specs.Prelude.{◌≡◌, ◌^◌, ◌<◌, None, slice_set};
+ghost use Rattle.ultra_units.specs.Numbers.{place_number as number_of_place};
+ghost use Rattle.ultra_units.specs.Links.{put_on};
+ghost use Rattle.ultra_units.specs.Marks.{delivery_link, memory_link, on_link};
+ghost use Rattle.ultra_units.specs.Units.{IsElement, IsModule};
+
+use crate::links::Links;
+use crate::numbers::{place_number, switch_number};
+use crate::unit_set::UnitNumber;
+use ultra_msg::{ReplyPacket, RequestPacket};
+use ultra_route::Net;
+
+/// A reply, if there is one, leaves a memory module.
+#[inline(always)]
+pub fn leave_module(
+    links: &mut Links<ReplyPacket>,
+    net: Net,
+    number: u32,
+    reply: Option<ReplyPacket>,
+)
+    requires number { number < 2 ^ net }
+    requires stages { links.old.stages ≡ net }
+    ensures { links.new ≡ record links.old { table = put_on links.old.table (number_of_place net net number) reply; targets = links.new.targets } }
+{
+    let _even = net.size();
+    let stages = net.stages();
+    let link = place_number(net, stages, number);
+    let target = switch_number(net, stages - 1, number / 2);
+    links.put(link, target, reply);
+}
+
+/// Takes what comes to a processing element.
+#[inline(always)]
+pub fn take_at_element(
+    links: &mut Links<ReplyPacket>,
+    net: Net,
+    unit: UnitNumber,
+    pe: u32,
+) -> Option<ReplyPacket>
+    requires element { IsElement net unit pe }
+    requires stages { links.old.stages ≡ net }
+    ensures came { result ≡ on_link links.old.table (delivery_link net pe) }
+    ensures rest { links.new ≡ record links.old { table = slice_set links.old.table (delivery_link net pe) None; targets = links.new.targets } }
+{
+    let _stages = net.stages();
+    let reply = links.take(place_number(net, 0, net.shuffle(pe)));
+    links.clear(unit);
+    reply
+}
+
+/// A request, if there is one, leaves a processing element.
+#[inline(always)]
+pub fn leave_element(
+    links: &mut Links<RequestPacket>,
+    net: Net,
+    pe: u32,
+    request: Option<RequestPacket>,
+)
+    requires pe { pe < 2 ^ net }
+    requires stages { links.old.stages ≡ net }
+    ensures { links.new ≡ record links.old { table = put_on links.old.table (number_of_place net net pe) request; targets = links.new.targets } }
+{
+    let _even = net.size();
+    let link = place_number(net, net.stages(), pe);
+    let target = switch_number(net, 0, net.shuffle(pe) / 2);
+    links.put(link, target, request);
+}
+
+/// Takes what comes to a memory module.
+#[inline(always)]
+pub fn take_at_module(
+    links: &mut Links<RequestPacket>,
+    net: Net,
+    unit: UnitNumber,
+    module_number: u32,
+) -> Option<RequestPacket>
+    requires target { IsModule net unit module_number }
+    requires stages { links.old.stages ≡ net }
+    ensures came { result ≡ on_link links.old.table (memory_link net module_number) }
+    ensures rest { links.new ≡ record links.old { table = slice_set links.old.table (memory_link net module_number) None; targets = links.new.targets } }
+{
+    let request = links.take(place_number(net, net.stages() - 1, module_number));
+    links.clear(unit);
+    request
+}
