@@ -1,8 +1,8 @@
 -- the links between units, and what is on them
 use Rattle.std.specs.Prelude.{ℕ, List, Option, Some, None, slice_set}
 
--- of a machine of so many stages, by their numbers, what is on each; and units to which messages
--- lead, as a set
+-- the links of a machine of `stages` stages: by its number, what is on each; and at least the units
+-- to which messages lead, as a set
 pub record LinksState (M : Type 0) : Type 0 where
   pub stages : ℕ
   pub table : List (Option M)

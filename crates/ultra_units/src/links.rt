@@ -15,9 +15,9 @@ use ultra_msg::{ReplyPacket, RequestPacket};
 use ultra_route::Net;
 use ultra_switch::{Ports, Slot};
 
-/// What goes over links, each of which leads to one unit.
+/// A kind of message. Each of its links leads to one unit.
 pub trait Message: Copy + Default {
-    /// In a machine of so many stages, the links by which it comes to the unit with a number, if it can.
+    /// By the number of stages and the number of a unit: the links by which messages of this kind come to the unit, if any can.
     ghost inlets: { ℕ → ℕ → Option (Ports ℕ) };
 }
 
