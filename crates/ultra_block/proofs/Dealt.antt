@@ -178,16 +178,17 @@ module _ (c : Settings) (program : List Instr) (was : List ℕ) (n : ℕ) (b : B
     requests = λ l h. none_first (λ x. x.requests) ((d + 1) * 2 ^ d) l now h (λ k hk. (carried.beside k hk).requests) ∙ sym (whole.clear.requests l h);
   }
 
-  same_events : events_of d now ≡ events_of d (b ∷ [])
-  unfolding events_of merged
-  same_events = ap (λ all. joined (places 1280 (λ i. of_rank (event_rank d) i all))) (same_joined (λ x. x.events) refl (b ∷ []) now some carried.events)
-
-  same_stops : stops_of d now ≡ stops_of d (b ∷ [])
-  unfolding stops_of merged
-  same_stops = ap (λ all. joined (places 64 (λ i. of_rank stop_rank i all))) (same_joined (λ x. x.stops) refl (b ∷ []) now some carried.stops)
+  same_merged : {X : Type 0} (list : BlockState → List X) (rank : X → ℕ) (count : ℕ) → list no_block ≡ [] → ((k : ℕ) → list (block_at now k) ≡ list (block_at (b ∷ []) k))
+      → merged rank count (map list now) ≡ merged rank count (map list (b ∷ []))
+  unfolding merged
+  same_merged list rank count nothing same = ap (λ all. joined (places count (λ i. of_rank rank i all))) (same_joined list nothing (b ∷ []) now some same)
 
   same_machine : machine_in c partition n now ≡ machine_in c was n (b ∷ [])
-  same_machine = grind (arith, whole_alike c whole.machine.machine.range (frame_of d partition now) (frame_of d was (b ∷ [])) alike, same_events, same_stops)
+  unfolding events_of stops_of
+  same_machine =
+      let events = same_merged (λ x. x.events) (event_rank d) 1280 refl carried.events in
+      let stops = same_merged (λ x. x.stops) stop_rank 64 refl carried.stops in
+      grind (arith, whole_alike c whole.machine.machine.range (frame_of d partition now) (frame_of d was (b ∷ [])) alike)
 
   still_whole : AreWhole c program partition n now
   still_whole = record {

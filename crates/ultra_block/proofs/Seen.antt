@@ -3,6 +3,7 @@ use Rattle.std.proofs.Common.{◌≡◌, ℕ, List, [], ◌∷◌, length, refl,
 use Rattle.std.proofs.lemmas.Grind.{common_steps}
 use Rattle.std.proofs.lemmas.List.{get_or_default}
 use Rattle.ultra_model.specs.Machine.{Settings}
+use Rattle.ultra_section.proofs.OwnProgram.{can_by_own}
 use Rattle.ultra_section.specs.BlockState.{BlockState}
 use Rattle.ultra_course.specs.Whole.{whole}
 use Rattle.ultra_merge.proofs.Merged.{merged_alone}
@@ -40,3 +41,5 @@ module _ (c : Settings) (partition : List ℕ) (n : ℕ) (bs : List BlockState) 
 pub ruleset list_steps = (events_are, stops_are, common_steps)
 
 pub ruleset one_steps = (one_events, one_stops, get_or_default)
+
+pub ruleset each_can = (can_by_own, get_or_default, common_steps)

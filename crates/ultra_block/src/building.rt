@@ -17,6 +17,7 @@ use ultra_switch::Switch;
 use ultra_units::switch_count;
 
 /// Puts the initial values of this module, one of `size`, into its cells, which are all 0.
+#[tactic(auto, using(crate::proofs::Filled::steps))]
 fn fill(bank: &mut Module, size: u32, number: u32, cells: u32, values: &[(Cell, Word)])
     requires number { number < size }
     requires fresh { bank.old ≡ new_bank cells }

@@ -60,6 +60,7 @@ fn make_cycle_of_one(block: &mut Block)
 
 /// Every block makes this half of a cycle, with the rooms that were noted before it. Each block has to meet the half's conditions.
 #[inline(always)]
+#[tactic(auto, using(crate::proofs::Seen::each_can))]
 fn make(blocks: &mut [Block], half: Half, rooms: &Rooms)
     requires { (program : List Instr) × AllCanMake program half blocks.old }
     ensures { blocks.new ≡ all_made_own half rooms.now blocks.old }

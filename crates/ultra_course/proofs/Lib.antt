@@ -1,4 +1,3 @@
 pub mod Numbers
 pub mod AtFrame
-pub mod Regroup
 pub mod Phases

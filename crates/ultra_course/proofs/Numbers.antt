@@ -3,11 +3,9 @@ use Rattle.std.proofs.Common.{◌≡◌, ℕ, ◌+◌, ◌*◌, ◌-◌, ◌/◌
 use Rattle.std.proofs.lemmas.Nat.{div-mul-add, mod-mul-add, mul-add-lt}
 use Rattle.std.proofs.Math.Nat.{div-lt_iff_lt-mul}
 use Rattle.ultra_route.proofs.Table.{sizes}
-use Rattle.ultra_switch.specs.declared.Ports.{Ports}
-use Rattle.ultra_switch.specs.declared.Switch.{Switch}
 use Rattle.ultra_units.specs.Numbers.{switch_number, switch_count, place_number}
 use Rattle.ultra_halves.specs.Halves.{ports}
-use Rattle.ultra_course.specs.Frame.{at_port}
+use Rattle.ultra_course.specs.Frame.{at_port, Ports, Switch}
 use Rattle.ultra_course.specs.Course.{at_switch, on_links}
 
 -- ---- ports

@@ -1,19 +1,11 @@
 -- the halves of a frame make up the phases of the definition, and so a cycle
-use Rattle.std.proofs.Common.{◌≡◌, ◌≢◌, ℕ, ◌+◌, ◌*◌, ◌-◌, ◌/◌, ◌%◌, ◌^◌, ◌<◌, List, [], refl, arith, ap, ◌∙◌, subst, sym, ◌++◌}
-use Rattle.std.specs.Prelude.{Option, Some, slice_get, true}
-use Rattle.std.proofs.lemmas.Bool.{ne_eqb, eqb-true}
+use Rattle.std.proofs.Common.{◌≡◌, ◌≢◌, ℕ, ◌+◌, ◌*◌, ◌-◌, ◌/◌, ◌%◌, ◌^◌, ◌<◌, List, [], refl, arith, ap, ◌∙◌, subst, sym, ◌++◌, Option, Some, slice_get, true, ne_eqb, eqb-true}
 use Rattle.std.proofs.lemmas.Nat.{pow_pos}
-use Rattle.ultra_msg.specs.declared.ReplyMessage.{ReplyMessage}
-use Rattle.ultra_msg.specs.declared.Event.{Event}
-use Rattle.ultra_msg.specs.declared.Request.{Request}
 use Rattle.ultra_route.specs.Route.{shuffled, unshuffled, bit_of}
-use Rattle.ultra_switch.specs.declared.Ports.{Ports}
-use Rattle.ultra_switch.specs.declared.Switch.{Switch}
 use Rattle.ultra_switch.specs.declared.WaitRecord.{WaitRecord}
 use Rattle.ultra_switch.specs.Arrive.{Lane}
-use Rattle.ultra_model.specs.declared.Stop.{Stop}
-use Rattle.ultra_model.specs.Places.{present, table, joined}
-use Rattle.ultra_model.specs.Machine.{Settings, Machine, size, last_stage, replies_at, bank_at, element_at, request_exit, Element}
+use Rattle.ultra_model.specs.Places.{present, joined}
+use Rattle.ultra_model.specs.Machine.{size, last_stage, replies_at, bank_at, element_at, request_exit, Element}
 use Rattle.ultra_model.specs.Phases.{delivery, deliver, without_reply, replies_made, has_reply_room, arriving_reply, leaving_reply, replies_at_exit, next_replies, lane_after_split, delivered, reply_phase, without_pending, with_request, arrive_all, has_request_room, admitted, arriving_request, entering, leaving_request, requests_by, lane_after_leaving, next_lane, request_phase, serving, memory_phase, stepped as stepped_one, issue_event, stop_of, processor_phase, step_at, cycle}
 use Rattle.ultra_model.specs.Sound.{IsSound}
 use Rattle.ultra_model.proofs.Interfaces.{delivered_waiting}
@@ -27,17 +19,14 @@ use Rattle.ultra_halves.specs.Switches as switch
 use Rattle.ultra_halves.specs.Switches.{replies_leaving, without_replies, after_replies, first_request, request_heads, requests_leaving, without_requests, after_requests, combinations_of}
 use Rattle.ultra_halves.specs.Elements.{element_of}
 use Rattle.ultra_halves.specs.Elements as element
-use Rattle.ultra_course.specs.Frame.{Frame, Rooms, AreRooms, AreAlike, at_port}
-use Rattle.ultra_course.specs.Course.{reply_goes, replies_go, replies_from, reply_from, replies_to, reply_to, sends_replies, takes_replies, deliveries, at_switch, request_goes, requests_go, requests_from, request_from, sends_requests, requests_to, request_to, takes_requests, combinations, serves, executes, servings, issues, stops}
-use Rattle.ultra_course.specs.Whole.{sized_lane, sized_replies, whole, IsFrameOf}
-use Rattle.ultra_course.specs.Law.{CanTakeReplies, CanTakeRequests, CanExecute}
+use Rattle.ultra_course.specs.Frame.{Frame, Rooms, AreRooms, AreAlike, at_port, ReplyMessage, Request, Ports, Switch}
+use Rattle.ultra_course.specs.Course.{reply_goes, replies_go, replies_from, reply_from, replies_to, reply_to, sends_replies, takes_replies, deliveries, at_switch, request_goes, requests_go, requests_from, request_from, sends_requests, requests_to, request_to, takes_requests, combinations, serves, executes, servings, issues, stops, Event, Stop, Instr}
+use Rattle.ultra_course.specs.Whole.{sized_lane, sized_replies, whole, IsFrameOf, Settings, Machine}
+use Rattle.ultra_course.specs.Law.{CanTakeReplies, CanTakeRequests, CanExecute, CycleLaw}
 use Rattle.ultra_course.proofs.Numbers.{at_places, at_number, with_came, number_small, each_number, at_link, behind, at_two, at_both}
-use Rattle.ultra_course.proofs.AtFrame.{same_places, same_table, same_machine, becomes, lane_is, replies_is, bank_is, element_is, size_is, turned, at_switches, reply_room_is, still_room, request_room_is, alike_at}
-use Rattle.ultra_course.proofs.Regroup.{regroup}
-use Rattle.ultra_course.specs.Law.{CycleLaw}
+use Rattle.ultra_course.proofs.AtFrame.{same_places, same_table, same_machine, becomes, lane_is, replies_is, bank_is, element_is, size_is, turned, at_switches, reply_room_is, still_room, request_room_is, alike_at, regroup}
 use Rattle.ultra_mem.specs.Serve.{serve, served as served_one}
 use Rattle.ultra_mem.proofs.Cells.{length-serve}
-use Rattle.ultra_isa.specs.declared.Instr.{Instr}
 use Rattle.ultra_isa.specs.Step.{Stepped}
 
 module _ (c : Settings) (n : ℕ) (f : Frame) (events : List Event) (faults : List Stop) (before : Machine) (w : IsFrameOf c n f events faults before) where
@@ -134,15 +123,13 @@ module _ (c : Settings) (n : ℕ) (f : Frame) (events : List Event) (faults : Li
     element_after_reply : (p : ℕ) → p < size c → element_of (with_replies.element p) ≡ deliver (element_at m p) (delivered c m p)
     element_after_reply p hp = grind (arith, comes_home, element_is)
 
-    replies_are : whole c with_replies n (deliveries d sent) [] ≡ reply_phase c m
-    unfolding reply_phase whole deliveries
-    replies_are =
-        let delivered = same_places (size c) _ _ (λ p hp. ap (λ o. delivery o) (comes_home p hp)) in
-        same_machine _ _ (same_table d (size c) _ _ lane_after_replies) (same_table d (size c) _ _ replies_after)
-        (same_places (size c) _ _ bank_after_reply) (same_places (size c) _ _ element_after_reply) refl (ap (λ os. present os) delivered) refl
-
     pub replied : (h : Frame) → AreAlike d h with_replies → IsFrameOf c n h (deliveries d sent) [] (reply_phase c before)
-    replied h a = becomes c n f events faults before w n h with_replies (deliveries d sent) [] (λ m. reply_phase c m) (grind arith) replies_are (sound-reply_phase c w.range before w.sound) a
+    unfolding reply_phase whole deliveries
+    replied h a =
+        let delivered = ap (λ os. present os) (same_places (size c) _ _ (λ p hp. ap (λ o. delivery o) (comes_home p hp))) in
+        becomes c n f events faults before w n h with_replies (deliveries d sent) [] (λ m. reply_phase c m) (grind arith)
+        (same_machine _ _ (same_table d (size c) _ _ lane_after_replies) (same_table d (size c) _ _ replies_after)
+        (same_places (size c) _ _ bank_after_reply) (same_places (size c) _ _ element_after_reply) refl delivered refl) (sound-reply_phase c w.range before w.sound) a
 
     -- ---- there is room for what comes
     room_after : (s k x : ℕ) (r : ReplyMessage) → s < d → k < 2 ^ (d - 1) → x / 2 ≡ k → arriving_reply c m s x ≡ Some r → switch.has_reply_room (left_by_replies (switch_number d s k)) ≡ true
@@ -171,15 +158,13 @@ module _ (c : Settings) (n : ℕ) (f : Frame) (events : List Event) (faults : Li
     }
 
   -- ---- memory
-  memory_is : whole c (serves d f) n (events ++ servings d f) faults ≡ memory_phase c m
-  unfolding memory_phase whole servings
-  memory_is =
-      let banks = same_places (size c) _ _ (λ k hk. ap (λ b. serve b) (sym (bank_is c f n events faults k hk))) in
-      let acted = same_places (size c) _ _ (λ k hk. ap (λ b. serving k (served_one b)) (sym (bank_is c f n events faults k hk))) in
-      same_machine _ _ refl refl banks refl refl (ap (λ os. events ++ present os) acted) refl
-
   pub served : (h : Frame) → AreAlike d h (serves d f) → IsFrameOf c n h (events ++ servings d f) faults (memory_phase c before)
-  served h a = becomes c n f events faults before w n h (serves d f) (events ++ servings d f) faults (λ m. memory_phase c m) (grind (arith, length-serve)) memory_is (sound-memory_phase c w.range before w.sound) a
+  unfolding memory_phase whole servings
+  served h a =
+      let bank = λ (k : ℕ) (hk : k < size c). sym (bank_is c f n events faults k hk) in
+      let acted = ap (λ os. events ++ present os) (same_places (size c) _ _ (λ k hk. ap (λ b. serving k (served_one b)) (bank k hk))) in
+      becomes c n f events faults before w n h (serves d f) (events ++ servings d f) faults (λ m. memory_phase c m) (grind (arith, length-serve))
+      (same_machine _ _ refl refl (same_places (size c) _ _ (λ k hk. ap serve (bank k hk))) refl refl acted refl) (sound-memory_phase c w.range before w.sound) a
 
   -- ---- requests
   module _ (rooms : Rooms) (noted : AreRooms c.stages f rooms) (sent : Frame) (as_sent : AreAlike c.stages sent (sends_requests c.stages rooms f)) where
@@ -206,18 +191,12 @@ module _ (c : Settings) (n : ℕ) (f : Frame) (events : List Event) (faults : Li
     abbrev head : ℕ → ℕ → Option Request
     head s x = first_request (sized_lane c f s x)
 
-    -- that of another stage comes to the next
-    next_sends : (s x : ℕ) → s ≢ last_stage c → s + 1 < d → x < size c → where_room (request_goes d rooms s x (head s x)) (head s x) ≡ arriving_request c m (s + 1) (shuffled d x)
-    unfolding arriving_request
-    next_sends s x h hs hx =
-        let b = turned c w.range x hx in
-        let room = λ (r : Request). request_room (s + 1) (shuffled d x) r hs b.entry_small in
-        grind (arith, next_is, ne_eqb, lane_is)
-
     requests_leave : (s x : ℕ) → s < d → x < size c → where_room (request_goes d rooms s x (head s x)) (head s x) ≡ leaving_request c m s x
+    unfolding arriving_request
     requests_leave s x hs hx =
-        let next = next_sends s x in
-        grind (arith, lane_is, bank_is)
+        let b = turned c w.range x hx in
+        let room = λ (r : Request) (h : s + 1 < d). request_room (s + 1) (shuffled d x) r h b.entry_small in
+        grind (arith, next_is, ne_eqb, lane_is, bank_is)
 
     request_leaves : (s x : ℕ) → s < d → x < size c → at_port (requests_from d rooms f (switch_number d s (x / 2))) (x % 2) ≡ leaving_request c m s x
     request_leaves s x hs hx =
@@ -289,30 +268,23 @@ module _ (c : Settings) (n : ℕ) (f : Frame) (events : List Event) (faults : Li
         let odd = left_with (λ w l rs. phase.combinations w s (2 * k + 1) l rs) s (2 * k + 1) hs in
         grind arith
 
-    combinations_are : combinations d n sent ≡ joined (joined (table d (size c) combined))
-    unfolding combinations
-    combinations_are =
-        let both = λ (s : ℕ) (k : ℕ). combined s (2 * k) ++ combined s (2 * k + 1) in
-        let same = same_places (switch_count d) _ (λ q. at_switch d both q) (each_number d _ (λ s k hs hk.
-        came_with (λ s k w o. combinations_of d s k n w o) s k hs hk ∙ combined_at s k hs hk ∙ sym (at_number d both s k hk))) in
-        ap (λ ess. joined ess) same ∙ sym (regroup d (size_is c w.range) combined d)
-
     bank_after_request : (k : ℕ) → k < size c → with_requests.bank k ≡ with_request c (bank_at m k) (entering c m k)
     bank_after_request k hk = grind (arith, comes_in, bank_is)
 
     element_after_request : (p : ℕ) → p < size c → element_of (with_requests.element p) ≡ without_pending (element_at m p) (arriving_request c m 0 (shuffled d p))
     element_after_request p hp = grind (arith, element_sends, element_is)
 
-    requests_are : whole c with_requests n (events ++ combinations d n sent) faults ≡ request_phase c m
-    unfolding request_phase whole
-    requests_are =
-        let queues = same_table d (size c) _ _ (λ s y. alike_at c w.range sent (sends_requests d rooms f) as_sent (λ w. (at_port w.to_pe (y % 2)).replies) s y) in
-        same_machine _ _ (same_table d (size c) _ _ lane_after_requests) queues
-        (same_places (size c) _ _ bank_after_request) (same_places (size c) _ _ element_after_request) refl (ap (λ es. events ++ es) combinations_are) refl
-
     pub requested : (h : Frame) → AreAlike d h with_requests → IsFrameOf c n h (events ++ combinations d n sent) faults (request_phase c before)
+    unfolding request_phase whole combinations
     requested h a =
-        becomes c n f events faults before w n h with_requests (events ++ combinations d n sent) faults (λ m. request_phase c m) (grind arith) requests_are (sound-request_phase c w.range before w.sound) a
+        let queues = same_table d (size c) _ _ (λ s y. alike_at c w.range sent (sends_requests d rooms f) as_sent (λ w. (at_port w.to_pe (y % 2)).replies) s y) in
+        let both = λ (s : ℕ) (k : ℕ). combined s (2 * k) ++ combined s (2 * k + 1) in
+        let by_switch = same_places (switch_count d) _ (λ q. at_switch d both q) (each_number d _ (λ s k hs hk.
+        came_with (λ s k w o. combinations_of d s k n w o) s k hs hk ∙ combined_at s k hs hk ∙ sym (at_number d both s k hk))) in
+        let combinations_are = ap (λ es. events ++ es) (ap (λ ess. joined ess) by_switch ∙ sym (regroup d (size_is c w.range) combined d)) in
+        becomes c n f events faults before w n h with_requests (events ++ combinations d n sent) faults (λ m. request_phase c m) (grind arith)
+        (same_machine _ _ (same_table d (size c) _ _ lane_after_requests) queues (same_places (size c) _ _ bank_after_request)
+        (same_places (size c) _ _ element_after_request) refl combinations_are refl) (sound-request_phase c w.range before w.sound) a
 
     -- ---- there is room for what comes
     has_way : (s k y : ℕ) (r : Request) → s < d → k < 2 ^ (d - 1) → y < size c → y / 2 ≡ k → arriving_request c m s y ≡ Some r → switch.HasWay d s (left_by_requests (switch_number d s k)) r
@@ -352,17 +324,13 @@ module _ (c : Settings) (n : ℕ) (f : Frame) (events : List Event) (faults : Li
         → g p (element_of (f.element p)) (element.step_at program (f.element p)) ≡ g p (element_at m p) (step_at c program m p)
     of_step g p hp = grind (arith, element_is)
 
-    steps_are : whole c (executes d program f) (n + 1) (events ++ issues d program f) (stops d program f) ≡ processor_phase c program m
+    pub stepped : (h : Frame) → AreAlike d h (executes d program f) → IsFrameOf c (n + 1) h (events ++ issues d program f) (stops d program f) (processor_phase c program before)
     unfolding processor_phase whole issues stops
-    steps_are =
+    stepped h a =
         let issued = same_places (size c) _ _ (of_step (λ p e t. issue_event e t.sent)) in
         let stopped = same_places (size c) _ _ (of_step (λ p e t. stop_of p t.was)) in
-        same_machine _ _ refl refl refl (same_places (size c) _ _ (of_step (λ p e t. stepped_one e t))) refl
-        (ap (λ os. events ++ present os) issued) (ap (λ os. present os) stopped)
-
-    pub stepped : (h : Frame) → AreAlike d h (executes d program f) → IsFrameOf c (n + 1) h (events ++ issues d program f) (stops d program f) (processor_phase c program before)
-    stepped h a =
-        becomes c n f events faults before w (n + 1) h (executes d program f) (events ++ issues d program f) (stops d program f) (λ m. processor_phase c program m) (grind arith) steps_are
+        becomes c n f events faults before w (n + 1) h (executes d program f) (events ++ issues d program f) (stops d program f) (λ m. processor_phase c program m) (grind arith)
+        (same_machine _ _ refl refl refl (same_places (size c) _ _ (of_step (λ p e t. stepped_one e t))) refl (ap (λ os. events ++ present os) issued) (ap (λ os. present os) stopped))
         (sound-processor_phase c w.range program before w.sound) a
 
 -- ---- a cycle

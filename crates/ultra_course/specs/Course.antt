@@ -1,13 +1,10 @@
 -- the six halves of a cycle of a machine of d stages, and what happens in each
 use Rattle.std.specs.Prelude.{ℕ, ◌+◌, ◌-◌, ◌*◌, ◌/◌, ◌%◌, ◌^◌, List, Bool, true, false, ◌==◌, nat_lt, Option, Some, None, slice_get}
-use Rattle.ultra_msg.specs.declared.Request.{Request}
-use Rattle.ultra_msg.specs.declared.ReplyMessage.{ReplyMessage}
-use Rattle.ultra_msg.specs.declared.Event.{Event}
+pub use Rattle.ultra_msg.specs.declared.Event.{Event}
 use Rattle.ultra_route.specs.Route.{shuffled, bit_of}
-use Rattle.ultra_switch.specs.declared.Ports.{Ports}
 use Rattle.ultra_mem.specs.Serve.{serve, served}
-use Rattle.ultra_isa.specs.declared.Instr.{Instr}
-use Rattle.ultra_model.specs.declared.Stop.{Stop}
+pub use Rattle.ultra_isa.specs.declared.Instr.{Instr}
+pub use Rattle.ultra_model.specs.declared.Stop.{Stop}
 use Rattle.ultra_model.specs.Places.{places, present, joined}
 use Rattle.ultra_model.specs.Phases.{delivery, without_reply, serving, issue_event, stop_of}
 use Rattle.ultra_units.specs.Numbers.{switch_number, switch_count, place_number, reply_source, reply_target, request_source, request_target}
@@ -15,8 +12,7 @@ use Rattle.ultra_halves.specs.Halves.{ports, where_room}
 use Rattle.ultra_halves.specs.Switches.{replies_leaving, without_replies, after_replies, request_heads, requests_leaving, without_requests, after_requests, combinations_of}
 use Rattle.ultra_halves.specs.Modules.{bank_with}
 use Rattle.ultra_halves.specs.Elements.{element_of, delivered_to, element_without, step_at, executed}
-use Rattle.ultra_halves.specs.declared.elements.ProcessingElement.{ProcessingElement}
-use Rattle.ultra_course.specs.Frame.{Frame, Rooms, at_port}
+use Rattle.ultra_course.specs.Frame.{Frame, Rooms, at_port, Request, ReplyMessage, Ports, ProcessingElement}
 
 abbrev pub pending_head : ProcessingElement → Option Request
 pending_head e = slice_get e.interface.interface.pending 0

@@ -1,11 +1,11 @@
 -- a whole machine in the course of a cycle
 use Rattle.std.specs.Prelude.{◌≡◌, ℕ, zero, suc, ◌+◌, ◌*◌, ◌^◌, ◌<◌, Bool, Option, None}
-use Rattle.ultra_msg.specs.declared.Request.{Request}
-use Rattle.ultra_msg.specs.declared.ReplyMessage.{ReplyMessage}
-use Rattle.ultra_switch.specs.declared.Ports.{Ports}
-use Rattle.ultra_switch.specs.declared.Switch.{Switch}
-use Rattle.ultra_mem.specs.Serve.{Bank}
-use Rattle.ultra_halves.specs.declared.elements.ProcessingElement.{ProcessingElement}
+pub use Rattle.ultra_msg.specs.declared.Request.{Request}
+pub use Rattle.ultra_msg.specs.declared.ReplyMessage.{ReplyMessage}
+pub use Rattle.ultra_switch.specs.declared.Ports.{Ports}
+pub use Rattle.ultra_switch.specs.declared.Switch.{Switch}
+pub use Rattle.ultra_mem.specs.Serve.{Bank}
+pub use Rattle.ultra_halves.specs.declared.elements.ProcessingElement.{ProcessingElement}
 use Rattle.ultra_halves.specs.Switches.{has_reply_room, has_request_room}
 use Rattle.ultra_model.specs.Machine.{is_nothing}
 use Rattle.ultra_units.specs.Numbers.{switch_count}

@@ -1,17 +1,12 @@
 -- a cycle in six halves is one cycle of the definition
 use Rattle.std.specs.Prelude.{ℕ, ◌+◌, ◌-◌, ◌^◌, ◌<◌, List, ◌++◌, ◌≡◌, ◌/◌, length, None}
 use Rattle.std.specs.Option.{ForSome}
-use Rattle.ultra_msg.specs.declared.Event.{Event}
-use Rattle.ultra_isa.specs.declared.Instr.{Instr}
-use Rattle.ultra_model.specs.declared.Stop.{Stop}
-use Rattle.ultra_model.specs.Machine.{Settings, Machine}
 use Rattle.ultra_model.specs.Phases.{cycle}
 use Rattle.ultra_units.specs.Numbers.{switch_count}
 use Rattle.ultra_halves.specs.Switches as switch
-use Rattle.ultra_halves.specs.declared.elements.ProcessingElement.{ProcessingElement}
-use Rattle.ultra_course.specs.Frame.{Frame, Rooms, AreRooms, AreAlike, IsClear}
-use Rattle.ultra_course.specs.Course.{sends_replies, takes_replies, deliveries, serves, servings, sends_requests, takes_requests, combinations, executes, issues, stops, replies_to, reply_to, requests_to, request_to}
-use Rattle.ultra_course.specs.Whole.{IsFrameOf}
+use Rattle.ultra_course.specs.Frame.{Frame, Rooms, AreRooms, AreAlike, IsClear, ProcessingElement}
+use Rattle.ultra_course.specs.Course.{sends_replies, takes_replies, deliveries, serves, servings, sends_requests, takes_requests, combinations, executes, issues, stops, replies_to, reply_to, requests_to, request_to, Event, Instr, Stop}
+use Rattle.ultra_course.specs.Whole.{IsFrameOf, Settings, Machine}
 
 -- ---- the conditions of the halves that take messages, and of the one in which processing elements
 -- make a step

@@ -1,17 +1,16 @@
 -- the whole machine that units, given by their numbers, make up
 use Rattle.std.specs.Prelude.{◌≡◌, ℕ, ◌/◌, ◌%◌, ◌<◌, ◌≤◌, List, length}
-use Rattle.ultra_msg.specs.declared.Event.{Event}
-use Rattle.ultra_switch.specs.declared.Switch.{Switch}
 use Rattle.ultra_switch.specs.Queues.{SizedLane, SizedReplies, empty_requests, empty_replies}
-use Rattle.ultra_model.specs.declared.Stop.{Stop}
 use Rattle.ultra_model.specs.Places.{places, table}
-use Rattle.ultra_model.specs.Machine.{Settings, Machine, size, site}
+pub use Rattle.ultra_model.specs.Machine.{Settings, Machine}
+use Rattle.ultra_model.specs.Machine.{size, site}
 use Rattle.ultra_model.specs.Ranges.{AreInRange}
 use Rattle.ultra_model.specs.Sound.{IsSound}
 use Rattle.ultra_units.specs.Numbers.{switch_number, switch_count}
 use Rattle.ultra_halves.specs.Halves.{ports}
 use Rattle.ultra_halves.specs.Elements.{element_of}
-use Rattle.ultra_course.specs.Frame.{Frame, at_port}
+use Rattle.ultra_course.specs.Frame.{Frame, at_port, Switch}
+use Rattle.ultra_course.specs.Course.{Event, Stop}
 
 module _ (c : Settings) (f : Frame) where
   -- the queues at position x of stage s

@@ -51,3 +51,5 @@ module _ (results : ℕ → Half → ℕ → List Task) (program : List Instr) (
 
   pub course_goes_on : (next : BlocksState) → next ≡ record b { machine = cycle b.config b.program b.machine } → IsCourse results program workers next
   course_goes_on next is = grind (arith, cycles_one, first_then)
+
+pub ruleset made_later = (none_later, count_later, more_later)

@@ -13,11 +13,6 @@ use Rattle.ultra_desk.specs.Tasks.{AreTeams, CanBeMade, is_of_worker, task_made,
 use Rattle.ultra_desk.specs.declared.task.Task.{Task}
 use Rattle.ultra_crew.specs.Course.{teams_of}
 
--- teams that come back as those of these blocks
-pub given_back : (workers n : ℕ) (results : ℕ → List Task) (teams : List (Vec Task Global)) (bs : List BlockState) → n ≡ workers
-    → ((w : ℕ) (d : Vec Task Global) → w < workers → (get_or teams w d).items ≡ results w) → ((w : ℕ) → results w ≡ teams_of workers bs w) → AreTeams n teams bs
-given_back workers n results teams bs same back settled = grind arith
-
 module _ (h : Half) (rooms : Rooms) (program : List Instr) where
   -- the tasks of a team, when they are done, are its tasks of the blocks when they are
   team_made : (workers w k : ℕ) (bs : List BlockState) → map (task_made h rooms program) (team workers w (tasks_from k bs)) ≡ team workers w (tasks_from k (all_made h rooms program bs))
@@ -34,7 +29,7 @@ module _ (h : Half) (rooms : Rooms) (program : List Instr) where
   each_can : (bs : List BlockState) → AllCanMake program h bs → All (CanMake program h) bs
   each_can bs can i d below = subst (CanMake program h) (get_or_default bs i no_block d below) (can i below)
 
-  module _ (m workers : ℕ) (bs : List BlockState) (teams : List (Vec Task Global)) (same : m ≡ workers) (many : length teams ≡ m) (dealt : AreTeams m teams bs) where
+  module _ (workers : ℕ) (bs : List BlockState) (teams : List (Vec Task Global)) (many : length teams ≡ workers) (dealt : AreTeams workers teams bs) where
     pub teams_can : AllCanMake program h bs → (w : ℕ) (d : Vec Task Global) → w < length teams → All (CanBeMade program h) (get_or teams w d).items
     teams_can can w d below =
         let tasks = All-filter (is_of_worker workers w) (CanBeMade program h) (tasks_from 0 bs) (tasks_can 0 bs (each_can bs can)) in

@@ -1,7 +1,6 @@
 -- What an exchange leaves is settled by what there was before it.
-use Rattle.std.proofs.Common.{◌≡◌, ℕ, ◌+◌, ◌*◌, ◌^◌, ◌<◌, ◌≤◌, List, Bool, true, false, None, length, get_or, refl, arith, sym, ◌∙◌, ap}
-use Rattle.std.specs.Prelude.{◌==◌}
-use Rattle.std.proofs.lemmas.Bool.{eqb-true}
+use Rattle.std.proofs.Common.{◌≡◌, ℕ, ◌+◌, ◌*◌, ◌^◌, ◌<◌, ◌≤◌, List, None, length, get_or, refl, arith, sym, ◌∙◌, ap}
+use Rattle.std.proofs.lemmas.Bool.Decides.{nat_tests}
 use Rattle.std.proofs.lemmas.List.{ext_get_or}
 use Rattle.ultra_model.specs.Places.{places}
 use Rattle.ultra_model.proofs.Each.{length-places, places_at}
@@ -9,13 +8,12 @@ use Rattle.ultra_section.specs.Marks.{on_link}
 use Rattle.ultra_section.specs.BlockState.{BlockState}
 use Rattle.ultra_cut.specs.declared.kind.Kind.{Kind}
 use Rattle.ultra_cut.specs.declared.kind.Kind.TheVariants.{Replies, Requests}
-use Rattle.ultra_cut.specs.Cut.{block_at, first, home, no_block}
+use Rattle.ultra_cut.specs.Cut.{block_at, no_block}
 use Rattle.ultra_cut.specs.Exchange.{AreThere, OnlyMove, on_each, table, with_table}
 use Rattle.ultra_cut.specs.Halves.{AreBlocks}
-use Rattle.ultra_cut.proofs.Moved.{links_of, nothing_away, reader}
-use Rattle.ultra_cut.proofs.Numbers.{differs}
+use Rattle.ultra_cut.proofs.Moved.{links_of, nothing_away, reader, still_blocks}
 use Rattle.ultra_cut.proofs.Columns.{column_first}
-use Rattle.ultra_crew.specs.Exchanged.{at_home, exchanged, unit_behind}
+use Rattle.ultra_crew.specs.Exchanged.{AreExchanged, at_home, exchanged, unit_behind}
 
 -- a list that is known place by place
 pub all_places : {X : Type 0} (d : X) (xs : List X) (m : ℕ) (f : ℕ → X) → length xs ≡ m → ((k : ℕ) → k < m → get_or xs k d ≡ f k) → xs ≡ places m f
@@ -27,19 +25,22 @@ unit_is Requests d l = refl
 
 module _ (kind : Kind) (d : ℕ) (low : 1 ≤ d) (high : d ≤ 6) (partition : List ℕ) (old now : List BlockState)
     (moved : OnlyMove kind old now) (there : AreThere kind d partition now) (blocks : AreBlocks d partition now) where
-  on_one : (k l : ℕ) → k < length now → l < (d + 1) * 2 ^ d → (own : Bool) → (home partition (unit_behind kind d l) == k) ≡ own
-      → on_link (table kind (block_at now k)) l ≡ elim own [ true ↦ first (on_each kind old l) | false ↦ None ]
-  on_one k l within small own is =
+  all_at_home : (k : ℕ) → k < length now → table kind (block_at now k) ≡ at_home d partition (unit_behind kind d) (on_each kind old) k
+  all_at_home k within = all_places None _ ((d + 1) * 2 ^ d) _ (links_of kind d (block_at now k) (blocks.shaped k within)) (λ l small.
       let away = λ (j : ℕ) (h : j < length now). nothing_away kind d partition now blocks.cut there low high j l h small in
       let column = column_first (λ b. on_link (table kind b) l) now k within in
       let links = moved.links l in
       let unit = unit_is kind d l in
-      grind (arith, eqb-true, differs)
+      grind (arith, nat_tests))
 
-  all_at_home : (k : ℕ) → k < length now → table kind (block_at now k) ≡ at_home d partition (unit_behind kind d) (on_each kind old) k
-  all_at_home k within = all_places None _ ((d + 1) * 2 ^ d) _ (links_of kind d (block_at now k) (blocks.shaped k within)) (λ l small. on_one k l within small _ refl)
-
-  pub are_exchanged : now ≡ exchanged kind d partition old
+  all_exchanged : now ≡ exchanged kind d partition old
   unfolding exchanged
-  are_exchanged = all_places no_block now (length old) _ moved.count (λ k within.
+  all_exchanged = all_places no_block now (length old) _ moved.count (λ k within.
       moved.rest k ∙ ap (λ ms. with_table kind ms (block_at old k)) (all_at_home k (rw moved.count within)))
+
+pub are_exchanged : (kind : Kind) (d : ℕ) (partition : List ℕ) (old now : List BlockState) → AreBlocks d partition old → OnlyMove kind old now → AreThere kind d partition now → AreExchanged kind d partition old now
+are_exchanged kind d partition old now blocks moved there = record {
+  moved = moved;
+  there = there;
+  all = all_exchanged kind d blocks.some_stages blocks.few_stages partition old now moved there (still_blocks d partition old now kind moved blocks);
+}

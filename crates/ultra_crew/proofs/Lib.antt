@@ -1,6 +1,5 @@
 pub mod Words
-pub mod RepliesSame
-pub mod RequestsSame
+pub mod RoomsSame
 pub mod Exchanged
 pub mod Started
 pub mod Dealt

@@ -9,7 +9,7 @@ use Rattle.ultra_section.specs.declared.half.Half.TheVariants.{SendReplies, Take
 use Rattle.ultra_section.specs.declared.rooms.Rooms.{Rooms}
 use Rattle.ultra_cut.specs.declared.kind.Kind.TheVariants.{Replies, Requests}
 use Rattle.ultra_cut.specs.Cut.{frame_of}
-use Rattle.ultra_cut.specs.Halves.{all_made}
+use Rattle.ultra_cut.specs.Halves.{AllCanMake, all_made}
 use Rattle.ultra_block.specs.State.{BlocksState}
 use Rattle.ultra_desk.specs.Tasks.{tasks_from, team}
 use Rattle.ultra_desk.specs.declared.task.Task.{Task}
@@ -68,6 +68,13 @@ module _ (d : ℕ) (partition : List ℕ) (program : List Instr) (bs : List Bloc
 -- the team of each of them, when the blocks are these
 abbrev pub teams_of : ℕ → List BlockState → ℕ → List Task
 teams_of workers bs w = team workers w (tasks_from 0 bs)
+
+-- the blocks may make a half, and what the workers give back after it is what is expected
+pub record IsDue (results : ℕ → Half → ℕ → List Task) (program : List Instr) (workers n : ℕ)
+    (half : Half) (rooms : Rooms) (bs : List BlockState) : Type 0 where
+  pub ready : AllCanMake program half bs
+  pub settled :
+      (w : ℕ) → results n half w ≡ teams_of workers (all_made half rooms program bs) w
 
 -- what each gives back after a half of the next cycle of a machine
 unfoldable pub results_in : ℕ → BlocksState → Half → ℕ → List Task

@@ -1,5 +1,5 @@
 -- blocks after an exchange: each message is in the block of the unit to which it leads
-use Rattle.std.specs.Prelude.{ℕ, ◌+◌, ◌-◌, ◌*◌, ◌/◌, ◌%◌, ◌^◌, ◌==◌, true, false, nat_lt, List, length, Option, None}
+use Rattle.std.specs.Prelude.{◌≡◌, ℕ, ◌+◌, ◌-◌, ◌*◌, ◌/◌, ◌%◌, ◌^◌, ◌==◌, true, false, nat_lt, List, length, Option, None}
 use Rattle.ultra_route.specs.Route.{shuffled}
 use Rattle.ultra_model.specs.Places.{places}
 use Rattle.ultra_units.specs.Numbers.{switch_number, reply_target, request_target}
@@ -7,7 +7,8 @@ use Rattle.ultra_section.specs.BlockState.{BlockState}
 use Rattle.ultra_cut.specs.declared.kind.Kind.{Kind}
 use Rattle.ultra_cut.specs.declared.kind.Kind.TheVariants.{Replies, Requests}
 use Rattle.ultra_cut.specs.Cut.{block_at, home, first}
-use Rattle.ultra_cut.specs.Exchange.{on_each, with_table}
+use Rattle.ultra_cut.specs.Exchange.{AreSingle, AreThere, OnlyMove, on_each, with_table}
+use Rattle.ultra_cut.specs.Halves.{AreBlocks}
 
 -- the unit of a machine of d stages to which a link leads
 abbrev pub unit_behind : Kind → ℕ → ℕ → ℕ
@@ -33,3 +34,16 @@ at_home d partition unit on k = places ((d + 1) * 2 ^ d) (λ l. elim (home parti
 unfoldable pub exchanged : Kind → ℕ → List ℕ → List BlockState → List BlockState
 exchanged kind d partition bs = places (length bs) (λ k.
     with_table kind (at_home d partition (unit_behind kind d) (on_each kind bs) k) (block_at bs k))
+
+-- they can be exchanged where no link has a message in two blocks
+pub record CanBeExchanged (kind : Kind) (d : ℕ) (partition : List ℕ) (bs : List BlockState)
+    : Type 0 where
+  pub blocks : AreBlocks d partition bs
+  pub single : AreSingle kind bs
+
+-- they have been exchanged, and so the blocks are these
+pub record AreExchanged (kind : Kind) (d : ℕ) (partition : List ℕ) (old now : List BlockState)
+    : Type 0 where
+  pub moved : OnlyMove kind old now
+  pub there : AreThere kind d partition now
+  pub all : now ≡ exchanged kind d partition old

@@ -1,5 +1,5 @@
 -- the rooms of a machine as the words that blocks note them in
-use Rattle.std.specs.Prelude.{ℕ, zero, suc, ◌+◌, ◌-◌, ◌*◌, ◌^◌, Bool, true, false, not, nat_lt, is_some, List}
+use Rattle.std.specs.Prelude.{ℕ, zero, suc, ◌+◌, ◌-◌, ◌*◌, Bool, true, false, not, nat_lt, is_some, List}
 use Rattle.ultra_model.specs.Places.{places}
 use Rattle.ultra_units.specs.Numbers.{switch_count}
 use Rattle.ultra_halves.specs.Halves.{ports}
@@ -7,18 +7,14 @@ use Rattle.ultra_halves.specs.Switches.{has_reply_room, has_request_room}
 use Rattle.ultra_section.specs.declared.rooms.Rooms.{Rooms}
 use Rattle.ultra_course.specs.Frame.{Frame}
 
-abbrev pub bit_of_test : Bool → ℕ
-bit_of_test true = 1
-bit_of_test false = 0
-
--- the number whose bit i says whether a test is true of i, for each i below n
-unfoldable pub word_of : (ℕ → Bool) → ℕ → ℕ
-word_of p zero = 0
-word_of p (suc n) = bit_of_test (p n) * 2 ^ n + word_of p n
+-- a number of n bits, of which bit i says whether a test is true of i
+unfoldable pub word_of : ℕ → (ℕ → Bool) → ℕ
+word_of zero p = 0
+word_of (suc n) p = elim (p 0) [ true ↦ 1 | false ↦ 0 ] + 2 * word_of n (λ i. p (suc i))
 
 -- the set of the units that pass a test
 unfoldable pub units_with : (ℕ → Bool) → List ℕ
-units_with p = places 5 (λ k. word_of (λ i. p (k * 64 + i)) 64)
+units_with p = places 5 (λ k. word_of 64 (λ i. p (k * 64 + i)))
 
 -- the units of a machine of d stages that have no room; port zero has those of the modules too
 module _ (d : ℕ) (f : Frame) where

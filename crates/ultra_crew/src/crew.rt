@@ -80,6 +80,7 @@ impl Crew {
 }
 
 /// The machine makes n cycles, in the caller's thread.
+#[tactic(auto, using(crate::proofs::Counted::made_later))]
 fn cycles_alone(blocks: &mut Blocks, count: u32)
     requires { blocks.old.machine.cycles + count < 2 ^ 32 }
     ensures { blocks.new ≡ record blocks.old { machine = cycles_on blocks.old.config blocks.old.program count blocks.old.machine } }

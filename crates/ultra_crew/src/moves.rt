@@ -1,9 +1,7 @@
 //! What passes between the blocks of a machine, as lists that workers are dealt and give back.
 
-ghost use Rattle.std.specs.Prelude.{◌≡◌};
-ghost use Rattle.ultra_cut.specs.Cut.{IsCut};
 ghost use Rattle.ultra_cut.specs.declared.kind.Kind.TheVariants.{Replies, Requests};
-ghost use Rattle.ultra_cut.specs.Exchange.{AreThere, AreSingle, OnlyMove};
+ghost use Rattle.ultra_crew.specs.Exchanged.{AreExchanged, CanBeExchanged};
 
 use ultra_cut::{exchange_replies, exchange_requests};
 use ultra_route::Net;
@@ -15,10 +13,8 @@ pub(crate) fn with_replies_exchanged(
     partition: &[u8],
     net: Net,
 ) -> Vec<Block>
-    requires cut { IsCut net partition.now blocks.items }
-    requires single { AreSingle Replies blocks.items }
-    ensures only { OnlyMove Replies blocks.items result.items }
-    ensures there { AreThere Replies net partition.now result.items }
+    requires { CanBeExchanged Replies net partition.now blocks.items }
+    ensures { AreExchanged Replies net partition.now blocks.items result.items }
 {
     exchange_replies(blocks.as_mut_slice(), partition, net);
     blocks
@@ -30,10 +26,8 @@ pub(crate) fn with_requests_exchanged(
     partition: &[u8],
     net: Net,
 ) -> Vec<Block>
-    requires cut { IsCut net partition.now blocks.items }
-    requires single { AreSingle Requests blocks.items }
-    ensures only { OnlyMove Requests blocks.items result.items }
-    ensures there { AreThere Requests net partition.now result.items }
+    requires { CanBeExchanged Requests net partition.now blocks.items }
+    ensures { AreExchanged Requests net partition.now blocks.items result.items }
 {
     exchange_requests(blocks.as_mut_slice(), partition, net);
     blocks

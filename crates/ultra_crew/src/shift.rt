@@ -1,13 +1,14 @@
 //! Workers whose threads are kept over several cycles.
 
-ghost use Rattle.std.specs.Prelude.{◌≡◌, ℕ, ◌+◌, ◌-◌, ◌<◌, ◌≤◌, ◌^◌, All, IfOk, OnOk, [], length, map, slice_index_or};
+ghost use Rattle.std.specs.Prelude.{◌≡◌, ℕ, ◌+◌, ◌-◌, ◌<◌, ◌≤◌, ◌^◌, All, IfOk, List, OnOk, [], length, map, slice_index_or};
 ghost use Rattle.ultra_model.specs.Phases.{cycle as next_cycle};
 ghost use Rattle.ultra_section.specs.declared.half.Half.{Half};
-ghost use Rattle.ultra_cut.specs.Halves.{AllCanMake, all_made};
+ghost use Rattle.ultra_section.specs.BlockState.{BlockState};
+ghost use Rattle.ultra_cut.specs.Halves.{all_made};
 ghost use Rattle.ultra_cut.specs.Moments.{AreWhole, machine_in};
-ghost use Rattle.ultra_desk.specs.Tasks.{AreEmptyTeams, CanBeMade, task_made};
+ghost use Rattle.ultra_desk.specs.Tasks.{AreEmptyTeams, AreTeams, CanBeMade, task_made};
 ghost use Rattle.ultra_crew.specs.Start.{state_of};
-ghost use Rattle.ultra_crew.specs.Course.{IsCourse, cycles_on, results_in, teams_of};
+ghost use Rattle.ultra_crew.specs.Course.{IsCourse, IsDue, cycles_on, results_in};
 
 use crate::moves::{with_replies_exchanged, with_requests_exchanged};
 use std::alloc::Global;
@@ -71,6 +72,7 @@ impl<J: Course> Shift<J> {
     /// The machine's count of cycles has to be below `2^32 - 1`. The shift has to be one that was begun for this machine's course. The call may wait.
     ///
     /// `NoMemory` says that memory was refused, and `NoThread` that a worker's thread is gone; the blocks are then given up.
+    #[tactic(auto, using(ultra_block::proofs::Seen::cycles_are))]
     pub fn cycle<R: Wait>(&self, rt: &R, alloc: Global, blocks: Blocks) -> Result<Blocks, CrewFault>
         requires counted { blocks.machine.cycles < 2 ^ 32 - 1 }
         requires some_worker { 1 ≤ self.now }
@@ -96,6 +98,7 @@ impl<J: Course> Shift<J> {
     }
 
     /// The machine makes n cycles, each as by `cycle`.
+    #[tactic(auto, using(crate::proofs::Counted::made_later))]
     pub(crate) fn cycles<R: Wait>(
         &self,
         rt: &R,
@@ -160,8 +163,7 @@ impl<J: Course> Shift<J> {
     ) -> Result<Vec<Block>, CrewFault>
         requires some_worker { 1 ≤ self.now }
         requires teams { AreEmptyTeams self.now teams.old.items }
-        requires ready { AllCanMake J.program half blocks.items }
-        requires settled { (w : ℕ) → J.results cycle half w ≡ teams_of self.now (all_made half rooms.now J.program blocks.items) w }
+        requires due { IsDue J.results J.program self.now cycle half rooms.now blocks.items }
         ensures blocks { IfOk result (λ v. v.items ≡ all_made half rooms.now J.program blocks.items) }
         ensures teams { OnOk result (AreEmptyTeams self.now teams.new.items) }
     {
@@ -184,10 +186,8 @@ impl<J: Course> Shift<J> {
     ) -> Result<Vec<Block>, CrewFault>
         requires some_worker { 1 ≤ self.now }
         requires teams { AreEmptyTeams self.now teams.old.items }
-        requires ready { AllCanMake J.program halves.0 blocks.items }
-        requires settled { (w : ℕ) → J.results cycle halves.0 w ≡ teams_of self.now (all_made halves.0 rooms.now J.program blocks.items) w }
-        requires ready_again { AllCanMake J.program halves.1 (all_made halves.0 rooms.now J.program blocks.items) }
-        requires settled_again { (w : ℕ) → J.results cycle halves.1 w ≡ teams_of self.now (all_made halves.1 rooms.now J.program (all_made halves.0 rooms.now J.program blocks.items)) w }
+        requires due { IsDue J.results J.program self.now cycle halves.0 rooms.now blocks.items }
+        requires due_again { IsDue J.results J.program self.now cycle halves.1 rooms.now (all_made halves.0 rooms.now J.program blocks.items) }
         ensures blocks { IfOk result (λ v. v.items ≡ all_made halves.1 rooms.now J.program (all_made halves.0 rooms.now J.program blocks.items)) }
         ensures teams { OnOk result (AreEmptyTeams self.now teams.new.items) }
     {
@@ -209,10 +209,9 @@ impl<J: Course> Shift<J> {
         teams: &mut Vec<Vec<Task>>,
     ) -> Result<(), CrewFault>
         requires count { length teams.old.items ≡ self.now }
-        requires ready { (w : ℕ) (d : _) → w < length teams.old.items → All (CanBeMade J.program half) (slice_index_or teams.old.items w d).items }
-        requires settled { (w : ℕ) (d : _) → w < length teams.old.items → map (task_made half rooms.now J.program) (slice_index_or teams.old.items w d).items ≡ J.results cycle half w }
+        requires due { (bs : List BlockState) × AreTeams self.now teams.old.items bs × IsDue J.results J.program self.now cycle half rooms.now bs }
         ensures count { OnOk result (length teams.new.items ≡ self.now) }
-        ensures results { OnOk result ((w : ℕ) (d : _) → w < self.now → (slice_index_or teams.new.items w d).items ≡ J.results cycle half w) }
+        ensures made { OnOk result ((bs : List BlockState) → IsDue J.results J.program self.now cycle half rooms.now bs → AreTeams self.now teams.new.items (all_made half rooms.now J.program bs)) }
     {
         self.hand_out(rt, cycle, half, rooms, teams)?;
         self.collect(rt, cycle, half, teams)

@@ -1,11 +1,9 @@
 pub mod Numbers
 pub mod Moved
 pub mod Columns
-pub mod Acting
 pub mod Halves
 pub mod Units
 pub mod NothingHeld
 pub mod Happenings
-pub mod Merged
 pub mod Whole
 pub mod Questions

@@ -1,31 +1,27 @@
 -- Messages on links: to which unit each link leads, computed over every network of at most six stages, and what is true of
 -- messages of each kind. Where each message is in the block to which it leads, what comes to a unit is what its block has
 -- for it. Messages that lead from one block to a unit in another go there, and nothing else changes.
-use Rattle.std.proofs.Common.{◌≡◌, ◌≢◌, ℕ, ◌+◌, ◌-◌, ◌*◌, ◌^◌, ◌<◌, ◌≤◌, Bool, true, false, List, Option, Some, None, length, refl, sym, ap, subst, arith, map, ◌∙◌, get_or-set_same, get_or-set_other, inl, inr}
-use Rattle.std.specs.Prelude.{◌&&◌, ◌||◌, ◌==◌, nat_lt, ◌⊎◌}
+use Rattle.std.proofs.Common.{◌≡◌, ◌≢◌, ℕ, ◌+◌, ◌-◌, ◌*◌, ◌^◌, ◌<◌, ◌≤◌, Bool, true, false, List, Option, Some, None, length, refl, sym, ap, subst, arith, map, ◌∙◌, get_or-set_same, get_or-set_other, inl, inr, ◌&&◌, ◌||◌, ◌==◌, nat_lt, ◌⊎◌, get_or}
 use Rattle.std.proofs.lemmas.Bool.Decides.{nat_tests}
-use Rattle.std.proofs.lemmas.List.{get_or_past, length-set}
+use Rattle.std.proofs.lemmas.List.{get_or_default, get_or_past, length-set}
 use Rattle.ultra_route.proofs.Table.{all_below, all_below_at}
-use Rattle.ultra_switch.specs.declared.Ports.{Ports}
 use Rattle.ultra_units.specs.Numbers.{switch_count, unit_count, module_number, element_number}
 use Rattle.ultra_halves.specs.Halves.{ports}
 use Rattle.ultra_section.specs.Units.{stage_of, index_of}
 use Rattle.ultra_section.specs.Marks.{delivery_link, memory_link, reply_links, request_links, on_both, on_link, without_both}
-use Rattle.ultra_section.specs.BlockState.{BlockState}
 use Rattle.ultra_section.specs.Away.{AreEmpty, put_on_both, reply_inlets, request_inlets, taken_by_turns}
 use Rattle.ultra_section.specs.Shape.{IsShaped}
 use Rattle.ultra_section.proofs.Readers.{are_read, each_network, replies_read, reply_reader, request_reader, requests_read}
 use Rattle.ultra_section.proofs.Standing.{unit_is}
 use Rattle.ultra_section.proofs.Marks.{emptied, emptied_first, length-put_on}
 use Rattle.ultra_section.proofs.Put.{put_apart, put_or, put_there}
-use Rattle.ultra_course.specs.Frame.{AreAlike, Frame}
-use Rattle.ultra_cut.specs.declared.kind.Kind.{Kind}
-use Rattle.ultra_cut.specs.declared.kind.Kind.TheVariants.{Replies, Requests}
-use Rattle.ultra_cut.specs.Cut.{IsCut, block_at, first, home, frame_of}
-use Rattle.ultra_cut.specs.Exchange.{AreThere, MessageOf, inlets, message_on, on_each, table, with_table, AreSingle, HasNoneFor, NoneLeavesWithin, OnlyMove, carried, moved}
+use Rattle.ultra_course.specs.Frame.{AreAlike, Frame, Ports}
+use Rattle.ultra_cut.specs.Cut.{IsCut, block_at, no_block, first, home, frame_of, BlockState}
+use Rattle.ultra_cut.specs.Exchange.{AreThere, MessageOf, inlets, message_on, on_each, table, with_table, AreSingle, HasNoneFor, NoneLeavesWithin, OnlyMove, carried, moved, Kind, Replies, Requests}
 use Rattle.ultra_cut.specs.Halves.{AreBlocks}
 use Rattle.ultra_cut.proofs.Columns.{column_first, same_entries}
-use Rattle.ultra_cut.proofs.Numbers.{differs, not_equal}
+use Rattle.ultra_cut.proofs.Numbers.{differs}
+use Rattle.ultra_model.proofs.Neighbours.{other}
 
 -- ---- a block with something else on its links
 pub table_with : (kind : Kind) (t : List (Option (MessageOf kind))) (b : BlockState) → table kind (with_table kind t b) ≡ t
@@ -94,11 +90,7 @@ unfolding all_below
 all_lead Replies = refl
 all_lead Requests = refl
 
-pub record LeadsTo (kind : Kind) (d l n : ℕ) : Type 0 where
-  pub small : n < unit_count d
-  pub among : is_among l (inlets kind d n) ≡ true
-
-pub leads_to : (kind : Kind) (d : ℕ) → 1 ≤ d → d ≤ 6 → (l : ℕ) → l < (d + 1) * 2 ^ d → LeadsTo kind d l (reader kind d l)
+pub leads_to : (kind : Kind) (d : ℕ) → 1 ≤ d → d ≤ 6 → (l : ℕ) → l < (d + 1) * 2 ^ d → record { small : reader kind d l < unit_count d; among : is_among l (inlets kind d (reader kind d l)) ≡ true }
 leads_to kind d low high l h =
     let it = all_below_at (leads kind d) _ (each_network (λ d. all_below (leads kind d) ((d + 1) * 2 ^ d)) (all_lead kind) d low high) l h in
     grind (arith, nat_tests)
@@ -142,9 +134,6 @@ abbrev got : {M : Type 0} → List (Option M) → List (Option M) → Ports ℕ 
 got t u p = put_on_both u p (taken_by_turns t p)
 
 module _ {M : Type 0} (t u : List (Option M)) (p : Ports ℕ) where
-  lengths : (length (left t p) ≡ length t) × (length (got t u p) ≡ length u)
-  lengths = grind (arith, length-set, length-put_on)
-
   at_inlet : p.zero < length u → p.one < length u → (l : ℕ) → (l ≡ p.zero) ⊎ (l ≡ p.one) → (on_link (left t p) l ≡ None) × (on_link (got t u p) l ≡ put_or (on_link t l) (on_link u l))
   at_inlet zero_small one_small l inlet = grind (arith, emptied, emptied_first, put_there, put_apart, length-put_on, get_or-set_other)
 
@@ -169,13 +158,10 @@ module _ {X : Type 0} (g : BlockState → Option X) (k h : ℕ) (bs now : List B
     single_after : Goes ⊎ Stays → (i j : ℕ) → i ≢ j → g (block_at now i) ≢ None → g (block_at now j) ≡ None
     single_after goes i j other there = grind arith
 
-    first_by : Goes → (o : Option X) → g (block_at bs k) ≡ o → first (map g now) ≡ first (map g bs)
-    first_by goes None is = ap first (same_entries g g bs now count (grind arith))
-    first_by goes (Some x) is = column_first g now h (omega arith) (grind arith) ∙ grind arith ∙ sym (column_first g bs k k_within (grind arith))
-
-    first_after : Goes ⊎ Stays → first (map g now) ≡ first (map g bs)
-    first_after (inl goes) = first_by goes (g (block_at bs k)) refl
-    first_after (inr stays) = ap first (same_entries g g bs now count (λ j h. stays j))
+    first_after : Goes ⊎ Stays → (o : Option X) → g (block_at bs k) ≡ o → first (map g now) ≡ first (map g bs)
+    first_after (inr stays) o is = ap first (same_entries g g bs now count (λ j h. stays j))
+    first_after (inl goes) None is = ap first (same_entries g g bs now count (grind arith))
+    first_after (inl goes) (Some x) is = column_first g now h (omega arith) (grind arith) ∙ grind arith ∙ sym (column_first g bs k k_within (grind arith))
 
 module _ (kind : Kind) where
   pub nothing_moved : (bs : List BlockState) → AreSingle kind bs → OnlyMove kind bs bs
@@ -222,24 +208,22 @@ module _ (kind : Kind) where
 
       -- if that is unit n, which stands there, no other block has anything more for a unit
       module _ (d : ℕ) (low : 1 ≤ d) (high : d ≤ 6) (partition : List ℕ) (n : ℕ) (at_home : home partition n ≡ h) (is : inlets kind d n ≡ Some p) where
-        still_none : (j m l : ℕ) → home partition m ≢ j → reader kind d l ≡ m → message_on kind l (block_at bs j) ≡ None → message_on kind l (block_at after j) ≡ None
-        still_none j m l elsewhere leads none =
-            let it = lead_here kind d low high n p is in
-            none_after (message_on kind l) k h bs after (moves l) j none (λ here. stays l (λ same. grind arith) (λ same. grind arith) j)
-
         kept_at : (j m : ℕ) (o : Option (Ports ℕ)) → inlets kind d m ≡ o → home partition m ≢ j → AreEmpty (was j) o → AreEmpty (table kind (block_at after j)) o
         kept_at j m None leads elsewhere none = tt
         kept_at j m (Some q) leads elsewhere none =
-            let it = lead_here kind d low high m q leads in
-            (still_none j m q.zero elsewhere it.zero_reader none.0, still_none j m q.one elsewhere it.one_reader none.1)
+            let it = lead_here kind d low high n p is in
+            let other = lead_here kind d low high m q leads in
+            let still = λ (l : ℕ) (to : reader kind d l ≡ m) (empty : message_on kind l (block_at bs j) ≡ None).
+            none_after (message_on kind l) k h bs after (moves l) j empty (λ here. stays l (λ same. grind arith) (λ same. grind arith) j) in
+            (still q.zero other.zero_reader none.0, still q.one other.one_reader none.1)
 
         carried_step : AreSingle kind bs → Step d partition k n bs after
         carried_step single = record {
           only = record {
             count = count;
             rest = grind (arith, at_k, at_h, others, table_with, with_own);
-            lengths = grind (arith, at_k, at_h, others, table_with, lengths);
-            links = λ l. first_after (message_on kind l) k h bs after count apart k_within h_within (single l) (moves l);
+            lengths = grind (arith, at_k, at_h, others, table_with, length-set, length-put_on);
+            links = λ l. first_after (message_on kind l) k h bs after count apart k_within h_within (single l) (moves l) _ refl;
             single = λ l. single_after (message_on kind l) k h bs after count apart k_within h_within (single l) (moves l);
           };
           gone = grind (arith, goes);
@@ -248,24 +232,24 @@ module _ (kind : Kind) where
 
   module _ (d : ℕ) (low : 1 ≤ d) (high : d ≤ 6) (partition : List ℕ) (bs : List BlockState) (k n : ℕ) (single : AreSingle kind bs) (k_within : k < length bs) (h_within : home partition n < length bs)
       (links : home partition n ≢ k → (p : Ports ℕ) → inlets kind d n ≡ Some p → length (table kind (block_at bs (home partition n))) ≡ (d + 1) * 2 ^ d) where
-    step_by_inlets : (o : Option (Ports ℕ)) → inlets kind d n ≡ o → home partition n ≢ k → Step d partition k n bs (elim o [ None ↦ bs | Some p ↦ carried kind k (home partition n) p bs ])
-    step_by_inlets None is apart = grind (arith, nothing_moved)
-    step_by_inlets (Some p) is apart =
+    step_if : (here : Bool) (o : Option (Ports ℕ)) → (home partition n == k) ≡ here → inlets kind d n ≡ o
+        → Step d partition k n bs (elim here [ true ↦ bs | false ↦ elim o [ None ↦ bs | Some p ↦ carried kind k (home partition n) p bs ] ])
+    step_if true o same is = grind (arith, nothing_moved)
+    step_if false None same is = grind (arith, nothing_moved)
+    step_if false (Some p) same is =
+        let apart = differs (home partition n) k same in
         let it = lead_here kind d low high n p is in
         let all = links apart p is in
         carried_step bs k (home partition n) p apart k_within h_within (omega arith) (omega arith) d low high partition n refl is single
 
-    step_by_home : (here : Bool) → (home partition n == k) ≡ here → Step d partition k n bs (elim here [ true ↦ bs | false ↦ elim (inlets kind d n) [ None ↦ bs | Some p ↦ carried kind k (home partition n) p bs ] ])
-    step_by_home true same = grind (arith, nothing_moved)
-    step_by_home false same = step_by_inlets (inlets kind d n) refl (differs (home partition n) k same)
-
     pub moved_step : (now : List BlockState) → now ≡ moved kind d k (home partition n) n bs → Step d partition k n bs now
-    moved_step now is = rw is (step_by_home (home partition n == k) refl)
+    moved_step now is = rw is (step_if (home partition n == k) (inlets kind d n) refl refl)
 
--- where nothing leaves a block for units elsewhere
-pub none_leaves : (kind : Kind) (d : ℕ) (partition : List ℕ) (bs : List BlockState) (k from to : ℕ) → IsCut d partition bs → k < length bs → NoneLeavesWithin kind (block_at bs k) from to
-    → (n : ℕ) → from ≤ n → n < to → n < unit_count d → HasNoneFor kind d partition bs k n
-none_leaves kind d partition bs k from to cut within none n after before unit elsewhere = grind (arith, not_equal)
+-- what a block has for units elsewhere is gone up to a number, if nothing leaves it from where it was gone
+pub gone_until : (kind : Kind) (d : ℕ) (partition : List ℕ) (bs : List BlockState) (k from to : ℕ) (x : BlockState) → IsCut d partition bs → k < length bs → NoneLeavesWithin kind (get_or bs k x) from to
+    → ((n : ℕ) → n < from → n < unit_count d → HasNoneFor kind d partition bs k n) → (n : ℕ) → n < to → n < unit_count d → HasNoneFor kind d partition bs k n
+gone_until kind d partition bs k from to x cut within none gone n before unit elsewhere =
+    let same = get_or_default bs k x no_block within in grind (arith, other)
 
 -- ---- what an exchange leaves as it was
 module _ (d : ℕ) (partition : List ℕ) (bs now : List BlockState) where

@@ -1,7 +1,7 @@
 -- What is empty where a unit of a machine holds nothing, for those who skip it.
 use Rattle.std.proofs.lemmas.Grind.{common_steps}
 use Rattle.std.proofs.Common.{◌≡◌, ℕ, ◌+◌, ◌*◌, ◌-◌, ◌^◌, ◌<◌, List, [], true, false, None, ◌∙◌, arith}
-use Rattle.ultra_model.specs.Machine.{Machine, lane_at, replies_at, bank_at, element_at}
+use Rattle.ultra_model.specs.Machine.{lane_at, replies_at, bank_at, element_at}
 use Rattle.ultra_units.specs.Numbers.{switch_number, module_number, element_number}
 use Rattle.ultra_halves.specs.Halves.{has_none}
 use Rattle.ultra_section.specs.declared.held.Held.{Held}
@@ -9,6 +9,7 @@ use Rattle.ultra_section.specs.declared.held.Held.TheVariants.{Reply, Request, R
 use Rattle.ultra_section.proofs.Holding.{at_switch}
 use Rattle.ultra_course.proofs.Numbers.{at_number, number_small}
 use Rattle.ultra_cut.specs.Holding.{holds, stage_holds}
+use Rattle.ultra_course.specs.Whole.{Machine}
 
 is_none : {X : Type 0} (xs : List X) → has_none xs ≡ true → xs ≡ []
 is_none xs h = grind (arith, common_steps)

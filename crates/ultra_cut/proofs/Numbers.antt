@@ -1,6 +1,5 @@
 -- Facts about numbers.
-use Rattle.std.proofs.Common.{◌≡◌, ◌≢◌, ℕ, ◌+◌, ◌<◌, ◌≤◌, Bool, true, false, refl, arith}
-use Rattle.std.specs.Prelude.{◌==◌, ◌&&◌, ◌||◌, nat_lt}
+use Rattle.std.proofs.Common.{◌≡◌, ◌≢◌, ℕ, ◌+◌, ◌<◌, ◌≤◌, Bool, true, false, refl, arith, ◌==◌, ◌&&◌, ◌||◌, nat_lt}
 use Rattle.std.proofs.lemmas.Bool.Decides.{nat_tests}
 use Rattle.ultra_route.proofs.Table.{all_below}
 use Rattle.ultra_units.specs.Numbers.{unit_count}
@@ -8,9 +7,6 @@ use Rattle.ultra_units.proofs.Readers.{each_network}
 
 pub differs : (a b : ℕ) → (a == b) ≡ false → a ≢ b
 differs a b h = grind (arith, nat_tests)
-
-pub not_equal : (a b : ℕ) → a ≢ b → (a == b) ≡ false
-not_equal a b h = grind (arith, nat_tests)
 
 -- what is true below i or at i is true below i + 1
 pub one_more : (a i : ℕ) (p : Bool) {was own now : Bool} → was ≡ (nat_lt a i && p) → own ≡ ((a == i) && p) → now ≡ (was || own) → now ≡ (nat_lt a (i + 1) && p)

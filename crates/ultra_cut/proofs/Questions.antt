@@ -1,28 +1,24 @@
 -- What is asked of all blocks: where there is no room, which units hold something, and whether anything is left to do. What
 -- they answer is true of the whole machine that they make up.
-use Rattle.std.proofs.Common.{◌≡◌, ℕ, ◌+◌, ◌^◌, ◌<◌, List, Bool, length, arith, [], ◌∷◌, refl, ◌*◌, ◌/◌, ◌≤◌, true, subst, get_or, None}
-use Rattle.std.specs.Prelude.{◌&&◌, is_some, nat_lt, not, ◌==◌, ◌||◌}
-use Rattle.std.specs.List.{list_all}
+use Rattle.std.proofs.Common.{◌≡◌, ℕ, ◌+◌, ◌^◌, ◌<◌, List, Bool, length, arith, [], ◌∷◌, refl, ◌*◌, ◌/◌, ◌≤◌, true, false, get_or, None, take, ap, ◌∙◌, ◌&&◌, is_some, nat_lt, not, ◌==◌, take_all}
+use Rattle.std.specs.List.{list_all, list_any}
 use Rattle.std.proofs.lemmas.List.Elements.{All-from_get_or}
+use Rattle.std.proofs.lemmas.List.Folds.{list_any_at, list_any_none}
+use Rattle.ultra_model.proofs.Neighbours.{itself}
 use Rattle.std.proofs.lemmas.List.Sums.{AllPass-from_list_all, list_all-from_AllPass}
-use Rattle.ultra_msg.specs.declared.Event.{Event}
-use Rattle.ultra_msg.specs.declared.ReplyMessage.{ReplyMessage}
 use Rattle.ultra_route.proofs.Table.{sizes}
 use Rattle.ultra_switch.specs.Arrive.{Lane}
 use Rattle.ultra_isa.specs.Step.{has_stopped}
-use Rattle.ultra_model.specs.declared.Stop.{Stop}
-use Rattle.ultra_model.specs.Machine.{Settings, Element, size, is_empty, is_quiet}
+use Rattle.ultra_model.specs.Machine.{Element, size, is_empty, is_quiet}
 use Rattle.ultra_model.specs.Places.{places, table}
 use Rattle.ultra_model.proofs.Each.{places_at, length-places}
 use Rattle.ultra_units.specs.Set.{has_unit}
-use Rattle.ultra_units.specs.Numbers.{switch_count, module_number, switch_number}
+use Rattle.ultra_units.specs.Numbers.{switch_count, module_number}
 use Rattle.ultra_units.proofs.Set.{none_there}
 use Rattle.ultra_halves.specs.Switches.{has_reply_room, has_request_room, quiet_switch}
 use Rattle.ultra_halves.specs.Halves.{has_none}
 use Rattle.ultra_halves.specs.Modules.{quiet_bank}
 use Rattle.ultra_halves.specs.Elements.{element_of, quiet_element}
-use Rattle.ultra_halves.specs.declared.elements.ProcessingElement.{ProcessingElement}
-use Rattle.ultra_section.specs.BlockState.{BlockState}
 use Rattle.ultra_section.specs.Rooms.{HasNoted, AreOwnRooms, all_open}
 use Rattle.ultra_section.specs.declared.rooms.Rooms.{Rooms}
 use Rattle.ultra_section.specs.declared.held.Held.{Held}
@@ -31,15 +27,17 @@ use Rattle.ultra_section.proofs.Standing.{is_switch, unit_of_module, unit_of_ele
 use Rattle.ultra_section.proofs.OfKind.{by_kind, unit_of_none}
 use Rattle.ultra_section.specs.Units.{index_of, stage_of}
 use Rattle.ultra_section.specs.Quiet.{or_elsewhere, quiet_block}
-use Rattle.ultra_course.specs.Frame.{AreRooms, Frame}
-use Rattle.ultra_course.specs.Whole.{whole, sized_lane, sized_replies}
+use Rattle.ultra_course.specs.Frame.{AreRooms, Frame, ReplyMessage, ProcessingElement}
+use Rattle.ultra_course.specs.Whole.{whole, sized_lane, sized_replies, Settings}
+use Rattle.ultra_course.proofs.Numbers.{number_small}
 use Rattle.ultra_course.proofs.AtFrame.{lane_is, replies_is, bank_is, element_is}
-use Rattle.ultra_cut.specs.Cut.{IsCut, block_at, frame_of, home, no_block}
+use Rattle.ultra_cut.specs.Cut.{IsCut, block_at, frame_of, home, no_block, BlockState}
 use Rattle.ultra_cut.specs.Halves.{noted, AreBlocks}
 use Rattle.ultra_cut.specs.Moments.{AreRoomsOfAll}
-use Rattle.ultra_cut.specs.Holding.{holds}
+use Rattle.ultra_cut.specs.Holding.{holds, IsSetOfAll}
 use Rattle.ultra_cut.proofs.Numbers.{one_more}
-use Rattle.ultra_cut.proofs.Units.{if_home, modules, switches, elements, Sort, here, unit, there}
+use Rattle.ultra_cut.proofs.Units.{if_home, modules, switches, elements, Sort, at_home, here, unit}
+use Rattle.ultra_course.specs.Course.{Event, Stop}
 
 -- ---- rooms, as blocks note them one after another: of a unit without room, once its home has
 
@@ -47,16 +45,16 @@ module _ (d : ℕ) (partition : List ℕ) (bs : List BlockState) where
   abbrev frame : Frame
   frame = frame_of d partition bs
 
+  -- of unit n this is noted, once one of the blocks below i has it
+  abbrev IsNoted : ℕ → List ℕ → ℕ → Bool → Type 0
+  IsNoted i set n none = has_unit set n ≡ (nat_lt (home partition n) i && none)
+
   -- what the blocks below i have noted
   pub record HaveNoted (i : ℕ) (rooms : Rooms) : Type 0 where
-    pub replies : (n : ℕ) → n < switch_count d
-        → has_unit rooms.no_reply_room n ≡ (nat_lt (home partition n) i && not (has_reply_room (frame.switch n)))
-    pub zero_port : (n : ℕ) → n < switch_count d
-        → has_unit rooms.no_request_room.zero n ≡ (nat_lt (home partition n) i && not (has_request_room (frame.switch n)).zero)
-    pub one_port : (n : ℕ) → n < switch_count d
-        → has_unit rooms.no_request_room.one n ≡ (nat_lt (home partition n) i && not (has_request_room (frame.switch n)).one)
-    pub modules : (m : ℕ) → m < 2 ^ d
-        → has_unit rooms.no_request_room.zero (module_number d m) ≡ (nat_lt (home partition (module_number d m)) i && is_some (frame.bank m).inp)
+    pub replies : (n : ℕ) → n < switch_count d → IsNoted i rooms.no_reply_room n (not (has_reply_room (frame.switch n)))
+    pub zero_port : (n : ℕ) → n < switch_count d → IsNoted i rooms.no_request_room.zero n (not (has_request_room (frame.switch n)).zero)
+    pub one_port : (n : ℕ) → n < switch_count d → IsNoted i rooms.no_request_room.one n (not (has_request_room (frame.switch n)).one)
+    pub modules : (m : ℕ) → m < 2 ^ d → IsNoted i rooms.no_request_room.zero (module_number d m) (is_some (frame.bank m).inp)
 
   module _ (cut : IsCut d partition bs) where
     -- block i notes its own
@@ -84,33 +82,30 @@ own_are_all b rooms own = λ d partition are.
 
 -- ---- which units hold something, as blocks say it one after another
 
-module _ (c : Settings) (partition : List ℕ) (bs : List BlockState) (are : AreBlocks c.stages partition bs) (n : ℕ) (events : List Event) (stops : List Stop) (held : Held) where
-  abbrev f : Frame
-  f = frame_of c.stages partition bs
+-- one block alone may pass a test, and it does if q is true
+any_home : (p : BlockState → Bool) (q : Bool) (h : ℕ) (bs : List BlockState) → ((k : ℕ) → k < length bs → p (block_at bs k) ≡ ((h == k) && q)) → (q ≡ true → h < length bs) → list_any p bs ≡ q
+any_home p false h bs is within = list_any_none p bs (All-from_get_or (λ b. p b ≡ false) bs no_block (grind arith))
+any_home p true h bs is within = list_any_at p bs h no_block (within refl) (grind (arith, itself, within))
 
-  abbrev pub whole_holds : ℕ → Bool
-  whole_holds u = holds c.stages (whole c f n events stops) held u
+module _ (c : Settings) (partition : List ℕ) (bs : List BlockState) (are : AreBlocks c.stages partition bs) (n : ℕ) (events : List Event) (stops : List Stop) (held : Held) where
+  abbrev whole_holds : ℕ → Bool
+  whole_holds u = holds c.stages (whole c (frame_of c.stages partition bs) n events stops) held u
 
   -- block i holds what its own units do
-  module _ (i : ℕ) (within : i < length bs) where
-    holds_here : (u : ℕ) → holds_at (block_at bs i) held u ≡ ((home partition u == i) && whole_holds u)
-    holds_here =
-        let stages = are.cut.stages i within in
-        by_kind c.stages (λ u. holds_at (block_at bs i) held u ≡ ((home partition u == i) && whole_holds u))
-        (λ u h. let mine = if_home switches c.stages partition bs are.cut u h (switch_holds held) i within in let two = sizes c.stages are.some_stages are.few_stages in grind (arith, is_switch, replies_is, lane_is))
-        (λ j h. let mine = if_home modules c.stages partition bs are.cut j h (module_holds held) i within in grind (arith, unit_of_module, bank_is))
-        (λ p h. let mine = if_home elements c.stages partition bs are.cut p h (element_holds held) i within in grind (arith, unit_of_element, element_is))
-        (grind (arith, unit_of_none))
+  holds_here : (u i : ℕ) → i < length bs → holds_at (block_at bs i) held u ≡ ((home partition u == i) && whole_holds u)
+  holds_here u i within =
+      let stages = are.cut.stages i within in
+      by_kind c.stages (λ u. holds_at (block_at bs i) held u ≡ ((home partition u == i) && whole_holds u))
+      (λ u h. let mine = if_home switches c.stages partition bs are.cut u h (switch_holds held) i within in let two = sizes c.stages are.some_stages are.few_stages in grind (arith, is_switch, replies_is, lane_is))
+      (λ j h. let mine = if_home modules c.stages partition bs are.cut j h (module_holds held) i within in grind (arith, unit_of_module, bank_is))
+      (λ p h. let mine = if_home elements c.stages partition bs are.cut p h (element_holds held) i within in grind (arith, unit_of_element, element_is))
+      (grind (arith, unit_of_none)) u
 
-  -- of the units of the blocks below i
-  abbrev pub below : ℕ → ℕ → Bool
-  below i u = nat_lt (home partition u) i && whole_holds u
+  any_holds : (u : ℕ) → list_any (λ b. holds_at b held u) bs ≡ whole_holds u
+  any_holds u = any_home (λ b. holds_at b held u) (whole_holds u) (home partition u) bs (holds_here u) (λ h. grind (arith, unit_of_none, are.cut.homes))
 
-  pub next_below : (i : ℕ) → i < length bs → (u : ℕ) → (below i u || holds_at (block_at bs i) held u) ≡ below (i + 1) u
-  next_below i within u = one_more (home partition u) i (whole_holds u) refl (holds_here i within u) refl
-
-  pub all_below : (i : ℕ) → i ≡ length bs → (u : ℕ) → below i u ≡ whole_holds u
-  all_below i all u = search arith
+pub held_by_all : (bs : List BlockState) (held : Held) (set : List ℕ) (i : ℕ) → length bs ≤ i → ((u : ℕ) → has_unit set u ≡ list_any (λ b. holds_at b held u) (take i bs)) → IsSetOfAll bs held set
+held_by_all bs held set i all are c partition n events stops blocks u = are u ∙ ap (list_any (λ b. holds_at b held u)) (take_all i bs all) ∙ any_holds c partition bs blocks n events stops held u
 
 -- ---- a machine is quiet where each of its units is, and so where each of its blocks is
 
@@ -127,14 +122,10 @@ all_at t d xs i l h = AllPass-from_list_all t xs h i d l
 -- of a list that is given place by place
 module _ {X : Type 0} (t : X → Bool) (n : ℕ) (f : ℕ → X) where
   all_places : ((k : ℕ) → k < n → t (f k) ≡ true) → list_all t (places n f) ≡ true
-  all_places h =
-      all_if t (f 0) (places n f)
-      (grind (arith, length-places, places_at))
+  all_places h = all_if t (f 0) (places n f) (grind (arith, length-places, places_at))
 
   at_place : list_all t (places n f) ≡ true → (k : ℕ) → k < n → t (f k) ≡ true
-  at_place h k l =
-      let long = length-places n f in
-      subst (λ x. t x ≡ true) (places_at n f k (f 0) l) (grind (arith, all_at))
+  at_place h k l = let all = all_at t (f 0) (places n f) k in grind (arith, length-places, places_at)
 
 -- or of a table
 at_table : {X : Type 0} (t : X → Bool) (m n : ℕ) (f : ℕ → ℕ → X) → list_all (λ xs. list_all t xs) (table m n f) ≡ true → (s x : ℕ) → s < m → x < n → t (f s x) ≡ true
@@ -146,41 +137,32 @@ pub record AreQuiet (d : ℕ) (f : Frame) : Type 0 where
   pub banks : (m : ℕ) → m < 2 ^ d → quiet_bank (f.bank m) ≡ true
   pub elements : (p : ℕ) → p < 2 ^ d → quiet_element (f.element p) ≡ true
 
-abbrev idle : Lane → Bool
-idle l = is_empty l.queue && is_empty l.records
-
-abbrev stopped : Element → Bool
-stopped e = has_stopped e.core.activity && is_empty e.interface.opened && is_empty e.interface.pending
-
-stopped_is : (e : ProcessingElement) → quiet_element e ≡ stopped (element_of e)
+stopped_is : (e : ProcessingElement) → quiet_element e ≡ (let v = element_of e in has_stopped v.core.activity && is_empty v.interface.opened && is_empty v.interface.pending)
 stopped_is e = grind arith
 
 module _ (c : Settings) (low : 1 ≤ c.stages) (high : c.stages ≤ 6) (f : Frame) (n : ℕ) (events : List Event) (stops : List Stop) where
-  switch_small : (s x : ℕ) → s < c.stages → x < size c → switch_number c.stages s (x / 2) < switch_count c.stages
-  switch_small s x hs hx = grind (arith, sizes)
-
   pub quiet_if : AreQuiet c.stages f → is_quiet (whole c f n events stops) ≡ true
   unfolding whole
-  quiet_if q = grind (arith, all_places, switch_small, stopped_is, none_test)
+  quiet_if q = let switch_small = λ (s x : ℕ) (hs : s < c.stages) (hx : x < size c). number_small c.stages s (x / 2) hs in grind (arith, all_places, sizes, stopped_is, none_test)
 
   pub quiet_units : is_quiet (whole c f n events stops) ≡ true → AreQuiet c.stages f
   unfolding whole
   quiet_units q =
-      let lane = at_table idle c.stages (size c) (λ s x. (sized_lane c f s x).lane) (grind arith) in
+      let two = (sizes c.stages low high).0 in
+      let lane = at_table (λ (l : Lane). is_empty l.queue && is_empty l.records) c.stages (size c) (λ s x. (sized_lane c f s x).lane) (grind arith) in
       let queue = at_table (λ (q : List ReplyMessage). is_empty q) c.stages (size c) (λ s y. (sized_replies c f s y).replies) (grind arith) in
       record {
         switches = λ n h.
-            let two = (sizes c.stages low high).0 in
             let is = is_switch c.stages n h in
-            let s : ℕ = stage_of c.stages n in
-            let k : ℕ = index_of c.stages n in
-            let zero = lane s (2 * k) is.stage_small (omega arith) in
-            let one = lane s (2 * k + 1) is.stage_small (omega arith) in
-            let zero_queue = queue s (2 * k) is.stage_small (omega arith) in
-            let one_queue = queue s (2 * k + 1) is.stage_small (omega arith) in
+            let lanes = lane (stage_of c.stages n) in
+            let queues = queue (stage_of c.stages n) in
+            let even = lanes (2 * index_of c.stages n) in
+            let odd = lanes (2 * index_of c.stages n + 1) in
+            let even_queue = queues (2 * index_of c.stages n) in
+            let odd_queue = queues (2 * index_of c.stages n + 1) in
             grind (arith, none_test);
-        banks = λ k hk. at_place quiet_bank (size c) (λ k. f.bank k) (grind arith) k hk;
-        elements = λ p hp. let it = at_place stopped (size c) (λ p. element_of (f.element p)) (grind arith) p hp in grind (arith, stopped_is);
+        banks = at_place quiet_bank (size c) (λ k. f.bank k) (grind arith);
+        elements = λ p hp. let it = at_place (λ (v : Element). has_stopped v.core.activity && is_empty v.interface.opened && is_empty v.interface.pending) (size c) (λ p. element_of (f.element p)) (grind arith) p hp in grind (arith, stopped_is);
       }
 
 -- ---- all blocks
@@ -198,7 +180,7 @@ module _ (d : ℕ) (partition : List ℕ) (bs : List BlockState) (are : AreBlock
       grind arith)
 
   pub units_quiet : list_all quiet_block bs ≡ true → AreQuiet d (frame_of d partition bs)
-  units_quiet q = let stands = there elements d partition bs are.cut in grind (arith, all_at)
+  units_quiet q = let stands = at_home elements d partition bs are.cut in grind (arith, all_at)
 
 pub quiet_is : (c : Settings) (partition : List ℕ) (bs : List BlockState) → AreBlocks c.stages partition bs → (n : ℕ) (events : List Event) (stops : List Stop)
     → list_all quiet_block bs ≡ is_quiet (whole c (frame_of c.stages partition bs) n events stops)

@@ -1,17 +1,15 @@
 -- The units of a machine in its blocks: each stands at home, in the block that the partition names, and in no other.
-use Rattle.std.proofs.Common.{◌≡◌, ◌≢◌, ℕ, ◌^◌, ◌<◌, List, Bool, true, Option, Some, None, length, sym, ◌∙◌, arith}
-use Rattle.std.specs.Prelude.{◌==◌, ◌&&◌, is_some}
+use Rattle.std.proofs.Common.{◌≡◌, ◌≢◌, ℕ, ◌^◌, ◌<◌, List, Bool, Option, Some, None, length, sym, ◌∙◌, arith, ◌==◌, ◌&&◌, is_some}
 use Rattle.std.proofs.lemmas.Bool.Decides.{nat_tests}
-use Rattle.ultra_switch.specs.declared.Switch.{Switch}
-use Rattle.ultra_mem.specs.Serve.{Bank, empty_bank}
+use Rattle.ultra_mem.specs.Serve.{empty_bank}
 use Rattle.ultra_units.specs.Numbers.{switch_count, unit_count, module_number, element_number}
-use Rattle.ultra_halves.specs.declared.elements.ProcessingElement.{ProcessingElement}
-use Rattle.ultra_section.specs.BlockState.{BlockState, switch_at, module_at, element_at}
+use Rattle.ultra_section.specs.BlockState.{switch_at, module_at, element_at}
 use Rattle.ultra_section.specs.Away.{stands}
 use Rattle.ultra_section.specs.Sets.{if_here}
 use Rattle.ultra_section.proofs.OfKind.{switch_stands, module_stands, element_stands}
-use Rattle.ultra_cut.specs.Cut.{IsCut, block_at, given, home, no_element, no_switch}
-use Rattle.ultra_cut.proofs.Numbers.{not_equal}
+use Rattle.ultra_cut.specs.Cut.{IsCut, block_at, given, home, no_element, no_switch, BlockState}
+use Rattle.ultra_model.proofs.Neighbours.{other as other_number}
+use Rattle.ultra_course.specs.Frame.{Switch, Bank, ProcessingElement}
 
 -- ---- switches, modules, processing elements
 -- units of one sort: what a block has of number i among them, and the number of that among all units
@@ -67,14 +65,11 @@ module _ {X : Type 0} (sort : Sort X) (d : ℕ) (partition : List ℕ) (bs : Lis
   pub stands_at : (k : ℕ) → k < length bs → is_some (sort.at (block_at bs k) i) ≡ (home partition n == k)
   stands_at k within = sym (sort.stand d (block_at bs k) (cut.stages k within) i h) ∙ cut.stand k n within (sort.small d i h)
 
-  pub there : is_some (sort.at (block_at bs (home partition n)) i) ≡ true
-  there = let it = stands_at (home partition n) home_small in grind (arith, nat_tests)
-
   pub at_home : sort.at (block_at bs (home partition n)) i ≡ Some unit
-  at_home = let it = there in grind arith
+  at_home = let it = stands_at (home partition n) home_small in grind (arith, nat_tests)
 
   pub away : (k : ℕ) → k < length bs → k ≢ home partition n → sort.at (block_at bs k) i ≡ None
-  away k within other = let it = stands_at k within in grind (arith, not_equal)
+  away k within other = let it = stands_at k within in grind (arith, other_number)
 
   -- what stands in a block is at home there, and is that of the machine
   pub here : (k : ℕ) → k < length bs → (x : X) → sort.at (block_at bs k) i ≡ Some x → (home partition n ≡ k) × (unit ≡ x)

@@ -1,16 +1,13 @@
 -- messages go to the block of the unit to which they lead. What is said of replies and of requests
 -- is said of a kind
 use Rattle.std.specs.Prelude.{◌≡◌, ◌≢◌, ℕ, ◌+◌, ◌*◌, ◌^◌, ◌<◌, ◌≤◌, ◌==◌, List, Option, Some, None, true, false, length, map, slice_set}
-use Rattle.ultra_msg.specs.declared.Request.{Request}
-use Rattle.ultra_msg.specs.declared.ReplyMessage.{ReplyMessage}
-use Rattle.ultra_switch.specs.declared.Ports.{Ports}
 use Rattle.ultra_units.specs.Numbers.{unit_count}
-use Rattle.ultra_section.specs.BlockState.{BlockState}
 use Rattle.ultra_section.specs.Marks.{on_link, without_both}
 use Rattle.ultra_section.specs.Away.{AreEmpty, put_on_both, reply_inlets, request_inlets, stands, taken_by_turns}
-use Rattle.ultra_cut.specs.declared.kind.Kind.{Kind}
-use Rattle.ultra_cut.specs.declared.kind.Kind.TheVariants.{Replies, Requests}
-use Rattle.ultra_cut.specs.Cut.{block_at, home, first}
+pub use Rattle.ultra_cut.specs.declared.kind.Kind.{Kind}
+pub use Rattle.ultra_cut.specs.declared.kind.Kind.TheVariants.{Replies, Requests}
+use Rattle.ultra_cut.specs.Cut.{block_at, home, first, BlockState}
+use Rattle.ultra_course.specs.Frame.{Request, ReplyMessage, Ports}
 
 abbrev pub MessageOf : Kind → Type 0
 MessageOf Replies = ReplyMessage

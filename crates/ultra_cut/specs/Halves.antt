@@ -2,35 +2,27 @@
 -- in it
 use Rattle.std.specs.Prelude.{◌≡◌, ℕ, ◌+◌, ◌<◌, ◌≤◌, not, List, length, map, ◌-◌, ◌*◌, ◌^◌, [], None, ◌∷◌, Option, Some, ◌++◌, All}
 use Rattle.std.specs.Option.{ForSome}
-use Rattle.ultra_msg.specs.declared.Event.{Event}
-use Rattle.ultra_msg.specs.declared.ReplyMessage.{ReplyMessage}
-use Rattle.ultra_switch.specs.declared.Switch.{Switch}
 use Rattle.ultra_mem.specs.Serve.{served}
-use Rattle.ultra_isa.specs.declared.Instr.{Instr}
-use Rattle.ultra_model.specs.declared.Stop.{Stop}
 use Rattle.ultra_model.specs.Places.{places, present, joined}
 use Rattle.ultra_model.specs.Phases.{delivery, serving, issue_event, stop_of}
 use Rattle.ultra_units.specs.Set.{has_unit}
 use Rattle.ultra_units.specs.Numbers.{module_number, switch_count}
 use Rattle.ultra_halves.specs.Switches.{combinations_of}
 use Rattle.ultra_halves.specs.Elements.{element_of, step_at}
-use Rattle.ultra_halves.specs.declared.elements.ProcessingElement.{ProcessingElement}
-use Rattle.ultra_section.specs.declared.half.Half.{Half}
+pub use Rattle.ultra_section.specs.declared.half.Half.{Half}
 use Rattle.ultra_section.specs.declared.rooms.Rooms.{Rooms as BlockRooms}
-use Rattle.ultra_section.specs.BlockState.{BlockState, most_events, switch_at, module_at, element_at}
+use Rattle.ultra_section.specs.BlockState.{most_events, switch_at, module_at, element_at}
 use Rattle.ultra_section.specs.Shape.{IsShaped}
 use Rattle.ultra_section.specs.Making.{CanMake, made, own_made}
-use Rattle.ultra_section.specs.declared.half.Half.TheVariants.{SendReplies, TakeReplies, Serve, SendRequests, TakeRequests, Execute}
+pub use Rattle.ultra_section.specs.declared.half.Half.TheVariants.{SendReplies, TakeReplies, Serve, SendRequests, TakeRequests, Execute}
 use Rattle.ultra_section.specs.Units.{stage_of, index_of}
 use Rattle.ultra_section.specs.Marks.{on_link, on_both, delivery_link, request_links}
-use Rattle.ultra_course.specs.Frame.{Frame, Rooms, AreAlike, at_port}
-use Rattle.ultra_course.specs.Course.{executes, sends_replies, sends_requests, serves, takes_replies, takes_requests, reply_to, deliveries, servings, combinations, issues, stops}
+use Rattle.ultra_course.specs.Frame.{Frame, Rooms, AreAlike, at_port, ReplyMessage, Switch, ProcessingElement}
+use Rattle.ultra_course.specs.Course.{executes, sends_replies, sends_requests, serves, takes_replies, takes_requests, reply_to, deliveries, servings, combinations, issues, stops, Event, Instr, Stop}
 use Rattle.ultra_course.specs.Law.{CanExecute, CanTakeReplies, CanTakeRequests}
 use Rattle.ultra_merge.specs.Merging.{IsRanked, of_rank}
-use Rattle.ultra_cut.specs.Cut.{IsCut, block_at, frame_of, first}
-use Rattle.ultra_cut.specs.declared.kind.Kind.{Kind}
-use Rattle.ultra_cut.specs.declared.kind.Kind.TheVariants.{Replies, Requests}
-use Rattle.ultra_cut.specs.Exchange.{AreThere, AreSingle, on_each}
+use Rattle.ultra_cut.specs.Cut.{IsCut, block_at, frame_of, first, BlockState}
+use Rattle.ultra_cut.specs.Exchange.{AreThere, AreSingle, on_each, Kind, Replies, Requests}
 use Rattle.ultra_cut.specs.Events.{IsInOrder, event_rank, events_of, stop_rank, stops_of}
 
 -- what has room in the machine, as its blocks have noted it
@@ -76,13 +68,16 @@ listed_of list None = []
 listed_of list (Some x) = list x
 
 module _ (d : ℕ) where
-  -- what processing element p is given: the reply on its link
-  abbrev pub delivered_to : BlockState → ℕ → ProcessingElement → List Event
-  delivered_to b p e = present (delivery (on_link b.replies (delivery_link d p)) ∷ [])
+  -- of the processing elements of a block, one after another
+  abbrev pub listed_of_elements : {E : Type 0} → (ℕ → ProcessingElement → Option E)
+      → BlockState → List E
+  listed_of_elements list b =
+      joined (places (2 ^ d) (λ p.
+      listed_of (λ e. present (list p e ∷ [])) (element_at b.elements p)))
 
   unfoldable pub events_of_replies : BlockState → List Event
   events_of_replies b =
-      joined (places (2 ^ d) (λ p. listed_of (delivered_to b p) (element_at b.elements p)))
+      listed_of_elements (λ p e. delivery (on_link b.replies (delivery_link d p))) b
 
   unfoldable pub events_of_service : BlockState → List Event
   events_of_service b =
@@ -99,18 +94,14 @@ module _ (d : ℕ) where
   events_of_requests n b =
       joined (places (switch_count d) (λ i. listed_of (combined_at n b i) (switch_at b.switches i)))
 
-  -- what a processing element issues when it makes a step of the program, and its faults
-  abbrev pub issued_by : List Instr → ProcessingElement → List Event
-  issued_by program e = present (issue_event (element_of e) (step_at program e).sent ∷ [])
-
+  -- in a step of the program
   unfoldable pub events_of_steps : List Instr → BlockState → List Event
   events_of_steps program b =
-      joined (places (2 ^ d) (λ p. listed_of (issued_by program) (element_at b.elements p)))
+      listed_of_elements (λ p e. issue_event (element_of e) (step_at program e).sent) b
 
   unfoldable pub stops_of_steps : List Instr → BlockState → List Stop
   stops_of_steps program b =
-      joined (places (2 ^ d) (λ p.
-      listed_of (λ e. present (stop_of p (step_at program e).was ∷ [])) (element_at b.elements p)))
+      listed_of_elements (λ p e. stop_of p (step_at program e).was) b
 
   -- a block's lists after a half, which adds to their ends; a cycle begins with empty lists
   abbrev pub lists_after : Half → List Instr → BlockState → Lists
@@ -144,12 +135,8 @@ module _ {X : Type 0} (rank : X → ℕ) (low high : ℕ) where
 
 -- the last one completes a cycle
 abbrev pub cycles_made : Half → ℕ
-cycles_made SendReplies = 0
-cycles_made TakeReplies = 0
-cycles_made Serve = 0
-cycles_made SendRequests = 0
-cycles_made TakeRequests = 0
 cycles_made Execute = 1
+cycles_made half = 0
 
 -- no message of a kind is on a link of a machine of d stages
 abbrev pub HasNone : Kind → ℕ → List BlockState → Type 0

@@ -1,17 +1,15 @@
 -- which units of a whole machine of d stages hold something
 use Rattle.std.specs.Prelude.{ℕ, ◌+◌, ◌*◌, List, Bool, false, not, ◌&&◌}
-use Rattle.ultra_msg.specs.declared.Event.{Event}
-use Rattle.ultra_model.specs.declared.Stop.{Stop}
-use Rattle.ultra_model.specs.Machine.{Settings, Machine, Element, lane_at, replies_at, bank_at, element_at}
+use Rattle.ultra_model.specs.Machine.{Element, lane_at, replies_at, bank_at, element_at}
 use Rattle.ultra_halves.specs.Halves.{has_none}
 use Rattle.ultra_section.specs.declared.held.Held.{Held}
 use Rattle.ultra_section.specs.declared.held.Held.TheVariants.{Reply, Request, Record}
 use Rattle.ultra_section.specs.Units.{of_unit}
 use Rattle.ultra_section.specs.Holding.{IsSetOf, module_holds}
-use Rattle.ultra_section.specs.BlockState.{BlockState}
-use Rattle.ultra_course.specs.Whole.{whole}
-use Rattle.ultra_cut.specs.Cut.{frame_of}
+use Rattle.ultra_course.specs.Whole.{whole, Settings, Machine}
+use Rattle.ultra_cut.specs.Cut.{frame_of, BlockState}
 use Rattle.ultra_cut.specs.Halves.{AreBlocks}
+use Rattle.ultra_course.specs.Course.{Event, Stop}
 
 -- switch k of stage s: in the queues or wait buffers of its two positions
 abbrev pub stage_holds : Machine → Held → ℕ → ℕ → Bool

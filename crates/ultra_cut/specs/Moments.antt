@@ -1,16 +1,13 @@
 -- a machine cut into blocks in the course of a cycle, and what is asked of it, however it is cut
 use Rattle.std.specs.Prelude.{◌≡◌, ℕ, List, Bool}
-use Rattle.ultra_msg.specs.declared.Event.{Event}
-use Rattle.ultra_isa.specs.declared.Instr.{Instr}
-use Rattle.ultra_model.specs.declared.Stop.{Stop}
-use Rattle.ultra_model.specs.Machine.{Settings, Machine, is_quiet}
-use Rattle.ultra_section.specs.BlockState.{BlockState}
+use Rattle.ultra_model.specs.Machine.{is_quiet}
 use Rattle.ultra_section.specs.declared.rooms.Rooms.{Rooms}
 use Rattle.ultra_course.specs.Frame.{IsClear, AreRooms}
-use Rattle.ultra_course.specs.Whole.{IsFrameOf, whole}
-use Rattle.ultra_cut.specs.Cut.{frame_of}
+use Rattle.ultra_course.specs.Whole.{IsFrameOf, whole, Settings, Machine}
+use Rattle.ultra_cut.specs.Cut.{frame_of, BlockState}
 use Rattle.ultra_cut.specs.Halves.{AreBlocks, OfEach, noted}
 use Rattle.ultra_cut.specs.Events.{IsInOrder, events_of, stops_of}
+use Rattle.ultra_course.specs.Course.{Event, Instr, Stop}
 
 -- each block runs the program and has made n cycles, and together they are the machine m, in which
 -- this has happened in the cycle so far

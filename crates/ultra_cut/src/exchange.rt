@@ -71,24 +71,6 @@ fn move_home(blocks: &mut [Block], partition: &[u8], kind: Kind, net: Net, from:
     move_messages(blocks, kind, net, from, home, unit);
 }
 
-/// Moves all messages in block `from` that lead to units of other blocks to those blocks.
-#[inline(always)]
-fn empty(blocks: &mut [Block], partition: &[u8], kind: Kind, net: Net, from: usize)
-    requires from { from < length blocks.old }
-    requires cut { IsCut net partition.now blocks.old }
-    requires single { AreSingle kind blocks.old }
-    ensures only { OnlyMove kind blocks.old blocks.new }
-    ensures gone { (n : ℕ) → n < unit_count net → HasNoneFor kind net partition.now blocks.new from n }
-    ensures kept { (k n : ℕ) → HasNoneFor kind net partition.now blocks.old k n → HasNoneFor kind net partition.now blocks.new k n }
-{
-    let _stages = net.stages();
-    let mut next = 0;
-    while let Some(unit) = next_for(&blocks[from], kind, next) {
-        move_home(blocks, partition, kind, net, from, unit);
-        next = unit + 1;
-    }
-}
-
 /// Moves each message to the block of the unit to which it leads; nothing else changes. A block whose messages all lead to its own units is skipped.
 #[inline(always)]
 fn exchange(blocks: &mut [Block], partition: &[u8], kind: Kind, net: Net)
@@ -99,7 +81,11 @@ fn exchange(blocks: &mut [Block], partition: &[u8], kind: Kind, net: Net)
 {
     let _stages = net.stages();
     for from in 0..blocks.len() {
-        empty(blocks, partition, kind, net, from);
+        let mut next = 0;
+        while let Some(unit) = next_for(&blocks[from], kind, next) {
+            move_home(blocks, partition, kind, net, from, unit);
+            next = unit + 1;
+        }
     }
 }
 

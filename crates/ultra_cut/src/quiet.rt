@@ -27,6 +27,7 @@ fn is_each_quiet(blocks: &[Block]) -> bool
 }
 
 /// Whether nothing is left to do in the whole machine, however it is cut.
+#[tactic(auto, using(crate::proofs::Questions::quiet_is))]
 pub fn are_quiet(blocks: &[Block]) -> bool
     ensures { IsQuietOfAll blocks.now result }
 {

@@ -53,7 +53,7 @@ impl ProcessingElement {
     pub fn request_head(&self) -> Option<RequestPacket>
         ensures { result ≡ slice_get self.now.interface.interface.pending 0 }
     {
-        Some(RequestPacket::of(self.interface.head()?))
+        self.interface.front()
     }
 
     /// The first request that waits leaves; its cell stays open. `None` says that none waited.
@@ -61,7 +61,7 @@ impl ProcessingElement {
         ensures sent { result ≡ slice_get self.old.interface.interface.pending 0 }
         ensures left { self.new ≡ element_without self.old result }
     {
-        Some(RequestPacket::of(self.interface.leave()?))
+        self.interface.send()
     }
 
     /// One step of the program. `pe` is the number of the processing element.

@@ -14,11 +14,7 @@ pub fn send_reply(bank: &mut Module, goes: bool) -> Option<ReplyPacket>
     ensures sent { result ≡ where_room goes bank.old.out }
     ensures left { bank.new ≡ without_reply bank.old result }
 {
-    if goes {
-        Some(ReplyPacket::of(bank.take_reply()?))
-    } else {
-        None
-    }
+    if goes { bank.send() } else { None }
 }
 
 /// A request goes into the module's register, with the offset of its cell. The cell is one of the module's, and the register is empty.
@@ -28,7 +24,7 @@ pub fn take_request(bank: &mut Module, net: Net, request: RequestPacket)
     ensures { bank.new ≡ bank_with (2 ^ net) bank.old (Some request) }
 {
     let offset = request.cell() / net.size();
-    bank.put(request.request(), offset);
+    bank.receive(request, offset);
 }
 
 /// Whether a reply waits to leave.

@@ -7,16 +7,16 @@ ghost use Rattle.ultra_mem.specs.Serve.{new_bank, serve, served, IsIdle};
 
 use std::alloc::{AllocError, Global};
 use std::marker::Model;
-use ultra_msg::{Op, Reply, ReplyMessage, Request, Word};
+use ultra_msg::{Op, Reply, ReplyMessage, ReplyPacket, Request, RequestPacket, Slot, Word};
 
 /// The most cells that a module can have.
 pub const MOST_CELLS: u32 = 4096;
 
 /// A request that waits for a module, with the offset of its cell there.
-#[derive(Clone, Copy, Drop)]
+#[derive(Clone, Copy, Default, Drop)]
 pub struct Placed {
     /// The request.
-    pub request: Request,
+    pub request: RequestPacket,
     /// Which of the module's cells it is for, from 0.
     pub offset: u32,
 }
@@ -57,8 +57,8 @@ impl From<AllocError> for ModuleFault {
 #[derive(Drop)]
 pub struct Module {
     cells: Vec<Word>,
-    inp: Option<Placed>,
-    out: Option<ReplyMessage>,
+    inp: Slot<Placed>,
+    out: Slot<ReplyPacket>,
 }
 
 impl Model for Module {
@@ -99,8 +99,8 @@ impl Module {
         }
         Ok(Module {
             cells: vec![in alloc; 0; cells as usize]?,
-            inp: None,
-            out: None,
+            inp: Slot::empty(),
+            out: Slot::empty(),
         })
     }
 
@@ -124,21 +124,21 @@ impl Module {
     pub fn request(&self) -> Option<Request>
         ensures { result ≡ option_map (λ p. p.request) self.now.inp }
     {
-        self.inp.map(|placed| placed.request)
+        Some(self.inp.get()?.request.request())
     }
 
     /// The reply that waits to leave, or `None` where none does.
     pub fn reply(&self) -> Option<ReplyMessage>
         ensures { result ≡ self.now.out }
     {
-        self.out
+        Some(self.out.get()?.message())
     }
 
     /// Whether no request waits to be served and no reply waits to leave.
     pub fn is_idle(&self) -> bool
         ensures { IsTrue result ↔ IsIdle self.now }
     {
-        self.inp.is_none() && self.out.is_none()
+        self.inp.is_empty() && self.out.is_empty()
     }
 
     /// Sets the cell at this offset, which the module must have.
@@ -156,7 +156,16 @@ impl Module {
         requires empty { self.old.inp ≡ None }
         ensures { self.new ≡ record self.old { inp = Some record { request = request; offset = offset } } }
     {
-        self.inp = Some(Placed { request, offset });
+        self.receive(RequestPacket::of(request), offset);
+    }
+
+    /// Takes a request as it comes by a link, as `put` does.
+    pub fn receive(&mut self, request: RequestPacket, offset: u32)
+        requires cell { offset < length self.old.cells }
+        requires empty { self.old.inp ≡ None }
+        ensures { self.new ≡ record self.old { inp = Some record { request = request; offset = offset } } }
+    {
+        self.inp.fill(Placed { request, offset });
     }
 
     /// Serves the request that waits, and says what was done. Does nothing and gives `None` where no request waits, or where the last reply hasn't left.
@@ -165,18 +174,19 @@ impl Module {
         ensures act { result ≡ served self.old }
         ensures count { length self.new.cells ≡ length self.old.cells }
     {
-        if self.out.is_some() {
+        if !self.out.is_empty() {
             return None;
         }
         let Placed { request, offset } = self.inp.take()?;
+        let request = request.request();
         let cell = &mut self.cells[offset as usize];
         let (now, reply) = act(request.op, *cell);
         *cell = now;
-        self.out = Some(ReplyMessage {
+        self.out.fill(ReplyPacket::of(ReplyMessage {
             pe: request.pe,
             cell: request.cell,
             reply,
-        });
+        }));
         Some(Served {
             request,
             reply,
@@ -186,6 +196,15 @@ impl Module {
 
     /// Takes the reply out of its register, or gives `None` where there is none. The register is empty afterwards.
     pub fn take_reply(&mut self) -> Option<ReplyMessage>
+        ensures reply { result ≡ self.old.out }
+        ensures taken { self.new ≡ record self.old { out = None } }
+    {
+        Some(self.send()?.message())
+    }
+
+    /// Takes the reply out of its register for its link, or gives `None` where there is none. The register is empty afterwards.
+    #[inline(always)]
+    pub fn send(&mut self) -> Option<ReplyPacket>
         ensures reply { result ≡ self.old.out }
         ensures taken { self.new ≡ record self.old { out = None } }
     {

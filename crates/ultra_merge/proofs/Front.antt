@@ -1,8 +1,6 @@
 -- The search for the list whose first entry comes next, list by list, and what is left when that has gone.
-use Rattle.std.proofs.Common.{◌≡◌, ℕ, ◌+◌, ◌<◌, ◌≤◌, List, [], ◌∷◌, length, get_or, drop, Option, Some, None, refl, sym, ◌∙◌, ap, subst, arith, map, Bor, set, length-set}
-use Rattle.std.proofs.lemmas.Bool.{leb-true}
+use Rattle.std.proofs.Common.{◌≡◌, ℕ, ◌+◌, ◌<◌, ◌≤◌, List, [], ◌∷◌, length, get_or, drop, Option, Some, None, refl, sym, ◌∙◌, ap, subst, arith, map, Bor, set, length-set, leb-true, All, slice_get, MatchOption}
 use Rattle.std.proofs.lemmas.List.{get_or-map, append-nil, drop_all, length-map, map-set, take_all}
-use Rattle.std.specs.Prelude.{All, slice_get, MatchOption}
 use Rattle.std.specs.List.Sorted.{IsNonDecreasingBy}
 use Rattle.ultra_merge.specs.declared.merge.Front.{Front}
 use Rattle.ultra_merge.specs.Front.{sooner}
@@ -81,11 +79,9 @@ module _ {T : Type 0} (rank : T → ℕ) (count : ℕ) (items : List (Bor (List 
       let P = λ (l : Bor (List T)). IsRanked rank count l.now in
       subst (All P) (sym left_is) (All-set P items place new (ranked_rest rank count x new.now was_ranked) all)
 
-  there : get_or (map (λ l. l.now) items) place [] ≡ x ∷ new.now
-  there = grind (arith, get_or-map, within)
-
   pub left_merged : merged rank count (map (λ l. l.now) items) ≡ x ∷ merged rank count (map (λ l. l.now) left)
   left_merged =
       let merged_is = merged_next rank count (map (λ l. l.now) items) place r in
       let first = was_ranked.within 0 x in
-      grind (arith, there, left_is, map-set)
+      let there : get_or (map (λ l. l.now) items) place [] ≡ x ∷ new.now = grind (arith, get_or-map, within) in
+      grind (arith, left_is, map-set)

@@ -1,8 +1,7 @@
 -- Entries by rank, in one list and in several, and what a merge gives of them, entry by entry.
-use Rattle.std.proofs.Common.{◌≡◌, ◌≢◌, ℕ, zero, suc, ◌<◌, ◌≤◌, List, [], ◌∷◌, map, length, get_or, set, refl, arith, ◌+◌, ◌++◌, inl, inr}
+use Rattle.std.proofs.Common.{◌≡◌, ◌≢◌, ℕ, zero, suc, ◌<◌, ◌≤◌, List, [], ◌∷◌, map, length, get_or, set, refl, arith, ◌+◌, ◌++◌, inl, inr, All}
 use Rattle.std.proofs.lemmas.Bool.Decides.{nat_tests}
 use Rattle.std.proofs.lemmas.List.Elements.{All-head, All-tail, filter-append}
-use Rattle.std.specs.Prelude.{All}
 use Rattle.std.specs.List.Sorted.{IsNonDecreasingBy}
 use Rattle.ultra_model.specs.Places.{joined, places}
 use Rattle.ultra_merge.specs.Merging.{of_rank, IsRanked, merged, AreEmpty, IsNextPlace}
@@ -97,18 +96,13 @@ module _ {T : Type 0} (rank : T → ℕ) (count : ℕ) where
       grind (arith, nat_tests)
 
   -- ---- merges of what was merged
-  alone_next : (x : T) (xs : List T) → IsRanked rank count (x ∷ xs) → IsNextPlace rank ((x ∷ xs) ∷ []) 1 0 (rank x)
-  alone_next x xs ranked = let least = first_is_least rank x xs ranked.ascends in grind arith
-
-  alone_empty : (i : ℕ) → i < 1 → get_or {A = List T} ([] ∷ []) i [] ≡ []
-  alone_empty i h = grind arith
-
   -- one list is its own merge
   pub merged_alone : (xs : List T) → IsRanked rank count xs → merged rank count (xs ∷ []) ≡ xs
-  unfolding alone_next
-  merged_alone [] ranked = merged_none ([] ∷ []) alone_empty
+  merged_alone [] ranked = merged_none ([] ∷ []) (λ i h. grind arith)
   merged_alone (x ∷ xs) ranked =
       let here = All-head (λ e. rank e < count) x xs ranked.within in
-      let next = merged_next ((x ∷ xs) ∷ []) 0 (rank x) here (alone_next x xs ranked) in
+      let least = first_is_least rank x xs ranked.ascends in
+      let first : IsNextPlace rank ((x ∷ xs) ∷ []) 1 0 (rank x) = record { within = omega arith; entry = x; rest = xs; is = refl; ranked = refl; before = λ i h. absurd (omega arith); behind = grind arith } in
+      let next = merged_next ((x ∷ xs) ∷ []) 0 (rank x) here first in
       let rest = merged_alone xs (ranked_rest rank count x xs ranked) in
       grind arith

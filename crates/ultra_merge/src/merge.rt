@@ -65,6 +65,7 @@ impl<'a, T, R: Ranking<T>> Merge<'a, T, R> {
     }
 
     /// The list whose first entry comes next: the first of those that have an entry of the least rank.
+    #[tactic(auto, using(crate::proofs::Front::past_empty))]
     fn front(&self) -> Option<Front>
         ensures none { IfNone result (AreEmpty self.now.lists (length self.now.lists)) }
         ensures some { IfSome result (λ f. IsNextPlace (R.rank_of self.now.ranking) self.now.lists (length self.now.lists) f.place f.rank) }
@@ -100,6 +101,7 @@ impl<'a, T: Copy, R: Ranking<T> + Drop> Iterator for Merge<'a, T, R> {
     ghost remaining = { item_count (entries_left R.rank_of R.rank_count) };
 
     /// The entry that comes next. Its list goes on behind it.
+    #[tactic(auto, using(crate::proofs::Merged::merged_none))]
     fn next(&mut self) -> Option<T> {
         let front = self.front()?;
         Some(take_first(&mut self.lists[front.place]))

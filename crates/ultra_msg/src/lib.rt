@@ -8,11 +8,13 @@ ghost use Rattle.ultra_msg.specs.Pair.{pair_of, is_fixed, KeepsBoth};
 mod packet;
 mod pieces;
 mod sink;
+mod slot;
 mod taking;
 
 pub use packet::{ReplyPacket, RequestPacket};
 pub use pieces::write_pieces;
 pub use sink::{Sink, SinkFault, write_all};
+pub use slot::Slot;
 use std::marker::Model;
 pub use taking::take_out;
 

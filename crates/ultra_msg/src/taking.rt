@@ -12,13 +12,10 @@ pub fn take_out<T: Copy + Default, const N: usize>(list: &mut ArrayVec<T, N>, pl
     ensures value { result ≡ slice_index_or list.old.items place result }
     ensures items { list.new.items ≡ remove list.old.items place }
 {
-    let mut taken = list.pop().unwrap();
-    let mut at = list.len();
-    while at > place {
-        at -= 1;
-        let moved = list[at];
-        list[at] = taken;
-        taken = moved;
+    let taken = list[place];
+    for at in place + 1..list.len() {
+        list[at - 1] = list[at];
     }
+    list.pop();
     taken
 }

@@ -12,7 +12,7 @@ use arrayvec::ArrayVec;
 use registers::{Registers, awaited_by};
 use ring::RequestRing;
 use std::marker::Model;
-use ultra_msg::{Cell, Register, ReplyMessage, Request, take_out};
+use ultra_msg::{Cell, Register, ReplyMessage, Request, RequestPacket, take_out};
 
 /// The most cells that an interface can hold open.
 pub const MOST_OPEN: usize = 8;
@@ -99,12 +99,19 @@ impl Pni {
             cell: request.cell,
             target,
         });
-        self.pending.push(request);
+        self.pending.push(RequestPacket::of(request));
         Issue::Sent
     }
 
     /// The request that leaves next, or `None` where none is pending.
     pub fn head(&self) -> Option<Request>
+        ensures { result ≡ slice_get self.now.interface.pending 0 }
+    {
+        Some(self.front()?.request())
+    }
+
+    /// The request that leaves next as it would go onto a link, or `None` where none is pending.
+    pub fn front(&self) -> Option<RequestPacket>
         ensures { result ≡ slice_get self.now.interface.pending 0 }
     {
         if self.pending.len() == 0 {
@@ -116,6 +123,14 @@ impl Pni {
 
     /// Takes the request that leaves next out of the list; its cell stays open. `None` says that none was pending.
     pub fn leave(&mut self) -> Option<Request>
+        ensures request { result ≡ slice_get self.old.interface.pending 0 }
+        ensures interface { self.new ≡ record self.old { interface = record self.old.interface { pending = drop 1 self.old.interface.pending } } }
+    {
+        Some(self.send()?.request())
+    }
+
+    /// Takes the request that leaves next out of the list for its link, as `leave` does.
+    pub fn send(&mut self) -> Option<RequestPacket>
         ensures request { result ≡ slice_get self.old.interface.pending 0 }
         ensures interface { self.new ≡ record self.old { interface = record self.old.interface { pending = drop 1 self.old.interface.pending } } }
     {
@@ -186,7 +201,7 @@ impl Pni {
         requires { index < length self.now.interface.pending }
         ensures { slice_get self.now.interface.pending index ≡ Some result }
     {
-        self.pending.at(index)
+        self.pending.at(index).request()
     }
 
     /// The request that was issued last of those that are pending, or `None` where none is.
@@ -194,6 +209,6 @@ impl Pni {
         ensures { result ≡ slice_get self.now.interface.pending (length self.now.interface.pending - 1) }
     {
         let last = self.pending.len().checked_sub(1)?;
-        Some(self.pending.at(last))
+        Some(self.pending.at(last).request())
     }
 }

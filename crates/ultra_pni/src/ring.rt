@@ -4,12 +4,12 @@ ghost use Rattle.std.specs.Prelude.{◌≡◌, ℕ, ◌-◌, ◌<◌, ◌≤◌,
 
 use crate::MOST_OPEN;
 use std::marker::Model;
-use ultra_msg::Request;
+use ultra_msg::RequestPacket;
 
 /// Requests in the order in which they came, in a ring over 8 places: the first place, and how many from there on.
 #[derive(Drop)]
 pub(crate) struct RequestRing {
-    places: [Request; MOST_OPEN],
+    places: [RequestPacket; MOST_OPEN],
     first: usize,
     count: usize,
 }
@@ -32,7 +32,7 @@ impl RequestRing {
         ensures { result ≡ [] }
     {
         RequestRing {
-            places: [Request::default(); MOST_OPEN],
+            places: [RequestPacket::default(); MOST_OPEN],
             first: 0,
             count: 0,
         }
@@ -47,7 +47,7 @@ impl RequestRing {
     }
 
     /// The request at this place, the first to leave being at 0.
-    pub(crate) fn at(&self, index: usize) -> Request
+    pub(crate) fn at(&self, index: usize) -> RequestPacket
         requires { index < length self.now }
         ensures { slice_get self.now index ≡ Some result }
     {
@@ -55,7 +55,7 @@ impl RequestRing {
     }
 
     /// Puts a request at the end. There has to be a free place.
-    pub(crate) fn push(&mut self, request: Request)
+    pub(crate) fn push(&mut self, request: RequestPacket)
         requires { length self.old < 8 }
         ensures { self.new ≡ self.old ++ request ∷ [] }
     {
@@ -64,7 +64,7 @@ impl RequestRing {
     }
 
     /// Takes the first request out of the ring, or answers `None` where there is none.
-    pub(crate) fn pop(&mut self) -> Option<Request>
+    pub(crate) fn pop(&mut self) -> Option<RequestPacket>
         ensures request { result ≡ slice_get self.old 0 }
         ensures rest { self.new ≡ drop 1 self.old }
     {

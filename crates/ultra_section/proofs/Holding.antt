@@ -1,15 +1,10 @@
 -- What the sets of a block say of what a unit may hold is true of each number.
-use Rattle.std.proofs.Common.{◌≡◌, ℕ, ◌<◌, ap}
+use Rattle.std.proofs.Common.{◌≡◌, ℕ, ◌<◌, refl}
 use Rattle.ultra_units.specs.Numbers.{switch_count}
-use Rattle.ultra_units.specs.declared.unit.Unit.{Unit}
-use Rattle.ultra_units.specs.declared.unit.Unit.TheVariants as unit
 use Rattle.ultra_units.specs.Units.{of_unit, stage_of, index_of}
 use Rattle.ultra_units.proofs.Standing.{unit_of_switch}
 
 -- ---- what there is at the number of a switch
 module _ {X : Type 0} (d : ℕ) (switch : ℕ → ℕ → X) (bank element : ℕ → X) (x : X) where
-  abbrev picked : Unit → X
-  picked u = elim u [ unit.Switch s k ↦ switch s k | unit.Module m ↦ bank m | unit.Element p ↦ element p | unit.Nothing ↦ x ]
-
   pub at_switch : (n : ℕ) → n < switch_count d → of_unit d switch bank element x n ≡ switch (stage_of d n) (index_of d n)
-  at_switch n h = ap picked (unit_of_switch d n h)
+  at_switch n h = rw (of_unit, unit_of_switch d n h) refl

@@ -1,6 +1,8 @@
--- What the sets of a block say of its units is kept when one of them is put anew and noted.
-use Rattle.std.proofs.Common.{◌≡◌, ◌≢◌, ℕ, ◌<◌, ◌≤◌, List, Option, Some, None, set, get_or, refl, sym, ◌∙◌, ap, arith, get_or-set_same, get_or-set_other}
-use Rattle.std.specs.Prelude.{length, slice_index_or}
+-- What a block knows of its units is kept when one of them is put anew and noted, and says which rooms are its own and what leads elsewhere.
+use Rattle.std.proofs.Common.{◌≡◌, ◌≢◌, ℕ, ◌<◌, ◌≤◌, List, true, false, Option, Some, None, set, get_or, refl, sym, ◌∙◌, ap, arith, get_or-set_same, get_or-set_other, ◌&&◌, subst, Bool}
+use Rattle.std.specs.Prelude.{length, slice_index_or, IsTrue, not, IfSome, ◌||◌, replicate}
+use Rattle.std.specs.Option.{ForSome}
+use Rattle.std.proofs.lemmas.Bool.{cases_eq, true≢false}
 use Rattle.std.proofs.lemmas.List.{length-set, get_or_default}
 use Rattle.ultra_msg.specs.declared.Request.{Request}
 use Rattle.ultra_msg.specs.declared.ReplyMessage.{ReplyMessage}
@@ -11,13 +13,21 @@ use Rattle.ultra_halves.specs.declared.elements.ProcessingElement.{ProcessingEle
 use Rattle.ultra_model.specs.Phases.{without_reply}
 use Rattle.ultra_halves.specs.Modules.{bank_with}
 use Rattle.ultra_units.specs.Links.{LinksState}
-use Rattle.ultra_units.specs.Numbers.{switch_count}
-use Rattle.ultra_units.specs.Units.{IsModule, IsElement, IsSwitch, of_unit}
+use Rattle.ultra_units.specs.Numbers.{element_number, switch_count}
+use Rattle.ultra_units.specs.Set.{has_unit, IsFirstFrom}
+use Rattle.ultra_halves.specs.Elements.{is_at_rest}
+use Rattle.ultra_switch.specs.declared.Ports.{Ports}
+use Rattle.ultra_units.specs.Units.{IsModule, IsElement, IsSwitch, index_of, of_unit, stage_of}
 use Rattle.ultra_units.proofs.Standing.{unit_is, unit_of_element, unit_of_module, unit_of_switch}
 use Rattle.ultra_section.specs.declared.sets.Sets.{Sets}
 use Rattle.ultra_section.specs.Sets.{AreNoted, UnitFacts, facts_at, no_facts, switch_facts, module_facts, element_facts, reply_noted, request_noted}
 use Rattle.ultra_section.proofs.Holding.{at_switch}
-use Rattle.ultra_section.specs.BlockState.{AreOthersAtRest, BlockState, IsKept, UnitsAreKnown}
+use Rattle.ultra_section.specs.BlockState.{AreOthersAtRest, BlockState, IsKept, UnitsAreKnown, switch_at, module_at, element_at}
+use Rattle.ultra_units.specs.Inlets.{AreEmpty, AreTargets}
+use Rattle.ultra_section.specs.Away.{IsNextAway, stands}
+use Rattle.ultra_units.proofs.Set.{none_there}
+use Rattle.ultra_section.specs.Rooms.{AreOwnRooms}
+use Rattle.ultra_section.specs.declared.rooms.Rooms.{Rooms}
 
 -- where nothing is noted anew
 pub same_facts : (s : Sets) (n : ℕ) → AreNoted n (facts_at s n) s s
@@ -38,39 +48,70 @@ module _ (d : ℕ) {S B E F : Type 0} (fs : Option S → F) (fb : Option B → F
     element_anew : (p : ℕ) (o : Option E) → IsElement d n p → p < length es → now n ≡ fe o → (k : ℕ) → now k ≡ all_facts ws bs (set es p o) k
     element_anew p o own within is k = grind (arith, unit_is, unit_of_element, get_or-set_same, get_or-set_other)
 
-module _ {d : ℕ} {old now : Sets} {ws : List (Option Switch)} {bs : List (Option Bank)} {es : List (Option ProcessingElement)} (known : UnitsAreKnown d old ws bs es)
-    {n : ℕ} {f : UnitFacts} (noted : AreNoted n f old now) where
-  pub switch_known : (o : Option Switch) → n < switch_count d → f ≡ switch_facts o → UnitsAreKnown d now (set ws n o) bs es
-  switch_known o own is =
-      let facts = switch_anew d switch_facts module_facts element_facts no_facts ws bs es (facts_at old) (facts_at now) known.facts n noted.others o own (omega (arith, known.switch_entries)) (noted.there ∙ is) in
-      record { switch_entries = length-set ws n o ∙ known.switch_entries; module_entries = known.module_entries; element_entries = known.element_entries; facts = facts }
+-- ---- a block in which one unit is put anew and noted, and what is on its links may have changed
+module _ {d wiring : ℕ} {program : List Instr} {old now : Sets} {awake : List ℕ} {ws : List (Option Switch)} {bs : List (Option Bank)} {es : List (Option ProcessingElement)}
+    {old_replies for_replies : LinksState ReplyMessage} {old_requests for_requests : LinksState Request} {event_places stop_places more_event_places more_stop_places : ℕ}
+    (kept : IsKept d wiring program old awake ws bs es old_replies old_requests event_places stop_places) {n : ℕ} {f : UnitFacts} (noted : AreNoted n f old now)
+    (replies : for_replies.stages ≡ d) (requests : for_requests.stages ≡ d) (more_events : event_places ≤ more_event_places) (more_stops : stop_places ≤ more_stop_places) where
+  pub switch_kept : {j : ℕ} (o : Option Switch) → j ≡ n → n < switch_count d → f ≡ switch_facts o → IsKept d wiring program now awake (set ws j o) bs es for_replies for_requests more_event_places more_stop_places
+  switch_kept o at own is =
+      let facts = switch_anew d switch_facts module_facts element_facts no_facts ws bs es (facts_at old) (facts_at now) kept.units.facts n noted.others o own (omega (arith, kept.units.switch_entries)) (noted.there ∙ is) in
+      rw at (grind (arith, length-set))
 
-  pub module_known : (m : ℕ) (o : Option Bank) → IsModule d n m → f ≡ module_facts o → UnitsAreKnown d now ws (set bs m o) es
-  module_known m o own is =
-      let facts = module_anew d switch_facts module_facts element_facts no_facts ws bs es (facts_at old) (facts_at now) known.facts n noted.others m o own (omega (arith, known.module_entries, own.small)) (noted.there ∙ is) in
-      record { switch_entries = known.switch_entries; module_entries = length-set bs m o ∙ known.module_entries; element_entries = known.element_entries; facts = facts }
+  pub module_kept : {m : ℕ} (o : Option Bank) → IsModule d n m → f ≡ module_facts o → IsKept d wiring program now awake ws (set bs m o) es for_replies for_requests more_event_places more_stop_places
+  module_kept {m} o own is =
+      let facts = module_anew d switch_facts module_facts element_facts no_facts ws bs es (facts_at old) (facts_at now) kept.units.facts n noted.others m o own (omega (arith, kept.units.module_entries, own.small)) (noted.there ∙ is) in
+      grind (arith, length-set)
 
-  pub element_known : (p : ℕ) (o : Option ProcessingElement) → IsElement d n p → f ≡ element_facts o → UnitsAreKnown d now ws bs (set es p o)
-  element_known p o own is =
-      let facts = element_anew d switch_facts module_facts element_facts no_facts ws bs es (facts_at old) (facts_at now) known.facts n noted.others p o own (omega (arith, known.element_entries, own.small)) (noted.there ∙ is) in
-      record { switch_entries = known.switch_entries; module_entries = known.module_entries; element_entries = length-set es p o ∙ known.element_entries; facts = facts }
+  pub element_kept : {p : ℕ} (o : Option ProcessingElement) → IsElement d n p → f ≡ element_facts o → {woken : List ℕ} → AreOthersAtRest d program woken (set es p o)
+      → IsKept d wiring program now woken ws bs (set es p o) for_replies for_requests more_event_places more_stop_places
+  element_kept {p} o own is rests =
+      let facts = element_anew d switch_facts module_facts element_facts no_facts ws bs es (facts_at old) (facts_at now) kept.units.facts n noted.others p o own (omega (arith, kept.units.element_entries, own.small)) (noted.there ∙ is) in
+      grind (arith, length-set)
 
--- what a read of an entry gives
-pub stands : {X : Type 0} (xs : List (Option X)) (n : ℕ) {o : Option X} {x : X} → n < length xs → o ≡ get_or xs n o → o ≡ Some x → slice_index_or xs n None ≡ Some x
-stands xs n {o} {x} within read is = get_or_default xs n None o within ∙ sym read ∙ is
+-- ---- what a read of an entry gives
+pub entry_there : {X : Type 0} (xs : List (Option X)) (n : ℕ) {o : Option X} {x : X} → n < length xs → o ≡ get_or xs n o → o ≡ Some x → slice_index_or xs n None ≡ Some x
+entry_there xs n {o} {x} within read is = get_or_default xs n None o within ∙ sym read ∙ is
 
--- ---- a unit that stands in a block, which is `inside`: `o` is what was read of its entry
+-- the block is `inside`
+module _ {inside b : BlockState} (same : inside ≡ b) where
+  -- `f` gives what is beside a switch, and the wiring is the network's
+  pub beside_switch : (f : ℕ → ℕ → ℕ → Ports ℕ) {n s k wiring : ℕ} {p : Ports ℕ} → IsSwitch b.stages n s k → wiring ≡ inside.stages → p ≡ f wiring (stage_of wiring n) (index_of wiring n) → p ≡ f inside.stages s k
+  beside_switch f own network is = grind arith
+
+-- what is found of a unit where `o` was read of its entry: which it is, what stands there, and what is known of it
 module _ {inside b : BlockState} (same : inside ≡ b) {s : Sets} (known : UnitsAreKnown inside.stages s inside.switches inside.modules inside.elements) where
-  pub switch_here : {n i k : ℕ} {o : Option Switch} {w : Switch} → IsSwitch b.stages n i k → o ≡ get_or inside.switches n o → o ≡ Some w → IsSwitch inside.stages n i k × (facts_at s n ≡ switch_facts (Some w))
-  switch_here {n} {i} {k} {o} {w} own read is =
+  pub switch_found : {n i k j : ℕ} {o : Option Switch} {w : Switch} → IsSwitch b.stages n i k → j ≡ n → o ≡ get_or inside.switches j o → o ≡ Some w → IsSwitch inside.stages n i k × (switch_at inside.switches n ≡ Some w) × (facts_at s n ≡ switch_facts (Some w))
+  switch_found {n} {i} {k} {j} {o} {w} own at read is =
       let here : IsSwitch inside.stages n i k = grind arith in
-      (here, known.facts n ∙ at_switch inside.stages _ _ _ _ n here.within ∙ ap switch_facts (stands inside.switches n (omega (arith, known.switch_entries, here.within)) read is))
+      let there = entry_there inside.switches n (omega (arith, known.switch_entries, here.within)) (rw at at read) is in
+      (here, there, known.facts n ∙ at_switch inside.stages _ _ _ _ n here.within ∙ ap switch_facts there)
 
-  pub module_here : {n m : ℕ} {o : Option Bank} {x : Bank} → IsModule b.stages n m → o ≡ get_or inside.modules m o → o ≡ Some x → IsModule inside.stages n m × (facts_at s n ≡ module_facts (Some x))
-  module_here {n} {m} {o} {x} own read is = grind (arith, known.facts, unit_of_module, stands)
+  pub module_found : {n m : ℕ} {o : Option Bank} {x : Bank} → IsModule b.stages n m → o ≡ get_or inside.modules m o → o ≡ Some x → IsModule inside.stages n m × (module_at inside.modules m ≡ Some x) × (facts_at s n ≡ module_facts (Some x))
+  module_found {n} {m} {o} {x} own read is = grind (arith, known.facts, unit_of_module, entry_there)
 
-  pub element_here : {n p : ℕ} {o : Option ProcessingElement} {e : ProcessingElement} → IsElement b.stages n p → o ≡ get_or inside.elements p o → o ≡ Some e → IsElement inside.stages n p × (facts_at s n ≡ element_facts (Some e))
-  element_here {n} {p} {o} {e} own read is = grind (arith, known.facts, unit_of_element, stands)
+  pub element_found : {n p : ℕ} {o : Option ProcessingElement} {e : ProcessingElement} → IsElement b.stages n p → o ≡ get_or inside.elements p o → o ≡ Some e → IsElement inside.stages n p × (element_at inside.elements p ≡ Some e) × (facts_at s n ≡ element_facts (Some e))
+  element_found {n} {p} {o} {e} own read is = grind (arith, known.facts, unit_of_element, entry_there)
+
+-- ---- the processing elements outside a set are at rest, and still are when one of them is put anew
+module _ {d wiring : ℕ} {program : List Instr} {s : Sets} {awake : List ℕ} {ws : List (Option Switch)} {bs : List (Option Bank)} {es : List (Option ProcessingElement)}
+    {for_replies : LinksState ReplyMessage} {for_requests : LinksState Request} {event_places stop_places : ℕ}
+    (kept : IsKept d wiring program s awake ws bs es for_replies for_requests event_places stop_places) {n p : ℕ} (own : IsElement d n p) where
+  -- or taken away
+  pub rests_anew : {o : Option ProcessingElement} (now : List ℕ) → ((k : ℕ) → k ≢ n → has_unit now k ≡ has_unit awake k) → (has_unit now n ≡ false → ForSome o (λ e. IsTrue (is_at_rest program e)))
+      → AreOthersAtRest d program now (set es p o)
+  rests_anew {o} now agree rest k small asleep =
+      let others = kept.rests k small in
+      let within : p < length es = omega (arith, own.small, kept.units.element_entries) in
+      grind (arith, own.number, cases_eq, element_at, set, get_or-set_same, has_unit, element_number, get_or-set_other)
+
+  -- it is awake now
+  pub woken_up : (o : Option ProcessingElement) (now : List ℕ) → ((k : ℕ) → k ≢ n → has_unit now k ≡ has_unit awake k) → has_unit now n ≡ true → AreOthersAtRest d program now (set es p o)
+  woken_up o now agree there = rests_anew now agree (λ asleep. absurd (true≢false (sym there ∙ asleep)))
+
+  -- it stays at rest if it was
+  pub rests_still : {e : ProcessingElement} → element_at es p ≡ Some e → (v : ProcessingElement) → (IsTrue (is_at_rest program e) → IsTrue (is_at_rest program v)) → AreOthersAtRest d program awake (set es p (Some v))
+  rests_still at v still = rests_anew awake (λ k other. refl) (λ asleep x same. let rest = still (kept.rests p own.small (rw own.number at asleep) _ at) in grind arith)
 
 -- ---- what is noted of a module
 pub reply_left : (b : Bank) (o : Option ReplyMessage) → reply_noted (without_reply b o) (module_facts (Some b)) ≡ module_facts (Some (without_reply b o))
@@ -83,10 +124,27 @@ request_taken n b o = grind arith
 pub same_stages : {M : Type 0} {l m : LinksState M} {d : ℕ} → m ≡ l → l.stages ≡ d → m.stages ≡ d
 same_stages {M} {l} {m} is stages = ap (λ (l : LinksState M). l.stages) is ∙ stages
 
--- ---- a block whose units have changed, or what is on its links
-pub still_kept : {d wiring : ℕ} {program : List Instr} {old now : Sets} {awake woken : List ℕ} {ws vs : List (Option Switch)} {bs cs : List (Option Bank)} {es fs : List (Option ProcessingElement)}
-    {old_replies for_replies : LinksState ReplyMessage} {old_requests for_requests : LinksState Request} {event_places stop_places more_event_places more_stop_places : ℕ}
-    → IsKept d wiring program old awake ws bs es old_replies old_requests event_places stop_places → UnitsAreKnown d now vs cs fs → AreOthersAtRest d program woken fs
-    → for_replies.stages ≡ d → for_requests.stages ≡ d → event_places ≤ more_event_places → stop_places ≤ more_stop_places
-    → IsKept d wiring program now woken vs cs fs for_replies for_requests more_event_places more_stop_places
-still_kept kept units rests replies requests more_events more_stops = grind arith
+-- ---- rooms: those that a block notes that is the first to do so
+abbrev pub own_rooms : Sets → Rooms
+own_rooms s = record { no_reply_room = s.no_reply_room; no_request_room = s.no_request_room }
+
+-- what is true here is noted, whatever wasn't noted before
+first : (n : ℕ) (seen here : Bool) → seen ≡ here → seen ≡ (has_unit (replicate 5 0) n || here)
+first n seen here is = is ∙ sym (ap (λ b. b || here) (none_there 5 n))
+
+pub are_own : (s : Sets) (b : BlockState) → UnitsAreKnown b.stages s b.switches b.modules b.elements → AreOwnRooms b (own_rooms s)
+are_own s b known = grind (arith, first)
+
+-- ---- what leads to units elsewhere
+-- `away` are the units to which messages of a kind lead that don't stand in a block, which is `inside`
+module _ {M : Type 0} (inlets : ℕ → ℕ → Option (Ports ℕ)) (table : BlockState → List (Option M)) {inside b : BlockState} (same : inside ≡ b) {s : Sets} (known : UnitsAreKnown inside.stages s inside.switches inside.modules inside.elements)
+    (l : LinksState M) (stages : l.stages ≡ inside.stages) (on : l.table ≡ table inside) (targets away : List ℕ) (are : AreTargets (inlets l.stages) l.stages l.table targets)
+    (rest : (k : ℕ) → has_unit away k ≡ has_unit targets k && not (has_unit s.here k)) (from : ℕ) (o : Option ℕ) where
+  none_for : (n : ℕ) → has_unit away n ≡ false → stands n inside ≡ false → has_unit targets n ≡ false
+  none_for n none elsewhere = grind (arith, unit_is, known.facts)
+
+  empty : (n : ℕ) → has_unit away n ≡ false → stands n inside ≡ false → AreEmpty (table inside) (inlets inside.stages n)
+  empty n none elsewhere = subst (λ t. AreEmpty t (inlets inside.stages n)) on (subst (λ d. AreEmpty l.table (inlets d n)) stages (are.others n (none_for n none elsewhere)))
+
+  pub next_away : IfSome o (λ k. IsFirstFrom away from k) → IfSome o (λ k. IsNextAway (table b) (inlets b.stages) b from k)
+  next_away found = subst (λ (b : BlockState). IfSome o (λ k. IsNextAway (table b) (inlets b.stages) b from k)) same (grind (arith, empty))

@@ -2,11 +2,8 @@ pub use Rattle.ultra_units.proofs.Readers
 pub use Rattle.ultra_units.proofs.Standing
 pub use Rattle.ultra_units.proofs.Marks
 pub use Rattle.ultra_units.proofs.Put
-mod Awake
-pub mod Records
 pub mod Known
 pub mod Noted
-pub mod Entries
 pub mod OfKind
 pub mod Once
 pub mod RepliesSentOnce
@@ -16,10 +13,6 @@ pub mod ExecutedOnce
 pub mod Few
 pub mod RepliesTakenOnce
 pub mod RequestsTakenOnce
-pub mod Idle
-pub mod Taken
-pub mod Execution
-mod Elsewhere
+pub mod Visited
 pub mod Holding
-pub mod OwnRooms
 pub mod OwnProgram

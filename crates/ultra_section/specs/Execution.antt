@@ -8,7 +8,7 @@ use Rattle.ultra_halves.specs.declared.elements.ProcessingElement.{ProcessingEle
 use Rattle.ultra_halves.specs.Elements.{element_of, executed, step_at}
 use Rattle.ultra_units.specs.declared.unit.Unit.{Unit as UnitName}
 use Rattle.ultra_units.specs.declared.unit.Unit.TheVariants as unit
-use Rattle.ultra_units.specs.Units.{unit_of}
+use Rattle.ultra_units.specs.Units.{of_unit, unit_of}
 use Rattle.ultra_section.specs.BlockState.{BlockState, HasEventRoom, HasStopRoom, element_at}
 
 module _ (program : List Instr) where
@@ -25,12 +25,8 @@ module _ (program : List Instr) where
 
   -- ---- the unit with number n
   abbrev pub executes : ℕ → BlockState → BlockState
-  executes n b = elim (unit_of b.stages n) [
-    | unit.Switch s k ↦ b
-    | unit.Module m ↦ b
-    | unit.Element p ↦ element_executes p b
-    | unit.Nothing ↦ b
-  ]
+  executes n b =
+      of_unit b.stages (λ s k. b) (λ m. b) (λ p. element_executes p b) b n
 
 -- by the block's own program
 abbrev pub executes_own : ℕ → BlockState → BlockState

@@ -16,3 +16,4 @@ pub mod RequestsTaken
 pub mod Away
 pub mod Quiet
 pub mod Holding
+pub mod Idle

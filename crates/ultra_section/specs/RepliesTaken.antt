@@ -11,7 +11,7 @@ use Rattle.ultra_halves.specs.Switches.{CanTakeReplies, after_replies}
 use Rattle.ultra_halves.specs.Elements.{delivered_to}
 use Rattle.ultra_units.specs.declared.unit.Unit.{Unit as UnitName}
 use Rattle.ultra_units.specs.declared.unit.Unit.TheVariants as unit
-use Rattle.ultra_units.specs.Units.{unit_of}
+use Rattle.ultra_units.specs.Units.{of_unit, unit_of}
 use Rattle.ultra_units.specs.Marks.{reply_links, delivery_link, on_link, on_both, without_both}
 use Rattle.ultra_section.specs.BlockState.{BlockState, HasEventRoom, switch_at, element_at}
 
@@ -46,12 +46,9 @@ element_takes_reply p b =
 
 -- ---- at the unit with number n
 abbrev pub takes_replies : ℕ → BlockState → BlockState
-takes_replies n b = elim (unit_of b.stages n) [
-  | unit.Switch s k ↦ switch_takes_replies n s k b
-  | unit.Module m ↦ b
-  | unit.Element p ↦ element_takes_reply p b
-  | unit.Nothing ↦ b
-]
+takes_replies n b =
+    of_unit b.stages (λ s k. switch_takes_replies n s k b) (λ m. b)
+    (λ p. element_takes_reply p b) b n
 
 -- where a reply has come to a switch there is room
 abbrev pub SwitchCanTakeReplies : ℕ → ℕ → ℕ → BlockState → Type 0

@@ -9,7 +9,7 @@ use Rattle.ultra_halves.specs.Switches.{CanTakeRequests, after_requests, combina
 use Rattle.ultra_halves.specs.Modules.{bank_with}
 use Rattle.ultra_units.specs.declared.unit.Unit.{Unit as UnitName}
 use Rattle.ultra_units.specs.declared.unit.Unit.TheVariants as unit
-use Rattle.ultra_units.specs.Units.{unit_of}
+use Rattle.ultra_units.specs.Units.{of_unit, unit_of}
 use Rattle.ultra_units.specs.Marks.{request_links, memory_link, on_link, on_both, without_both}
 use Rattle.ultra_section.specs.BlockState.{BlockState, HasEventRoom, switch_at, module_at}
 
@@ -44,12 +44,9 @@ module_takes_request m b =
 
 -- ---- at the unit with number n
 abbrev pub takes_requests : ℕ → BlockState → BlockState
-takes_requests n b = elim (unit_of b.stages n) [
-  | unit.Switch s k ↦ switch_takes_requests n s k b
-  | unit.Module m ↦ module_takes_request m b
-  | unit.Element p ↦ b
-  | unit.Nothing ↦ b
-]
+takes_requests n b =
+    of_unit b.stages (λ s k. switch_takes_requests n s k b) (λ m. module_takes_request m b)
+    (λ p. b) b n
 
 -- where a request has come to a switch, the queue that it goes to has room for two
 abbrev pub SwitchCanTakeRequests : ℕ → ℕ → ℕ → BlockState → Type 0

@@ -127,45 +127,19 @@ pub record AreNoted (n : ℕ) (f : UnitFacts) (old now : Sets) : Type 0 where
   pub there : facts_at now n ≡ f
   pub others : (k : ℕ) → k ≢ n → facts_at now k ≡ facts_at old k
 
--- ---- how what is said of a switch changes
--- a switch has no fewer requests than when this was noted, and no fewer records
-pub record HasMoreRequests (f : UnitFacts) (w : Switch) : Type 0 where
-  pub records : f.keeps_records ≡ true → keeps_records w ≡ true
-  pub holds : f.holds_requests ≡ true → holds_requests w ≡ true
-  pub full_zero : f.no_room_zero ≡ true → not (has_request_room w).zero ≡ true
-  pub full_one : f.no_room_one ≡ true → not (has_request_room w).one ≡ true
+-- what is true by the first facts is true by the others too
+pub record AreAmong (f g : UnitFacts) : Type 0 where
+  pub holds_replies : f.holds_replies ≡ true → g.holds_replies ≡ true
+  pub no_reply_room : f.no_reply_room ≡ true → g.no_reply_room ≡ true
+  pub holds_requests : f.holds_requests ≡ true → g.holds_requests ≡ true
+  pub no_room_zero : f.no_room_zero ≡ true → g.no_room_zero ≡ true
+  pub no_room_one : f.no_room_one ≡ true → g.no_room_one ≡ true
+  pub to_serve : f.to_serve ≡ true → g.to_serve ≡ true
+  pub keeps_records : f.keeps_records ≡ true → g.keeps_records ≡ true
 
--- no more requests
-pub record HasFewerRequests (f : UnitFacts) (w : Switch) : Type 0 where
-  pub holds : f.holds_requests ≡ false → holds_requests w ≡ false
-  pub full_zero : f.no_room_zero ≡ false → not (has_request_room w).zero ≡ false
-  pub full_one : f.no_room_one ≡ false → not (has_request_room w).one ≡ false
+-- once something is noted anew, no more is true of a unit than before, or no less
+pub record NoMore (note : UnitFacts → UnitFacts) (f : UnitFacts) : Type 0 where
+  pub among : AreAmong (note f) f
 
--- no fewer replies
-pub record HasMoreReplies (f : UnitFacts) (w : Switch) : Type 0 where
-  pub holds : f.holds_replies ≡ true → holds_replies w ≡ true
-  pub full : f.no_reply_room ≡ true → not (has_reply_room w) ≡ true
-
--- no more replies
-pub record HasFewerReplies (f : UnitFacts) (w : Switch) : Type 0 where
-  pub holds : f.holds_replies ≡ false → holds_replies w ≡ false
-  pub full : f.no_reply_room ≡ false → not (has_reply_room w) ≡ false
-
--- ---- how what is said of a module changes
--- a request has come to a module since this was noted
-pub record HasRequestMore (f : UnitFacts) (b : Bank) : Type 0 where
-  pub holds : f.holds_requests ≡ true → is_some b.inp ≡ true
-  pub full : f.no_room_zero ≡ true → is_some b.inp ≡ true
-  pub serves : f.to_serve ≡ true → would_serve b ≡ true
-
--- it has served
-pub record HasServed (f : UnitFacts) (b : Bank) : Type 0 where
-  pub holds_reply : f.holds_replies ≡ true → is_some b.out ≡ true
-  pub holds_request : f.holds_requests ≡ false → is_some b.inp ≡ false
-  pub full : f.no_room_zero ≡ false → is_some b.inp ≡ false
-  pub serves : f.to_serve ≡ false → would_serve b ≡ false
-
--- a reply has left it
-pub record HasReplyLess (f : UnitFacts) (b : Bank) : Type 0 where
-  pub holds : f.holds_replies ≡ false → is_some b.out ≡ false
-  pub serves : f.to_serve ≡ true → would_serve b ≡ true
+pub record NoLess (note : UnitFacts → UnitFacts) (f : UnitFacts) : Type 0 where
+  pub among : AreAmong f (note f)

@@ -5,6 +5,7 @@ ghost use Rattle.ultra_units.specs.Visits.{after_units};
 ghost use Rattle.ultra_section.specs.BlockState.{most_events, most_stops};
 ghost use Rattle.ultra_section.specs.Execution.{CanExecuteAt, ElementCanExecute, counted, element_executes, executes, executes_own};
 ghost use Rattle.ultra_units.specs.Units.{IsElement};
+ghost use Rattle.ultra_section.specs.Idle.{IsAsleep};
 
 use crate::block::Block;
 use ultra_halves::{Outcome, append};
@@ -51,12 +52,16 @@ impl Visit<Block> for Execute {
 
     ghost visited = { λ v n b. executes_own n b };
 
+    ghost is_idle = { λ v n b. IsAsleep n b };
+
     #[inline(always)]
+    #[tactic(auto, using(crate::proofs::Visited::executes_none, crate::proofs::Visited::sleeps))]
     fn units<'t>(&self, block: &'t Block) -> &'t UnitSet {
         &block.awake
     }
 
     #[inline(always)]
+    #[tactic(auto, using(crate::proofs::Visited::executes_none))]
     fn visit(&self, block: &mut Block, unit: UnitNumber) {
         if let Some(pe) = block.wiring.element(unit.number()) {
             block.execute_element(unit, pe);

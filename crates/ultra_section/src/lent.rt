@@ -14,10 +14,7 @@ impl Block {
         requires { is_some (switch_at self.now.switches number) ≡ true }
         ensures { Some result.now ≡ switch_at self.now.switches number }
     {
-        match &self.switches[number] {
-            Some(switch) => switch,
-            None => unreachable!(),
-        }
+        self.switches[number].as_ref().unwrap()
     }
 
     /// The module of this number. It has to stand here.
@@ -25,10 +22,7 @@ impl Block {
         requires { is_some (module_at self.now.modules number) ≡ true }
         ensures { Some result.now ≡ module_at self.now.modules number }
     {
-        match &self.modules[number as usize] {
-            Some(bank) => bank,
-            None => unreachable!(),
-        }
+        self.modules[number as usize].as_ref().unwrap()
     }
 
     /// The processing element of this number. It has to stand here.
@@ -36,9 +30,6 @@ impl Block {
         requires { is_some (element_at self.now.elements pe) ≡ true }
         ensures { Some result.now ≡ element_at self.now.elements pe }
     {
-        match &self.elements[pe as usize] {
-            Some(element) => element,
-            None => unreachable!(),
-        }
+        self.elements[pe as usize].as_ref().unwrap()
     }
 }

@@ -1,14 +1,15 @@
 //! The half of a cycle in which replies leave switches and modules.
 
-ghost use Rattle.std.specs.Prelude.{◌≡◌, ◌+◌, ◌<◌};
+ghost use Rattle.std.specs.Prelude.{◌≡◌, ◌<◌};
 ghost use Rattle.ultra_halves.specs.Switches.{replies_leaving, without_replies};
-ghost use Rattle.ultra_units.specs.Inlets.{LeadsTo, reply_inlets};
-ghost use Rattle.ultra_units.specs.Links.{put_on};
+ghost use Rattle.ultra_units.specs.Inlets.{LeadOn, put_on_both, reply_inlets};
+ghost use Rattle.ultra_units.specs.Ways.{places_of};
 ghost use Rattle.ultra_section.specs.Rooms.{AreOwnRooms};
 ghost use Rattle.ultra_section.specs.declared.rooms.Rooms.{Rooms};
 ghost use Rattle.ultra_section.specs.RepliesSent.{begun, module_sends_reply, sends_replies, switch_sends_replies};
 ghost use Rattle.ultra_units.specs.Visits.{after_units};
-ghost use Rattle.ultra_units.specs.Units.{IsModule, IsSwitch};
+ghost use Rattle.ultra_units.specs.Units.{IsModule, IsSwitch, index_of, stage_of};
+ghost use Rattle.ultra_section.specs.Idle.{HoldsNoReply};
 
 use crate::block::Block;
 use crate::rooms::Rooms;
@@ -21,23 +22,21 @@ use ultra_units::{
     visit_all,
 };
 
-/// The first reply of each queue of a switch goes onto its link, where there is a way. One port is done with before the other: `link` is the link of port 0, and that of port 1 comes after it.
+/// The first reply of each queue of the switch with a number goes onto its link, where there is a way. One port is done with before the other.
 #[inline(always)]
 fn send_from_switch(
     switch: &mut Switch,
     links: &mut Links<ReplyPacket>,
-    link: usize,
+    number: usize,
     targets: Ports<usize>,
     ways: Ports<bool>,
 )
-    requires zero { LeadsTo (reply_inlets links.old.stages) links.old.stages link targets.zero }
-    requires one { LeadsTo (reply_inlets links.old.stages) links.old.stages (link + 1) targets.one }
-    requires zero_small { targets.zero < 320 }
-    requires one_small { targets.one < 320 }
-    requires link { link < 640 }
+    requires small { number < 320 }
+    requires lead { LeadOn (reply_inlets links.old.stages) links.old.stages number targets }
     ensures switch { switch.new ≡ without_replies switch.old (replies_leaving ways switch.old) }
-    ensures links { links.new ≡ record links.old { table = put_on (put_on links.old.table link (replies_leaving ways switch.old).zero) (link + 1) (replies_leaving ways switch.old).one; targets = links.new.targets } }
+    ensures links { links.new ≡ record links.old { table = put_on_both links.old.table (places_of links.old.stages (stage_of links.old.stages number) (index_of links.old.stages number)) (replies_leaving ways switch.old); targets = links.new.targets } }
 {
+    let link = 2 * number;
     let to_pe = &mut switch.to_pe;
     let zero = leave_where(ways.zero, &mut to_pe.zero);
     links.put(link, targets.zero, zero);
@@ -59,7 +58,7 @@ impl Block {
             return;
         };
         let ways = find_reply_ways(closed, stage, targets);
-        send_from_switch(switch, &mut self.replies, 2 * number, targets, ways);
+        send_from_switch(switch, &mut self.replies, number, targets, ways);
         self.sets.note_replies_sent(unit, switch);
     }
 
@@ -91,13 +90,16 @@ impl Visit<Block> for SendReplies<'_> {
 
     ghost visited = { λ v n b. sends_replies v.closed.now n b };
 
+    ghost is_idle = { λ v n b. HoldsNoReply n b };
+
     #[inline(always)]
-    #[tactic(auto, using(crate::proofs::Idle::sends_no_reply))]
+    #[tactic(auto, using(crate::proofs::Visited::sends_no_reply))]
     fn units<'t>(&self, block: &'t Block) -> &'t UnitSet {
         &block.sets.holds_replies
     }
 
     #[inline(always)]
+    #[tactic(auto, using(crate::proofs::Visited::sends_no_reply))]
     fn visit(&self, block: &mut Block, unit: UnitNumber) {
         match block.unit(unit.number()) {
             Unit::Switch { stage, index } => {

@@ -3,7 +3,7 @@
 ghost use Rattle.std.specs.Prelude.{◌≡◌, ℕ, ◌<◌};
 ghost use Rattle.ultra_halves.specs.Halves.{lane_without};
 ghost use Rattle.ultra_halves.specs.Switches.{request_heads, requests_leaving, without_requests};
-ghost use Rattle.ultra_units.specs.Inlets.{LeadsTo, put_on_both, request_inlets};
+ghost use Rattle.ultra_units.specs.Inlets.{LeadOn, LeadsTo, put_on_both, request_inlets};
 ghost use Rattle.ultra_units.specs.Links.{put_on};
 ghost use Rattle.ultra_units.specs.Numbers.{request_target};
 ghost use Rattle.ultra_units.specs.Ways.{places_of, request_targets, request_ways};
@@ -12,6 +12,7 @@ ghost use Rattle.ultra_section.specs.Rooms.{AreOwnRooms};
 ghost use Rattle.ultra_section.specs.declared.rooms.Rooms.{Rooms};
 ghost use Rattle.ultra_section.specs.RequestsSent.{element_sends_request, request_leaving, sends_requests, switch_sends_requests};
 ghost use Rattle.ultra_units.specs.Units.{IsElement, IsSwitch};
+ghost use Rattle.ultra_section.specs.Idle.{HoldsNoRequest};
 
 use crate::block::Block;
 use crate::rooms::Rooms;
@@ -61,8 +62,7 @@ fn send_from_switch(
     requires is { IsSwitch net number stage index }
     requires small { number < 320 }
     requires targets { targets ≡ request_targets net stage index }
-    requires zero { targets.zero < 320 }
-    requires one { targets.one < 320 }
+    requires lead { LeadOn (request_inlets net) net number targets }
     requires stages { links.old.stages ≡ net }
     ensures switch { switch.new ≡ without_requests switch.old (requests_leaving (request_ways closed.now net stage index (request_heads switch.old)) switch.old) }
     ensures links { links.new ≡ record links.old { table = put_on_both links.old.table (places_of net stage index) (requests_leaving (request_ways closed.now net stage index (request_heads switch.old)) switch.old); targets = links.new.targets } }
@@ -127,13 +127,16 @@ impl Visit<Block> for SendRequests<'_> {
 
     ghost visited = { λ v n b. sends_requests v.closed.now n b };
 
+    ghost is_idle = { λ v n b. HoldsNoRequest n b };
+
     #[inline(always)]
-    #[tactic(auto, using(crate::proofs::Idle::sends_no_request))]
+    #[tactic(auto, using(crate::proofs::Visited::sends_no_request))]
     fn units<'t>(&self, block: &'t Block) -> &'t UnitSet {
         &block.sets.holds_requests
     }
 
     #[inline(always)]
+    #[tactic(auto, using(crate::proofs::Visited::sends_no_request))]
     fn visit(&self, block: &mut Block, unit: UnitNumber) {
         match block.unit(unit.number()) {
             Unit::Switch { stage, index } => {
@@ -146,20 +149,13 @@ impl Visit<Block> for SendRequests<'_> {
 }
 
 impl Block {
-    /// Requests leave the switches and processing elements, past the units in `closed`, which have no room for them, by the memory-side port.
-    #[inline(always)]
-    fn send_requests_past(&mut self, closed: &Ports<UnitSet>)
-        ensures { self.new ≡ after_units (sends_requests closed.now) 320 self.old }
-    {
-        visit_all(&SendRequests { closed }, self);
-    }
-
     /// The fourth half of a cycle: requests leave the switches and processing elements for where there is room, onto their links.
     #[inline(always)]
     pub fn send_requests(&mut self, rooms: &Rooms)
         ensures { self.new ≡ after_units (sends_requests rooms.now.no_request_room) 320 self.old }
     {
-        self.send_requests_past(&rooms.no_request_room);
+        let closed = &rooms.no_request_room;
+        visit_all(&SendRequests { closed }, self);
     }
 
     /// The fourth half of a cycle in a block in which all units stand: it knows all rooms itself.
@@ -168,6 +164,6 @@ impl Block {
         ensures { (rooms : Rooms) × AreOwnRooms self.old rooms × (self.new ≡ after_units (sends_requests rooms.no_request_room) 320 self.old) }
     {
         let closed = self.sets.no_request_room;
-        self.send_requests_past(&closed);
+        visit_all(&SendRequests { closed: &closed }, self);
     }
 }

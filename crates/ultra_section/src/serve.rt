@@ -5,6 +5,7 @@ ghost use Rattle.ultra_units.specs.Visits.{after_units};
 ghost use Rattle.ultra_section.specs.BlockState.{HasEventRoom, most_events};
 ghost use Rattle.ultra_section.specs.Serving.{module_serves, serves};
 ghost use Rattle.ultra_units.specs.Units.{IsModule};
+ghost use Rattle.ultra_section.specs.Idle.{ServesNothing};
 
 use crate::block::Block;
 use ultra_halves::append;
@@ -44,13 +45,16 @@ impl Visit<Block> for Serve {
 
     ghost visited = { λ v n b. serves n b };
 
+    ghost is_idle = { λ v n b. ServesNothing n b };
+
     #[inline(always)]
-    #[tactic(auto, using(crate::proofs::Idle::serves_none))]
+    #[tactic(auto, using(crate::proofs::Visited::serves_none))]
     fn units<'t>(&self, block: &'t Block) -> &'t UnitSet {
         &block.sets.to_serve
     }
 
     #[inline(always)]
+    #[tactic(auto, using(crate::proofs::Visited::serves_none))]
     fn visit(&self, block: &mut Block, unit: UnitNumber) {
         if let Some(number) = block.wiring.module(unit.number()) {
             block.serve_module(unit, number);

@@ -1,10 +1,10 @@
 //! What is known of the units that stand in a block, as sets of their numbers.
 
-ghost use Rattle.std.specs.Prelude.{◌≡◌, ℕ, ◌<◌, true, false, Some};
+ghost use Rattle.std.specs.Prelude.{◌≡◌, ℕ, ◌<◌, true, false, Some, is_some};
 ghost use Rattle.ultra_isa.specs.Step.{has_stopped};
 ghost use Rattle.ultra_halves.specs.Elements.{holds_request};
 ghost use Rattle.ultra_halves.specs.Switches.{has_reply_room, has_request_room, holds_replies, holds_requests, keeps_records};
-ghost use Rattle.ultra_section.specs.Sets.{HasFewerReplies, HasFewerRequests, HasMoreReplies, HasMoreRequests, HasReplyLess, HasRequestMore, HasServed, AreNoted, element_facts, fact_of, facts_at, module_facts, no_facts, records_noted, replies_noted, reply_noted, request_noted, requests_noted, switch_facts};
+ghost use Rattle.ultra_section.specs.Sets.{AreNoted, NoLess, NoMore, element_facts, fact_of, facts_at, module_facts, no_facts, records_noted, replies_noted, reply_noted, request_noted, requests_noted, switch_facts, would_serve};
 ghost use Rattle.ultra_units.specs.Set.{has_unit};
 
 use crate::held::Held;
@@ -121,7 +121,7 @@ impl Sets {
     /// Notes what is true of the replies of a switch that stands here, once replies have left it.
     #[inline(always)]
     pub(crate) fn note_replies_sent(&mut self, unit: UnitNumber, switch: &Switch)
-        requires fewer { HasFewerReplies (facts_at self.old unit) switch.now }
+        requires fewer { NoMore (replies_noted switch.now) (facts_at self.old unit) }
         ensures { AreNoted unit (replies_noted switch.now (facts_at self.old unit)) self.old self.new }
     {
         let is_full = !switches::has_reply_room(switch);
@@ -133,7 +133,7 @@ impl Sets {
     /// Notes what is true of the requests of a switch that stands here, once requests have left it.
     #[inline(always)]
     pub(crate) fn note_requests_sent(&mut self, unit: UnitNumber, switch: &Switch)
-        requires fewer { HasFewerRequests (facts_at self.old unit) switch.now }
+        requires fewer { NoMore (requests_noted switch.now) (facts_at self.old unit) }
         ensures { AreNoted unit (requests_noted switch.now (facts_at self.old unit)) self.old self.new }
     {
         let room = switches::has_request_room(switch);
@@ -146,8 +146,8 @@ impl Sets {
     /// Notes what is true of a switch that stands here, once replies have come to it. It keeps no record that it didn't keep before.
     #[inline(always)]
     pub(crate) fn note_replies_taken(&mut self, unit: UnitNumber, switch: &Switch)
-        requires more { HasMoreReplies (facts_at self.old unit) switch.now }
-        requires fewer { (facts_at self.old unit).keeps_records ≡ false → keeps_records switch.now ≡ false }
+        requires more { NoLess (replies_noted switch.now) (facts_at self.old unit) }
+        requires fewer { NoMore (records_noted switch.now) (facts_at self.old unit) }
         ensures { AreNoted unit (records_noted switch.now (replies_noted switch.now (facts_at self.old unit))) self.old self.new }
     {
         let is_full = !switches::has_reply_room(switch);
@@ -168,7 +168,7 @@ impl Sets {
         switch: &Switch,
         may_differ: bool,
     )
-        requires more { HasMoreRequests (facts_at self.old unit) switch.now }
+        requires more { NoLess (λ f. records_noted switch.now (requests_noted switch.now f)) (facts_at self.old unit) }
         requires noted { may_differ ≡ false → (facts_at self.old unit).keeps_records ≡ keeps_records switch.now }
         ensures { AreNoted unit (records_noted switch.now (requests_noted switch.now (facts_at self.old unit))) self.old self.new }
     {
@@ -186,7 +186,7 @@ impl Sets {
     /// Notes what is true of a module that stands here, once a request has come to it.
     #[inline(always)]
     pub(crate) fn note_request_came(&mut self, unit: UnitNumber, bank: &Module)
-        requires more { HasRequestMore (facts_at self.old unit) bank.now }
+        requires more { NoLess (request_noted bank.now) (facts_at self.old unit) }
         ensures { AreNoted unit (request_noted bank.now (facts_at self.old unit)) self.old self.new }
     {
         let holds_request = modules::holds_request(bank);
@@ -199,7 +199,8 @@ impl Sets {
     /// Notes what is true of a module that stands here, once it has served.
     #[inline(always)]
     pub(crate) fn note_served(&mut self, unit: UnitNumber, bank: &Module)
-        requires served { HasServed (facts_at self.old unit) bank.now }
+        requires more { NoLess (λ f. record f { holds_replies = is_some bank.now.out }) (facts_at self.old unit) }
+        requires fewer { NoMore (request_noted bank.now) (facts_at self.old unit) }
         ensures { AreNoted unit (reply_noted bank.now (request_noted bank.now (facts_at self.old unit))) self.old self.new }
     {
         let holds_reply = modules::holds_reply(bank);
@@ -214,7 +215,8 @@ impl Sets {
     /// Notes what is true of a module that stands here, once a reply has left it.
     #[inline(always)]
     pub(crate) fn note_reply_left(&mut self, unit: UnitNumber, bank: &Module)
-        requires less { HasReplyLess (facts_at self.old unit) bank.now }
+        requires fewer { NoMore (λ f. record f { holds_replies = is_some bank.now.out }) (facts_at self.old unit) }
+        requires more { NoLess (λ f. record f { to_serve = would_serve bank.now }) (facts_at self.old unit) }
         ensures { AreNoted unit (reply_noted bank.now (facts_at self.old unit)) self.old self.new }
     {
         let holds_reply = modules::holds_reply(bank);
@@ -242,7 +244,7 @@ impl Sets {
     /// Notes what is true of the requests of a processing element, once one has left it.
     #[inline(always)]
     pub(crate) fn note_request_left(&mut self, unit: UnitNumber, element: &ProcessingElement)
-        requires fewer { (facts_at self.old unit).holds_requests ≡ false → holds_request element.now ≡ false }
+        requires fewer { NoMore (λ f. record f { holds_requests = holds_request element.now }) (facts_at self.old unit) }
         ensures { AreNoted unit (record (facts_at self.old unit) { holds_requests = holds_request element.now }) self.old self.new }
     {
         self.holds_requests

@@ -2,12 +2,14 @@
 
 ghost use Rattle.std.specs.Prelude.{◌≡◌, ℕ, ◌<◌, length};
 ghost use Rattle.ultra_halves.specs.Switches.{CanTakeReplies, after_replies};
-ghost use Rattle.ultra_units.specs.Marks.{on_both, reply_links, without_both};
+ghost use Rattle.ultra_units.specs.Inlets.{AreInlets, reply_inlets};
+ghost use Rattle.ultra_units.specs.Marks.{on_both, without_both};
 ghost use Rattle.ultra_units.specs.Numbers.{switch_count};
 ghost use Rattle.ultra_units.specs.Visits.{after_units};
 ghost use Rattle.ultra_section.specs.BlockState.{most_events};
 ghost use Rattle.ultra_section.specs.RepliesTaken.{CanTakeRepliesAt, ElementCanTakeReply, SwitchCanTakeReplies, element_takes_reply, switch_takes_replies, takes_replies};
-ghost use Rattle.ultra_units.specs.Units.{IsElement, IsSwitch, index_of, stage_of};
+ghost use Rattle.ultra_units.specs.Units.{IsElement, IsSwitch};
+ghost use Rattle.ultra_section.specs.Idle.{GetsNoReply};
 
 use crate::block::Block;
 use ultra_halves::append;
@@ -19,6 +21,7 @@ use ultra_units::{Links, Unit, UnitNumber, UnitSet, Visit, take_at_element, visi
 
 /// What comes to a switch by its links `inlets` goes through its wait buffers into its queues. One port is done with before the other.
 #[inline(always)]
+#[tactic(auto, using(ultra_units::proofs::Marks::emptied, ultra_units::proofs::Marks::emptied_first))]
 fn take_into_switch(
     switch: &mut Switch,
     links: &mut Links<ReplyPacket>,
@@ -29,7 +32,7 @@ fn take_into_switch(
 )
     requires switch { unit < switch_count net }
     requires stage { stage < net }
-    requires inlets { inlets ≡ reply_links net (stage_of net unit) (index_of net unit) }
+    requires inlets { AreInlets (reply_inlets net) net unit inlets }
     requires stages { links.old.stages ≡ net }
     requires room { CanTakeReplies switch.old (on_both links.old.table inlets) }
     ensures switch { switch.new ≡ after_replies net stage switch.old (on_both links.old.table inlets) }
@@ -90,13 +93,16 @@ impl Visit<Block> for TakeReplies {
 
     ghost visited = { λ v n b. takes_replies n b };
 
+    ghost is_idle = { λ v n b. GetsNoReply n b };
+
     #[inline(always)]
-    #[tactic(auto, using(crate::proofs::Taken::takes_no_reply))]
+    #[tactic(auto, using(crate::proofs::Visited::takes_no_reply))]
     fn units<'t>(&self, block: &'t Block) -> &'t UnitSet {
         block.replies.targets()
     }
 
     #[inline(always)]
+    #[tactic(auto, using(crate::proofs::Visited::switch_took_replies, crate::proofs::Visited::takes_no_reply, crate::proofs::Visited::no_reply_left))]
     fn visit(&self, block: &mut Block, unit: UnitNumber) {
         match block.unit(unit.number()) {
             Unit::Switch { stage, index } => block.take_replies_of_switch(unit, stage, index),

@@ -3,11 +3,13 @@
 ghost use Rattle.std.specs.Prelude.{◌≡◌, ℕ, ◌+◌, ◌<◌, ◌≤◌, ◌↔◌, ◌++◌, [], Bool, false, length, vec_capacity};
 ghost use Rattle.std.specs.Option.{ForSome};
 ghost use Rattle.ultra_halves.specs.Switches.{HasWay, after_both, combinations_of_both};
+ghost use Rattle.ultra_units.specs.Inlets.{AreInlets, request_inlets};
 ghost use Rattle.ultra_units.specs.Marks.{on_link, ports_in_turn, request_links, without_both};
 ghost use Rattle.ultra_units.specs.Visits.{after_units};
 ghost use Rattle.ultra_section.specs.BlockState.{most_events};
 ghost use Rattle.ultra_section.specs.RequestsTaken.{CanTakeRequestsAt, ModuleCanTakeRequest, SwitchCanTakeRequests, module_takes_request, switch_takes_requests, takes_requests};
 ghost use Rattle.ultra_units.specs.Units.{IsModule, IsSwitch};
+ghost use Rattle.ultra_section.specs.Idle.{GetsNoRequest};
 
 use crate::block::Block;
 use ultra_halves::modules;
@@ -32,6 +34,7 @@ fn take_into_switch(
     events: &mut Vec<Event>,
 ) -> bool
     requires is { IsSwitch net unit stage index }
+    requires inlets { AreInlets (request_inlets net) net unit (request_links net stage index) }
     requires turn { (zero_first : Bool) × (in_turn ≡ ports_in_turn zero_first (request_links net stage index)) }
     requires stages { links.old.stages ≡ net }
     requires first { ForSome (on_link links.old.table in_turn.0) (HasWay net stage switch.old) }
@@ -105,13 +108,16 @@ impl Visit<Block> for TakeRequests {
 
     ghost visited = { λ v n b. takes_requests n b };
 
+    ghost is_idle = { λ v n b. GetsNoRequest n b };
+
     #[inline(always)]
-    #[tactic(auto, using(crate::proofs::Taken::takes_no_request))]
+    #[tactic(auto, using(crate::proofs::Visited::takes_no_request))]
     fn units<'t>(&self, block: &'t Block) -> &'t UnitSet {
         block.requests.targets()
     }
 
     #[inline(always)]
+    #[tactic(auto, using(crate::proofs::Visited::switch_took_requests, crate::proofs::Visited::module_took_request, crate::proofs::Visited::takes_no_request, crate::proofs::Visited::no_request_left))]
     fn visit(&self, block: &mut Block, unit: UnitNumber) {
         match block.unit(unit.number()) {
             Unit::Switch { stage, index } => block.take_requests_of_switch(unit, stage, index),

@@ -2,10 +2,6 @@
 use Rattle.std.specs.Prelude.{◌≡◌, ℕ, ◌+◌, Bool, true, false, List, [], ◌∷◌, length, Option, Some, None}
 
 module _ {X : Type 0} where
-  -- an item, if a place is full
-  abbrev pub item_if : Bool → X → Option X
-  item_if is_full x = elim is_full [ true ↦ Some x | false ↦ None ]
-
   -- all items, the front first
   abbrev pub with_front : Option X → List X → List X
   with_front None rest = []

@@ -11,12 +11,11 @@ mod marks;
 mod queue;
 mod reply_queue;
 mod request_queue;
-mod slot;
 
 pub use reply_queue::ToPe;
 pub use request_queue::ToMm;
-pub use slot::Slot;
 use std::alloc::{AllocError, Global};
+pub use ultra_msg::Slot;
 use ultra_msg::{Cell, Give, Pe, ReplyMessage, Request};
 
 /// A request in a queue toward memory.

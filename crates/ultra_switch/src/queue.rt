@@ -3,10 +3,10 @@
 ghost use Rattle.std.specs.Prelude.{◌≡◌, ◌+◌, ◌^◌, ◌<◌, ◌≤◌, ◌==◌, [], ◌∷◌, ◌++◌, length, drop, slice_get, slice_set, IfOk, Some};
 ghost use Rattle.circular_buffer.specs.Buffer.{buffer};
 
-use crate::slot::Slot;
 use circular_buffer::HeapCircularBuffer;
 use std::alloc::{AllocError, Global};
 use std::marker::Model;
+use ultra_msg::Slot;
 
 /// A queue of a fixed number of places: the item at the front, and a ring of those behind it. Most queues of a switch hold no more than one message, which never goes through the ring.
 #[derive(Drop)]

@@ -1,7 +1,7 @@
 pub mod Set
+pub mod Steps
 pub mod Visits
 pub mod Readers
-mod Small
 pub mod Standing
 pub mod Marks
 pub mod Put

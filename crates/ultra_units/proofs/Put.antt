@@ -1,15 +1,13 @@
 -- What is on links, after something was put on others or on them; and that no two places have one link.
-use Rattle.std.proofs.Common.{◌≡◌, ◌≢◌, ℕ, ◌+◌, ◌-◌, ◌*◌, ◌/◌, ◌^◌, ◌<◌, ◌≤◌, true, false, List, Option, Some, None, length, get_or-set_same, get_or-set_other, ◌∙◌, ap, subst, arith}
+use Rattle.std.proofs.Common.{◌≡◌, ◌≢◌, ℕ, ◌+◌, ◌-◌, ◌*◌, ◌/◌, ◌^◌, ◌<◌, ◌≤◌, true, false, List, Option, Some, None, length, get_or-set_same, get_or-set_other, ◌∙◌, ap, arith}
 use Rattle.std.specs.Prelude.{nat_lt}
 use Rattle.ultra_route.proofs.Table.{sizes}
 use Rattle.ultra_switch.specs.declared.Ports.{Ports}
 use Rattle.ultra_units.specs.Numbers.{switch_count, place_number}
 use Rattle.ultra_units.specs.Units.{IsSwitch}
 use Rattle.ultra_units.specs.Links.{put_on}
-use Rattle.ultra_units.specs.Inlets.{LeadsTo, put_on_both, reply_inlets, request_inlets}
+use Rattle.ultra_units.specs.Inlets.{put_on_both}
 pub use Rattle.ultra_units.specs.Ways.{places_of}
-use Rattle.ultra_units.specs.Ways.{reply_targets, request_targets}
-use Rattle.ultra_units.proofs.Readers.{reply_leads, request_leads}
 use Rattle.ultra_units.specs.Marks.{on_link}
 
 -- what is on a link on which something may have been put
@@ -67,23 +65,3 @@ module _ (d behind : ℕ) (low : 1 ≤ d) (high : d ≤ 6) where
   written_apart t out n s k l is other =
       let own = written n s k is in
       link_apart_put t (places_of d s k) out l (λ same. other (ap (writer d behind) same ∙ own.0)) (λ same. other (ap (writer d behind) same ∙ own.1))
-
--- where the two links of switch n lead
-module _ (d n s k : ℕ) (low : 1 ≤ d) (high : d ≤ 6) (is : IsSwitch d n s k) where
-  odd : 2 * k + 1 < 2 ^ d
-  odd = omega (arith, is.index_small, (sizes d low high).0)
-
-  at : HasPlaces d n s k
-  at = has_places d n s k low high is
-
-  pub requests_lead : LeadsTo (request_inlets d) d (2 * n) (request_targets d s k).zero × LeadsTo (request_inlets d) d (2 * n + 1) (request_targets d s k).one
-  requests_lead = (
-    subst (λ l. LeadsTo (request_inlets d) d l (request_targets d s k).zero) at.first (request_leads d low high s (2 * k) is.stage_small (omega (arith, odd))),
-    subst (λ l. LeadsTo (request_inlets d) d l (request_targets d s k).one) at.second (request_leads d low high s (2 * k + 1) is.stage_small odd),
-  )
-
-  pub replies_lead : LeadsTo (reply_inlets d) d (2 * n) (reply_targets d s k).zero × LeadsTo (reply_inlets d) d (2 * n + 1) (reply_targets d s k).one
-  replies_lead = (
-    subst (λ l. LeadsTo (reply_inlets d) d l (reply_targets d s k).zero) at.first (reply_leads d low high s (2 * k) is.stage_small (omega (arith, odd))),
-    subst (λ l. LeadsTo (reply_inlets d) d l (reply_targets d s k).one) at.second (reply_leads d low high s (2 * k + 1) is.stage_small odd),
-  )

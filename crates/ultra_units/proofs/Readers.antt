@@ -1,15 +1,18 @@
 -- The unit to which each link leads, computed over every network of at most six stages.
-use Rattle.std.proofs.Common.{◌≡◌, ◌≢◌, ℕ, ◌+◌, ◌-◌, ◌*◌, ◌/◌, ◌%◌, ◌^◌, ◌<◌, ◌≤◌, Bool, true, false, ◌&&◌, Option, Some, None, refl, subst, inl, inr, mul-le-mul_right, arith}
+use Rattle.std.proofs.Common.{◌≡◌, ◌≢◌, ℕ, ◌+◌, ◌-◌, ◌*◌, ◌/◌, ◌%◌, ◌^◌, ◌<◌, ◌≤◌, Bool, true, false, ◌&&◌, Option, Some, None, refl, subst, inl, inr, arith}
 use Rattle.std.specs.Prelude.{◌==◌, ◌||◌, nat_le, nat_lt, not}
 use Rattle.std.proofs.lemmas.Bool.{cases_lt}
 use Rattle.std.proofs.lemmas.Bool.Decides.{nat_tests}
 use Rattle.ultra_switch.specs.declared.Ports.{Ports}
 use Rattle.ultra_route.specs.Route.{shuffled}
 use Rattle.ultra_route.proofs.Table.{all_below, all_below_at}
-use Rattle.ultra_units.specs.Inlets.{AreInlets, LeadsTo, at_both, link_count, reply_inlets, request_inlets}
+use Rattle.ultra_units.proofs.Put.{has_places}
+use Rattle.ultra_units.proofs.Standing.{is_switch}
+use Rattle.ultra_units.specs.Inlets.{AreInlets, LeadOn, LeadsTo, at_both, link_count, reply_inlets, request_inlets}
 use Rattle.ultra_units.specs.Marks.{delivery_link, memory_link, reply_links, request_links}
 use Rattle.ultra_units.specs.Numbers.{switch_count, switch_number, unit_count, place_number, reply_target, request_target}
-use Rattle.ultra_units.specs.Units.{IsElement, IsModule, IsSwitch}
+use Rattle.ultra_units.specs.Units.{IsElement, IsModule, IsSwitch, index_of, stage_of}
+use Rattle.ultra_units.specs.Ways.{reply_targets, request_targets}
 
 -- what is computed of every network
 pub each_network : (test : ℕ → Bool) → all_below (λ k. test (k + 1)) 6 ≡ true → (d : ℕ) → 1 ≤ d → d ≤ 6 → test d ≡ true
@@ -52,6 +55,14 @@ module _ (inlets : ℕ → ℕ → Option (Ports ℕ)) (reader : ℕ → ℕ →
     pub tested : all_below (λ k. all_read (k + 1)) 6 ≡ true
     pub none_past : (d n : ℕ) → unit_count d ≤ n → inlets d n ≡ None
 
+  -- these are the units to which messages go from switch n
+  abbrev next_read : ℕ → ℕ → Ports ℕ → Bool
+  next_read d n p = (reader d (2 * n) == p.zero) && (reader d (2 * n + 1) == p.one) && nat_lt p.zero 320 && nat_lt p.one 320
+
+  -- `targets` gives them by the stage of the switch and its index there
+  abbrev all_next_read : (ℕ → ℕ → ℕ → Ports ℕ) → ℕ → Bool
+  all_next_read targets d = all_below (λ n. next_read d n (targets d (stage_of d n) (index_of d n))) (switch_count d)
+
   module _ (read : ReadInlets) (d : ℕ) (low : 1 ≤ d) (high : d ≤ 6) where
     test_at : (n : ℕ) → n < unit_count d → is_read d n (inlets d n) ≡ true
     test_at = all_below_at (λ n. is_read d n (inlets d n)) (unit_count d) (each_network all_read read.tested d low high)
@@ -70,7 +81,28 @@ module _ (inlets : ℕ → ℕ → Option (Ports ℕ)) (reader : ℕ → ℕ →
     leads link unit small reads = record { small = small; alone = λ n p are either. let it = are_read n p are in grind arith }
 
     pub are_inlets : (n : ℕ) (p : Ports ℕ) → inlets d n ≡ Some p → AreInlets (inlets d) d n p
-    are_inlets n p are = let it = are_read n p are in record { are = are; zero = leads _ n it.zero_small it.zero_reader; one = leads _ n it.one_small it.one_reader }
+    are_inlets n p are =
+        let it = are_read n p are in
+        record { are = are; zero = leads _ n it.zero_small it.zero_reader; one = leads _ n it.one_small it.one_reader; apart = it.apart }
+
+    from_next : (n : ℕ) (p : Ports ℕ) → next_read d n p ≡ true → (reader d (2 * n) ≡ p.zero) × (reader d (2 * n + 1) ≡ p.one) × (p.zero < 320) × (p.one < 320)
+    from_next n p test = grind (arith, nat_tests)
+
+    lead_next : (n : ℕ) (p : Ports ℕ) → n < switch_count d → next_read d n p ≡ true → LeadOn (inlets d) d n p
+    lead_next n p within test =
+        let (zero, one, zero_small, one_small) = from_next n p test in
+        let places = has_places d n _ _ low high (is_switch d n within) in
+        record {
+          zero = leads _ _ (omega (arith, places.first, places.first_small)) zero;
+          one = leads _ _ (omega (arith, places.second, places.second_small)) one;
+          zero_small = zero_small;
+          one_small = one_small;
+          places = rw (places.first, places.second) refl;
+        }
+
+    lead_on : (targets : ℕ → ℕ → ℕ → Ports ℕ) → all_below (λ k. all_next_read targets (k + 1)) 6 ≡ true → (n : ℕ) → n < switch_count d → LeadOn (inlets d) d n (targets d (stage_of d n) (index_of d n))
+    lead_on targets all n within =
+        lead_next n _ within (all_below_at (λ n. next_read d n (targets d (stage_of d n) (index_of d n))) (switch_count d) (each_network (all_next_read targets) all d low high) n within)
 
 pub replies_read : ReadInlets reply_inlets reply_reader
 unfolding all_below
@@ -94,33 +126,33 @@ module _ (d : ℕ) (low : 1 ≤ d) (high : d ≤ 6) where
   pub request_to_module : (n m : ℕ) → IsModule d n m → AreRead d (request_reader d) n (at_both (memory_link d m))
   request_to_module n m is = are_read request_inlets request_reader requests_read d low high n _ (grind arith)
 
--- ---- positions
-abbrev position_leads : ℕ → ℕ → ℕ → Bool
-position_leads d s x = (reply_reader d (place_number d s x) == reply_target d s x) && (request_reader d (place_number d s x) == request_target d s x)
-
-abbrev positions_lead : ℕ → Bool
-positions_lead d = all_below (λ s. all_below (position_leads d s) (2 ^ d)) d
-
-all_positions : all_below (λ k. positions_lead (k + 1)) 6 ≡ true
+-- ---- by which links messages come to the unit with number n, and where messages lead
+replies_next : all_below (λ k. all_next_read reply_inlets reply_reader reply_targets (k + 1)) 6 ≡ true
 unfolding all_below
-all_positions = refl
+replies_next = refl
+
+requests_next : all_below (λ k. all_next_read request_inlets request_reader request_targets (k + 1)) 6 ≡ true
+unfolding all_below
+requests_next = refl
 
 module _ (d : ℕ) (low : 1 ≤ d) (high : d ≤ 6) where
-  position_right : (s x : ℕ) → s < d → x < 2 ^ d → position_leads d s x ≡ true
-  position_right s x hs hx =
-      all_below_at (position_leads d s) (2 ^ d) (all_below_at (λ s. all_below (position_leads d s) (2 ^ d)) d (each_network positions_lead all_positions d low high) s hs) x hx
+  -- to switch n
+  pub replies_come : (n : ℕ) (p : Ports ℕ) → n < switch_count d → p ≡ reply_links d (stage_of d n) (index_of d n) → AreInlets (reply_inlets d) d n p
+  replies_come n p within are = are_inlets reply_inlets reply_reader replies_read d low high n p (grind arith)
 
-  small : (s x : ℕ) → s ≤ d → x < 2 ^ d → place_number d s x < link_count d
-  small s x hs hx = let rows = mul-le-mul_right (2 ^ d) hs in grind arith
+  pub requests_come : (n : ℕ) (p : Ports ℕ) → n < switch_count d → p ≡ request_links d (stage_of d n) (index_of d n) → AreInlets (request_inlets d) d n p
+  requests_come n p within are = are_inlets request_inlets request_reader requests_read d low high n p (grind arith)
 
-  pub reply_leads : (s y : ℕ) → s < d → y < 2 ^ d → LeadsTo (reply_inlets d) d (place_number d s y) (reply_target d s y)
-  reply_leads s y hs hy = leads reply_inlets reply_reader replies_read d low high _ _ (small s y (omega arith) hy) (let right = position_right s y hs hy in grind (arith, nat_tests))
+  -- from switch n
+  pub replies_lead : (n : ℕ) → n < switch_count d → LeadOn (reply_inlets d) d n (reply_targets d (stage_of d n) (index_of d n))
+  replies_lead = lead_on reply_inlets reply_reader replies_read d low high reply_targets replies_next
 
-  pub request_leads : (s x : ℕ) → s < d → x < 2 ^ d → LeadsTo (request_inlets d) d (place_number d s x) (request_target d s x)
-  request_leads s x hs hx = leads request_inlets request_reader requests_read d low high _ _ (small s x (omega arith) hx) (let right = position_right s x hs hx in grind (arith, nat_tests))
+  pub requests_lead : (n : ℕ) → n < switch_count d → LeadOn (request_inlets d) d n (request_targets d (stage_of d n) (index_of d n))
+  requests_lead = lead_on request_inlets request_reader requests_read d low high request_targets requests_next
 
+  -- from module m, and from processing element p
   pub module_leads : (m : ℕ) → m < 2 ^ d → LeadsTo (reply_inlets d) d (place_number d d m) (switch_number d (d - 1) (m / 2))
-  module_leads m h = leads reply_inlets reply_reader replies_read d low high _ _ (small d m (omega arith) h) (grind arith)
+  module_leads m h = leads reply_inlets reply_reader replies_read d low high _ _ (grind arith) (grind arith)
 
   pub element_leads : (p : ℕ) → p < 2 ^ d → LeadsTo (request_inlets d) d (place_number d d p) (switch_number d 0 (shuffled d p / 2))
-  element_leads p h = leads request_inlets request_reader requests_read d low high _ _ (small d p (omega arith) h) (grind arith)
+  element_leads p h = leads request_inlets request_reader requests_read d low high _ _ (grind arith) (grind arith)

@@ -3,10 +3,10 @@ use Rattle.std.proofs.Common.{◌≡◌, ℕ, min, Bool, ◌&&◌, ◌||◌, ◌
 use Rattle.std.proofs.lemmas.Bool.{cases_lt}
 use Rattle.std.proofs.lemmas.List.{get_or-replicate, get_or_past, length-replicate}
 use Rattle.std.proofs.lemmas.Nat.{pow_below, shr-shr, le_or_l, le_or_r}
-use Rattle.std.proofs.lemmas.Nat.Bits.{bit_at-lt, shr_and_one, bit_at_above, bit_at_and, bit_at_not, bit_at_or, bit_at_set_same, bit_at_set_other, bit_at_clear_same, bit_at_clear_other, bit_at-trailing_zeros}
-use Rattle.std.specs.Prelude.{bit_and, bit_or, not, ◌≢◌, Option, Some, None, IfSome, IfNone}
+use Rattle.std.proofs.lemmas.Nat.Bits.{bit_at-lt, bit_at-zero, shr_and_one, bit_at_above, bit_at_and, bit_at_not, bit_at_or, bit_at_set_same, bit_at_set_other, bit_at_clear_same, bit_at_clear_other, bit_at-trailing_zeros}
+use Rattle.std.specs.Prelude.{bit_and, bit_or, not, ◌≢◌}
 use Rattle.std.specs.Int.{bit_at, bit_not, trailing_zeros}
-use Rattle.ultra_units.specs.Set.{has_bit, has_unit, HasNoneWithin, HasNoneFrom, IsFirstFrom, HasNoBitFrom, IsFirstBit}
+use Rattle.ultra_units.specs.Set.{AreBehind, has_bit, has_unit, HasNoneWithin, HasNoneFrom, IsFirstFrom, IsFirstBit}
 
 -- ---- bits of one word
 
@@ -14,8 +14,11 @@ use Rattle.ultra_units.specs.Set.{has_bit, has_unit, HasNoneWithin, HasNoneFrom,
 shifted : (n from i : ℕ) → bit_at (n / 2 ^ from) i ≡ bit_at n (from + i)
 shifted n from i = ap (λ x. x % 2) (shr-shr n from i)
 
+pub shifted_twice : (n from rest : ℕ) → rest ≡ n / 2 ^ from / 2 → (i : ℕ) → bit_at rest i ≡ bit_at n (from + 1 + i)
+shifted_twice n from rest is i = ap (λ r. bit_at r i) (is ∙ shr-shr n from 1) ∙ shifted n (from + 1) i
+
 module _ (word : ℕ) (fits : word < 2 ^ 64) where
-  below_64 : (i : ℕ) → bit_at word i ≡ 1 → i < 64
+  pub below_64 : (i : ℕ) → bit_at word i ≡ 1 → i < 64
   below_64 i here = elim (cases_lt i 64) [ inl below ↦ below | inr past ↦ absurd (let none = bit_at_above word 64 i fits past in omega arith) ]
 
   pub first_of_bits : 0 < word → IsFirstBit word 0 (trailing_zeros w64 word)
@@ -23,20 +26,8 @@ module _ (word : ℕ) (fits : word < 2 ^ 64) where
       let lowest = bit_at-trailing_zeros w64 word some fits in
       record { after = omega arith; within = below_64 _ lowest.1; set = lowest.1; between = λ i _ before. lowest.2 i before }
 
-  -- the same of the bits from `from` on
-  pub none_from : (from : ℕ) (o : Option ℕ) → IfNone o (HasNoBitFrom (word / 2 ^ from) 0) → IfNone o (HasNoBitFrom word from)
-  none_from from None none = λ i after within. (let there = shifted word from (i - from) in grind arith)
-  none_from from (Some bit) none = none
-
-  pub first_from : (from distance : ℕ) → IsFirstBit (word / 2 ^ from) 0 distance → IsFirstBit word from (from + distance)
-  first_from from distance first =
-      let here : bit_at word (from + distance) ≡ 1 = sym (shifted word from distance) ∙ first.set in
-      record {
-        after = omega arith;
-        within = below_64 _ here;
-        set = here;
-        between = λ i after before. let there = shifted word from (i - from) in let low = first.between (i - from) (omega arith) (omega arith) in grind arith;
-      }
+ones_kept : (n i : ℕ) → i < 64 → bit_at (bit_and n (bit_not w64 0)) i ≡ bit_at n i
+ones_kept n i within = omega (arith, bit_at_and n (bit_not w64 0) i, bit_at_not w64 0 i (omega arith) within, bit_at-zero i, bit_at-lt n i)
 
 -- ---- one unit
 
@@ -84,29 +75,45 @@ module _ (words : List ℕ) (number : ℕ) (within : number < 64 * length words)
   pub removed_others : (k : ℕ) → k ≢ number → has_unit (set words (number / 64) unmarked) k ≡ has_unit words k
   removed_others = others_kept unmarked (λ i inside other. bit_at_clear_other w64 _ (number % 64) (omega arith) i inside other)
 
+  -- a word of which all bits are kept
+  pub all_kept : (mask : ℕ) → mask ≡ bit_not w64 0 → (k : ℕ) → has_unit (set words (number / 64) (bit_and (get_or words (number / 64) 0) mask)) k ≡ has_unit words k
+  unfolding has_unit
+  all_kept mask whole k = let kept = ones_kept (get_or words (number / 64) 0) (k % 64) (omega arith) in grind (arith, get_or-set_same, get_or-set_other)
+
 -- ---- the units of a word
 
 -- unit w * 64 + b is bit b of word w
-at_bit : (words : List ℕ) (w b : ℕ) → b < 64 → has_unit words (w * 64 + b) ≡ eqb (bit_at (get_or words w 0) b) 1
+pub at_bit : (words : List ℕ) (w b : ℕ) → b < 64 → has_unit words (w * 64 + b) ≡ eqb (bit_at (get_or words w 0) b) 1
 unfolding has_unit
 at_bit words w b within = grind arith
 
--- units b to c of word w, whose bits are clear
-clear_bits : (words : List ℕ) (w b c : ℕ) → c ≤ 64 → ((i : ℕ) → b ≤ i → i < c → bit_at (get_or words w 0) i ≡ 0)
-    → HasNoneWithin words (w * 64 + b) (w * 64 + c)
-clear_bits words w b c within zeros k after before = let there = at_bit words w (k - w * 64) (omega arith) in grind arith
+pub none_in_word : (words : List ℕ) (w : ℕ) → get_or words w 0 ≡ 0 → HasNoneWithin words (w * 64) ((w + 1) * 64)
+none_in_word words w none k after before =
+    let there = at_bit words w (k - w * 64) (omega arith) in
+    let clear = bit_at-zero (k - w * 64) in
+    let same : w * 64 + (k - w * 64) ≡ k = omega arith in
+    grind arith
 
-module _ (words : List ℕ) (from w b : ℕ) (place : from ≡ w * 64 + b) where
-  pub none_in_word : HasNoBitFrom (get_or words w 0) b → HasNoneWithin words from ((w + 1) * 64)
-  none_in_word zeros k after before = clear_bits words w b 64 (omega arith) zeros k (omega arith) (omega arith)
+pub first_in_word : (words : List ℕ) (w bit : ℕ) → w < 5 → IsFirstBit (get_or words w 0) 0 bit → IsFirstFrom words (w * 64) (w * 64 + bit)
+first_in_word words w bit small first = let there = at_bit words w bit first.within in record {
+  after = omega arith;
+  within = omega (arith, first.within);
+  there = (let set = first.set in grind arith);
+  between = λ k after before. (let at = at_bit words w (k - w * 64) (omega (arith, first.within)) in let clear = first.between (k - w * 64) (omega arith) (omega arith) in let same : w * 64 + (k - w * 64) ≡ k = omega arith in grind arith);
+}
 
-  pub first_in_word : (bit k : ℕ) → k ≡ w * 64 + bit → w < 5 → IsFirstBit (get_or words w 0) b bit → IsFirstFrom words from k
-  first_in_word bit k is small first = let there = at_bit words w bit first.within in record {
-    after = omega (arith, first.after);
-    within = omega (arith, first.within);
-    there = grind arith;
-    between = λ j after before. clear_bits words w b bit (omega (arith, first.within)) first.between j (omega arith) (omega arith);
-  }
+-- ---- the units behind one in its word
+pub behind : (words : List ℕ) (n bits : ℕ) → get_or words (n / 64) 0 < 2 ^ 64 → bits ≡ get_or words (n / 64) 0 / 2 ^ (n % 64) / 2 → AreBehind words n bits
+behind words n bits fits is = record {
+  within = λ i set. (let there = below_64 _ fits (n % 64 + 1 + i) (sym (shifted_twice _ (n % 64) bits is i) ∙ set) in omega arith);
+  are = λ k after before. (
+      let moved = shifted_twice _ (n % 64) bits is (k - n - 1) in
+      let there = at_bit words (n / 64) (k % 64) (omega arith) in
+      let place : n % 64 + 1 + (k - n - 1) ≡ k % 64 = omega arith in
+      let same : n / 64 * 64 + k % 64 ≡ k = omega arith in
+      grind arith
+      );
+}
 
 -- ---- units one after another
 
@@ -116,20 +123,9 @@ joined words a b c low high k after before = grind arith
 pub first_after : (words : List ℕ) (a b k : ℕ) → a ≤ b → HasNoneWithin words a b → IsFirstFrom words b k → IsFirstFrom words a k
 first_after words a b k order low first = grind arith
 
-pub none_after : (words : List ℕ) (a b : ℕ) → HasNoneWithin words a b → HasNoneFrom words b → HasNoneFrom words a
-none_after words a b low high k after = grind arith
-
 -- no unit from 320 on is in a set
 pub none_past : (words : List ℕ) → length words ≡ 5 → HasNoneFrom words 320
 none_past words five k past = past_words words k (omega arith)
-
--- what a search from b on has found, where no unit is within a and b
-pub found_after : (words : List ℕ) (a b : ℕ) (o : Option ℕ) → a ≤ b → HasNoneWithin words a b → IfSome o (λ k. IsFirstFrom words b k)
-    → IfSome o (λ k. IsFirstFrom words a k)
-found_after words a b o order low found = grind arith
-
-pub not_found_after : (words : List ℕ) (a b : ℕ) (o : Option ℕ) → HasNoneWithin words a b → IfNone o (HasNoneFrom words b) → IfNone o (HasNoneFrom words a)
-not_found_after words a b o low none = grind arith
 
 -- ---- reading, uniting and taking away
 

@@ -1,7 +1,10 @@
 -- Visits that change nothing may be left out.
-use Rattle.std.proofs.Common.{◌≡◌, ℕ, zero, suc, ◌+◌, ◌-◌, ◌≤◌, ◌<◌, List, Option, Some, None, false, refl, sym, ◌∙◌, ap, arith}
+use Rattle.std.proofs.Common.{◌≡◌, ℕ, zero, suc, ◌+◌, ◌-◌, ◌≤◌, ◌<◌, Bool, List, Option, Some, None, false, refl, sym, ◌∙◌, ap, inl, inr, arith}
 use Rattle.std.specs.Prelude.{IfNone, IfSome}
-use Rattle.ultra_units.specs.Set.{HasNoneFrom, IsFirstFrom, has_unit}
+use Rattle.std.proofs.lemmas.Bool.{cases_lt}
+use Rattle.std.proofs.lemmas.Bool.Decides.{nat_tests}
+use Rattle.ultra_units.specs.Set.{has_unit, word_end}
+use Rattle.ultra_units.specs.Walk.{HasCome, WalkState, comes_to, keeps}
 use Rattle.ultra_units.specs.Visits.{after_units, AreStillWithin}
 
 -- after the visits below `from`, those of n further units change nothing
@@ -28,21 +31,39 @@ pub visited_next : {T : Type 0} (f : ℕ → T → T) (old now after : T) (k : �
 unfolding after_units
 visited_next f old now after k is made = grind arith
 
--- the number of the unit that is next, or the end
-abbrev pub place : Option ℕ → ℕ
+-- the number of the unit to which a walk has come, or the end
+abbrev pub place : Option WalkState → ℕ
 place None = 320
-place (Some k) = k
+place (Some w) = w.unit
 
--- all below that are visited, where the visits change no unit outside a set, and `next` is its first
-pub record IsReached {T : Type 0} (f : ℕ → T → T) (old now : T) (from : ℕ) (next : Option ℕ) : Type 0 where
-  pub after : from ≤ place next
-  pub within : (k : ℕ) → next ≡ Some k → k < 320
+-- a unit to which a walk doesn't come has nothing to do: in the walk's word, or behind it
+pub left_out : {T : Type 0} (is_idle : ℕ → T → Type 0) (now : T) (set : List ℕ) (w : WalkState) → ((k : ℕ) → has_unit set k ≡ false → is_idle k now)
+    → ((k : ℕ) → w.unit < k → k < word_end w.unit → keeps w k ≡ false → is_idle k now) → (k : ℕ) → w.unit + 1 ≤ k → comes_to w set k ≡ false → is_idle k now
+left_out is_idle now set w outside kept k after out = elim (cases_lt k (word_end w.unit)) [
+  | inl inside ↦ kept k (omega arith) inside (grind (arith, nat_tests))
+  | inr past ↦ outside k (grind (arith, nat_tests))
+]
+
+-- all units below that are visited, and those in its word that the walk doesn't keep have nothing to do
+pub record HasPassed {T : Type 0} (f : ℕ → T → T) (can_visit is_idle : ℕ → T → Type 0) (old now : T) (next : Option WalkState) : Type 0 where
   pub visited : now ≡ after_units f (place next) old
+  pub can : (k : ℕ) → place next ≤ k → k < 320 → can_visit k now
+  pub idle : IfSome next (λ w. (k : ℕ) → w.unit < k → k < word_end w.unit → keeps w k ≡ false → is_idle k now)
+  pub within : IfSome next (λ w. w.unit < 320)
 
-pub reached : {T : Type 0} (f : ℕ → T → T) (old now : T) (set : List ℕ) → ((k : ℕ) → has_unit set k ≡ false → f k now ≡ now)
-    → (from : ℕ) → from ≤ 320 → now ≡ after_units f from old → (next : Option ℕ) → IfSome next (λ k. IsFirstFrom set from k) → IfNone next (HasNoneFrom set from)
-    → IsReached f old now from next
-reached f old now set still from small is None some none =
-    record { after = small; within = λ k is. cc; visited = skipped f old now from 320 small is (λ k after _. still k (none k after)) }
-reached f old now set still from small is (Some k) first none =
-    record { after = first.after; within = λ j is. (let same : k ≡ j = cc in omega (arith, first.within)); visited = skipped f old now from k first.after is (λ j after before. still j (first.between j after before)) }
+module _ {T : Type 0} (f : ℕ → T → T) (can_visit is_idle : ℕ → T → Type 0) (old now : T) (set : List ℕ) (outside : (k : ℕ) → has_unit set k ≡ false → is_idle k now) (still : (k : ℕ) → is_idle k now → f k now ≡ now) where
+  -- a walk comes to the first of some units from `from` on, up to which all are visited, where the others have nothing to do
+  module _ (are : ℕ → Bool) (from : ℕ) (small : from ≤ 320) (visited : now ≡ after_units f from old) (others : (k : ℕ) → from ≤ k → are k ≡ false → is_idle k now) (can : (k : ℕ) → from ≤ k → k < 320 → can_visit k now) where
+    pub passed_to : (next : Option WalkState) → IfSome next (HasCome are from) → IfNone next ((k : ℕ) → from ≤ k → are k ≡ false) → HasPassed f can_visit is_idle old now next
+    passed_to None some none = record {
+      visited = skipped f old now from 320 small visited (λ k after _. still k (others k after (none k after)));
+      can = λ k after within. absurd (omega arith);
+      idle = tt;
+      within = tt;
+    }
+    passed_to (Some w) come none = record {
+      visited = skipped f old now from w.unit come.later visited (λ k after before. still k (others k after (come.none k after before)));
+      can = λ k after. can k (omega (arith, come.later));
+      idle = λ k after inside out. others k (omega (arith, come.later)) (sym (come.rest k after inside) ∙ out);
+      within = come.small;
+    }

@@ -1,11 +1,13 @@
 -- by which links messages come to the unit with a number, and what goes from one table of links to
 -- another
-use Rattle.std.specs.Prelude.{◌≡◌, ℕ, ◌+◌, ◌*◌, ◌^◌, ◌<◌, ◌⊎◌, false, length, List, Option, Some, None, slice_set}
+use Rattle.std.specs.Prelude.{◌≡◌, ◌≢◌, ℕ, ◌+◌, ◌*◌, ◌^◌, ◌<◌, ◌⊎◌, false, length, List, Option, Some, None, slice_set}
 use Rattle.ultra_switch.specs.declared.Ports.{Ports}
 use Rattle.ultra_units.specs.declared.unit.Unit.TheVariants as unit
+use Rattle.ultra_units.specs.Numbers.{switch_count}
 use Rattle.ultra_units.specs.Set.{has_unit}
-use Rattle.ultra_units.specs.Units.{unit_of}
+use Rattle.ultra_units.specs.Units.{index_of, stage_of, unit_of}
 use Rattle.ultra_units.specs.Links.{put_on}
+use Rattle.ultra_units.specs.Ways.{places_of}
 use Rattle.ultra_units.specs.Marks.{on_link, reply_links, delivery_link, request_links, memory_link}
 
 -- one link, which stands at both ports
@@ -58,10 +60,20 @@ module _ (inlets : ℕ → Option (Ports ℕ)) (d : ℕ) where
     pub alone :
         (n : ℕ) (p : Ports ℕ) → inlets n ≡ Some p → (link ≡ p.zero) ⊎ (link ≡ p.one) → n ≡ unit
 
+  -- the links by which messages come to it; those of a switch are two
   pub record AreInlets (unit : ℕ) (p : Ports ℕ) : Type 0 where
     pub are : inlets unit ≡ Some p
     pub zero : LeadsTo p.zero unit
     pub one : LeadsTo p.one unit
+    pub apart : unit < switch_count d → p.zero ≢ p.one
+
+  -- the two links by which messages leave the switch with number n lead to these units
+  pub record LeadOn (n : ℕ) (targets : Ports ℕ) : Type 0 where
+    pub zero : LeadsTo (2 * n) targets.zero
+    pub one : LeadsTo (2 * n + 1) targets.one
+    pub zero_small : targets.zero < 320
+    pub one_small : targets.one < 320
+    pub places : places_of d (stage_of d n) (index_of d n) ≡ record { zero = 2 * n; one = 2 * n + 1 }
 
   -- messages lead to these units alone
   pub record AreTargets {M : Type 0} (table : List (Option M)) (targets : List ℕ) : Type 0 where

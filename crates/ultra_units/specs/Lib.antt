@@ -1,4 +1,5 @@
 pub mod Set
+pub mod Walk
 pub mod Numbers
 pub mod Visits
 pub mod Links

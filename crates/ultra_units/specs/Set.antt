@@ -1,5 +1,5 @@
 -- a set of units as words of 64 bits
-use Rattle.std.specs.Prelude.{◌≡◌, ℕ, ◌/◌, ◌%◌, ◌<◌, ◌≤◌, Bool, true, false, List, ◌==◌, slice_index}
+use Rattle.std.specs.Prelude.{◌≡◌, ℕ, ◌+◌, ◌-◌, ◌*◌, ◌/◌, ◌%◌, ◌<◌, ◌≤◌, Bool, true, false, List, ◌==◌, slice_index}
 use Rattle.std.specs.Int.{bit_at}
 
 -- bit i of the word is set
@@ -25,13 +25,18 @@ pub record IsFirstFrom (words : List ℕ) (from k : ℕ) : Type 0 where
   pub there : has_unit words k ≡ true
   pub between : HasNoneWithin words from k
 
--- no bit of the word from `from` on is set
-abbrev pub HasNoBitFrom : ℕ → ℕ → Type 0
-HasNoBitFrom word from = (i : ℕ) → from ≤ i → i < 64 → bit_at word i ≡ 0
-
 -- the bit is the first of the word from `from` on that is set
 pub record IsFirstBit (word from bit : ℕ) : Type 0 where
   pub after : from ≤ bit
   pub within : bit < 64
   pub set : bit_at word bit ≡ 1
   pub between : (i : ℕ) → from ≤ i → i < bit → bit_at word i ≡ 0
+
+-- the end of the word of unit n
+abbrev pub word_end : ℕ → ℕ
+word_end n = (n / 64 + 1) * 64
+
+-- the bits say which units behind unit n are in the set, up to the end of its word
+pub record AreBehind (words : List ℕ) (n bits : ℕ) : Type 0 where
+  pub within : (i : ℕ) → bit_at bits i ≡ 1 → n + 1 + i < word_end n
+  pub are : (k : ℕ) → n < k → k < word_end n → has_bit bits (k - n - 1) ≡ has_unit words k

@@ -11,6 +11,7 @@ mod numbers;
 mod pass;
 mod unit;
 mod unit_set;
+mod walk;
 mod ways;
 mod wiring;
 

@@ -2,7 +2,7 @@
 
 ghost use Rattle.std.specs.Prelude.{◌≡◌, ◌+◌, ◌-◌, ◌*◌, ◌^◌, ◌<◌, ◌≤◌};
 ghost use Rattle.ultra_units.specs.Marks.{reply_links, request_links};
-ghost use Rattle.ultra_units.specs.Numbers.{element_number as number_of_element, module_number as number_of_module, place_number as number_of_place, reply_source as source_of_reply, reply_target as target_of_reply, request_source as source_of_request, request_target as target_of_request, switch_count as count_of_switches, switch_number as number_of_switch};
+ghost use Rattle.ultra_units.specs.Numbers.{element_number as number_of_element, module_number as number_of_module, place_number as number_of_place, reply_target as target_of_reply, request_target as target_of_request, switch_count as count_of_switches, switch_number as number_of_switch};
 
 use ultra_route::Net;
 use ultra_switch::Ports;
@@ -61,6 +61,21 @@ pub(crate) fn place_number(net: Net, stage: u32, position: u32) -> usize
     (stage * net.size() + position) as usize
 }
 
+/// The numbers of two links that lead from one stage, by the port.
+fn place_numbers(net: Net, stage: u32, zero: u32, one: u32) -> Ports<usize>
+    requires stage { stage ≤ net }
+    requires zero { zero < 2 ^ net }
+    requires one { one < 2 ^ net }
+    ensures value { result ≡ record { zero = number_of_place net stage zero; one = number_of_place net stage one } }
+    ensures zero { result.zero < 448 }
+    ensures one { result.one < 448 }
+{
+    Ports {
+        zero: place_number(net, stage, zero),
+        one: place_number(net, stage, one),
+    }
+}
+
 /// The positions of a switch in its stage, by the port.
 pub(crate) fn positions(net: Net, index: u32) -> Ports<u32>
     requires { index < 2 ^ (net - 1) }
@@ -76,20 +91,6 @@ pub(crate) fn positions(net: Net, index: u32) -> Ports<u32>
     }
 }
 
-/// The link by which a reply comes to a memory-side position of a stage.
-fn reply_source(net: Net, stage: u32, position: u32) -> usize
-    requires stage { stage < net }
-    requires position { position < 2 ^ net }
-    ensures value { result ≡ source_of_reply net stage position }
-    ensures small { result < 448 }
-{
-    if stage == net.stages() - 1 {
-        place_number(net, net.stages(), position)
-    } else {
-        place_number(net, stage + 1, net.shuffle(position))
-    }
-}
-
 /// The links by which replies come to a switch, by the memory-side port.
 pub(crate) fn reply_sources(net: Net, stage: u32, index: u32) -> Ports<usize>
     requires stage { stage < net }
@@ -99,10 +100,10 @@ pub(crate) fn reply_sources(net: Net, stage: u32, index: u32) -> Ports<usize>
     ensures one { result.one < 448 }
 {
     let Ports { zero, one } = positions(net, index);
-    Ports {
-        zero: reply_source(net, stage, zero),
-        one: reply_source(net, stage, one),
+    if stage == net.stages() - 1 {
+        return place_numbers(net, net.stages(), zero, one);
     }
+    place_numbers(net, stage + 1, net.shuffle(zero), net.shuffle(one))
 }
 
 /// The unit to which a reply goes from a PE-side position of a stage.
@@ -121,21 +122,6 @@ pub(crate) fn reply_target(net: Net, stage: u32, position: u32) -> usize
     }
 }
 
-/// The link by which a request comes to a PE-side position of a stage.
-fn request_source(net: Net, stage: u32, position: u32) -> usize
-    requires stage { stage < net }
-    requires position { position < 2 ^ net }
-    ensures value { result ≡ source_of_request net stage position }
-    ensures small { result < 448 }
-{
-    let line = net.unshuffle(position);
-    if stage == 0 {
-        place_number(net, net.stages(), line)
-    } else {
-        place_number(net, stage - 1, line)
-    }
-}
-
 /// The links by which requests come to a switch, by the PE-side port.
 pub(crate) fn request_sources(net: Net, stage: u32, index: u32) -> Ports<usize>
     requires stage { stage < net }
@@ -145,10 +131,11 @@ pub(crate) fn request_sources(net: Net, stage: u32, index: u32) -> Ports<usize>
     ensures one { result.one < 448 }
 {
     let Ports { zero, one } = positions(net, index);
-    Ports {
-        zero: request_source(net, stage, zero),
-        one: request_source(net, stage, one),
+    let (zero, one) = (net.unshuffle(zero), net.unshuffle(one));
+    if stage == 0 {
+        return place_numbers(net, net.stages(), zero, one);
     }
+    place_numbers(net, stage - 1, zero, one)
 }
 
 /// The unit to which a request goes from a memory-side position of a stage.

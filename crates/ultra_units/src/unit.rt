@@ -2,9 +2,8 @@
 
 ghost use Rattle.std.specs.Prelude.{◌≡◌, ◌+◌, ◌<◌, ◌≤◌, ◌^◌, IfNone, IfSome};
 ghost use Rattle.ultra_units.specs.Numbers.{switch_count as count_of_switches};
-ghost use Rattle.ultra_units.specs.Units.{IsSwitch, unit_of};
+ghost use Rattle.ultra_units.specs.Units.{IsSwitch};
 
-use crate::numbers::switch_count;
 use ultra_route::Net;
 
 /// A unit of a machine.
@@ -46,24 +45,4 @@ pub(crate) fn place_of(net: Net, number: usize) -> (u32, u32)
     let _size = net.size();
     let high = net.stages() - 1;
     ((number >> high) as u32, (number % (1 << high)) as u32)
-}
-
-/// The unit with this number in a machine with this network.
-#[inline(always)]
-pub(crate) fn unit_of(net: Net, number: usize) -> Unit
-    ensures { result ≡ unit_of net number }
-{
-    let modules = switch_count(net);
-    let size = net.size() as usize;
-    let elements = modules + size;
-    if number < modules {
-        let (stage, index) = place_of(net, number);
-        Unit::Switch { stage, index }
-    } else if number < elements {
-        Unit::Module((number - modules) as u32)
-    } else if number < elements + size {
-        Unit::Element((number - elements) as u32)
-    } else {
-        Unit::Nothing
-    }
 }

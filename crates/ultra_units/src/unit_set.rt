@@ -1,15 +1,16 @@
 //! Sets of units.
 
-ghost use Rattle.std.specs.Prelude.{◌≡◌, ◌≢◌, ℕ, ◌+◌, ◌*◌, ◌<◌, ◌≤◌, ◌&&◌, ◌||◌, true, false, not, IfNone, IfSome};
-ghost use Rattle.ultra_units.specs.Set.{HasNoBitFrom, HasNoneFrom, IsFirstBit, IsFirstFrom, has_bit, has_unit};
+ghost use Rattle.std.specs.Prelude.{◌≡◌, ◌≢◌, ℕ, ◌+◌, ◌*◌, ◌<◌, ◌≤◌, ◌&&◌, ◌||◌, true, false, not, IfNone, IfSome, length};
+ghost use Rattle.ultra_units.specs.Set.{AreBehind, HasNoneFrom, IsFirstFrom, has_bit, has_unit};
 
+use crate::walk::Walk;
 use std::marker::Model;
 
 /// How many units the largest machine has: 192 switches, 64 modules and 64 processing elements.
 pub(crate) const UNITS: usize = 320;
 
 /// How many words of 64 bits that takes.
-const WORDS: usize = 5;
+pub(crate) const WORDS: usize = 5;
 
 /// A set of units, by their numbers, which are below 320: switches first, then modules, then processing elements.
 #[derive(Clone, Copy, Drop)]
@@ -108,7 +109,7 @@ impl UnitSet {
         ensures others { (k : ℕ) → k ≢ unit → has_unit self.new k ≡ has_unit self.old k }
         ensures gone { has_unit self.new unit ≡ false }
     {
-        self.words[unit.number / 64] &= !(1u64 << (unit.number % 64));
+        self.remove_unless(unit, false);
     }
 
     /// Puts a unit into the set, if `is_in`. One that is there already has to stay.
@@ -130,9 +131,12 @@ impl UnitSet {
         ensures others { (k : ℕ) → k ≢ unit → has_unit self.new k ≡ has_unit self.old k }
         ensures there { has_unit self.new unit ≡ is_in }
     {
-        if !is_in {
-            self.remove(unit);
-        }
+        let kept = if is_in {
+            u64::MAX
+        } else {
+            !(1u64 << (unit.number % 64))
+        };
+        self.words[unit.number / 64] &= kept;
     }
 
     /// Puts all units of another set into this one.
@@ -163,52 +167,35 @@ impl UnitSet {
         ensures some { IfSome result (λ k. IsFirstFrom self.now from k) }
         ensures none { IfNone result (HasNoneFrom self.now from) }
     {
-        if from == 0 {
-            return self.next_of_words(0);
-        }
-        if UNITS < from {
-            return self.next_of_words(WORDS);
-        }
-        self.next_after(from - 1)
-    }
-
-    /// The first unit of the set behind the unit of this number.
-    #[inline(always)]
-    pub fn next_after(&self, number: usize) -> Option<usize>
-        requires { number < 320 }
-        ensures some { IfSome result (λ k. IsFirstFrom self.now (number + 1) k) }
-        ensures none { IfNone result (HasNoneFrom self.now (number + 1)) }
-    {
-        let word = number / 64;
-        match first_bit_behind(self.words[word], number % 64) {
-            Some(distance) => Some(number + 1 + distance),
-            None if word == 0 && self.is_in_first_word() => None,
-            None => self.next_of_words(word + 1),
-        }
+        Some(Walk::first_from(self, from)?.unit().number())
     }
 
     /// Whether all units of the set are in its first word, as in a small machine.
     #[inline(always)]
-    fn is_in_first_word(&self) -> bool
+    pub(crate) fn is_in_first_word(&self) -> bool
         ensures { result ≡ true → HasNoneFrom self.now 64 }
     {
         let words = &self.words;
         words[1] | words[2] | words[3] | words[4] == 0
     }
 
-    /// The first unit of the set in the words from `first` on.
+    /// The words of the set.
     #[inline(always)]
-    fn next_of_words(&self, first: usize) -> Option<usize>
-        requires { first ≤ 5 }
-        ensures some { IfSome result (λ k. IsFirstFrom self.now (first * 64) k) }
-        ensures none { IfNone result (HasNoneFrom self.now (first * 64)) }
+    pub(crate) fn words(&self) -> &[u64; WORDS]
+        ensures are { result.now ≡ self.now }
+        ensures count { length self.now ≡ 5 }
     {
-        for word in first..WORDS {
-            if let Some(distance) = first_bit(self.words[word]) {
-                return Some(word * 64 + distance);
-            }
-        }
-        None
+        &self.words
+    }
+
+    /// The units behind the one of this number in its word: bit i says it of the one whose number is greater by i + 1.
+    #[inline(always)]
+    #[tactic(auto, using(crate::proofs::Set::behind))]
+    pub(crate) fn behind(&self, number: usize) -> u64
+        requires { number < 320 }
+        ensures { AreBehind self.now number result }
+    {
+        self.words[number / 64] >> (number % 64) >> 1
     }
 }
 
@@ -219,26 +206,4 @@ fn bits_without(word: u64, other: u64) -> u64
     ensures { (i : ℕ) → i < 64 → has_bit result i ≡ has_bit word i && not (has_bit other i) }
 {
     word & !other
-}
-
-/// The first bit of the word that is set.
-#[inline(always)]
-fn first_bit(word: u64) -> Option<usize>
-    ensures some { IfSome result (IsFirstBit word 0) }
-    ensures none { IfNone result (HasNoBitFrom word 0) }
-{
-    if word == 0 {
-        return None;
-    }
-    Some(word.trailing_zeros() as usize)
-}
-
-/// How far behind the one after `bit` the first bit of the word is that is set, of those behind `bit`.
-#[inline(always)]
-fn first_bit_behind(word: u64, bit: usize) -> Option<usize>
-    requires { bit < 64 }
-    ensures some { IfSome result (λ distance. IsFirstBit word (bit + 1) (bit + 1 + distance)) }
-    ensures none { IfNone result (HasNoBitFrom word (bit + 1)) }
-{
-    first_bit(word >> bit >> 1)
 }

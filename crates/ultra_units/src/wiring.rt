@@ -1,6 +1,7 @@
 //! What is beside each switch of a network.
 
 ghost use Rattle.std.specs.Prelude.{◌≡◌, ◌-◌, ◌^◌, ◌<◌, IfOk, IfSome};
+ghost use Rattle.ultra_units.specs.Inlets.{AreInlets, LeadOn, reply_inlets, request_inlets};
 ghost use Rattle.ultra_units.specs.Marks.{reply_links as links_of_replies, request_links as links_of_requests};
 ghost use Rattle.ultra_units.specs.Numbers.{switch_count as count_of_switches};
 ghost use Rattle.ultra_units.specs.Units.{IsElement, IsModule, IsUnit, element_among, index_of, module_among, stage_of, unit_of};
@@ -196,18 +197,20 @@ impl Wiring {
     #[inline(always)]
     pub fn request_links(&self, unit: UnitNumber) -> Ports<usize>
         requires { unit < count_of_switches self.now }
-        ensures { result ≡ links_of_requests self.now (stage_of self.now unit) (index_of self.now unit) }
+        ensures value { result ≡ links_of_requests self.now (stage_of self.now unit) (index_of self.now unit) }
+        ensures inlets { AreInlets (request_inlets self.now) self.now unit result }
     {
+        let _stages = self.net.stages();
         widen(self.beside(unit.number()).request_links)
     }
 
     /// The units to which requests go from a switch, by the memory-side port.
     #[inline(always)]
+    #[tactic(auto, using(crate::proofs::Readers::requests_lead))]
     pub fn request_targets(&self, unit: UnitNumber) -> Ports<usize>
         requires { unit < count_of_switches self.now }
         ensures value { result ≡ targets_of_requests self.now (stage_of self.now unit) (index_of self.now unit) }
-        ensures zero { result.zero < 320 }
-        ensures one { result.one < 320 }
+        ensures lead { LeadOn (request_inlets self.now) self.now unit result }
     {
         let _stages = self.net.stages();
         widen(self.beside(unit.number()).request_targets)
@@ -217,18 +220,20 @@ impl Wiring {
     #[inline(always)]
     pub fn reply_links(&self, unit: UnitNumber) -> Ports<usize>
         requires { unit < count_of_switches self.now }
-        ensures { result ≡ links_of_replies self.now (stage_of self.now unit) (index_of self.now unit) }
+        ensures value { result ≡ links_of_replies self.now (stage_of self.now unit) (index_of self.now unit) }
+        ensures inlets { AreInlets (reply_inlets self.now) self.now unit result }
     {
+        let _stages = self.net.stages();
         widen(self.beside(unit.number()).reply_links)
     }
 
     /// The units to which replies go from a switch, by the PE-side port.
     #[inline(always)]
+    #[tactic(auto, using(crate::proofs::Readers::replies_lead))]
     pub fn reply_targets(&self, unit: UnitNumber) -> Ports<usize>
         requires { unit < count_of_switches self.now }
         ensures value { result ≡ targets_of_replies self.now (stage_of self.now unit) (index_of self.now unit) }
-        ensures zero { result.zero < 320 }
-        ensures one { result.one < 320 }
+        ensures lead { LeadOn (reply_inlets self.now) self.now unit result }
     {
         let _stages = self.net.stages();
         widen(self.beside(unit.number()).reply_targets)

@@ -1,5 +1,6 @@
-use Rattle.ultra_block.proofs.Filled.{IsFilling}
+use Rattle.std.proofs.Common.{◌≡◌, take}
+use Rattle.ultra_block.specs.Fresh.{filled}
 use Rattle.ultra_block.proofs.building.fill.Given as goal
 
 abbrev pub invariant-loop-cell : goal.invariant-loop-cell
-invariant-loop-cell l = IsFilling l.size l.number l.cells l.values l.cell-index l.bank
+invariant-loop-cell l = l.bank ≡ filled l.size l.number l.cells (take l.cell-index l.values)

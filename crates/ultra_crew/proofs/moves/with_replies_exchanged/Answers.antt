@@ -1,6 +1,10 @@
 use Rattle.std.proofs.Common.{arith}
 use Rattle.std.proofs.lemmas.List.{with_items_is}
+use Rattle.ultra_cut.specs.declared.kind.Kind.TheVariants.{Replies}
+use Rattle.ultra_crew.proofs.Exchanged.{are_exchanged}
 use Rattle.ultra_crew.proofs.moves.with_replies_exchanged.Goals as goal
 
-pub returns-clause-there : goal.returns-clause-there
-returns-clause-there c = rw (with_items_is c.args.blocks c.exchange_replies.new.blocks (grind arith)) c.exchange_replies.ensures.there
+pub returns : goal.returns
+returns c =
+    rw (with_items_is c.args.blocks c.exchange_replies.new.blocks (grind arith))
+    (are_exchanged Replies c.args.net c.args.partition.now c.args.blocks.items c.exchange_replies.new.blocks c.requires.blocks (rw c.as_mut_slice.ensures.value at c.exchange_replies.ensures.only) c.exchange_replies.ensures.there)

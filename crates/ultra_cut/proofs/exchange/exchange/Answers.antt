@@ -1,16 +1,34 @@
 use Rattle.std.proofs.Common.{arith, below_more}
-use Rattle.ultra_cut.proofs.Moved.{both_moved, nothing_moved}
+use Rattle.ultra_cut.proofs.Moved.{both_moved, gone_until, nothing_moved, still_cut}
+use Rattle.ultra_cut.proofs.Numbers.{few_units}
 use Rattle.ultra_cut.proofs.exchange.exchange.Goals as goal
 
 pub loop-from-init : goal.loop-from-init
 loop-from-init c = record { only = nothing_moved c.args.kind c.args.blocks.now c.requires.single; there = λ k before. absurd (omega arith) }
 
+pub loop-unit-preserved : goal.loop-unit-preserved
+loop-unit-preserved c =
+    let known = c.loop-unit.invariant in
+    let next = c.in-Some.ensures.some in
+    let kept = c.move_home.ensures.kept in
+    let cut = still_cut c.args.net c.args.partition.now c.args.blocks.now c.loop-unit.blocks c.args.kind known.only c.requires.cut in
+    record {
+      within = omega (arith, next.within);
+      only = both_moved c.args.kind c.args.blocks.now c.loop-unit.blocks c.move_home.new.blocks known.only c.move_home.ensures.only;
+      there = λ k before n small. kept k n (known.there k before n small);
+      gone = below_more _ _ (λ n before small. kept c.loop-from.from n (gone_until c.args.kind c.args.net c.args.partition.now c.loop-unit.blocks c.loop-from.from c.loop-unit.next c.in-Some.unit
+          c.index-blocks-from.result cut (omega (arith, known.only.count)) next.between known.gone n before small)) c.move_home.ensures.gone;
+    }
+
 pub loop-from-preserved : goal.loop-from-preserved
 loop-from-preserved c =
-    let known = c.loop-from.invariant in
+    let known = c.loop-unit.invariant in
+    let few = few_units c.args.net (omega arith) (omega arith) in
+    let cut = still_cut c.args.net c.args.partition.now c.args.blocks.now c.loop-unit.blocks c.args.kind known.only c.requires.cut in
     record {
-      only = both_moved c.args.kind c.args.blocks.now c.loop-from.blocks c.empty.new.blocks known.only c.empty.ensures.only;
-      there = below_more _ _ (λ k h n small. c.empty.ensures.kept k n (known.there k h n small)) c.empty.ensures.gone;
+      only = known.only;
+      there = below_more _ _ known.there (λ n small. gone_until c.args.kind c.args.net c.args.partition.now c.loop-unit.blocks c.loop-from.from c.loop-unit.next 320
+          c.index-blocks-from.result cut (omega (arith, known.only.count)) c.in_default.ensures.none known.gone n (omega (arith, few)) small);
     }
 
 pub returns-clause-there : goal.returns-clause-there

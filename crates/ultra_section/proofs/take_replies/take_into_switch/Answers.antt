@@ -1,4 +1,4 @@
-use Rattle.std.proofs.Common.{◌∙◌, sym, ap, subst, arith, ◌≡◌, ◌≢◌, ◌<◌, ◌≤◌, ◌+◌, ℕ, Option, None, length, set, get_or-set_other}
+use Rattle.std.proofs.Common.{◌∙◌, sym, subst, arith, ◌≡◌, ◌≢◌, ◌≤◌, ◌+◌, ℕ, List, Option, None, length, set, get_or-set_other}
 use Rattle.std.specs.Prelude.{IsTrue}
 use Rattle.std.specs.Option.{ForSome}
 use Rattle.ultra_msg.specs.declared.ReplyMessage.{ReplyMessage}
@@ -9,14 +9,7 @@ use Rattle.ultra_model.specs.Phases.{replies_made}
 use Rattle.ultra_halves.specs.Halves.{going_by, lane_after_reply, ports, with_replies}
 use Rattle.ultra_halves.specs.Switches.{after_replies, has_reply_room}
 use Rattle.ultra_halves.proofs.Going.{room_left}
-use Rattle.ultra_units.specs.Inlets.{AreEmpty, reply_inlets}
-use Rattle.ultra_units.specs.Links.{LinksState}
-use Rattle.ultra_units.specs.Marks.{on_link, reply_links, without_both}
-use Rattle.ultra_units.specs.Numbers.{switch_count}
-use Rattle.ultra_units.specs.Units.{stage_of, index_of}
-use Rattle.ultra_units.proofs.Marks.{emptied, emptied_first}
-use Rattle.ultra_units.proofs.Readers.{replies_to_switch}
-use Rattle.ultra_units.proofs.Standing.{is_switch}
+use Rattle.ultra_units.specs.Marks.{on_link}
 use Rattle.ultra_section.proofs.take_replies.take_into_switch.Goals as goal
 
 module _ (d s : ℕ) (w : Switch) (p : Ports SizedReplies) (zero one : Option ReplyMessage)
@@ -33,45 +26,22 @@ module _ (d s : ℕ) (w : Switch) (p : Ports SizedReplies) (zero one : Option Re
   taken_by l m q first second then_zero then_one = grind arith
 
 -- what is taken from the second of two links, once the first is empty
-taken_second : (l m : LinksState ReplyMessage) (p : Ports ℕ) (o : Option ReplyMessage) → p.zero ≢ p.one → m ≡ record l { table = set l.table p.zero None } → o ≡ on_link m.table p.one → o ≡ on_link l.table p.one
-taken_second l m p o apart left is = grind (arith, get_or-set_other)
-
--- nothing leads to the switch then
-nothing_left : (d n : ℕ) (l : LinksState ReplyMessage) (p : Ports ℕ) → n < switch_count d → p ≡ reply_links d (stage_of d n) (index_of d n) → AreEmpty (without_both l.table p) (reply_inlets d n)
-nothing_left d n l p within are = grind (arith, emptied, emptied_first)
-
-pub take-zero-requires : goal.take-zero-requires
-take-zero-requires c =
-    let lead = replies_to_switch c.args.net (omega arith) (omega arith) c.args.unit _ _ (is_switch c.args.net c.args.unit c.requires.switch) in
-    rw (c.requires.stages, c.requires.inlets) lead.zero_small
+taken_second : (t : List (Option ReplyMessage)) (p : Ports ℕ) → p.zero ≢ p.one → on_link (set t p.zero None) p.one ≡ on_link t p.one
+taken_second t p apart = grind (arith, get_or-set_other)
 
 pub take_reply-requires : goal.take_reply-requires
 take_reply-requires c = grind arith
 
-pub take-one-requires : goal.take-one-requires
-take-one-requires c =
-    let lead = replies_to_switch c.args.net (omega arith) (omega arith) c.args.unit _ _ (is_switch c.args.net c.args.unit c.requires.switch) in
-    rw (c.take-zero.ensures.rest, c.requires.stages, c.requires.inlets) lead.one_small
-
 pub take_reply-requires-2 : goal.take_reply-requires-2
 take_reply-requires-2 c =
-    let lead = replies_to_switch c.args.net (omega arith) (omega arith) c.args.unit _ _ (is_switch c.args.net c.args.unit c.requires.switch) in
-    let apart : c.args.inlets.zero ≢ c.args.inlets.one = rw (c.requires.inlets) (lead.apart c.requires.switch) in
-    let one = taken_second c.args.links.now _ c.args.inlets c.take-one.result apart c.take-zero.ensures.rest c.take-one.ensures.value in
+    let one = (rw (c.take-zero.ensures.rest) at c.take-one.ensures.value) ∙ taken_second c.args.links.now.table c.args.inlets (c.requires.inlets.apart c.requires.switch) in
     let fits = fits_second c.args.net c.args.stage c.args.switch.now c.take_reply.new.to_pe c.take-zero.result c.take-one.result c.take_reply.ensures.zero c.take_reply.ensures.one
     (subst (λ o. ForSome o (λ _. IsTrue (has_reply_room c.args.switch.now))) (sym one) c.requires.room.one) in
     record { stage = c.requires.stage; zero = fits.0; one = fits.1 }
 
-pub clear-requires : goal.clear-requires
-clear-requires c = record { none = rw (c.take-one.ensures.rest, c.take-zero.ensures.rest, c.requires.stages) (nothing_left c.args.net c.args.unit c.args.links.now c.args.inlets c.requires.switch c.requires.inlets) }
-
 pub returns-clause-switch : goal.returns-clause-switch
 returns-clause-switch c =
-    let lead = replies_to_switch c.args.net (omega arith) (omega arith) c.args.unit _ _ (is_switch c.args.net c.args.unit c.requires.switch) in
-    let apart : c.args.inlets.zero ≢ c.args.inlets.one = rw (c.requires.inlets) (lead.apart c.requires.switch) in
-    let one = taken_second c.args.links.now _ c.args.inlets c.take-one.result apart c.take-zero.ensures.rest c.take-one.ensures.value in
-    let w = c.args.switch.now in
-    taken_by c.args.net c.args.stage w c.take_reply.new.to_pe c.take-zero.result c.take-one.result c.take_reply.ensures.zero c.take_reply.ensures.one
-    c.take_reply.new.to_mm c.take_reply-2.new.to_mm c.take_reply-2.new.to_pe c.take_reply.ensures.records c.take_reply-2.ensures.records c.take_reply-2.ensures.zero c.take_reply-2.ensures.one
-    ∙ ap (λ o. after_replies c.args.net c.args.stage w (ports o c.take-one.result)) c.take-zero.ensures.value
-    ∙ ap (λ o. after_replies c.args.net c.args.stage w (ports (on_link c.args.links.now.table c.args.inlets.zero) o)) one
+    let one = (rw (c.take-zero.ensures.rest) at c.take-one.ensures.value) ∙ taken_second c.args.links.now.table c.args.inlets (c.requires.inlets.apart c.requires.switch) in
+    rw (c.take-zero.ensures.value, one) at
+    (taken_by c.args.net c.args.stage c.args.switch.now c.take_reply.new.to_pe c.take-zero.result c.take-one.result c.take_reply.ensures.zero c.take_reply.ensures.one
+    c.take_reply.new.to_mm c.take_reply-2.new.to_mm c.take_reply-2.new.to_pe c.take_reply.ensures.records c.take_reply-2.ensures.records c.take_reply-2.ensures.zero c.take_reply-2.ensures.one)

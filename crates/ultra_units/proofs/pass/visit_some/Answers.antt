@@ -1,22 +1,26 @@
 use Rattle.std.proofs.Common.{◌+◌, arith}
-use Rattle.ultra_units.proofs.Visits.{none_visited, reached, visited_next}
+use Rattle.ultra_units.specs.Set.{has_unit}
+use Rattle.ultra_units.specs.Walk.{comes_to}
+use Rattle.ultra_units.proofs.Visits.{left_out, none_visited, passed_to, visited_next}
 use Rattle.ultra_units.proofs.pass.visit_some.Goals as goal
 
 pub loop-next-init : goal.loop-next-init
 loop-next-init g c =
-    let f = g.V.Visit.visited c.args.visit.now in
-    let t = c.args.target.now in
-    let there = reached f t t _ c.units.ensures 0 (omega arith) (none_visited f t) c.next-next.result c.next-next.ensures.some c.next-next.ensures.none in
-    (there.within, there.visited, λ k _ within. c.requires k within)
+    passed_to _ _ _ _ _ c.units.result.now c.units.ensures.idle c.units.ensures.still (has_unit c.units.result.now) 0 (omega arith)
+    (none_visited (g.V.Visit.visited c.args.visit.now) c.args.target.now) (λ k _ none. c.units.ensures.idle k none) (λ k _ small. c.requires k small)
+    c.start-next.result c.start-next.ensures.some c.start-next.ensures.none
 
 pub loop-next-preserved : goal.loop-next-preserved
 loop-next-preserved g c =
-    let f = g.V.Visit.visited c.args.visit.now in
-    let unit = c.in-Some.unit in
-    let within = c.loop-next.invariant.0 unit c.in-Some.is in
-    let visited = visited_next f c.args.target.now c.loop-next.target c.visit.new.target unit (rw (c.in-Some.is) at c.loop-next.invariant.1) (rw (c.of.ensures) at c.visit.ensures.visited) in
-    let there = reached f c.args.target.now c.visit.new.target _ c.units-in-Some.ensures (unit + 1) (omega arith) visited c.next_after-next.result c.next_after-next.ensures.some c.next_after-next.ensures.none in (
-      there.within,
-      there.visited,
-      λ k after small. (rw (c.of.ensures) at c.visit.ensures.later) k (omega (arith, there.after)) (c.loop-next.invariant.2 k (rw (c.in-Some.is) (omega (arith, there.after))) small),
-    )
+    let walk = c.in-Some.walk in
+    let passed = rw (c.in-Some.is) at c.loop-next.invariant in
+    let made = rw (c.unit.ensures) at c.visit.ensures in
+    let units = c.units-in-Some in
+    passed_to _ _ _ _ _ units.result.now units.ensures.idle units.ensures.still (comes_to walk units.result.now) (walk.unit + 1) (omega (arith, passed.within))
+    (visited_next _ _ _ _ walk.unit passed.visited made.visited)
+    (left_out (g.V.Visit.is_idle c.args.visit.now) c.visit.new.target units.result.now walk units.ensures.idle (λ k after inside out. made.idle k after (passed.idle k after inside out)))
+    (λ k after small. made.later k (omega arith) (passed.can k (omega arith) small))
+    c.go_on-next.result c.go_on-next.ensures.some c.go_on-next.ensures.none
+
+pub visit-requires : goal.visit-requires
+visit-requires g c = let passed = rw (c.in-Some.is) at c.loop-next.invariant in rw (c.unit.ensures) (record { can = passed.can c.in-Some.walk.unit (omega arith) passed.within })

@@ -1,13 +1,9 @@
-use Rattle.std.proofs.Common.{◌≡◌, ℕ, ◌-◌, ◌<◌, ◌≤◌, Some}
-use Rattle.ultra_units.specs.Visits.{after_units}
-use Rattle.ultra_units.proofs.Visits.{place}
+use Rattle.std.proofs.Common.{◌-◌}
+use Rattle.ultra_units.proofs.Visits.{HasPassed, place}
 use Rattle.ultra_units.proofs.pass.visit_some.Given as goal
 
 abbrev pub decreases-loop-next : goal.decreases-loop-next
 decreases-loop-next g l = 320 - place l.next
 
 abbrev pub invariant-loop-next : goal.invariant-loop-next
-invariant-loop-next g l =
-    ((k : ℕ) → l.next ≡ Some k → k < 320)
-    × (l.target ≡ after_units (g.V.Visit.visited l.visit) (place l.next) l.initial.target)
-    × ((k : ℕ) → place l.next ≤ k → k < 320 → g.V.Visit.can_visit l.visit k l.target)
+invariant-loop-next g l = HasPassed (g.V.Visit.visited l.visit) (g.V.Visit.can_visit l.visit) (g.V.Visit.is_idle l.visit) l.initial.target l.target l.next

@@ -1,9 +1,5 @@
-use Rattle.std.proofs.Common.{arith}
-use Rattle.ultra_merge.proofs.Front.{past_empty, entry_within, sooner_is_front}
+use Rattle.ultra_merge.proofs.Front.{entry_within, sooner_is_front}
 use Rattle.ultra_merge.proofs.merge.Merge.front.Goals as goal
-
-pub loop-place-preserved-in_default : goal.loop-place-preserved-in_default
-loop-place-preserved-in_default g c = grind (arith, past_empty)
 
 pub rank-rank-requires : goal.rank-rank-requires
 rank-rank-requires g c =

@@ -1,10 +1,6 @@
 use Rattle.std.proofs.Common.{arith}
-use Rattle.ultra_merge.proofs.Merged.{merged_none}
 use Rattle.ultra_merge.proofs.Front.{left_ranked, left_merged}
 use Rattle.ultra_merge.proofs.merge.MergeIterator.next.Goals as goal
-
-pub returns-in_err-front-clause-steps : goal.returns-in_err-front-clause-steps
-returns-in_err-front-clause-steps g c = grind (arith, merged_none)
 
 pub invariant_of-self : goal.invariant_of-self
 invariant_of-self g c =

@@ -8,8 +8,7 @@ use Rattle.ultra_halves.specs.Elements.{element_of, executed, is_at_rest, issue_
 use Rattle.ultra_halves.specs.declared.elements.ProcessingElement.{ProcessingElement}
 use Rattle.ultra_halves.proofs.Rests.{faulted_stops, holds_as_before, issued_holds, issued_runs, went_on}
 use Rattle.ultra_section.specs.Sets.{UnitFacts, element_facts}
-use Rattle.ultra_section.proofs.Known.{element_known, element_here, same_facts, still_kept}
-use Rattle.ultra_section.proofs.Awake.{rests_anew, rests_still}
+use Rattle.ultra_section.proofs.Known.{element_found, element_kept, rests_anew, rests_still, same_facts}
 use Rattle.ultra_section.proofs.block.Block.execute_element.Goals as goal
 
 -- what is true of a processing element after a step
@@ -27,45 +26,51 @@ module _ (program : List Instr) (e : ProcessingElement) (v : ProcessingElement) 
 pub invariant_of-self-in-AtRest : goal.invariant_of-self-in-AtRest
 invariant_of-self-in-AtRest c =
     let known = c.self.invariant in
-    let (is, was) = element_here c.self.view_is c.self.invariant.units c.requires.is c.index_mut.ensures.value c.in-Some.is in
+    let (is, at, was) = element_found c.self.view_is c.self.invariant.units c.requires.is c.index_mut.ensures.value c.in-Some.is in
     let did = c.execute-outcome.ensures in
-    still_kept known (element_known known.units (same_facts c.self.inside.sets _) c.args.pe (Some c.execute-outcome.new.self) is (rw (did.same c.in-AtRest.is) was))
-    (rests_anew known is c.remove.new.self c.remove.ensures.others (λ _ e same. grind (arith, did.rest, c.in-AtRest.is, did.same))) known.replies known.requests (omega arith) (omega arith)
+    let now = c.execute-outcome.new.self in
+    element_kept known (same_facts c.self.inside.sets _) known.replies known.requests (omega arith) (omega arith) (Some now) is
+    (rw (did.same c.in-AtRest.is) was)
+    (rests_anew known is c.remove.new.self c.remove.ensures.others (λ _ e same. grind (arith, did.rest, c.in-AtRest.is, did.same)))
 
 pub invariant_of-self-then-has_stopped : goal.invariant_of-self-then-has_stopped
 invariant_of-self-then-has_stopped c =
     let known = c.self.invariant in
-    let (is, was) = element_here c.self.view_is c.self.invariant.units c.requires.is c.index_mut.ensures.value c.in-Some.is in
+    let (is, at, was) = element_found c.self.view_is c.self.invariant.units c.requires.is c.index_mut.ensures.value c.in-Some.is in
     let did = c.execute-outcome.ensures in
-    still_kept known (element_known known.units c.note_stopped.ensures c.args.pe (Some c.execute-outcome.new.self) is
-    (ap (λ (f : UnitFacts). record f { running = false }) was ∙ (has_ended c.self.inside.program c.in-Some.element _ did.element (sym did.issue ∙ ap issue_in c.in-Done.is) (sym c.has_stopped.ensures ∙ c.if-has_stopped.true))))
-    (rests_still known is c.index_mut.ensures.value c.in-Some.is c.execute-outcome.new.self (λ rest. grind (arith, c.in-Done.is, did.rest))) known.replies known.requests (omega arith) (omega arith)
+    let now = c.execute-outcome.new.self in
+    element_kept known c.note_stopped.ensures known.replies known.requests (omega arith) (omega arith) (Some now) is
+    (ap (λ (f : UnitFacts). record f { running = false }) was ∙ has_ended c.self.inside.program c.in-Some.element _ did.element (sym did.issue ∙ ap issue_in c.in-Done.is) (sym c.has_stopped.ensures ∙ c.if-has_stopped.true))
+    (rests_still known is at now (λ rest. grind (arith, c.in-Done.is, did.rest)))
 
 pub invariant_of-self-else-has_stopped : goal.invariant_of-self-else-has_stopped
 invariant_of-self-else-has_stopped c =
     let known = c.self.invariant in
-    let (is, was) = element_here c.self.view_is c.self.invariant.units c.requires.is c.index_mut.ensures.value c.in-Some.is in
+    let (is, at, was) = element_found c.self.view_is c.self.invariant.units c.requires.is c.index_mut.ensures.value c.in-Some.is in
     let did = c.execute-outcome.ensures in
+    let now = c.execute-outcome.new.self in
     let moves : IsTrue (is_at_rest c.self.inside.program c.in-Some.element) → ⊥ = λ rest. grind (arith, c.in-Done.is, did.rest) in
-    still_kept known (element_known known.units (same_facts c.self.inside.sets _) c.args.pe (Some c.execute-outcome.new.self) is
-    (was ∙ (goes_on c.self.inside.program c.in-Some.element _ did.element (sym did.issue ∙ ap issue_in c.in-Done.is) moves (sym c.has_stopped.ensures ∙ c.if-has_stopped.false))))
-    (rests_still known is c.index_mut.ensures.value c.in-Some.is c.execute-outcome.new.self (λ rest. absurd (moves rest))) known.replies known.requests (omega arith) (omega arith)
+    element_kept known (same_facts c.self.inside.sets _) known.replies known.requests (omega arith) (omega arith) (Some now) is
+    (was ∙ goes_on c.self.inside.program c.in-Some.element _ did.element (sym did.issue ∙ ap issue_in c.in-Done.is) moves (sym c.has_stopped.ensures ∙ c.if-has_stopped.false))
+    (rests_still known is at now (λ rest. absurd (moves rest)))
 
 pub invariant_of-self-in-Issued : goal.invariant_of-self-in-Issued
 invariant_of-self-in-Issued c =
     let known = c.self.invariant in
-    let (is, was) = element_here c.self.view_is c.self.invariant.units c.requires.is c.index_mut.ensures.value c.in-Some.is in
+    let (is, at, was) = element_found c.self.view_is c.self.invariant.units c.requires.is c.index_mut.ensures.value c.in-Some.is in
     let did = c.execute-outcome.ensures in
-    still_kept known (element_known known.units c.note_issued.ensures c.args.pe (Some c.execute-outcome.new.self) is
-    (ap (λ (f : UnitFacts). record f { holds_requests = true }) was ∙ (has_issued c.self.inside.program c.in-Some.element _ did.element _ (sym did.issue ∙ ap issue_in c.in-Issued.is))))
-    (rests_still known is c.index_mut.ensures.value c.in-Some.is c.execute-outcome.new.self (λ rest. grind (arith, c.in-Issued.is, did.rest))) known.replies known.requests c.append.ensures.places (omega arith)
+    let now = c.execute-outcome.new.self in
+    element_kept known c.note_issued.ensures known.replies known.requests c.append.ensures.places (omega arith) (Some now) is
+    (ap (λ (f : UnitFacts). record f { holds_requests = true }) was ∙ has_issued c.self.inside.program c.in-Some.element _ did.element _ (sym did.issue ∙ ap issue_in c.in-Issued.is))
+    (rests_still known is at now (λ rest. grind (arith, c.in-Issued.is, did.rest)))
 
 pub invariant_of-self-in-Faulted : goal.invariant_of-self-in-Faulted
 invariant_of-self-in-Faulted c =
     let known = c.self.invariant in
-    let (is, was) = element_here c.self.view_is c.self.invariant.units c.requires.is c.index_mut.ensures.value c.in-Some.is in
+    let (is, at, was) = element_found c.self.view_is c.self.invariant.units c.requires.is c.index_mut.ensures.value c.in-Some.is in
     let did = c.execute-outcome.ensures in
+    let now = c.execute-outcome.new.self in
     let stopped = faulted_stops c.self.inside.program c.in-Some.element c.args.pe _ (sym did.stop ∙ ap stop_in c.in-Faulted.is) in
-    still_kept known (element_known known.units c.note_stopped-in-Faulted.ensures c.args.pe (Some c.execute-outcome.new.self) is
-    (ap (λ (f : UnitFacts). record f { running = false }) was ∙ (has_ended c.self.inside.program c.in-Some.element _ did.element (sym did.issue ∙ ap issue_in c.in-Faulted.is) (rw (did.element) stopped))))
-    (rests_still known is c.index_mut.ensures.value c.in-Some.is c.execute-outcome.new.self (λ rest. grind (arith, c.in-Faulted.is, did.rest))) known.replies known.requests (omega arith) c.append-in-Faulted.ensures.places
+    element_kept known c.note_stopped-in-Faulted.ensures known.replies known.requests (omega arith) c.append-in-Faulted.ensures.places (Some now) is
+    (ap (λ (f : UnitFacts). record f { running = false }) was ∙ has_ended c.self.inside.program c.in-Some.element _ did.element (sym did.issue ∙ ap issue_in c.in-Faulted.is) (rw (did.element) stopped))
+    (rests_still known is at now (λ rest. grind (arith, c.in-Faulted.is, did.rest)))

@@ -1,11 +1,6 @@
-use Rattle.std.proofs.Common.{◌∙◌, ◌^◌, ◌<◌, Some, refl, sym, subst, arith}
-use Rattle.ultra_section.specs.BlockState.{BlockState}
-use Rattle.ultra_section.proofs.Known.{module_known, still_kept}
+use Rattle.std.proofs.Common.{Some, refl, arith}
+use Rattle.ultra_section.proofs.Known.{module_kept}
 use Rattle.ultra_section.proofs.block.Block.put_module.Goals as goal
 
 pub invariant_of-self : goal.invariant_of-self
-invariant_of-self c =
-    let known = c.self.invariant in
-    let within = subst (λ (b : BlockState). c.args.number < 2 ^ b.stages) (sym c.self.view_is) c.requires in
-    still_kept known (module_known known.units c.stand_module.ensures c.args.number (Some c.args.bank) record { small = within; number = c.of-unit.ensures ∙ c.module_number.ensures.value } refl)
-    known.rests known.replies known.requests (omega arith) (omega arith)
+invariant_of-self c = module_kept c.self.invariant c.stand_module.ensures c.self.invariant.replies c.self.invariant.requests (omega arith) (omega arith) (Some c.args.bank) (grind arith) refl

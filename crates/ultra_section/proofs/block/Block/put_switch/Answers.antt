@@ -1,12 +1,6 @@
-use Rattle.std.proofs.Common.{arith, ◌<◌, Some, refl, sym, subst}
-use Rattle.ultra_units.specs.Numbers.{switch_count}
-use Rattle.ultra_section.specs.BlockState.{BlockState}
-use Rattle.ultra_section.proofs.Known.{switch_known, still_kept}
+use Rattle.std.proofs.Common.{Some, refl, sym, arith}
+use Rattle.ultra_section.proofs.Known.{switch_kept}
 use Rattle.ultra_section.proofs.block.Block.put_switch.Goals as goal
 
 pub invariant_of-self : goal.invariant_of-self
-invariant_of-self c =
-    let known = c.self.invariant in
-    let within = subst (λ (b : BlockState). c.args.number < switch_count b.stages) (sym c.self.view_is) c.requires in
-    still_kept known (switch_known known.units (rw (c.of.ensures) at c.stand_switch.ensures) (Some c.args.switch) within refl)
-    known.rests known.replies known.requests (omega arith) (omega arith)
+invariant_of-self c = switch_kept c.self.invariant c.stand_switch.ensures c.self.invariant.replies c.self.invariant.requests (omega arith) (omega arith) (Some c.args.switch) (sym c.of.ensures) (grind arith) refl

@@ -1,0 +1,144 @@
+-- A visit of a unit that has nothing to do in a half changes nothing, and what a unit does, the later ones don't miss.
+use Rattle.std.proofs.lemmas.Grind.{common_steps}
+use Rattle.std.proofs.Common.{◌≡◌, ℕ, List, Option, false, arith, ◌+◌, ◌<◌, ◌≤◌, Some, None, length, length-append, get_or-set_other, sym, ◌∙◌, zero, suc, refl, ap, get_or, set}
+use Rattle.std.specs.Prelude.{is_some, IsTrue}
+use Rattle.std.proofs.lemmas.List.{append-nil, set-get_or}
+use Rattle.ultra_switch.specs.declared.Ports.{Ports}
+use Rattle.ultra_units.specs.Set.{has_unit}
+use Rattle.ultra_units.proofs.Standing.{unit_is}
+use Rattle.ultra_halves.specs.Switches.{holds_replies, holds_requests}
+use Rattle.ultra_halves.specs.Elements.{holds_request, is_at_rest}
+use Rattle.ultra_section.specs.Sets.{if_here, would_serve}
+use Rattle.ultra_section.specs.BlockState.{BlockState, switch_at, module_at, element_at, HasEventRoom, AreOthersAtRest, HasStopRoom}
+use Rattle.ultra_section.specs.Idle.{GetsNoReply, GetsNoRequest, HoldsNoReply, HoldsNoRequest, IsAsleep, ServesNothing}
+use Rattle.ultra_section.specs.RepliesSent.{switch_sends_replies, module_sends_reply, sends_replies}
+use Rattle.ultra_section.specs.RequestsSent.{switch_sends_requests, element_sends_request, sends_requests}
+use Rattle.ultra_section.specs.Serving.{module_serves, serves}
+use Rattle.ultra_units.specs.declared.unit.Unit.{Unit as UnitName}
+use Rattle.ultra_units.specs.declared.unit.Unit.TheVariants as unit
+use Rattle.ultra_units.specs.Inlets.{AreEmpty, reply_inlets, request_inlets}
+use Rattle.ultra_units.specs.Marks.{reply_links, request_links}
+use Rattle.ultra_units.specs.Units.{IsElement, IsModule, IsUnit}
+use Rattle.ultra_units.proofs.Marks.{Fewer, fewer_set, fewer_both}
+use Rattle.ultra_section.specs.RepliesTaken.{switch_takes_replies, reply_at_element, element_takes_reply, takes_replies, UnitCanTakeReplies, CanTakeRepliesAt}
+use Rattle.ultra_section.specs.RequestsTaken.{switch_takes_requests, request_at_module, module_takes_request, takes_requests, UnitCanTakeRequests, CanTakeRequestsAt}
+use Rattle.std.specs.Option.{ForSome}
+use Rattle.ultra_isa.specs.declared.Instr.{Instr}
+use Rattle.ultra_units.specs.Visits.{after_units}
+use Rattle.ultra_halves.proofs.Rests.{left_at_rest}
+use Rattle.ultra_section.specs.Execution.{element_executes, executes, executes_own, CanExecuteAt}
+use Rattle.ultra_section.proofs.Once.{all_keep}
+
+pub same_entry : {X : Type 0} (xs : List (Option X)) (i : ℕ) (o : Option X) → get_or xs i None ≡ o → set xs i o ≡ xs
+same_entry xs i o is = ap (λ x. set xs i x) (sym is) ∙ set-get_or xs i None
+
+-- ---- where nothing is sent or served
+module _ (b : BlockState) where
+  -- ---- replies
+  switch_replies : (closed : List ℕ) (n s k : ℕ) → if_here holds_replies (switch_at b.switches n) ≡ false → switch_sends_replies closed n s k b ≡ b
+  switch_replies closed n s k h = grind (arith, common_steps, same_entry)
+
+  module_reply : (closed : List ℕ) (m : ℕ) → if_here (λ bank. is_some bank.out) (module_at b.modules m) ≡ false → module_sends_reply closed m b ≡ b
+  module_reply closed m h = grind (arith, same_entry)
+
+  -- ---- requests
+  switch_requests : (closed : Ports (List ℕ)) (n s k : ℕ) → if_here holds_requests (switch_at b.switches n) ≡ false → switch_sends_requests closed n s k b ≡ b
+  switch_requests closed n s k h = grind (arith, common_steps, same_entry)
+
+  element_request : (closed : Ports (List ℕ)) (p : ℕ) → if_here holds_request (element_at b.elements p) ≡ false → element_sends_request closed p b ≡ b
+  element_request closed p h = grind (arith, same_entry)
+
+  -- ---- memory
+  module_service : (m : ℕ) → if_here would_serve (module_at b.modules m) ≡ false → module_serves m b ≡ b
+  module_service m h = grind (arith, same_entry, append-nil)
+
+  -- ---- each unit
+  pub sends_no_reply : (closed : List ℕ) (n : ℕ) → HoldsNoReply n b → sends_replies closed n b ≡ b
+  sends_no_reply closed n none = grind (arith, switch_replies, module_reply)
+
+  pub sends_no_request : (closed : Ports (List ℕ)) (n : ℕ) → HoldsNoRequest n b → sends_requests closed n b ≡ b
+  sends_no_request closed n none = grind (arith, switch_requests, element_request)
+
+  pub serves_none : (n : ℕ) → ServesNothing n b → serves n b ≡ b
+  serves_none n none = grind (arith, module_service)
+
+-- ---- where nothing comes
+module _ (b : BlockState) where
+  no_replies_to_switch : (n s k : ℕ) → AreEmpty b.replies (Some (reply_links b.stages s k)) → switch_takes_replies n s k b ≡ b
+  no_replies_to_switch n s k empty = grind (arith, same_entry, append-nil)
+
+  element_reply : (p : ℕ) → reply_at_element p b ≡ None → element_takes_reply p b ≡ b
+  element_reply p empty = grind (arith, same_entry, append-nil)
+
+  pub takes_no_reply : (n : ℕ) → GetsNoReply n b → takes_replies n b ≡ b
+  takes_no_reply n empty = grind (arith, no_replies_to_switch, element_reply)
+
+  no_requests_to_switch : (n s k : ℕ) → AreEmpty b.requests (Some (request_links b.stages s k)) → switch_takes_requests n s k b ≡ b
+  no_requests_to_switch n s k empty = grind (arith, same_entry, append-nil)
+
+  module_request : (m : ℕ) → request_at_module m b ≡ None → module_takes_request m b ≡ b
+  module_request m empty = grind (arith, same_entry)
+
+  pub takes_no_request : (n : ℕ) → GetsNoRequest n b → takes_requests n b ≡ b
+  takes_no_request n empty = grind (arith, no_requests_to_switch, module_request)
+
+  -- ---- where nothing comes once something has been taken elsewhere
+  pub no_reply_left : (n s i k : ℕ) → GetsNoReply k b → GetsNoReply k (switch_takes_replies n s i b)
+  no_reply_left n s i k empty = grind (arith, fewer_both)
+
+  pub no_request_left : (n s i k : ℕ) → GetsNoRequest k b → GetsNoRequest k (switch_takes_requests n s i b)
+  no_request_left n s i k empty = grind (arith, fewer_both)
+
+-- ---- what the later units ask is kept
+module _ (b : BlockState) (k : ℕ) where
+  replies_later : (b' : BlockState) (u : UnitName) → b'.stages ≡ b.stages → Fewer b.replies b'.replies → (switch_at b'.switches k ≡ switch_at b.switches k)
+      → ((p : ℕ) → IsElement b.stages k p → element_at b'.elements p ≡ element_at b.elements p) → IsUnit b.stages k u → UnitCanTakeReplies k b u → UnitCanTakeReplies k b' u
+  replies_later b' u stages fewer switch elements is can = grind arith
+
+  pub switch_took_replies : (n s i : ℕ) → n < k → CanTakeRepliesAt k b → CanTakeRepliesAt k (switch_takes_replies n s i b)
+  switch_took_replies n s i order can = grind (arith, replies_later, fewer_both, get_or-set_other, unit_is)
+
+  pub element_took_reply : (n p : ℕ) → n < k → IsElement b.stages n p → HasEventRoom n b → CanTakeRepliesAt k b → CanTakeRepliesAt k (element_takes_reply p b)
+  element_took_reply n p order is room can = grind (arith, replies_later, fewer_set, get_or-set_other, unit_is, length-append)
+
+  requests_later : (b' : BlockState) (u : UnitName) → b'.stages ≡ b.stages → Fewer b.requests b'.requests → (switch_at b'.switches k ≡ switch_at b.switches k)
+      → ((m : ℕ) → IsModule b.stages k m → module_at b'.modules m ≡ module_at b.modules m) → IsUnit b.stages k u → UnitCanTakeRequests k b u → UnitCanTakeRequests k b' u
+  requests_later b' (unit.Module m) stages fewer switch modules is can = λ bank stands r on. let asks = can bank (sym (modules m is) ∙ stands) r in grind arith
+  requests_later b' u stages fewer switch modules is can = grind arith
+
+  pub switch_took_requests : (b' : BlockState) (n s i : ℕ) → n < k → HasEventRoom n b → b' ≡ switch_takes_requests n s i b → length b'.events ≤ length b.events + 2
+      → CanTakeRequestsAt k b → CanTakeRequestsAt k b'
+  switch_took_requests b' n s i order room is few can = grind (arith, requests_later, fewer_both, get_or-set_other, unit_is)
+
+  pub module_took_request : (n m : ℕ) → n < k → IsModule b.stages n m → CanTakeRequestsAt k b → CanTakeRequestsAt k (module_takes_request m b)
+  module_took_request n m order is can = grind (arith, requests_later, fewer_set, get_or-set_other, unit_is)
+
+-- ---- where processing elements make a step
+module _ (b : BlockState) where
+  element_rests : (p : ℕ) → ForSome (element_at b.elements p) (λ e. IsTrue (is_at_rest b.program e)) → element_executes b.program p b ≡ b
+  element_rests p h = grind (arith, left_at_rest, same_entry, append-nil)
+
+  pub executes_none : (n : ℕ) → IsAsleep n b → executes_own n b ≡ b
+  executes_none n asleep = grind (arith, element_rests)
+
+  pub sleeps : (awake : List ℕ) → AreOthersAtRest b.stages b.program awake b.elements → (n : ℕ) → has_unit awake n ≡ false → IsAsleep n b
+  sleeps awake rests n none = grind (arith, unit_is)
+
+  module _ (n k p : ℕ) (order : n < k) (is : IsElement b.stages n p) where
+    pub later_asleep : IsAsleep k b → IsAsleep k (element_executes b.program p b)
+    later_asleep asleep = grind (arith, get_or-set_other, unit_is)
+
+    pub later_element : HasEventRoom n b → HasStopRoom n b → CanExecuteAt k b → CanExecuteAt k (element_executes b.program p b)
+    later_element events stops can = grind (arith, get_or-set_other, unit_is, length-append)
+
+-- ---- what no step changes stays as it is until the half is over
+pub done_kept : (program : List Instr) (n : ℕ) (b : BlockState) → BlockState.done (after_units (executes program) n b) ≡ b.done
+done_kept program n b = all_keep (executes program) (λ t. t.done ≡ b.done) (λ j t same. grind arith) n b refl
+
+-- so each step is one of the program that the block has at the start
+pub own_steps : (n : ℕ) (b : BlockState) → after_units executes_own n b ≡ after_units (executes b.program) n b
+unfolding after_units
+own_steps zero b = refl
+own_steps (suc n) b =
+    ap (executes_own n) (own_steps n b)
+    ∙ ap (λ program. executes program n (after_units (executes b.program) n b)) (all_keep (executes b.program) (λ t. t.program ≡ b.program) (λ j t same. grind arith) n b refl)
