@@ -7,7 +7,7 @@ use Rattle.ultra_halves.specs.Switches.{has_reply_room, has_request_room}
 use Rattle.ultra_section.specs.declared.rooms.Rooms.{Rooms}
 use Rattle.ultra_course.specs.Frame.{Frame}
 
--- a number of n bits, of which bit i says whether a test is true of i
+-- n bits as a number: bit i is set where the test is true of i
 unfoldable pub word_of : ℕ → (ℕ → Bool) → ℕ
 word_of zero p = 0
 word_of (suc n) p = elim (p 0) [ true ↦ 1 | false ↦ 0 ] + 2 * word_of n (λ i. p (suc i))

@@ -75,7 +75,7 @@ module _ (words : List ℕ) (number : ℕ) (within : number < 64 * length words)
   pub removed_others : (k : ℕ) → k ≢ number → has_unit (set words (number / 64) unmarked) k ≡ has_unit words k
   removed_others = others_kept unmarked (λ i inside other. bit_at_clear_other w64 _ (number % 64) (omega arith) i inside other)
 
-  -- a word of which all bits are kept
+  -- a mask of ones keeps every unit
   pub all_kept : (mask : ℕ) → mask ≡ bit_not w64 0 → (k : ℕ) → has_unit (set words (number / 64) (bit_and (get_or words (number / 64) 0) mask)) k ≡ has_unit words k
   unfolding has_unit
   all_kept mask whole k = let kept = ones_kept (get_or words (number / 64) 0) (k % 64) (omega arith) in grind (arith, get_or-set_same, get_or-set_other)

@@ -14,7 +14,7 @@ use Rattle.ultra_units.proofs.Marks.{emptied, emptied_first, emptied_in_turn}
 use Rattle.ultra_section.proofs.take_requests.take_into_switch.Goals as goal
 use Rattle.ultra_section.proofs.take_requests.take_into_switch.Goals.{then-first_combines-second_combines, else-first_combines-second_combines}
 
--- ---- the links `p` of a switch in their turn, of which the second is taken once the first is empty
+-- ---- the two links of a switch, one after the other: the second is read when the first is empty
 module _ (d n : ℕ) (p : Ports ℕ) (inlets : AreInlets (request_inlets d) d n p) (within : n < switch_count d) (t : List (Option Request)) (in_turn : ℕ × ℕ) (turn : (zero_first : Bool) × (in_turn ≡ ports_in_turn zero_first p)) where
   taken_second : on_link (set t in_turn.0 None) in_turn.1 ≡ on_link t in_turn.1
   taken_second = let apart = inlets.apart within in let (zero_first, turn) = turn in grind (arith, get_or-set_other)
