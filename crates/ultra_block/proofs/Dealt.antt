@@ -1,39 +1,14 @@
 -- A machine that stands in one block is dealt to the blocks that a partition names: it stays the same machine.
-use Rattle.std.proofs.Common.{◌≡◌, ◌≢◌, ℕ, zero, suc, ◌+◌, ◌*◌, ◌^◌, ◌<◌, ◌≤◌, List, [], ◌∷◌, Option, None, Bool, true, false, length, map, replicate, set, refl, sym, ◌∙◌, subst, ap, arith, get_or-set_same, get_or-set_other}
-use Rattle.std.specs.Prelude.{◌==◌, All, is_some}
-use Rattle.std.proofs.lemmas.Grind.{common_steps}
+use Rattle.std.proofs.Common.{◌≡◌, ◌≢◌, ℕ, zero, suc, ◌+◌, ◌*◌, ◌^◌, ◌<◌, ◌≤◌, List, [], ◌∷◌, None, Bool, true, false, length, map, replicate, set, refl, sym, ◌∙◌, subst, ap, arith, get_or-set_same, get_or-set_other, ◌==◌, All, Option}
+use Rattle.ultra_block.proofs.Common.{common_steps, nat_tests, get_or-replicate, get_or_past, length-replicate, length-set, replicate-append-replicate, Instr, joined, places, Settings, unit_count, stands, BlockState, with_unit, without_unit, by_kind, AreAlike, whole_alike, block_at, first, frame_of, given, home, no_block, IsInOrder, event_rank, stop_rank, AreBlocks, OfEach, AreWhole, machine_in, IsDealt, IsLastNamed, empty_beside}
 use Rattle.std.proofs.lemmas.Bool.{eq-eqb}
-use Rattle.std.proofs.lemmas.Bool.Decides.{nat_tests}
-use Rattle.std.proofs.lemmas.List.{get_or-replicate, get_or_past, length-replicate, length-set, replicate-append-replicate}
-use Rattle.ultra_isa.specs.declared.Instr.{Instr}
-use Rattle.ultra_model.specs.Places.{joined, places}
-use Rattle.ultra_model.specs.Machine.{Settings}
-use Rattle.ultra_units.specs.Numbers.{unit_count}
 use Rattle.ultra_units.proofs.Marks.{length-put_on}
 use Rattle.ultra_units.proofs.Put.{put_apart, put_there}
-use Rattle.ultra_section.specs.Away.{stands}
-use Rattle.ultra_section.specs.BlockState.{BlockState}
-use Rattle.ultra_section.specs.Building.{with_unit, without_unit}
 use Rattle.ultra_section.specs.Marks.{on_link}
 use Rattle.ultra_section.specs.Shape.{IsShaped}
-use Rattle.ultra_section.proofs.OfKind.{by_kind}
-use Rattle.ultra_course.specs.Frame.{AreAlike}
-use Rattle.ultra_course.proofs.AtFrame.{whole_alike}
 use Rattle.ultra_merge.specs.Merging.{merged, of_rank}
-use Rattle.ultra_cut.specs.Cut.{block_at, first, frame_of, given, home, no_block}
-use Rattle.ultra_cut.specs.Events.{IsInOrder, event_rank, events_of, stop_rank, stops_of}
-use Rattle.ultra_cut.specs.Halves.{AreBlocks, OfEach}
-use Rattle.ultra_cut.specs.Moments.{AreWhole, machine_in}
+use Rattle.ultra_cut.specs.Events.{events_of, stops_of}
 use Rattle.ultra_cut.proofs.Units.{Sort, switches, modules, elements}
-use Rattle.ultra_block.specs.Dealt.{IsDealt, IsLastNamed, empty_beside}
-
--- ---- one block put for another
-module _ (bs : List BlockState) (h : ℕ) (x : BlockState) where
-  block_now : h < length bs → block_at (set bs h x) h ≡ x
-  block_now within = get_or-set_same bs h x no_block within
-
-  block_still : (k : ℕ) → k ≢ h → block_at (set bs h x) k ≡ block_at bs k
-  block_still k other = get_or-set_other bs h k x no_block other
 
 -- ---- blocks that list what others list
 module _ {X : Type 0} (list : BlockState → List X) (nothing : list no_block ≡ []) where
@@ -80,8 +55,8 @@ module _ (d : ℕ) (partition : List ℕ) (b : BlockState) where
       → x ≡ record (block_at bs 0) { events = b.events; stops = b.stops } → left ≡ record b { events = left.events; stops = left.stops } → AreCarried 0 left (set bs 0 x)
   none_carried count x left bs stages some are is rest =
       let long = length-set bs 0 x in
-      let here = block_now bs 0 x (grind (arith, length-replicate)) in
-      grind (arith, block_still, get_or-replicate, get_or_past, length-replicate)
+      let here = get_or-set_same bs 0 x no_block (grind (arith, length-replicate)) in
+      grind (arith, get_or-set_other, get_or-replicate, get_or_past, length-replicate)
 
   -- ---- one unit more
   module _ (n : ℕ) (left : BlockState) (now : List BlockState) (within : home partition n < length now) (was : AreCarried n left now) where
@@ -100,8 +75,8 @@ module _ (d : ℕ) (partition : List ℕ) (b : BlockState) where
     sort_next : {X : Type 0} (sort : Sort X) → HasMoved sort → SortIsCarried sort n left now → SortIsCarried sort (n + 1) (without_unit n left) (set now h y)
     sort_next sort moved carried =
         let long = length-set now h y in
-        let here = block_now now h y within in
-        grind (arith, block_still)
+        let here = get_or-set_same now h y no_block within in
+        grind (arith, get_or-set_other)
 
     still_beside : IsBeside y
     still_beside = grind (arith, length-put_on)
@@ -112,12 +87,9 @@ module _ (d : ℕ) (partition : List ℕ) (b : BlockState) where
         let switches = sort_next switches (grind (arith, put_there, put_apart, get_or-set_other)) was.switches in
         let modules = sort_next modules (grind (arith, put_there, put_apart, get_or-set_other)) was.modules in
         let elements = sort_next elements (grind (arith, put_there, put_apart, get_or-set_other)) was.elements in
-        grind (arith, block_now, block_still, still_beside, length-set)
+        grind (arith, get_or-set_same, get_or-set_other, still_beside, length-set)
 
 -- ---- all units
-some_only : {X : Type 0} (e : Bool) (o : Option X) → is_some o ≡ true → is_some (only_if e o) ≡ e
-some_only e o some = grind arith
-
 -- nothing is on a link that is empty in each block
 none_first : {X : Type 0} (links : BlockState → List (Option X)) (count l : ℕ) (bs : List BlockState) → l < count → OfEach (λ b. links b ≡ replicate count None) bs
     → first (map (λ b. on_link (links b) l) bs) ≡ None
@@ -149,7 +121,7 @@ module _ (c : Settings) (program : List Instr) (was : List ℕ) (n : ℕ) (b : B
         let stood = whole.machine.blocks.cut.stand 0 u (omega arith) (sort.small d i small) in
         let was_here = sort.stand d b (whole.machine.blocks.cut.stages 0 (omega arith)) i small in
         let here = sort.stand d (block_at now k) (carried.beside k h).shaped.stages i small in
-        grind (arith, some_only, home_was)
+        grind (arith, home_was)
 
     alike_at : given sort.nothing (sort.at (block_at now (home partition u)) i) ≡ given sort.nothing (sort.at (block_at (b ∷ []) (home was u)) i)
     alike_at =

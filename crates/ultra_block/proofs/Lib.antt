@@ -1,6 +1,5 @@
+pub mod Common
 pub mod Seen
-pub mod Filled
-pub mod FreshBlock
+pub mod Built
 pub mod Dealt
 pub use Rattle.ultra_cut.proofs.NothingHeld
-pub mod TurnOfOne

@@ -1,16 +1,10 @@
 -- A machine in blocks as contracts see it.
 use Rattle.std.proofs.Common.{◌≡◌, ℕ, List, [], ◌∷◌, length, refl, arith}
-use Rattle.std.proofs.lemmas.Grind.{common_steps}
-use Rattle.std.proofs.lemmas.List.{get_or_default}
-use Rattle.ultra_model.specs.Machine.{Settings}
+use Rattle.ultra_block.proofs.Common.{common_steps, get_or_default, Settings, BlockState, block_at, IsInOrder, event_rank, stop_rank, OfEach, machine_in}
 use Rattle.ultra_section.proofs.OwnProgram.{can_by_own}
-use Rattle.ultra_section.specs.BlockState.{BlockState}
 use Rattle.ultra_course.specs.Whole.{whole}
 use Rattle.ultra_merge.proofs.Merged.{merged_alone}
-use Rattle.ultra_cut.specs.Cut.{block_at}
-use Rattle.ultra_cut.specs.Events.{IsInOrder, event_rank, events_of, stop_rank, stops_of}
-use Rattle.ultra_cut.specs.Halves.{OfEach}
-use Rattle.ultra_cut.specs.Moments.{machine_in}
+use Rattle.ultra_cut.specs.Events.{events_of, stops_of}
 
 module _ (c : Settings) (partition : List ℕ) (n : ℕ) (bs : List BlockState) where
   pub cycles_are : (machine_in c partition n bs).cycles ≡ n

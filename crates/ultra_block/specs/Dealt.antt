@@ -1,11 +1,7 @@
 -- a machine that stands in one block, dealt to the blocks that a partition names
 use Rattle.std.specs.Prelude.{◌≡◌, ℕ, ◌+◌, ◌<◌, ◌≤◌, true, List, [], ◌∷◌, length}
-use Rattle.ultra_isa.specs.declared.Instr.{Instr}
-use Rattle.ultra_model.specs.Machine.{Settings}
-use Rattle.ultra_section.specs.BlockState.{BlockState}
+use Rattle.ultra_block.specs.Prelude.{Instr, Settings, BlockState, home, is_partition, AreWhole, machine_in}
 use Rattle.ultra_section.specs.Building.{empty_block}
-use Rattle.ultra_cut.specs.Cut.{home, is_partition}
-use Rattle.ultra_cut.specs.Moments.{AreWhole, machine_in}
 
 -- a block without units beside block b: of the same machine, after as many cycles
 abbrev pub empty_beside : BlockState → BlockState

@@ -1,15 +1,10 @@
 -- the units of a machine before its first cycle, all in one block
 use Rattle.std.specs.Prelude.{◌≡◌, ℕ, ◌+◌, ◌*◌, List, [], ◌∷◌, None, replicate}
-use Rattle.ultra_mem.specs.Serve.{Bank}
+use Rattle.ultra_block.specs.Prelude.{Bank, Instr, Settings, given_value, site, size, start, unit_count, BlockState, AreWhole, machine_in}
 use Rattle.ultra_pni.specs.Interface.{empty_interface}
 use Rattle.ultra_isa.specs.Step.{fresh_core}
-use Rattle.ultra_isa.specs.declared.Instr.{Instr}
 use Rattle.ultra_model.specs.Places.{places}
-use Rattle.ultra_model.specs.Machine.{Settings, given_value, site, size, start}
-use Rattle.ultra_units.specs.Numbers.{unit_count}
 use Rattle.ultra_halves.specs.declared.elements.ProcessingElement.{ProcessingElement}
-use Rattle.ultra_section.specs.BlockState.{BlockState}
-use Rattle.ultra_cut.specs.Moments.{AreWhole, machine_in}
 
 -- module m of `size`, whose cells have the values that a list gives by address
 abbrev pub filled : ℕ → ℕ → ℕ → List (ℕ × ℕ) → Bank

@@ -1,17 +1,10 @@
 -- a whole machine cut into blocks, as contracts see it
 use Rattle.std.specs.Prelude.{◌≡◌, ℕ, ◌+◌, ◌≤◌, List, length}
+use Rattle.ultra_block.specs.Prelude.{Instr, Settings, Machine, cycle, BlockState, event_rank, AreWhole, machine_in}
 use Rattle.ultra_msg.specs.declared.Event.{Event}
-use Rattle.ultra_isa.specs.declared.Instr.{Instr}
 use Rattle.ultra_model.specs.declared.Stop.{Stop}
-use Rattle.ultra_model.specs.Machine.{Settings, Machine}
-use Rattle.ultra_model.specs.Phases.{cycle}
-use Rattle.ultra_section.specs.BlockState.{BlockState}
-use Rattle.ultra_cut.specs.Events.{event_rank}
 use Rattle.ultra_merge.specs.Merging.{Remainder, merged}
-use Rattle.ultra_cut.specs.Moments.{AreWhole, machine_in}
-use Rattle.ultra_block.specs.declared.parts.Parts.{Parts}
-use Rattle.ultra_block.specs.declared.ranks.ByRules.{ByRules}
-use Rattle.ultra_block.specs.declared.ranks.ByElement.{ByElement}
+use Rattle.ultra_block.specs.{declared.parts.Parts.Parts, declared.ranks.ByRules.ByRules, declared.ranks.ByElement.ByElement}
 
 -- its settings, its program, the block of each unit, how many blocks there are, and the machine of
 -- the definition, which is the same for every partition

@@ -1,12 +1,9 @@
 //! The whole machine, cut into blocks.
 
 ghost use Rattle.std.specs.Prelude.{◌≡◌, ◌-◌, ◌^◌, ◌<◌, ◌↔◌, ◌==◌, false, length, true, IfErr, IfOk, IsErrOf, OnOk};
-ghost use Rattle.ultra_model.specs.Machine.{bank_at, element_at, is_quiet, lane_at, replies_at, site, start};
-ghost use Rattle.ultra_model.specs.Phases.{cycle as next_cycle};
+ghost use Rattle.ultra_block.specs.Prelude.{bank_at, element_at, is_quiet, lane_at, replies_at, site, start, cycle as next_cycle, is_partition};
 ghost use Rattle.ultra_course.specs.Frame.{at_port};
-ghost use Rattle.ultra_cut.specs.Cut.{is_partition};
-ghost use Rattle.ultra_block.specs.Dealt.{IsLastNamed};
-ghost use Rattle.ultra_block.specs.Fresh.{all_in_one};
+ghost use Rattle.ultra_block.specs.{Dealt.IsLastNamed, Fresh.all_in_one};
 ghost use Rattle.ultra_section.specs.Holding.{IsSetOf};
 ghost use Rattle.ultra_cut.specs.Holding.{holds};
 

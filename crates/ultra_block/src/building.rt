@@ -1,7 +1,7 @@
 //! The units of a machine before its first cycle.
 
 ghost use Rattle.std.specs.Prelude.{◌≡◌, ℕ, ◌*◌, ◌^◌, ◌<◌, All, IfOk};
-ghost use Rattle.ultra_mem.specs.Serve.{new_bank};
+ghost use Rattle.ultra_block.specs.Prelude.{new_bank};
 ghost use Rattle.ultra_course.specs.Whole.{empty_switch};
 ghost use Rattle.ultra_block.specs.Fresh.{IsFresh, filled, first_bank, first_element};
 
@@ -17,7 +17,7 @@ use ultra_switch::Switch;
 use ultra_units::switch_count;
 
 /// Puts the initial values of this module, one of `size`, into its cells, which are all 0.
-#[tactic(auto, using(crate::proofs::Filled::steps))]
+#[tactic(auto, using(crate::proofs::Built::fill_steps))]
 fn fill(bank: &mut Module, size: u32, number: u32, cells: u32, values: &[(Cell, Word)])
     requires number { number < size }
     requires fresh { bank.old ≡ new_bank cells }
@@ -68,7 +68,7 @@ fn new_element(config: &Config, pe: Pe) -> ProcessingElement
 }
 
 /// All units of the machine before its first cycle, in one block, which keeps a copy of the program. An error says that memory was refused.
-#[tactic(auto, using(crate::proofs::FreshBlock::rows))]
+#[tactic(auto, using(crate::proofs::Built::row_steps))]
 pub(crate) fn fresh_block(
     alloc: Global,
     config: &Config,

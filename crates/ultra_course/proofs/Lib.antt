@@ -1,3 +1,3 @@
-pub mod Numbers
+pub mod Common
 pub mod AtFrame
 pub mod Phases

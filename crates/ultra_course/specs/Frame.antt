@@ -1,14 +1,13 @@
 -- a whole machine in the course of a cycle
-use Rattle.std.specs.Prelude.{◌≡◌, ℕ, zero, suc, ◌+◌, ◌*◌, ◌^◌, ◌<◌, Bool, Option, None}
+use Rattle.std.specs.Prelude.{◌≡◌, ℕ, zero, suc, ◌+◌, ◌*◌, ◌^◌, ◌<◌, not, List, Option, None}
 pub use Rattle.ultra_msg.specs.declared.Request.{Request}
 pub use Rattle.ultra_msg.specs.declared.ReplyMessage.{ReplyMessage}
 pub use Rattle.ultra_switch.specs.declared.Ports.{Ports}
 pub use Rattle.ultra_switch.specs.declared.Switch.{Switch}
 pub use Rattle.ultra_mem.specs.Serve.{Bank}
 pub use Rattle.ultra_halves.specs.declared.elements.ProcessingElement.{ProcessingElement}
-use Rattle.ultra_halves.specs.Switches.{has_reply_room, has_request_room}
-use Rattle.ultra_model.specs.Machine.{is_nothing}
-use Rattle.ultra_units.specs.Numbers.{switch_count}
+use Rattle.ultra_course.specs.Prelude.{has_reply_room, has_request_room, is_nothing, switch_count, module_number}
+use Rattle.ultra_units.specs.Set.{has_unit}
 
 -- what there is at the two ports of a switch
 abbrev pub at_port : {X : Type 0} → Ports X → ℕ → X
@@ -24,21 +23,20 @@ pub record Frame : Type 0 where
   pub replies : ℕ → Option ReplyMessage
   pub requests : ℕ → Option Request
 
--- what has room: which switches for replies, which of their queues toward memory for requests, by
--- switch and port, and which modules for a request
-pub record Rooms : Type 0 where
-  pub reply : ℕ → Bool
-  pub request : ℕ → ℕ → Bool
-  pub bank : ℕ → Bool
-
 -- of a machine of d stages; what a frame has at other numbers doesn't matter
 module _ (d : ℕ) where
-  -- these are the rooms of a frame
-  pub record AreRooms (f : Frame) (rooms : Rooms) : Type 0 where
-    pub reply : (n : ℕ) → n < switch_count d → rooms.reply n ≡ has_reply_room (f.switch n)
-    pub request : (n j : ℕ) → n < switch_count d → j < 2
-        → rooms.request n j ≡ at_port (has_request_room (f.switch n)) j
-    pub bank : (m : ℕ) → m < 2 ^ d → rooms.bank m ≡ is_nothing (f.bank m).inp
+  -- these are the switches without room for replies
+  abbrev pub AreClosedToReplies : Frame → List ℕ → Type 0
+  AreClosedToReplies f closed =
+      (n : ℕ) → n < switch_count d → not (has_unit closed n) ≡ has_reply_room (f.switch n)
+
+  -- these are, by the memory-side port, the switches whose queue there has no room for requests; in
+  -- `zero` also the modules whose register holds one
+  pub record AreClosedToRequests (f : Frame) (closed : Ports (List ℕ)) : Type 0 where
+    pub switches : (n j : ℕ) → n < switch_count d → j < 2
+        → not (has_unit (at_port closed j) n) ≡ at_port (has_request_room (f.switch n)) j
+    pub banks : (m : ℕ) → m < 2 ^ d
+        → not (has_unit closed.zero (module_number d m)) ≡ is_nothing (f.bank m).inp
 
   -- two frames have the same units, and the same on their links
   pub record AreAlike (f g : Frame) : Type 0 where

@@ -1,16 +1,11 @@
 -- the whole machine that units, given by their numbers, make up
 use Rattle.std.specs.Prelude.{◌≡◌, ℕ, ◌/◌, ◌%◌, ◌<◌, ◌≤◌, List, length}
+use Rattle.ultra_course.specs.Prelude.{places, table, size, site, switch_number, switch_count, ports, element_of}
 use Rattle.ultra_switch.specs.Queues.{SizedLane, SizedReplies, empty_requests, empty_replies}
-use Rattle.ultra_model.specs.Places.{places, table}
 pub use Rattle.ultra_model.specs.Machine.{Settings, Machine}
-use Rattle.ultra_model.specs.Machine.{size, site}
 use Rattle.ultra_model.specs.Ranges.{AreInRange}
 use Rattle.ultra_model.specs.Sound.{IsSound}
-use Rattle.ultra_units.specs.Numbers.{switch_number, switch_count}
-use Rattle.ultra_halves.specs.Halves.{ports}
-use Rattle.ultra_halves.specs.Elements.{element_of}
-use Rattle.ultra_course.specs.Frame.{Frame, at_port, Switch}
-use Rattle.ultra_course.specs.Course.{Event, Stop}
+use Rattle.ultra_course.specs.{Frame.Frame, Frame.at_port, Frame.Switch, Course.Event, Course.Stop}
 
 module _ (c : Settings) (f : Frame) where
   -- the queues at position x of stage s

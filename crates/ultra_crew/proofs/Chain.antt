@@ -6,7 +6,7 @@ use Rattle.ultra_switch.specs.declared.Switch.{Switch}
 use Rattle.ultra_mem.specs.Serve.{Bank, empty_bank}
 use Rattle.ultra_isa.specs.declared.Instr.{Instr}
 use Rattle.ultra_model.specs.Machine.{Settings}
-use Rattle.ultra_model.specs.Phases.{cycle}
+use Rattle.ultra_model.specs.Phases.{cycle, reply_phase, request_phase}
 use Rattle.ultra_units.specs.Numbers.{module_number}
 use Rattle.ultra_section.specs.declared.half.Half.{Half}
 use Rattle.ultra_section.specs.declared.half.Half.TheVariants.{SendReplies, TakeReplies, Serve, SendRequests, TakeRequests, Execute}
@@ -20,8 +20,9 @@ use Rattle.ultra_cut.specs.Cut.{block_at, frame_of, given, home, no_block, no_sw
 use Rattle.ultra_cut.specs.Halves.{AllCanMake, AreBlocks, all_made}
 use Rattle.ultra_cut.specs.Moments.{AreRoomsOfAll, AreWhole, machine_in}
 use Rattle.ultra_cut.proofs.Columns.{changed_at}
-use Rattle.ultra_cut.proofs.Numbers.{few_units}
-use Rattle.ultra_cut.proofs.Whole as whole
+use Rattle.ultra_cut.proofs.Units.{few_units}
+use Rattle.ultra_cut.proofs.Halves.{all_by_own}
+use Rattle.ultra_cut.proofs.Whole.{Come, Left, Made, can_execute, come, first, middle, next, replies_left, replies_taken, requests_left, requests_taken, served}
 use Rattle.ultra_desk.specs.declared.task.Task.{Task}
 use Rattle.ultra_crew.specs.Words.{words_of_rooms}
 use Rattle.ultra_crew.specs.Exchanged.{AreExchanged, CanBeExchanged, exchanged}
@@ -61,122 +62,89 @@ begun_first : (rooms : BlockRooms) (program : List Instr) (bs : List BlockState)
 begun_first rooms program [] = refl
 begun_first rooms program (b ∷ bs) = ap (λ xs. made SendReplies rooms program b ∷ xs) (begun_first rooms program bs)
 
--- ---- a cycle of the machine with these blocks, in which this is what workers give back
-module _ (c : Settings) (partition : List ℕ) (n : ℕ) (program : List Instr) (bs : List BlockState) (workers : ℕ) (results : ℕ → Half → ℕ → List Task) where
-  -- the rooms at its start are noted
-  pub record IsBegun (rooms : BlockRooms) : Type 0 where
-    pub start : AreWhole c program partition n bs
-    pub settled : (h : Half) (w : ℕ) → results n h w ≡ results_in workers (state_of c program partition n bs) h w
-    pub noted : AreRoomsOfAll bs rooms
-
-  -- memory has served
-  pub record HaveServed (served : List BlockState) : Type 0 where
-    pub rooms : BlockRooms
-    pub begun : IsBegun rooms
-    pub sent : List BlockState
-    pub sent_is : sent ≡ all_made SendReplies rooms program bs
-    pub replies : List BlockState
-    pub came : AreExchanged Replies c.stages partition sent replies
-    pub served_is : served ≡ all_made Serve rooms program (all_made TakeReplies rooms program replies)
-
-module _ {c : Settings} {partition : List ℕ} {n : ℕ} {program : List Instr} {bs : List BlockState} {workers : ℕ} {results : ℕ → Half → ℕ → List Task} {first : BlockRooms} (b : IsBegun c partition n program bs workers results first) where
+-- ---- a cycle that begins with these blocks
+module _ {c : Settings} {partition : List ℕ} {n : ℕ} {program : List Instr} {bs : List BlockState} (start : AreWhole c program partition n bs) where
   abbrev d : ℕ
   d = c.stages
 
-  abbrev from : List BlockState
-  from = first_blocks (state_of c program partition n bs)
+  abbrev pub course : (ℕ → List ℕ → List Instr → List BlockState → List BlockState) → List BlockState
+  course blocks = blocks d partition program (first_blocks (state_of c program partition n bs))
 
-  due_by : (h : Half) (rooms : BlockRooms) (xs : List BlockState) → AllCanMake program h xs → all_made h rooms program xs ≡ blocks_after d partition program from h → IsDue results program workers n h rooms xs
-  unfolding results_in
-  due_by h rooms xs can is = record { ready = can; settled = λ w. b.settled h w ∙ ap (λ ys. teams_of workers ys w) (sym is) }
-
-  sent_so : all_made SendReplies first program bs ≡ with_replies_sent d partition program from
+  pub sent_so : (rooms : BlockRooms) → AreRoomsOfAll bs rooms → all_made SendReplies rooms program bs ≡ course with_replies_sent
   unfolding with_replies_sent
-  sent_so =
-      leave_so Replies d partition program bs first b.start.machine.blocks b.noted
+  sent_so rooms noted =
+      leave_so Replies d partition program bs rooms start.machine.blocks noted
       ∙ ap (λ rooms. all_made SendReplies rooms program bs) (sym (begun_words d partition bs))
       ∙ begun_first (words d partition (map begun bs)) program bs
-      ∙ ap (λ xs. all_made SendReplies (words d partition xs) program xs) (blocks_are c program partition n bs b.start)
+      ∙ ap (λ xs. all_made SendReplies (words d partition xs) program xs) (blocks_are c program partition n bs start)
 
-  pub send_replies : IsDue results program workers n SendReplies first bs
-  send_replies = due_by SendReplies first bs (λ k h. tt) sent_so
+  -- ---- replies have come
+  abbrev pub RepliesCame : List BlockState → Type 0
+  RepliesCame xs = Come start Replies xs × (xs ≡ exchanged Replies d partition (course with_replies_sent))
 
-  module _ (sent : List BlockState) (sent_is : sent ≡ all_made SendReplies first program bs) where
-    pub can_exchange_replies : CanBeExchanged Replies d partition sent
-    can_exchange_replies = record {
-      blocks = (whole.at_sent c partition n program bs b.start d refl first b.noted sent sent_is).blocks;
-      single = whole.sent_single c partition n program bs b.start d refl first b.noted sent sent_is;
-    }
+  pub replies_came : (rooms : BlockRooms) {sent came : List BlockState} {e : ℕ} → AreRoomsOfAll bs rooms → sent ≡ all_made SendReplies rooms program bs → e ≡ d → AreExchanged Replies e partition sent came → RepliesCame came
+  replies_came rooms noted is net x =
+      (come start x.moved x.there net (replies_left start rooms noted is), (rw net at x.all) ∙ ap (exchanged Replies d partition) (is ∙ sent_so rooms noted))
 
-    module _ (replies : List BlockState) (came : AreExchanged Replies d partition sent replies) where
-      abbrev taken : List BlockState
-      taken = all_made TakeReplies first program replies
+  module _ (rooms : BlockRooms) {came : List BlockState} (x : RepliesCame came) where
+    abbrev pub taken : List BlockState
+    taken = all_made TakeReplies rooms program came
 
-      taken_so : taken ≡ with_replies_taken d partition program from
-      unfolding with_replies_taken
-      taken_so = ap (all_made TakeReplies first program) (came.all ∙ ap (exchanged Replies d partition) (sent_is ∙ sent_so))
+    pub taken_so : taken ≡ course with_replies_taken
+    unfolding with_replies_taken
+    taken_so = ap (all_made TakeReplies rooms program) x.1
 
-      served_so : all_made Serve first program taken ≡ with_memory_served d partition program from
-      unfolding with_memory_served
-      served_so = ap (all_made Serve first program) taken_so
+    pub served_so : all_made Serve rooms program taken ≡ course with_memory_served
+    unfolding with_memory_served
+    served_so = ap (all_made Serve rooms program) taken_so
 
-      pub take_replies : IsDue results program workers n TakeReplies first replies
-      take_replies = due_by TakeReplies first replies (whole.can_take_replies c partition n program bs b.start d refl first b.noted sent sent_is replies came.moved came.there) taken_so
+    pub have_taken : Made start 320 (reply_phase c (first start)) taken
+    have_taken = replies_taken start x.0 refl
 
-      pub serve : IsDue results program workers n Serve first taken
-      serve = due_by Serve first taken (whole.can_serve c partition n program bs b.start d refl first b.noted sent sent_is replies came.moved came.there taken refl) served_so
+  -- ---- memory has served
+  abbrev pub HaveServed : List BlockState → Type 0
+  HaveServed xs = Made start 640 (middle start) xs × (xs ≡ course with_memory_served)
 
-module _ {c : Settings} {partition : List ℕ} {n : ℕ} {program : List Instr} {bs : List BlockState} {workers : ℕ} {results : ℕ → Half → ℕ → List Task} {served : List BlockState} (s : HaveServed c partition n program bs workers results served)
-    (second : BlockRooms) (noted : AreRoomsOfAll served second) where
-  passed_so : all_made SendRequests second program served ≡ with_requests_sent c.stages partition program (from s.begun)
+  pub have_served : (rooms : BlockRooms) {came now : List BlockState} → RepliesCame came → now ≡ all_made Serve rooms program (all_made TakeReplies rooms program came) → HaveServed now
+  have_served rooms x is = (served start (have_taken rooms x) is, is ∙ served_so rooms x)
+
+  pub passed_so : (rooms : BlockRooms) {xs : List BlockState} → HaveServed xs → AreRoomsOfAll xs rooms → all_made SendRequests rooms program xs ≡ course with_requests_sent
   unfolding with_requests_sent
-  passed_so =
-      let blocks =
-      (whole.at_served c partition n program bs s.begun.start c.stages refl s.rooms s.begun.noted s.sent s.sent_is s.replies s.came.moved s.came.there (taken s.begun s.sent s.sent_is s.replies s.came) refl served s.served_is).blocks in
-      leave_so Requests c.stages partition program served second blocks noted
-      ∙ ap (λ xs. all_made SendRequests (words c.stages partition xs) program xs) (s.served_is ∙ served_so s.begun s.sent s.sent_is s.replies s.came)
+  passed_so rooms {xs = xs} x noted =
+      leave_so Requests d partition program xs rooms x.0.at.blocks noted ∙ ap (λ xs. all_made SendRequests (words d partition xs) program xs) x.1
 
-  pub send_requests : IsDue results program workers n SendRequests second served
-  send_requests = due_by s.begun SendRequests second served (λ k h. tt) passed_so
+  -- ---- requests have come
+  abbrev pub RequestsCame : List BlockState → Type 0
+  RequestsCame xs = Come start Requests xs × (xs ≡ exchanged Requests d partition (course with_requests_sent))
 
-  module _ (passed : List BlockState) (passed_is : passed ≡ all_made SendRequests second program served) where
-    pub can_exchange_requests : CanBeExchanged Requests c.stages partition passed
-    can_exchange_requests = record {
-      blocks =
-          (whole.at_sent_on c partition n program bs s.begun.start c.stages refl s.rooms s.begun.noted s.sent s.sent_is s.replies s.came.moved s.came.there (taken s.begun s.sent s.sent_is s.replies s.came) refl
-          served s.served_is second noted passed passed_is).blocks;
-      single = search (arith, whole.sent_on_single);
-    }
+  pub requests_came : (rooms : BlockRooms) {xs sent came : List BlockState} {e : ℕ} → HaveServed xs → AreRoomsOfAll xs rooms → sent ≡ all_made SendRequests rooms program xs → e ≡ d → AreExchanged Requests e partition sent came → RequestsCame came
+  requests_came rooms y noted is net x =
+      (come start x.moved x.there net (requests_left start rooms noted is y.0), (rw net at x.all) ∙ ap (exchanged Requests d partition) (is ∙ passed_so rooms y noted))
 
-    module _ (requests : List BlockState) (came : AreExchanged Requests c.stages partition passed requests) where
-      abbrev waiting : List BlockState
-      waiting = all_made TakeRequests second program requests
+  module _ (rooms : BlockRooms) {came : List BlockState} (x : RequestsCame came) where
+    abbrev pub waiting : List BlockState
+    waiting = all_made TakeRequests rooms program came
 
-      waiting_so : waiting ≡ with_requests_taken c.stages partition program (from s.begun)
-      unfolding with_requests_taken
-      waiting_so = ap (all_made TakeRequests second program) (came.all ∙ ap (exchanged Requests c.stages partition) (passed_is ∙ passed_so))
+    pub waiting_so : waiting ≡ course with_requests_taken
+    unfolding with_requests_taken
+    waiting_so = ap (all_made TakeRequests rooms program) x.1
 
-      pub take_requests : IsDue results program workers n TakeRequests second requests
-      take_requests =
-          due_by s.begun TakeRequests second requests
-          (whole.can_take_requests c partition n program bs s.begun.start c.stages refl s.rooms s.begun.noted s.sent s.sent_is s.replies s.came.moved s.came.there (taken s.begun s.sent s.sent_is s.replies s.came) refl
-          served s.served_is second noted passed passed_is requests came.moved came.there) waiting_so
+    pub stepped_so : all_made Execute rooms program waiting ≡ course with_steps_made
+    unfolding with_steps_made
+    stepped_so = ap (all_made Execute rooms program) waiting_so
 
-      module _ (early : n < 2 ^ 32 - 1) where
-        pub execute : IsDue results program workers n Execute second waiting
-        unfolding with_steps_made
-        execute =
-            due_by s.begun Execute second waiting
-            (whole.can_execute c partition n program bs s.begun.start c.stages refl s.rooms s.begun.noted s.sent s.sent_is s.replies s.came.moved s.came.there (taken s.begun s.sent s.sent_is s.replies s.came) refl
-            served s.served_is second noted passed passed_is requests came.moved came.there early waiting refl) (ap (all_made Execute second program) waiting_so)
+    pub have_waiting : Made start 960 (request_phase c (middle start)) waiting
+    have_waiting = requests_taken start x.0 refl
 
-        module _ (stepped : List BlockState) (stepped_is : stepped ≡ all_made Execute second program waiting) where
-          pub next_whole : AreWhole c program partition (n + 1) stepped
-          next_whole =
-              whole.next_whole c partition n program bs s.begun.start c.stages refl s.rooms s.begun.noted s.sent s.sent_is s.replies s.came.moved s.came.there (taken s.begun s.sent s.sent_is s.replies s.came) refl
-              served s.served_is second noted passed passed_is requests came.moved came.there early waiting refl stepped stepped_is
+    pub cycled : {now : List BlockState} → n < 2 ^ 32 - 1 → now ≡ all_made Execute rooms program waiting
+        → AreWhole c program partition (n + 1) now × (machine_in c partition (n + 1) now ≡ cycle c program (first start))
+    cycled early is = next start have_waiting early (is ∙ sym (all_by_own program Execute rooms waiting (can_execute start have_waiting early)))
 
-          pub next_machine : machine_in c partition (n + 1) stepped ≡ cycle c program (machine_in c partition n bs)
-          next_machine =
-              whole.next_machine c partition n program bs s.begun.start c.stages refl s.rooms s.begun.noted s.sent s.sent_is s.replies s.came.moved s.came.there (taken s.begun s.sent s.sent_is s.replies s.came) refl
-              served s.served_is second noted passed passed_is requests came.moved came.there early waiting refl stepped stepped_is
+  pub can_exchange : {kind : Kind} {xs : List BlockState} {e : ℕ} → e ≡ d → Left start kind xs → CanBeExchanged kind e partition xs
+  can_exchange net x = rw net (record { blocks = x.at.blocks; single = x.single })
+
+  -- ---- blocks that can make a half are due, as far as the workers give back what is expected
+  pub due : {workers : ℕ} {results : ℕ → Half → ℕ → List Task} (h : Half) (rooms : BlockRooms) (xs : List BlockState) → ((h : Half) (w : ℕ) → results n h w ≡ results_in workers (state_of c program partition n bs) h w)
+      → AllCanMake program h xs → all_made h rooms program xs ≡ course (λ d partition program bs. blocks_after d partition program bs h) → IsDue results program workers n h rooms xs
+  unfolding results_in
+  due {workers = workers} h rooms xs settled can is = record { ready = can; settled = λ w. settled h w ∙ ap (λ ys. teams_of workers ys w) (sym is) }

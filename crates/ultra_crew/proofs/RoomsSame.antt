@@ -1,7 +1,6 @@
 -- The messages that leave go by what the rooms say of a machine's units, and by nothing else.
 use Rattle.std.proofs.lemmas.Grind.{common_steps}
-use Rattle.std.proofs.Common.{◌≡◌, ℕ, zero, suc, ◌-◌, ◌/◌, ◌^◌, ◌<◌, ◌≤◌, List, false, Option, Some, None, refl, sym, ◌∙◌, ap, arith}
-use Rattle.std.specs.Prelude.{◌==◌, not}
+use Rattle.std.proofs.Common.{◌≡◌, ℕ, zero, suc, ◌-◌, ◌/◌, ◌^◌, ◌<◌, ◌≤◌, List, false, Option, Some, None, refl, sym, ◌∙◌, ap, arith, ◌==◌, not}
 use Rattle.std.proofs.lemmas.Bool.Decides.{nat_tests}
 use Rattle.ultra_route.proofs.Table.{back, sizes}
 use Rattle.ultra_route.specs.Route.{shuffled}
@@ -19,11 +18,11 @@ use Rattle.ultra_section.specs.RepliesSent.{begun, has_reply_way, has_way_from_m
 use Rattle.ultra_section.specs.RequestsSent.{has_request_way, has_room_at, has_way_from_element, sends_requests}
 use Rattle.ultra_section.specs.Making.{made}
 use Rattle.ultra_section.proofs.Once.{all_keep}
-use Rattle.ultra_course.specs.Frame.{Frame, AreRooms}
-use Rattle.ultra_course.proofs.Numbers.{number_small}
+use Rattle.ultra_course.specs.Frame.{Frame}
+use Rattle.ultra_course.proofs.AtFrame.{number_small}
 use Rattle.ultra_cut.specs.declared.kind.Kind.{Kind}
 use Rattle.ultra_cut.specs.declared.kind.Kind.TheVariants.{Replies, Requests}
-use Rattle.ultra_cut.specs.Halves.{noted}
+use Rattle.ultra_cut.specs.Halves.{AreRooms}
 
 -- the half in which messages of a kind leave
 abbrev pub sending : Kind → Half
@@ -37,13 +36,13 @@ unfolding after_units
 same_with f g P keeps same zero t p = refl
 same_with f g P keeps same (suc n) t p = same n (after_units f n t) (all_keep f P keeps n t p) ∙ ap (g n) (same_with f g P keeps same n t p)
 
-module _ (d : ℕ) (low : 1 ≤ d) (high : d ≤ 6) (f : Frame) (x y : Rooms) (x_rooms : AreRooms d f (noted d x)) (y_rooms : AreRooms d f (noted d y)) where
+module _ (d : ℕ) (low : 1 ≤ d) (high : d ≤ 6) (f : Frame) (x y : Rooms) (x_rooms : AreRooms d f x) (y_rooms : AreRooms d f y) where
   half_small : (y : ℕ) → y < 2 ^ d → y / 2 < 2 ^ (d - 1)
   half_small y h = let two = (sizes d low high).0 in omega (arith, h)
 
   -- ---- replies
   agree : (n : ℕ) → n < switch_count d → not (has_unit x.no_reply_room n) ≡ not (has_unit y.no_reply_room n)
-  agree n h = x_rooms.reply n h ∙ sym (y_rooms.reply n h)
+  agree n h = x_rooms.replies n h ∙ sym (y_rooms.replies n h)
 
   reply_small : (s y : ℕ) → s < d → y < 2 ^ d → (s == 0) ≡ false → reply_target d s y < switch_count d
   reply_small s y hs hy later = grind (arith, half_small, back, number_small)
@@ -60,10 +59,10 @@ module _ (d : ℕ) (low : 1 ≤ d) (high : d ≤ 6) (f : Frame) (x y : Rooms) (x
   -- ---- requests
   same_room : (s n : ℕ) (r : Request) → n < switch_count d → has_room_at x.no_request_room d s n r ≡ has_room_at y.no_request_room d s n r
   same_room s n r h =
-      let x_zero = x_rooms.request n 0 h (omega arith) in
-      let x_one = x_rooms.request n 1 h (omega arith) in
-      let y_zero = y_rooms.request n 0 h (omega arith) in
-      let y_one = y_rooms.request n 1 h (omega arith) in
+      let x_zero = x_rooms.requests.switches n 0 h (omega arith) in
+      let x_one = x_rooms.requests.switches n 1 h (omega arith) in
+      let y_zero = y_rooms.requests.switches n 0 h (omega arith) in
+      let y_one = y_rooms.requests.switches n 1 h (omega arith) in
       grind arith
 
   request_small : (s a : ℕ) → s < d → a < 2 ^ d → (s == d - 1) ≡ false → request_target d s a < switch_count d

@@ -1,14 +1,13 @@
 -- The words of a machine's rooms name the units that have none.
-use Rattle.std.proofs.Common.{◌≡◌, ℕ, zero, suc, ◌+◌, ◌*◌, ◌/◌, ◌^◌, ◌<◌, ◌≤◌, Bool, true, false, arith}
-use Rattle.std.specs.Prelude.{not, is_some, Option}
+use Rattle.std.proofs.Common.{◌≡◌, ℕ, zero, suc, ◌+◌, ◌*◌, ◌/◌, ◌^◌, ◌<◌, ◌≤◌, Bool, true, false, arith, not, is_some, Option}
 use Rattle.std.proofs.lemmas.Bool.Decides.{nat_tests}
 use Rattle.std.proofs.lemmas.Nat.Bits.{bit_at-suc, bit_at_lowest}
 use Rattle.ultra_model.specs.Machine.{is_nothing}
 use Rattle.ultra_model.proofs.Each.{places_at}
 use Rattle.ultra_units.specs.Numbers.{switch_count}
 use Rattle.ultra_units.specs.Set.{has_bit, has_unit}
-use Rattle.ultra_course.specs.Frame.{Frame, AreRooms}
-use Rattle.ultra_cut.specs.Halves.{noted}
+use Rattle.ultra_course.specs.Frame.{Frame}
+use Rattle.ultra_cut.specs.Halves.{AreRooms}
 use Rattle.ultra_crew.specs.Words.{units_with, word_of, words_of_rooms}
 
 bits : (b : Bool) (w : ℕ) → let word = elim b [ true ↦ 1 | false ↦ 0 ] + 2 * w in (has_bit word 0 ≡ b) × (word / 2 ≡ w)
@@ -32,9 +31,11 @@ not_some : {X : Type 0} (o : Option X) → not (is_some o) ≡ is_nothing o
 not_some o = grind arith
 
 module _ (d : ℕ) (few : switch_count d + 2 ^ d ≤ 320) (f : Frame) where
-  pub are_rooms : AreRooms d f (noted d (words_of_rooms d f))
+  pub are_rooms : AreRooms d f (words_of_rooms d f)
   are_rooms = record {
-    reply = λ n h. grind (arith, has_units, not_twice);
-    request = λ n j h small. grind (arith, has_units, not_twice, nat_tests);
-    bank = λ m h. grind (arith, has_units, not_some, nat_tests);
+    replies = λ n h. grind (arith, has_units, not_twice);
+    requests = record {
+      switches = λ n j h small. grind (arith, has_units, not_twice, nat_tests);
+      banks = λ m h. grind (arith, has_units, not_some, nat_tests);
+    };
   }

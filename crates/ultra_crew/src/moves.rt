@@ -3,7 +3,7 @@
 ghost use Rattle.ultra_cut.specs.declared.kind.Kind.TheVariants.{Replies, Requests};
 ghost use Rattle.ultra_crew.specs.Exchanged.{AreExchanged, CanBeExchanged};
 
-use ultra_cut::{exchange_replies, exchange_requests};
+use ultra_cut::{Kind, exchange_messages};
 use ultra_route::Net;
 use ultra_section::Block;
 
@@ -16,7 +16,7 @@ pub(crate) fn with_replies_exchanged(
     requires { CanBeExchanged Replies net partition.now blocks.items }
     ensures { AreExchanged Replies net partition.now blocks.items result.items }
 {
-    exchange_replies(blocks.as_mut_slice(), partition, net);
+    exchange_messages(blocks.as_mut_slice(), partition, Kind::Replies, net);
     blocks
 }
 
@@ -29,6 +29,6 @@ pub(crate) fn with_requests_exchanged(
     requires { CanBeExchanged Requests net partition.now blocks.items }
     ensures { AreExchanged Requests net partition.now blocks.items result.items }
 {
-    exchange_requests(blocks.as_mut_slice(), partition, net);
+    exchange_messages(blocks.as_mut_slice(), partition, Kind::Requests, net);
     blocks
 }

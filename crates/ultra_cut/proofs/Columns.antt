@@ -1,7 +1,6 @@
 -- What blocks have somewhere, where at most one has it.
 use Rattle.std.proofs.Common.{◌≡◌, ◌≢◌, ℕ, zero, suc, ◌<◌, List, [], ◌∷◌, map, Option, None, length, refl, sym, ◌∙◌, arith}
-use Rattle.std.proofs.lemmas.List.{get_or-map, ext_get_or, length-map}
-use Rattle.ultra_cut.specs.Cut.{first, block_at, no_block, BlockState}
+use Rattle.ultra_cut.proofs.Common.{get_or-map, ext_get_or, length-map, first, block_at, no_block, BlockState}
 
 module _ {X : Type 0} (g : BlockState → Option X) where
   -- no block has it

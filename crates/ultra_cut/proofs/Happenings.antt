@@ -1,35 +1,12 @@
 -- What the blocks of a machine list in a cycle, merged by rank, is what happens in it to the whole machine, and each block
 -- lists it in the order of the ranks. First, lists joined, one for each place, and what several blocks list.
-use Rattle.std.proofs.Common.{◌≡◌, ◌≢◌, ℕ, zero, suc, ◌+◌, ◌<◌, List, [], ◌∷◌, ◌++◌, map, Option, length, length-append, refl, sym, ◌∙◌, ap, subst, inl, inr, arith, append-nil, ◌≤◌, ◌/◌, ◌^◌}
-use Rattle.std.proofs.lemmas.Bool.{cases_lt}
-use Rattle.std.proofs.lemmas.List.{get_or-append_right, get_or_append_left}
-use Rattle.std.proofs.lemmas.List.Elements.{All-from_recursion, filter-append}
-use Rattle.std.specs.List.{AllByRecursion, range_with_len}
-use Rattle.ultra_model.specs.Places.{places, present, joined}
-use Rattle.ultra_model.proofs.Each.{each-append}
-use Rattle.ultra_course.proofs.AtFrame.{same_places, joined_next, joined_none, joined_split}
+use Rattle.std.proofs.Common.{◌≡◌, ◌≢◌, ℕ, zero, suc, ◌+◌, ◌<◌, List, [], ◌∷◌, ◌++◌, map, Option, length, length-append, refl, sym, ◌∙◌, ap, subst, inl, inr, arith, ◌≤◌, ◌/◌, ◌^◌, append-nil}
+use Rattle.ultra_cut.proofs.Common.{cases_lt, get_or-append_right, get_or_append_left, All-from_recursion, filter-append, AllByRecursion, range_with_len, present, joined, each-append, same_places, joined_next, joined_none, joined_split, block_at, BlockState, frame_of, given, home, AreMerged, InRanks, AreBlocks, combined_at, HappeningsLaw, listed_of, ListedBehindLaw, MergedLaw, sizes, Lane, arrive, served, delivery, serving, combinations, issue_event, stop_of, switch_number, switch_count, combinations_of, element_of, step_at, stage_of, index_of, delivery_link, on_link, is_switch, Request, Ports, Switch, event_rank, stop_rank, Instr, Replies, Requests}
+use Rattle.ultra_model.specs.Places.{places}
 use Rattle.ultra_merge.specs.Merging.{merged, of_rank}
 use Rattle.ultra_merge.proofs.Merged.{merged_alone, of_rank_none}
-use Rattle.ultra_cut.specs.Cut.{block_at, BlockState, frame_of, given, home}
-use Rattle.ultra_cut.specs.Halves.{AreMerged, InRanks, AreBlocks, combined_at, events_of_replies, events_of_requests, events_of_service, events_of_steps, HappeningsLaw, listed_of, ListedBehindLaw, MergedLaw, stops_of_steps}
-use Rattle.ultra_cut.proofs.Columns.{same_entries}
-use Rattle.ultra_route.proofs.Table.{sizes}
-use Rattle.ultra_switch.specs.Arrive.{Lane, arrive}
-use Rattle.ultra_mem.specs.Serve.{served}
-use Rattle.ultra_model.specs.Phases.{delivery, serving, combinations, issue_event, stop_of}
-use Rattle.ultra_units.specs.Numbers.{switch_number, switch_count}
-use Rattle.ultra_halves.specs.Switches.{combinations_of}
-use Rattle.ultra_halves.specs.Elements.{element_of, step_at}
-use Rattle.ultra_section.specs.Units.{stage_of, index_of}
-use Rattle.ultra_section.specs.Marks.{delivery_link, on_link}
-use Rattle.ultra_section.proofs.Standing.{is_switch}
-use Rattle.ultra_course.specs.Frame.{Request, Ports, Switch}
-use Rattle.ultra_cut.specs.Events.{event_rank, events_of, stop_rank, stops_of}
-use Rattle.ultra_cut.proofs.Units.{Sort, at_home, away, elements, home_small, modules, switches}
-use Rattle.ultra_cut.proofs.Moved.{end_there, switch_there}
-use Rattle.ultra_cut.proofs.Numbers.{few_units}
-use Rattle.ultra_course.specs.Course.{Instr}
-use Rattle.ultra_cut.specs.Exchange.{Replies, Requests}
+use Rattle.ultra_cut.specs.{Halves.events_of_replies, Halves.events_of_requests, Halves.events_of_service, Halves.events_of_steps, Halves.stops_of_steps, Events.events_of, Events.stops_of}
+use Rattle.ultra_cut.proofs.{Columns.same_entries, Units.few_units, Units.Sort, Units.at_home, Units.away, Units.elements, Units.home_small, Units.modules, Units.switches, Moved.end_there, Moved.switch_there}
 use Rattle.ultra_course.specs.Course as course
 
 -- no list has anything

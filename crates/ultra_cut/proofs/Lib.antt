@@ -1,4 +1,4 @@
-pub mod Numbers
+pub mod Common
 pub mod Moved
 pub mod Columns
 pub mod Halves

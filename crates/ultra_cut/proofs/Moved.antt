@@ -2,26 +2,10 @@
 -- messages of each kind. Where each message is in the block to which it leads, what comes to a unit is what its block has
 -- for it. Messages that lead from one block to a unit in another go there, and nothing else changes.
 use Rattle.std.proofs.Common.{◌≡◌, ◌≢◌, ℕ, ◌+◌, ◌-◌, ◌*◌, ◌^◌, ◌<◌, ◌≤◌, Bool, true, false, List, Option, Some, None, length, refl, sym, ap, subst, arith, map, ◌∙◌, get_or-set_same, get_or-set_other, inl, inr, ◌&&◌, ◌||◌, ◌==◌, nat_lt, ◌⊎◌, get_or}
-use Rattle.std.proofs.lemmas.Bool.Decides.{nat_tests}
-use Rattle.std.proofs.lemmas.List.{get_or_default, get_or_past, length-set}
-use Rattle.ultra_route.proofs.Table.{all_below, all_below_at}
-use Rattle.ultra_units.specs.Numbers.{switch_count, unit_count, module_number, element_number}
-use Rattle.ultra_halves.specs.Halves.{ports}
-use Rattle.ultra_section.specs.Units.{stage_of, index_of}
-use Rattle.ultra_section.specs.Marks.{delivery_link, memory_link, reply_links, request_links, on_both, on_link, without_both}
-use Rattle.ultra_section.specs.Away.{AreEmpty, put_on_both, reply_inlets, request_inlets, taken_by_turns}
-use Rattle.ultra_section.specs.Shape.{IsShaped}
-use Rattle.ultra_section.proofs.Readers.{are_read, each_network, replies_read, reply_reader, request_reader, requests_read}
-use Rattle.ultra_section.proofs.Standing.{unit_is}
+use Rattle.ultra_cut.proofs.Common.{nat_tests, get_or_default, get_or_past, length-set, all_below_at, switch_count, unit_count, module_number, element_number, ports, stage_of, index_of, delivery_link, memory_link, reply_links, request_links, on_both, on_link, without_both, AllStayWithin, AreEmpty, put_on_both, reply_inlets, request_inlets, taken_by_turns, IsShaped, AreRead, are_read, each_network, replies_read, reply_reader, request_reader, requests_read, unit_is, put_apart, put_or, put_there, AreAlike, Frame, Ports, IsCut, block_at, no_block, first, home, frame_of, BlockState, AreThere, MessageOf, inlets, message_on, on_each, table, with_table, AreSingle, HasNoneFor, OnlyMove, carried, moved, Kind, Replies, Requests, AreBlocks, other}
+use Rattle.ultra_route.proofs.Table.{all_below}
 use Rattle.ultra_section.proofs.Marks.{emptied, emptied_first, length-put_on}
-use Rattle.ultra_section.proofs.Put.{put_apart, put_or, put_there}
-use Rattle.ultra_course.specs.Frame.{AreAlike, Frame, Ports}
-use Rattle.ultra_cut.specs.Cut.{IsCut, block_at, no_block, first, home, frame_of, BlockState}
-use Rattle.ultra_cut.specs.Exchange.{AreThere, MessageOf, inlets, message_on, on_each, table, with_table, AreSingle, HasNoneFor, NoneLeavesWithin, OnlyMove, carried, moved, Kind, Replies, Requests}
-use Rattle.ultra_cut.specs.Halves.{AreBlocks}
 use Rattle.ultra_cut.proofs.Columns.{column_first, same_entries}
-use Rattle.ultra_cut.proofs.Numbers.{differs}
-use Rattle.ultra_model.proofs.Neighbours.{other}
 
 -- ---- a block with something else on its links
 pub table_with : (kind : Kind) (t : List (Option (MessageOf kind))) (b : BlockState) → table kind (with_table kind t b) ≡ t
@@ -58,24 +42,15 @@ abbrev pub end_number : Kind → ℕ → ℕ → ℕ
 end_number Replies d p = element_number d p
 end_number Requests d m = module_number d m
 
-pub end_link_small : (kind : Kind) (d : ℕ) → 1 ≤ d → d ≤ 6 → (i : ℕ) → i < 2 ^ d → end_link kind d i < (d + 1) * 2 ^ d
-end_link_small kind d low high i h = grind arith
-
 -- ---- the unit to which a link leads
 abbrev pub reader : Kind → ℕ → ℕ → ℕ
 reader Replies = reply_reader
 reader Requests = request_reader
 
 -- the inlets of unit n lead to it
-pub record LeadHere (kind : Kind) (d n : ℕ) (p : Ports ℕ) : Type 0 where
-  pub zero_small : p.zero < (d + 1) * 2 ^ d
-  pub one_small : p.one < (d + 1) * 2 ^ d
-  pub zero_reader : reader kind d p.zero ≡ n
-  pub one_reader : reader kind d p.one ≡ n
-
-pub lead_here : (kind : Kind) (d : ℕ) → 1 ≤ d → d ≤ 6 → (n : ℕ) (p : Ports ℕ) → inlets kind d n ≡ Some p → LeadHere kind d n p
-lead_here Replies d low high n p is = let it = are_read reply_inlets reply_reader replies_read d low high n p is in grind arith
-lead_here Requests d low high n p is = let it = are_read request_inlets request_reader requests_read d low high n p is in grind arith
+pub lead_here : (kind : Kind) (d : ℕ) → 1 ≤ d → d ≤ 6 → (n : ℕ) (p : Ports ℕ) → inlets kind d n ≡ Some p → AreRead d (reader kind d) n p
+lead_here Replies = are_read reply_inlets reply_reader replies_read
+lead_here Requests = are_read request_inlets request_reader requests_read
 
 -- link l is one of these
 abbrev is_among : ℕ → Option (Ports ℕ) → Bool
@@ -109,11 +84,10 @@ by_inlets Requests d P switches ends none n = let switch = switches n in let end
 module _ (kind : Kind) (d : ℕ) (partition : List ℕ) (bs : List BlockState) (cut : IsCut d partition bs) (there : AreThere kind d partition bs) where
   -- what comes to unit n is in its block
   module _ (n : ℕ) (h : n < unit_count d) (p : Ports ℕ) (is : inlets kind d n ≡ Some p) where
-    none_for : (k : ℕ) → k < length bs → k ≢ home partition n → AreEmpty (table kind (block_at bs k)) (Some p)
-    none_for k within other = subst (λ o. AreEmpty (table kind (block_at bs k)) o) is (there k n within h (λ e. other (sym e)))
-
     come : ports (first (on_each kind bs p.zero)) (first (on_each kind bs p.one)) ≡ on_both (table kind (block_at bs (home partition n))) p
-    come = grind (arith, column_first, none_for)
+    come =
+        let none = λ (k : ℕ) (within : k < length bs) (other : home partition n ≢ k). subst (λ o. AreEmpty (table kind (block_at bs k)) o) is (there k n within h other) in
+        grind (arith, column_first)
 
   pub switch_there : (n : ℕ) → n < switch_count d → ports (first (on_each kind bs (links kind d n).zero)) (first (on_each kind bs (links kind d n).one)) ≡ on_both (table kind (block_at bs (home partition n))) (links kind d n)
   switch_there n h = come n (omega arith) (links kind d n) (grind arith)
@@ -127,17 +101,14 @@ module _ (kind : Kind) (d : ℕ) (partition : List ℕ) (bs : List BlockState) (
       let it = leads_to kind d low high l small in none_among (table kind (block_at bs k)) l _ it.among (there k (reader kind d l) within it.small away)
 
 -- ---- two tables: what the one has on two links goes to the other
-abbrev left : {M : Type 0} → List (Option M) → Ports ℕ → List (Option M)
-left t p = without_both t p
-
 abbrev got : {M : Type 0} → List (Option M) → List (Option M) → Ports ℕ → List (Option M)
 got t u p = put_on_both u p (taken_by_turns t p)
 
 module _ {M : Type 0} (t u : List (Option M)) (p : Ports ℕ) where
-  at_inlet : p.zero < length u → p.one < length u → (l : ℕ) → (l ≡ p.zero) ⊎ (l ≡ p.one) → (on_link (left t p) l ≡ None) × (on_link (got t u p) l ≡ put_or (on_link t l) (on_link u l))
+  at_inlet : p.zero < length u → p.one < length u → (l : ℕ) → (l ≡ p.zero) ⊎ (l ≡ p.one) → (on_link (without_both t p) l ≡ None) × (on_link (got t u p) l ≡ put_or (on_link t l) (on_link u l))
   at_inlet zero_small one_small l inlet = grind (arith, emptied, emptied_first, put_there, put_apart, length-put_on, get_or-set_other)
 
-  at_other : (l : ℕ) → l ≢ p.zero → l ≢ p.one → (on_link (left t p) l ≡ on_link t l) × (on_link (got t u p) l ≡ on_link u l)
+  at_other : (l : ℕ) → l ≢ p.zero → l ≢ p.one → (on_link (without_both t p) l ≡ on_link t l) × (on_link (got t u p) l ≡ on_link u l)
   at_other l zero one = grind (arith, put_apart, get_or-set_other)
 
 -- ---- what block k has somewhere goes to block h, or each block has there what it had
@@ -165,7 +136,7 @@ module _ {X : Type 0} (g : BlockState → Option X) (k h : ℕ) (bs now : List B
 
 module _ (kind : Kind) where
   pub nothing_moved : (bs : List BlockState) → AreSingle kind bs → OnlyMove kind bs bs
-  nothing_moved bs single = record { count = refl; rest = λ k. with_own kind (block_at bs k); lengths = λ k. refl; links = λ l. refl; single = single }
+  nothing_moved bs single = grind (arith, with_own)
 
   pub both_moved : (a b c : List BlockState) → OnlyMove kind a b → OnlyMove kind b c → OnlyMove kind a c
   both_moved a b c one two = grind (arith, with_twice)
@@ -187,7 +158,7 @@ module _ (kind : Kind) where
     count : length after ≡ length bs
     count = grind (arith, length-set)
 
-    at_k : block_at after k ≡ with_table kind (left (was k) p) (block_at bs k)
+    at_k : block_at after k ≡ with_table kind (without_both (was k) p) (block_at bs k)
     at_k = grind (arith, get_or-set_same, get_or-set_other, length-set)
 
     at_h : block_at after h ≡ with_table kind (got (was k) (was h) p) (block_at bs h)
@@ -204,7 +175,7 @@ module _ (kind : Kind) where
       stays l zero one j = let it = at_other (was k) (was h) p l zero one in grind (arith, at_k, at_h, others, table_with)
 
       moves : (l : ℕ) → Goes (message_on kind l) k h bs after ⊎ Stays (message_on kind l) k h bs after
-      moves l = grind (arith, goes, stays)
+      moves l = search (arith, goes, stays)
 
       -- if that is unit n, which stands there, no other block has anything more for a unit
       module _ (d : ℕ) (low : 1 ≤ d) (high : d ≤ 6) (partition : List ℕ) (n : ℕ) (at_home : home partition n ≡ h) (is : inlets kind d n ≡ Some p) where
@@ -215,7 +186,7 @@ module _ (kind : Kind) where
             let other = lead_here kind d low high m q leads in
             let still = λ (l : ℕ) (to : reader kind d l ≡ m) (empty : message_on kind l (block_at bs j) ≡ None).
             none_after (message_on kind l) k h bs after (moves l) j empty (λ here. stays l (λ same. grind arith) (λ same. grind arith) j) in
-            (still q.zero other.zero_reader none.0, still q.one other.one_reader none.1)
+            grind arith
 
         carried_step : AreSingle kind bs → Step d partition k n bs after
         carried_step single = record {
@@ -237,8 +208,8 @@ module _ (kind : Kind) where
     step_if true o same is = grind (arith, nothing_moved)
     step_if false None same is = grind (arith, nothing_moved)
     step_if false (Some p) same is =
-        let apart = differs (home partition n) k same in
         let it = lead_here kind d low high n p is in
+        let apart : home partition n ≢ k = grind (arith, nat_tests) in
         let all = links apart p is in
         carried_step bs k (home partition n) p apart k_within h_within (omega arith) (omega arith) d low high partition n refl is single
 
@@ -246,7 +217,7 @@ module _ (kind : Kind) where
     moved_step now is = rw is (step_if (home partition n == k) (inlets kind d n) refl refl)
 
 -- what a block has for units elsewhere is gone up to a number, if nothing leaves it from where it was gone
-pub gone_until : (kind : Kind) (d : ℕ) (partition : List ℕ) (bs : List BlockState) (k from to : ℕ) (x : BlockState) → IsCut d partition bs → k < length bs → NoneLeavesWithin kind (get_or bs k x) from to
+pub gone_until : (kind : Kind) (d : ℕ) (partition : List ℕ) (bs : List BlockState) (k from to : ℕ) (x : BlockState) → IsCut d partition bs → k < length bs → (let b = get_or bs k x in AllStayWithin (table kind b) (inlets kind b.stages) b from to)
     → ((n : ℕ) → n < from → n < unit_count d → HasNoneFor kind d partition bs k n) → (n : ℕ) → n < to → n < unit_count d → HasNoneFor kind d partition bs k n
 gone_until kind d partition bs k from to x cut within none gone n before unit elsewhere =
     let same = get_or_default bs k x no_block within in grind (arith, other)

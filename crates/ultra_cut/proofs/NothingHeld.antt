@@ -1,15 +1,8 @@
 -- What is empty where a unit of a machine holds nothing, for those who skip it.
-use Rattle.std.proofs.lemmas.Grind.{common_steps}
 use Rattle.std.proofs.Common.{◌≡◌, ℕ, ◌+◌, ◌*◌, ◌-◌, ◌^◌, ◌<◌, List, [], true, false, None, ◌∙◌, arith}
-use Rattle.ultra_model.specs.Machine.{lane_at, replies_at, bank_at, element_at}
-use Rattle.ultra_units.specs.Numbers.{switch_number, module_number, element_number}
-use Rattle.ultra_halves.specs.Halves.{has_none}
-use Rattle.ultra_section.specs.declared.held.Held.{Held}
+use Rattle.ultra_cut.proofs.Common.{common_steps, lane_at, replies_at, bank_at, element_at, switch_number, module_number, element_number, has_none, Held, at_number, number_small, holds, stage_holds, Machine}
 use Rattle.ultra_section.specs.declared.held.Held.TheVariants.{Reply, Request, Record}
 use Rattle.ultra_section.proofs.Holding.{at_switch}
-use Rattle.ultra_course.proofs.Numbers.{at_number, number_small}
-use Rattle.ultra_cut.specs.Holding.{holds, stage_holds}
-use Rattle.ultra_course.specs.Whole.{Machine}
 
 is_none : {X : Type 0} (xs : List X) → has_none xs ≡ true → xs ≡ []
 is_none xs h = grind (arith, common_steps)

@@ -1,91 +1,58 @@
 -- What is asked of all blocks: where there is no room, which units hold something, and whether anything is left to do. What
 -- they answer is true of the whole machine that they make up.
-use Rattle.std.proofs.Common.{◌≡◌, ℕ, ◌+◌, ◌^◌, ◌<◌, List, Bool, length, arith, [], ◌∷◌, refl, ◌*◌, ◌/◌, ◌≤◌, true, false, get_or, None, take, ap, ◌∙◌, ◌&&◌, is_some, nat_lt, not, ◌==◌, take_all}
-use Rattle.std.specs.List.{list_all, list_any}
-use Rattle.std.proofs.lemmas.List.Elements.{All-from_get_or}
-use Rattle.std.proofs.lemmas.List.Folds.{list_any_at, list_any_none}
-use Rattle.ultra_model.proofs.Neighbours.{itself}
+use Rattle.std.proofs.Common.{◌≡◌, ℕ, ◌+◌, ◌^◌, ◌<◌, List, Bool, length, arith, [], ◌∷◌, refl, ◌*◌, ◌/◌, ◌≤◌, true, false, get_or, None, take, ap, ◌∙◌, ◌&&◌, is_some, not, ◌==◌, take_all}
+use Rattle.ultra_cut.proofs.Common.{list_all, list_any, All-from_get_or, get_or_default, itself, sizes, Lane, Element, size, is_empty, is_quiet, places, places_at, length-places, has_unit, switch_count, module_number, has_reply_room, has_request_room, quiet_switch, has_none, quiet_bank, element_of, quiet_element, if_here, switch_at, module_at, HasNoted, AreOwnRooms, Rooms, Held, holds_at, switch_holds, module_holds, element_holds, is_switch, unit_of_module, unit_of_element, by_kind, unit_of_none, index_of, stage_of, Frame, ReplyMessage, ProcessingElement, sized_lane, sized_replies, Settings, number_small, lane_is, replies_is, bank_is, element_is, block_at, frame_of, home, no_block, BlockState, AreRooms, AreBlocks, OfEach, AreRoomsOfAll, holds, IsSetOfAll, Event, Stop}
+use Rattle.std.proofs.lemmas.List.Folds.{list_any_more, list_any_at, list_any_none}
 use Rattle.std.proofs.lemmas.List.Sums.{AllPass-from_list_all, list_all-from_AllPass}
-use Rattle.ultra_route.proofs.Table.{sizes}
-use Rattle.ultra_switch.specs.Arrive.{Lane}
 use Rattle.ultra_isa.specs.Step.{has_stopped}
-use Rattle.ultra_model.specs.Machine.{Element, size, is_empty, is_quiet}
-use Rattle.ultra_model.specs.Places.{places, table}
-use Rattle.ultra_model.proofs.Each.{places_at, length-places}
-use Rattle.ultra_units.specs.Set.{has_unit}
-use Rattle.ultra_units.specs.Numbers.{switch_count, module_number}
+use Rattle.ultra_model.specs.Places.{table}
 use Rattle.ultra_units.proofs.Set.{none_there}
-use Rattle.ultra_halves.specs.Switches.{has_reply_room, has_request_room, quiet_switch}
-use Rattle.ultra_halves.specs.Halves.{has_none}
-use Rattle.ultra_halves.specs.Modules.{quiet_bank}
-use Rattle.ultra_halves.specs.Elements.{element_of, quiet_element}
-use Rattle.ultra_section.specs.Rooms.{HasNoted, AreOwnRooms, all_open}
-use Rattle.ultra_section.specs.declared.rooms.Rooms.{Rooms}
-use Rattle.ultra_section.specs.declared.held.Held.{Held}
-use Rattle.ultra_section.specs.Holding.{holds_at, switch_holds, module_holds, element_holds}
-use Rattle.ultra_section.proofs.Standing.{is_switch, unit_of_module, unit_of_element}
-use Rattle.ultra_section.proofs.OfKind.{by_kind, unit_of_none}
-use Rattle.ultra_section.specs.Units.{index_of, stage_of}
 use Rattle.ultra_section.specs.Quiet.{or_elsewhere, quiet_block}
-use Rattle.ultra_course.specs.Frame.{AreRooms, Frame, ReplyMessage, ProcessingElement}
-use Rattle.ultra_course.specs.Whole.{whole, sized_lane, sized_replies, Settings}
-use Rattle.ultra_course.proofs.Numbers.{number_small}
-use Rattle.ultra_course.proofs.AtFrame.{lane_is, replies_is, bank_is, element_is}
-use Rattle.ultra_cut.specs.Cut.{IsCut, block_at, frame_of, home, no_block, BlockState}
-use Rattle.ultra_cut.specs.Halves.{noted, AreBlocks}
-use Rattle.ultra_cut.specs.Moments.{AreRoomsOfAll}
-use Rattle.ultra_cut.specs.Holding.{holds, IsSetOfAll}
-use Rattle.ultra_cut.proofs.Numbers.{one_more}
-use Rattle.ultra_cut.proofs.Units.{if_home, modules, switches, elements, Sort, at_home, here, unit}
-use Rattle.ultra_course.specs.Course.{Event, Stop}
+use Rattle.ultra_course.specs.Whole.{whole}
+use Rattle.ultra_cut.proofs.Units.{home_small, if_home, modules, switches, elements, Sort, at_home, here, unit}
 
--- ---- rooms, as blocks note them one after another: of a unit without room, once its home has
-
-module _ (d : ℕ) (partition : List ℕ) (bs : List BlockState) where
-  abbrev frame : Frame
-  frame = frame_of d partition bs
-
-  -- of unit n this is noted, once one of the blocks below i has it
-  abbrev IsNoted : ℕ → List ℕ → ℕ → Bool → Type 0
-  IsNoted i set n none = has_unit set n ≡ (nat_lt (home partition n) i && none)
-
-  -- what the blocks below i have noted
-  pub record HaveNoted (i : ℕ) (rooms : Rooms) : Type 0 where
-    pub replies : (n : ℕ) → n < switch_count d → IsNoted i rooms.no_reply_room n (not (has_reply_room (frame.switch n)))
-    pub zero_port : (n : ℕ) → n < switch_count d → IsNoted i rooms.no_request_room.zero n (not (has_request_room (frame.switch n)).zero)
-    pub one_port : (n : ℕ) → n < switch_count d → IsNoted i rooms.no_request_room.one n (not (has_request_room (frame.switch n)).one)
-    pub modules : (m : ℕ) → m < 2 ^ d → IsNoted i rooms.no_request_room.zero (module_number d m) (is_some (frame.bank m).inp)
-
-  module _ (cut : IsCut d partition bs) where
-    -- block i notes its own
-    module _ (i : ℕ) (within : i < length bs) (old now : Rooms) (before : HaveNoted i old) (notes : HasNoted (block_at bs i) old now) where
-      pub next_noted : HaveNoted (i + 1) now
-      next_noted =
-          let stages = cut.stages i within in
-          record {
-            replies = λ n h. one_more _ i _ (before.replies n h) (if_home switches d partition bs cut n h (λ w. not (has_reply_room w)) i within) (notes.replies n (rw stages h));
-            zero_port = λ n h. one_more _ i _ (before.zero_port n h) (if_home switches d partition bs cut n h (λ w. not (has_request_room w).zero) i within) (notes.requests_zero n (rw stages h));
-            one_port = λ n h. one_more _ i _ (before.one_port n h) (if_home switches d partition bs cut n h (λ w. not (has_request_room w).one) i within) (notes.requests_one n (rw stages h));
-            modules = λ m h. one_more _ i _ (before.modules m h) (if_home modules d partition bs cut m h (λ bank. is_some bank.inp) i within) (rw stages at (notes.modules m (rw stages h)));
-          }
-
-    -- all have noted theirs
-    module _ (rooms : Rooms) (i : ℕ) (all : i ≡ length bs) (have : HaveNoted i rooms) where
-      pub rooms_are : AreRooms d frame (noted d rooms)
-      rooms_are = grind arith
-
--- in a machine that stands in one block its own rooms are all there are
-pub own_are_all : (b : BlockState) (rooms : Rooms) → AreOwnRooms b rooms → AreRoomsOfAll (b ∷ []) rooms
-own_are_all b rooms own = λ d partition are.
-    let none : HaveNoted d partition (b ∷ []) 0 all_open = let nowhere = none_there 5 in grind arith in
-    rooms_are d partition (b ∷ []) are.cut rooms 1 refl (next_noted d partition (b ∷ []) are.cut 0 (omega arith) all_open rooms none own)
-
--- ---- which units hold something, as blocks say it one after another
+-- ---- of one block after another
 
 -- one block alone may pass a test, and it does if q is true
 any_home : (p : BlockState → Bool) (q : Bool) (h : ℕ) (bs : List BlockState) → ((k : ℕ) → k < length bs → p (block_at bs k) ≡ ((h == k) && q)) → (q ≡ true → h < length bs) → list_any p bs ≡ q
 any_home p false h bs is within = list_any_none p bs (All-from_get_or (λ b. p b ≡ false) bs no_block (grind arith))
 any_home p true h bs is within = list_any_at p bs h no_block (within refl) (grind (arith, itself, within))
+
+-- ---- rooms: a unit is noted by the block in which it stands
+
+-- what some blocks of a machine of d stages have noted
+pub record HaveNoted (d : ℕ) (bs : List BlockState) (rooms : Rooms) : Type 0 where
+  pub replies : (n : ℕ) → n < switch_count d → has_unit rooms.no_reply_room n ≡ list_any (λ b. if_here (λ w. not (has_reply_room w)) (switch_at b.switches n)) bs
+  pub zero_port : (n : ℕ) → n < switch_count d → has_unit rooms.no_request_room.zero n ≡ list_any (λ b. if_here (λ w. not (has_request_room w).zero) (switch_at b.switches n)) bs
+  pub one_port : (n : ℕ) → n < switch_count d → has_unit rooms.no_request_room.one n ≡ list_any (λ b. if_here (λ w. not (has_request_room w).one) (switch_at b.switches n)) bs
+  pub modules : (m : ℕ) → m < 2 ^ d → has_unit rooms.no_request_room.zero (module_number d m) ≡ list_any (λ b. if_here (λ bank. is_some bank.inp) (module_at b.modules m)) bs
+
+-- one block more
+pub next_noted : (d : ℕ) (bs : List BlockState) (i : ℕ) (b : BlockState) (old now : Rooms) → OfEach (λ b. b.stages ≡ d) bs → i < length bs → b ≡ get_or bs i b → HasNoted b old now → HaveNoted d (take i bs) old → HaveNoted d (take (i + 1) bs) now
+next_noted d bs i b old now stages within is noted before =
+    let same = get_or_default bs i b no_block within in
+    let here = stages i within in
+    let more = λ (p : BlockState → Bool). list_any_more p bs i b within in
+    grind arith
+
+module _ (d : ℕ) (partition : List ℕ) (bs : List BlockState) (are : AreBlocks d partition bs) where
+  -- a unit of the machine passes a test where its block notes it
+  any_passes : {X : Type 0} (sort : Sort X) (p : X → Bool) (i : ℕ) (h : i < sort.count d) → list_any (λ b. if_here p (sort.at b i)) bs ≡ p (unit sort d partition bs are.cut i h)
+  any_passes sort p i h = any_home _ _ _ bs (if_home sort d partition bs are.cut i h p) (λ _. home_small sort d partition bs are.cut i h)
+
+  pub rooms_are : (rooms : Rooms) → HaveNoted d bs rooms → AreRooms d (frame_of d partition bs) rooms
+  rooms_are rooms have =
+      let replies = any_passes switches (λ w. not (has_reply_room w)) in
+      let zero_port = any_passes switches (λ w. not (has_request_room w).zero) in
+      let one_port = any_passes switches (λ w. not (has_request_room w).one) in
+      let banks = any_passes modules (λ bank. is_some bank.inp) in
+      grind arith
+
+-- in a machine that stands in one block its own rooms are all there are
+pub own_are_all : (b : BlockState) (rooms : Rooms) → AreOwnRooms b rooms → AreRoomsOfAll (b ∷ []) rooms
+own_are_all b rooms own = λ d partition are. rooms_are d partition (b ∷ []) are rooms (let nowhere = none_there 5 in let stages = are.cut.stages 0 in grind arith)
+
+-- ---- which units hold something, as blocks say it one after another
 
 module _ (c : Settings) (partition : List ℕ) (bs : List BlockState) (are : AreBlocks c.stages partition bs) (n : ℕ) (events : List Event) (stops : List Stop) (held : Held) where
   abbrev whole_holds : ℕ → Bool
@@ -101,11 +68,10 @@ module _ (c : Settings) (partition : List ℕ) (bs : List BlockState) (are : Are
       (λ p h. let mine = if_home elements c.stages partition bs are.cut p h (element_holds held) i within in grind (arith, unit_of_element, element_is))
       (grind (arith, unit_of_none)) u
 
-  any_holds : (u : ℕ) → list_any (λ b. holds_at b held u) bs ≡ whole_holds u
-  any_holds u = any_home (λ b. holds_at b held u) (whole_holds u) (home partition u) bs (holds_here u) (λ h. grind (arith, unit_of_none, are.cut.homes))
-
 pub held_by_all : (bs : List BlockState) (held : Held) (set : List ℕ) (i : ℕ) → length bs ≤ i → ((u : ℕ) → has_unit set u ≡ list_any (λ b. holds_at b held u) (take i bs)) → IsSetOfAll bs held set
-held_by_all bs held set i all are c partition n events stops blocks u = are u ∙ ap (list_any (λ b. holds_at b held u)) (take_all i bs all) ∙ any_holds c partition bs blocks n events stops held u
+held_by_all bs held set i all are c partition n events stops blocks u =
+    are u ∙ ap (list_any (λ b. holds_at b held u)) (take_all i bs all)
+    ∙ any_home (λ b. holds_at b held u) (whole_holds c partition bs blocks n events stops held u) (home partition u) bs (holds_here c partition bs blocks n events stops held u) (λ h. grind (arith, unit_of_none, blocks.cut.homes))
 
 -- ---- a machine is quiet where each of its units is, and so where each of its blocks is
 

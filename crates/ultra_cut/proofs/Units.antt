@@ -1,15 +1,17 @@
 -- The units of a machine in its blocks: each stands at home, in the block that the partition names, and in no other.
-use Rattle.std.proofs.Common.{◌≡◌, ◌≢◌, ℕ, ◌^◌, ◌<◌, List, Bool, Option, Some, None, length, sym, ◌∙◌, arith, ◌==◌, ◌&&◌, is_some}
-use Rattle.std.proofs.lemmas.Bool.Decides.{nat_tests}
-use Rattle.ultra_mem.specs.Serve.{empty_bank}
-use Rattle.ultra_units.specs.Numbers.{switch_count, unit_count, module_number, element_number}
-use Rattle.ultra_section.specs.BlockState.{switch_at, module_at, element_at}
-use Rattle.ultra_section.specs.Away.{stands}
-use Rattle.ultra_section.specs.Sets.{if_here}
-use Rattle.ultra_section.proofs.OfKind.{switch_stands, module_stands, element_stands}
-use Rattle.ultra_cut.specs.Cut.{IsCut, block_at, given, home, no_element, no_switch, BlockState}
-use Rattle.ultra_model.proofs.Neighbours.{other as other_number}
-use Rattle.ultra_course.specs.Frame.{Switch, Bank, ProcessingElement}
+use Rattle.std.proofs.Common.{◌≡◌, ◌≢◌, ℕ, ◌+◌, ◌^◌, ◌<◌, ◌≤◌, true, nat_lt, refl, List, Bool, Option, Some, None, length, sym, ◌∙◌, arith, ◌==◌, ◌&&◌, is_some}
+use Rattle.ultra_cut.proofs.Common.{nat_tests, empty_bank, switch_count, unit_count, module_number, element_number, switch_at, module_at, stands, if_here, switch_stands, module_stands, element_stands, IsCut, block_at, given, home, no_element, no_switch, BlockState, other as other_number, Switch, Bank, ProcessingElement}
+use Rattle.ultra_route.proofs.Table.{all_below}
+use Rattle.ultra_units.proofs.Readers.{each_network}
+use Rattle.ultra_section.specs.BlockState.{element_at}
+
+units_right : all_below (λ k. nat_lt (unit_count (k + 1)) 321) 6 ≡ true
+unfolding all_below
+units_right = refl
+
+-- a machine has at most 320 units
+pub few_units : (d : ℕ) → 1 ≤ d → d ≤ 6 → unit_count d < 321
+few_units d low high = let it = each_network (λ d. nat_lt (unit_count d) 321) units_right d low high in grind (arith, nat_tests)
 
 -- ---- switches, modules, processing elements
 -- units of one sort: what a block has of number i among them, and the number of that among all units

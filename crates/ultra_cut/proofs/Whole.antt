@@ -1,31 +1,51 @@
--- A cycle of blocks that are a whole machine, half by half, as steps give them: what each half asks is met, and after the
--- last one the blocks are the machine after one cycle of the definition.
-use Rattle.std.proofs.Common.{◌≡◌, ℕ, ◌+◌, ◌*◌, ◌<◌, ◌≤◌, List, [], refl, ◌++◌, ◌∙◌, length, arith, ◌^◌, sym, ap, subst, ◌-◌}
-use Rattle.ultra_model.specs.Phases.{cycle, memory_phase, reply_phase, request_phase}
+-- A cycle of blocks that are a whole machine, half by half. What is known of the blocks before a half meets its conditions,
+-- and gives what is known of them after it. After the last half they are the machine after one cycle of the definition.
+use Rattle.std.proofs.Common.{◌≡◌, ℕ, ◌+◌, ◌*◌, ◌<◌, ◌≤◌, List, [], ◌∷◌, refl, ◌++◌, ◌∙◌, length, arith, ◌^◌, ap, ◌-◌}
+use Rattle.ultra_cut.proofs.Common.{memory_phase, processor_phase, reply_phase, request_phase, Rooms, all_open, AreAlike, Frame, IsClear, deliveries, issues, servings, stops, Event, Instr, Stop, IsFrameOf, Settings, Machine, block_at, IsCut, frame_of, BlockState, OnlyMove, AreThere, AreSingle, Kind, Replies, Requests, all_made_own, AllCanMake, AreBlocks, AreBlocksAfter, AreMerged, AreRooms, cycles_made, events_of_replies, events_of_requests, events_of_service, events_of_steps, HasHalfRoom, HaveFrame, Lists, lists_after, OfEach, stops_of_steps, Half, SendReplies, TakeReplies, Serve, SendRequests, TakeRequests, Execute, event_rank, events_of, stop_rank, stops_of, AreRoomsOfAll, AreWhole, machine_in}
+use Rattle.ultra_model.specs.Phases.{cycle}
 use Rattle.ultra_model.proofs.Routes.{delivered_well}
-use Rattle.ultra_section.specs.declared.rooms.Rooms.{Rooms}
-use Rattle.ultra_course.specs.Frame.{Frame, IsClear}
-use Rattle.ultra_course.specs.Course.{combinations, deliveries, executes, issues, sends_replies, sends_requests, serves, servings, stops, takes_replies, takes_requests, Event, Instr}
-use Rattle.ultra_course.specs.Whole.{IsFrameOf, Settings, Machine}
+use Rattle.ultra_course.specs.Course.{combinations, executes, sends_replies, sends_requests, serves, takes_replies, takes_requests}
 use Rattle.ultra_course.proofs.Phases as step
 use Rattle.ultra_course.proofs.Phases.{comes_home}
-use Rattle.ultra_cut.specs.Cut.{block_at, IsCut, frame_of, BlockState}
-use Rattle.ultra_cut.specs.Exchange.{OnlyMove, AreThere, AreSingle, Kind, Replies, Requests}
-use Rattle.ultra_cut.specs.Halves.{all_made, AllCanMake, AreBlocks, AreBlocksAfter, AreMerged, cycles_made, events_of_replies, events_of_requests, events_of_service, events_of_steps, HasHalfRoom, HaveFrame, Lists, lists_after, noted, OfEach, stops_of_steps, Half, SendReplies, TakeReplies, Serve, SendRequests, TakeRequests, Execute}
-use Rattle.ultra_cut.specs.Events.{event_rank, events_of, stop_rank, stops_of}
-use Rattle.ultra_cut.specs.Moments.{AreMachine, AreRoomsOfAll, AreWhole, machine_in}
-use Rattle.ultra_cut.proofs.Halves.{added_law}
-use Rattle.ultra_cut.proofs.Moved.{still_blocks, alike}
-use Rattle.ultra_cut.proofs.Happenings.{happenings_law, listed_behind, merged_law, nothing_listed, same_listed}
+use Rattle.ultra_cut.proofs.{Halves.all_by_own, Moved.still_blocks, Moved.alike, Happenings.happenings_law, Happenings.listed_behind, Happenings.merged_law, Happenings.nothing_listed, Happenings.same_listed}
 use Rattle.ultra_cut.proofs.Halves as half
 
-module _ (c : Settings) (partition : List ℕ) (n : ℕ) (program : List Instr) where
+-- the machine when messages of a kind have left
+abbrev leaves : Kind → ℕ → Rooms → Frame → Frame
+leaves Replies d rooms f = sends_replies d rooms.no_reply_room f
+leaves Requests d rooms f = sends_requests d rooms.no_request_room f
+
+-- blocks have listed ranks below this when they leave, and this of what they listed before
+abbrev top_at : Kind → ℕ
+top_at Replies = 0
+top_at Requests = 640
+
+abbrev kept : Kind → List Event → List Event
+kept Replies events = []
+kept Requests events = events
+
+-- ---- a cycle that begins with blocks that are a whole machine
+module _ {c : Settings} {partition : List ℕ} {n : ℕ} {program : List Instr} {start : List BlockState} (whole : AreWhole c program partition n start) where
   abbrev d : ℕ
   d = c.stages
 
+  abbrev f : List BlockState → Frame
+  f bs = frame_of d partition bs
+
+  -- the machine as the cycle begins, and when memory has served; messages of a kind leave it then
+  abbrev pub first : Machine
+  first = machine_in c partition n start
+
+  abbrev pub middle : Machine
+  middle = memory_phase c (reply_phase c first)
+
+  abbrev pub of_kind : Kind → Machine
+  of_kind Replies = first
+  of_kind Requests = middle
+
   -- what is known of blocks in the course of a cycle: n cycles are done; they have listed what has happened so far, in the
   -- ranks below `top`, a block at most two events for each of these; and no stops
-  pub record AreAt (top : ℕ) (so_far : List Event) (bs : List BlockState) : Type 0 where
+  pub record At (top : ℕ) (so_far : List Event) (bs : List BlockState) : Type 0 where
     pub blocks : AreBlocks d partition bs
     pub runs : OfEach (λ b. b.program ≡ program) bs
     pub done : OfEach (λ b. b.done ≡ n) bs
@@ -33,205 +53,197 @@ module _ (c : Settings) (partition : List ℕ) (n : ℕ) (program : List Instr) 
     pub listed : AreMerged (event_rank d) 0 top (λ b. b.events) bs so_far
     pub no_stops : OfEach (λ b. b.stops ≡ []) bs
 
-  module _ (top : ℕ) (so_far : List Event) (bs : List BlockState) (at : AreAt top so_far bs) where
+  -- a frame is machine m, in which this has happened in the cycle so far, and no message is on a link
+  pub record IsClearFrame (m : Machine) (events : List Event) (g : Frame) : Type 0 where
+    pub faults : List Stop
+    pub machine : IsFrameOf c n g events faults m
+    pub clear : IsClear d g
+
+  -- a phase is over, and so the blocks are machine m
+  pub record Made (top : ℕ) (m : Machine) (bs : List BlockState) : Type 0 where
+    pub events : List Event
+    pub at : At top events bs
+    pub frame : IsClearFrame m events (f bs)
+
+  -- messages of a kind have left them
+  pub record Left (kind : Kind) (bs : List BlockState) : Type 0 where
+    pub events : List Event
+    pub old : Frame
+    pub was : IsClearFrame (of_kind kind) events old
+    pub rooms : Rooms
+    pub all : AreRooms d old rooms
+    pub frame : AreAlike d (f bs) (leaves kind d rooms old)
+    pub single : AreSingle kind bs
+    pub at : At (top_at kind) (kept kind events) bs
+
+  -- and are in the blocks of the units to which they lead
+  pub record Come (kind : Kind) (bs : List BlockState) : Type 0 where
+    pub left : Left kind bs
+    pub there : AreThere kind d partition bs
+
+  module _ (top : ℕ) (so_far : List Event) (bs : List BlockState) (at : At top so_far bs) where
     -- there is memory for the events of one more half
     half_room : top ≤ 960 → OfEach HasHalfRoom bs
     half_room small k h = let few = at.few k h in omega arith
 
     -- nothing more is listed
-    at_same : (now : List BlockState) → AreBlocksAfter d partition SendRequests program bs now → AreAt top so_far now
+    at_same : (now : List BlockState) → AreBlocksAfter d partition SendRequests program bs now → At top so_far now
     at_same now after =
         let listed = same_listed (event_rank d) 0 top bs now (λ b. b.events) (λ b. b.events) so_far after.count (λ k h. ap (λ (l : Lists). l.events) (after.lists k h)) at.listed in
         grind arith
 
+    -- messages go to other blocks
+    at_moved : (kind : Kind) (now : List BlockState) → OnlyMove kind bs now → At top so_far now
+    at_moved Replies now only = at_same now (let blocks = still_blocks d partition bs now Replies only at.blocks in grind arith)
+    at_moved Requests now only = at_same now (let blocks = still_blocks d partition bs now Requests only at.blocks in grind arith)
+
     -- each block has made a half in which it lists this
     at_made : (half : Half) (now : List BlockState) (g : Frame) (more : BlockState → List Event) (rest : List Event) → HaveFrame d partition half program bs now g → cycles_made half ≡ 0
         → OfEach (λ b. lists_after d half program b ≡ record { events = b.events ++ more b; stops = b.stops }) bs
-        → AreMerged (event_rank d) top (top + 320) more bs rest → AreAt (top + 320) (so_far ++ rest) now
+        → AreMerged (event_rank d) top (top + 320) more bs rest → At (top + 320) (so_far ++ rest) now
     at_made half now g more rest is same adds merged =
         let listed =
         listed_behind (event_rank d) 0 top (top + 320) (omega arith) (omega arith) bs now is.blocks.count (λ b. b.events) more (λ b. b.events)
         (λ k h. ap (λ (l : Lists). l.events) (is.blocks.lists k h ∙ adds k h)) so_far rest at.listed merged in
         grind arith
 
-  -- messages go to other blocks after a half
-  still_frame : (kind : Kind) (half : Half) (old sent now : List BlockState) (g : Frame) → HaveFrame d partition half program old sent g → OnlyMove kind sent now → HaveFrame d partition half program old now g
-  still_frame Replies half old sent now g is only =
-      record { blocks = let blocks = still_blocks d partition sent now Replies only is.blocks.blocks in grind arith; frame = alike d partition sent now Replies g only is.frame }
-  still_frame Requests half old sent now g is only =
-      record { blocks = let blocks = still_blocks d partition sent now Requests only is.blocks.blocks in grind arith; frame = alike d partition sent now Requests g only is.frame }
+  -- ---- messages leave
+  pub replies_left : (rooms : Rooms) {now : List BlockState} → AreRoomsOfAll start rooms → now ≡ all_made_own SendReplies rooms start → Left Replies now
+  replies_left rooms {now = now} all made =
+      let sent : HaveFrame d partition SendReplies program start now (sends_replies d rooms.no_reply_room (f start)) × AreSingle Replies now
+      = rw made ((half.half_law d partition start rooms program whole.machine.blocks).replies_sent whole.clear.replies) in
+      let after = sent.0.blocks in
+      let none : OfEach (λ b. b.events ≡ []) now = grind arith in
+      let listed = nothing_listed (event_rank d) 0 0 (λ b. b.events) now none in
+      record {
+        events = events_of d start;
+        old = f start;
+        was = record { faults = stops_of d start; machine = whole.machine.machine; clear = whole.clear };
+        rooms = rooms;
+        all = all d partition whole.machine.blocks;
+        frame = sent.0.frame;
+        single = sent.1;
+        at = grind arith;
+      }
 
-  module _ (bs : List BlockState) (start : AreWhole c program partition n bs) (e : ℕ) (net : e ≡ c.stages)
-      (first : Rooms) (first_noted : AreRoomsOfAll bs first) (sent : List BlockState) (sent_is : sent ≡ all_made SendReplies first program bs) where
-    abbrev f : List BlockState → Frame
-    f xs = frame_of d partition xs
+  pub requests_left : (rooms : Rooms) {bs now : List BlockState} → AreRoomsOfAll bs rooms → now ≡ all_made_own SendRequests rooms bs → Made 640 middle bs → Left Requests now
+  requests_left rooms {bs = bs} {now = now} all made x =
+      let sent : HaveFrame d partition SendRequests program bs now (sends_requests d rooms.no_request_room (f bs)) × AreSingle Requests now
+      = rw made ((half.half_law d partition bs rooms program x.at.blocks).requests_sent x.frame.clear.requests) in
+      record {
+        events = x.events;
+        old = f bs;
+        was = x.frame;
+        rooms = rooms;
+        all = all d partition x.at.blocks;
+        frame = sent.0.frame;
+        single = sent.1;
+        at = at_same 640 x.events bs x.at now sent.0.blocks;
+      }
 
-    abbrev m : Machine
-    m = machine_in c partition n bs
+  pub left_cut : {kind : Kind} {bs : List BlockState} {e : ℕ} → Left kind bs → e ≡ d → IsCut e partition bs
+  left_cut x net = rw net x.at.blocks.cut
 
-    -- ---- replies have left
-    are_sent : HaveFrame d partition SendReplies program bs sent (sends_replies d (noted d first) (f bs)) × AreSingle Replies sent
-    are_sent = rw sent_is ((half.half_law d partition bs first program start.machine.blocks).replies_sent start.clear.replies)
+  pub left_single : {kind : Kind} {bs : List BlockState} → Left kind bs → AreSingle kind bs
+  left_single x = x.single
 
-    pub sent_cut : IsCut e partition sent
-    sent_cut = rw net are_sent.0.blocks.blocks.cut
+  -- ---- they are exchanged; where all units stand in one block, each is in its block
+  pub come : {kind : Kind} {sent now : List BlockState} {e : ℕ} → OnlyMove kind sent now → AreThere kind e partition now → e ≡ d → Left kind sent → Come kind now
+  come {kind = kind} {sent = sent} {now = now} only there net x = record {
+    left = record {
+      events = x.events;
+      old = x.old;
+      was = x.was;
+      rooms = x.rooms;
+      all = x.all;
+      frame = alike d partition sent now kind _ only x.frame;
+      single = only.single;
+      at = at_moved _ _ sent x.at kind now only;
+    };
+    there = rw (← net) there;
+  }
 
-    pub sent_single : AreSingle Replies sent
-    sent_single = are_sent.1
+  pub come_to_one : {kind : Kind} {b : BlockState} → Left kind (b ∷ []) → Come kind (b ∷ [])
+  come_to_one x = record { left = x; there = λ k n within small away. let here = x.at.blocks.cut.homes n small in absurd (omega arith) }
 
-    pub at_sent : AreBlocksAfter d partition SendReplies program bs sent
-    at_sent = are_sent.0.blocks
+  -- ---- replies are taken
+  module _ {bs : List BlockState} (x : Come Replies bs) where
+    pub can_take_replies : AllCanMake program TakeReplies bs
+    can_take_replies =
+        (half.half_law d partition bs all_open program x.left.at.blocks).can_take_replies x.there
+        (step.can_take_replies c n x.left.old x.left.events x.left.was.faults first x.left.was.machine x.left.rooms.no_reply_room x.left.all.replies (f bs) x.left.frame) (half_room 0 [] bs x.left.at (omega arith))
 
-    -- ---- they have been exchanged
-    module _ (replies : List BlockState) (moved : OnlyMove Replies sent replies) (there : AreThere Replies e partition replies) where
-      replies_there : AreThere Replies d partition replies
-      replies_there = rw (← net) there
+    pub replies_taken : {now : List BlockState} → now ≡ all_made_own TakeReplies all_open bs → Made 320 (reply_phase c first) now
+    replies_taken {now = now} made =
+        let taken : HaveFrame d partition TakeReplies program bs now (takes_replies d (f bs)) = rw made ((half.half_law d partition bs all_open program x.left.at.blocks).replies_taken x.there) in
+        let happens = (happenings_law d n partition program bs x.left.at.blocks).taking_replies x.there (λ p hp r is.
+        let well = delivered_well c x.left.was.machine.range first x.left.was.machine.sound.routes p hp in
+        let came = comes_home c n x.left.old x.left.events x.left.was.faults first x.left.was.machine x.left.rooms.no_reply_room x.left.all.replies (f bs) x.left.frame p hp in
+        grind arith) in
+        record {
+          events = deliveries d (f bs);
+          at = at_made 0 [] bs x.left.at TakeReplies now (takes_replies d (f bs)) (events_of_replies d) (deliveries d (f bs)) taken refl (λ k h. refl) happens;
+          frame = record { faults = []; machine = step.replied c n x.left.old x.left.events x.left.was.faults first x.left.was.machine x.left.rooms.no_reply_room x.left.all.replies (f bs) x.left.frame (f now) taken.frame; clear = grind arith };
+        }
 
-      are_moved : HaveFrame d partition SendReplies program bs replies (sends_replies d (noted d first) (f bs))
-      are_moved = still_frame Replies SendReplies bs sent replies _ are_sent.0 moved
+  -- ---- memory serves
+  module _ {bs : List BlockState} (x : Made 320 (reply_phase c first) bs) where
+    pub can_serve : AllCanMake program Serve bs
+    can_serve = half.can_serve_law program bs (half_room 320 x.events bs x.at (omega arith))
 
-      at_replies : AreAt 0 [] replies
-      at_replies =
-          let after = are_moved.blocks in
-          let none : OfEach (λ b. b.events ≡ []) replies = grind arith in
-          let listed = nothing_listed (event_rank d) 0 0 (λ b. b.events) replies none in
-          grind arith
+    pub served : {now : List BlockState} → now ≡ all_made_own Serve all_open bs → Made 640 middle now
+    served {now = now} made =
+        let serving : HaveFrame d partition Serve program bs now (serves d (f bs)) = rw made ((half.half_law d partition bs all_open program x.at.blocks).served) in
+        let happens = (happenings_law d n partition program bs x.at.blocks).serving in
+        record {
+          events = x.events ++ servings d (f bs);
+          at = at_made 320 x.events bs x.at Serve now (serves d (f bs)) (events_of_service d) (servings d (f bs)) serving refl (λ k h. refl) happens;
+          frame = record { faults = x.frame.faults; machine = step.served c n (f bs) x.events x.frame.faults (reply_phase c first) x.frame.machine (f now) serving.frame; clear = grind arith };
+        }
 
-      pub can_take_replies : AllCanMake program TakeReplies replies
-      can_take_replies =
-          (half.half_law d partition replies first program at_replies.blocks).can_take_replies replies_there
-          (step.can_take_replies c n (f bs) (events_of d bs) (stops_of d bs) m start.machine.machine (noted d first) (first_noted d partition start.machine.blocks) (f replies) are_moved.frame) (half_room 0 [] replies at_replies (omega arith))
+  -- ---- requests are taken
+  module _ {bs : List BlockState} (x : Come Requests bs) where
+    pub can_take_requests : AllCanMake program TakeRequests bs
+    can_take_requests =
+        (half.half_law d partition bs all_open program x.left.at.blocks).can_take_requests x.there
+        (step.can_take_requests c n x.left.old x.left.events x.left.was.faults middle x.left.was.machine x.left.rooms.no_request_room x.left.all.requests (f bs) x.left.frame) (half_room 640 x.left.events bs x.left.at (omega arith))
 
-      -- ---- they have been taken
-      module _ (taken : List BlockState) (taken_is : taken ≡ all_made TakeReplies first program replies) where
-        are_taken : HaveFrame d partition TakeReplies program replies taken (takes_replies d (f replies))
-        are_taken = rw taken_is ((half.half_law d partition replies first program at_replies.blocks).replies_taken replies_there)
+    pub requests_taken : {now : List BlockState} → now ≡ all_made_own TakeRequests all_open bs → Made 960 (request_phase c middle) now
+    requests_taken {now = now} made =
+        let taken : HaveFrame d partition TakeRequests program bs now (takes_requests d n (f bs)) = rw made ((half.half_law d partition bs all_open program x.left.at.blocks).requests_taken n x.there x.left.at.done) in
+        let happens = (happenings_law d n partition program bs x.left.at.blocks).taking_requests x.there in
+        record {
+          events = x.left.events ++ combinations d n (f bs);
+          at = at_made 640 x.left.events bs x.left.at TakeRequests now (takes_requests d n (f bs)) (events_of_requests d n) (combinations d n (f bs)) taken refl (λ k h. rw (x.left.at.done k h) refl) happens;
+          frame = record { faults = x.left.was.faults; machine = step.requested c n x.left.old x.left.events x.left.was.faults middle x.left.was.machine x.left.rooms.no_request_room x.left.all.requests (f bs) x.left.frame (f now) taken.frame; clear = grind arith };
+        }
 
-        at_taken : AreAt 320 (deliveries d (f replies)) taken
-        at_taken =
-            let happens = (happenings_law d n partition program replies at_replies.blocks).taking_replies replies_there (λ p hp r is.
-            let sound = start.machine.machine.sound in
-            let well = delivered_well c start.machine.machine.range m sound.routes p hp in
-            let came = comes_home c n (f bs) (events_of d bs) (stops_of d bs) m start.machine.machine (noted d first) (first_noted d partition start.machine.blocks) (f replies) are_moved.frame p hp in
-            grind arith) in
-            at_made 0 [] replies at_replies TakeReplies taken (takes_replies d (f replies)) (events_of_replies d) (deliveries d (f replies)) are_taken refl (λ k h. refl) happens
+  -- ---- processing elements make a step, and the cycle is over
+  module _ {bs : List BlockState} (x : Made 960 (request_phase c middle) bs) (early : n < 2 ^ 32 - 1) where
+    pub can_execute : AllCanMake program Execute bs
+    can_execute =
+        (half.half_law d partition bs all_open program x.at.blocks).can_execute x.at.runs (grind (arith, x.at.done))
+        (step.can_execute c n (f bs) x.events x.frame.faults (request_phase c middle) x.frame.machine early) (half_room 960 x.events bs x.at (omega arith)) x.at.no_stops
 
-        frame_taken : IsFrameOf c n (f taken) (deliveries d (f replies)) [] (reply_phase c m)
-        frame_taken = step.replied c n (f bs) (events_of d bs) (stops_of d bs) m start.machine.machine (noted d first) (first_noted d partition start.machine.blocks) (f replies) are_moved.frame (f taken) are_taken.frame
+    pub next : {now : List BlockState} → now ≡ all_made_own Execute all_open bs → AreWhole c program partition (n + 1) now × (machine_in c partition (n + 1) now ≡ cycle c program first)
+    unfolding cycle
+    next {now = now} made =
+        let steps : HaveFrame d partition Execute program bs now (executes d program (f bs)) = rw (made, all_by_own program Execute all_open bs can_execute) ((half.half_law d partition bs all_open program x.at.blocks).executed) in
+        let happens = happenings_law d n partition program bs x.at.blocks in
+        let listed : AreMerged (event_rank d) 0 1280 (λ b. b.events) now (x.events ++ issues d program (f bs)) =
+        listed_behind (event_rank d) 0 960 1280 (omega arith) (omega arith) bs now steps.blocks.count (λ b. b.events) (events_of_steps d program) (λ b. b.events)
+        (λ k h. ap (λ (l : Lists). l.events) (steps.blocks.lists k h)) x.events (issues d program (f bs)) x.at.listed (happens.executing (λ p hp. ap (λ s. s.pe) (x.frame.machine.fits.sites p hp))) in
+        let stopped : AreMerged stop_rank 0 64 (λ b. b.stops) now (stops d program (f bs)) =
+        same_listed stop_rank 0 64 bs now (stops_of_steps d program) (λ b. b.stops) (stops d program (f bs)) steps.blocks.count
+        (λ k h. ap (λ (l : Lists). l.stops) (steps.blocks.lists k h) ∙ ap (λ ss. ss ++ stops_of_steps d program (block_at bs k)) (x.at.no_stops k h)) happens.stopping in
+        let all = merged_law d now _ _ listed stopped in
+        let machine : IsFrameOf c (n + 1) (f now) (events_of d now) (stops_of d now) (processor_phase c program (request_phase c middle)) = rw (all.0, all.1) (step.stepped c n (f bs) x.events x.frame.faults (request_phase c middle) x.frame.machine program (f now) steps.frame) in (
+          record {
+            machine = record { blocks = steps.blocks.blocks; runs = grind (arith, x.at.runs, steps.blocks); done = grind (arith, x.at.done, steps.blocks); machine = rw machine.machine machine };
+            clear = grind arith;
+            in_order = all.2;
+          },
+          machine.machine,
+        )
 
-        pub can_serve : AllCanMake program Serve taken
-        can_serve = half.can_serve_law program taken (half_room 320 (deliveries d (f replies)) taken at_taken (omega arith))
-
-        -- ---- memory has served
-        module _ (served : List BlockState) (served_is : served ≡ all_made Serve first program taken) where
-          have_served : HaveFrame d partition Serve program taken served (serves d (f taken))
-          have_served = rw served_is ((half.half_law d partition taken first program at_taken.blocks).served)
-
-          abbrev so_far : List Event
-          so_far = deliveries d (f replies) ++ servings d (f taken)
-
-          pub at_served : AreAt 640 so_far served
-          at_served =
-              let happens = (happenings_law d n partition program taken at_taken.blocks).serving in
-              at_made 320 (deliveries d (f replies)) taken at_taken Serve served (serves d (f taken)) (events_of_service d) (servings d (f taken)) have_served refl (λ k h. refl) happens
-
-          abbrev middle : Machine
-          middle = memory_phase c (reply_phase c m)
-
-          frame_served : IsFrameOf c n (f served) so_far [] middle
-          frame_served = step.served c n (f taken) (deliveries d (f replies)) [] (reply_phase c m) frame_taken (f served) have_served.frame
-
-          pub served_clear : IsClear d (f served)
-          served_clear = grind (arith, have_served, are_taken, are_moved)
-
-          -- ---- requests have left
-          module _ (second : Rooms) (second_noted : AreRoomsOfAll served second) (sent_on : List BlockState) (sent_on_is : sent_on ≡ all_made SendRequests second program served) where
-            are_sent_on : HaveFrame d partition SendRequests program served sent_on (sends_requests d (noted d second) (f served)) × AreSingle Requests sent_on
-            are_sent_on = rw sent_on_is ((half.half_law d partition served second program at_served.blocks).requests_sent served_clear.requests)
-
-            pub sent_on_cut : IsCut e partition sent_on
-            sent_on_cut = rw net are_sent_on.0.blocks.blocks.cut
-
-            pub sent_on_single : AreSingle Requests sent_on
-            sent_on_single = are_sent_on.1
-
-            pub at_sent_on : AreBlocksAfter d partition SendRequests program served sent_on
-            at_sent_on = are_sent_on.0.blocks
-
-            -- ---- they have been exchanged
-            module _ (requests : List BlockState) (moved_on : OnlyMove Requests sent_on requests) (there_now : AreThere Requests e partition requests) where
-              requests_there : AreThere Requests d partition requests
-              requests_there = rw (← net) there_now
-
-              are_moved_on : HaveFrame d partition SendRequests program served requests (sends_requests d (noted d second) (f served))
-              are_moved_on = still_frame Requests SendRequests served sent_on requests _ are_sent_on.0 moved_on
-
-              at_requests : AreAt 640 so_far requests
-              at_requests = at_same 640 so_far served at_served requests are_moved_on.blocks
-
-              pub can_take_requests : AllCanMake program TakeRequests requests
-              can_take_requests =
-                  (half.half_law d partition requests second program at_requests.blocks).can_take_requests requests_there
-                  (step.can_take_requests c n (f served) so_far [] middle frame_served (noted d second) (second_noted d partition at_served.blocks) (f requests) are_moved_on.frame) (half_room 640 so_far requests at_requests (omega arith))
-
-              -- ---- they have been taken
-              module _ (early : n < 2 ^ 32 - 1) (waiting : List BlockState) (waiting_is : waiting ≡ all_made TakeRequests second program requests) where
-                are_waiting : HaveFrame d partition TakeRequests program requests waiting (takes_requests d n (f requests))
-                are_waiting = rw waiting_is ((half.half_law d partition requests second program at_requests.blocks).requests_taken n requests_there at_requests.done)
-
-                abbrev before_steps : List Event
-                before_steps = so_far ++ combinations d n (f requests)
-
-                at_waiting : AreAt 960 before_steps waiting
-                at_waiting =
-                    let happens = (happenings_law d n partition program requests at_requests.blocks).taking_requests requests_there in
-                    at_made 640 so_far requests at_requests TakeRequests waiting (takes_requests d n (f requests)) (events_of_requests d n) (combinations d n (f requests)) are_waiting refl (λ k h. rw (at_requests.done k h) refl) happens
-
-                abbrev third : Machine
-                third = request_phase c middle
-
-                frame_waiting : IsFrameOf c n (f waiting) before_steps [] third
-                frame_waiting = step.requested c n (f served) so_far [] middle frame_served (noted d second) (second_noted d partition at_served.blocks) (f requests) are_moved_on.frame (f waiting) are_waiting.frame
-
-                pub can_execute : AllCanMake program Execute waiting
-                can_execute =
-                    (half.half_law d partition waiting second program at_waiting.blocks).can_execute at_waiting.runs (grind (arith, at_waiting))
-                    (step.can_execute c n (f waiting) before_steps [] third frame_waiting early) (half_room 960 before_steps waiting at_waiting (omega arith)) at_waiting.no_stops
-
-                -- ---- processing elements have made a step
-                module _ (stepped : List BlockState) (stepped_is : stepped ≡ all_made Execute second program waiting) where
-                  have_executed : HaveFrame d partition Execute program waiting stepped (executes d program (f waiting))
-                  have_executed = rw stepped_is ((half.half_law d partition waiting second program at_waiting.blocks).executed)
-
-                  -- ---- what the blocks have listed
-                  listed : AreMerged (event_rank d) 0 1280 (λ b. b.events) stepped (before_steps ++ issues d program (f waiting))
-                  listed =
-                      listed_behind (event_rank d) 0 960 1280 (omega arith) (omega arith) waiting stepped have_executed.blocks.count (λ b. b.events) (events_of_steps d program) (λ b. b.events)
-                      (λ k h. ap (λ (l : Lists). l.events) (have_executed.blocks.lists k h)) before_steps (issues d program (f waiting)) at_waiting.listed
-                      ((happenings_law d n partition program waiting at_waiting.blocks).executing (λ p hp. ap (λ s. s.pe) (frame_waiting.fits.sites p hp)))
-
-                  stopped : AreMerged stop_rank 0 64 (λ b. b.stops) stepped (stops d program (f waiting))
-                  stopped =
-                      same_listed stop_rank 0 64 waiting stepped (stops_of_steps d program) (λ b. b.stops) (stops d program (f waiting)) have_executed.blocks.count
-                      (λ k h. ap (λ (l : Lists). l.stops) (have_executed.blocks.lists k h) ∙ ap (λ ss. ss ++ stops_of_steps d program (block_at waiting k)) (at_waiting.no_stops k h)) (happenings_law d n partition program waiting at_waiting.blocks).stopping
-
-                  cycled : AreMachine c program partition (n + 1) (events_of d stepped) (stops_of d stepped) (cycle c program m) stepped
-                  unfolding cycle
-                  cycled = record {
-                    blocks = have_executed.blocks.blocks;
-                    runs = grind (arith, at_waiting, have_executed);
-                    done = grind (arith, at_waiting, have_executed);
-                    machine = let all = merged_law d stepped _ _ listed stopped in
-                        rw (all.0, all.1) (step.stepped c n (f waiting) before_steps [] third frame_waiting program (f stepped) have_executed.frame);
-                  }
-
-                  -- ---- the cycle is over
-                  pub next_machine : machine_in c partition (n + 1) stepped ≡ cycle c program m
-                  next_machine = cycled.machine.machine
-
-                  pub next_whole : AreWhole c program partition (n + 1) stepped
-                  next_whole = record {
-                    machine = subst (λ m. AreMachine c program partition (n + 1) (events_of d stepped) (stops_of d stepped) m stepped) (sym next_machine) cycled;
-                    clear = grind (arith, have_executed, are_waiting, are_moved_on, served_clear);
-                    in_order = (merged_law d stepped _ _ listed stopped).2;
-                  }
+pub ruleset stages = (replies_left, requests_left, left_cut, left_single, come, can_take_replies, replies_taken, can_serve, served, can_take_requests, requests_taken, can_execute, next)

@@ -1,18 +1,11 @@
 -- a machine cut into blocks by a partition, which names the block of each unit
 use Rattle.std.specs.Prelude.{◌≡◌, ℕ, ◌<◌, ◌==◌, ◌&&◌, Bool, nat_lt, List, [], ◌∷◌, Option, Some, None, length, map, slice_index, slice_index_or}
-use Rattle.std.specs.List.{list_all}
+use Rattle.ultra_cut.specs.Prelude.{list_all, empty_bank, unit_count, module_number, element_number, ports, switch_at, module_at, element_at, on_link, stands, Frame, Switch, ProcessingElement, Settings}
 use Rattle.ultra_switch.specs.Queues.{empty_requests, empty_replies}
-use Rattle.ultra_mem.specs.Serve.{empty_bank}
 use Rattle.ultra_isa.specs.Step.{fresh_core}
 use Rattle.ultra_pni.specs.Interface.{empty_interface}
-use Rattle.ultra_units.specs.Numbers.{unit_count, module_number, element_number}
-use Rattle.ultra_halves.specs.Halves.{ports}
 pub use Rattle.ultra_section.specs.BlockState.{BlockState}
-use Rattle.ultra_section.specs.BlockState.{switch_at, module_at, element_at}
-use Rattle.ultra_section.specs.Marks.{on_link}
-use Rattle.ultra_section.specs.Away.{stands}
-use Rattle.ultra_course.specs.Frame.{Frame, Switch, ProcessingElement}
-use Rattle.ultra_course.specs.Whole.{Settings}
+use Rattle.ultra_section.specs.Building.{empty_block}
 
 -- a partition names a block, 0 to 63, for each unit: switches first, then modules, then processing
 -- elements. That many blocks are this project's profile
@@ -21,18 +14,7 @@ is_partition c bs = (length bs == unit_count c.stages) && list_all (λ b. nat_lt
 
 -- what stands where there is nothing
 abbrev pub no_block : BlockState
-no_block = record {
-  stages = 0;
-  done = 0;
-  program = [];
-  switches = [];
-  modules = [];
-  elements = [];
-  replies = [];
-  requests = [];
-  events = [];
-  stops = [];
-}
+no_block = empty_block 0 []
 
 abbrev pub no_switch : Switch
 no_switch = record {

@@ -1,9 +1,7 @@
 -- what blocks list in a cycle, in the order of the rules
 use Rattle.std.specs.Prelude.{ℕ, ◌+◌, ◌/◌, List, map}
+use Rattle.ultra_cut.specs.Prelude.{switch_number, module_number, element_number, IsRanked, merged, Event, Stop}
 use Rattle.ultra_msg.specs.declared.Event.TheVariants.{Delivered, Served, Combined, Issued}
-use Rattle.ultra_units.specs.Numbers.{switch_number, module_number, element_number}
-use Rattle.ultra_merge.specs.Merging.{IsRanked, merged}
-use Rattle.ultra_course.specs.Course.{Event, Stop}
 use Rattle.ultra_cut.specs.Cut.{BlockState}
 
 -- the order in which the rules list what happens in a cycle of a machine of d stages: deliveries by

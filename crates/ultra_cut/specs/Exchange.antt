@@ -1,13 +1,10 @@
 -- messages go to the block of the unit to which they lead. What is said of replies and of requests
 -- is said of a kind
-use Rattle.std.specs.Prelude.{◌≡◌, ◌≢◌, ℕ, ◌+◌, ◌*◌, ◌^◌, ◌<◌, ◌≤◌, ◌==◌, List, Option, Some, None, true, false, length, map, slice_set}
-use Rattle.ultra_units.specs.Numbers.{unit_count}
-use Rattle.ultra_section.specs.Marks.{on_link, without_both}
-use Rattle.ultra_section.specs.Away.{AreEmpty, put_on_both, reply_inlets, request_inlets, stands, taken_by_turns}
+use Rattle.std.specs.Prelude.{◌≡◌, ◌≢◌, ℕ, ◌+◌, ◌*◌, ◌^◌, ◌<◌, ◌==◌, List, Option, Some, None, true, false, length, map, slice_set}
+use Rattle.ultra_cut.specs.Prelude.{unit_count, on_link, without_both, AreEmpty, put_on_both, reply_inlets, request_inlets, taken_by_turns, Request, ReplyMessage, Ports}
 pub use Rattle.ultra_cut.specs.declared.kind.Kind.{Kind}
 pub use Rattle.ultra_cut.specs.declared.kind.Kind.TheVariants.{Replies, Requests}
 use Rattle.ultra_cut.specs.Cut.{block_at, home, first, BlockState}
-use Rattle.ultra_course.specs.Frame.{Request, ReplyMessage, Ports}
 
 abbrev pub MessageOf : Kind → Type 0
 MessageOf Replies = ReplyMessage
@@ -63,18 +60,6 @@ AreThere kind d partition bs =
     (k n : ℕ) → k < length bs → n < unit_count d → HasNoneFor kind d partition bs k n
 
 -- ---- one move
--- nothing leads from a block to a unit that stands elsewhere, from number `from` on and below `to`
-abbrev pub NoneLeavesWithin : Kind → BlockState → ℕ → ℕ → Type 0
-NoneLeavesWithin kind b from to =
-    (n : ℕ) → from ≤ n → n < to → stands n b ≡ false
-    → AreEmpty (table kind b) (inlets kind b.stages n)
-
--- unit n is the first from `from` on to which something may lead from the block
-pub record IsNext (kind : Kind) (b : BlockState) (from n : ℕ) : Type 0 where
-  pub after : from ≤ n
-  pub within : n < 320
-  pub between : NoneLeavesWithin kind b from n
-
 -- what block k has on the inlets p of a unit goes to block h
 abbrev pub carried : Kind → ℕ → ℕ → Ports ℕ → List BlockState → List BlockState
 carried kind k h p bs =

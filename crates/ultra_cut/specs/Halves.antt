@@ -1,37 +1,23 @@
 -- what each half of a cycle does to a machine cut into blocks, what it asks, and what blocks list
 -- in it
-use Rattle.std.specs.Prelude.{◌≡◌, ℕ, ◌+◌, ◌<◌, ◌≤◌, not, List, length, map, ◌-◌, ◌*◌, ◌^◌, [], None, ◌∷◌, Option, Some, ◌++◌, All}
+use Rattle.std.specs.Prelude.{◌≡◌, ℕ, ◌+◌, ◌<◌, ◌≤◌, List, length, map, ◌-◌, ◌*◌, ◌^◌, [], None, ◌∷◌, Option, Some, ◌++◌, All}
+use Rattle.ultra_cut.specs.Prelude.{served, switch_count, Rooms as BlockRooms, most_events, switch_at, module_at, element_at, stage_of, index_of, on_link, on_both, delivery_link, request_links, Frame, AreClosedToReplies, AreClosedToRequests, AreAlike, ReplyMessage, Switch, ProcessingElement, executes, sends_replies, sends_requests, serves, takes_replies, takes_requests, reply_to, deliveries, servings, combinations, issues, stops, Event, Instr, Stop, IsRanked, of_rank}
 use Rattle.std.specs.Option.{ForSome}
-use Rattle.ultra_mem.specs.Serve.{served}
 use Rattle.ultra_model.specs.Places.{places, present, joined}
 use Rattle.ultra_model.specs.Phases.{delivery, serving, issue_event, stop_of}
-use Rattle.ultra_units.specs.Set.{has_unit}
-use Rattle.ultra_units.specs.Numbers.{module_number, switch_count}
 use Rattle.ultra_halves.specs.Switches.{combinations_of}
 use Rattle.ultra_halves.specs.Elements.{element_of, step_at}
 pub use Rattle.ultra_section.specs.declared.half.Half.{Half}
-use Rattle.ultra_section.specs.declared.rooms.Rooms.{Rooms as BlockRooms}
-use Rattle.ultra_section.specs.BlockState.{most_events, switch_at, module_at, element_at}
 use Rattle.ultra_section.specs.Shape.{IsShaped}
 use Rattle.ultra_section.specs.Making.{CanMake, made, own_made}
 pub use Rattle.ultra_section.specs.declared.half.Half.TheVariants.{SendReplies, TakeReplies, Serve, SendRequests, TakeRequests, Execute}
-use Rattle.ultra_section.specs.Units.{stage_of, index_of}
-use Rattle.ultra_section.specs.Marks.{on_link, on_both, delivery_link, request_links}
-use Rattle.ultra_course.specs.Frame.{Frame, Rooms, AreAlike, at_port, ReplyMessage, Switch, ProcessingElement}
-use Rattle.ultra_course.specs.Course.{executes, sends_replies, sends_requests, serves, takes_replies, takes_requests, reply_to, deliveries, servings, combinations, issues, stops, Event, Instr, Stop}
 use Rattle.ultra_course.specs.Law.{CanExecute, CanTakeReplies, CanTakeRequests}
-use Rattle.ultra_merge.specs.Merging.{IsRanked, of_rank}
-use Rattle.ultra_cut.specs.Cut.{IsCut, block_at, frame_of, first, BlockState}
-use Rattle.ultra_cut.specs.Exchange.{AreThere, AreSingle, on_each, Kind, Replies, Requests}
-use Rattle.ultra_cut.specs.Events.{IsInOrder, event_rank, events_of, stop_rank, stops_of}
+use Rattle.ultra_cut.specs.{Cut.IsCut, Cut.block_at, Cut.frame_of, Cut.first, Cut.BlockState, Exchange.AreThere, Exchange.AreSingle, Exchange.on_each, Exchange.Kind, Exchange.Replies, Exchange.Requests, Events.IsInOrder, Events.event_rank, Events.events_of, Events.stop_rank, Events.stops_of}
 
--- what has room in the machine, as its blocks have noted it
-abbrev pub noted : ℕ → BlockRooms → Rooms
-noted d rooms = record {
-  reply = λ n. not (has_unit rooms.no_reply_room n);
-  request = λ n j. not (has_unit (at_port rooms.no_request_room j) n);
-  bank = λ m. not (has_unit rooms.no_request_room.zero (module_number d m));
-}
+-- these are the rooms of a frame of a machine of d stages, as its blocks have noted them
+pub record AreRooms (d : ℕ) (f : Frame) (rooms : BlockRooms) : Type 0 where
+  pub replies : AreClosedToReplies d f rooms.no_reply_room
+  pub requests : AreClosedToRequests d f rooms.no_request_room
 
 -- every block makes the half, of a machine that runs the program
 abbrev pub all_made : Half → BlockRooms → List Instr → List BlockState → List BlockState
@@ -183,7 +169,7 @@ module _ (d : ℕ) (partition : List ℕ) where
       pub record HalfLaws : Type 0 where
         pub replies_sent :
             HasNone Replies d bs
-            → Become SendReplies (sends_replies d (noted d rooms) f)
+            → Become SendReplies (sends_replies d rooms.no_reply_room f)
             × AreSingle Replies (all_made SendReplies rooms program bs)
         pub replies_taken :
             AreThere Replies d partition bs → Become TakeReplies (takes_replies d f)
@@ -193,7 +179,7 @@ module _ (d : ℕ) (partition : List ℕ) where
         pub served : Become Serve (serves d f)
         pub requests_sent :
             HasNone Requests d bs
-            → Become SendRequests (sends_requests d (noted d rooms) f)
+            → Become SendRequests (sends_requests d rooms.no_request_room f)
             × AreSingle Requests (all_made SendRequests rooms program bs)
         pub requests_taken :
             (n : ℕ) → AreThere Requests d partition bs

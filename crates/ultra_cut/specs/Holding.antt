@@ -1,15 +1,11 @@
 -- which units of a whole machine of d stages hold something
 use Rattle.std.specs.Prelude.{ℕ, ◌+◌, ◌*◌, List, Bool, false, not, ◌&&◌}
-use Rattle.ultra_model.specs.Machine.{Element, lane_at, replies_at, bank_at, element_at}
-use Rattle.ultra_halves.specs.Halves.{has_none}
+use Rattle.ultra_cut.specs.Prelude.{Element, lane_at, replies_at, bank_at, has_none, of_unit, whole, Settings, Machine, Event, Stop}
+use Rattle.ultra_model.specs.Machine.{element_at}
 use Rattle.ultra_section.specs.declared.held.Held.{Held}
 use Rattle.ultra_section.specs.declared.held.Held.TheVariants.{Reply, Request, Record}
-use Rattle.ultra_section.specs.Units.{of_unit}
 use Rattle.ultra_section.specs.Holding.{IsSetOf, module_holds}
-use Rattle.ultra_course.specs.Whole.{whole, Settings, Machine}
-use Rattle.ultra_cut.specs.Cut.{frame_of, BlockState}
-use Rattle.ultra_cut.specs.Halves.{AreBlocks}
-use Rattle.ultra_course.specs.Course.{Event, Stop}
+use Rattle.ultra_cut.specs.{Cut.frame_of, Cut.BlockState, Halves.AreBlocks}
 
 -- switch k of stage s: in the queues or wait buffers of its two positions
 abbrev pub stage_holds : Machine → Held → ℕ → ℕ → Bool

@@ -1,3 +1,4 @@
+pub mod Prelude
 pub mod Cut
 pub mod Exchange
 pub mod Events

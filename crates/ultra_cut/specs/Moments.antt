@@ -1,13 +1,7 @@
 -- a machine cut into blocks in the course of a cycle, and what is asked of it, however it is cut
 use Rattle.std.specs.Prelude.{◌≡◌, ℕ, List, Bool}
-use Rattle.ultra_model.specs.Machine.{is_quiet}
-use Rattle.ultra_section.specs.declared.rooms.Rooms.{Rooms}
-use Rattle.ultra_course.specs.Frame.{IsClear, AreRooms}
-use Rattle.ultra_course.specs.Whole.{IsFrameOf, whole, Settings, Machine}
-use Rattle.ultra_cut.specs.Cut.{frame_of, BlockState}
-use Rattle.ultra_cut.specs.Halves.{AreBlocks, OfEach, noted}
-use Rattle.ultra_cut.specs.Events.{IsInOrder, events_of, stops_of}
-use Rattle.ultra_course.specs.Course.{Event, Instr, Stop}
+use Rattle.ultra_cut.specs.Prelude.{is_quiet, Rooms, IsClear, IsFrameOf, whole, Settings, Machine, Event, Instr, Stop}
+use Rattle.ultra_cut.specs.{Cut.frame_of, Cut.BlockState, Halves.AreBlocks, Halves.AreRooms, Halves.OfEach, Events.IsInOrder, Events.events_of, Events.stops_of}
 
 -- each block runs the program and has made n cycles, and together they are the machine m, in which
 -- this has happened in the cycle so far
@@ -37,7 +31,7 @@ pub record AreWhole (c : Settings) (program : List Instr) (partition : List ℕ)
 abbrev pub AreRoomsOfAll : List BlockState → Rooms → Type 0
 AreRoomsOfAll bs rooms =
     (d : ℕ) (partition : List ℕ)
-    → AreBlocks d partition bs → AreRooms d (frame_of d partition bs) (noted d rooms)
+    → AreBlocks d partition bs → AreRooms d (frame_of d partition bs) rooms
 
 -- this is whether that machine is quiet
 abbrev pub IsQuietOfAll : List BlockState → Bool → Type 0

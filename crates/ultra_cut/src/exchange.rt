@@ -1,10 +1,8 @@
 //! Messages go from the block in which they were sent to the block of the unit to which they lead.
 
 ghost use Rattle.std.specs.Prelude.{◌≡◌, ℕ, ◌<◌, IfNone, IfSome, length};
-ghost use Rattle.ultra_units.specs.Numbers.{unit_count};
-ghost use Rattle.ultra_cut.specs.Cut.{IsCut, block_at, home};
-ghost use Rattle.ultra_cut.specs.Exchange.{AreSingle, AreThere, HasLinks, HasNoneFor, IsNext, NoneLeavesWithin, OnlyMove, moved};
-ghost use Rattle.ultra_cut.specs.declared.kind.Kind.TheVariants.{Replies, Requests};
+ghost use Rattle.ultra_cut.specs.Prelude.{unit_count, AllStayWithin, IsNextAway};
+ghost use Rattle.ultra_cut.specs.{Cut.IsCut, Cut.block_at, Cut.home, Exchange.AreSingle, Exchange.AreThere, Exchange.HasLinks, Exchange.HasNoneFor, Exchange.OnlyMove, Exchange.inlets, Exchange.moved, Exchange.table};
 
 use crate::kind::Kind;
 use ultra_route::Net;
@@ -13,8 +11,8 @@ use ultra_section::{Block, reply_inlets, request_inlets};
 /// The first unit from `from` on to which messages may lead from a block, if it stands elsewhere.
 #[inline(always)]
 fn next_for(block: &Block, kind: Kind, from: usize) -> Option<usize>
-    ensures some { IfSome result (λ n. IsNext kind block.now from n) }
-    ensures none { IfNone result (NoneLeavesWithin kind block.now from 320) }
+    ensures some { IfSome result (λ n. IsNextAway (table kind block.now) (inlets kind block.now.stages) block.now from n) }
+    ensures none { IfNone result (AllStayWithin (table kind block.now) (inlets kind block.now.stages) block.now from 320) }
 {
     match kind {
         Kind::Replies => block.next_for_replies(from),
@@ -71,13 +69,13 @@ fn move_home(blocks: &mut [Block], partition: &[u8], kind: Kind, net: Net, from:
     move_messages(blocks, kind, net, from, home, unit);
 }
 
-/// Moves each message to the block of the unit to which it leads; nothing else changes. A block whose messages all lead to its own units is skipped.
+/// Moves each message of a kind to the block of the unit to which it leads; nothing else changes. A block whose messages all lead to its own units is skipped.
 #[inline(always)]
-fn exchange(blocks: &mut [Block], partition: &[u8], kind: Kind, net: Net)
+pub fn exchange_messages(blocks: &mut [Block], partition: &[u8], kind: Kind, net: Net)
     requires cut { IsCut net partition.now blocks.old }
     requires single { AreSingle kind blocks.old }
     ensures only { OnlyMove kind blocks.old blocks.new }
-    ensures there { (k n : ℕ) → k < length blocks.new → n < unit_count net → HasNoneFor kind net partition.now blocks.new k n }
+    ensures there { AreThere kind net partition.now blocks.new }
 {
     let _stages = net.stages();
     for from in 0..blocks.len() {
@@ -87,26 +85,4 @@ fn exchange(blocks: &mut [Block], partition: &[u8], kind: Kind, net: Net)
             next = unit + 1;
         }
     }
-}
-
-/// Moves each reply to the block of the unit to which it leads; nothing else changes.
-#[inline(always)]
-pub fn exchange_replies(blocks: &mut [Block], partition: &[u8], net: Net)
-    requires cut { IsCut net partition.now blocks.old }
-    requires single { AreSingle Replies blocks.old }
-    ensures only { OnlyMove Replies blocks.old blocks.new }
-    ensures there { AreThere Replies net partition.now blocks.new }
-{
-    exchange(blocks, partition, Kind::Replies, net);
-}
-
-/// Moves each request to the block of the unit to which it leads; nothing else changes.
-#[inline(always)]
-pub fn exchange_requests(blocks: &mut [Block], partition: &[u8], net: Net)
-    requires cut { IsCut net partition.now blocks.old }
-    requires single { AreSingle Requests blocks.old }
-    ensures only { OnlyMove Requests blocks.old blocks.new }
-    ensures there { AreThere Requests net partition.now blocks.new }
-{
-    exchange(blocks, partition, Kind::Requests, net);
 }

@@ -10,6 +10,9 @@ use ultra_units::UnitSet;
 pub fn holders(blocks: &[Block], held: Held) -> UnitSet
     ensures { IsSetOfAll blocks.now held result }
 {
+    if blocks.len() == 1 {
+        return *blocks[0].holding(held);
+    }
     let mut all = UnitSet::empty();
     for block in blocks {
         all.add_all(block.holding(held));

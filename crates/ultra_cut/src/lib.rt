@@ -9,8 +9,9 @@ mod laws;
 mod quiet;
 mod rooms;
 
-pub use exchange::{exchange_replies, exchange_requests};
+pub use exchange::exchange_messages;
 pub use holding::holders;
+pub use kind::Kind;
 pub use laws::{half_laws, happening_laws};
 pub use quiet::are_quiet;
 pub use rooms::note_rooms;

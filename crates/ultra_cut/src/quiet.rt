@@ -1,7 +1,7 @@
 //! Whether anything is left to do in a machine.
 
 ghost use Rattle.std.specs.Prelude.{◌≡◌, false, true};
-ghost use Rattle.std.specs.List.{list_all};
+ghost use Rattle.ultra_cut.specs.Prelude.{list_all};
 ghost use Rattle.ultra_section.specs.Quiet.{quiet_block};
 ghost use Rattle.ultra_cut.specs.Moments.{IsQuietOfAll};
 

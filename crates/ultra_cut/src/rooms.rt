@@ -6,6 +6,7 @@ use ultra_section::{Block, Rooms};
 
 /// Each block notes which of its switches, queues and modules have no room. The rooms are those of the whole machine, however it is cut.
 #[inline(always)]
+#[tactic(auto, using(crate::proofs::Questions::next_noted))]
 pub fn note_rooms(blocks: &[Block]) -> Rooms
     ensures { AreRoomsOfAll blocks.now result }
 {

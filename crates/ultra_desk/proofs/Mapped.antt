@@ -1,6 +1,5 @@
 -- a list whose elements are changed one after the other
-use Rattle.std.proofs.Common.{◌≡◌, ℕ, ◌+◌, ◌<◌, ◌≤◌, List, [], ◌∷◌, ◌++◌, arith, ap, ◌∙◌, sym, length, get_or, set, take, drop, append_assoc, subst}
-use Rattle.std.specs.Prelude.{map, All}
+use Rattle.std.proofs.Common.{◌≡◌, ℕ, ◌+◌, ◌<◌, ◌≤◌, List, [], ◌∷◌, ◌++◌, arith, ap, ◌∙◌, sym, length, get_or, set, take, drop, append_assoc, subst, map, All}
 use Rattle.std.proofs.lemmas.List.{map-append, take_more, drop_more, set_at, get_or_at, length-map, length-take-le, take_all, drop_all, append-nil}
 
 module _ {X : Type 0} (f : X → X) where

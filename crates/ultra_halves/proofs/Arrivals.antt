@@ -1,16 +1,11 @@
 -- a request that arrives takes at most one place of a queue and frees none, and the record that is kept gives its combination
-use Rattle.std.proofs.lemmas.Grind.{common_steps}
-use Rattle.std.proofs.Common.{◌≡◌, ℕ, ◌+◌, ◌-◌, ◌≤◌, List, [], ◌∷◌, ◌++◌, refl, arith, length, length-append}
-use Rattle.std.specs.Prelude.{Option, Some, IfSome, slice_get, not}
-use Rattle.ultra_msg.specs.declared.Request.{Request}
+use Rattle.std.proofs.Common.{◌≡◌, ℕ, ◌+◌, ◌-◌, ◌≤◌, List, [], ◌∷◌, ◌++◌, refl, arith, length, length-append, Option, Some, IfSome, slice_get, not}
+use Rattle.ultra_halves.proofs.Common.{common_steps, Request, WaitRecord, combination_event, arrive_all}
 use Rattle.ultra_msg.specs.declared.Event.TheVariants.{Combined}
 use Rattle.ultra_msg.specs.Pair.{is_fixed}
 use Rattle.ultra_switch.specs.declared.Entry.{Entry}
-use Rattle.ultra_switch.specs.declared.WaitRecord.{WaitRecord}
 use Rattle.ultra_switch.specs.declared.Arrived.TheVariants.{CombinedWith}
 use Rattle.ultra_switch.specs.Arrive.{Lane, Combination, combine, after_arrival, arrive, outcome}
-use Rattle.ultra_halves.specs.Halves.{combination_event}
-use Rattle.ultra_model.specs.Phases.{arrive_all}
 
 -- ---- how long the queue is
 abbrev KeepsLength : List Entry → Option Combination → Type 0

@@ -1,15 +1,10 @@
 -- the combinations of two requests that come to a switch, in the order of the positions
-use Rattle.std.proofs.lemmas.Grind.{common_steps}
-use Rattle.std.proofs.Common.{◌≡◌, ℕ, suc, ◌+◌, ◌-◌, List, [], ◌∷◌, ◌++◌, true, false, get_or, length, length-append, set, refl, ap, ◌∙◌, arith}
-use Rattle.std.specs.Prelude.{◌&&◌, ◌||◌, ◌↔◌, is_some, not, Option}
+use Rattle.std.proofs.Common.{◌≡◌, ℕ, suc, ◌+◌, ◌-◌, List, [], ◌∷◌, ◌++◌, true, false, get_or, length, length-append, set, refl, ap, ◌∙◌, arith, ◌&&◌, ◌||◌, ◌↔◌, is_some, not, Option}
+use Rattle.ultra_halves.proofs.Common.{common_steps, Request, Event, SizedLane, lane_with, leaves_by, coming_to, combination_by, is_turned, in_order}
 use Rattle.std.proofs.lemmas.List.{append-nil, get_or_at, get_or-append-add}
-use Rattle.ultra_msg.specs.declared.Request.{Request}
-use Rattle.ultra_msg.specs.declared.Event.{Event}
 use Rattle.ultra_switch.specs.declared.Ports.{Ports}
 use Rattle.ultra_switch.specs.declared.Switch.{Switch}
-use Rattle.ultra_switch.specs.Queues.{SizedLane}
 use Rattle.ultra_model.specs.Places.{present}
-use Rattle.ultra_halves.specs.Halves.{lane_with, leaves_by, coming_to, combination_by, is_turned, in_order}
 use Rattle.ultra_halves.specs.Switches.{combinations_of_both}
 
 -- a request leaves a stage by port 1 where it doesn't by port 0

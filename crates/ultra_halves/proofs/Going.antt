@@ -1,13 +1,9 @@
 -- how much room is left where replies come to a switch
-use Rattle.std.proofs.Common.{◌≡◌, ℕ, ◌+◌, ◌≤◌, List, [], ◌∷◌, true, arith, length, length-append}
-use Rattle.std.specs.Prelude.{Option}
+use Rattle.std.proofs.Common.{◌≡◌, ℕ, ◌+◌, ◌≤◌, List, [], ◌∷◌, true, arith, length, length-append, Option}
+use Rattle.ultra_halves.proofs.Common.{WaitRecord, SizedReplies, replies_made, going_by, with_replies, has_room_for}
 use Rattle.std.proofs.lemmas.List.Sums.{count_by-le-length, length-filter}
 use Rattle.ultra_msg.specs.declared.ReplyMessage.{ReplyMessage}
-use Rattle.ultra_switch.specs.declared.WaitRecord.{WaitRecord}
 use Rattle.ultra_switch.specs.Split.{replies_of}
-use Rattle.ultra_switch.specs.Queues.{SizedReplies}
-use Rattle.ultra_model.specs.Phases.{replies_made}
-use Rattle.ultra_halves.specs.Halves.{going_by, with_replies, has_room_for}
 
 two_replies : (m : ReplyMessage) (ws : List WaitRecord) → length (replies_of m ws) ≤ 2
 two_replies m [] = omega arith

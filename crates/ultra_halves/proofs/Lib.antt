@@ -1,3 +1,4 @@
+pub mod Common
 pub mod Arrivals
 pub mod Going
 pub mod Combinations

@@ -1,13 +1,10 @@
 -- a processing element that can make no step is left as it is by one, and still can make none when a request has left it
-use Rattle.std.proofs.Common.{◌≡◌, ◌≢◌, ℕ, List, length-append, true, false, arith}
-use Rattle.std.specs.Prelude.{Some, None}
-use Rattle.ultra_msg.specs.declared.Event.{Event}
+use Rattle.std.proofs.Common.{◌≡◌, ◌≢◌, ℕ, List, length-append, true, false, arith, Some, None}
+use Rattle.ultra_halves.proofs.Common.{Event, issue_event, stop_of}
 use Rattle.ultra_isa.specs.declared.Instr.{Instr}
 use Rattle.ultra_isa.specs.Step.{has_stopped}
 use Rattle.ultra_model.specs.declared.Stop.{Stop}
-use Rattle.ultra_model.specs.Phases.{issue_event, stop_of}
-use Rattle.ultra_halves.specs.Elements.{element_of, step_at, executed, is_at_rest, holds_request}
-use Rattle.ultra_halves.specs.declared.elements.ProcessingElement.{ProcessingElement}
+use Rattle.ultra_halves.specs.{Elements.element_of, Elements.step_at, Elements.executed, Elements.is_at_rest, Elements.holds_request, declared.elements.ProcessingElement.ProcessingElement}
 
 module _ (program : List Instr) (e : ProcessingElement) where
   -- one that is at rest: a step leaves it as it is, issues nothing, and doesn't stop it

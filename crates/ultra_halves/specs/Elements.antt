@@ -1,18 +1,8 @@
 -- a processing element after each half of a cycle
 use Rattle.std.specs.Prelude.{List, Bool, not, ◌&&◌, Option, Some, None}
-use Rattle.ultra_msg.specs.declared.ReplyMessage.{ReplyMessage}
-use Rattle.ultra_msg.specs.declared.Event.{Event}
-use Rattle.ultra_isa.specs.declared.Instr.{Instr}
-use Rattle.ultra_isa.specs.Step.{Stepped, has_stopped, step_of}
+use Rattle.ultra_halves.specs.Prelude.{ReplyMessage, Event, Instr, Stepped, has_stopped, step_of, after_leaving, Element, deliver, stepped}
 use Rattle.ultra_model.specs.declared.Stop.{Stop}
-use Rattle.ultra_model.specs.Places.{after_leaving}
-use Rattle.ultra_model.specs.Machine.{Element}
-use Rattle.ultra_model.specs.Phases.{deliver, stepped}
-use Rattle.ultra_halves.specs.Halves.{has_none}
-use Rattle.ultra_halves.specs.Rest.{can_only_stall}
-use Rattle.ultra_halves.specs.declared.elements.ProcessingElement.{ProcessingElement}
-use Rattle.ultra_halves.specs.declared.elements.Outcome.{Outcome}
-use Rattle.ultra_halves.specs.declared.elements.Outcome.TheVariants.{Done, Issued, Faulted, AtRest}
+use Rattle.ultra_halves.specs.{Halves.has_none, Rest.can_only_stall, declared.elements.ProcessingElement.ProcessingElement, declared.elements.Outcome.Outcome, declared.elements.Outcome.TheVariants.Done, declared.elements.Outcome.TheVariants.Issued, declared.elements.Outcome.TheVariants.Faulted, declared.elements.Outcome.TheVariants.AtRest}
 
 -- what the definition of the whole machine sees of it
 abbrev pub element_of : ProcessingElement → Element

@@ -1,17 +1,8 @@
 -- what the halves of a cycle do at one port of a switch of a machine of d stages
 use Rattle.std.specs.Prelude.{ℕ, ◌+◌, ◌-◌, ◌*◌, ◌%◌, ◌^◌, List, [], ◌∷◌, ◌++◌, Bool, true, false, ◌==◌, ◌&&◌, nat_le, length, Option, Some, None}
-use Rattle.std.specs.List.{filter}
-use Rattle.ultra_msg.specs.declared.Request.{Request}
-use Rattle.ultra_msg.specs.declared.ReplyMessage.{ReplyMessage}
-use Rattle.ultra_msg.specs.declared.Event.{Event}
-use Rattle.ultra_msg.specs.declared.Event.TheVariants.{Combined}
+use Rattle.ultra_halves.specs.Prelude.{filter, Request, ReplyMessage, Event, Combined, bit_of, Ports, SizedLane, SizedReplies, after_leaving, records_left, replies_made, arrive_all}
 use Rattle.ultra_msg.specs.Pair.{pair_of}
-use Rattle.ultra_route.specs.Route.{bit_of}
-use Rattle.ultra_switch.specs.declared.Ports.{Ports}
 use Rattle.ultra_switch.specs.Arrive.{Combination, combine_within}
-use Rattle.ultra_switch.specs.Queues.{SizedLane, SizedReplies}
-use Rattle.ultra_model.specs.Places.{after_leaving}
-use Rattle.ultra_model.specs.Phases.{records_left, replies_made, arrive_all}
 
 abbrev pub ports : {X : Type 0} → X → X → Ports X
 ports x y = record { zero = x; one = y }

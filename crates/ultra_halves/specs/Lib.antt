@@ -1,3 +1,4 @@
+pub mod Prelude
 pub mod Halves
 pub mod Switches
 pub mod Modules

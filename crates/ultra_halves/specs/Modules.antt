@@ -1,8 +1,7 @@
 -- a memory module after each half of a cycle
 use Rattle.std.specs.Prelude.{ℕ, ◌/◌, Bool, ◌&&◌, Option, Some, None}
-use Rattle.ultra_msg.specs.declared.Request.{Request}
+use Rattle.ultra_halves.specs.Prelude.{Request, is_nothing}
 use Rattle.ultra_mem.specs.Serve.{Bank}
-use Rattle.ultra_model.specs.Machine.{is_nothing}
 
 -- a request goes into the register of a module, one of n, with the offset of its cell
 abbrev pub bank_with : ℕ → Bank → Option Request → Bank

@@ -1,11 +1,9 @@
 -- a processing element that can make no step: it has stopped, or it has to wait for a reply
 use Rattle.std.specs.Prelude.{ℕ, List, Bool, false, not, ◌&&◌, ◌||◌, ◌==◌, nat_lt, nat_le, length, Option, Some, None, slice_get}
-use Rattle.std.specs.List.{list_any}
+use Rattle.ultra_halves.specs.Prelude.{list_any, Instr, Core, has_stopped}
 use Rattle.ultra_pni.specs.declared.OpenCell.{OpenCell}
 use Rattle.ultra_pni.specs.Interface.{is_open, is_awaited}
-use Rattle.ultra_isa.specs.declared.Instr.{Instr}
 use Rattle.ultra_isa.specs.Instruction.{Site, names, Effect, sets, goes_on_at, refers, waits, halts, effect}
-use Rattle.ultra_isa.specs.Step.{Core, has_stopped}
 
 -- at a processing element that may hold at most `most_open` cells open, and holds these open
 module _ (s : Site) (most_open : ℕ) (opened : List OpenCell) where

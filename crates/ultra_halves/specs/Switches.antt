@@ -1,13 +1,7 @@
 -- a switch after each half of a cycle, at stage s of a machine of d stages
 use Rattle.std.specs.Prelude.{ℕ, ◌+◌, ◌*◌, List, ◌++◌, Bool, ◌&&◌, not, IsTrue, Option, slice_get}
-use Rattle.std.specs.Option.{ForSome}
-use Rattle.ultra_msg.specs.declared.Request.{Request}
-use Rattle.ultra_msg.specs.declared.ReplyMessage.{ReplyMessage}
-use Rattle.ultra_msg.specs.declared.Event.{Event}
-use Rattle.ultra_switch.specs.declared.Ports.{Ports}
+use Rattle.ultra_halves.specs.Prelude.{ForSome, Request, ReplyMessage, Event, Ports, SizedLane, request_of, combinations}
 use Rattle.ultra_switch.specs.declared.Switch.{Switch}
-use Rattle.ultra_switch.specs.Queues.{SizedLane, request_of}
-use Rattle.ultra_model.specs.Phases.{combinations}
 use Rattle.ultra_halves.specs.Halves.{ports, where_room, has_none, replies_without, has_room_for, lane_after_reply, with_arrived, lane_without, lane_with, has_place_for, leaves_by, both_coming, first_of, second_of}
 
 -- ---- replies

@@ -1,8 +1,7 @@
 //! Processing elements, and what the halves of a cycle do to one.
 
 ghost use Rattle.std.specs.Prelude.{◌≡◌, ℕ, ◌+◌, ◌-◌, ◌^◌, ◌<◌, ◌↔◌, Some, IsSome, IsTrue, length, not, slice_get};
-ghost use Rattle.ultra_isa.specs.Step.{has_stopped};
-ghost use Rattle.ultra_model.specs.Phases.{issue_event, stop_of};
+ghost use Rattle.ultra_halves.specs.Prelude.{has_stopped, issue_event, stop_of};
 
 use ultra_isa::{Processor, Program, Step};
 use ultra_model::Stop;

@@ -1,9 +1,8 @@
 //! What the halves of a cycle do to a memory module. It serves by `Module::serve`.
 
 ghost use Rattle.std.specs.Prelude.{◌≡◌, ℕ, ◌/◌, ◌^◌, ◌<◌, Some, None, is_some, length};
-ghost use Rattle.ultra_model.specs.Phases.{without_reply};
-ghost use Rattle.ultra_halves.specs.Halves.{where_room};
-ghost use Rattle.ultra_halves.specs.Modules.{bank_with, quiet_bank};
+ghost use Rattle.ultra_halves.specs.Prelude.{without_reply};
+ghost use Rattle.ultra_halves.specs.{Halves.where_room, Modules.bank_with, Modules.quiet_bank};
 
 use ultra_mem::Module;
 use ultra_msg::{ReplyPacket, RequestPacket};

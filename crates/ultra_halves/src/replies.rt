@@ -1,8 +1,7 @@
 //! Replies on their way through a switch.
 
 ghost use Rattle.std.specs.Prelude.{◌≡◌, ℕ, ◌+◌, ◌≤◌, ◌<◌, ◌∷◌, [], length, slice_get};
-ghost use Rattle.std.specs.Option.{ForSome};
-ghost use Rattle.ultra_model.specs.Phases.{replies_made};
+ghost use Rattle.ultra_halves.specs.Prelude.{ForSome, replies_made};
 ghost use Rattle.ultra_halves.specs.Halves.{going_by, lane_after_reply, replies_without, where_room, with_replies};
 
 use ultra_msg::ReplyPacket;

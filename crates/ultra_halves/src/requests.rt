@@ -1,12 +1,7 @@
 //! Requests on their way through a switch.
 
 ghost use Rattle.std.specs.Prelude.{◌≡◌, ◌+◌, ◌-◌, ◌%◌, ◌^◌, ◌<◌, ◌≤◌, ◌++◌, ◌∷◌, [], IsTrue, List, is_some, length, slice_get, vec_capacity};
-ghost use Rattle.std.specs.Option.{ForSome};
-ghost use Rattle.ultra_route.specs.Route.{bit_of};
-ghost use Rattle.ultra_msg.specs.declared.Event.{Event};
-ghost use Rattle.ultra_msg.specs.declared.Event.TheVariants.{Combined};
-ghost use Rattle.ultra_switch.specs.Queues.{request_of};
-ghost use Rattle.ultra_model.specs.Places.{present};
+ghost use Rattle.ultra_halves.specs.Prelude.{ForSome, bit_of, Event, Combined, request_of, present};
 ghost use Rattle.ultra_halves.specs.Halves.{combination_by, combination_in, coming_to, in_order, is_turned, lane_with, lane_without, leaves_by, where_room};
 
 use crate::lists::append;

@@ -1,8 +1,6 @@
 -- What the sets of a block say of what a unit may hold is true of each number.
 use Rattle.std.proofs.Common.{◌≡◌, ℕ, ◌<◌, refl}
-use Rattle.ultra_units.specs.Numbers.{switch_count}
-use Rattle.ultra_units.specs.Units.{of_unit, stage_of, index_of}
-use Rattle.ultra_units.proofs.Standing.{unit_of_switch}
+use Rattle.ultra_section.proofs.Common.{switch_count, of_unit, stage_of, index_of, unit_of_switch}
 
 -- ---- what there is at the number of a switch
 module _ {X : Type 0} (d : ℕ) (switch : ℕ → ℕ → X) (bank element : ℕ → X) (x : X) where

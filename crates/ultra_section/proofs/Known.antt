@@ -1,33 +1,11 @@
 -- What a block knows of its units is kept when one of them is put anew and noted, and says which rooms are its own and what leads elsewhere.
-use Rattle.std.proofs.Common.{◌≡◌, ◌≢◌, ℕ, ◌<◌, ◌≤◌, List, true, false, Option, Some, None, set, get_or, refl, sym, ◌∙◌, ap, arith, get_or-set_same, get_or-set_other, ◌&&◌, subst, Bool}
-use Rattle.std.specs.Prelude.{length, slice_index_or, IsTrue, not, IfSome, ◌||◌, replicate}
-use Rattle.std.specs.Option.{ForSome}
+use Rattle.std.proofs.Common.{◌≡◌, ◌≢◌, ℕ, ◌<◌, ◌≤◌, List, true, false, Option, Some, None, set, get_or, refl, sym, ◌∙◌, ap, arith, get_or-set_same, get_or-set_other, ◌&&◌, subst, Bool, slice_index_or, IsTrue, not, IfSome, ◌||◌, replicate, length}
+use Rattle.ultra_section.proofs.Common.{ForSome, length-set, get_or_default, Request, ReplyMessage, Switch, Bank, Instr, ProcessingElement, element_number, switch_count, has_unit, IsFirstFrom, is_at_rest, Ports, IsModule, IsElement, IsSwitch, index_of, of_unit, stage_of, unit_is, unit_of_element, unit_of_module, unit_of_switch, AreNoted, UnitFacts, facts_at, no_facts, switch_facts, module_facts, element_facts, AreOthersAtRest, BlockState, IsKept, UnitsAreKnown, switch_at, module_at, element_at, AreEmpty, AreTargets, IsNextAway, stands, AreOwnRooms, Rooms}
 use Rattle.std.proofs.lemmas.Bool.{cases_eq, true≢false}
-use Rattle.std.proofs.lemmas.List.{length-set, get_or_default}
-use Rattle.ultra_msg.specs.declared.Request.{Request}
-use Rattle.ultra_msg.specs.declared.ReplyMessage.{ReplyMessage}
-use Rattle.ultra_switch.specs.declared.Switch.{Switch}
-use Rattle.ultra_mem.specs.Serve.{Bank}
-use Rattle.ultra_isa.specs.declared.Instr.{Instr}
-use Rattle.ultra_halves.specs.declared.elements.ProcessingElement.{ProcessingElement}
-use Rattle.ultra_model.specs.Phases.{without_reply}
-use Rattle.ultra_halves.specs.Modules.{bank_with}
 use Rattle.ultra_units.specs.Links.{LinksState}
-use Rattle.ultra_units.specs.Numbers.{element_number, switch_count}
-use Rattle.ultra_units.specs.Set.{has_unit, IsFirstFrom}
-use Rattle.ultra_halves.specs.Elements.{is_at_rest}
-use Rattle.ultra_switch.specs.declared.Ports.{Ports}
-use Rattle.ultra_units.specs.Units.{IsModule, IsElement, IsSwitch, index_of, of_unit, stage_of}
-use Rattle.ultra_units.proofs.Standing.{unit_is, unit_of_element, unit_of_module, unit_of_switch}
 use Rattle.ultra_section.specs.declared.sets.Sets.{Sets}
-use Rattle.ultra_section.specs.Sets.{AreNoted, UnitFacts, facts_at, no_facts, switch_facts, module_facts, element_facts, reply_noted, request_noted}
 use Rattle.ultra_section.proofs.Holding.{at_switch}
-use Rattle.ultra_section.specs.BlockState.{AreOthersAtRest, BlockState, IsKept, UnitsAreKnown, switch_at, module_at, element_at}
-use Rattle.ultra_units.specs.Inlets.{AreEmpty, AreTargets}
-use Rattle.ultra_section.specs.Away.{IsNextAway, stands}
 use Rattle.ultra_units.proofs.Set.{none_there}
-use Rattle.ultra_section.specs.Rooms.{AreOwnRooms}
-use Rattle.ultra_section.specs.declared.rooms.Rooms.{Rooms}
 
 -- where nothing is noted anew
 pub same_facts : (s : Sets) (n : ℕ) → AreNoted n (facts_at s n) s s
@@ -112,13 +90,6 @@ module _ {d wiring : ℕ} {program : List Instr} {s : Sets} {awake : List ℕ} {
   -- it stays at rest if it was
   pub rests_still : {e : ProcessingElement} → element_at es p ≡ Some e → (v : ProcessingElement) → (IsTrue (is_at_rest program e) → IsTrue (is_at_rest program v)) → AreOthersAtRest d program awake (set es p (Some v))
   rests_still at v still = rests_anew awake (λ k other. refl) (λ asleep x same. let rest = still (kept.rests p own.small (rw own.number at asleep) _ at) in grind arith)
-
--- ---- what is noted of a module
-pub reply_left : (b : Bank) (o : Option ReplyMessage) → reply_noted (without_reply b o) (module_facts (Some b)) ≡ module_facts (Some (without_reply b o))
-reply_left b o = grind arith
-
-pub request_taken : (n : ℕ) (b : Bank) (o : Option Request) → request_noted (bank_with n b o) (module_facts (Some b)) ≡ module_facts (Some (bank_with n b o))
-request_taken n b o = grind arith
 
 -- ---- links on which something has changed are those of the same machine
 pub same_stages : {M : Type 0} {l m : LinksState M} {d : ℕ} → m ≡ l → l.stages ≡ d → m.stages ≡ d

@@ -1,29 +1,16 @@
 -- What is noted of a switch or a module once messages have come to it or left it: its queues are longer then, or shorter, and it keeps more records, or fewer.
-use Rattle.std.proofs.Common.{◌≡◌, ℕ, ◌+◌, ◌≤◌, List, ◌++◌, true, Option, Some, length, length-append, arith, [], ◌∷◌, refl, ◌∙◌}
-use Rattle.std.specs.Prelude.{not, nat_le, ◌==◌, ◌&&◌}
+use Rattle.std.proofs.Common.{ap, ◌≡◌, ℕ, ◌+◌, ◌≤◌, List, ◌++◌, true, Option, Some, length, length-append, arith, [], ◌∷◌, refl, ◌∙◌, not, nat_le, ◌==◌, Bool, ◌||◌, false, ◌&&◌}
+use Rattle.ultra_section.proofs.Common.{Request, ReplyMessage, Bank, Ports, Switch, after_leaving, arrive_all, combination, combinations, records_left, bank_with, both_coming, has_none, after_both, after_replies, without_replies, without_requests, combinations_of_both, keeps_records, module_facts, records_noted, replies_noted, request_noted, requests_noted, switch_facts, common_steps, all_noted, both, departure_noted, either, service_noted, element_facts, without_reply, holds_request, ProcessingElement}
 use Rattle.std.proofs.lemmas.Bool.Decides.{nat_tests}
-use Rattle.ultra_msg.specs.declared.Request.{Request}
-use Rattle.ultra_msg.specs.declared.ReplyMessage.{ReplyMessage}
-use Rattle.ultra_mem.specs.Serve.{Bank}
-use Rattle.ultra_switch.specs.declared.Ports.{Ports}
-use Rattle.ultra_switch.specs.declared.Switch.{Switch}
-use Rattle.ultra_model.specs.Places.{after_leaving}
-use Rattle.ultra_model.specs.Phases.{replies_made, arrive_all, combination, combinations, records_left}
-use Rattle.ultra_halves.specs.Modules.{bank_with}
-use Rattle.ultra_halves.specs.Halves.{both_coming, going_by, has_none}
-use Rattle.ultra_halves.specs.Switches.{after_both, after_replies, without_replies, without_requests, combinations_of_both, keeps_records}
 use Rattle.ultra_halves.proofs.Arrivals.{arrive_all_no_shorter}
-use Rattle.ultra_section.specs.Sets.{NoLess, NoMore, module_facts, records_noted, replies_noted, request_noted, requests_noted, switch_facts}
-use Rattle.std.proofs.lemmas.Grind.{common_steps}
 use Rattle.ultra_switch.specs.declared.WaitRecord.{WaitRecord}
 use Rattle.ultra_switch.specs.Arrive.{Lane, Combination, after_arrival, arrive, combine_within}
+use Rattle.ultra_mem.specs.Serve.{serve}
+use Rattle.ultra_halves.specs.Elements.{element_without}
 
 -- ---- records: none comes with replies
 none_left : (ws : List WaitRecord) (o : Option ReplyMessage) → has_none ws ≡ true → has_none (records_left ws o) ≡ true
 none_left ws o h = grind (arith, common_steps)
-
-pub keeps_none : (d s : ℕ) (w : Switch) (came : Ports (Option ReplyMessage)) → NoMore (records_noted (after_replies d s w came)) (switch_facts (Some w))
-keeps_none d s w came = grind (arith, none_left)
 
 -- none goes with requests
 no_fewer_yet : (l : Lane) (r : Request) (o : Option Combination) → length l.records ≤ length (after_arrival l r o).records
@@ -69,28 +56,58 @@ shorter o xs = grind arith
 longer : {X : Type 0} (xs ys zs : List X) → length xs ≤ length ((xs ++ ys) ++ zs)
 longer xs ys zs = omega (arith, length-append xs ys, length-append (xs ++ ys) zs)
 
--- ---- a switch, once it has changed
+-- ---- what is noted so is what is true of a switch, once it has changed
+either_more : (x y : Bool) → (x ≡ true → y ≡ true) → (x || y) ≡ y
+either_more x y more = grind arith
+
+both_fewer : (x y : Bool) → (y ≡ true → x ≡ true) → (x && y) ≡ y
+both_fewer x y fewer = grind arith
+
 module _ (w : Switch) where
-  pub requests_came : (d s : ℕ) (first second : Option Request)
-      → let v = after_both d s w first second in NoLess (λ f. records_noted v (requests_noted v f)) (switch_facts (Some w))
-  requests_came d s first second =
+  requests_more : (d s : ℕ) (first second : Option Request) → let v = after_both d s w first second in requests_noted either v (switch_facts (Some w)) ≡ record (switch_facts (Some v)) { keeps_records = keeps_records w }
+  requests_more d s first second =
       let zero = arrive_all_no_shorter w.to_mm.zero.wait_places w.to_mm.zero.lane (both_coming d s 0 first second) in
       let one = arrive_all_no_shorter w.to_mm.one.wait_places w.to_mm.one.lane (both_coming d s 1 first second) in
-      let holds = held_more _ _ _ _ zero one in
-      let full_zero = full_more 2 _ _ _ zero in
-      let full_one = full_more 2 _ _ _ one in
-      let records = held_more _ _ _ _ (no_fewer _ w.to_mm.zero.lane (both_coming d s 0 first second)) (no_fewer _ w.to_mm.one.lane (both_coming d s 1 first second)) in
-      record { among = record { holds_replies = λ h. h; no_reply_room = λ h. h; holds_requests = holds; no_room_zero = full_zero; no_room_one = full_one; to_serve = λ h. h; keeps_records = records } }
+      rw (either_more _ _ (held_more _ _ _ _ zero one), either_more _ _ (full_more 2 _ _ w.to_mm.zero.request_places zero), either_more _ _ (full_more 2 _ _ w.to_mm.one.request_places one)) refl
 
-  pub requests_left : {X : Type 0} (out : Ports (Option X)) → NoMore (requests_noted (without_requests w out)) (switch_facts (Some w))
-  requests_left out = grind (arith, shorter, held_more, full_more)
+  pub requests_came : (d s : ℕ) (first second : Option Request) (may_differ : Bool) → (may_differ ≡ false → keeps_records (after_both d s w first second) ≡ keeps_records w)
+      → all_noted may_differ (after_both d s w first second) (switch_facts (Some w)) ≡ switch_facts (Some (after_both d s w first second))
+  requests_came d s first second true same =
+      let zero = no_fewer w.to_mm.zero.wait_places w.to_mm.zero.lane (both_coming d s 0 first second) in
+      let one = no_fewer w.to_mm.one.wait_places w.to_mm.one.lane (both_coming d s 1 first second) in
+      ap (records_noted either (after_both d s w first second)) (requests_more d s first second) ∙ rw (either_more _ _ (held_more _ _ _ _ zero one)) refl
+  requests_came d s first second false same = requests_more d s first second ∙ rw (same refl) refl
 
-  pub replies_came : (d s : ℕ) (came : Ports (Option ReplyMessage)) → NoLess (replies_noted (after_replies d s w came)) (switch_facts (Some w))
-  replies_came d s came = grind (arith, longer, going_by, replies_made, held_more, both_full_more)
+  pub requests_left : {X : Type 0} (out : Ports (Option X)) → requests_noted both (without_requests w out) (switch_facts (Some w)) ≡ switch_facts (Some (without_requests w out))
+  requests_left out =
+      let zero = shorter out.zero w.to_mm.zero.lane.queue in
+      let one = shorter out.one w.to_mm.one.lane.queue in
+      rw (both_fewer _ _ (held_more _ _ _ _ zero one), both_fewer _ _ (full_more 2 _ _ w.to_mm.zero.request_places zero), both_fewer _ _ (full_more 2 _ _ w.to_mm.one.request_places one)) refl
 
-  pub replies_left : {X : Type 0} (out : Ports (Option X)) → NoMore (replies_noted (without_replies w out)) (switch_facts (Some w))
-  replies_left out = grind (arith, shorter, held_more, both_full_more)
+  pub replies_came : (d s : ℕ) (came : Ports (Option ReplyMessage)) → let v = after_replies d s w came in records_noted both v (replies_noted either v (switch_facts (Some w))) ≡ switch_facts (Some v)
+  replies_came d s came =
+      let v = after_replies d s w came in
+      let zero : length w.to_pe.zero.replies ≤ length v.to_pe.zero.replies = longer _ _ _ in
+      let one : length w.to_pe.one.replies ≤ length v.to_pe.one.replies = longer _ _ _ in
+      let records : (keeps_records w && keeps_records v) ≡ keeps_records v = both_fewer _ _ (λ kept. grind (arith, none_left)) in
+      rw (either_more _ _ (held_more _ _ _ _ zero one), either_more _ _ (both_full_more 4 _ _ _ _ w.to_pe.zero.places w.to_pe.one.places zero one), records) refl
 
--- ---- a module
-pub request_came : (b : Bank) (n : ℕ) (o : Option Request) → NoLess (request_noted (bank_with n b o)) (module_facts (Some b))
+  pub replies_left : {X : Type 0} (out : Ports (Option X)) → replies_noted both (without_replies w out) (switch_facts (Some w)) ≡ switch_facts (Some (without_replies w out))
+  replies_left out =
+      let zero = shorter out.zero w.to_pe.zero.replies in
+      let one = shorter out.one w.to_pe.one.replies in
+      rw (both_fewer _ _ (held_more _ _ _ _ zero one), both_fewer _ _ (both_full_more 4 _ _ _ _ w.to_pe.zero.places w.to_pe.one.places zero one)) refl
+
+-- ---- and of a module
+pub request_came : (b : Bank) (n : ℕ) (o : Option Request) → request_noted either (bank_with n b o) (module_facts (Some b)) ≡ module_facts (Some (bank_with n b o))
 request_came b n o = grind arith
+
+pub reply_left : (b : Bank) (o : Option ReplyMessage) → departure_noted (without_reply b o) (module_facts (Some b)) ≡ module_facts (Some (without_reply b o))
+reply_left b o = grind arith
+
+pub service_is : (b : Bank) → service_noted (serve b) (module_facts (Some b)) ≡ module_facts (Some (serve b))
+service_is b = grind arith
+
+-- ---- and of a processing element
+pub request_left : {X : Type 0} (e : ProcessingElement) (o : Option X) → let v = element_without e o in record (element_facts (Some e)) { holds_requests = holds_request e && holds_request v } ≡ element_facts (Some v)
+request_left e o = grind (arith, both_fewer, shorter)

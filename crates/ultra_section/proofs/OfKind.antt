@@ -1,13 +1,7 @@
 -- The unit with a number by its kind: whether it stands in a block, and a block without it or with it.
-use Rattle.std.proofs.Common.{◌≡◌, ℕ, sym, ◌^◌, ◌<◌, ◌≤◌, subst, arith}
-use Rattle.std.specs.Prelude.{is_some}
-use Rattle.ultra_units.specs.Numbers.{switch_count, unit_count, module_number, element_number}
-use Rattle.ultra_units.specs.declared.unit.Unit.{Unit}
+use Rattle.std.proofs.Common.{◌≡◌, ℕ, sym, ◌^◌, ◌<◌, ◌≤◌, subst, arith, is_some}
+use Rattle.ultra_section.proofs.Common.{switch_count, unit_count, module_number, element_number, Unit, unit_of, IsUnit, BlockState, switch_at, module_at, element_at, stands, unit_is, unit_of_module}
 use Rattle.ultra_units.specs.declared.unit.Unit.TheVariants as unit
-use Rattle.ultra_units.specs.Units.{unit_of, IsUnit}
-use Rattle.ultra_section.specs.BlockState.{BlockState, switch_at, module_at, element_at}
-use Rattle.ultra_section.specs.Away.{stands}
-use Rattle.ultra_units.proofs.Standing.{unit_is, unit_of_module}
 
 -- what holds of each switch, each module, each processing element, and of what is none of them
 module _ (d : ℕ) (P : ℕ → Type 0) (switches : (n : ℕ) → n < switch_count d → P n) (modules : (m : ℕ) → m < 2 ^ d → P (module_number d m))

@@ -1,12 +1,18 @@
 -- What belongs to one unit, after visits of all: only its own visit changes it, by what it was at the start.
 use Rattle.std.proofs.Common.{[], ◌≡◌, ◌≢◌, ℕ, zero, suc, ◌<◌, ◌≤◌, List, ◌++◌, append_assoc, refl, sym, ◌∙◌, ap, arith}
-use Rattle.std.proofs.lemmas.List.{append-nil}
+use Rattle.ultra_section.proofs.Common.{append-nil}
 use Rattle.ultra_units.specs.Visits.{after_units}
 
 -- the events of the units below a number, one after another
 unfoldable pub entries_before : {T E : Type 0} → (ℕ → T → List E) → ℕ → T → List E
 entries_before entries zero t = []
 entries_before entries (suc n) t = entries_before entries n t ++ entries n t
+
+-- visits of one thing are visits of another, if each is
+pub same_visits : {S T : Type 0} (f : ℕ → T → T) (g : ℕ → S → S) (put : S → T) → ((n : ℕ) (s : S) → f n (put s) ≡ put (g n s)) → (m : ℕ) (s : S) → after_units f m (put s) ≡ put (after_units g m s)
+unfolding after_units
+same_visits f g put each zero s = refl
+same_visits f g put each (suc n) s = ap (f n) (same_visits f g put each n s) ∙ each n (after_units g n s)
 
 -- visits keep what they rest on
 module _ {T : Type 0} (f : ℕ → T → T) (P : T → Type 0) (keeps : (j : ℕ) (t : T) → P t → P (f j t)) where

@@ -1,10 +1,7 @@
 -- A block that runs a program makes a half by it.
 use Rattle.std.proofs.Common.{◌≡◌, List, arith}
-use Rattle.ultra_isa.specs.declared.Instr.{Instr}
-use Rattle.ultra_section.specs.declared.half.Half.{Half}
-use Rattle.ultra_section.specs.declared.rooms.Rooms.{Rooms}
-use Rattle.ultra_section.specs.BlockState.{BlockState}
-use Rattle.ultra_section.specs.Making.{CanMake, made, own_made}
+use Rattle.ultra_section.proofs.Common.{Instr, Rooms, BlockState}
+use Rattle.ultra_section.specs.{declared.half.Half.Half, Making.CanMake, Making.made, Making.own_made}
 
 module _ (program : List Instr) (b : BlockState) where
   pub can_by_own : (half : Half) → CanMake program half b → CanMake b.program half b

@@ -1,32 +1,9 @@
 -- A visit of a unit that has nothing to do in a half changes nothing, and what a unit does, the later ones don't miss.
-use Rattle.std.proofs.lemmas.Grind.{common_steps}
-use Rattle.std.proofs.Common.{◌≡◌, ℕ, List, Option, false, arith, ◌+◌, ◌<◌, ◌≤◌, Some, None, length, length-append, get_or-set_other, sym, ◌∙◌, zero, suc, refl, ap, get_or, set}
-use Rattle.std.specs.Prelude.{is_some, IsTrue}
-use Rattle.std.proofs.lemmas.List.{append-nil, set-get_or}
-use Rattle.ultra_switch.specs.declared.Ports.{Ports}
-use Rattle.ultra_units.specs.Set.{has_unit}
-use Rattle.ultra_units.proofs.Standing.{unit_is}
-use Rattle.ultra_halves.specs.Switches.{holds_replies, holds_requests}
-use Rattle.ultra_halves.specs.Elements.{holds_request, is_at_rest}
-use Rattle.ultra_section.specs.Sets.{if_here, would_serve}
-use Rattle.ultra_section.specs.BlockState.{BlockState, switch_at, module_at, element_at, HasEventRoom, AreOthersAtRest, HasStopRoom}
-use Rattle.ultra_section.specs.Idle.{GetsNoReply, GetsNoRequest, HoldsNoReply, HoldsNoRequest, IsAsleep, ServesNothing}
-use Rattle.ultra_section.specs.RepliesSent.{switch_sends_replies, module_sends_reply, sends_replies}
-use Rattle.ultra_section.specs.RequestsSent.{switch_sends_requests, element_sends_request, sends_requests}
-use Rattle.ultra_section.specs.Serving.{module_serves, serves}
-use Rattle.ultra_units.specs.declared.unit.Unit.{Unit as UnitName}
+use Rattle.std.proofs.Common.{◌≡◌, ℕ, List, Option, false, arith, ◌+◌, ◌<◌, ◌≤◌, Some, None, length, length-append, get_or-set_other, sym, ◌∙◌, zero, suc, refl, ap, get_or, set, is_some, IsTrue}
+use Rattle.ultra_section.proofs.Common.{common_steps, append-nil, set-get_or, Ports, has_unit, unit_is, holds_replies, holds_requests, holds_request, is_at_rest, if_here, would_serve, BlockState, switch_at, module_at, element_at, HasEventRoom, AreOthersAtRest, HasStopRoom, GetsNoReply, GetsNoRequest, HoldsNoReply, HoldsNoRequest, IsAsleep, ServesNothing, Unit as UnitName, AreEmpty, reply_links, request_links, IsElement, IsModule, IsUnit, Fewer, fewer_set, fewer_both, switch_takes_replies, reply_at_element, element_takes_reply, takes_replies, UnitCanTakeReplies, CanTakeRepliesAt, switch_takes_requests, request_at_module, module_takes_request, takes_requests, UnitCanTakeRequests, CanTakeRequestsAt, ForSome, Instr, left_at_rest, element_executes, executes, executes_own, CanExecuteAt}
+use Rattle.ultra_section.specs.{RepliesSent.switch_sends_replies, RepliesSent.module_sends_reply, RepliesSent.sends_replies, RequestsSent.switch_sends_requests, RequestsSent.element_sends_request, RequestsSent.sends_requests, Serving.module_serves, Serving.serves}
 use Rattle.ultra_units.specs.declared.unit.Unit.TheVariants as unit
-use Rattle.ultra_units.specs.Inlets.{AreEmpty, reply_inlets, request_inlets}
-use Rattle.ultra_units.specs.Marks.{reply_links, request_links}
-use Rattle.ultra_units.specs.Units.{IsElement, IsModule, IsUnit}
-use Rattle.ultra_units.proofs.Marks.{Fewer, fewer_set, fewer_both}
-use Rattle.ultra_section.specs.RepliesTaken.{switch_takes_replies, reply_at_element, element_takes_reply, takes_replies, UnitCanTakeReplies, CanTakeRepliesAt}
-use Rattle.ultra_section.specs.RequestsTaken.{switch_takes_requests, request_at_module, module_takes_request, takes_requests, UnitCanTakeRequests, CanTakeRequestsAt}
-use Rattle.std.specs.Option.{ForSome}
-use Rattle.ultra_isa.specs.declared.Instr.{Instr}
 use Rattle.ultra_units.specs.Visits.{after_units}
-use Rattle.ultra_halves.proofs.Rests.{left_at_rest}
-use Rattle.ultra_section.specs.Execution.{element_executes, executes, executes_own, CanExecuteAt}
 use Rattle.ultra_section.proofs.Once.{all_keep}
 
 pub same_entry : {X : Type 0} (xs : List (Option X)) (i : ℕ) (o : Option X) → get_or xs i None ≡ o → set xs i o ≡ xs
@@ -119,14 +96,14 @@ module _ (b : BlockState) where
   element_rests p h = grind (arith, left_at_rest, same_entry, append-nil)
 
   pub executes_none : (n : ℕ) → IsAsleep n b → executes_own n b ≡ b
-  executes_none n asleep = grind (arith, element_rests)
+  executes_none n asleep = let rests = λ (p : ℕ) (is : IsElement b.stages n p). element_rests p (asleep p is) in grind (arith, rests, unit_is)
 
   pub sleeps : (awake : List ℕ) → AreOthersAtRest b.stages b.program awake b.elements → (n : ℕ) → has_unit awake n ≡ false → IsAsleep n b
-  sleeps awake rests n none = grind (arith, unit_is)
+  sleeps awake rests n none = λ p is. rests p is.small (rw (is.number) at none)
 
   module _ (n k p : ℕ) (order : n < k) (is : IsElement b.stages n p) where
     pub later_asleep : IsAsleep k b → IsAsleep k (element_executes b.program p b)
-    later_asleep asleep = grind (arith, get_or-set_other, unit_is)
+    later_asleep asleep = λ q at. let was = λ (own : IsElement b.stages k q). asleep q own in grind (arith, was, get_or-set_other)
 
     pub later_element : HasEventRoom n b → HasStopRoom n b → CanExecuteAt k b → CanExecuteAt k (element_executes b.program p b)
     later_element events stops can = grind (arith, get_or-set_other, unit_is, length-append)

@@ -1,8 +1,7 @@
 -- which unit stands in a block, and what leads from it to units elsewhere
 use Rattle.std.specs.Prelude.{◌≡◌, ℕ, ◌≤◌, ◌<◌, Bool, false, List, Option, is_some}
-use Rattle.ultra_switch.specs.declared.Ports.{Ports}
+use Rattle.ultra_section.specs.Prelude.{Ports, unit_of}
 use Rattle.ultra_units.specs.declared.unit.Unit.TheVariants as unit
-use Rattle.ultra_units.specs.Units.{unit_of}
 pub use Rattle.ultra_units.specs.Inlets.{reply_inlets, request_inlets, taken_by_turns, put_on_both, AreEmpty}
 use Rattle.ultra_section.specs.BlockState.{BlockState, switch_at, module_at, element_at}
 

@@ -1,21 +1,9 @@
 -- a block: some of the units of a machine, and the links
 use Rattle.std.specs.Prelude.{◌≡◌, ℕ, ◌+◌, ◌*◌, ◌^◌, ◌<◌, ◌≤◌, List, length, false, IsTrue, Option, None, slice_index_or}
-use Rattle.std.specs.Option.{ForSome}
-use Rattle.ultra_msg.specs.declared.Request.{Request}
-use Rattle.ultra_msg.specs.declared.ReplyMessage.{ReplyMessage}
+use Rattle.ultra_section.specs.Prelude.{ForSome, Request, ReplyMessage, Switch, Bank, Instr, switch_count, element_number, has_unit, of_unit, is_at_rest, ProcessingElement, LinksState}
 use Rattle.ultra_msg.specs.declared.Event.{Event}
-use Rattle.ultra_switch.specs.declared.Switch.{Switch}
-use Rattle.ultra_mem.specs.Serve.{Bank}
-use Rattle.ultra_isa.specs.declared.Instr.{Instr}
 use Rattle.ultra_model.specs.declared.Stop.{Stop}
-use Rattle.ultra_units.specs.Numbers.{switch_count, element_number}
-use Rattle.ultra_units.specs.Set.{has_unit}
-use Rattle.ultra_units.specs.Units.{of_unit}
-use Rattle.ultra_halves.specs.Elements.{is_at_rest}
-use Rattle.ultra_halves.specs.declared.elements.ProcessingElement.{ProcessingElement}
-use Rattle.ultra_section.specs.declared.sets.Sets.{Sets}
-use Rattle.ultra_units.specs.Links.{LinksState}
-use Rattle.ultra_section.specs.Sets.{facts_at, no_facts, switch_facts, module_facts, element_facts}
+use Rattle.ultra_section.specs.{declared.sets.Sets.Sets, Sets.facts_at, Sets.no_facts, Sets.switch_facts, Sets.module_facts, Sets.element_facts}
 
 -- the program that its processing elements run, the units that stand there, by their numbers, what
 -- is on each link, and what has happened in the cycle

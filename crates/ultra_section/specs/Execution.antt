@@ -1,14 +1,7 @@
 -- the half of a cycle in which processing elements make a step of the program
 use Rattle.std.specs.Prelude.{ℕ, ◌+◌, ◌-◌, ◌^◌, ◌<◌, List, [], ◌∷◌, ◌++◌, Some, None, slice_set}
-use Rattle.std.specs.Option.{ForSome}
-use Rattle.ultra_isa.specs.declared.Instr.{Instr}
-use Rattle.ultra_model.specs.Places.{present}
-use Rattle.ultra_model.specs.Phases.{issue_event, stop_of}
-use Rattle.ultra_halves.specs.declared.elements.ProcessingElement.{ProcessingElement}
-use Rattle.ultra_halves.specs.Elements.{element_of, executed, step_at}
-use Rattle.ultra_units.specs.declared.unit.Unit.{Unit as UnitName}
+use Rattle.ultra_section.specs.Prelude.{ForSome, Instr, present, issue_event, stop_of, ProcessingElement, element_of, executed, step_at, Unit as UnitName, of_unit, unit_of}
 use Rattle.ultra_units.specs.declared.unit.Unit.TheVariants as unit
-use Rattle.ultra_units.specs.Units.{of_unit, unit_of}
 use Rattle.ultra_section.specs.BlockState.{BlockState, HasEventRoom, HasStopRoom, element_at}
 
 module _ (program : List Instr) where

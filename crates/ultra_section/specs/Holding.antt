@@ -1,16 +1,7 @@
 -- which units of a block hold something
 use Rattle.std.specs.Prelude.{◌≡◌, ℕ, List, Bool, false, is_some}
-use Rattle.ultra_switch.specs.declared.Switch.{Switch}
-use Rattle.ultra_mem.specs.Serve.{Bank}
-use Rattle.ultra_halves.specs.declared.elements.ProcessingElement.{ProcessingElement}
-use Rattle.ultra_halves.specs.Switches.{holds_replies, holds_requests, keeps_records}
-use Rattle.ultra_halves.specs.Elements.{holds_request}
-use Rattle.ultra_section.specs.declared.held.Held.{Held}
-use Rattle.ultra_section.specs.declared.held.Held.TheVariants.{Reply, Request, Record}
-use Rattle.ultra_units.specs.Set.{has_unit}
-use Rattle.ultra_units.specs.Units.{of_unit}
-use Rattle.ultra_section.specs.Sets.{if_here}
-use Rattle.ultra_section.specs.BlockState.{BlockState, switch_at, module_at, element_at}
+use Rattle.ultra_section.specs.Prelude.{Switch, Bank, ProcessingElement, holds_replies, holds_requests, keeps_records, holds_request, has_unit, of_unit}
+use Rattle.ultra_section.specs.{declared.held.Held.Held, declared.held.Held.TheVariants.Reply, declared.held.Held.TheVariants.Request, declared.held.Held.TheVariants.Record, Sets.if_here, BlockState.BlockState, BlockState.switch_at, BlockState.module_at, BlockState.element_at}
 
 -- of a unit of each kind
 abbrev pub switch_holds : Held → Switch → Bool

@@ -1,15 +1,8 @@
 -- units that have nothing to do in a half of a cycle
 use Rattle.std.specs.Prelude.{◌≡◌, ℕ, false, IsTrue}
-use Rattle.std.specs.Option.{ForSome}
-use Rattle.ultra_units.specs.Inlets.{AreEmpty, reply_inlets, request_inlets}
-use Rattle.ultra_units.specs.declared.unit.Unit.{Unit as UnitName}
-use Rattle.ultra_units.specs.declared.unit.Unit.TheVariants as unit
-use Rattle.ultra_units.specs.Units.{of_unit, unit_of}
-use Rattle.ultra_halves.specs.Elements.{is_at_rest}
+use Rattle.ultra_section.specs.Prelude.{ForSome, AreEmpty, reply_inlets, request_inlets, IsElement, of_unit, is_at_rest}
 use Rattle.ultra_section.specs.declared.held.Held.TheVariants as held
-use Rattle.ultra_section.specs.Sets.{if_here, would_serve}
-use Rattle.ultra_section.specs.BlockState.{BlockState, module_at, element_at}
-use Rattle.ultra_section.specs.Holding.{holds_at}
+use Rattle.ultra_section.specs.{Sets.if_here, Sets.would_serve, BlockState.BlockState, BlockState.module_at, BlockState.element_at, Holding.holds_at}
 
 -- it holds no message to send
 abbrev pub HoldsNoReply : ℕ → BlockState → Type 0
@@ -32,12 +25,7 @@ ServesNothing n b =
     false n ≡ false
 
 -- it is no processing element that is awake
-abbrev pub UnitIsAsleep : BlockState → UnitName → Type 0
-UnitIsAsleep b (unit.Switch s k) = Unit {0}
-UnitIsAsleep b (unit.Module m) = Unit {0}
-UnitIsAsleep b (unit.Element p) =
-    ForSome (element_at b.elements p) (λ e. IsTrue (is_at_rest b.program e))
-UnitIsAsleep b unit.Nothing = Unit {0}
-
 abbrev pub IsAsleep : ℕ → BlockState → Type 0
-IsAsleep n b = UnitIsAsleep b (unit_of b.stages n)
+IsAsleep n b =
+    (p : ℕ) → IsElement b.stages n p
+    → ForSome (element_at b.elements p) (λ e. IsTrue (is_at_rest b.program e))

@@ -1,6 +1,7 @@
 pub use Rattle.ultra_units.specs.Links
 pub use Rattle.ultra_units.specs.Units
 pub use Rattle.ultra_units.specs.Marks
+pub mod Prelude
 pub mod Sets
 pub mod BlockState
 pub mod RepliesSent

@@ -1,17 +1,7 @@
 -- a half of a cycle, whichever it is, made by a block
 use Rattle.std.specs.Prelude.{◌≡◌, ℕ, ◌-◌, ◌^◌, ◌<◌, List}
-use Rattle.ultra_isa.specs.declared.Instr.{Instr}
-use Rattle.ultra_units.specs.Visits.{after_units}
-use Rattle.ultra_section.specs.declared.half.Half.{Half}
-use Rattle.ultra_section.specs.declared.half.Half.TheVariants.{SendReplies, TakeReplies, Serve, SendRequests, TakeRequests, Execute}
-use Rattle.ultra_section.specs.declared.rooms.Rooms.{Rooms}
-use Rattle.ultra_section.specs.BlockState.{BlockState, HasEventRoom}
-use Rattle.ultra_section.specs.RepliesSent.{begun, sends_replies}
-use Rattle.ultra_section.specs.RepliesTaken.{CanTakeRepliesAt, takes_replies}
-use Rattle.ultra_section.specs.Serving.{serves}
-use Rattle.ultra_section.specs.RequestsSent.{sends_requests}
-use Rattle.ultra_section.specs.RequestsTaken.{CanTakeRequestsAt, takes_requests}
-use Rattle.ultra_section.specs.Execution.{CanExecuteAt, counted, executes}
+use Rattle.ultra_section.specs.Prelude.{Instr, after_units}
+use Rattle.ultra_section.specs.{declared.half.Half.Half, declared.half.Half.TheVariants.SendReplies, declared.half.Half.TheVariants.TakeReplies, declared.half.Half.TheVariants.Serve, declared.half.Half.TheVariants.SendRequests, declared.half.Half.TheVariants.TakeRequests, declared.half.Half.TheVariants.Execute, declared.rooms.Rooms.Rooms, BlockState.BlockState, BlockState.HasEventRoom, RepliesSent.begun, RepliesSent.sends_replies, RepliesTaken.CanTakeRepliesAt, RepliesTaken.takes_replies, Serving.serves, RequestsSent.sends_requests, RequestsTaken.CanTakeRequestsAt, RequestsTaken.takes_requests, Execution.CanExecuteAt, Execution.counted, Execution.executes}
 
 -- a fact is true at each unit
 abbrev pub AtUnits : (ℕ → BlockState → Type 0) → BlockState → Type 0

@@ -1,9 +1,6 @@
 -- a block in which nothing is left to do
 use Rattle.std.specs.Prelude.{Bool, true, ◌&&◌, Option, Some, None}
-use Rattle.std.specs.List.{list_all}
-use Rattle.ultra_halves.specs.Switches.{quiet_switch}
-use Rattle.ultra_halves.specs.Modules.{quiet_bank}
-use Rattle.ultra_halves.specs.Elements.{quiet_element}
+use Rattle.ultra_section.specs.Prelude.{list_all, quiet_switch, quiet_bank, quiet_element}
 use Rattle.ultra_section.specs.BlockState.{BlockState}
 
 -- a test is true of a unit, or the unit stands elsewhere

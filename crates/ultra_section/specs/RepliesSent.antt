@@ -1,16 +1,6 @@
 -- the half of a cycle in which replies leave switches and modules
 use Rattle.std.specs.Prelude.{ℕ, List, [], Some, None, slice_set}
-use Rattle.ultra_switch.specs.declared.Switch.{Switch}
-use Rattle.ultra_mem.specs.Serve.{Bank}
-use Rattle.ultra_model.specs.Phases.{without_reply}
-use Rattle.ultra_units.specs.Numbers.{place_number}
-use Rattle.ultra_halves.specs.Halves.{where_room}
-use Rattle.ultra_halves.specs.Switches.{replies_leaving, without_replies}
-use Rattle.ultra_units.specs.declared.unit.Unit.TheVariants as unit
-use Rattle.ultra_units.specs.Units.{unit_of}
-use Rattle.ultra_units.specs.Links.{put_on}
-use Rattle.ultra_units.specs.Inlets.{put_on_both}
-use Rattle.ultra_units.specs.Ways.{places_of}
+use Rattle.ultra_section.specs.Prelude.{Switch, Bank, without_reply, place_number, where_room, replies_leaving, without_replies, of_unit, put_on, put_on_both, places_of}
 pub use Rattle.ultra_units.specs.Ways.{reply_targets, has_reply_way, reply_ways, has_way_from_module}
 use Rattle.ultra_section.specs.BlockState.{BlockState, switch_at, module_at}
 
@@ -44,12 +34,9 @@ module _ (closed : List ℕ) where
 
   -- ---- from the unit with number n
   abbrev pub sends_replies : ℕ → BlockState → BlockState
-  sends_replies n b = elim (unit_of b.stages n) [
-    | unit.Switch s k ↦ switch_sends_replies n s k b
-    | unit.Module m ↦ module_sends_reply m b
-    | unit.Element p ↦ b
-    | unit.Nothing ↦ b
-  ]
+  sends_replies n b =
+      of_unit b.stages (λ s k. switch_sends_replies n s k b) (λ m. module_sends_reply m b) (λ p. b)
+      b n
 
 -- what a cycle begins with: nothing has happened in it
 abbrev pub begun : BlockState → BlockState

@@ -1,18 +1,7 @@
 -- the half of a cycle in which replies come to switches and processing elements
 use Rattle.std.specs.Prelude.{ℕ, ◌<◌, [], ◌∷◌, ◌++◌, length, Option, Some, None, slice_set}
-use Rattle.std.specs.Option.{ForSome}
-use Rattle.ultra_msg.specs.declared.ReplyMessage.{ReplyMessage}
-use Rattle.ultra_switch.specs.declared.Ports.{Ports}
-use Rattle.ultra_switch.specs.declared.Switch.{Switch}
-use Rattle.ultra_model.specs.Places.{present}
-use Rattle.ultra_model.specs.Phases.{delivery}
-use Rattle.ultra_halves.specs.declared.elements.ProcessingElement.{ProcessingElement}
-use Rattle.ultra_halves.specs.Switches.{CanTakeReplies, after_replies}
-use Rattle.ultra_halves.specs.Elements.{delivered_to}
-use Rattle.ultra_units.specs.declared.unit.Unit.{Unit as UnitName}
+use Rattle.ultra_section.specs.Prelude.{ForSome, ReplyMessage, Ports, Switch, present, delivery, ProcessingElement, CanTakeReplies, after_replies, delivered_to, Unit as UnitName, of_unit, unit_of, reply_links, delivery_link, on_link, on_both, without_both}
 use Rattle.ultra_units.specs.declared.unit.Unit.TheVariants as unit
-use Rattle.ultra_units.specs.Units.{of_unit, unit_of}
-use Rattle.ultra_units.specs.Marks.{reply_links, delivery_link, on_link, on_both, without_both}
 use Rattle.ultra_section.specs.BlockState.{BlockState, HasEventRoom, switch_at, element_at}
 
 -- ---- at switch k of stage s, which has number n

@@ -1,19 +1,7 @@
 -- the half of a cycle in which requests leave switches and processing elements
 use Rattle.std.specs.Prelude.{ℕ, List, Option, Some, None, slice_get, slice_set}
-use Rattle.ultra_switch.specs.declared.Ports.{Ports}
-use Rattle.ultra_switch.specs.declared.Switch.{Switch}
+use Rattle.ultra_section.specs.Prelude.{Ports, Switch, Request, place_number, ProcessingElement, where_room, first_request, requests_leaving, request_heads, without_requests, element_without, of_unit, put_on, put_on_both, places_of}
 use Rattle.ultra_switch.specs.Queues.{SizedLane}
-use Rattle.ultra_msg.specs.declared.Request.{Request}
-use Rattle.ultra_units.specs.Numbers.{place_number}
-use Rattle.ultra_halves.specs.declared.elements.ProcessingElement.{ProcessingElement}
-use Rattle.ultra_halves.specs.Halves.{where_room}
-use Rattle.ultra_halves.specs.Switches.{first_request, requests_leaving, request_heads, without_requests}
-use Rattle.ultra_halves.specs.Elements.{element_without}
-use Rattle.ultra_units.specs.declared.unit.Unit.TheVariants as unit
-use Rattle.ultra_units.specs.Units.{unit_of}
-use Rattle.ultra_units.specs.Links.{put_on}
-use Rattle.ultra_units.specs.Inlets.{put_on_both}
-use Rattle.ultra_units.specs.Ways.{places_of}
 pub use Rattle.ultra_units.specs.Ways.{request_targets, has_room_at, has_request_way, request_ways, has_way_from_element}
 use Rattle.ultra_section.specs.BlockState.{BlockState, switch_at, element_at}
 
@@ -55,9 +43,6 @@ module _ (closed : Ports (List ℕ)) where
 
   -- ---- from the unit with number n
   abbrev pub sends_requests : ℕ → BlockState → BlockState
-  sends_requests n b = elim (unit_of b.stages n) [
-    | unit.Switch s k ↦ switch_sends_requests n s k b
-    | unit.Module m ↦ b
-    | unit.Element p ↦ element_sends_request p b
-    | unit.Nothing ↦ b
-  ]
+  sends_requests n b =
+      of_unit b.stages (λ s k. switch_sends_requests n s k b) (λ m. b)
+      (λ p. element_sends_request p b) b n

@@ -1,16 +1,7 @@
 -- the half of a cycle in which requests come to switches and modules
 use Rattle.std.specs.Prelude.{◌≡◌, ℕ, ◌/◌, ◌^◌, ◌<◌, ◌++◌, length, Option, Some, None, slice_set}
-use Rattle.std.specs.Option.{ForSome}
-use Rattle.ultra_msg.specs.declared.Request.{Request}
-use Rattle.ultra_switch.specs.declared.Ports.{Ports}
-use Rattle.ultra_switch.specs.declared.Switch.{Switch}
-use Rattle.ultra_mem.specs.Serve.{Bank}
-use Rattle.ultra_halves.specs.Switches.{CanTakeRequests, after_requests, combinations_of}
-use Rattle.ultra_halves.specs.Modules.{bank_with}
-use Rattle.ultra_units.specs.declared.unit.Unit.{Unit as UnitName}
+use Rattle.ultra_section.specs.Prelude.{ForSome, Request, Ports, Switch, Bank, CanTakeRequests, after_requests, combinations_of, bank_with, Unit as UnitName, of_unit, unit_of, request_links, memory_link, on_link, on_both, without_both}
 use Rattle.ultra_units.specs.declared.unit.Unit.TheVariants as unit
-use Rattle.ultra_units.specs.Units.{of_unit, unit_of}
-use Rattle.ultra_units.specs.Marks.{request_links, memory_link, on_link, on_both, without_both}
 use Rattle.ultra_section.specs.BlockState.{BlockState, HasEventRoom, switch_at, module_at}
 
 -- ---- at switch k of stage s, which has number n

@@ -1,11 +1,7 @@
 -- what blocks note of their rooms
 use Rattle.std.specs.Prelude.{◌≡◌, ℕ, ◌^◌, ◌<◌, not, ◌||◌, is_some, replicate}
-use Rattle.ultra_units.specs.Set.{has_unit}
-use Rattle.ultra_units.specs.Numbers.{switch_count, module_number}
-use Rattle.ultra_halves.specs.Switches.{has_reply_room, has_request_room}
-use Rattle.ultra_section.specs.Sets.{if_here}
-use Rattle.ultra_section.specs.BlockState.{BlockState, switch_at, module_at}
-use Rattle.ultra_section.specs.declared.rooms.Rooms.{Rooms}
+use Rattle.ultra_section.specs.Prelude.{has_unit, switch_count, module_number, has_reply_room, has_request_room}
+use Rattle.ultra_section.specs.{Sets.if_here, BlockState.BlockState, BlockState.switch_at, BlockState.module_at, declared.rooms.Rooms.Rooms}
 
 -- a block has noted which of its units have no room; of the others it leaves what was noted
 pub record HasNoted (b : BlockState) (old now : Rooms) : Type 0 where

@@ -1,10 +1,6 @@
 -- the half of a cycle in which modules serve
 use Rattle.std.specs.Prelude.{ℕ, [], ◌∷◌, ◌++◌, Some, None, slice_set}
-use Rattle.ultra_mem.specs.Serve.{Bank, serve, served}
-use Rattle.ultra_model.specs.Places.{present}
-use Rattle.ultra_model.specs.Phases.{serving}
-use Rattle.ultra_units.specs.declared.unit.Unit.TheVariants as unit
-use Rattle.ultra_units.specs.Units.{unit_of}
+use Rattle.ultra_section.specs.Prelude.{Bank, serve, served, present, serving, of_unit}
 use Rattle.ultra_section.specs.BlockState.{BlockState, module_at}
 
 -- ---- module m
@@ -19,9 +15,4 @@ module_serves m b = elim (module_at b.modules m) [ None ↦ b | Some bank ↦ se
 
 -- ---- the unit with number n
 abbrev pub serves : ℕ → BlockState → BlockState
-serves n b = elim (unit_of b.stages n) [
-  | unit.Switch s k ↦ b
-  | unit.Module m ↦ module_serves m b
-  | unit.Element p ↦ b
-  | unit.Nothing ↦ b
-]
+serves n b = of_unit b.stages (λ s k. b) (λ m. module_serves m b) (λ p. b) b n

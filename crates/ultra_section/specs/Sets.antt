@@ -1,15 +1,7 @@
 -- what is known of one unit of a block
-use Rattle.std.specs.Prelude.{◌≡◌, ◌≢◌, ℕ, Bool, true, false, not, ◌&&◌, Option, Some, None, is_some}
-use Rattle.ultra_switch.specs.declared.Switch.{Switch}
-use Rattle.ultra_mem.specs.Serve.{Bank}
-use Rattle.ultra_isa.specs.Step.{has_stopped}
-use Rattle.ultra_units.specs.Set.{has_unit}
-use Rattle.ultra_halves.specs.Switches.{has_reply_room, has_request_room, holds_replies, holds_requests, keeps_records}
-use Rattle.ultra_halves.specs.Elements.{holds_request}
-use Rattle.ultra_halves.specs.declared.elements.ProcessingElement.{ProcessingElement}
-use Rattle.ultra_section.specs.declared.sets.Sets.{Sets}
-use Rattle.ultra_section.specs.declared.held.Held.{Held}
-use Rattle.ultra_section.specs.declared.held.Held.TheVariants.{Reply, Request, Record}
+use Rattle.std.specs.Prelude.{◌≡◌, ◌≢◌, ℕ, Bool, true, false, not, ◌&&◌, ◌||◌, Option, Some, None, is_some}
+use Rattle.ultra_section.specs.Prelude.{Switch, Bank, has_stopped, has_unit, has_reply_room, has_request_room, holds_replies, holds_requests, keeps_records, holds_request, ProcessingElement}
+use Rattle.ultra_section.specs.{declared.sets.Sets.Sets, declared.held.Held.Held, declared.held.Held.TheVariants.Reply, declared.held.Held.TheVariants.Request, declared.held.Held.TheVariants.Record}
 
 -- what the sets of a block say of one unit
 pub record UnitFacts : Type 0 where
@@ -96,50 +88,58 @@ element_facts o = record no_facts {
   running = if_here (λ e. not (has_stopped e.processor.core.activity)) o;
 }
 
--- ---- what is said of a unit once some of it is noted anew
-abbrev pub replies_noted : Switch → UnitFacts → UnitFacts
-replies_noted w f =
-    record f { holds_replies = holds_replies w; no_reply_room = not (has_reply_room w) }
+-- ---- what is said of a unit once some of it is noted anew, where what was said before counts too:
+-- after messages came `either` is true, and after some left `both` are
+abbrev pub either : Bool → Bool → Bool
+either x y = x || y
 
-abbrev pub requests_noted : Switch → UnitFacts → UnitFacts
-requests_noted w f = record f {
-  holds_requests = holds_requests w;
-  no_room_zero = not (has_request_room w).zero;
-  no_room_one = not (has_request_room w).one;
-}
+abbrev pub both : Bool → Bool → Bool
+both x y = x && y
 
-abbrev pub records_noted : Switch → UnitFacts → UnitFacts
-records_noted w f = record f { keeps_records = keeps_records w }
+module _ (by : Bool → Bool → Bool) where
+  abbrev pub replies_noted : Switch → UnitFacts → UnitFacts
+  replies_noted w f = record f {
+    holds_replies = by f.holds_replies (holds_replies w);
+    no_reply_room = by f.no_reply_room (not (has_reply_room w));
+  }
 
--- of a module
-abbrev pub reply_noted : Bank → UnitFacts → UnitFacts
-reply_noted b f = record f { holds_replies = is_some b.out; to_serve = would_serve b }
+  abbrev pub requests_noted : Switch → UnitFacts → UnitFacts
+  requests_noted w f = record f {
+    holds_requests = by f.holds_requests (holds_requests w);
+    no_room_zero = by f.no_room_zero (not (has_request_room w).zero);
+    no_room_one = by f.no_room_one (not (has_request_room w).one);
+  }
 
-abbrev pub request_noted : Bank → UnitFacts → UnitFacts
-request_noted b f = record f {
-  holds_requests = is_some b.inp;
-  no_room_zero = is_some b.inp;
-  to_serve = would_serve b;
+  abbrev pub records_noted : Switch → UnitFacts → UnitFacts
+  records_noted w f = record f { keeps_records = by f.keeps_records (keeps_records w) }
+
+  -- of a module
+  abbrev pub request_noted : Bank → UnitFacts → UnitFacts
+  request_noted b f = record f {
+    holds_requests = by f.holds_requests (is_some b.inp);
+    no_room_zero = by f.no_room_zero (is_some b.inp);
+    to_serve = by f.to_serve (would_serve b);
+  }
+
+-- of a switch once requests came, where its records may differ
+abbrev pub all_noted : Bool → Switch → UnitFacts → UnitFacts
+all_noted may_differ w f = elim may_differ [
+  | true ↦ records_noted either w (requests_noted either w f)
+  | false ↦ requests_noted either w f
+]
+
+-- of a module once it has served, and once a reply has left it
+abbrev pub service_noted : Bank → UnitFacts → UnitFacts
+service_noted b f =
+    record (request_noted both b f) { holds_replies = either f.holds_replies (is_some b.out) }
+
+abbrev pub departure_noted : Bank → UnitFacts → UnitFacts
+departure_noted b f = record f {
+  holds_replies = both f.holds_replies (is_some b.out);
+  to_serve = either f.to_serve (would_serve b);
 }
 
 -- this is said of unit n now, and of the others what was said before
 pub record AreNoted (n : ℕ) (f : UnitFacts) (old now : Sets) : Type 0 where
   pub there : facts_at now n ≡ f
   pub others : (k : ℕ) → k ≢ n → facts_at now k ≡ facts_at old k
-
--- what is true by the first facts is true by the others too
-pub record AreAmong (f g : UnitFacts) : Type 0 where
-  pub holds_replies : f.holds_replies ≡ true → g.holds_replies ≡ true
-  pub no_reply_room : f.no_reply_room ≡ true → g.no_reply_room ≡ true
-  pub holds_requests : f.holds_requests ≡ true → g.holds_requests ≡ true
-  pub no_room_zero : f.no_room_zero ≡ true → g.no_room_zero ≡ true
-  pub no_room_one : f.no_room_one ≡ true → g.no_room_one ≡ true
-  pub to_serve : f.to_serve ≡ true → g.to_serve ≡ true
-  pub keeps_records : f.keeps_records ≡ true → g.keeps_records ≡ true
-
--- once something is noted anew, no more is true of a unit than before, or no less
-pub record NoMore (note : UnitFacts → UnitFacts) (f : UnitFacts) : Type 0 where
-  pub among : AreAmong (note f) f
-
-pub record NoLess (note : UnitFacts → UnitFacts) (f : UnitFacts) : Type 0 where
-  pub among : AreAmong f (note f)

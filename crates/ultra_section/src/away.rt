@@ -1,10 +1,8 @@
 //! Messages that lead from one block to another.
 
 ghost use Rattle.std.specs.Prelude.{◌≡◌, ◌<◌, Some, IfNone, IfSome, length};
+ghost use Rattle.ultra_section.specs.Prelude.{link_count, put_on_both, reply_inlets, request_inlets, taken_by_turns, without_both, HasNoneFrom, IsFirstFrom};
 ghost use Rattle.ultra_section.specs.Away.{AllStayWithin, IsNextAway};
-ghost use Rattle.ultra_units.specs.Inlets.{link_count, put_on_both, reply_inlets, request_inlets, taken_by_turns};
-ghost use Rattle.ultra_units.specs.Marks.{without_both};
-ghost use Rattle.ultra_units.specs.Set.{HasNoneFrom, IsFirstFrom};
 
 use crate::block::Block;
 use ultra_msg::{ReplyPacket, RequestPacket};

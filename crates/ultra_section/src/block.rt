@@ -1,7 +1,7 @@
 //! Blocks: some of the units of a machine.
 
 ghost use Rattle.std.specs.Prelude.{◌≡◌};
-ghost use Rattle.ultra_units.specs.Units.{IsUnit, unit_of};
+ghost use Rattle.ultra_section.specs.Prelude.{IsUnit, unit_of};
 
 use crate::sets::Sets;
 use std::marker::Model;

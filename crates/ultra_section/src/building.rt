@@ -1,9 +1,8 @@
 //! Blocks without units, units that are put into a block or taken out of it, and what goes from one block to another.
 
 ghost use Rattle.std.specs.Prelude.{◌≡◌, ◌<◌, ◌^◌, IfOk, None, Some, slice_set};
-ghost use Rattle.ultra_units.specs.Numbers.{switch_count as count_of_switches};
-ghost use Rattle.ultra_section.specs.BlockState.{element_at, module_at, switch_at};
-ghost use Rattle.ultra_section.specs.Building.{empty_block, with_unit, without_unit};
+ghost use Rattle.ultra_section.specs.Prelude.{switch_count as count_of_switches};
+ghost use Rattle.ultra_section.specs.{BlockState.element_at, BlockState.module_at, BlockState.switch_at, Building.empty_block, Building.with_unit, Building.without_unit};
 
 use crate::block::Block;
 use crate::sets::Sets;

@@ -1,11 +1,8 @@
 //! The half of a cycle in which processing elements make a step of the program.
 
 ghost use Rattle.std.specs.Prelude.{◌≡◌, ℕ, ◌+◌, ◌-◌, ◌^◌, ◌<◌, length};
-ghost use Rattle.ultra_units.specs.Visits.{after_units};
-ghost use Rattle.ultra_section.specs.BlockState.{most_events, most_stops};
-ghost use Rattle.ultra_section.specs.Execution.{CanExecuteAt, ElementCanExecute, counted, element_executes, executes, executes_own};
-ghost use Rattle.ultra_units.specs.Units.{IsElement};
-ghost use Rattle.ultra_section.specs.Idle.{IsAsleep};
+ghost use Rattle.ultra_section.specs.Prelude.{after_units, IsElement};
+ghost use Rattle.ultra_section.specs.{BlockState.most_events, BlockState.most_stops, Execution.CanExecuteAt, Execution.ElementCanExecute, Execution.counted, Execution.element_executes, Execution.executes, Execution.executes_own, Idle.IsAsleep};
 
 use crate::block::Block;
 use ultra_halves::{Outcome, append};

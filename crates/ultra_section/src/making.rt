@@ -1,8 +1,7 @@
 //! A half of a cycle, whichever it is, and what has happened in the cycle.
 
 ghost use Rattle.std.specs.Prelude.{◌≡◌};
-ghost use Rattle.ultra_section.specs.Making.{CanMake, own_made};
-ghost use Rattle.ultra_section.specs.Shape.{IsShaped};
+ghost use Rattle.ultra_section.specs.{Making.CanMake, Making.own_made, Shape.IsShaped};
 
 use crate::block::Block;
 use crate::half::Half;

@@ -1,10 +1,7 @@
 //! Whether anything is left to do in a block.
 
 ghost use Rattle.std.specs.Prelude.{◌≡◌, true, false};
-ghost use Rattle.std.specs.List.{list_all};
-ghost use Rattle.ultra_halves.specs.Elements.{quiet_element};
-ghost use Rattle.ultra_halves.specs.Modules.{quiet_bank};
-ghost use Rattle.ultra_halves.specs.Switches.{quiet_switch};
+ghost use Rattle.ultra_section.specs.Prelude.{list_all, quiet_element, quiet_bank, quiet_switch};
 ghost use Rattle.ultra_section.specs.Quiet.{or_elsewhere, quiet_block};
 
 use crate::block::Block;

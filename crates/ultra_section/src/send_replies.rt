@@ -1,15 +1,8 @@
 //! The half of a cycle in which replies leave switches and modules.
 
 ghost use Rattle.std.specs.Prelude.{◌≡◌, ◌<◌};
-ghost use Rattle.ultra_halves.specs.Switches.{replies_leaving, without_replies};
-ghost use Rattle.ultra_units.specs.Inlets.{LeadOn, put_on_both, reply_inlets};
-ghost use Rattle.ultra_units.specs.Ways.{places_of};
-ghost use Rattle.ultra_section.specs.Rooms.{AreOwnRooms};
-ghost use Rattle.ultra_section.specs.declared.rooms.Rooms.{Rooms};
-ghost use Rattle.ultra_section.specs.RepliesSent.{begun, module_sends_reply, sends_replies, switch_sends_replies};
-ghost use Rattle.ultra_units.specs.Visits.{after_units};
-ghost use Rattle.ultra_units.specs.Units.{IsModule, IsSwitch, index_of, stage_of};
-ghost use Rattle.ultra_section.specs.Idle.{HoldsNoReply};
+ghost use Rattle.ultra_section.specs.Prelude.{replies_leaving, without_replies, LeadOn, put_on_both, reply_inlets, places_of, after_units, IsModule, IsSwitch, index_of, stage_of};
+ghost use Rattle.ultra_section.specs.{Rooms.AreOwnRooms, declared.rooms.Rooms.Rooms, RepliesSent.begun, RepliesSent.module_sends_reply, RepliesSent.sends_replies, RepliesSent.switch_sends_replies, Idle.HoldsNoReply};
 
 use crate::block::Block;
 use crate::rooms::Rooms;

@@ -1,18 +1,8 @@
 //! The half of a cycle in which requests leave switches and processing elements.
 
 ghost use Rattle.std.specs.Prelude.{◌≡◌, ℕ, ◌<◌};
-ghost use Rattle.ultra_halves.specs.Halves.{lane_without};
-ghost use Rattle.ultra_halves.specs.Switches.{request_heads, requests_leaving, without_requests};
-ghost use Rattle.ultra_units.specs.Inlets.{LeadOn, LeadsTo, put_on_both, request_inlets};
-ghost use Rattle.ultra_units.specs.Links.{put_on};
-ghost use Rattle.ultra_units.specs.Numbers.{request_target};
-ghost use Rattle.ultra_units.specs.Ways.{places_of, request_targets, request_ways};
-ghost use Rattle.ultra_units.specs.Visits.{after_units};
-ghost use Rattle.ultra_section.specs.Rooms.{AreOwnRooms};
-ghost use Rattle.ultra_section.specs.declared.rooms.Rooms.{Rooms};
-ghost use Rattle.ultra_section.specs.RequestsSent.{element_sends_request, request_leaving, sends_requests, switch_sends_requests};
-ghost use Rattle.ultra_units.specs.Units.{IsElement, IsSwitch};
-ghost use Rattle.ultra_section.specs.Idle.{HoldsNoRequest};
+ghost use Rattle.ultra_section.specs.Prelude.{lane_without, request_heads, requests_leaving, without_requests, LeadOn, LeadsTo, put_on_both, request_inlets, put_on, request_target, places_of, request_targets, request_ways, after_units, IsElement, IsSwitch};
+ghost use Rattle.ultra_section.specs.{Rooms.AreOwnRooms, declared.rooms.Rooms.Rooms, RequestsSent.element_sends_request, RequestsSent.request_leaving, RequestsSent.sends_requests, RequestsSent.switch_sends_requests, Idle.HoldsNoRequest};
 
 use crate::block::Block;
 use crate::rooms::Rooms;

@@ -1,11 +1,8 @@
 //! The half of a cycle in which modules serve.
 
 ghost use Rattle.std.specs.Prelude.{◌≡◌, ℕ, ◌<◌, length};
-ghost use Rattle.ultra_units.specs.Visits.{after_units};
-ghost use Rattle.ultra_section.specs.BlockState.{HasEventRoom, most_events};
-ghost use Rattle.ultra_section.specs.Serving.{module_serves, serves};
-ghost use Rattle.ultra_units.specs.Units.{IsModule};
-ghost use Rattle.ultra_section.specs.Idle.{ServesNothing};
+ghost use Rattle.ultra_section.specs.Prelude.{after_units, IsModule};
+ghost use Rattle.ultra_section.specs.{BlockState.HasEventRoom, BlockState.most_events, Serving.module_serves, Serving.serves, Idle.ServesNothing};
 
 use crate::block::Block;
 use ultra_halves::append;

@@ -1,11 +1,8 @@
 //! What is known of the units that stand in a block, as sets of their numbers.
 
-ghost use Rattle.std.specs.Prelude.{◌≡◌, ℕ, ◌<◌, true, false, Some, is_some};
-ghost use Rattle.ultra_isa.specs.Step.{has_stopped};
-ghost use Rattle.ultra_halves.specs.Elements.{holds_request};
-ghost use Rattle.ultra_halves.specs.Switches.{has_reply_room, has_request_room, holds_replies, holds_requests, keeps_records};
-ghost use Rattle.ultra_section.specs.Sets.{AreNoted, NoLess, NoMore, element_facts, fact_of, facts_at, module_facts, no_facts, records_noted, replies_noted, reply_noted, request_noted, requests_noted, switch_facts, would_serve};
-ghost use Rattle.ultra_units.specs.Set.{has_unit};
+ghost use Rattle.std.specs.Prelude.{◌≡◌, ℕ, ◌<◌, true, false, Some, is_some, ◌&&◌};
+ghost use Rattle.ultra_section.specs.Prelude.{has_stopped, holds_request, has_reply_room, has_request_room, holds_replies, holds_requests, keeps_records, has_unit};
+ghost use Rattle.ultra_section.specs.Sets.{AreNoted, all_noted, both, departure_noted, either, element_facts, fact_of, facts_at, module_facts, no_facts, records_noted, replies_noted, request_noted, requests_noted, service_noted, switch_facts};
 
 use crate::held::Held;
 use ultra_halves::{ProcessingElement, modules, switches};
@@ -121,8 +118,7 @@ impl Sets {
     /// Notes what is true of the replies of a switch that stands here, once replies have left it.
     #[inline(always)]
     pub(crate) fn note_replies_sent(&mut self, unit: UnitNumber, switch: &Switch)
-        requires fewer { NoMore (replies_noted switch.now) (facts_at self.old unit) }
-        ensures { AreNoted unit (replies_noted switch.now (facts_at self.old unit)) self.old self.new }
+        ensures { AreNoted unit (replies_noted both switch.now (facts_at self.old unit)) self.old self.new }
     {
         let is_full = !switches::has_reply_room(switch);
         self.holds_replies
@@ -133,8 +129,7 @@ impl Sets {
     /// Notes what is true of the requests of a switch that stands here, once requests have left it.
     #[inline(always)]
     pub(crate) fn note_requests_sent(&mut self, unit: UnitNumber, switch: &Switch)
-        requires fewer { NoMore (requests_noted switch.now) (facts_at self.old unit) }
-        ensures { AreNoted unit (requests_noted switch.now (facts_at self.old unit)) self.old self.new }
+        ensures { AreNoted unit (requests_noted both switch.now (facts_at self.old unit)) self.old self.new }
     {
         let room = switches::has_request_room(switch);
         self.holds_requests
@@ -146,9 +141,7 @@ impl Sets {
     /// Notes what is true of a switch that stands here, once replies have come to it. It keeps no record that it didn't keep before.
     #[inline(always)]
     pub(crate) fn note_replies_taken(&mut self, unit: UnitNumber, switch: &Switch)
-        requires more { NoLess (replies_noted switch.now) (facts_at self.old unit) }
-        requires fewer { NoMore (records_noted switch.now) (facts_at self.old unit) }
-        ensures { AreNoted unit (records_noted switch.now (replies_noted switch.now (facts_at self.old unit))) self.old self.new }
+        ensures { AreNoted unit (records_noted both switch.now (replies_noted either switch.now (facts_at self.old unit))) self.old self.new }
     {
         let is_full = !switches::has_reply_room(switch);
         self.holds_replies
@@ -168,9 +161,7 @@ impl Sets {
         switch: &Switch,
         may_differ: bool,
     )
-        requires more { NoLess (λ f. records_noted switch.now (requests_noted switch.now f)) (facts_at self.old unit) }
-        requires noted { may_differ ≡ false → (facts_at self.old unit).keeps_records ≡ keeps_records switch.now }
-        ensures { AreNoted unit (records_noted switch.now (requests_noted switch.now (facts_at self.old unit))) self.old self.new }
+        ensures { AreNoted unit (all_noted may_differ switch.now (facts_at self.old unit)) self.old self.new }
     {
         let room = switches::has_request_room(switch);
         self.holds_requests
@@ -186,8 +177,7 @@ impl Sets {
     /// Notes what is true of a module that stands here, once a request has come to it.
     #[inline(always)]
     pub(crate) fn note_request_came(&mut self, unit: UnitNumber, bank: &Module)
-        requires more { NoLess (request_noted bank.now) (facts_at self.old unit) }
-        ensures { AreNoted unit (request_noted bank.now (facts_at self.old unit)) self.old self.new }
+        ensures { AreNoted unit (request_noted either bank.now (facts_at self.old unit)) self.old self.new }
     {
         let holds_request = modules::holds_request(bank);
         self.holds_requests.insert_if(unit, holds_request);
@@ -199,9 +189,7 @@ impl Sets {
     /// Notes what is true of a module that stands here, once it has served.
     #[inline(always)]
     pub(crate) fn note_served(&mut self, unit: UnitNumber, bank: &Module)
-        requires more { NoLess (λ f. record f { holds_replies = is_some bank.now.out }) (facts_at self.old unit) }
-        requires fewer { NoMore (request_noted bank.now) (facts_at self.old unit) }
-        ensures { AreNoted unit (reply_noted bank.now (request_noted bank.now (facts_at self.old unit))) self.old self.new }
+        ensures { AreNoted unit (service_noted bank.now (facts_at self.old unit)) self.old self.new }
     {
         let holds_reply = modules::holds_reply(bank);
         let holds_request = modules::holds_request(bank);
@@ -215,9 +203,7 @@ impl Sets {
     /// Notes what is true of a module that stands here, once a reply has left it.
     #[inline(always)]
     pub(crate) fn note_reply_left(&mut self, unit: UnitNumber, bank: &Module)
-        requires fewer { NoMore (λ f. record f { holds_replies = is_some bank.now.out }) (facts_at self.old unit) }
-        requires more { NoLess (λ f. record f { to_serve = would_serve bank.now }) (facts_at self.old unit) }
-        ensures { AreNoted unit (reply_noted bank.now (facts_at self.old unit)) self.old self.new }
+        ensures { AreNoted unit (departure_noted bank.now (facts_at self.old unit)) self.old self.new }
     {
         let holds_reply = modules::holds_reply(bank);
         self.holds_replies.remove_unless(unit, holds_reply);
@@ -244,8 +230,7 @@ impl Sets {
     /// Notes what is true of the requests of a processing element, once one has left it.
     #[inline(always)]
     pub(crate) fn note_request_left(&mut self, unit: UnitNumber, element: &ProcessingElement)
-        requires fewer { NoMore (λ f. record f { holds_requests = holds_request element.now }) (facts_at self.old unit) }
-        ensures { AreNoted unit (record (facts_at self.old unit) { holds_requests = holds_request element.now }) self.old self.new }
+        ensures { AreNoted unit (record (facts_at self.old unit) { holds_requests = (facts_at self.old unit).holds_requests && holds_request element.now }) self.old self.new }
     {
         self.holds_requests
             .remove_unless(unit, element.holds_request());

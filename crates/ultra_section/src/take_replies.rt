@@ -1,15 +1,8 @@
 //! The half of a cycle in which replies come to switches and processing elements.
 
 ghost use Rattle.std.specs.Prelude.{◌≡◌, ℕ, ◌<◌, length};
-ghost use Rattle.ultra_halves.specs.Switches.{CanTakeReplies, after_replies};
-ghost use Rattle.ultra_units.specs.Inlets.{AreInlets, reply_inlets};
-ghost use Rattle.ultra_units.specs.Marks.{on_both, without_both};
-ghost use Rattle.ultra_units.specs.Numbers.{switch_count};
-ghost use Rattle.ultra_units.specs.Visits.{after_units};
-ghost use Rattle.ultra_section.specs.BlockState.{most_events};
-ghost use Rattle.ultra_section.specs.RepliesTaken.{CanTakeRepliesAt, ElementCanTakeReply, SwitchCanTakeReplies, element_takes_reply, switch_takes_replies, takes_replies};
-ghost use Rattle.ultra_units.specs.Units.{IsElement, IsSwitch};
-ghost use Rattle.ultra_section.specs.Idle.{GetsNoReply};
+ghost use Rattle.ultra_section.specs.Prelude.{CanTakeReplies, after_replies, AreInlets, reply_inlets, on_both, without_both, switch_count, after_units, IsElement, IsSwitch};
+ghost use Rattle.ultra_section.specs.{BlockState.most_events, RepliesTaken.CanTakeRepliesAt, RepliesTaken.ElementCanTakeReply, RepliesTaken.SwitchCanTakeReplies, RepliesTaken.element_takes_reply, RepliesTaken.switch_takes_replies, RepliesTaken.takes_replies, Idle.GetsNoReply};
 
 use crate::block::Block;
 use ultra_halves::append;

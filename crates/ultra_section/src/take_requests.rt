@@ -1,15 +1,8 @@
 //! The half of a cycle in which requests come to switches and modules.
 
 ghost use Rattle.std.specs.Prelude.{◌≡◌, ℕ, ◌+◌, ◌<◌, ◌≤◌, ◌↔◌, ◌++◌, [], Bool, false, length, vec_capacity};
-ghost use Rattle.std.specs.Option.{ForSome};
-ghost use Rattle.ultra_halves.specs.Switches.{HasWay, after_both, combinations_of_both};
-ghost use Rattle.ultra_units.specs.Inlets.{AreInlets, request_inlets};
-ghost use Rattle.ultra_units.specs.Marks.{on_link, ports_in_turn, request_links, without_both};
-ghost use Rattle.ultra_units.specs.Visits.{after_units};
-ghost use Rattle.ultra_section.specs.BlockState.{most_events};
-ghost use Rattle.ultra_section.specs.RequestsTaken.{CanTakeRequestsAt, ModuleCanTakeRequest, SwitchCanTakeRequests, module_takes_request, switch_takes_requests, takes_requests};
-ghost use Rattle.ultra_units.specs.Units.{IsModule, IsSwitch};
-ghost use Rattle.ultra_section.specs.Idle.{GetsNoRequest};
+ghost use Rattle.ultra_section.specs.Prelude.{ForSome, HasWay, after_both, combinations_of_both, AreInlets, request_inlets, on_link, ports_in_turn, request_links, without_both, after_units, IsModule, IsSwitch};
+ghost use Rattle.ultra_section.specs.{BlockState.most_events, RequestsTaken.CanTakeRequestsAt, RequestsTaken.ModuleCanTakeRequest, RequestsTaken.SwitchCanTakeRequests, RequestsTaken.module_takes_request, RequestsTaken.switch_takes_requests, RequestsTaken.takes_requests, Idle.GetsNoRequest};
 
 use crate::block::Block;
 use ultra_halves::modules;

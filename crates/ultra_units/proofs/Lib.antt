@@ -1,3 +1,4 @@
+pub mod Common
 pub mod Set
 pub mod Steps
 pub mod Visits

@@ -1,12 +1,6 @@
 -- What is on links once something has been put on one, or taken, and the units to which messages lead then.
-use Rattle.std.proofs.Common.{◌≡◌, ◌≢◌, ℕ, Bool, List, true, Option, Some, None, length, replicate, set, get_or, arith, get_or-set_same, get_or-set_other}
-use Rattle.std.specs.Prelude.{◌⊎◌}
-use Rattle.std.proofs.lemmas.List.{length-set, length-replicate, get_or-replicate, get_or_past, set_comm}
-use Rattle.ultra_switch.specs.declared.Ports.{Ports}
-use Rattle.ultra_units.specs.Set.{has_unit}
-use Rattle.ultra_units.specs.Links.{put_on}
-use Rattle.ultra_units.specs.Inlets.{AreTargets, LeadsTo}
-use Rattle.ultra_units.specs.Marks.{on_link, ports_in_turn, without_both}
+use Rattle.std.proofs.Common.{◌≡◌, ◌≢◌, ℕ, Bool, List, true, Option, Some, None, length, replicate, set, get_or, arith, get_or-set_same, get_or-set_other, ◌⊎◌}
+use Rattle.ultra_units.proofs.Common.{length-set, length-replicate, get_or-replicate, get_or_past, set_comm, Ports, has_unit, put_on, AreTargets, LeadsTo, on_link, ports_in_turn, without_both}
 
 pub length-put_on : {M : Type 0} (t : List (Option M)) (link : ℕ) (o : Option M) → length (put_on t link o) ≡ length t
 length-put_on t link o = grind (arith, length-set)

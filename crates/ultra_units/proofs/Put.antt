@@ -1,14 +1,7 @@
 -- What is on links, after something was put on others or on them; and that no two places have one link.
-use Rattle.std.proofs.Common.{◌≡◌, ◌≢◌, ℕ, ◌+◌, ◌-◌, ◌*◌, ◌/◌, ◌^◌, ◌<◌, ◌≤◌, true, false, List, Option, Some, None, length, get_or-set_same, get_or-set_other, ◌∙◌, ap, arith}
-use Rattle.std.specs.Prelude.{nat_lt}
-use Rattle.ultra_route.proofs.Table.{sizes}
-use Rattle.ultra_switch.specs.declared.Ports.{Ports}
-use Rattle.ultra_units.specs.Numbers.{switch_count, place_number}
-use Rattle.ultra_units.specs.Units.{IsSwitch}
-use Rattle.ultra_units.specs.Links.{put_on}
-use Rattle.ultra_units.specs.Inlets.{put_on_both}
+use Rattle.std.proofs.Common.{◌≡◌, ◌≢◌, ℕ, ◌+◌, ◌-◌, ◌*◌, ◌/◌, ◌^◌, ◌<◌, ◌≤◌, true, false, List, Option, Some, None, length, get_or-set_same, get_or-set_other, arith, nat_lt}
+use Rattle.ultra_units.proofs.Common.{sizes, switch_count, place_number, IsSwitch, put_on, on_link}
 pub use Rattle.ultra_units.specs.Ways.{places_of}
-use Rattle.ultra_units.specs.Marks.{on_link}
 
 -- what is on a link on which something may have been put
 abbrev pub put_or : {M : Type 0} → Option M → Option M → Option M
@@ -21,10 +14,6 @@ module _ {M : Type 0} (t : List (Option M)) where
 
   pub put_there : (a : ℕ) (o : Option M) → a < length t → on_link (put_on t a o) a ≡ put_or o (on_link t a)
   put_there a o within = grind (arith, get_or-set_same)
-
-module _ {M : Type 0} (t : List (Option M)) (p : Ports ℕ) (out : Ports (Option M)) where
-  pub link_apart_put : (x : ℕ) → x ≢ p.zero → x ≢ p.one → on_link (put_on_both t p out) x ≡ on_link t x
-  link_apart_put x zero one = grind (arith, put_apart)
 
 -- ---- places
 row : (d n : ℕ) → (d + 1) * n ≡ d * n + n
@@ -58,10 +47,3 @@ module _ (d behind : ℕ) (low : 1 ≤ d) (high : d ≤ 6) where
   pub written_behind : (m : ℕ) → writer d behind (place_number d d m) ≡ behind + m
   unfolding writer
   written_behind m = grind (arith, places_twice)
-
-  -- what a switch puts on its links leaves those of others
-  pub written_apart : {M : Type 0} (t : List (Option M)) (out : Ports (Option M)) (n s k l : ℕ) → IsSwitch d n s k → writer d behind l ≢ n
-      → on_link (put_on_both t (places_of d s k) out) l ≡ on_link t l
-  written_apart t out n s k l is other =
-      let own = written n s k is in
-      link_apart_put t (places_of d s k) out l (λ same. other (ap (writer d behind) same ∙ own.0)) (λ same. other (ap (writer d behind) same ∙ own.1))

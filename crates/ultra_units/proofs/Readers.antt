@@ -1,17 +1,9 @@
 -- The unit to which each link leads, computed over every network of at most six stages.
-use Rattle.std.proofs.Common.{◌≡◌, ◌≢◌, ℕ, ◌+◌, ◌-◌, ◌*◌, ◌/◌, ◌%◌, ◌^◌, ◌<◌, ◌≤◌, Bool, true, false, ◌&&◌, Option, Some, None, refl, subst, inl, inr, arith}
-use Rattle.std.specs.Prelude.{◌==◌, ◌||◌, nat_le, nat_lt, not}
-use Rattle.std.proofs.lemmas.Bool.{cases_lt}
-use Rattle.std.proofs.lemmas.Bool.Decides.{nat_tests}
-use Rattle.ultra_switch.specs.declared.Ports.{Ports}
+use Rattle.std.proofs.Common.{◌≡◌, ◌≢◌, ℕ, ◌+◌, ◌-◌, ◌*◌, ◌/◌, ◌%◌, ◌^◌, ◌<◌, ◌≤◌, Bool, true, false, ◌&&◌, Option, Some, None, refl, subst, inl, inr, arith, ◌==◌, ◌||◌, nat_le, nat_lt, not}
+use Rattle.ultra_units.proofs.Common.{cases_lt, nat_tests, Ports, all_below_at, AreInlets, LeadOn, LeadsTo, at_both, link_count, reply_inlets, request_inlets, delivery_link, memory_link, reply_links, request_links, switch_count, switch_number, unit_count, place_number, reply_target, request_target, IsElement, IsModule, IsSwitch, index_of, stage_of}
 use Rattle.ultra_route.specs.Route.{shuffled}
-use Rattle.ultra_route.proofs.Table.{all_below, all_below_at}
-use Rattle.ultra_units.proofs.Put.{has_places}
-use Rattle.ultra_units.proofs.Standing.{is_switch}
-use Rattle.ultra_units.specs.Inlets.{AreInlets, LeadOn, LeadsTo, at_both, link_count, reply_inlets, request_inlets}
-use Rattle.ultra_units.specs.Marks.{delivery_link, memory_link, reply_links, request_links}
-use Rattle.ultra_units.specs.Numbers.{switch_count, switch_number, unit_count, place_number, reply_target, request_target}
-use Rattle.ultra_units.specs.Units.{IsElement, IsModule, IsSwitch, index_of, stage_of}
+use Rattle.ultra_route.proofs.Table.{all_below}
+use Rattle.ultra_units.proofs.{Put.has_places, Standing.is_switch}
 use Rattle.ultra_units.specs.Ways.{reply_targets, request_targets}
 
 -- what is computed of every network

@@ -1,12 +1,10 @@
 -- Units and the bits of their words.
-use Rattle.std.proofs.Common.{◌≡◌, ℕ, min, Bool, ◌&&◌, ◌||◌, ◌+◌, ◌-◌, ◌*◌, ◌/◌, ◌%◌, ◌^◌, ◌<◌, ◌≤◌, true, false, List, length, get_or, set, eqb, sym, ◌∙◌, ap, inl, inr, arith, eq-eqb, get_or-set_same, get_or-set_other, replicate, w64}
-use Rattle.std.proofs.lemmas.Bool.{cases_lt}
-use Rattle.std.proofs.lemmas.List.{get_or-replicate, get_or_past, length-replicate}
+use Rattle.std.proofs.Common.{◌≡◌, ℕ, min, Bool, ◌&&◌, ◌+◌, ◌-◌, ◌*◌, ◌/◌, ◌%◌, ◌^◌, ◌<◌, ◌≤◌, true, false, List, [], ◌∷◌, zero, suc, refl, length, get_or, set, eqb, sym, ◌∙◌, ap, inl, inr, arith, eq-eqb, get_or-set_same, get_or-set_other, replicate, w64, bit_and, bit_or, not, ◌||◌, ◌≢◌}
+use Rattle.ultra_units.proofs.Common.{cases_lt, eqb-true, get_or-replicate, get_or_past, length-replicate, AreBehind, has_bit, HasNoneWithin, HasNoneFrom, IsFirstFrom, IsFirstBit}
 use Rattle.std.proofs.lemmas.Nat.{pow_below, shr-shr, le_or_l, le_or_r}
 use Rattle.std.proofs.lemmas.Nat.Bits.{bit_at-lt, bit_at-zero, shr_and_one, bit_at_above, bit_at_and, bit_at_not, bit_at_or, bit_at_set_same, bit_at_set_other, bit_at_clear_same, bit_at_clear_other, bit_at-trailing_zeros}
-use Rattle.std.specs.Prelude.{bit_and, bit_or, not, ◌≢◌}
 use Rattle.std.specs.Int.{bit_at, bit_not, trailing_zeros}
-use Rattle.ultra_units.specs.Set.{AreBehind, has_bit, has_unit, HasNoneWithin, HasNoneFrom, IsFirstFrom, IsFirstBit}
+use Rattle.ultra_units.specs.Set.{has_unit}
 
 -- ---- bits of one word
 
@@ -37,6 +35,9 @@ alone i within = let fits = pow_below i 64 within in omega (arith, fits)
 pub none_there : (n k : ℕ) → has_unit (replicate n 0) k ≡ false
 unfolding has_unit
 none_there n k = grind (arith, get_or-replicate, get_or_past, length-replicate)
+
+pub none_in_empty : HasNoneFrom (replicate 5 0) 0
+none_in_empty k _ = none_there 5 k
 
 -- a unit past the words isn't in the set
 pub past_words : (words : List ℕ) (k : ℕ) → 64 * length words ≤ k → has_unit words k ≡ false
@@ -123,6 +124,32 @@ joined words a b c low high k after before = grind arith
 pub first_after : (words : List ℕ) (a b k : ℕ) → a ≤ b → HasNoneWithin words a b → IsFirstFrom words b k → IsFirstFrom words a k
 first_after words a b k order low first = grind arith
 
+-- ---- the units from a number on: what is left of its word when the bits before it are gone
+module _ (words : List ℕ) (from : ℕ) (fits : get_or words (from / 64) 0 < 2 ^ 64) where
+  abbrev rest : ℕ
+  rest = get_or words (from / 64) 0 / 2 ^ (from % 64)
+
+  in_rest : (k : ℕ) → from ≤ k → k / 64 ≡ from / 64 → has_unit words k ≡ has_bit rest (k - from)
+  in_rest k after row =
+      let moved = shifted (get_or words (from / 64) 0) (from % 64) (k - from) in
+      let there = at_bit words (from / 64) (k % 64) (omega arith) in
+      let place : from % 64 + (k - from) ≡ k % 64 = omega arith in
+      let same : from / 64 * 64 + k % 64 ≡ k = omega arith in
+      grind arith
+
+  pub first_in_rest : from < 320 → (bit : ℕ) → IsFirstBit rest 0 bit → IsFirstFrom words from (from + bit)
+  first_in_rest small bit lowest =
+      let within = below_64 _ fits (from % 64 + bit) (sym (shifted _ (from % 64) bit) ∙ lowest.set) in
+      record {
+        after = omega arith;
+        within = omega arith;
+        there = (let there = in_rest (from + bit) (omega arith) (omega arith) in let set = lowest.set in let place : from + bit - from ≡ bit = omega arith in grind arith);
+        between = λ k after before. (let there = in_rest k after (omega arith) in let clear = lowest.between (k - from) (omega arith) (omega arith) in grind arith);
+      }
+
+  pub none_in_rest : rest ≡ 0 → HasNoneWithin words from ((from / 64 + 1) * 64)
+  none_in_rest none k after before = let there = in_rest k after (omega arith) in let clear = bit_at-zero (k - from) in grind arith
+
 -- no unit from 320 on is in a set
 pub none_past : (words : List ℕ) → length words ≡ 5 → HasNoneFrom words 320
 none_past words five k past = past_words words k (omega arith)
@@ -145,11 +172,36 @@ pub bits_left : (a b : ℕ) → b < 2 ^ 64 → (i : ℕ) → i < 64 → has_bit 
 bits_left a b fits i within = search (arith, bit_at_and, bit_at_not, one_without, bit_at-lt)
 
 -- five words, each made of two others bit by bit
-pub bit_by_bit : (f : Bool → Bool → Bool) → f false false ≡ false → (a b c : List ℕ) → length a ≡ 5 → length b ≡ 5 → length c ≡ 5
-    → ((i : ℕ) → i < 5 → (j : ℕ) → j < 64 → has_bit (get_or c i 0) j ≡ f (has_bit (get_or a i 0) j) (has_bit (get_or b i 0) j))
-    → (k : ℕ) → has_unit c k ≡ f (has_unit a k) (has_unit b k)
-unfolding has_unit
-bit_by_bit f none a b c five_a five_b five_c words k = grind (arith, past_words)
+module _ (f : Bool → Bool → Bool) (none : f false false ≡ false) (a b : List ℕ) (five_a : length a ≡ 5) (five_b : length b ≡ 5) where
+  abbrev Made : ℕ → ℕ → Type 0
+  Made i word = (j : ℕ) → j < 64 → has_bit word j ≡ f (has_bit (get_or a i 0) j) (has_bit (get_or b i 0) j)
+
+  module _ (v w x y z : ℕ) (first : Made 0 v) (second : Made 1 w) (third : Made 2 x) (fourth : Made 3 y) (fifth : Made 4 z) where
+    made_at : (i : ℕ) → Made i (get_or (v ∷ w ∷ x ∷ y ∷ z ∷ []) i 0)
+    made_at zero = first
+    made_at (suc zero) = second
+    made_at (suc (suc zero)) = third
+    made_at (suc (suc (suc zero))) = fourth
+    made_at (suc (suc (suc (suc zero)))) = fifth
+    made_at (suc (suc (suc (suc (suc i))))) = λ j _. let clear = bit_at-zero j in grind (arith, get_or_past)
+
+    pub word_by_word : (k : ℕ) → has_unit (v ∷ w ∷ x ∷ y ∷ z ∷ []) k ≡ f (has_unit a k) (has_unit b k)
+    unfolding has_unit
+    word_by_word k = made_at (k / 64) (k % 64) (omega arith)
+
+module _ (a b : List ℕ) (five_a : length a ≡ 5) (five_b : length b ≡ 5) where
+  abbrev Without : ℕ → ℕ → Type 0
+  Without i word = (j : ℕ) → j < 64 → has_bit word j ≡ has_bit (get_or a i 0) j && not (has_bit (get_or b i 0) j)
+
+  united : (i j : ℕ) → j < 64 → has_bit (bit_or (get_or a i 0) (get_or b i 0)) j ≡ has_bit (get_or a i 0) j || has_bit (get_or b i 0) j
+  united i j _ = or_bits _ _ j
+
+  pub union : (k : ℕ) → has_unit (bit_or (get_or a 0 0) (get_or b 0 0) ∷ bit_or (get_or a 1 0) (get_or b 1 0) ∷ bit_or (get_or a 2 0) (get_or b 2 0) ∷ bit_or (get_or a 3 0) (get_or b 3 0) ∷ bit_or (get_or a 4 0) (get_or b 4 0) ∷ []) k
+      ≡ has_unit a k || has_unit b k
+  union = word_by_word (λ x y. x || y) refl a b five_a five_b _ _ _ _ _ (united 0) (united 1) (united 2) (united 3) (united 4)
+
+  pub difference : (v w x y z : ℕ) → Without 0 v → Without 1 w → Without 2 x → Without 3 y → Without 4 z → (k : ℕ) → has_unit (v ∷ w ∷ x ∷ y ∷ z ∷ []) k ≡ has_unit a k && not (has_unit b k)
+  difference = word_by_word (λ x y. x && not y) refl a b five_a five_b
 
 -- ---- a set without any unit
 
@@ -170,3 +222,5 @@ module _ (words : List ℕ) (five : length words ≡ 5) where
 
   pub none_in_words : get_or words 0 0 ≡ 0 → HasNoneFrom words 64 → HasNoneFrom words 0
   none_in_words none others k past = grind (arith, row_at)
+
+pub ruleset first_word_steps = (none_past_first, eqb-true)

@@ -1,7 +1,6 @@
 -- The unit with a number is that of its kind.
 use Rattle.std.proofs.Common.{◌≡◌, ℕ, ◌^◌, ◌<◌, arith}
-use Rattle.ultra_units.specs.Numbers.{switch_count, module_number, element_number}
-use Rattle.ultra_units.specs.Units.{unit_of, stage_of, index_of, IsUnit, IsSwitch}
+use Rattle.ultra_units.proofs.Common.{switch_count, module_number, element_number, unit_of, stage_of, index_of, IsUnit, IsSwitch}
 use Rattle.ultra_units.specs.declared.unit.Unit.TheVariants.{Switch, Module, Element}
 
 pub is_switch : (d n : ℕ) → n < switch_count d → IsSwitch d n (stage_of d n) (index_of d n)

@@ -1,10 +1,6 @@
 -- Visits that change nothing may be left out.
-use Rattle.std.proofs.Common.{◌≡◌, ℕ, zero, suc, ◌+◌, ◌-◌, ◌≤◌, ◌<◌, Bool, List, Option, Some, None, false, refl, sym, ◌∙◌, ap, inl, inr, arith}
-use Rattle.std.specs.Prelude.{IfNone, IfSome}
-use Rattle.std.proofs.lemmas.Bool.{cases_lt}
-use Rattle.std.proofs.lemmas.Bool.Decides.{nat_tests}
-use Rattle.ultra_units.specs.Set.{has_unit, word_end}
-use Rattle.ultra_units.specs.Walk.{HasCome, WalkState, comes_to, keeps}
+use Rattle.std.proofs.Common.{◌≡◌, ℕ, zero, suc, ◌+◌, ◌-◌, ◌≤◌, ◌<◌, Bool, List, Option, Some, None, false, refl, sym, ◌∙◌, ap, inl, inr, arith, IfNone, IfSome}
+use Rattle.ultra_units.proofs.Common.{cases_lt, nat_tests, has_unit, word_end, HasCome, WalkState, comes_to, keeps}
 use Rattle.ultra_units.specs.Visits.{after_units, AreStillWithin}
 
 -- after the visits below `from`, those of n further units change nothing

@@ -1,14 +1,9 @@
 -- by which links messages come to the unit with a number, and what goes from one table of links to
 -- another
 use Rattle.std.specs.Prelude.{◌≡◌, ◌≢◌, ℕ, ◌+◌, ◌*◌, ◌^◌, ◌<◌, ◌⊎◌, false, length, List, Option, Some, None, slice_set}
-use Rattle.ultra_switch.specs.declared.Ports.{Ports}
+use Rattle.ultra_units.specs.Prelude.{Ports}
 use Rattle.ultra_units.specs.declared.unit.Unit.TheVariants as unit
-use Rattle.ultra_units.specs.Numbers.{switch_count}
-use Rattle.ultra_units.specs.Set.{has_unit}
-use Rattle.ultra_units.specs.Units.{index_of, stage_of, unit_of}
-use Rattle.ultra_units.specs.Links.{put_on}
-use Rattle.ultra_units.specs.Ways.{places_of}
-use Rattle.ultra_units.specs.Marks.{on_link, reply_links, delivery_link, request_links, memory_link}
+use Rattle.ultra_units.specs.{Numbers.switch_count, Set.has_unit, Units.index_of, Units.stage_of, Units.unit_of, Links.put_on, Ways.places_of, Marks.on_link, Marks.reply_links, Marks.delivery_link, Marks.request_links, Marks.memory_link}
 
 -- one link, which stands at both ports
 abbrev pub at_both : ℕ → Ports ℕ

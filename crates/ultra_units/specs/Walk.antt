@@ -1,6 +1,6 @@
 -- a walk over the units of a set, by their numbers, while the set loses some
 use Rattle.std.specs.Prelude.{◌≡◌, ℕ, ◌+◌, ◌-◌, ◌<◌, ◌≤◌, Bool, true, false, List, nat_lt}
-use Rattle.std.specs.Int.{bit_at}
+use Rattle.ultra_units.specs.Prelude.{bit_at}
 use Rattle.ultra_units.specs.Set.{has_bit, has_unit, word_end}
 
 -- the unit to which it has come, and the units behind that one in its word, by their distance

@@ -1,10 +1,8 @@
 -- where messages go from a unit, and where there is a way: the unit that they go to has room
 use Rattle.std.specs.Prelude.{ℕ, ◌+◌, ◌-◌, ◌*◌, ◌/◌, ◌%◌, ◌^◌, List, Bool, true, false, not, ◌==◌, Option, Some, None}
+use Rattle.ultra_units.specs.Prelude.{shuffled, bit_of, Ports}
 use Rattle.ultra_msg.specs.declared.Request.{Request}
-use Rattle.ultra_route.specs.Route.{shuffled, bit_of}
-use Rattle.ultra_switch.specs.declared.Ports.{Ports}
-use Rattle.ultra_units.specs.Set.{has_unit}
-use Rattle.ultra_units.specs.Numbers.{place_number, reply_target, request_target, switch_number}
+use Rattle.ultra_units.specs.{Set.has_unit, Numbers.place_number, Numbers.reply_target, Numbers.request_target, Numbers.switch_number}
 
 -- the links by which messages leave switch k of stage s
 abbrev pub places_of : ℕ → ℕ → ℕ → Ports ℕ

@@ -1,10 +1,6 @@
 -- where each switch of a network of d stages is, and what is beside it
 use Rattle.std.specs.Prelude.{◌≡◌, ℕ, ◌+◌, ◌^◌, ◌<◌, List, length, slice_index_or}
-use Rattle.ultra_units.specs.Numbers.{switch_count}
-use Rattle.ultra_units.specs.Units.{index_of, stage_of}
-use Rattle.ultra_units.specs.Marks.{reply_links, request_links}
-use Rattle.ultra_units.specs.Ways.{reply_targets, request_targets}
-use Rattle.ultra_units.specs.declared.wiring.Neighbours.{Neighbours}
+use Rattle.ultra_units.specs.{Numbers.switch_count, Units.index_of, Units.stage_of, Marks.reply_links, Marks.request_links, Ways.reply_targets, Ways.request_targets, declared.wiring.Neighbours.Neighbours}
 
 -- beside switch k of stage s
 abbrev pub neighbours : ℕ → ℕ → ℕ → Neighbours

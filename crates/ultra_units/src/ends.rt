@@ -1,10 +1,7 @@
 //! Messages at the ends of the network: they leave memory modules and processing elements, and come to them.
 
 ghost use Rattle.std.specs.Prelude.{◌≡◌, ◌^◌, ◌<◌, None, slice_set};
-ghost use Rattle.ultra_units.specs.Numbers.{place_number as number_of_place};
-ghost use Rattle.ultra_units.specs.Links.{put_on};
-ghost use Rattle.ultra_units.specs.Marks.{delivery_link, memory_link, on_link};
-ghost use Rattle.ultra_units.specs.Units.{IsElement, IsModule};
+ghost use Rattle.ultra_units.specs.{Numbers.place_number as number_of_place, Links.put_on, Marks.delivery_link, Marks.memory_link, Marks.on_link, Units.IsElement, Units.IsModule};
 
 use crate::links::Links;
 use crate::numbers::{place_number, switch_number};

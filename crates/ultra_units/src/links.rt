@@ -1,11 +1,8 @@
 //! The links of one kind of message, and the units to which messages lead.
 
 ghost use Rattle.std.specs.Prelude.{◌≡◌, ◌≢◌, ℕ, ◌<◌, true, false, Option, IfOk, None, is_some, length, replicate, slice_set};
-ghost use Rattle.ultra_switch.specs.declared.Ports.{Ports};
-ghost use Rattle.ultra_units.specs.Inlets.{AreEmpty, AreInlets, AreTargets, LeadsTo, link_count, put_on_both, reply_inlets, request_inlets, taken_by_turns};
-ghost use Rattle.ultra_units.specs.Links.{put_on};
-ghost use Rattle.ultra_units.specs.Set.{HasNoneFrom, has_unit};
-ghost use Rattle.ultra_units.specs.Marks.{on_link, ports_in_turn, without_both};
+ghost use Rattle.ultra_units.specs.Prelude.{Ports};
+ghost use Rattle.ultra_units.specs.{Inlets.AreEmpty, Inlets.AreInlets, Inlets.AreTargets, Inlets.LeadsTo, Inlets.link_count, Inlets.put_on_both, Inlets.reply_inlets, Inlets.request_inlets, Inlets.taken_by_turns, Links.put_on, Set.HasNoneFrom, Set.has_unit, Marks.on_link, Marks.ports_in_turn, Marks.without_both};
 
 use crate::entries::no_items;
 use crate::unit_set::{UnitNumber, UnitSet};
@@ -40,8 +37,7 @@ pub struct Links<M: Message> {
 }
 
 impl<M: Message> Model for Links<M> {
-    ghost use Rattle.ultra_units.specs.Inlets.{AreTargets};
-    ghost use Rattle.ultra_units.specs.Links.{LinksState};
+    ghost use Rattle.ultra_units.specs.{Inlets.AreTargets, Links.LinksState};
 
     ghost Value = { LinksState M };
 

@@ -1,8 +1,7 @@
 //! The numbers of units and of the links between them.
 
 ghost use Rattle.std.specs.Prelude.{◌≡◌, ◌+◌, ◌-◌, ◌*◌, ◌^◌, ◌<◌, ◌≤◌};
-ghost use Rattle.ultra_units.specs.Marks.{reply_links, request_links};
-ghost use Rattle.ultra_units.specs.Numbers.{element_number as number_of_element, module_number as number_of_module, place_number as number_of_place, reply_target as target_of_reply, request_target as target_of_request, switch_count as count_of_switches, switch_number as number_of_switch};
+ghost use Rattle.ultra_units.specs.{Marks.reply_links, Marks.request_links, Numbers.element_number as number_of_element, Numbers.module_number as number_of_module, Numbers.place_number as number_of_place, Numbers.reply_target as target_of_reply, Numbers.request_target as target_of_request, Numbers.switch_count as count_of_switches, Numbers.switch_number as number_of_switch};
 
 use ultra_route::Net;
 use ultra_switch::Ports;

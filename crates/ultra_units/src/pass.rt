@@ -1,8 +1,7 @@
 //! One loop over units.
 
 ghost use Rattle.std.specs.Prelude.{◌≡◌, ℕ, ◌<◌, false};
-ghost use Rattle.ultra_units.specs.Set.{has_unit};
-ghost use Rattle.ultra_units.specs.Visits.{after_units};
+ghost use Rattle.ultra_units.specs.{Set.has_unit, Visits.after_units};
 
 use crate::unit_set::{UnitNumber, UnitSet};
 use crate::walk::Walk;

@@ -1,8 +1,7 @@
 //! Which unit has a number.
 
 ghost use Rattle.std.specs.Prelude.{◌≡◌, ◌+◌, ◌<◌, ◌≤◌, ◌^◌, IfNone, IfSome};
-ghost use Rattle.ultra_units.specs.Numbers.{switch_count as count_of_switches};
-ghost use Rattle.ultra_units.specs.Units.{IsSwitch};
+ghost use Rattle.ultra_units.specs.{Numbers.switch_count as count_of_switches, Units.IsSwitch};
 
 use ultra_route::Net;
 

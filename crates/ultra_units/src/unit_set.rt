@@ -1,7 +1,7 @@
 //! Sets of units.
 
 ghost use Rattle.std.specs.Prelude.{◌≡◌, ◌≢◌, ℕ, ◌+◌, ◌*◌, ◌<◌, ◌≤◌, ◌&&◌, ◌||◌, true, false, not, IfNone, IfSome, length};
-ghost use Rattle.ultra_units.specs.Set.{AreBehind, HasNoneFrom, IsFirstFrom, has_bit, has_unit};
+ghost use Rattle.ultra_units.specs.Set.{HasNoneFrom, IsFirstFrom, has_bit, has_unit};
 
 use crate::walk::Walk;
 use std::marker::Model;
@@ -20,7 +20,7 @@ pub struct UnitSet {
 }
 
 impl Model for UnitSet {
-    ghost use Rattle.std.specs.Prelude.{List, ℕ};
+    ghost use Rattle.std.specs.Prelude.{List, ℕ, ◌<◌};
 
     ghost Value = { List ℕ };
 
@@ -36,8 +36,6 @@ pub struct UnitNumber {
 }
 
 impl Model for UnitNumber {
-    ghost use Rattle.std.specs.Prelude.{ℕ, ◌<◌};
-
     ghost Value = { ℕ };
 
     ghost view = { λ u. u.number };
@@ -69,6 +67,7 @@ impl UnitNumber {
 
 impl UnitSet {
     /// The set without any unit.
+    #[tactic(auto, using(crate::proofs::Set::none_in_empty))]
     pub fn empty() -> UnitSet
         ensures { HasNoneFrom result 0 }
     {
@@ -96,6 +95,7 @@ impl UnitSet {
 
     /// Puts a unit into the set.
     #[inline(always)]
+    #[tactic(auto, using(crate::proofs::Set::inserted_there, crate::proofs::Set::inserted_others))]
     pub fn insert(&mut self, unit: UnitNumber)
         ensures others { (k : ℕ) → k ≢ unit → has_unit self.new k ≡ has_unit self.old k }
         ensures there { has_unit self.new unit ≡ true }
@@ -112,24 +112,23 @@ impl UnitSet {
         self.remove_unless(unit, false);
     }
 
-    /// Puts a unit into the set, if `is_in`. One that is there already has to stay.
+    /// Puts a unit into the set, if `is_in`. One that is there already stays.
     #[inline(always)]
     pub fn insert_if(&mut self, unit: UnitNumber, is_in: bool)
-        requires { has_unit self.old unit ≡ true → is_in ≡ true }
         ensures others { (k : ℕ) → k ≢ unit → has_unit self.new k ≡ has_unit self.old k }
-        ensures there { has_unit self.new unit ≡ is_in }
+        ensures there { has_unit self.new unit ≡ has_unit self.old unit || is_in }
     {
         if is_in {
             self.insert(unit);
         }
     }
 
-    /// Takes a unit out of the set, unless `is_in`. One that isn't there has to stay away.
+    /// Takes a unit out of the set, unless `is_in`. One that isn't there stays away.
     #[inline(always)]
+    #[tactic(auto, using(crate::proofs::Set::all_kept, crate::proofs::Set::removed_there, crate::proofs::Set::removed_others))]
     pub fn remove_unless(&mut self, unit: UnitNumber, is_in: bool)
-        requires { has_unit self.old unit ≡ false → is_in ≡ false }
         ensures others { (k : ℕ) → k ≢ unit → has_unit self.new k ≡ has_unit self.old k }
-        ensures there { has_unit self.new unit ≡ is_in }
+        ensures there { has_unit self.new unit ≡ has_unit self.old unit && is_in }
     {
         let kept = if is_in {
             u64::MAX
@@ -141,24 +140,36 @@ impl UnitSet {
 
     /// Puts all units of another set into this one.
     #[inline(always)]
+    #[tactic(auto, using(crate::proofs::Set::union))]
     pub fn add_all(&mut self, other: &UnitSet)
         ensures { (k : ℕ) → has_unit self.new k ≡ has_unit self.old k || has_unit other.now k }
     {
-        for word in 0..WORDS {
-            self.words[word] |= other.words[word];
-        }
+        let (a, b) = (self.words, other.words);
+        self.words = [
+            a[0] | b[0],
+            a[1] | b[1],
+            a[2] | b[2],
+            a[3] | b[3],
+            a[4] | b[4],
+        ];
     }
 
     /// The units of this set that aren't in the other.
     #[inline(always)]
+    #[tactic(auto, using(crate::proofs::Set::difference))]
     pub fn without(&self, other: &UnitSet) -> UnitSet
         ensures { (k : ℕ) → has_unit result k ≡ has_unit self.now k && not (has_unit other.now k) }
     {
-        let mut rest = *self;
-        for word in 0..WORDS {
-            rest.words[word] = bits_without(rest.words[word], other.words[word]);
+        let (a, b) = (&self.words, &other.words);
+        UnitSet {
+            words: [
+                bits_without(a[0], b[0]),
+                bits_without(a[1], b[1]),
+                bits_without(a[2], b[2]),
+                bits_without(a[3], b[3]),
+                bits_without(a[4], b[4]),
+            ],
         }
-        rest
     }
 
     /// The first unit of the set whose number is at least `from`.
@@ -167,11 +178,23 @@ impl UnitSet {
         ensures some { IfSome result (λ k. IsFirstFrom self.now from k) }
         ensures none { IfNone result (HasNoneFrom self.now from) }
     {
-        Some(Walk::first_from(self, from)?.unit().number())
+        let words = self.words();
+        if UNITS <= from {
+            return None;
+        }
+        let rest = words[from / 64] >> (from % 64);
+        if rest != 0 {
+            return Some(from + rest.trailing_zeros() as usize);
+        }
+        if from < 64 && self.is_in_first_word() {
+            return None;
+        }
+        Some(Walk::from_word(self, from / 64 + 1)?.unit().number())
     }
 
     /// Whether all units of the set are in its first word, as in a small machine.
     #[inline(always)]
+    #[tactic(auto, using(crate::proofs::Set::first_word_steps))]
     pub(crate) fn is_in_first_word(&self) -> bool
         ensures { result ≡ true → HasNoneFrom self.now 64 }
     {
@@ -186,16 +209,6 @@ impl UnitSet {
         ensures count { length self.now ≡ 5 }
     {
         &self.words
-    }
-
-    /// The units behind the one of this number in its word: bit i says it of the one whose number is greater by i + 1.
-    #[inline(always)]
-    #[tactic(auto, using(crate::proofs::Set::behind))]
-    pub(crate) fn behind(&self, number: usize) -> u64
-        requires { number < 320 }
-        ensures { AreBehind self.now number result }
-    {
-        self.words[number / 64] >> (number % 64) >> 1
     }
 }
 

@@ -1,10 +1,9 @@
 //! Walks over the units of a set.
 
 ghost use Rattle.std.specs.Prelude.{◌≡◌, ℕ, ◌+◌, ◌*◌, ◌<◌, ◌≤◌, false, IfNone, IfSome};
-ghost use Rattle.ultra_units.specs.Set.{AreBehind, HasNoneFrom, IsFirstFrom, has_unit};
-ghost use Rattle.ultra_units.specs.Walk.{HasCome, comes_to};
+ghost use Rattle.ultra_units.specs.{Set.HasNoneFrom, Set.has_unit, Walk.HasCome, Walk.comes_to};
 
-use crate::unit_set::{UNITS, UnitNumber, UnitSet, WORDS};
+use crate::unit_set::{UnitNumber, UnitSet, WORDS};
 use std::marker::Model;
 
 /// A walk over the units of a set, by their numbers, while the set may lose units. It keeps the units behind the one to which it has come, in the same word, so the next is known before this one has been visited.
@@ -68,7 +67,7 @@ impl Walk {
 
     /// A walk at its first unit in the words from `first` on, or `None` where there is none.
     #[inline(always)]
-    fn from_word(set: &UnitSet, first: usize) -> Option<Walk>
+    pub(crate) fn from_word(set: &UnitSet, first: usize) -> Option<Walk>
         requires { first ≤ 5 }
         ensures some { IfSome result (HasCome (has_unit set.now) (first * 64)) }
         ensures none { IfNone result (HasNoneFrom set.now (first * 64)) }
@@ -85,33 +84,5 @@ impl Walk {
             }
         }
         None
-    }
-
-    /// A walk at its first unit from a number on, or `None` where there is none.
-    #[inline(always)]
-    pub(crate) fn first_from(set: &UnitSet, from: usize) -> Option<Walk>
-        ensures some { IfSome result (λ w. IsFirstFrom set.now from w.unit) }
-        ensures none { IfNone result (HasNoneFrom set.now from) }
-    {
-        if from == 0 {
-            return Walk::start(set);
-        }
-        if UNITS < from {
-            return Walk::from_word(set, WORDS);
-        }
-        Walk::at(set, from - 1).go_on(set)
-    }
-
-    /// A walk at the unit of this number, whether that is in the set or not.
-    #[inline(always)]
-    fn at(set: &UnitSet, number: usize) -> Walk
-        requires { number < 320 }
-        ensures unit { result.unit ≡ number }
-        ensures rest { AreBehind set.now number result.rest }
-    {
-        Walk {
-            unit: number,
-            rest: set.behind(number),
-        }
     }
 }

@@ -1,8 +1,7 @@
 //! Where messages go from a unit, and whether they may.
 
 ghost use Rattle.std.specs.Prelude.{◌≡◌, ℕ, ◌-◌, ◌^◌, ◌<◌};
-ghost use Rattle.ultra_units.specs.Numbers.{request_target as target_of_request};
-ghost use Rattle.ultra_units.specs.Ways.{has_request_way as way_of_request, has_room_at as room_at, has_way_from_element as way_from_element, reply_targets as targets_of_replies, reply_ways};
+ghost use Rattle.ultra_units.specs.{Numbers.request_target as target_of_request, Ways.has_request_way as way_of_request, Ways.has_room_at as room_at, Ways.has_way_from_element as way_from_element, Ways.reply_targets as targets_of_replies, Ways.reply_ways};
 
 use crate::numbers::switch_number;
 use crate::unit_set::UnitSet;

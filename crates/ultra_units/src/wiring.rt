@@ -1,12 +1,7 @@
 //! What is beside each switch of a network.
 
 ghost use Rattle.std.specs.Prelude.{◌≡◌, ◌-◌, ◌^◌, ◌<◌, IfOk, IfSome};
-ghost use Rattle.ultra_units.specs.Inlets.{AreInlets, LeadOn, reply_inlets, request_inlets};
-ghost use Rattle.ultra_units.specs.Marks.{reply_links as links_of_replies, request_links as links_of_requests};
-ghost use Rattle.ultra_units.specs.Numbers.{switch_count as count_of_switches};
-ghost use Rattle.ultra_units.specs.Units.{IsElement, IsModule, IsUnit, element_among, index_of, module_among, stage_of, unit_of};
-ghost use Rattle.ultra_units.specs.Ways.{reply_targets as targets_of_replies, request_targets as targets_of_requests};
-ghost use Rattle.ultra_units.specs.Wiring.{neighbours};
+ghost use Rattle.ultra_units.specs.{Inlets.AreInlets, Inlets.LeadOn, Inlets.reply_inlets, Inlets.request_inlets, Marks.reply_links as links_of_replies, Marks.request_links as links_of_requests, Numbers.switch_count as count_of_switches, Units.IsElement, Units.IsModule, Units.IsUnit, Units.element_among, Units.index_of, Units.module_among, Units.stage_of, Units.unit_of, Ways.reply_targets as targets_of_replies, Ways.request_targets as targets_of_requests, Wiring.neighbours};
 
 use crate::numbers::{
     positions, reply_sources, reply_target, request_sources, request_target, switch_count,

@@ -1,5 +1,5 @@
 use Rattle.std.proofs.Common.{◌≡◌, take}
-use Rattle.ultra_block.specs.Fresh.{filled}
+use Rattle.ultra_block.proofs.Common.{filled}
 use Rattle.ultra_block.proofs.building.fill.Given as goal
 
 abbrev pub invariant-loop-cell : goal.invariant-loop-cell

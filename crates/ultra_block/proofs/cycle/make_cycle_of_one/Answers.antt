@@ -1,26 +1,35 @@
-use Rattle.std.proofs.Common.{◌∙◌, arith}
-use Rattle.ultra_section.specs.declared.half.Half.TheVariants.{Execute}
-use Rattle.ultra_section.specs.Making.{CanMake}
-use Rattle.ultra_section.proofs.OwnProgram.{made_by_own}
-use Rattle.ultra_block.proofs.TurnOfOne.{can_execute, can_serve, can_take_replies, can_take_requests, next_machine, next_whole}
+use Rattle.std.proofs.Common.{ℕ, List, [], ◌∷◌, ap, arith}
+use Rattle.ultra_block.proofs.Common.{Instr, Settings, BlockState, Replies, Requests, AreWhole, Come, can_execute, can_serve, can_take_replies, can_take_requests, come_to_one, next, replies_left, replies_taken, requests_left, requests_taken, served}
+use Rattle.ultra_cut.proofs.Questions.{own_are_all}
 use Rattle.ultra_block.proofs.cycle.make_cycle_of_one.Goals as goal
+use Rattle.ultra_block.proofs.cycle.make_cycle_of_one.Goals.{After-send_replies_here, After-send_requests_here}
+
+abbrev one : BlockState → List BlockState
+one b = b ∷ []
+
+came : (c : After-send_replies_here) {s : Settings} {program : List Instr} {partition : List ℕ} {n : ℕ} (whole : AreWhole s program partition n (one c.args.block.now)) → Come whole Replies (one c.send_replies_here.new.self)
+came c whole = come_to_one whole (replies_left whole _ (own_are_all _ _ c.send_replies_here.ensures.1) (ap one c.send_replies_here.ensures.2))
+
+came_on : (c : After-send_requests_here) {s : Settings} {program : List Instr} {partition : List ℕ} {n : ℕ} (whole : AreWhole s program partition n (one c.args.block.now)) → Come whole Requests (one c.send_requests_here.new.self)
+came_on c whole =
+    let came = come_to_one whole (replies_left whole _ (own_are_all _ _ c.send_replies_here.ensures.1) (ap one c.send_replies_here.ensures.2)) in
+    let taken = replies_taken whole came (ap one c.take_replies.ensures) in
+    come_to_one whole (requests_left whole _ (own_are_all _ _ c.send_requests_here.ensures.1) (ap one c.send_requests_here.ensures.2) (served whole taken (ap one c.serve.ensures)))
 
 pub take_replies-requires : goal.take_replies-requires
-take_replies-requires c = search (arith, can_take_replies)
+take_replies-requires c = can_take_replies c.requires.4 (came (goal.at.take_replies-requires c).After-send_replies_here c.requires.4) 0 (omega arith)
 
 pub serve-requires : goal.serve-requires
-serve-requires c = search (arith, can_serve)
+serve-requires c = can_serve c.requires.4 (replies_taken c.requires.4 (came (goal.at.serve-requires c).After-send_replies_here c.requires.4) (ap one c.take_replies.ensures)) 0 (omega arith)
 
 pub take_requests-requires : goal.take_requests-requires
-take_requests-requires c = search (arith, can_take_requests)
+take_requests-requires c = can_take_requests c.requires.4 (came_on (goal.at.take_requests-requires c).After-send_requests_here c.requires.4) 0 (omega arith)
 
 pub execute-requires : goal.execute-requires
 execute-requires c =
-    let can : CanMake c.requires.1 Execute c.take_requests.new.self = search (arith, can_execute) in
+    let can = can_execute c.requires.4 (requests_taken c.requires.4 (came_on (goal.at.execute-requires c).After-send_requests_here c.requires.4) (ap one c.take_requests.ensures)) c.requires.5 0 (omega arith) in
     record { can = can.units; few = can.few }
 
 pub returns : goal.returns
 returns c = λ s partition n early program whole.
-    let can : CanMake program Execute c.take_requests.new.self = search (arith, can_execute) in
-    let executed = c.execute.ensures ∙ made_by_own program _ Execute c.send_requests_here.ensures.0 can in
-    search (arith, next_whole, next_machine)
+    next whole (requests_taken whole (came_on (goal.at.returns c).After-send_requests_here whole) (ap one c.take_requests.ensures)) early (ap one c.execute.ensures)

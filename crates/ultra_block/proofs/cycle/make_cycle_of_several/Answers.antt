@@ -1,36 +1,30 @@
-use Rattle.std.proofs.Common.{◌∙◌, arith}
-use Rattle.ultra_section.specs.declared.half.Half.TheVariants.{Execute}
-use Rattle.ultra_cut.specs.Halves.{AllCanMake}
-use Rattle.ultra_cut.proofs.Halves.{all_by_own}
-use Rattle.ultra_cut.proofs.Whole.{can_execute, can_serve, can_take_replies, can_take_requests, next_machine, next_whole, sent_cut, sent_on_cut, sent_on_single, sent_single}
+use Rattle.std.proofs.Common.{arith}
+use Rattle.ultra_block.proofs.Common.{Replies, Requests, can_execute, can_serve, can_take_replies, can_take_requests, left_cut, left_single, next, stages}
 use Rattle.ultra_block.proofs.cycle.make_cycle_of_several.Goals as goal
 
-pub exchange_replies-requires-clause-cut : goal.exchange_replies-requires-clause-cut
-exchange_replies-requires-clause-cut c = search (arith, sent_cut)
+pub exchange_messages-requires-clause-cut : goal.exchange_messages-requires-clause-cut
+exchange_messages-requires-clause-cut c = left_cut c.requires.whole.1 {kind = Replies} (search stages) c.net-net.ensures
 
-pub exchange_replies-requires-clause-single : goal.exchange_replies-requires-clause-single
-exchange_replies-requires-clause-single c = search (arith, sent_single)
+pub exchange_messages-requires-clause-single : goal.exchange_messages-requires-clause-single
+exchange_messages-requires-clause-single c = left_single c.requires.whole.1 {kind = Replies} (search stages)
 
 pub make-requires-2 : goal.make-requires-2
-make-requires-2 c = search (arith, can_take_replies)
+make-requires-2 c = (c.requires.whole.0, can_take_replies c.requires.whole.1 (search (arith, stages) fits 4000 depth 9))
 
 pub make-requires-3 : goal.make-requires-3
-make-requires-3 c = search (arith, can_serve)
+make-requires-3 c = (c.requires.whole.0, can_serve c.requires.whole.1 (search (arith, stages) fits 4000 depth 9))
 
-pub exchange_requests-requires-clause-cut : goal.exchange_requests-requires-clause-cut
-exchange_requests-requires-clause-cut c = search (arith, sent_on_cut)
+pub exchange_messages-requires-2-clause-cut : goal.exchange_messages-requires-2-clause-cut
+exchange_messages-requires-2-clause-cut c = left_cut c.requires.whole.1 {kind = Requests} (search stages fits 4000 depth 7) c.net-net.ensures
 
-pub exchange_requests-requires-clause-single : goal.exchange_requests-requires-clause-single
-exchange_requests-requires-clause-single c = search (arith, sent_on_single)
+pub exchange_messages-requires-2-clause-single : goal.exchange_messages-requires-2-clause-single
+exchange_messages-requires-2-clause-single c = left_single c.requires.whole.1 {kind = Requests} (search (arith, stages) fits 4000 depth 9)
 
 pub make-requires-5 : goal.make-requires-5
-make-requires-5 c = search (arith, can_take_requests)
+make-requires-5 c = (c.requires.whole.0, can_take_requests c.requires.whole.1 (search (arith, stages) fits 4000 depth 9))
 
 pub make-requires-6 : goal.make-requires-6
-make-requires-6 c = (c.requires.whole.0, search (arith, can_execute) fits 4000)
+make-requires-6 c = (c.requires.whole.0, can_execute c.requires.whole.1 (search (arith, stages) fits 4000 depth 9) c.requires.counted)
 
 pub returns : goal.returns
-returns c = λ program whole.
-    let can : AllCanMake program Execute c.make-5.new.blocks = search (arith, can_execute) fits 4000 in
-    let executed = c.make-6.ensures ∙ all_by_own program Execute c.note_rooms-rooms-2.result c.make-5.new.blocks can in
-    (search (arith, next_whole) fits 4000, search (arith, next_machine) fits 4000)
+returns c = λ program whole. next whole (search (arith, stages) fits 4000 depth 9) c.requires.counted c.make-6.ensures

@@ -1,6 +1,5 @@
 use Rattle.std.proofs.Common.{◌≡◌, ◌<◌, length, refl, arith}
-use Rattle.std.proofs.lemmas.List.{get_or_default, length-replicate, length-set}
-use Rattle.ultra_cut.specs.Cut.{block_at, home}
+use Rattle.ultra_block.proofs.Common.{get_or_default, length-replicate, length-set, home}
 use Rattle.ultra_block.proofs.Dealt.{is_dealt, none_carried, unit_carried}
 use Rattle.ultra_block.proofs.dealing.deal.Goals as goal
 

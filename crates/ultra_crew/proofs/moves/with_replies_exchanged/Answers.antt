@@ -6,5 +6,5 @@ use Rattle.ultra_crew.proofs.moves.with_replies_exchanged.Goals as goal
 
 pub returns : goal.returns
 returns c =
-    rw (with_items_is c.args.blocks c.exchange_replies.new.blocks (grind arith))
-    (are_exchanged Replies c.args.net c.args.partition.now c.args.blocks.items c.exchange_replies.new.blocks c.requires.blocks (rw c.as_mut_slice.ensures.value at c.exchange_replies.ensures.only) c.exchange_replies.ensures.there)
+    rw (with_items_is c.args.blocks c.exchange_messages.new.blocks (grind arith))
+    (are_exchanged Replies c.args.net c.args.partition.now c.args.blocks.items c.exchange_messages.new.blocks c.requires.blocks (rw c.as_mut_slice.ensures.value at c.exchange_messages.ensures.only) c.exchange_messages.ensures.there)

@@ -1,5 +1,5 @@
 use Rattle.std.proofs.Common.{arith}
-use Rattle.std.proofs.lemmas.Grind.{common_steps}
+use Rattle.ultra_cut.proofs.Common.{common_steps}
 use Rattle.ultra_cut.proofs.exchange.move_messages.Goals as goal
 
 pub returns-in-Some : goal.returns-in-Some

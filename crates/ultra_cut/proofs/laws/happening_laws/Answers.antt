@@ -1,5 +1,4 @@
-use Rattle.ultra_cut.proofs.Happenings.{happenings_law, listed_behind_law, merged_law}
-use Rattle.ultra_cut.proofs.Halves.{added_law}
+use Rattle.ultra_cut.proofs.{Happenings.happenings_law, Happenings.listed_behind_law, Happenings.merged_law, Halves.added_law}
 use Rattle.ultra_cut.proofs.laws.happening_laws.Goals as goal
 
 pub returns : goal.returns

@@ -1,7 +1,7 @@
-use Rattle.std.proofs.Common.{ℕ, List}
-use Rattle.ultra_cut.specs.Halves.{AreBlocks}
+use Rattle.std.proofs.Common.{◌≡◌, ℕ, take}
+use Rattle.ultra_cut.proofs.Common.{OfEach}
 use Rattle.ultra_cut.proofs.Questions.{HaveNoted}
 use Rattle.ultra_cut.proofs.rooms.note_rooms.Given as goal
 
 abbrev pub invariant-loop-block : goal.invariant-loop-block
-invariant-loop-block l = (d : ℕ) (partition : List ℕ) → AreBlocks d partition l.blocks → HaveNoted d partition l.blocks l.block-index l.rooms
+invariant-loop-block l = (d : ℕ) → OfEach (λ b. b.stages ≡ d) l.blocks → HaveNoted d (take l.block-index l.blocks) l.rooms

@@ -1,5 +1,4 @@
-use Rattle.std.proofs.Common.{◌≡◌, ℕ, ◌<◌, [], length, slice_index_or}
-use Rattle.std.specs.Prelude.{All}
+use Rattle.std.proofs.Common.{◌≡◌, ℕ, ◌<◌, [], length, slice_index_or, All}
 use Rattle.ultra_desk.specs.Tasks.{HasRoom}
 use Rattle.ultra_desk.proofs.teams.empty_teams.Given as goal
 

@@ -1,15 +1,6 @@
-use Rattle.std.proofs.Common.{◌∙◌, sym, subst, arith, ◌≡◌, ◌≢◌, ◌≤◌, ◌+◌, ℕ, List, Option, None, length, set, get_or-set_other}
-use Rattle.std.specs.Prelude.{IsTrue}
-use Rattle.std.specs.Option.{ForSome}
-use Rattle.ultra_msg.specs.declared.ReplyMessage.{ReplyMessage}
-use Rattle.ultra_switch.specs.declared.Ports.{Ports}
-use Rattle.ultra_switch.specs.declared.Switch.{Switch}
-use Rattle.ultra_switch.specs.Queues.{SizedLane, SizedReplies}
-use Rattle.ultra_model.specs.Phases.{replies_made}
-use Rattle.ultra_halves.specs.Halves.{going_by, lane_after_reply, ports, with_replies}
-use Rattle.ultra_halves.specs.Switches.{after_replies, has_reply_room}
+use Rattle.std.proofs.Common.{◌∙◌, sym, subst, arith, ◌≡◌, ◌≢◌, ◌≤◌, ◌+◌, ℕ, List, Option, None, length, set, get_or-set_other, IsTrue}
+use Rattle.ultra_section.proofs.Common.{ForSome, ReplyMessage, Ports, Switch, SizedLane, SizedReplies, replies_made, going_by, lane_after_reply, ports, with_replies, after_replies, has_reply_room, on_link}
 use Rattle.ultra_halves.proofs.Going.{room_left}
-use Rattle.ultra_units.specs.Marks.{on_link}
 use Rattle.ultra_section.proofs.take_replies.take_into_switch.Goals as goal
 
 module _ (d s : ℕ) (w : Switch) (p : Ports SizedReplies) (zero one : Option ReplyMessage)

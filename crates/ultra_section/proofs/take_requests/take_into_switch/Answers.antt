@@ -1,16 +1,5 @@
 use Rattle.std.proofs.Common.{[], ◌∙◌, ap, arith, ◌≡◌, ◌<◌, ◌++◌, ◌∷◌, ℕ, List, Bool, Option, None, set, get_or-set_other, refl}
-use Rattle.ultra_msg.specs.declared.Request.{Request}
-use Rattle.ultra_switch.specs.declared.Ports.{Ports}
-use Rattle.ultra_switch.specs.declared.Switch.{Switch}
-use Rattle.ultra_switch.specs.Queues.{SizedLane}
-use Rattle.ultra_model.specs.Places.{present}
-use Rattle.ultra_halves.specs.Halves.{combination_by, coming_to, in_order, lane_with, ports}
-use Rattle.ultra_halves.specs.Switches.{after_both}
-use Rattle.ultra_halves.proofs.Combinations.{combined_alone, combined_both, none_combined}
-use Rattle.ultra_units.specs.Inlets.{AreEmpty, AreInlets, request_inlets}
-use Rattle.ultra_units.specs.Numbers.{switch_count}
-use Rattle.ultra_units.specs.Marks.{on_link, ports_in_turn, request_links, without_both}
-use Rattle.ultra_units.proofs.Marks.{emptied, emptied_first, emptied_in_turn}
+use Rattle.ultra_section.proofs.Common.{Request, Ports, Switch, SizedLane, present, combination_by, coming_to, in_order, lane_with, ports, after_both, combined_alone, combined_both, none_combined, AreEmpty, AreInlets, request_inlets, switch_count, on_link, ports_in_turn, request_links, without_both, emptied, emptied_first, emptied_in_turn}
 use Rattle.ultra_section.proofs.take_requests.take_into_switch.Goals as goal
 use Rattle.ultra_section.proofs.take_requests.take_into_switch.Goals.{then-first_combines-second_combines, else-first_combines-second_combines}
 

@@ -1,5 +1,4 @@
-use Rattle.std.proofs.Common.{◌≡◌, replicate}
-use Rattle.std.specs.Prelude.{None}
+use Rattle.std.proofs.Common.{◌≡◌, replicate, None}
 use Rattle.ultra_units.proofs.entries.no_items.Given as goal
 
 abbrev pub invariant-loop-slot : goal.invariant-loop-slot

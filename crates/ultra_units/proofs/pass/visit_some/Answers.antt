@@ -1,6 +1,5 @@
 use Rattle.std.proofs.Common.{◌+◌, arith}
-use Rattle.ultra_units.specs.Set.{has_unit}
-use Rattle.ultra_units.specs.Walk.{comes_to}
+use Rattle.ultra_units.proofs.Common.{has_unit, comes_to}
 use Rattle.ultra_units.proofs.Visits.{left_out, none_visited, passed_to, visited_next}
 use Rattle.ultra_units.proofs.pass.visit_some.Goals as goal
 

@@ -1,5 +1,5 @@
 use Rattle.std.proofs.Common.{arith}
-use Rattle.std.proofs.lemmas.List.{get_or_default, length-map, length-take-le}
+use Rattle.ultra_block.proofs.Common.{get_or_default, length-map, length-take-le}
 use Rattle.ultra_block.proofs.blocks.Blocks.events.Goals as goal
 
 pub add-requires : goal.add-requires

@@ -1,6 +1,5 @@
 use Rattle.std.proofs.Common.{◌≡◌, [], ◌∷◌, arith}
-use Rattle.std.proofs.lemmas.Grind.{common_steps}
-use Rattle.ultra_cut.specs.Moments.{AreWhole, machine_in}
+use Rattle.ultra_block.proofs.Common.{common_steps, AreWhole, machine_in}
 use Rattle.ultra_block.proofs.blocks.Blocks.recut.Goals as goal
 
 same : (c : goal.After-drop-parts-2) → let p = c.self.inside.parts in

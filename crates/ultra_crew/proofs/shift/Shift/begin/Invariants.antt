@@ -1,5 +1,4 @@
-use Rattle.std.proofs.Common.{◌≡◌}
-use Rattle.std.specs.Prelude.{vec_len, vec_capacity}
+use Rattle.std.proofs.Common.{◌≡◌, vec_len, vec_capacity}
 use Rattle.ultra_crew.proofs.shift.Shift.begin.Given as goal
 
 abbrev pub invariant-loop : goal.invariant-loop

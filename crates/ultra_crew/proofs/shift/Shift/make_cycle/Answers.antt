@@ -1,56 +1,62 @@
-use Rattle.ultra_crew.proofs.Chain as cycle
-use Rattle.ultra_crew.proofs.Chain.{HaveServed, IsBegun}
+use Rattle.ultra_section.specs.declared.half.Half.TheVariants.{SendReplies, TakeReplies, Serve, SendRequests, TakeRequests, Execute}
+use Rattle.ultra_cut.proofs.Whole.{can_execute, can_serve, can_take_replies, can_take_requests, replies_left, requests_left}
+use Rattle.ultra_crew.proofs.Chain.{HaveServed, RepliesCame, RequestsCame, can_exchange, cycled, due, have_served, have_taken, have_waiting, passed_so, replies_came, requests_came, sent_so, served_so, stepped_so, taken_so, waiting_so}
 use Rattle.ultra_crew.proofs.shift.Shift.make_cycle.Given.{Over}
 use Rattle.ultra_crew.proofs.shift.Shift.make_cycle.Goals as goal
-use Rattle.ultra_crew.proofs.shift.Shift.make_cycle.Goals.{In_ok-blocks, In_ok-blocks-2}
+use Rattle.ultra_crew.proofs.shift.Shift.make_cycle.Goals.{After-with_replies_exchanged-blocks, After-with_requests_exchanged-blocks, In_ok-blocks, In_ok-blocks-2}
 
-begun : (g : Over) (c : In_ok-blocks g) → IsBegun c.args.config.now c.args.partition.now c.args.done g.J.Course.program c.args.blocks.items c.args.self.now g.J.Course.results c.note_rooms-rooms.result
-begun g c = record { start = c.requires.whole; settled = c.requires.settled; noted = rw c.as_slice.ensures.value at c.note_rooms-rooms.ensures }
+came : (g : Over) (c : After-with_replies_exchanged-blocks g) → RepliesCame c.requires.whole c.with_replies_exchanged-blocks.result.items
+came g c = replies_came c.requires.whole c.note_rooms-rooms.result (rw c.as_slice.ensures.value at c.note_rooms-rooms.ensures) c.in_ok-blocks.ensures.blocks c.net-net.ensures c.with_replies_exchanged-blocks.ensures
 
-served : (g : Over) (c : In_ok-blocks-2 g) → HaveServed c.args.config.now c.args.partition.now c.args.done g.J.Course.program c.args.blocks.items c.args.self.now g.J.Course.results c.in_ok-blocks-2.blocks.items
-served g c = record {
-  rooms = c.note_rooms-rooms.result;
-  begun = record { start = c.requires.whole; settled = c.requires.settled; noted = rw c.as_slice.ensures.value at c.note_rooms-rooms.ensures };
-  sent = c.in_ok-blocks.blocks.items;
-  sent_is = c.in_ok-blocks.ensures.blocks;
-  replies = c.with_replies_exchanged-blocks.result.items;
-  came = rw c.net-net.ensures at c.with_replies_exchanged-blocks.ensures;
-  served_is = c.in_ok-blocks-2.ensures.blocks;
-}
+served : (g : Over) (c : In_ok-blocks-2 g) → HaveServed c.requires.whole c.in_ok-blocks-2.blocks.items
+served g c =
+    let came = replies_came c.requires.whole c.note_rooms-rooms.result (rw c.as_slice.ensures.value at c.note_rooms-rooms.ensures) c.in_ok-blocks.ensures.blocks c.net-net.ensures c.with_replies_exchanged-blocks.ensures in
+    have_served c.requires.whole c.note_rooms-rooms.result came c.in_ok-blocks-2.ensures.blocks
+
+came_on : (g : Over) (c : After-with_requests_exchanged-blocks g) → RequestsCame c.requires.whole c.with_requests_exchanged-blocks.result.items
+came_on g c =
+    let came = replies_came c.requires.whole c.note_rooms-rooms.result (rw c.as_slice.ensures.value at c.note_rooms-rooms.ensures) c.in_ok-blocks.ensures.blocks c.net-net.ensures c.with_replies_exchanged-blocks.ensures in
+    let served = have_served c.requires.whole c.note_rooms-rooms.result came c.in_ok-blocks-2.ensures.blocks in
+    requests_came c.requires.whole _ served (rw c.as_slice-2.ensures.value at c.note_rooms-rooms-2.ensures) c.in_ok-blocks-3.ensures.blocks c.net-net.ensures c.with_requests_exchanged-blocks.ensures
 
 pub make-requires-clause-due : goal.make-requires-clause-due
-make-requires-clause-due g c = cycle.send_replies (record { start = c.requires.whole; settled = c.requires.settled; noted = rw c.as_slice.ensures.value at c.note_rooms-rooms.ensures })
+make-requires-clause-due g c = due c.requires.whole SendReplies _ _ c.requires.settled (λ k h. tt) (sent_so c.requires.whole _ (rw c.as_slice.ensures.value at c.note_rooms-rooms.ensures))
 
 pub with_replies_exchanged-blocks-requires : goal.with_replies_exchanged-blocks-requires
-with_replies_exchanged-blocks-requires g c = rw c.net-net.ensures (cycle.can_exchange_replies (begun g c) _ c.in_ok-blocks.ensures.blocks)
+with_replies_exchanged-blocks-requires g c = can_exchange c.requires.whole c.net-net.ensures (replies_left c.requires.whole _ (rw c.as_slice.ensures.value at c.note_rooms-rooms.ensures) c.in_ok-blocks.ensures.blocks)
 
 pub make_both-requires-clause-due : goal.make_both-requires-clause-due
 make_both-requires-clause-due g c =
-    cycle.take_replies (begun g (goal.at.make_both-requires-clause-due g c).In_ok-blocks) _ c.in_ok-blocks.ensures.blocks _ (rw c.net-net.ensures at c.with_replies_exchanged-blocks.ensures)
+    let x = came g (goal.at.make_both-requires-clause-due g c).After-with_replies_exchanged-blocks in
+    due c.requires.whole TakeReplies _ _ c.requires.settled (can_take_replies c.requires.whole x.0) (taken_so c.requires.whole c.note_rooms-rooms.result x)
 
 pub make_both-requires-clause-due_again : goal.make_both-requires-clause-due_again
 make_both-requires-clause-due_again g c =
-    cycle.serve (begun g (goal.at.make_both-requires-clause-due_again g c).In_ok-blocks) _ c.in_ok-blocks.ensures.blocks _ (rw c.net-net.ensures at c.with_replies_exchanged-blocks.ensures)
+    let x = came g (goal.at.make_both-requires-clause-due_again g c).After-with_replies_exchanged-blocks in
+    due c.requires.whole Serve _ _ c.requires.settled (can_serve c.requires.whole (have_taken c.requires.whole c.note_rooms-rooms.result x)) (served_so c.requires.whole c.note_rooms-rooms.result x)
 
 pub make-requires-2-clause-due : goal.make-requires-2-clause-due
-make-requires-2-clause-due g c = cycle.send_requests (served g (goal.at.make-requires-2-clause-due g c).In_ok-blocks-2) _ (rw c.as_slice-2.ensures.value at c.note_rooms-rooms-2.ensures)
+make-requires-2-clause-due g c =
+    let x = served g (goal.at.make-requires-2-clause-due g c).In_ok-blocks-2 in
+    due c.requires.whole SendRequests _ _ c.requires.settled (λ k h. tt) (passed_so c.requires.whole _ x (rw c.as_slice-2.ensures.value at c.note_rooms-rooms-2.ensures))
 
 pub with_requests_exchanged-blocks-requires : goal.with_requests_exchanged-blocks-requires
 with_requests_exchanged-blocks-requires g c =
-    rw c.net-net.ensures (cycle.can_exchange_requests (served g (goal.at.with_requests_exchanged-blocks-requires g c).In_ok-blocks-2) _ (rw c.as_slice-2.ensures.value at c.note_rooms-rooms-2.ensures) _ c.in_ok-blocks-3.ensures.blocks)
+    can_exchange c.requires.whole c.net-net.ensures
+    (requests_left c.requires.whole _ (rw c.as_slice-2.ensures.value at c.note_rooms-rooms-2.ensures) c.in_ok-blocks-3.ensures.blocks (served g (goal.at.with_requests_exchanged-blocks-requires g c).In_ok-blocks-2).0)
 
 pub make_both-requires-2-clause-due : goal.make_both-requires-2-clause-due
 make_both-requires-2-clause-due g c =
-    cycle.take_requests (served g (goal.at.make_both-requires-2-clause-due g c).In_ok-blocks-2) _ (rw c.as_slice-2.ensures.value at c.note_rooms-rooms-2.ensures) _ c.in_ok-blocks-3.ensures.blocks _ (rw c.net-net.ensures at c.with_requests_exchanged-blocks.ensures)
+    let x = came_on g (goal.at.make_both-requires-2-clause-due g c).After-with_requests_exchanged-blocks in
+    due c.requires.whole TakeRequests _ _ c.requires.settled (can_take_requests c.requires.whole x.0) (waiting_so c.requires.whole c.note_rooms-rooms-2.result x)
 
 pub make_both-requires-2-clause-due_again : goal.make_both-requires-2-clause-due_again
 make_both-requires-2-clause-due_again g c =
-    cycle.execute (served g (goal.at.make_both-requires-2-clause-due_again g c).In_ok-blocks-2) _ (rw c.as_slice-2.ensures.value at c.note_rooms-rooms-2.ensures) _ c.in_ok-blocks-3.ensures.blocks _ (rw c.net-net.ensures at c.with_requests_exchanged-blocks.ensures) c.requires.counted
+    let x = came_on g (goal.at.make_both-requires-2-clause-due_again g c).After-with_requests_exchanged-blocks in
+    due c.requires.whole Execute _ _ c.requires.settled (can_execute c.requires.whole (have_waiting c.requires.whole c.note_rooms-rooms-2.result x) c.requires.counted) (stepped_so c.requires.whole c.note_rooms-rooms-2.result x)
 
 pub returns-clause-whole : goal.returns-clause-whole
-returns-clause-whole g c =
-    cycle.next_whole (served g (goal.at.returns-clause-whole g c).In_ok-blocks-2) _ (rw c.as_slice-2.ensures.value at c.note_rooms-rooms-2.ensures) _ c.in_ok-blocks-3.ensures.blocks _ (rw c.net-net.ensures at c.with_requests_exchanged-blocks.ensures) c.requires.counted _ c.in_ok-blocks-4.ensures.blocks
+returns-clause-whole g c = (cycled c.requires.whole c.note_rooms-rooms-2.result (came_on g (goal.at.returns-clause-whole g c).After-with_requests_exchanged-blocks) c.requires.counted c.in_ok-blocks-4.ensures.blocks).0
 
 pub returns-clause-state : goal.returns-clause-state
-returns-clause-state g c =
-    cycle.next_machine (served g (goal.at.returns-clause-state g c).In_ok-blocks-2) _ (rw c.as_slice-2.ensures.value at c.note_rooms-rooms-2.ensures) _ c.in_ok-blocks-3.ensures.blocks _ (rw c.net-net.ensures at c.with_requests_exchanged-blocks.ensures) c.requires.counted _ c.in_ok-blocks-4.ensures.blocks
+returns-clause-state g c = (cycled c.requires.whole c.note_rooms-rooms-2.result (came_on g (goal.at.returns-clause-state g c).After-with_requests_exchanged-blocks) c.requires.counted c.in_ok-blocks-4.ensures.blocks).1

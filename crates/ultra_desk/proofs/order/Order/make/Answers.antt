@@ -1,5 +1,4 @@
-use Rattle.std.proofs.Common.{◌≡◌, suc, List, [], ◌∷◌, ◌++◌, length, take, drop, ap, refl, sym, subst, ◌∙◌, arith, Vec, Global}
-use Rattle.std.specs.Prelude.{All, map}
+use Rattle.std.proofs.Common.{◌≡◌, suc, List, [], ◌∷◌, ◌++◌, length, take, drop, ap, refl, sym, subst, ◌∙◌, arith, Vec, Global, All, map}
 use Rattle.std.proofs.lemmas.List.{take_at}
 use Rattle.ultra_isa.specs.declared.Instr.{Instr}
 use Rattle.ultra_section.specs.declared.half.Half.{Half}

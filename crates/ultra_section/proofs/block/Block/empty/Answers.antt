@@ -1,6 +1,5 @@
 use Rattle.std.proofs.Common.{arith}
-use Rattle.std.proofs.lemmas.List.{length-replicate}
-use Rattle.ultra_units.proofs.Marks.{no_entry}
+use Rattle.ultra_section.proofs.Common.{length-replicate, no_entry}
 use Rattle.ultra_section.proofs.block.Block.empty.Goals as goal
 
 pub invariant_of-result : goal.invariant_of-result

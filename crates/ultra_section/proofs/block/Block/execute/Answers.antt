@@ -1,6 +1,5 @@
 use Rattle.std.proofs.Common.{◌≡◌, ◌-◌, ◌^◌, ◌<◌, sym, ap, subst, ◌∙◌, rules}
-use Rattle.ultra_section.specs.BlockState.{BlockState}
-use Rattle.ultra_section.specs.Execution.{counted}
+use Rattle.ultra_section.proofs.Common.{BlockState, counted}
 use Rattle.ultra_section.proofs.Visited.{done_kept, own_steps}
 use Rattle.ultra_section.proofs.block.Block.execute.Goals as goal
 

@@ -1,13 +1,6 @@
-use Rattle.std.proofs.Common.{◌≡◌, sym, ◌∙◌, ap, List, true, false, Some, arith}
-use Rattle.std.specs.Prelude.{None, IsTrue}
+use Rattle.std.proofs.Common.{◌≡◌, sym, ◌∙◌, ap, List, true, false, Some, arith, IsTrue, None}
+use Rattle.ultra_section.proofs.Common.{Instr, issue_event, Event, element_of, executed, is_at_rest, issue_in, step_at, stop_in, ProcessingElement, faulted_stops, holds_as_before, issued_holds, issued_runs, went_on, UnitFacts, element_facts}
 use Rattle.ultra_isa.specs.Step.{has_stopped}
-use Rattle.ultra_isa.specs.declared.Instr.{Instr}
-use Rattle.ultra_model.specs.Phases.{issue_event}
-use Rattle.ultra_msg.specs.declared.Event.{Event}
-use Rattle.ultra_halves.specs.Elements.{element_of, executed, is_at_rest, issue_in, step_at, stop_in}
-use Rattle.ultra_halves.specs.declared.elements.ProcessingElement.{ProcessingElement}
-use Rattle.ultra_halves.proofs.Rests.{faulted_stops, holds_as_before, issued_holds, issued_runs, went_on}
-use Rattle.ultra_section.specs.Sets.{UnitFacts, element_facts}
 use Rattle.ultra_section.proofs.Known.{element_found, element_kept, rests_anew, rests_still, same_facts}
 use Rattle.ultra_section.proofs.block.Block.execute_element.Goals as goal
 

@@ -1,6 +1,5 @@
 use Rattle.std.proofs.Common.{ap, arith}
-use Rattle.ultra_units.proofs.Readers.{are_inlets, replies_read}
-use Rattle.ultra_section.specs.BlockState.{BlockState}
+use Rattle.ultra_section.proofs.Common.{are_inlets, replies_read, BlockState}
 use Rattle.ultra_section.proofs.block.Block.hand_over_replies.Goals as goal
 
 pub hand_over-requires-clause-inlets : goal.hand_over-requires-clause-inlets

@@ -1,6 +1,5 @@
 use Rattle.std.proofs.Common.{refl}
-use Rattle.ultra_units.specs.Inlets.{reply_inlets}
-use Rattle.ultra_section.specs.BlockState.{BlockState}
+use Rattle.ultra_section.proofs.Common.{reply_inlets, BlockState}
 use Rattle.ultra_section.proofs.Known.{next_away}
 use Rattle.ultra_section.proofs.block.Block.next_for_replies.Goals as goal
 

@@ -1,5 +1,5 @@
 use Rattle.std.proofs.Common.{Some, refl, arith}
-use Rattle.ultra_units.specs.Units.{IsElement}
+use Rattle.ultra_section.proofs.Common.{IsElement}
 use Rattle.ultra_section.proofs.Known.{element_kept, woken_up}
 use Rattle.ultra_section.proofs.block.Block.put_element.Goals as goal
 

@@ -1,6 +1,5 @@
 use Rattle.std.proofs.Common.{ap, arith}
-use Rattle.ultra_units.proofs.Readers.{are_inlets, requests_read}
-use Rattle.ultra_section.specs.BlockState.{BlockState}
+use Rattle.ultra_section.proofs.Common.{are_inlets, requests_read, BlockState}
 use Rattle.ultra_section.proofs.block.Block.receive_requests.Goals as goal
 
 pub receive-requires-clause-inlets : goal.receive-requires-clause-inlets

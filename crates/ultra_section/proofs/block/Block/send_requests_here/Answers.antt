@@ -1,6 +1,5 @@
 use Rattle.std.proofs.Common.{subst}
-use Rattle.ultra_section.specs.BlockState.{BlockState}
-use Rattle.ultra_section.specs.Rooms.{AreOwnRooms}
+use Rattle.ultra_section.proofs.Common.{BlockState, AreOwnRooms}
 use Rattle.ultra_section.proofs.Known.{are_own, own_rooms}
 use Rattle.ultra_section.proofs.block.Block.send_requests_here.Goals as goal
 

@@ -1,13 +1,7 @@
-use Rattle.std.proofs.Common.{Some, refl, arith, ap, ◌∙◌}
-use Rattle.ultra_section.specs.Sets.{requests_noted}
-use Rattle.ultra_section.proofs.Known.{same_stages, switch_found, switch_kept}
-use Rattle.ultra_section.proofs.Noted.{requests_left}
+use Rattle.std.proofs.Common.{Some, arith, ap, ◌∙◌}
+use Rattle.ultra_section.proofs.Common.{requests_noted, both}
+use Rattle.ultra_section.proofs.{Known.same_stages, Known.switch_found, Known.switch_kept, Noted.requests_left}
 use Rattle.ultra_section.proofs.block.Block.send_requests_of_switch.Goals as goal
-
-pub note_requests_sent-requires : goal.note_requests_sent-requires
-note_requests_sent-requires c =
-    let (is, at, was) = switch_found c.self.view_is c.self.invariant.units c.requires.is c.number-number.ensures.value c.index_mut.ensures.value c.in-Some.is in
-    record { fewer = rw (was, c.send_from_switch.ensures.switch) (requests_left c.in-Some.switch _) }
 
 pub invariant_of-self-2 : goal.invariant_of-self-2
 invariant_of-self-2 c =
@@ -15,4 +9,4 @@ invariant_of-self-2 c =
     let (is, at, was) = switch_found c.self.view_is c.self.invariant.units c.requires.is c.number-number.ensures.value c.index_mut.ensures.value c.in-Some.is in
     let now = c.send_from_switch.new.switch in
     switch_kept known c.note_requests_sent.ensures known.replies (same_stages c.send_from_switch.ensures.links known.requests) (omega arith) (omega arith)
-    (Some now) c.number-number.ensures.value is.within (ap (requests_noted now) was ∙ rw (c.send_from_switch.ensures.switch) refl)
+    (Some now) c.number-number.ensures.value is.within (ap (requests_noted both now) was ∙ rw (c.send_from_switch.ensures.switch) (requests_left c.in-Some.switch _))

@@ -1,5 +1,5 @@
 use Rattle.std.proofs.Common.{refl, arith}
-use Rattle.ultra_units.specs.Units.{IsElement}
+use Rattle.ultra_section.proofs.Common.{IsElement}
 use Rattle.ultra_section.proofs.Known.{element_kept, rests_anew}
 use Rattle.ultra_section.proofs.block.Block.take_element.Goals as goal
 

@@ -1,15 +1,6 @@
-use Rattle.std.proofs.Common.{◌∙◌, sym, ap, subst, arith, ◌≡◌, ◌≤◌, ◌+◌, ◌%◌, ℕ, List, Option, Some, length, refl}
-use Rattle.std.specs.Prelude.{◌==◌}
-use Rattle.std.specs.Option.{ForSome}
-use Rattle.ultra_halves.specs.Switches.{CanTakeRequests, HasWay}
-use Rattle.ultra_msg.specs.declared.Request.{Request}
-use Rattle.ultra_switch.specs.declared.Switch.{Switch}
-use Rattle.ultra_units.specs.Marks.{on_both, on_link, ports_in_turn, request_links}
-use Rattle.ultra_section.specs.BlockState.{BlockState, most_events}
-use Rattle.ultra_section.specs.RequestsTaken.{SwitchCanTakeRequests}
-use Rattle.ultra_section.specs.Sets.{UnitFacts, records_noted, requests_noted}
-use Rattle.ultra_section.proofs.Known.{beside_switch, same_stages, switch_found, switch_kept}
-use Rattle.ultra_section.proofs.Noted.{keeps_as_before, requests_came}
+use Rattle.std.proofs.Common.{◌∙◌, sym, ap, subst, arith, ◌≡◌, ◌≤◌, ◌+◌, ◌%◌, ℕ, List, Option, Some, length, ◌==◌}
+use Rattle.ultra_section.proofs.Common.{ForSome, CanTakeRequests, HasWay, Request, Switch, on_both, on_link, ports_in_turn, request_links, BlockState, most_events, SwitchCanTakeRequests, all_noted}
+use Rattle.ultra_section.proofs.{Known.beside_switch, Known.same_stages, Known.switch_found, Known.switch_kept, Noted.keeps_as_before, Noted.requests_came}
 use Rattle.ultra_section.proofs.block.Block.take_requests_of_switch.Goals as goal
 
 -- what is on the links of switch k of stage s is taken in the order of cycle n
@@ -37,15 +28,6 @@ take_into_switch-has_combined-requires c =
       event_room = omega (arith, few, known.events_fit);
     }
 
-pub note_requests_taken-requires : goal.note_requests_taken-requires
-note_requests_taken-requires c =
-    let (is, at, was) = switch_found c.self.view_is c.self.invariant.units c.requires.is c.number-number.ensures.value c.index_mut.ensures.value c.in-Some.is in
-    let taken = c.take_into_switch-has_combined.ensures in
-    record {
-      more = rw (was, taken.switch) (requests_came c.in-Some.switch c.self.inside.net c.args.stage _ _);
-      noted = λ none. rw (taken.switch) (ap (λ (f : UnitFacts). f.keeps_records) was ∙ sym (keeps_as_before c.self.inside.net c.args.stage c.args.index c.in-Some.switch _ _ (taken.none.0 none)));
-    }
-
 pub invariant_of-self-2 : goal.invariant_of-self-2
 invariant_of-self-2 c =
     let known = c.self.invariant in
@@ -53,4 +35,5 @@ invariant_of-self-2 c =
     let taken = c.take_into_switch-has_combined.ensures in
     let now = c.take_into_switch-has_combined.new.switch in
     switch_kept known c.note_requests_taken.ensures known.replies (same_stages taken.links known.requests) taken.places (omega arith)
-    (Some now) c.number-number.ensures.value is.within (ap (λ f. records_noted now (requests_noted now f)) was ∙ rw (taken.switch) refl)
+    (Some now) c.number-number.ensures.value is.within (ap (all_noted c.take_into_switch-has_combined.result now) was
+    ∙ rw (taken.switch) (requests_came c.in-Some.switch c.self.inside.net c.args.stage (on_link c.self.inside.requests.table c.ports_in_turn-in_turn.result.0) (on_link c.self.inside.requests.table c.ports_in_turn-in_turn.result.1) _ (λ none. keeps_as_before c.self.inside.net c.args.stage c.args.index c.in-Some.switch _ _ (taken.none.0 none))))

@@ -1,7 +1,5 @@
 use Rattle.std.proofs.Common.{sym, subst}
-use Rattle.ultra_section.specs.RepliesTaken.{CanTakeRepliesAt}
-use Rattle.ultra_units.specs.Units.{IsElement}
-use Rattle.ultra_section.specs.Idle.{GetsNoReply}
+use Rattle.ultra_section.proofs.Common.{CanTakeRepliesAt, IsElement, GetsNoReply}
 use Rattle.ultra_section.proofs.Visited.{no_reply_left, element_took_reply}
 use Rattle.ultra_section.proofs.take_replies.TakeRepliesVisitBlock.visit.Goals as goal
 

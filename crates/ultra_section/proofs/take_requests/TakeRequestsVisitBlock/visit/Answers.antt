@@ -1,5 +1,5 @@
 use Rattle.std.proofs.Common.{sym, subst}
-use Rattle.ultra_section.specs.Idle.{GetsNoRequest}
+use Rattle.ultra_section.proofs.Common.{GetsNoRequest}
 use Rattle.ultra_section.proofs.Visited.{no_request_left}
 use Rattle.ultra_section.proofs.take_requests.TakeRequestsVisitBlock.visit.Goals as goal
 

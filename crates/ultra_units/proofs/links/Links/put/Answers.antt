@@ -1,6 +1,5 @@
 use Rattle.std.proofs.Common.{sym, subst}
-use Rattle.ultra_units.specs.Inlets.{LeadsTo}
-use Rattle.ultra_units.specs.Links.{LinksState}
+use Rattle.ultra_units.proofs.Common.{LeadsTo, LinksState}
 use Rattle.ultra_units.proofs.Marks.{one_more}
 use Rattle.ultra_units.proofs.links.Links.put.Goals as goal
 

@@ -1,7 +1,6 @@
 use Rattle.std.proofs.Common.{ℕ, ◌+◌, ◌*◌, ◌^◌, ◌<◌, List, get_or, arith, refl, subst}
-use Rattle.ultra_units.specs.Set.{HasNoneWithin}
-use Rattle.ultra_units.proofs.Set.{first_of_bits, joined, none_in_word, none_past}
-use Rattle.ultra_units.proofs.Steps.{come_to_first, walk_at_first}
+use Rattle.ultra_units.proofs.Common.{HasNoneWithin}
+use Rattle.ultra_units.proofs.{Set.first_of_bits, Set.joined, Set.none_in_word, Set.none_past, Steps.come_to_first, Steps.walk_at_first}
 use Rattle.ultra_units.proofs.walk.Walk.from_word.Goals as goal
 
 pub invariant_of-result : goal.invariant_of-result

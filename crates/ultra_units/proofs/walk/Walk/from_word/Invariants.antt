@@ -1,5 +1,5 @@
 use Rattle.std.proofs.Common.{◌*◌}
-use Rattle.ultra_units.specs.Set.{HasNoneWithin}
+use Rattle.ultra_units.proofs.Common.{HasNoneWithin}
 use Rattle.ultra_units.proofs.walk.Walk.from_word.Given as goal
 
 abbrev pub invariant-loop-word : goal.invariant-loop-word

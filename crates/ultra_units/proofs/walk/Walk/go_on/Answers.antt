@@ -1,6 +1,5 @@
 use Rattle.std.proofs.Common.{arith, refl}
-use Rattle.ultra_units.proofs.Set.{first_of_bits}
-use Rattle.ultra_units.proofs.Steps.{come_on, walk_on}
+use Rattle.ultra_units.proofs.{Set.first_of_bits, Steps.come_on, Steps.walk_on}
 use Rattle.ultra_units.proofs.walk.Walk.go_on.Goals as goal
 
 pub invariant_of-result : goal.invariant_of-result

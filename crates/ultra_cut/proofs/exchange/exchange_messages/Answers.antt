@@ -1,7 +1,6 @@
 use Rattle.std.proofs.Common.{arith, below_more}
-use Rattle.ultra_cut.proofs.Moved.{both_moved, gone_until, nothing_moved, still_cut}
-use Rattle.ultra_cut.proofs.Numbers.{few_units}
-use Rattle.ultra_cut.proofs.exchange.exchange.Goals as goal
+use Rattle.ultra_cut.proofs.{Moved.both_moved, Moved.gone_until, Moved.nothing_moved, Moved.still_cut, Units.few_units}
+use Rattle.ultra_cut.proofs.exchange.exchange_messages.Goals as goal
 
 pub loop-from-init : goal.loop-from-init
 loop-from-init c = record { only = nothing_moved c.args.kind c.args.blocks.now c.requires.single; there = λ k before. absurd (omega arith) }
