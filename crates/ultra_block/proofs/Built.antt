@@ -1,18 +1,20 @@
 -- The units of a machine before its first cycle. A module is filled with the initial values, one after the other; and one block
 -- that holds all units is the machine at its start.
 use Rattle.std.proofs.Common.{◌≡◌, ◌≢◌, ℕ, ◌+◌, ◌*◌, ◌/◌, ◌%◌, ◌<◌, List, [], ◌∷◌, ◌++◌, true, false, None, length, set, take, get_or, refl, ap, arith, get_or-set_same, get_or-set_other, subst, sym, ◌≤◌, nat_lt, ◌^◌, Some, replicate, ◌==◌, Option}
-use Rattle.ultra_block.proofs.Common.{nat_tests, ext_get_or, get_or-replicate, length-replicate, length-set, take_all, take_more, get_or_past, given_value, Settings, places, filled, IsFresh, all_in_one, first_bank, first_element, Instr, switch_count, unit_count, stands, BlockState, empty_block, by_kind, switch_stands, module_stands, Frame, AreAlike, empty_switch, whole_alike, frame_of, home, AreBlocks, machine_in}
-use Rattle.std.proofs.Math.Nat.{div-lt_iff_lt-mul}
-use Rattle.std.proofs.Math.Path.{fun_ext}
-use Rattle.std.proofs.lemmas.List.Elements.{All-get_or}
-use Rattle.std.proofs.lemmas.Nat.{div-mul-add, mod-mul-add}
-use Rattle.ultra_model.specs.Machine.{start}
-use Rattle.ultra_model.proofs.Each.{places_at, length-places}
+use Rattle.std.proofs.lemmas.{Bool.Decides.nat_tests, List.ext_get_or, List.get_or-replicate, List.length-replicate, List.length-set, List.take_all, List.take_more, List.get_or_past, List.Elements.All-get_or, Nat.div-mul-add, Nat.mod-mul-add}
+use Rattle.ultra_model.specs.{Machine.given_value, Machine.Settings, Machine.start, Places.places, Ranges.AreInRange}
+use Rattle.ultra_block.specs.{Fresh.filled, Fresh.all_in_one, Fresh.first_bank, Fresh.first_element, State.MakeUp}
+use Rattle.ultra_isa.specs.declared.Instr.{Instr}
+use Rattle.ultra_units.specs.Numbers.{switch_count}
+use Rattle.ultra_section.specs.{BlockState.BlockState, Building.empty_block}
+use Rattle.ultra_section.proofs.OfKind.{by_kind, switch_stands, module_stands}
+use Rattle.ultra_course.specs.{Frame.Frame, Frame.AreAlike, Whole.empty_switch, Whole.whole}
+use Rattle.ultra_course.proofs.AtFrame.{whole_alike}
+use Rattle.ultra_cut.specs.{Cut.frame_of, Cut.home, Moments.machine_in}
+use Rattle.std.proofs.{Math.Nat.div-lt_iff_lt-mul, Math.Path.fun_ext}
+use Rattle.ultra_model.proofs.{Each.places_at, Each.length-places, Sound.sound-start}
 use Rattle.ultra_mem.specs.Serve.{new_bank}
-use Rattle.ultra_model.specs.Ranges.{AreInRange}
-use Rattle.ultra_model.proofs.Sound.{sound-start}
-use Rattle.ultra_course.specs.Whole.{whole}
-use Rattle.ultra_block.proofs.Seen.{events_are, one_events, one_stops, stops_are}
+use Rattle.ultra_block.proofs.Seen.{one_events, one_stops}
 
 -- the cell of an address
 pub cell_within : (size n a : ℕ) → 0 < size → a < size * n → a / size < n
@@ -38,9 +40,8 @@ module _ (size m n : ℕ) where
 
     pub filled_here : x.0 % size ≡ m → x.0 < size * n → filled size m n (take (i + 1) values) ≡ record (filled size m n before) { cells = set (filled size m n before).cells (x.0 / size) x.1 }
     filled_here here within =
-        let cell = cell_within size n x.0 (omega arith) within in
         let cells = ext_get_or 0 (filled size m n (before ++ x ∷ [])).cells (set (filled size m n before).cells (x.0 / size) x.1) (grind (arith, length-places, length-set))
-        (λ o inside. grind (arith, places_at, given_more, nat_tests, length-places, length-set, get_or-set_same, get_or-set_other, div-mul-add, mod-mul-add)) in
+        (λ o inside. grind (arith, places_at, given_more, nat_tests, cell_within size n x.0, length-places, length-set, get_or-set_same, get_or-set_other, div-mul-add, mod-mul-add)) in
         rw (take_more values i (0, 0) inside) (grind arith)
 
     pub filled_past : x.0 % size ≢ m → filled size m n (take (i + 1) values) ≡ filled size m n before
@@ -65,22 +66,13 @@ module _ (c : Settings) (program : List Instr) where
     pub modules : IsRow (2 ^ c.stages) m (first_bank c) b.modules
     pub elements : IsRow (2 ^ c.stages) p (first_element c) b.elements
 
-module _ (c : Settings) (program : List Instr) (range : AreInRange c) (x : BlockState) (all : AreIn c program (switch_count c.stages) (2 ^ c.stages) (2 ^ c.stages) x) where
+module _ (c : Settings) (program : List Instr) (range : AreInRange c) (b : BlockState) (all : AreIn c program (switch_count c.stages) (2 ^ c.stages) (2 ^ c.stages) b) where
   -- all stand in block 0
   abbrev one : List ℕ
   one = all_in_one c.stages
 
-  abbrev b : BlockState
-  b = record (empty_block c.stages program) { switches = x.switches; modules = x.modules; elements = x.elements }
-
   home_is_zero : (n : ℕ) → home one n ≡ 0
   home_is_zero n = grind (arith, get_or-replicate, get_or_past, length-replicate)
-
-  all_stand : (n : ℕ) → n < unit_count c.stages → stands n b ≡ true
-  all_stand n h = grind (arith, by_kind, switch_stands, module_stands)
-
-  are_blocks : AreBlocks c.stages one (b ∷ [])
-  are_blocks = grind (arith, length-replicate, home_is_zero, all_stand)
 
   abbrev first_frame : Frame
   first_frame = record { switch = λ n. empty_switch c; bank = first_bank c; element = first_element c; replies = λ l. None; requests = λ l. None }
@@ -93,12 +85,9 @@ module _ (c : Settings) (program : List Instr) (range : AreInRange c) (x : Block
   first_is_start = grind arith
 
   at_start : machine_in c one 0 (b ∷ []) ≡ start c
-  at_start =
-      let events = one_events c one 0 (b ∷ []) refl (grind arith) in
-      let stops = one_stops c one 0 (b ∷ []) refl (grind arith) in
-      grind (arith, whole_alike c range (frame_of c.stages one (b ∷ [])) first_frame alike 0 [] [], first_is_start, events_are, stops_are)
+  at_start = grind (arith, whole_alike c range (frame_of c.stages one (b ∷ [])) first_frame alike 0 [] [], first_is_start, one_events c.stages (b ∷ []) refl, one_stops c.stages (b ∷ []) refl)
 
-  pub is_fresh : IsFresh c program x
-  is_fresh = subst (IsFresh c program) (sym all.rest) (record { whole = grind (arith, at_start, are_blocks, alike, length-places, sound-start c range); machine = at_start })
+  pub is_fresh : MakeUp c program one 0 (start c) (b ∷ [])
+  is_fresh = (grind (arith, at_start, length-replicate, home_is_zero, by_kind, switch_stands, module_stands, alike, length-places, sound-start c range), at_start)
 
 pub ruleset row_steps = (length-replicate, length-set, get_or-set_same, get_or-set_other)

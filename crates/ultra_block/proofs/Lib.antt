@@ -1,4 +1,3 @@
-pub mod Common
 pub mod Seen
 pub mod Built
 pub mod Dealt

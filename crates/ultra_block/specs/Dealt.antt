@@ -1,7 +1,10 @@
 -- a machine that stands in one block, dealt to the blocks that a partition names
 use Rattle.std.specs.Prelude.{◌≡◌, ℕ, ◌+◌, ◌<◌, ◌≤◌, true, List, [], ◌∷◌, length}
-use Rattle.ultra_block.specs.Prelude.{Instr, Settings, BlockState, home, is_partition, AreWhole, machine_in}
-use Rattle.ultra_section.specs.Building.{empty_block}
+use Rattle.ultra_isa.specs.declared.Instr.{Instr}
+use Rattle.ultra_model.specs.Machine.{Settings}
+use Rattle.ultra_section.specs.{BlockState.BlockState, Building.empty_block}
+use Rattle.ultra_cut.specs.{Cut.home, Cut.is_partition, Moments.AreWhole, Moments.machine_in}
+use Rattle.ultra_block.specs.State.{MakeUp}
 
 -- a block without units beside block b: of the same machine, after as many cycles
 abbrev pub empty_beside : BlockState → BlockState
@@ -19,4 +22,4 @@ pub record IsDealt (partition : List ℕ) (b : BlockState) (now : List BlockStat
   pub whole :
       (c : Settings) (program : List Instr) (was : List ℕ) (n : ℕ)
       → is_partition c partition ≡ true → AreWhole c program was n (b ∷ [])
-      → AreWhole c program partition n now × (machine_in c partition n now ≡ machine_in c was n (b ∷ []))
+      → MakeUp c program partition n (machine_in c was n (b ∷ [])) now

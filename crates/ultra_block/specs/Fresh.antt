@@ -1,9 +1,10 @@
 -- the units of a machine before its first cycle, all in one block
-use Rattle.std.specs.Prelude.{◌≡◌, ℕ, ◌+◌, ◌*◌, List, [], ◌∷◌, None, replicate}
-use Rattle.ultra_block.specs.Prelude.{Bank, Instr, Settings, given_value, site, size, start, unit_count, BlockState, AreWhole, machine_in}
-use Rattle.ultra_pni.specs.Interface.{empty_interface}
+use Rattle.std.specs.Prelude.{ℕ, ◌+◌, ◌*◌, List, None, replicate}
+use Rattle.ultra_mem.specs.Serve.{Bank}
 use Rattle.ultra_isa.specs.Step.{fresh_core}
-use Rattle.ultra_model.specs.Places.{places}
+use Rattle.ultra_model.specs.{Machine.Settings, Machine.given_value, Machine.site, Machine.size, Places.places}
+use Rattle.ultra_units.specs.Numbers.{unit_count}
+use Rattle.ultra_pni.specs.Interface.{empty_interface}
 use Rattle.ultra_halves.specs.declared.elements.ProcessingElement.{ProcessingElement}
 
 -- module m of `size`, whose cells have the values that a list gives by address
@@ -29,8 +30,3 @@ module _ (c : Settings) where
 -- the partition of a machine of d stages that puts all units into block 0
 abbrev pub all_in_one : ℕ → List ℕ
 all_in_one d = replicate (unit_count d) 0
-
--- the block is the whole machine of the definition before its first cycle
-pub record IsFresh (c : Settings) (program : List Instr) (b : BlockState) : Type 0 where
-  pub whole : AreWhole c program (all_in_one c.stages) 0 (b ∷ [])
-  pub machine : machine_in c (all_in_one c.stages) 0 (b ∷ []) ≡ start c

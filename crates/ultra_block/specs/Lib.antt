@@ -1,4 +1,3 @@
-pub mod Prelude
 pub mod State
 pub mod Fresh
 pub mod Dealt

@@ -1,10 +1,12 @@
 -- a whole machine cut into blocks, as contracts see it
 use Rattle.std.specs.Prelude.{◌≡◌, ℕ, ◌+◌, ◌≤◌, List, length}
-use Rattle.ultra_block.specs.Prelude.{Instr, Settings, Machine, cycle, BlockState, event_rank, AreWhole, machine_in}
+use Rattle.ultra_isa.specs.declared.Instr.{Instr}
+use Rattle.ultra_model.specs.{Machine.Settings, Machine.Machine, Phases.cycle, declared.Stop.Stop}
+use Rattle.ultra_section.specs.BlockState.{BlockState}
+use Rattle.ultra_cut.specs.{Events.event_rank, Moments.AreWhole, Moments.machine_in}
 use Rattle.ultra_msg.specs.declared.Event.{Event}
-use Rattle.ultra_model.specs.declared.Stop.{Stop}
 use Rattle.ultra_merge.specs.Merging.{Remainder, merged}
-use Rattle.ultra_block.specs.{declared.parts.Parts.Parts, declared.ranks.ByRules.ByRules, declared.ranks.ByElement.ByElement}
+use Rattle.ultra_block.specs.{declared.parts.Parts.Parts, declared.ranks.ByElement.ByElement, declared.ranks.ByRules.ByRules}
 
 -- its settings, its program, the block of each unit, how many blocks there are, and the machine of
 -- the definition, which is the same for every partition
@@ -30,6 +32,11 @@ pub record AreParts (p : Parts) : Type 0 where
   pub whole : AreWhole p.config p.program p.partition.items p.done p.blocks.items
   pub few : length p.blocks.items ≤ 64
 
+-- blocks are whole after n cycles, and make up machine m
+abbrev pub MakeUp : Settings → List Instr → List ℕ → ℕ → Machine → List BlockState → Type 0
+MakeUp c program partition n m bs =
+    AreWhole c program partition n bs × (machine_in c partition n bs ≡ m)
+
 -- the events and the faults that are still to come
 abbrev pub events_left : Remainder ByRules Event → List Event
 events_left m = merged (event_rank m.ranking.net) 1280 m.lists
@@ -41,5 +48,4 @@ stops_left m = merged (λ (s : Stop). s.pe) 64 m.lists
 abbrev pub MakesCycle : Settings → List ℕ → ℕ → List BlockState → List BlockState → Type 0
 MakesCycle c partition n old now =
     (program : List Instr) → AreWhole c program partition n old
-    → AreWhole c program partition (n + 1) now
-    × (machine_in c partition (n + 1) now ≡ cycle c program (machine_in c partition n old))
+    → MakeUp c program partition (n + 1) (cycle c program (machine_in c partition n old)) now

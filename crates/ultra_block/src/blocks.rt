@@ -1,11 +1,11 @@
 //! The whole machine, cut into blocks.
 
 ghost use Rattle.std.specs.Prelude.{◌≡◌, ◌-◌, ◌^◌, ◌<◌, ◌↔◌, ◌==◌, false, length, true, IfErr, IfOk, IsErrOf, OnOk};
-ghost use Rattle.ultra_block.specs.Prelude.{bank_at, element_at, is_quiet, lane_at, replies_at, site, start, cycle as next_cycle, is_partition};
+ghost use Rattle.ultra_model.specs.{Machine.bank_at, Machine.element_at, Machine.is_quiet, Machine.lane_at, Machine.replies_at, Machine.site, Machine.start, Phases.cycle as next_cycle};
+ghost use Rattle.ultra_cut.specs.{Cut.is_partition, Holding.holds};
 ghost use Rattle.ultra_course.specs.Frame.{at_port};
 ghost use Rattle.ultra_block.specs.{Dealt.IsLastNamed, Fresh.all_in_one};
 ghost use Rattle.ultra_section.specs.Holding.{IsSetOf};
-ghost use Rattle.ultra_cut.specs.Holding.{holds};
 
 use crate::building::fresh_block;
 use crate::cycle::make_cycle;
@@ -44,6 +44,7 @@ impl Model for Blocks {
     ghost invariant = { λ b. AreParts b.parts };
 }
 
+#[tactic(auto, using(crate::proofs::Seen::parts_are))]
 impl Blocks {
     ghost use Rattle.ultra_halves.specs.Elements.{element_of};
     ghost use Rattle.ultra_block.specs.State.{AreParts, events_left, put_together, stops_left};
@@ -86,10 +87,9 @@ impl Blocks {
         if !names_all_units(config, partition) {
             return Err(PartitionFault::BadPartition);
         }
-        match Blocks::in_one_block(alloc, config, program)?.recut(alloc, partition) {
-            Ok(blocks) => Ok(blocks),
-            Err((_, fault)) => Err(fault),
-        }
+        Blocks::in_one_block(alloc, config, program)?
+            .recut(alloc, partition)
+            .map_err(|(_, fault)| fault)
     }
 
     /// The same machine cut by a partition: its units move to other blocks, and nothing else changes. All of them have to stand in one block before. The partition names the block of each unit as for `new`.
@@ -138,7 +138,6 @@ impl Blocks {
     ///
     /// Its count of cycles has to be below `2^32 - 1`.
     #[inline(always)]
-    #[tactic(auto, using(crate::proofs::Seen::cycles_are))]
     pub fn cycle(&mut self)
         requires { self.old.machine.cycles < 2 ^ 32 - 1 }
         ensures { self.new ≡ record self.old { machine = next_cycle self.old.config self.old.program self.old.machine } }
@@ -160,7 +159,6 @@ impl Blocks {
     }
 
     /// How many cycles the machine has made.
-    #[tactic(auto, using(crate::proofs::Seen::cycles_are))]
     pub fn done(&self) -> u32
         ensures { result ≡ self.now.machine.cycles }
     {
@@ -197,7 +195,7 @@ impl Blocks {
     }
 
     /// What happened in the last cycle, in the order of the rules: deliveries by processing element, servings by module, combinations by stage, position and arrival, issues by processing element.
-    #[tactic(auto, using(crate::proofs::Seen::list_steps), unfolding(ultra_cut::specs::Events::events_of))]
+    #[tactic(auto, using(std::proofs::lemmas::Grind::common_steps), unfolding(ultra_course::specs::Whole::whole, ultra_cut::specs::Events::events_of))]
     pub fn events(&self) -> Merge<'_, Event, ByRules>
         ensures { events_left result ≡ self.now.machine.events }
     {
@@ -211,7 +209,7 @@ impl Blocks {
     }
 
     /// The faults of the last cycle, by processing element.
-    #[tactic(auto, using(crate::proofs::Seen::list_steps), unfolding(ultra_cut::specs::Events::stops_of))]
+    #[tactic(auto, using(std::proofs::lemmas::Grind::common_steps), unfolding(ultra_course::specs::Whole::whole, ultra_cut::specs::Events::stops_of))]
     pub fn stops(&self) -> Merge<'_, Stop, ByElement>
         ensures { stops_left result ≡ self.now.machine.stops }
     {
@@ -230,7 +228,7 @@ impl Blocks {
     }
 
     /// What happened in the last cycle of a machine in one block, in the order of the rules.
-    #[tactic(auto, using(crate::proofs::Seen::one_steps))]
+    #[tactic(auto, using(crate::proofs::Seen::one_steps), unfolding(ultra_course::specs::Whole::whole))]
     pub fn events_of_one(&self) -> &[Event]
         requires { self.now.count ≡ 1 }
         ensures { result.now ≡ self.now.machine.events }
@@ -239,7 +237,7 @@ impl Blocks {
     }
 
     /// The faults of the last cycle of a machine in one block, by processing element.
-    #[tactic(auto, using(crate::proofs::Seen::one_steps))]
+    #[tactic(auto, using(crate::proofs::Seen::one_steps), unfolding(ultra_course::specs::Whole::whole))]
     pub fn stops_of_one(&self) -> &[Stop]
         requires { self.now.count ≡ 1 }
         ensures { result.now ≡ self.now.machine.stops }
@@ -248,7 +246,6 @@ impl Blocks {
     }
 
     /// The queue toward memory at a memory-side position of a stage, with its wait buffer. Stages count from 0, positions too.
-    #[tactic(auto, using(ultra_course::proofs::AtFrame::lane_is))]
     pub fn lane(&self, stage: u32, position: u32) -> &ToMm
         requires stage { stage < self.now.config.stages }
         requires position { position < 2 ^ self.now.config.stages }
@@ -264,7 +261,6 @@ impl Blocks {
     }
 
     /// The queue toward the processing elements at a PE-side position of a stage.
-    #[tactic(auto, using(ultra_course::proofs::AtFrame::replies_is))]
     pub fn reply_queue(&self, stage: u32, position: u32) -> &ToPe
         requires stage { stage < self.now.config.stages }
         requires position { position < 2 ^ self.now.config.stages }
@@ -279,7 +275,6 @@ impl Blocks {
     }
 
     /// A memory module, by its number.
-    #[tactic(auto, using(ultra_course::proofs::AtFrame::bank_is))]
     pub fn bank(&self, number: u32) -> &Module
         requires number { number < 2 ^ self.now.config.stages }
         ensures state { result.now ≡ bank_at self.now.machine number }
@@ -290,7 +285,6 @@ impl Blocks {
     }
 
     /// A processing element, by its number.
-    #[tactic(auto, using(ultra_course::proofs::AtFrame::element_is))]
     pub fn element(&self, pe: Pe) -> &ProcessingElement
         requires pe { pe < 2 ^ self.now.config.stages }
         ensures state { element_of result.now ≡ element_at self.now.machine pe }

@@ -1,35 +1,20 @@
 //! The units of a machine before its first cycle.
 
-ghost use Rattle.std.specs.Prelude.{◌≡◌, ℕ, ◌*◌, ◌^◌, ◌<◌, All, IfOk};
-ghost use Rattle.ultra_block.specs.Prelude.{new_bank};
+ghost use Rattle.std.specs.Prelude.{◌≡◌, ◌^◌, ◌<◌, ◌∷◌, [], IfOk};
 ghost use Rattle.ultra_course.specs.Whole.{empty_switch};
-ghost use Rattle.ultra_block.specs.Fresh.{IsFresh, filled, first_bank, first_element};
+ghost use Rattle.ultra_model.specs.Machine.{start};
+ghost use Rattle.ultra_block.specs.{Fresh.all_in_one, Fresh.first_bank, Fresh.first_element, State.MakeUp};
 
 use std::alloc::{AllocError, Global};
 use ultra_halves::ProcessingElement;
 use ultra_isa::{Processor, Program};
 use ultra_mem::Module;
 use ultra_model::Config;
-use ultra_msg::{Cell, Pe, Word};
+use ultra_msg::Pe;
 use ultra_pni::Pni;
 use ultra_section::Block;
 use ultra_switch::Switch;
 use ultra_units::switch_count;
-
-/// Puts the initial values of this module, one of `size`, into its cells, which are all 0.
-#[tactic(auto, using(crate::proofs::Built::fill_steps))]
-fn fill(bank: &mut Module, size: u32, number: u32, cells: u32, values: &[(Cell, Word)])
-    requires number { number < size }
-    requires fresh { bank.old ≡ new_bank cells }
-    requires within { All (λ (i : ℕ × ℕ). i.0 < size * cells) values.now }
-    ensures { bank.new ≡ filled size number cells values.now }
-{
-    for &(cell, word) in values {
-        if cell % size == number {
-            bank.set(cell / size, word);
-        }
-    }
-}
 
 /// A switch with empty queues. An error says that memory was refused.
 fn new_switch(alloc: Global, config: &Config) -> Result<Switch, AllocError>
@@ -45,13 +30,18 @@ fn new_switch(alloc: Global, config: &Config) -> Result<Switch, AllocError>
 }
 
 /// A memory module with its initial values. An error says that memory was refused.
+#[tactic(auto, using(crate::proofs::Built::fill_steps))]
 fn new_module(alloc: Global, config: &Config, number: u32) -> Result<Module, AllocError>
     requires { number < 2 ^ config.now.stages }
     ensures { IfOk result (λ b. b ≡ first_bank config.now number) }
 {
     let mut bank = Module::new(alloc, config.cells()).map_err(|_| AllocError)?;
     let size = config.net().size();
-    fill(&mut bank, size, number, config.cells(), config.initial());
+    for &(cell, word) in config.initial() {
+        if cell % size == number {
+            bank.set(cell / size, word);
+        }
+    }
     Ok(bank)
 }
 
@@ -74,7 +64,7 @@ pub(crate) fn fresh_block(
     config: &Config,
     program: &Program,
 ) -> Result<Block, AllocError>
-    ensures { IfOk result (λ b. IsFresh config.now program.now b) }
+    ensures { IfOk result (λ b. MakeUp config.now program.now (all_in_one config.now.stages) 0 (start config.now) (b ∷ [])) }
 {
     let _initial = config.initial();
     let net = config.net();

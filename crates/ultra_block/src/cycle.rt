@@ -1,11 +1,12 @@
 //! A cycle of all blocks.
 
 ghost use Rattle.std.specs.Prelude.{◌≡◌, ℕ, ◌-◌, ◌^◌, ◌<◌, ◌∷◌, [], List};
-ghost use Rattle.ultra_block.specs.Prelude.{Instr, Settings, AreWhole};
-ghost use Rattle.ultra_cut.specs.Halves.{AllCanMake, all_made_own};
+ghost use Rattle.ultra_isa.specs.declared.Instr.{Instr};
+ghost use Rattle.ultra_model.specs.Machine.{Settings};
+ghost use Rattle.ultra_cut.specs.{Halves.AllCanMake, Halves.all_made_own, Moments.AreWhole};
 ghost use Rattle.ultra_block.specs.State.{MakesCycle};
 
-use ultra_cut::{Kind, exchange_messages, note_rooms};
+use ultra_cut::{Kind, exchange, note_rooms};
 use ultra_model::Config;
 use ultra_section::{Block, Half, Rooms};
 
@@ -32,12 +33,12 @@ fn make_cycle_of_several(blocks: &mut [Block], config: &Config, partition: &[u8]
     let net = config.net();
     let rooms = note_rooms(blocks);
     make(blocks, Half::SendReplies, &rooms);
-    exchange_messages(blocks, partition, Kind::Replies, net);
+    exchange(blocks, partition, Kind::Replies, net);
     make(blocks, Half::TakeReplies, &rooms);
     make(blocks, Half::Serve, &rooms);
     let rooms = note_rooms(blocks);
     make(blocks, Half::SendRequests, &rooms);
-    exchange_messages(blocks, partition, Kind::Requests, net);
+    exchange(blocks, partition, Kind::Requests, net);
     make(blocks, Half::TakeRequests, &rooms);
     make(blocks, Half::Execute, &rooms);
 }

@@ -1,6 +1,6 @@
 //! The units of a machine go to the blocks that a partition names.
 
-ghost use Rattle.std.specs.Prelude.{◌≡◌, ◌<◌, ◌≤◌, All, IfOk, OnErr, length, replicate};
+ghost use Rattle.std.specs.Prelude.{◌≡◌, ◌<◌, All, IfOk, OnErr, length, replicate};
 ghost use Rattle.ultra_block.specs.Dealt.{IsDealt, IsLastNamed, empty_beside};
 
 use std::alloc::{AllocError, Global};
@@ -10,7 +10,6 @@ use ultra_section::Block;
 fn count_blocks(partition: &[u8]) -> usize
     ensures named { All (λ b. b < result) partition.now }
     ensures last { IsLastNamed partition.now result }
-    ensures few { All (λ b. b < 64) partition.now → result ≤ 64 }
 {
     match partition.iter().copied().max() {
         Some(last) => last as usize + 1,

@@ -13,5 +13,5 @@ pub use blocks::Blocks;
 pub use partition::{MOST_BLOCKS, PartitionFault, count_units};
 pub use parts::Parts;
 pub use ranks::{ByElement, ByRules};
-pub use ultra_cut::{Kind, exchange_messages, note_rooms};
+pub use ultra_cut::{Kind, exchange, note_rooms};
 pub use ultra_section::{Block, Half, Held, Rooms};

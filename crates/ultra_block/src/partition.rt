@@ -1,7 +1,8 @@
 //! Partitions, which name the block of each unit.
 
 ghost use Rattle.std.specs.Prelude.{◌≡◌, ℕ, ◌≤◌, nat_lt};
-ghost use Rattle.ultra_block.specs.Prelude.{unit_count, is_partition};
+ghost use Rattle.ultra_units.specs.Numbers.{unit_count};
+ghost use Rattle.ultra_cut.specs.Cut.{is_partition};
 ghost use Rattle.std.specs.List.{list_all};
 
 use std::alloc::AllocError;

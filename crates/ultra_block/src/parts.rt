@@ -1,7 +1,8 @@
 //! A machine in blocks, taken apart in the course of a cycle.
 
 ghost use Rattle.std.specs.Prelude.{◌≡◌, ◌<◌};
-ghost use Rattle.ultra_block.specs.Prelude.{unit_count, block_at, home};
+ghost use Rattle.ultra_units.specs.Numbers.{unit_count};
+ghost use Rattle.ultra_cut.specs.Cut.{block_at, home};
 ghost use Rattle.ultra_block.specs.State.{AreParts};
 
 use ultra_isa::Program;

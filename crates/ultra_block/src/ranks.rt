@@ -1,7 +1,7 @@
 //! The order in which the rules list what happens in a cycle.
 
 ghost use Rattle.std.specs.Prelude.{◌≡◌, ℕ};
-ghost use Rattle.ultra_block.specs.Prelude.{event_rank};
+ghost use Rattle.ultra_cut.specs.Events.{event_rank};
 
 use ultra_merge::Ranking;
 use ultra_model::Stop;

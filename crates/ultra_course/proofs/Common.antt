@@ -1,14 +1,14 @@
 -- The words and lemmas of the crates below and of this one that proofs here use. Those of std's `Common` come from there.
 pub use Rattle.std.proofs.lemmas.Nat.{div-mul-add, mod-mul-add, mul-add-lt, pow_pos}
 pub use Rattle.ultra_halves.specs.Elements.{element_of}
-pub use Rattle.ultra_halves.specs.Halves.{going_by, lane_after_reply, lane_with, lane_without, ports, where_room}
-pub use Rattle.ultra_mem.specs.Serve.{empty_bank, serve, served}
-pub use Rattle.ultra_model.specs.Machine.{Element, bank_at, element_at, fresh_element, lane_at, last_stage, replies_at, request_exit, size}
-pub use Rattle.ultra_model.specs.Places.{after_leaving, joined, places, present, table}
+pub use Rattle.ultra_halves.specs.Halves.{going_by, lane_after_reply, lane_with, lane_without, ports, ports_by, where_room, zip_ports}
+pub use Rattle.ultra_mem.specs.Serve.{serve, served}
+pub use Rattle.ultra_model.specs.Machine.{Element, bank_at, element_at, lane_at, last_stage, replies_at, request_exit, size}
+pub use Rattle.ultra_model.specs.Places.{joined, places, present, table}
 pub use Rattle.ultra_model.specs.Sound.{IsSound}
-pub use Rattle.ultra_route.proofs.Table.{back, sizes}
-pub use Rattle.ultra_switch.specs.Arrive.{Lane, empty_lane}
+pub use Rattle.ultra_route.proofs.Table.{Back, back, sizes}
+pub use Rattle.ultra_switch.specs.Arrive.{Lane}
 pub use Rattle.ultra_units.specs.Numbers.{place_number, reply_source, request_source, switch_count, switch_number}
-pub use Rattle.ultra_course.specs.Course.{Event, Instr, Stop, at_switch, executes, on_links, replies_from, replies_to, reply_from, reply_to, request_from, request_to, requests_from, requests_to, sends_replies, sends_requests, serves, takes_replies, takes_requests}
+pub use Rattle.ultra_course.specs.Course.{Event, Instr, Stop, at_switch, executes, on_links, replies_from, reply_from, reply_to, request_from, request_to, requests_from, sends_replies, sends_requests, serves, takes_replies, takes_requests}
 pub use Rattle.ultra_course.specs.Frame.{AreAlike, AreClosedToReplies, AreClosedToRequests, Frame, Ports, ReplyMessage, Request, Switch, at_port}
 pub use Rattle.ultra_course.specs.Whole.{Fits, IsFrameOf, Machine, Settings, sized_lane, sized_replies}

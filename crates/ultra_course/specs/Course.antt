@@ -4,7 +4,7 @@ pub use Rattle.ultra_msg.specs.declared.Event.{Event}
 use Rattle.ultra_mem.specs.Serve.{serve, served}
 pub use Rattle.ultra_isa.specs.declared.Instr.{Instr}
 pub use Rattle.ultra_model.specs.declared.Stop.{Stop}
-use Rattle.ultra_course.specs.Prelude.{places, present, joined, delivery, without_reply, serving, issue_event, stop_of, switch_count, ports, where_room, replies_leaving, without_replies, after_replies, request_heads, requests_leaving, without_requests, after_requests, combinations_of, element_of, delivered_to, element_without, step_at, executed}
+use Rattle.ultra_course.specs.Prelude.{places, present, joined, delivery, without_reply, serving, issue_event, stop_of, switch_count, map_ports, where_room, replies_leaving, without_replies, after_replies, request_heads, requests_leaving, without_requests, after_requests, combinations_of, element_of, delivered_to, element_without, step_at, executed}
 use Rattle.ultra_units.specs.Units.{stage_of, index_of}
 use Rattle.ultra_units.specs.Marks.{reply_links, request_links, delivery_link, memory_link}
 use Rattle.ultra_units.specs.Ways.{reply_ways, request_ways, has_way_from_module, has_way_from_element}
@@ -13,10 +13,6 @@ use Rattle.ultra_course.specs.Frame.{Frame, at_port, Request, ReplyMessage, Port
 
 abbrev pub pending_head : ProcessingElement → Option Request
 pending_head e = slice_get e.interface.interface.pending 0
-
--- what is on two links
-abbrev pub on_two : {X : Type 0} → (ℕ → X) → Ports ℕ → Ports X
-on_two on p = ports (on p.zero) (on p.one)
 
 module _ (d : ℕ) where
   -- what there is of switch k of stage s, by the number of the switch
@@ -34,23 +30,23 @@ module _ (d : ℕ) where
   -- ---- replies
   -- the replies that leave switch n, and the one that leaves module m, where these switches have no
   -- room for replies
-  abbrev pub replies_from : List ℕ → Frame → ℕ → Ports (Option ReplyMessage)
-  replies_from closed f n =
-      at_switch (λ s k. replies_leaving (reply_ways closed d s k) (f.switch n)) n
+  module _ (closed : List ℕ) (f : Frame) where
+    abbrev pub replies_from : ℕ → Ports (Option ReplyMessage)
+    replies_from n = at_switch (λ s k. replies_leaving (reply_ways closed d s k) (f.switch n)) n
 
-  abbrev pub reply_from : List ℕ → Frame → ℕ → Option ReplyMessage
-  reply_from closed f m = where_room (has_way_from_module closed d m) (f.bank m).out
+    abbrev pub reply_from : ℕ → Option ReplyMessage
+    reply_from m = where_room (has_way_from_module closed d m) (f.bank m).out
 
-  abbrev pub sends_replies : List ℕ → Frame → Frame
-  sends_replies closed f = record f {
-    switch = λ n. without_replies (f.switch n) (replies_from closed f n);
-    bank = λ m. without_reply (f.bank m) (reply_from closed f m);
-    replies = λ l. on_links (λ n. replies_from closed f n) (λ m. reply_from closed f m) l;
-  }
+    abbrev pub sends_replies : Frame
+    sends_replies = record f {
+      switch = λ n. without_replies (f.switch n) (replies_from n);
+      bank = λ m. without_reply (f.bank m) (reply_from m);
+      replies = λ l. on_links replies_from reply_from l;
+    }
 
   -- the replies on the links to switch n, and the one on the link to processing element p
   abbrev pub replies_to : Frame → ℕ → Ports (Option ReplyMessage)
-  replies_to f n = at_switch (λ s k. on_two f.replies (reply_links d s k)) n
+  replies_to f n = at_switch (λ s k. map_ports f.replies (reply_links d s k)) n
 
   abbrev pub reply_to : Frame → ℕ → Option ReplyMessage
   reply_to f p = f.replies (delivery_link d p)
@@ -75,25 +71,27 @@ module _ (d : ℕ) where
   -- ---- requests
   -- the requests that leave switch n, and the one that leaves processing element p, where these
   -- queues and modules have no room
-  abbrev pub requests_from : Ports (List ℕ) → Frame → ℕ → Ports (Option Request)
-  requests_from closed f n =
-      at_switch (λ s k. requests_leaving (request_ways closed d s k (request_heads (f.switch n))) (f.switch n)) n
+  module _ (closed : Ports (List ℕ)) (f : Frame) where
+    abbrev pub requests_from : ℕ → Ports (Option Request)
+    requests_from n =
+        at_switch (λ s k.
+        requests_leaving (request_ways closed d s k (request_heads (f.switch n))) (f.switch n)) n
 
-  abbrev pub request_from : Ports (List ℕ) → Frame → ℕ → Option Request
-  request_from closed f p =
-      let head = pending_head (f.element p) in
-      where_room (has_way_from_element closed d p head) head
+    abbrev pub request_from : ℕ → Option Request
+    request_from p =
+        let head = pending_head (f.element p) in
+        where_room (has_way_from_element closed d p head) head
 
-  abbrev pub sends_requests : Ports (List ℕ) → Frame → Frame
-  sends_requests closed f = record f {
-    switch = λ n. without_requests (f.switch n) (requests_from closed f n);
-    element = λ p. element_without (f.element p) (request_from closed f p);
-    requests = λ l. on_links (λ n. requests_from closed f n) (λ p. request_from closed f p) l;
-  }
+    abbrev pub sends_requests : Frame
+    sends_requests = record f {
+      switch = λ n. without_requests (f.switch n) (requests_from n);
+      element = λ p. element_without (f.element p) (request_from p);
+      requests = λ l. on_links requests_from request_from l;
+    }
 
   -- the requests on the links to switch n, and the one on the link to module m
   abbrev pub requests_to : Frame → ℕ → Ports (Option Request)
-  requests_to f n = at_switch (λ s k. on_two f.requests (request_links d s k)) n
+  requests_to f n = at_switch (λ s k. map_ports f.requests (request_links d s k)) n
 
   abbrev pub request_to : Frame → ℕ → Option Request
   request_to f m = f.requests (memory_link d m)

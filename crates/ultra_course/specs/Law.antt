@@ -5,7 +5,7 @@ use Rattle.std.specs.Option.{ForSome}
 use Rattle.ultra_halves.specs.Switches as switch
 use Rattle.ultra_course.specs.Frame.{Frame, AreClosedToReplies, AreClosedToRequests, Ports, AreAlike, IsClear}
 use Rattle.ultra_course.specs.Course as half
-use Rattle.ultra_course.specs.{Course.replies_to, Course.reply_to, Course.requests_to, Course.request_to, Course.Event, Course.Instr, Course.Stop, Whole.IsFrameOf, Whole.Settings, Whole.Machine}
+use Rattle.ultra_course.specs.{Course.Event, Course.Instr, Course.Stop, Whole.IsFrameOf, Whole.Settings, Whole.Machine}
 
 -- ---- the conditions of the halves that take messages, and of the one in which processing elements
 -- make a step
@@ -15,18 +15,20 @@ module _ (d : ℕ) (f : Frame) where
   -- requests wait than cells are open
   pub record CanTakeReplies : Type 0 where
     pub switches : (n : ℕ) → n < switch_count d
-        → switch.CanTakeReplies (f.switch n) (replies_to d f n)
+        → switch.CanTakeReplies (f.switch n) (half.replies_to d f n)
     pub elements : (p : ℕ) → p < 2 ^ d
-        → (let i = (f.element p).interface.interface in ForSome (reply_to d f p) (λ _. length i.pending < length i.opened))
+        → (let i = (f.element p).interface.interface in
+        ForSome (half.reply_to d f p) (λ _. length i.pending < length i.opened))
 
   -- where requests come to a switch there is room; one that comes to a module is for one of its
   -- cells, and finds its register empty
   pub record CanTakeRequests : Type 0 where
     pub switches :
         (n : ℕ) → n < switch_count d
-        → switch.CanTakeRequests d (n / 2 ^ (d - 1)) (f.switch n) (requests_to d f n)
+        → switch.CanTakeRequests d (n / 2 ^ (d - 1)) (f.switch n) (half.requests_to d f n)
     pub banks : (m : ℕ) → m < 2 ^ d
-        → ForSome (request_to d f m) (λ r. (r.cell / 2 ^ d < length (f.bank m).cells) × ((f.bank m).inp ≡ None))
+        → ForSome (half.request_to d f m) (λ r.
+        (r.cell / 2 ^ d < length (f.bank m).cells) × ((f.bank m).inp ≡ None))
 
   -- each processing element has issued few enough requests to count one more
   pub record CanExecute : Type 0 where

@@ -1,10 +1,9 @@
 -- the whole machine that units, given by their numbers, make up
 use Rattle.std.specs.Prelude.{◌≡◌, ℕ, ◌/◌, ◌%◌, ◌<◌, ◌≤◌, List, length}
-use Rattle.ultra_course.specs.Prelude.{places, table, size, site, switch_number, switch_count, ports, element_of}
+use Rattle.ultra_course.specs.Prelude.{places, table, size, site, switch_number, switch_count, ports, map_ports, element_of}
 use Rattle.ultra_switch.specs.Queues.{SizedLane, SizedReplies, empty_requests, empty_replies}
 pub use Rattle.ultra_model.specs.Machine.{Settings, Machine}
-use Rattle.ultra_model.specs.Ranges.{AreInRange}
-use Rattle.ultra_model.specs.Sound.{IsSound}
+use Rattle.ultra_model.specs.{Ranges.AreInRange, Sound.IsSound}
 use Rattle.ultra_course.specs.{Frame.Frame, Frame.at_port, Frame.Switch, Course.Event, Course.Stop}
 
 module _ (c : Settings) (f : Frame) where
@@ -31,18 +30,16 @@ module _ (c : Settings) (f : Frame) where
 -- a switch with nothing in it, and the one of a machine's sizes
 abbrev pub emptied : Switch → Switch
 emptied w = record {
-  to_mm = ports
-      (empty_requests w.to_mm.zero.request_places w.to_mm.zero.wait_places)
-      (empty_requests w.to_mm.one.request_places w.to_mm.one.wait_places);
-  to_pe = ports (empty_replies w.to_pe.zero.places) (empty_replies w.to_pe.one.places);
+  to_mm = map_ports (λ l. empty_requests l.request_places l.wait_places) w.to_mm;
+  to_pe = map_ports (λ q. empty_replies q.places) w.to_pe;
 }
 
 module _ (c : Settings) where
   abbrev pub empty_switch : Switch
-  empty_switch = record {
-    to_mm = ports (empty_requests c.request_places c.wait_places) (empty_requests c.request_places c.wait_places);
-    to_pe = ports (empty_replies c.reply_places) (empty_replies c.reply_places);
-  }
+  empty_switch =
+      let lane = empty_requests c.request_places c.wait_places in
+      let queue = empty_replies c.reply_places in
+      record { to_mm = ports lane lane; to_pe = ports queue queue }
 
   -- each unit has the settings' sizes; after n cycles a processing element has issued at most a
   -- request in each

@@ -10,13 +10,13 @@ ghost use Rattle.ultra_desk.specs.Tasks.{AreEmptyTeams, AreTeams, CanBeMade, tas
 ghost use Rattle.ultra_crew.specs.Start.{state_of};
 ghost use Rattle.ultra_crew.specs.Course.{IsCourse, IsDue, cycles_on, results_in};
 
-use crate::moves::{with_replies_exchanged, with_requests_exchanged};
+use crate::moves::with_exchanged;
 use std::alloc::Global;
 use std::marker::Model;
 use std::sync::Wait;
 use std::thread::{Scope, Threads};
 use ultra_block::{Blocks, Parts};
-use ultra_cut::note_rooms;
+use ultra_cut::{Kind, note_rooms};
 use ultra_desk::{Course, CrewFault, Desk, Gate, Name, Task, deal, empty_teams, gather};
 use ultra_model::Config;
 use ultra_section::{Block, Half, Rooms};
@@ -140,12 +140,12 @@ impl<J: Course> Shift<J> {
         let mut teams = empty_teams(alloc, workers, blocks.len().div_ceil(workers))?;
         let rooms = note_rooms(blocks.as_slice());
         let blocks = self.make(rt, done, Half::SendReplies, &rooms, blocks, &mut teams)?;
-        let blocks = with_replies_exchanged(blocks, partition, net);
+        let blocks = with_exchanged(blocks, partition, Kind::Replies, net);
         let halves = (Half::TakeReplies, Half::Serve);
         let blocks = self.make_both(rt, done, halves, &rooms, blocks, &mut teams)?;
         let rooms = note_rooms(blocks.as_slice());
         let blocks = self.make(rt, done, Half::SendRequests, &rooms, blocks, &mut teams)?;
-        let blocks = with_requests_exchanged(blocks, partition, net);
+        let blocks = with_exchanged(blocks, partition, Kind::Requests, net);
         let halves = (Half::TakeRequests, Half::Execute);
         let blocks = self.make_both(rt, done, halves, &rooms, blocks, &mut teams)?;
         Ok(blocks)

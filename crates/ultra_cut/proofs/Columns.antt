@@ -11,7 +11,7 @@ module _ {X : Type 0} (g : BlockState → Option X) where
 
   pub column_empty : (bs : List BlockState) → ((k : ℕ) → k < length bs → g (block_at bs k) ≡ None) → first (map g bs) ≡ None
   column_empty [] none = refl
-  column_empty (b ∷ bs) none = let here = none zero (omega arith) in let rest = column_empty bs (λ k h. none (suc k) (omega arith)) in grind arith
+  column_empty (b ∷ bs) none = let rest = column_empty bs (λ k h. none (suc k) (omega arith)) in grind (arith, none zero)
 
   -- block h alone has it
   pub column_first : (bs : List BlockState) (h : ℕ) → h < length bs → ((k : ℕ) → k < length bs → k ≢ h → g (block_at bs k) ≡ None) → first (map g bs) ≡ g (block_at bs h)

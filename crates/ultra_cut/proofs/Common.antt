@@ -6,9 +6,9 @@ pub use Rattle.std.proofs.lemmas.List.{append-nil, ext_get_or, get_or-append_rig
 pub use Rattle.std.proofs.lemmas.List.Elements.{All-from_get_or, All-from_recursion, filter-append}
 pub use Rattle.std.specs.List.{AllByRecursion, list_all, list_any, range_with_len}
 pub use Rattle.ultra_course.proofs.AtFrame.{at_number, bank_is, element_is, joined_next, joined_none, joined_split, lane_is, number_small, replies_is, same_places}
-pub use Rattle.ultra_course.specs.Course.{Event, Instr, Stop, deliveries, issues, on_links, pending_head, servings, stops}
+pub use Rattle.ultra_course.specs.Course.{Event, Instr, Stop, on_links, pending_head}
 pub use Rattle.ultra_course.specs.Frame.{AreAlike, Bank, Frame, IsClear, Ports, ProcessingElement, ReplyMessage, Request, Switch}
-pub use Rattle.ultra_course.specs.Whole.{IsFrameOf, Machine, Settings, sized_lane, sized_replies}
+pub use Rattle.ultra_course.specs.Whole.{IsFrameOf, Machine, Settings}
 pub use Rattle.ultra_halves.specs.Elements.{delivered_to, element_of, element_without, executed, quiet_element, step_at}
 pub use Rattle.ultra_halves.specs.Halves.{has_none, ports, where_room}
 pub use Rattle.ultra_halves.specs.Modules.{bank_with, quiet_bank}
@@ -17,9 +17,9 @@ pub use Rattle.ultra_mem.specs.Serve.{empty_bank, serve, served}
 pub use Rattle.ultra_model.proofs.Each.{each-append, length-places, places_at}
 pub use Rattle.ultra_model.proofs.Neighbours.{itself, other}
 pub use Rattle.ultra_model.specs.Machine.{Element, bank_at, element_at, is_empty, is_quiet, lane_at, replies_at, size}
-pub use Rattle.ultra_model.specs.Phases.{combinations, delivery, issue_event, memory_phase, processor_phase, reply_phase, request_phase, serving, stop_of, without_reply}
-pub use Rattle.ultra_model.specs.Places.{joined, places, present}
-pub use Rattle.ultra_route.proofs.Table.{all_below_at, sizes}
+pub use Rattle.ultra_model.specs.Phases.{combinations, delivery, issue_event, serving, stop_of, without_reply}
+pub use Rattle.ultra_model.specs.Places.{present}
+pub use Rattle.ultra_route.proofs.Table.{sizes}
 pub use Rattle.ultra_section.proofs.OfKind.{by_kind, element_stands, module_stands, switch_stands, unit_of_none}
 pub use Rattle.ultra_section.proofs.Put.{has_places, places_of, places_twice, put_apart, put_or, put_there}
 pub use Rattle.ultra_section.proofs.Readers.{AreRead, are_read, each_network, replies_read, replies_to_switch, reply_reader, reply_to_element, request_reader, request_to_module, requests_read, requests_to_switch}
@@ -27,7 +27,7 @@ pub use Rattle.ultra_section.proofs.Standing.{is_switch, unit_is, unit_of_elemen
 pub use Rattle.ultra_section.specs.Away.{AllStayWithin, AreEmpty, put_on_both, reply_inlets, request_inlets, stands, taken_by_turns}
 pub use Rattle.ultra_section.specs.BlockState.{module_at, switch_at}
 pub use Rattle.ultra_section.specs.Holding.{element_holds, holds_at, module_holds, switch_holds}
-pub use Rattle.ultra_section.specs.Marks.{delivery_link, memory_link, on_both, on_link, reply_links, request_links, without_both}
+pub use Rattle.ultra_section.specs.Marks.{delivery_link, memory_link, on_both, on_link, reply_links, request_links}
 pub use Rattle.ultra_section.specs.Rooms.{AreOwnRooms, HasNoted, all_open}
 pub use Rattle.ultra_section.specs.Sets.{if_here}
 pub use Rattle.ultra_section.specs.Shape.{IsShaped}
@@ -40,6 +40,6 @@ pub use Rattle.ultra_units.specs.Set.{has_unit}
 pub use Rattle.ultra_cut.specs.Cut.{BlockState, IsCut, block_at, first, frame_of, given, home, no_block, no_element, no_switch}
 pub use Rattle.ultra_cut.specs.Events.{event_rank, events_of, stop_rank, stops_of}
 pub use Rattle.ultra_cut.specs.Exchange.{AreSingle, AreThere, HasNoneFor, Kind, MessageOf, OnlyMove, Replies, Requests, carried, inlets, message_on, moved, on_each, table, with_table}
-pub use Rattle.ultra_cut.specs.Halves.{AddedLaw, AllCanMake, AreBlocks, AreBlocksAfter, AreMerged, AreRooms, CanServeLaw, Execute, Half, HalfLaw, HappeningsLaw, HasHalfRoom, HaveFrame, InRanks, ListedBehindLaw, Lists, MergedLaw, OfEach, SendReplies, SendRequests, Serve, TakeReplies, TakeRequests, all_made, all_made_own, combined_at, cycles_made, events_of_replies, events_of_requests, events_of_service, events_of_steps, listed_of, lists_after, lists_of, stops_of_steps}
+pub use Rattle.ultra_cut.specs.Halves.{AllCanMake, AreBlocks, AreBlocksAfter, AreMerged, AreNamed, AreReady, AreRooms, CanMakeLaw, CanMakeTogether, Execute, Half, HalfLaw, HasHalfRoom, HaveMade, HaveLeft, HaveStopped, InRanks, MergedLaw, OfEach, SendReplies, SendRequests, Serve, TakeReplies, TakeRequests, all_made, all_made_own, cycles_made, events_in, first_rank, frame_after, listed_before, rank_after}
 pub use Rattle.ultra_cut.specs.Holding.{IsSetOfAll, holds, stage_holds}
 pub use Rattle.ultra_cut.specs.Moments.{AreRoomsOfAll, AreWhole, machine_in}

@@ -1,28 +1,29 @@
 -- The halves. What a block makes of itself: its units act, each by what is on its links, and it lists what happens, unit by
--- unit and so kind by kind. All blocks become the machine after the half: messages leave switches and the units at the start
--- of the way, and are taken by switches and the units at its end; else each unit works by itself. And each block may make a
--- half where the whole machine may, and it has memory for the events.
-use Rattle.std.proofs.Common.{◌≡◌, ◌≢◌, ℕ, ◌+◌, ◌<◌, ◌≤◌, List, ◌++◌, map, Option, Some, None, length, arith, ◌-◌, ◌*◌, ◌/◌, ◌^◌, inl, inr, ◌∙◌, zero, suc, [], refl, sym, ap, ◌∷◌, set, get_or-set_other}
-use Rattle.ultra_cut.proofs.Common.{length-map, get_or_past, set-get_or, append-nil, cases_lt, switch_count, place_number, unit_count, ports, where_room, IsShaped, stage_of, index_of, unit_of, IsUnit, on_link, AreEmpty, is_switch, unit_of_switch, unit_of_module, unit_of_element, unit_is, has_places, places_of, places_twice, put_or, on_links, Event, Instr, Stop, pending_head, block_at, frame_of, given, home, first, BlockState, AreBlocks, AreBlocksAfter, cycles_made, lists_after, lists_of, Half, AddedLaw, all_made, AllCanMake, CanServeLaw, HalfLaw, all_made_own, SendReplies, TakeReplies, Serve, SendRequests, TakeRequests, Execute, AreSingle, MessageOf, inlets, message_on, on_each, table, with_table, AreThere, Kind, Replies, Requests, Switch, Ports, Bank, ProcessingElement, Request, ReplyMessage, serve, served, places, joined, present, without_reply, delivery, serving, issue_event, stop_of, after_replies, after_requests, replies_leaving, request_heads, requests_leaving, without_replies, without_requests, combinations_of, bank_with, delivered_to, element_without, executed, element_of, step_at, Rooms as BlockRooms, joined_next, joined_none, same_places, replies_to_switch, reply_reader, reply_to_element, request_reader, request_to_module, requests_to_switch}
+-- unit. All blocks become the machine after the half: messages leave switches and the units at the start of the way, and are
+-- taken by switches and the units at its end; else each unit works by itself. What the blocks list is what happens to the
+-- machine. And each block may make a half where the whole machine may, and it has memory for the events.
+use Rattle.std.proofs.Common.{nat_lt, true, false, ◌≡◌, ◌≢◌, ℕ, ◌+◌, ◌<◌, ◌≤◌, List, ◌++◌, map, Option, Some, None, length, arith, ◌-◌, ◌*◌, ◌/◌, ◌^◌, inl, inr, ◌∙◌, zero, suc, [], refl, sym, ap, ◌∷◌, set, get_or-set_other}
+use Rattle.ultra_cut.proofs.Common.{sizes, unit_of_element, unit_of_module, unit_of_switch, AreNamed, HalfLaw, HaveStopped, AreMerged, events_in, event_rank, stop_rank, length-map, get_or_past, set-get_or, append-nil, cases_lt, switch_count, place_number, unit_count, ports, where_room, IsShaped, stage_of, index_of, unit_of, IsUnit, on_link, AreEmpty, is_switch, unit_is, has_places, places_of, places_twice, put_or, on_links, Event, Instr, Stop, pending_head, block_at, frame_of, given, home, first, BlockState, AreBlocks, AreBlocksAfter, cycles_made, listed_before, first_rank, rank_after, Half, all_made, AllCanMake, CanMakeLaw, AreAlike, all_made_own, AreReady, CanMakeTogether, HaveLeft, OfEach, HasHalfRoom, frame_after, Frame, SendReplies, TakeReplies, Serve, SendRequests, TakeRequests, Execute, AreSingle, MessageOf, inlets, message_on, on_each, table, with_table, AreThere, Kind, Replies, Requests, Switch, Ports, serve, served, present, without_reply, delivery, serving, issue_event, stop_of, after_replies, after_requests, replies_leaving, request_heads, requests_leaving, without_replies, without_requests, combinations_of, bank_with, delivered_to, element_without, executed, element_of, step_at, Rooms as BlockRooms, replies_to_switch, reply_reader, reply_to_element, request_reader, request_to_module, requests_to_switch}
 use Rattle.ultra_section.proofs.Few.{two_combine, room_for_half}
 use Rattle.ultra_section.proofs.Once.{entries_before, same_visits}
-use Rattle.ultra_cut.specs.Halves.{events_of_replies, events_of_requests, events_of_service, events_of_steps, stops_of_steps}
-use Rattle.ultra_cut.proofs.{Columns.changed_at, Columns.column_first, Columns.column_none, Columns.column_empty, Columns.same_entries, Units.few_units, Units.Sort, Units.at_home, Units.away, Units.elements, Units.home_small, Units.modules, Units.switches, Units.here, Moved.by_inlets, Moved.end_link, Moved.end_number, Moved.leads_to, Moved.links, Moved.links_of, Moved.none_among, Moved.none_past, Moved.reader, Moved.end_there, Moved.switch_there, Happenings.joined_nothing, Happenings.joined_window}
+use Rattle.ultra_cut.proofs.{Columns.changed_at, Columns.column_first, Columns.column_none, Columns.column_empty, Columns.same_entries, Units.few_units, Units.Sort, Units.at_home, Units.away, Units.elements, Units.home_small, Units.modules, Units.switches, Units.here, Moved.by_inlets, Moved.end_link, Moved.end_number, Moved.leads_to, Moved.links, Moved.links_of, Moved.none_among, Moved.none_past, Moved.reader, Moved.end_there, Moved.switch_there}
+use Rattle.ultra_cut.proofs.Happenings.{combinations_ranked, joined_present, listed_behind, nothing_listed, part, same_listed, units_list_nothing}
+use Rattle.ultra_course.specs.Course as course
 use Rattle.ultra_units.specs.declared.unit.Unit.{Unit as UnitName}
 use Rattle.ultra_section.specs.RequestsSent.{has_way_from_element, request_ways, sends_requests}
 use Rattle.ultra_section.specs.RepliesSent.{begun, has_way_from_module, reply_ways, sends_replies}
-use Rattle.ultra_section.specs.Execution.{ElementCanExecute, executes}
+use Rattle.ultra_section.specs.Execution.{UnitCanExecute, counted, executes}
 use Rattle.ultra_section.specs.Making.{made}
 use Rattle.ultra_section.specs.RepliesTaken.{UnitCanTakeReplies, takes_replies}
 use Rattle.ultra_section.specs.RequestsTaken.{UnitCanTakeRequests, takes_requests}
 use Rattle.ultra_section.proofs.OwnProgram.{made_by_own}
-use Rattle.ultra_course.specs.Law.{CanExecute, CanTakeReplies, CanTakeRequests}
 use Rattle.ultra_units.specs.declared.unit.Unit.TheVariants as unit
 use Rattle.ultra_section.proofs.Acts.{Act, Acts, AllActed, AreFair, IsWhole, Seen, act, after_act, all_acted, end_puts, event_entries, on_one, on_two, stop_entries, switch_puts, on_links_after}
 use Rattle.ultra_section.proofs.Visited.{same_entry}
 use Rattle.ultra_units.specs.Inlets.{at_both}
 use Rattle.ultra_section.specs.Serving.{serves}
 use Rattle.ultra_section.specs.Links.{put_on}
+use Rattle.ultra_section.specs.Rooms.{all_open}
 use Rattle.ultra_units.specs.Visits.{after_units}
 
 -- ---- what units do, and list
@@ -53,35 +54,25 @@ module _ (kind : Kind) (d : ℕ) where
   abbrev pub end_takes : {X : Type 0} → (X → Option (MessageOf kind) → X) → (ℕ → X → Option (MessageOf kind) → List Event) → Act (Option (MessageOf kind)) X
   end_takes after events = record idle { at = λ i. Some (at_both (end_link kind d i)); unit = λ i. after; links = λ i x on. None; events = events }
 
--- ---- a block before and after units have acted, by what is on links of a kind
-abbrev pub on_pair : (kind : Kind) {X : Type 0} → Act (Ports (Option (MessageOf kind))) X → ℕ → BlockState → Ports (Option (MessageOf kind))
-on_pair kind a i b = on_two (table kind b) (a.at i)
+-- ---- where units stand and act
+-- what is on links of a kind
+abbrev Reads : Kind → Type 0 → Type 0
+Reads kind L = List (Option (MessageOf kind)) → Option (Ports ℕ) → L
 
-abbrev pub on_single : (kind : Kind) {X : Type 0} → Act (Option (MessageOf kind)) X → ℕ → BlockState → Option (MessageOf kind)
-on_single kind a i b = on_one (table kind b) (a.at i)
+-- on those of unit i of a sort, by what it does
+abbrev pub on : (kind : Kind) {X L : Type 0} → Act L X → Reads kind L → ℕ → BlockState → L
+on kind a read i b = read (table kind b) (a.at i)
 
--- the units of a sort have acted
-abbrev pub HaveActed : {X L : Type 0} → Sort X → Act L X → (ℕ → BlockState → L) → ℕ → BlockState → BlockState → Type 0
-HaveActed {X = X} {L = L} sort a on d b now = (i : ℕ) → i < sort.count d → ◌≡◌ {A = Option X × L} (sort.at now i, on i now) (after_act a i (sort.at b i, on i b))
+-- the units of a sort in a block have acted
+abbrev pub HaveActed : (kind : Kind) {X L : Type 0} → Sort X → Act L X → Reads kind L → ℕ → BlockState → BlockState → Type 0
+HaveActed kind {X = X} {L = L} sort a read d b now = (i : ℕ) → i < sort.count d → ◌≡◌ {A = Option X × L} (sort.at now i, on kind a read i now) (after_act a i (sort.at b i, on kind a read i b))
 
--- all have in a half, and that stays
-pub record AllAct {S : Type 0} (kind : Kind) (a : Acts (MessageOf kind)) (d : ℕ) (half : Half) (program : List Instr) (that : BlockState → S) (b now : BlockState) : Type 0 where
-  pub shape : IsShaped d now
-  pub done : now.done ≡ b.done + cycles_made half
-  pub runs : now.program ≡ b.program
-  pub switches : HaveActed switches a.switch (on_pair kind a.switch) d b now
-  pub modules : HaveActed modules a.bank (on_single kind a.bank) d b now
-  pub elements : HaveActed elements a.element (on_single kind a.element) d b now
-  pub lists : lists_of now ≡ lists_after d half program b
-  pub stays : that now ≡ that b
-  pub few : length now.events ≤ length b.events + 640
+module _ (d : ℕ) (partition : List ℕ) (bs : List BlockState) (blocks : AreBlocks d partition bs) (kind : Kind) (change : BlockState → BlockState) where
+  abbrev changed : List BlockState
+  changed = map change bs
 
-module _ (d : ℕ) (partition : List ℕ) (bs : List BlockState) (blocks : AreBlocks d partition bs) (change : BlockState → BlockState) where
-  abbrev now : List BlockState
-  now = map change bs
-
-  -- ---- unit i of a sort: only its home changes it, and what is on its links
-  module _ {X L : Type 0} (sort : Sort X) (a : Act L X) (on : ℕ → BlockState → L) (i : ℕ) where
+  -- only its home changes a unit, and what is on its links
+  module _ {X L : Type 0} (sort : Sort X) (a : Act L X) (read : Reads kind L) (i : ℕ) where
     abbrev at : ℕ
     at = home partition (sort.number d i)
 
@@ -90,162 +81,86 @@ module _ (d : ℕ) (partition : List ℕ) (bs : List BlockState) (blocks : AreBl
 
     pub record ActsAtHome : Type 0 where
       pub home : at < length bs
-      pub unit : given sort.nothing (sort.at (block_at now at) i) ≡ a.unit i own (on i (block_at bs at))
-      pub links : on i (change (block_at bs at)) ≡ on_links_after (a.at i) (on i (block_at bs at)) (a.links i own (on i (block_at bs at)))
-      pub away : (k : ℕ) → k < length bs → k ≢ at → on i (change (block_at bs k)) ≡ on i (block_at bs k)
+      pub unit : given sort.nothing (sort.at (block_at changed at) i) ≡ a.unit i own (on kind a read i (block_at bs at))
+      pub links : on kind a read i (change (block_at bs at)) ≡ on_links_after (a.at i) (on kind a read i (block_at bs at)) (a.links i own (on kind a read i (block_at bs at)))
+      pub away : (k : ℕ) → k < length bs → k ≢ at → on kind a read i (change (block_at bs k)) ≡ on kind a read i (block_at bs k)
 
-    pub acts_at_home : ((k : ℕ) → k < length bs → HaveActed sort a on d (block_at bs k) (change (block_at bs k))) → i < sort.count d → ActsAtHome
+    acts_at_home : ((k : ℕ) → k < length bs → HaveActed kind sort a read d (block_at bs k) (change (block_at bs k))) → i < sort.count d → ActsAtHome
     acts_at_home acts h = grind (arith, changed_at, at_home, home_small, away)
 
-  -- ---- all units
-  module _ {S : Type 0} (kind : Kind) (a : Acts (MessageOf kind)) (half : Half) (program : List Instr) (that : BlockState → S)
-      (acts : (k : ℕ) → k < length bs → AllAct kind a d half program that (block_at bs k) (change (block_at bs k))) where
-    pub record AllActAtHome : Type 0 where
-      pub all : AreBlocksAfter d partition half program bs now
-      pub stays : (k : ℕ) → k < length bs → that (block_at now k) ≡ that (block_at bs k)
-      pub switches : (n : ℕ) → n < switches.count d → ActsAtHome switches a.switch (on_pair kind a.switch) n
-      pub banks : (m : ℕ) → m < modules.count d → ActsAtHome modules a.bank (on_single kind a.bank) m
-      pub elements : (p : ℕ) → p < elements.count d → ActsAtHome elements a.element (on_single kind a.element) p
-
-    pub all_act_at_home : AllActAtHome
-    all_act_at_home = record {
-      all = grind (arith, length-map, changed_at);
-      stays = grind (arith, changed_at);
-      switches = λ n. acts_at_home switches a.switch (on_pair kind a.switch) n (λ k h. (acts k h).switches);
-      banks = λ m. acts_at_home modules a.bank (on_single kind a.bank) m (λ k h. (acts k h).modules);
-      elements = λ p. acts_at_home elements a.element (on_single kind a.element) p (λ k h. (acts k h).elements);
-    }
-
--- ---- where messages leave
-module _ (kind : Kind) (d : ℕ) (partition : List ℕ) (bs : List BlockState) (blocks : AreBlocks d partition bs) (send : BlockState → BlockState) where
-  abbrev sent_blocks : List BlockState
-  sent_blocks = map send bs
-
-  -- one block alone has anything on link l, and this is it
-  pub record IsAlone (l : ℕ) (out : Option (MessageOf kind)) : Type 0 where
-    pub block : ℕ
-    pub within : block < length sent_blocks
-    pub here : message_on kind l (block_at sent_blocks block) ≡ out
-    pub away : (k : ℕ) → k < length sent_blocks → k ≢ block → message_on kind l (block_at sent_blocks k) ≡ None
-
-  module _ (now_are : AreBlocks d partition sent_blocks) {X : Type 0} (starts : Sort X) (all : starts.count d ≡ 2 ^ d) (outs : ℕ → Switch → Ports (Option (MessageOf kind))) (out : ℕ → X → Option (MessageOf kind))
+  -- ---- messages leave
+  module _ (now_are : AreBlocks d partition changed) {X : Type 0} (starts : Sort X) (all : starts.count d ≡ 2 ^ d) (outs : ℕ → Switch → Ports (Option (MessageOf kind))) (out : ℕ → X → Option (MessageOf kind))
       (without : Switch → Ports (Option (MessageOf kind)) → Switch) (start_without : X → Option (MessageOf kind) → X)
-      (switches_act : (n : ℕ) → n < switch_count d → ActsAtHome d partition bs blocks send switches (switch_sends d outs without) (on_pair kind (switch_sends d outs without)) n)
-      (starts_act : (i : ℕ) → i < starts.count d → ActsAtHome d partition bs blocks send starts (start_sends d out start_without) (on_single kind (start_sends d out start_without)) i)
+      (switches_act : (i : ℕ) → i < switch_count d → ActsAtHome switches (switch_sends d outs without) on_two i) (starts_act : (i : ℕ) → i < starts.count d → ActsAtHome starts (start_sends d out start_without) on_one i)
       (clear : (l : ℕ) → l < (d + 1) * 2 ^ d → first (on_each kind bs l) ≡ None) where
     nothing : (k l : ℕ) → k < length bs → l < (d + 1) * 2 ^ d → message_on kind l (block_at bs k) ≡ None
     nothing k l within small = column_none (message_on kind l) bs (clear l small) k within
 
     abbrev sent_on : ℕ → Option (MessageOf kind)
-    sent_on = on_links d (λ n. outs n ((frame_of d partition bs).switch n)) (λ i. out i (given starts.nothing (starts.at (block_at bs (home partition (starts.number d i))) i)))
+    sent_on = on_links d (λ i. outs i ((frame_of d partition bs).switch i)) (λ i. out i (given starts.nothing (starts.at (block_at bs (home partition (starts.number d i))) i)))
 
-    alone : (l : ℕ) → l < (d + 1) * 2 ^ d → IsAlone l (sent_on l)
+    -- one block alone has it there
+    abbrev sender : ℕ → ℕ
+    sender l = home partition (elim (nat_lt l (d * 2 ^ d)) [ true ↦ l / 2 | false ↦ starts.number d (l - d * 2 ^ d) ])
+
+    pub record IsAlone (l : ℕ) : Type 0 where
+      pub within : sender l < length changed
+      pub here : message_on kind l (block_at changed (sender l)) ≡ sent_on l
+      pub away : (k : ℕ) → k < length changed → k ≢ sender l → message_on kind l (block_at changed k) ≡ None
+
+    alone : (l : ℕ) → l < (d + 1) * 2 ^ d → IsAlone l
     alone l small_link = elim (cases_lt l (d * 2 ^ d)) [
       | inl h ↦
           let twice = places_twice d blocks.some_stages blocks.few_stages in
           let small : l / 2 < switch_count d = omega arith in
           let it = switches_act (l / 2) small in
           let place = has_places d (l / 2) _ _ blocks.some_stages blocks.few_stages (is_switch d (l / 2) small) in
-          record { block = home partition (l / 2); within = grind (arith, length-map); here = grind (arith, nothing, changed_at); away = grind (arith, nothing, changed_at, length-map) }
+          grind (arith, nothing, changed_at, length-map)
       | inr past ↦
-          let i : ℕ = l - d * 2 ^ d in
-          let small : i < starts.count d = grind arith in
-          let it = starts_act i small in
-          record { block = home partition (starts.number d i); within = grind (arith, length-map); here = grind (arith, nothing, changed_at); away = grind (arith, nothing, changed_at, length-map) }
+          let small : l - d * 2 ^ d < starts.count d = grind arith in
+          let it = starts_act (l - d * 2 ^ d) small in grind (arith, nothing, changed_at, length-map)
     ]
 
-    pub sent : ((l : ℕ) → l < (d + 1) * 2 ^ d → first (on_each kind sent_blocks l) ≡ sent_on l) × AreSingle kind sent_blocks
+    sent : ((l : ℕ) → l < (d + 1) * 2 ^ d → first (on_each kind changed l) ≡ sent_on l) × AreSingle kind changed
     sent = (
-      λ l h. let it = alone l h in column_first (message_on kind l) sent_blocks it.block it.within it.away ∙ it.here,
+      λ l h. let it = alone l h in column_first (message_on kind l) changed _ it.within it.away ∙ it.here,
       λ l i j other there. elim (cases_lt l ((d + 1) * 2 ^ d)) [
         | inl within ↦ let it = alone l within in grind (arith, none_past)
         | inr past ↦ grind (arith, none_past, get_or_past, links_of)
       ],
     )
 
--- ---- where they are taken
-module _ (kind : Kind) (d : ℕ) (partition : List ℕ) (bs : List BlockState) (blocks : AreBlocks d partition bs) (there : AreThere kind d partition bs) (take : BlockState → BlockState)
-    {X : Type 0} (ends : Sort X) (all : ends.count d ≡ 2 ^ d) (numbers : (i : ℕ) → ends.number d i ≡ end_number kind d i)
-    (after : ℕ → Switch → Ports (Option (MessageOf kind)) → Switch) (events : ℕ → Switch → Ports (Option (MessageOf kind)) → List Event) (end_after : X → Option (MessageOf kind) → X) (end_events : ℕ → X → Option (MessageOf kind) → List Event)
-    (switches_act : (n : ℕ) → n < switch_count d → ActsAtHome d partition bs blocks take switches (switch_takes kind d after events) (on_pair kind (switch_takes kind d after events)) n)
-    (ends_act : (i : ℕ) → i < ends.count d → ActsAtHome d partition bs blocks take ends (end_takes kind d end_after end_events) (on_single kind (end_takes kind d end_after end_events)) i) where
-  emptied : (n k : ℕ) → k < length bs → (home partition n ≢ k → AreEmpty (table kind (block_at bs k)) (inlets kind d n)) → AreEmpty (table kind (take (block_at bs k))) (inlets kind d n)
-  emptied = by_inlets kind d (λ n o. (k : ℕ) → k < length bs → (home partition n ≢ k → AreEmpty (table kind (block_at bs k)) o) → AreEmpty (table kind (take (block_at bs k))) o)
-      (λ n h k within none. let it = switches_act n h in grind arith)
-      (λ i h k within none. let it = ends_act i (omega (arith, all)) in let number = numbers i in grind arith)
-      (λ n k within none. tt)
+  -- ---- they are taken
+  module _ (there : AreThere kind d partition bs) {X : Type 0} (ends : Sort X) (all : ends.count d ≡ 2 ^ d) (numbers : (i : ℕ) → ends.number d i ≡ end_number kind d i)
+      (after : ℕ → Switch → Ports (Option (MessageOf kind)) → Switch) (events : ℕ → Switch → Ports (Option (MessageOf kind)) → List Event) (end_after : X → Option (MessageOf kind) → X) (end_events : ℕ → X → Option (MessageOf kind) → List Event)
+      (switches_act : (i : ℕ) → i < switch_count d → ActsAtHome switches (switch_takes kind d after events) on_two i) (ends_act : (i : ℕ) → i < ends.count d → ActsAtHome ends (end_takes kind d end_after end_events) on_one i) where
+    emptied : (n k : ℕ) → k < length bs → (home partition n ≢ k → AreEmpty (table kind (block_at bs k)) (inlets kind d n)) → AreEmpty (table kind (change (block_at bs k))) (inlets kind d n)
+    emptied = by_inlets kind d (λ n o. (k : ℕ) → k < length bs → (home partition n ≢ k → AreEmpty (table kind (block_at bs k)) o) → AreEmpty (table kind (change (block_at bs k))) o)
+        (λ n h k within none. let it = switches_act n h in grind arith)
+        (λ i h k within none. let it = ends_act i (omega (arith, all)) in let number = numbers i in grind arith)
+        (λ n k within none. tt)
 
-  pub taken : (l : ℕ) → l < (d + 1) * 2 ^ d → first (on_each kind (map take bs) l) ≡ None
-  taken l h =
-      let it = leads_to kind d blocks.some_stages blocks.few_stages l h in
-      let none = λ (k : ℕ) (within : k < length bs). none_among (table kind (take (block_at bs k))) l _ it.among (emptied (reader kind d l) k within (there k (reader kind d l) within it.small)) in
-      column_empty (message_on kind l) (map take bs) (grind (arith, changed_at, length-map))
-
--- ---- what is listed of the units before a number, as lists joined
-before_as_places : {T E : Type 0} (listed : ℕ → T → List E) (m : ℕ) (t : T) → entries_before listed m t ≡ joined (places m (λ n. listed n t))
-unfolding entries_before
-before_as_places listed zero t = sym (joined_none (λ n. listed n t))
-before_as_places listed (suc n) t = ap (λ es. es ++ listed n t) (before_as_places listed n t) ∙ sym (joined_next (λ n. listed n t) (suc n) n (omega arith))
-
-nothing_before : {T E : Type 0} (listed : ℕ → T → List E) (t : T) → ((n : ℕ) → listed n t ≡ []) → entries_before listed 320 t ≡ []
-nothing_before listed t none = let joined = joined_nothing 320 (λ n. listed n t) (λ n h. none n) in before_as_places listed 320 t ∙ joined
-
--- only units of one kind have events
-module _ {T E : Type 0} (listed : ℕ → T → List E) (t : T) (before n : ℕ) (g : ℕ → List E) (within : before + n ≤ 320)
-    (lower : (i : ℕ) → i < before → listed i t ≡ []) (upper : (i : ℕ) → before + n ≤ i → listed i t ≡ []) (same : (i : ℕ) → i < n → listed (before + i) t ≡ g i) where
-  listed_by_kind : entries_before listed 320 t ≡ joined (places n g)
-  listed_by_kind =
-      let all : before + (n + (320 - (before + n))) ≡ 320 = omega arith in
-      grind (arith, before_as_places, joined_window, same_places)
-
--- ---- what leaves switches and the units at the start of the way
-module _ (d : ℕ) (rooms : BlockRooms) where
-  abbrev pub replies_out : ℕ → Switch → Ports (Option ReplyMessage)
-  replies_out n = replies_leaving (reply_ways rooms.no_reply_room d (stage_of d n) (index_of d n))
-
-  abbrev pub reply_out : ℕ → Bank → Option ReplyMessage
-  reply_out m x = where_room (has_way_from_module rooms.no_reply_room d m) x.out
-
-  abbrev pub requests_out : ℕ → Switch → Ports (Option Request)
-  requests_out n w = requests_leaving (request_ways rooms.no_request_room d (stage_of d n) (index_of d n) (request_heads w)) w
-
-  abbrev pub request_out : ℕ → ProcessingElement → Option Request
-  request_out p e = where_room (has_way_from_element rooms.no_request_room d p (pending_head e)) (pending_head e)
-
--- all that is on links
-abbrev pub all_links : BlockState → List (Option ReplyMessage) × List (Option Request)
-all_links b = (b.replies, b.requests)
-
--- ---- what the units do in each half, and whose the links are
-module _ (d : ℕ) (rooms : BlockRooms) where
-  abbrev pub replies_leave : Acts ReplyMessage
-  replies_leave = record { switch = switch_sends d (replies_out d rooms) without_replies; bank = start_sends d (reply_out d rooms) without_reply; element = idle }
-
-  abbrev pub requests_leave : Acts Request
-  requests_leave = record { switch = switch_sends d (requests_out d rooms) without_requests; bank = idle; element = start_sends d (request_out d rooms) element_without }
-
-abbrev pub replies_come : ℕ → Acts ReplyMessage
-replies_come d = record { switch = switch_takes Replies d (λ n. after_replies d (stage_of d n)) (λ n w on. []); bank = idle; element = end_takes Replies d delivered_to (λ p e came. present (delivery came ∷ [])) }
-
--- in cycle c
-abbrev pub requests_come : ℕ → ℕ → Acts Request
-requests_come d c = record {
-  switch = switch_takes Requests d (λ n w came. after_requests d (stage_of d n) c w came) (λ n w came. combinations_of d (stage_of d n) (index_of d n) c w came);
-  bank = end_takes Requests d (bank_with (2 ^ d)) (λ m x came. []);
-  element = idle;
-}
-
-abbrev pub modules_serve : Acts ReplyMessage
-modules_serve = record { switch = idle; bank = works serve (λ m x. present (serving m (served x) ∷ [])) (λ m x. []); element = idle }
-
-abbrev pub elements_step : List Instr → Acts ReplyMessage
-elements_step program = record {
-  switch = idle;
-  bank = idle;
-  element = works (executed program) (λ p e. present (issue_event (element_of e) (step_at program e).sent ∷ [])) (λ p e. present (stop_of p (step_at program e).was ∷ []));
-}
+    taken : (l : ℕ) → l < (d + 1) * 2 ^ d → first (on_each kind changed l) ≡ None
+    taken l h =
+        let it = leads_to kind d blocks.some_stages blocks.few_stages l h in
+        let none = λ (k : ℕ) (within : k < length bs). none_among (table kind (change (block_at bs k))) l _ it.among (emptied (reader kind d l) k within (there k (reader kind d l) within it.small)) in
+        column_empty (message_on kind l) changed (grind (arith, changed_at, length-map))
 
 -- ---- the halves
+-- the messages that a half sends or takes; where it does neither, those of either kind would do
+abbrev pub kind_of : Half → Kind
+kind_of SendRequests = Requests
+kind_of TakeRequests = Requests
+kind_of half = Replies
+
+-- links with no messages of the kind stay as they are, and all where a half neither sends nor takes
+abbrev pub LinksStay : Half → BlockState → BlockState → Type 0
+LinksStay SendReplies b now = now.requests ≡ b.requests
+LinksStay TakeReplies b now = now.requests ≡ b.requests
+LinksStay SendRequests b now = now.replies ≡ b.replies
+LinksStay TakeRequests b now = now.replies ≡ b.replies
+LinksStay half b now = (now.replies ≡ b.replies) × (now.requests ≡ b.requests)
+
 abbrev pub seen : (kind : Kind) → BlockState → Seen (MessageOf kind)
 seen kind b = record { switches = b.switches; modules = b.modules; elements = b.elements; table = table kind b; events = b.events; stops = b.stops }
 
@@ -253,180 +168,247 @@ seen kind b = record { switches = b.switches; modules = b.modules; elements = b.
 abbrev pub with_units : {M : Type 0} → BlockState → Seen M → BlockState
 with_units b v = record b { switches = v.switches; modules = v.modules; elements = v.elements; events = v.events; stops = v.stops }
 
-abbrev pub with_seen : (kind : Kind) → BlockState → Seen (MessageOf kind) → BlockState
-with_seen kind b v = with_table kind v.table (with_units b v)
+abbrev pub with_seen : BlockState → (half : Half) → Seen (MessageOf (kind_of half)) → BlockState
+with_seen b Serve v = with_units b v
+with_seen b Execute v = with_units b v
+with_seen b half v = with_table (kind_of half) v.table (with_units b v)
+
+-- what is seen as the visits begin, and the block when they are over
+abbrev pub seen_first : (half : Half) → BlockState → Seen (MessageOf (kind_of half))
+seen_first SendReplies b = seen Replies (begun b)
+seen_first half b = seen (kind_of half) b
+
+abbrev pub after_visits : Half → BlockState → BlockState
+after_visits Execute b = counted b
+after_visits half b = b
+
+-- what a unit needs
+abbrev UnitCan : Half → ℕ → BlockState → UnitName → Type 0
+UnitCan TakeReplies i b u = UnitCanTakeReplies i b u
+UnitCan TakeRequests i b u = UnitCanTakeRequests i b u
+UnitCan Execute i b u = UnitCanExecute b u
+UnitCan half i b u = Unit {0}
 
 put_as_set : {M : Type 0} (t : List (Option M)) (l : ℕ) (o : Option M) → put_on t l o ≡ set t l (put_or o (on_link t l))
 put_as_set t l None = sym (set-get_or t l None)
 put_as_set t l (Some m) = refl
 
-module _ (d : ℕ) (low : 1 ≤ d) (high : d ≤ 6) (rooms : BlockRooms) (program : List Instr) (b : BlockState) (shape : IsShaped d b) where
-  small : unit_count d < 321
-  small = few_units d low high
+module _ (d n : ℕ) (rooms : BlockRooms) (program : List Instr) where
+  -- what the units do, in cycle n
+  abbrev pub acts : (half : Half) → Acts (MessageOf (kind_of half))
+  acts SendReplies = record {
+    switch = switch_sends d (λ i. replies_leaving (reply_ways rooms.no_reply_room d (stage_of d i) (index_of d i))) without_replies;
+    bank = start_sends d (λ m x. where_room (has_way_from_module rooms.no_reply_room d m) x.out) without_reply;
+    element = idle;
+  }
+  acts TakeReplies = record { switch = switch_takes Replies d (λ i. after_replies d (stage_of d i)) (λ i w on. []); bank = idle; element = end_takes Replies d delivered_to (λ p e came. present (delivery came ∷ [])) }
+  acts Serve = record { switch = idle; bank = works serve (λ m x. present (serving m (served x) ∷ [])) (λ m x. []); element = idle }
+  acts SendRequests = record {
+    switch = switch_sends d (λ i w. requests_leaving (request_ways rooms.no_request_room d (stage_of d i) (index_of d i) (request_heads w)) w) without_requests;
+    bank = idle;
+    element = start_sends d (λ p e. where_room (has_way_from_element rooms.no_request_room d p (pending_head e)) (pending_head e)) element_without;
+  }
+  acts TakeRequests = record {
+    switch = switch_takes Requests d (λ i. after_requests d (stage_of d i) n) (λ i. combinations_of d (stage_of d i) (index_of d i) n);
+    bank = end_takes Requests d (bank_with (2 ^ d)) (λ m x came. []);
+    element = idle;
+  }
+  acts Execute = record {
+    switch = idle;
+    bank = idle;
+    element = works (executed program) (λ p e. present (issue_event (element_of e) (step_at program e).sent ∷ [])) (λ p e. present (stop_of p (step_at program e).was ∷ []));
+  }
 
-  -- `f` visits each unit of the block once, and each visit is its act
-  module _ {M : Type 0} (a : Acts M) (fair : AreFair d a) (f : ℕ → BlockState → BlockState) (put : Seen M → BlockState) (each : (n : ℕ) (v : Seen M) → f n (put v) ≡ put (act d a n v)) (old : Seen M) where
-    abbrev after : Seen M
-    after = after_units (act d a) 320 old
+  -- what a block lists in a half, unit by unit
+  abbrev pub events_by : Half → BlockState → List Event
+  events_by half b = entries_before (event_entries d (acts half)) 320 (seen_first half b)
 
-    visited : IsWhole d a old → AllActed d a fair old after × (after_units f 320 (put old) ≡ put after)
-    visited whole = (all_acted d a fair small old whole, same_visits f (act d a) put each 320 old)
+  abbrev pub stops_by : Half → BlockState → List Stop
+  stops_by half b = entries_before (stop_entries d (acts half)) 320 (seen_first half b)
 
-  -- ---- replies leave switches and modules
-  pub send_replies_act : AllAct Replies (replies_leave d rooms) d SendReplies program (λ b. b.requests) b (made SendReplies rooms program b)
-  send_replies_act =
-      let old = seen Replies (begun b) in
-      let fair : AreFair d (replies_leave d rooms) = record { owner = _; switches = switch_puts d (switch_count d) low high; modules = end_puts d (switch_count d) low high (omega arith); elements = λ p h. tt; few = λ n v. grind arith } in
-      let (it, is) = visited (replies_leave d rooms) fair (sends_replies rooms.no_reply_room) (with_seen Replies b) (λ n v. rw (shape.stages) (grind (arith, put_as_set, get_or-set_other, same_entry, append-nil))) old (grind arith) in
-      rw is (grind (arith, nothing_before, append-nil))
+  -- all units of a block have acted in the half
+  pub record AllAct (half : Half) (b now : BlockState) : Type 0 where
+    pub shape : IsShaped d now
+    pub done : now.done ≡ b.done + cycles_made half
+    pub runs : now.program ≡ b.program
+    pub switches : HaveActed (kind_of half) switches (acts half).switch on_two d b now
+    pub modules : HaveActed (kind_of half) modules (acts half).bank on_one d b now
+    pub elements : HaveActed (kind_of half) elements (acts half).element on_one d b now
+    pub links : LinksStay half b now
+    pub events : now.events ≡ listed_before half b.events ++ events_by half b
+    pub stops : now.stops ≡ listed_before half b.stops ++ stops_by half b
+    pub few : length now.events ≤ length (listed_before half b.events) + 2 * (rank_after half - first_rank half)
 
-  -- ---- they are taken by switches and processing elements
-  pub take_replies_act : AllAct Replies (replies_come d) d TakeReplies program (λ b. b.requests) b (made TakeReplies rooms program b)
-  unfolding events_of_replies
-  take_replies_act =
-      let old = seen Replies b in
-      let own = λ (n : ℕ) (h : n < switch_count d). replies_to_switch d low high n _ _ (is_switch d n h) in
-      let fair : AreFair d (replies_come d) = record { owner = reply_reader d; switches = own; modules = λ m h. tt; elements = λ p h. reply_to_element d low high _ p (record { small = h; number = refl }); few = λ n v. grind arith } in
-      let (it, is) = visited (replies_come d) fair takes_replies (with_seen Replies b) (λ n v. rw (shape.stages) (grind (arith, same_entry, append-nil))) old (grind arith) in
-      let listed : entries_before (event_entries d (replies_come d)) 320 old ≡ events_of_replies d b =
-      listed_by_kind _ old (switch_count d + 2 ^ d) (2 ^ d) _ (omega (arith, small)) (grind arith) (grind arith) (grind (arith, unit_of_element)) in
-      let stops = nothing_before (stop_entries d (replies_come d)) old (λ n. grind arith) in
-      rw is (grind (arith, append-nil))
+  -- ---- a half visits each unit of a block once, and each visit is its act
+  abbrev pub visit : Half → ℕ → BlockState → BlockState
+  visit SendReplies = sends_replies rooms.no_reply_room
+  visit TakeReplies = takes_replies
+  visit Serve = serves
+  visit SendRequests = sends_requests rooms.no_request_room
+  visit TakeRequests = takes_requests
+  visit Execute = executes program
 
-  -- ---- modules serve
-  pub serve_act : AllAct Replies modules_serve d Serve program all_links b (made Serve rooms program b)
-  unfolding events_of_service
-  serve_act =
-      let old = seen Replies b in
-      let fair : AreFair d modules_serve = record { owner = λ l. 0; switches = λ n h. tt; modules = λ m h. tt; elements = λ p h. tt; few = λ n v. grind arith } in
-      let (it, is) = visited modules_serve fair serves (with_units b) (λ n v. rw (shape.stages) (grind (arith, same_entry, append-nil))) old (grind arith) in
-      let listed : entries_before (event_entries d modules_serve) 320 old ≡ events_of_service d b =
-      listed_by_kind _ old (switch_count d) (2 ^ d) _ (omega (arith, small)) (grind arith) (grind arith) (grind (arith, unit_of_module)) in
-      let stops = nothing_before (stop_entries d modules_serve) old (λ n. grind arith) in
-      rw is (grind (arith, append-nil))
+  module _ (low : 1 ≤ d) (high : d ≤ 6) where
+    small : unit_count d < 321
+    small = few_units d low high
 
-  -- ---- requests leave switches and processing elements
-  pub send_requests_act : AllAct Requests (requests_leave d rooms) d SendRequests program (λ b. b.replies) b (made SendRequests rooms program b)
-  send_requests_act =
-      let old = seen Requests b in
-      let behind = switch_count d + 2 ^ d in
-      let fair : AreFair d (requests_leave d rooms) = record { owner = _; switches = switch_puts d behind low high; modules = λ m h. tt; elements = end_puts d behind low high (omega arith); few = λ n v. grind arith } in
-      let (it, is) = visited (requests_leave d rooms) fair (sends_requests rooms.no_request_room) (with_seen Requests b)
-      (λ n v. rw (shape.stages) (grind (arith, put_as_set, get_or-set_other, same_entry, append-nil))) old (grind arith) in
-      rw is (grind (arith, nothing_before, append-nil))
+    fair : (half : Half) → AreFair d (acts half)
+    fair SendReplies = record { owner = _; switches = switch_puts d (switch_count d) low high; modules = end_puts d (switch_count d) low high (omega arith); elements = λ p h. tt; few = λ i v. grind arith }
+    fair TakeReplies = record { owner = reply_reader d; switches = λ i h. replies_to_switch d low high i _ _ (is_switch d i h); modules = λ m h. tt; elements = λ p h. reply_to_element d low high _ p (record { small = h; number = refl }); few = λ i v. grind arith }
+    fair SendRequests = record { owner = _; switches = switch_puts d (switch_count d + 2 ^ d) low high; modules = λ m h. tt; elements = end_puts d (switch_count d + 2 ^ d) low high (omega arith); few = λ i v. grind arith }
+    fair TakeRequests = record { owner = request_reader d; switches = λ i h. requests_to_switch d low high i _ _ (is_switch d i h); modules = λ m h. request_to_module d low high _ m (record { small = h; number = refl }); elements = λ p h. tt; few = λ i v. grind (arith, two_combine) }
+    fair half = record { owner = λ l. 0; switches = λ i h. tt; modules = λ m h. tt; elements = λ p h. tt; few = λ i v. grind arith }
 
-  -- ---- they are taken by switches and modules, in cycle c
-  module _ (c : ℕ) (done : b.done ≡ c) where
-    pub take_requests_act : AllAct Requests (requests_come d c) d TakeRequests program (λ b. b.replies) b (made TakeRequests rooms program b)
-    unfolding events_of_requests
-    take_requests_act =
-        let old = seen Requests b in
-        let own = λ (n : ℕ) (h : n < switch_count d). requests_to_switch d low high n _ _ (is_switch d n h) in
-        let fair : AreFair d (requests_come d c) = record { owner = request_reader d; switches = own; modules = λ m h. request_to_module d low high _ m (record { small = h; number = refl }); elements = λ p h. tt; few = λ n v. grind (arith, two_combine) } in
-        let (it, is) = visited (requests_come d c) fair takes_requests (with_seen Requests b) (λ n v. rw (shape.stages, done) (grind (arith, same_entry, append-nil))) old (grind arith) in
-        let listed : entries_before (event_entries d (requests_come d c)) 320 old ≡ events_of_requests d c b =
-        listed_by_kind _ old 0 (switch_count d) _ (omega (arith, small)) (grind arith) (grind arith) (grind (arith, unit_of_switch)) in
-        let stops = nothing_before (stop_entries d (requests_come d c)) old (λ n. grind arith) in
-        rw is (grind (arith, append-nil))
+    module _ (b : BlockState) (shape : IsShaped d b) where
+      each : (half : Half) → (half ≡ TakeRequests → b.done ≡ n) → (i : ℕ) (v : Seen (MessageOf (kind_of half))) → visit half i (with_seen b half v) ≡ with_seen b half (act d (acts half) i v)
+      each TakeRequests in_cycle i v = rw (shape.stages, in_cycle refl) (grind (arith, same_entry, append-nil))
+      each half in_cycle i v = rw (shape.stages) (grind (arith, put_as_set, get_or-set_other, same_entry, append-nil))
 
-  -- ---- processing elements make a step
-  pub execute_act : AllAct Replies (elements_step program) d Execute program all_links b (made Execute rooms program b)
-  unfolding events_of_steps stops_of_steps
-  execute_act =
-      let old = seen Replies b in
-      let fair : AreFair d (elements_step program) = record { owner = λ l. 0; switches = λ n h. tt; modules = λ m h. tt; elements = λ p h. tt; few = λ n v. grind arith } in
-      let (it, is) = visited (elements_step program) fair (executes program) (with_units b) (λ n v. rw (shape.stages) (grind (arith, same_entry, append-nil))) old (grind arith) in
-      let issued : entries_before (event_entries d (elements_step program)) 320 old ≡ events_of_steps d program b =
-      listed_by_kind _ old (switch_count d + 2 ^ d) (2 ^ d) _ (omega (arith, small)) (grind arith) (grind arith) (grind (arith, unit_of_element)) in
-      let stopped : entries_before (stop_entries d (elements_step program)) 320 old ≡ stops_of_steps d program b =
-      listed_by_kind _ old (switch_count d + 2 ^ d) (2 ^ d) _ (omega (arith, small)) (grind arith) (grind arith) (grind (arith, unit_of_element)) in
-      rw is (grind arith)
+      visited : (half : Half) → (half ≡ TakeRequests → b.done ≡ n) → made half rooms program b ≡ after_visits half (with_seen b half (after_units (act d (acts half)) 320 (seen_first half b)))
+      visited Execute in_cycle = ap counted (same_visits (visit Execute) (act d (acts Execute)) (with_seen b Execute) (each Execute in_cycle) 320 _)
+      visited half in_cycle = same_visits (visit half) (act d (acts half)) (with_seen b half) (each half in_cycle) 320 _
 
--- so each half adds to a block's lists
-pub added_law : AddedLaw
-added_law d SendReplies rooms program b low high shape = (send_replies_act d low high rooms program b shape).lists
-added_law d TakeReplies rooms program b low high shape = (take_replies_act d low high rooms program b shape).lists
-added_law d Serve rooms program b low high shape = (serve_act d low high rooms program b shape).lists
-added_law d SendRequests rooms program b low high shape = (send_requests_act d low high rooms program b shape).lists
-added_law d TakeRequests rooms program b low high shape = (take_requests_act d low high rooms program b shape b.done refl).lists
-added_law d Execute rooms program b low high shape = (execute_act d low high rooms program b shape).lists
+      whole : (half : Half) → IsWhole d (acts half) (seen_first half b)
+      whole SendReplies = grind arith
+      whole half = grind arith
 
-pub can_serve_law : CanServeLaw
-can_serve_law = λ program bs room k h n within. room_for_half (block_at bs k) (room k h) n
+      acted : (half : Half) (after : Seen (MessageOf (kind_of half))) → AllActed d (acts half) (fair half) (seen_first half b) after → AllAct half b (after_visits half (with_seen b half after))
+      acted SendReplies after it = let none = units_list_nothing (event_entries d (acts SendReplies)) 320 (seen Replies (begun b)) (λ i. grind arith) in grind arith
+      acted SendRequests after it = let none = units_list_nothing (event_entries d (acts SendRequests)) 320 (seen Requests b) (λ i. grind arith) in grind (arith, append-nil)
+      acted half after it = grind arith
 
--- ---- what a unit needs in a half: it is that of the machine, and what comes to it is there
-module _ (d : ℕ) (partition : List ℕ) (bs : List BlockState) (blocks : AreBlocks d partition bs) (k : ℕ) (within : k < length bs) where
-  unit_takes_replies : AreThere Replies d partition bs → CanTakeReplies d (frame_of d partition bs) → (n : ℕ) (u : UnitName) → IsUnit d n u → UnitCanTakeReplies n (block_at bs k) u
-  unit_takes_replies there can n (unit.Switch s i) is = λ w at.
-      let came = switch_there Replies d partition bs blocks.cut there n is.within in
-      let it = here switches d partition bs blocks.cut n is.within k within w at in
-      let room = can.switches n is.within in
-      let stages = blocks.cut.stages k within in grind arith
-  unit_takes_replies there can n (unit.Element p) is = λ e at r on.
-      let came = end_there Replies d partition bs blocks.cut there p is.small in
-      let it = here elements d partition bs blocks.cut p is.small k within e at in
-      let room = can.elements p is.small in
-      let stages = blocks.cut.stages k within in grind arith
-  unit_takes_replies there can n u is = tt
+      half_act : (half : Half) → (half ≡ TakeRequests → b.done ≡ n) → AllAct half b (made half rooms program b)
+      half_act half in_cycle = rw (visited half in_cycle) (acted half _ (all_acted d (acts half) (fair half) small _ (whole half)))
 
-  unit_takes_requests : AreThere Requests d partition bs → CanTakeRequests d (frame_of d partition bs) → (n : ℕ) (u : UnitName) → IsUnit d n u → UnitCanTakeRequests n (block_at bs k) u
-  unit_takes_requests there can n (unit.Switch s i) is = λ w at.
-      let came = switch_there Requests d partition bs blocks.cut there n is.within in
-      let it = here switches d partition bs blocks.cut n is.within k within w at in
-      let room = can.switches n is.within in
-      let stages = blocks.cut.stages k within in grind arith
-  unit_takes_requests there can n (unit.Module m) is = λ x at r on.
-      let came = end_there Requests d partition bs blocks.cut there m is.small in
-      let it = here modules d partition bs blocks.cut m is.small k within x at in
-      let room = can.banks m is.small r in
-      let stages = blocks.cut.stages k within in grind arith
-  unit_takes_requests there can n u is = tt
+  -- ---- all blocks
+  module _ (partition : List ℕ) (bs : List BlockState) (blocks : AreBlocks d partition bs) where
+    abbrev f : Frame
+    f = frame_of d partition bs
 
-  element_can_execute : CanExecute d (frame_of d partition bs) → (p : ℕ) → p < 2 ^ d → ElementCanExecute p (block_at bs k)
-  element_can_execute can p h e is =
-      let it = here elements d partition bs blocks.cut p h k within e is in grind arith
+    module _ (half : Half) where
+      abbrev after : List BlockState
+      after = all_made half rooms program bs
 
--- ---- a half of all blocks is that half of the whole machine
+      abbrev AtHome : {X L : Type 0} → Sort X → Act L X → Reads (kind_of half) L → Type 0
+      AtHome sort a read = (i : ℕ) → i < sort.count d → ActsAtHome d partition bs blocks (kind_of half) (made half rooms program) sort a read i
+
+      pub record AllActAtHome : Type 0 where
+        pub all : AreBlocksAfter d partition half bs after
+        pub links : (k : ℕ) → k < length bs → LinksStay half (block_at bs k) (block_at after k)
+        pub switches : AtHome switches (acts half).switch on_two
+        pub banks : AtHome modules (acts half).bank on_one
+        pub elements : AtHome elements (acts half).element on_one
+
+      module _ (ready : AreReady d partition n program bs half) where
+        each_acts : (k : ℕ) → k < length bs → AllAct half (block_at bs k) (made half rooms program (block_at bs k))
+        each_acts k h = half_act blocks.some_stages blocks.few_stages (block_at bs k) (blocks.shaped k h) half (λ is. let same : AreReady d partition n program bs TakeRequests = rw is at ready in same.1 k h)
+
+        all_act_at_home : AllActAtHome
+        all_act_at_home = record {
+          all = grind (arith, length-map, changed_at, each_acts);
+          links = grind (arith, changed_at, each_acts);
+          switches = λ i. acts_at_home _ _ _ blocks _ _ switches (acts half).switch _ i (λ k h. (each_acts k h).switches);
+          banks = λ i. acts_at_home _ _ _ blocks _ _ modules (acts half).bank _ i (λ k h. (each_acts k h).modules);
+          elements = λ i. acts_at_home _ _ _ blocks _ _ elements (acts half).element _ i (λ k h. (each_acts k h).elements);
+        }
+
+    -- a half of them is that half of the whole machine
+    becomes : (half : Half) → AreReady d partition n program bs half → AreBlocksAfter d partition half bs (after half) × AreAlike d (frame_of d partition (after half)) (frame_after d n rooms program f half) × HaveLeft d partition n program bs (after half) half
+    becomes SendReplies clear =
+        let it = all_act_at_home SendReplies clear in
+        let links = sent _ _ _ blocks Replies _ it.all.blocks modules refl _ _ without_replies without_reply it.switches it.banks clear in
+        grind (arith, changed_at, same_entries, length-map)
+    becomes TakeReplies there =
+        let it = all_act_at_home TakeReplies there in
+        let links = taken _ _ _ blocks Replies _ there elements refl (λ i. refl) _ _ _ _ it.switches it.elements in
+        grind (arith, changed_at, same_entries, length-map, switch_there Replies _ _ _ blocks.cut there, end_there Replies _ _ _ blocks.cut there)
+    becomes SendRequests clear =
+        let it = all_act_at_home SendRequests clear in
+        let links = sent _ _ _ blocks Requests _ it.all.blocks elements refl _ _ without_requests element_without it.switches it.elements clear in
+        grind (arith, changed_at, same_entries, length-map)
+    becomes TakeRequests (there, same) =
+        let it = all_act_at_home TakeRequests (there, same) in
+        let links = taken _ _ _ blocks Requests _ there modules refl (λ i. refl) _ _ _ _ it.switches it.banks in
+        grind (arith, changed_at, same_entries, length-map, switch_there Requests _ _ _ blocks.cut there, end_there Requests _ _ _ blocks.cut there)
+    becomes half ready =
+        let it = all_act_at_home half ready in grind (arith, changed_at, same_entries, length-map)
+
+    -- a unit can make it: it is that of the machine, and what comes to it is there
+    unit_can : (half : Half) → AreReady d partition n program bs half → CanMakeTogether d partition n program bs half → (k : ℕ) → k < length bs → (block_at bs k).stages ≡ d → (i : ℕ) (u : UnitName) → IsUnit d i u → UnitCan half i (block_at bs k) u
+    unit_can TakeReplies there can k within stages i (unit.Switch s x) is = λ w at.
+        let it = here switches _ _ _ blocks.cut i is.within k within w at in grind (arith, switch_there Replies _ _ _ blocks.cut there i is.within, can.switches i is.within)
+    unit_can TakeReplies there can k within stages i (unit.Element p) is = λ e at r on.
+        let it = here elements _ _ _ blocks.cut p is.small k within e at in grind (arith, end_there Replies _ _ _ blocks.cut there p is.small, can.elements p is.small)
+    unit_can TakeRequests (there, same) can k within stages i (unit.Switch s x) is = λ w at.
+        let it = here switches _ _ _ blocks.cut i is.within k within w at in grind (arith, switch_there Requests _ _ _ blocks.cut there i is.within, can.switches i is.within)
+    unit_can TakeRequests (there, same) can k within stages i (unit.Module m) is = λ x at r on.
+        let it = here modules _ _ _ blocks.cut m is.small k within x at in grind (arith, end_there Requests _ _ _ blocks.cut there m is.small, can.banks m is.small r)
+    unit_can Execute ready can k within stages i (unit.Element p) is = λ e at.
+        let it = here elements _ _ _ blocks.cut p is.small k within e at in grind (arith, can)
+    unit_can half ready can k within stages i u is = tt
+
+    can_make : (half : Half) → AreReady d partition n program bs half → CanMakeTogether d partition n program bs half → OfEach HasHalfRoom bs → AllCanMake program half bs
+    can_make SendReplies ready can room = λ k within. tt
+    can_make SendRequests ready can room = λ k within. tt
+    can_make Serve ready can room = λ k within i before. room_for_half (block_at bs k) (room k within) i
+    can_make Execute ready can room = grind (arith, unit_is, unit_can Execute ready can, blocks.cut.stages, room)
+    can_make half ready can room = λ k within i before.
+        let stages = blocks.cut.stages k within in let unit = unit_can half ready can k within stages i (unit_of d i) (unit_is d i) in grind (arith, room)
+
+    -- ---- what the blocks list in it
+    few : unit_count d < 321
+    few = small blocks.some_stages blocks.few_stages
+
+    listed : (half : Half) → AreReady d partition n program bs half → AreNamed d partition n program bs half
+        → AreMerged (event_rank d) (first_rank half) (rank_after half) (events_by half) bs (events_in d n rooms program f half)
+    unfolding course.deliveries course.servings course.combinations course.issues
+    listed TakeReplies there names =
+        rw (← joined_present) (part _ _ _ blocks (event_rank d) 0 (switch_count d + 2 ^ d) (omega arith) elements (on Replies (acts TakeReplies).element on_one) (acts TakeReplies).element.events _ 320 (omega (arith, few))
+        (λ p small. (ap (λ o. present (delivery o ∷ [])) (sym (end_there Replies _ _ _ blocks.cut there p small)), (let it = names p small in grind arith))) (grind (arith, few, unit_of_element)))
+    listed Serve ready named =
+        rw (← joined_present) (part _ _ _ blocks (event_rank d) 320 (320 + switch_count d) (omega arith) modules (on Replies (acts Serve).bank on_one) (acts Serve).bank.events _ 640 (omega (arith, few))
+        (λ m small. (refl, grind arith)) (grind (arith, few, unit_of_module)))
+    listed TakeRequests (there, same) named =
+        part _ _ _ blocks (event_rank d) 640 640 (omega arith) switches (on Requests (acts TakeRequests).switch on_two) (acts TakeRequests).switch.events _ 960 (omega (arith, few))
+        (λ i small. (
+          ap (combinations_of d (stage_of d i) (index_of d i) n (f.switch i)) (sym (switch_there Requests _ _ _ blocks.cut there i small)),
+          combinations_ranked d n i (stage_of d i) (index_of d i) (f.switch i) (course.requests_to d f i) (sym (is_switch d i small).number),
+        )) (grind (arith, few, unit_of_switch))
+    listed Execute ready sites =
+        rw (← joined_present) (part _ _ _ blocks (event_rank d) 960 (960 + (switch_count d + 2 ^ d)) (omega arith) elements (on Replies (acts Execute).element on_one) (acts Execute).element.events _ 1280 (omega (arith, few))
+        (λ p small. (refl, (let at = sites p small in grind arith))) (grind (arith, few, unit_of_element)))
+    listed half ready named = nothing_listed (event_rank d) _ _ _ bs (λ k h. units_list_nothing _ 320 _ (λ i. grind arith))
+
+    -- each block lists that behind what it had listed
+    module _ (half : Half) (ready : AreReady d partition n program bs half) (k : ℕ) (h : k < length bs) where
+      each_lists : ((block_at (after half) k).events ≡ listed_before half (block_at bs k).events ++ events_by half (block_at bs k))
+          × ((block_at (after half) k).stops ≡ listed_before half (block_at bs k).stops ++ stops_by half (block_at bs k))
+      each_lists = let acts = each_acts half ready k h in grind (arith, changed_at)
+
+    events_after : (half : Half) → AreReady d partition n program bs half → AreNamed d partition n program bs half → (so_far : List Event) → AreMerged (event_rank d) 0 (first_rank half) (λ b. listed_before half b.events) bs so_far
+        → AreMerged (event_rank d) 0 (rank_after half) (λ b. b.events) (after half) (so_far ++ events_in d n rooms program f half)
+    events_after half ready named so_far was =
+        listed_behind _ _ _ _ (omega arith) (grind arith) _ _ (length-map _ _) _ _ _
+        (λ k h. (each_lists half ready k h).0) _ _ was (listed half ready named)
+
+    stops_after : (half : Half) → AreReady d partition n program bs half → OfEach (λ b. listed_before half b.stops ≡ []) bs → HaveStopped d partition n program bs (after half) half
+    unfolding course.stops
+    stops_after Execute ready none =
+        same_listed _ _ _ _ _ (stops_by Execute) _ _ (length-map _ _) (λ k h. let lists = each_lists Execute ready k h in grind (arith, none))
+        (rw (← joined_present) (part _ _ _ blocks stop_rank 0 0 (omega arith) elements (on Replies (acts Execute).element on_one) (acts Execute).element.stops _ 64 (let narrow = (sizes d blocks.some_stages blocks.few_stages).1 in omega arith)
+        (λ p small. (refl, grind arith)) (grind (arith, few, unit_of_element))))
+    stops_after half ready none = λ k h.
+        let within : k < length bs = grind (arith, length-map) in
+        let lists = each_lists half ready k within in
+        let no_more : stops_by half (block_at bs k) ≡ [] = units_list_nothing _ 320 _ (λ i. grind arith) in grind (arith, none)
+
 pub half_law : HalfLaw
-half_law d partition bs rooms program blocks =
-    record {
-      replies_sent = λ clear.
-          let it = all_act_at_home d partition bs blocks (made SendReplies rooms program) Replies _ SendReplies program _ (λ k h. send_replies_act d blocks.some_stages blocks.few_stages rooms program (block_at bs k) (blocks.shaped k h)) in
-          let links = sent Replies d partition bs blocks (made SendReplies rooms program) it.all.blocks modules refl (replies_out d rooms) (reply_out d rooms) without_replies without_reply it.switches it.banks clear in
-          grind (arith, changed_at, same_entries, length-map);
-      replies_taken = λ there.
-          let it = all_act_at_home d partition bs blocks (made TakeReplies rooms program) Replies _ TakeReplies program _ (λ k h. take_replies_act d blocks.some_stages blocks.few_stages rooms program (block_at bs k) (blocks.shaped k h)) in
-          let came = switch_there Replies d partition bs blocks.cut there in
-          let came_last = end_there Replies d partition bs blocks.cut there in
-          let links = taken Replies d partition bs blocks there (made TakeReplies rooms program) elements refl (λ i. refl) (λ n. after_replies d (stage_of d n)) _ delivered_to _ it.switches it.elements in
-          grind (arith, changed_at, same_entries, length-map);
-      can_take_replies = λ there can room k within n small.
-          let stages = blocks.cut.stages k within in
-          let takes = unit_takes_replies d partition bs blocks k within there can n (unit_of d n) (unit_is d n) in
-          grind (arith, room);
-      served =
-          let it = all_act_at_home d partition bs blocks (made Serve rooms program) Replies _ Serve program _ (λ k h. serve_act d blocks.some_stages blocks.few_stages rooms program (block_at bs k) (blocks.shaped k h)) in
-          grind (arith, changed_at, same_entries, length-map);
-      requests_sent = λ clear.
-          let it = all_act_at_home d partition bs blocks (made SendRequests rooms program) Requests _ SendRequests program _ (λ k h. send_requests_act d blocks.some_stages blocks.few_stages rooms program (block_at bs k) (blocks.shaped k h)) in
-          let links = sent Requests d partition bs blocks (made SendRequests rooms program) it.all.blocks elements refl (requests_out d rooms) (request_out d rooms) without_requests element_without it.switches it.elements clear in
-          grind (arith, changed_at, same_entries, length-map);
-      requests_taken = λ n there done.
-          let it = all_act_at_home d partition bs blocks (made TakeRequests rooms program) Requests _ TakeRequests program _ (λ k h. take_requests_act d blocks.some_stages blocks.few_stages rooms program (block_at bs k) (blocks.shaped k h) n (done k h)) in
-          let came = switch_there Requests d partition bs blocks.cut there in
-          let came_last = end_there Requests d partition bs blocks.cut there in
-          let links = taken Requests d partition bs blocks there (made TakeRequests rooms program) modules refl (λ i. refl) (λ i. after_requests d (stage_of d i) n) _ (bank_with (2 ^ d)) _ it.switches it.banks in
-          grind (arith, changed_at, same_entries, length-map);
-      can_take_requests = λ there can room k within n small.
-          let stages = blocks.cut.stages k within in
-          let takes = unit_takes_requests d partition bs blocks k within there can n (unit_of d n) (unit_is d n) in
-          grind (arith, room);
-      executed =
-          let it = all_act_at_home d partition bs blocks (made Execute rooms program) Replies _ Execute program _ (λ k h. execute_act d blocks.some_stages blocks.few_stages rooms program (block_at bs k) (blocks.shaped k h)) in
-          grind (arith, changed_at, same_entries, length-map);
-      can_execute = λ runs early can room none.
-          grind (arith, unit_is, element_can_execute, room);
-    }
+half_law d n partition half rooms program bs blocks ready =
+    let it = becomes d n rooms program partition bs blocks half ready in
+    record { blocks = it.0; frame = it.1; left = it.2; events = events_after d n rooms program partition bs blocks half ready; stops = stops_after d n rooms program partition bs blocks half ready }
+
+pub can_make_law : CanMakeLaw
+can_make_law d n partition half program bs blocks = can_make d n all_open program partition bs blocks half
 
 pub all_by_own : (program : List Instr) (half : Half) (rooms : BlockRooms) (bs : List BlockState) → AllCanMake program half bs → all_made_own half rooms bs ≡ all_made half rooms program bs
 all_by_own program half rooms [] can = refl

@@ -2,8 +2,8 @@
 -- messages of each kind. Where each message is in the block to which it leads, what comes to a unit is what its block has
 -- for it. Messages that lead from one block to a unit in another go there, and nothing else changes.
 use Rattle.std.proofs.Common.{◌≡◌, ◌≢◌, ℕ, ◌+◌, ◌-◌, ◌*◌, ◌^◌, ◌<◌, ◌≤◌, Bool, true, false, List, Option, Some, None, length, refl, sym, ap, subst, arith, map, ◌∙◌, get_or-set_same, get_or-set_other, inl, inr, ◌&&◌, ◌||◌, ◌==◌, nat_lt, ◌⊎◌, get_or}
-use Rattle.ultra_cut.proofs.Common.{nat_tests, get_or_default, get_or_past, length-set, all_below_at, switch_count, unit_count, module_number, element_number, ports, stage_of, index_of, delivery_link, memory_link, reply_links, request_links, on_both, on_link, without_both, AllStayWithin, AreEmpty, put_on_both, reply_inlets, request_inlets, taken_by_turns, IsShaped, AreRead, are_read, each_network, replies_read, reply_reader, request_reader, requests_read, unit_is, put_apart, put_or, put_there, AreAlike, Frame, Ports, IsCut, block_at, no_block, first, home, frame_of, BlockState, AreThere, MessageOf, inlets, message_on, on_each, table, with_table, AreSingle, HasNoneFor, OnlyMove, carried, moved, Kind, Replies, Requests, AreBlocks, other}
-use Rattle.ultra_route.proofs.Table.{all_below}
+use Rattle.ultra_cut.proofs.Common.{nat_tests, get_or_default, get_or_past, length-set, switch_count, unit_count, module_number, element_number, ports, stage_of, index_of, delivery_link, memory_link, reply_links, request_links, on_both, on_link, AllStayWithin, AreEmpty, put_on_both, reply_inlets, request_inlets, taken_by_turns, IsShaped, AreRead, are_read, each_network, replies_read, reply_reader, request_reader, requests_read, unit_is, put_apart, put_or, put_there, AreAlike, Frame, Ports, IsCut, block_at, no_block, first, home, frame_of, BlockState, AreThere, MessageOf, inlets, message_on, on_each, table, with_table, AreSingle, HasNoneFor, OnlyMove, carried, moved, Kind, Replies, Requests, AreBlocks, other}
+use Rattle.ultra_route.proofs.Table.{all_below, all_below_at}
 use Rattle.ultra_section.proofs.Marks.{emptied, emptied_first, length-put_on}
 use Rattle.ultra_cut.proofs.Columns.{column_first, same_entries}
 
@@ -104,13 +104,6 @@ module _ (kind : Kind) (d : ℕ) (partition : List ℕ) (bs : List BlockState) (
 abbrev got : {M : Type 0} → List (Option M) → List (Option M) → Ports ℕ → List (Option M)
 got t u p = put_on_both u p (taken_by_turns t p)
 
-module _ {M : Type 0} (t u : List (Option M)) (p : Ports ℕ) where
-  at_inlet : p.zero < length u → p.one < length u → (l : ℕ) → (l ≡ p.zero) ⊎ (l ≡ p.one) → (on_link (without_both t p) l ≡ None) × (on_link (got t u p) l ≡ put_or (on_link t l) (on_link u l))
-  at_inlet zero_small one_small l inlet = grind (arith, emptied, emptied_first, put_there, put_apart, length-put_on, get_or-set_other)
-
-  at_other : (l : ℕ) → l ≢ p.zero → l ≢ p.one → (on_link (without_both t p) l ≡ on_link t l) × (on_link (got t u p) l ≡ on_link u l)
-  at_other l zero one = grind (arith, put_apart, get_or-set_other)
-
 -- ---- what block k has somewhere goes to block h, or each block has there what it had
 module _ {X : Type 0} (g : BlockState → Option X) (k h : ℕ) (bs now : List BlockState) where
   pub record Goes : Type 0 where
@@ -158,21 +151,12 @@ module _ (kind : Kind) where
     count : length after ≡ length bs
     count = grind (arith, length-set)
 
-    at_k : block_at after k ≡ with_table kind (without_both (was k) p) (block_at bs k)
-    at_k = grind (arith, get_or-set_same, get_or-set_other, length-set)
-
-    at_h : block_at after h ≡ with_table kind (got (was k) (was h) p) (block_at bs h)
-    at_h = grind (arith, get_or-set_same, get_or-set_other, length-set)
-
-    others : (j : ℕ) → j ≢ k → j ≢ h → block_at after j ≡ block_at bs j
-    others j nk nh = grind (arith, get_or-set_other)
-
     module _ (zero_small : p.zero < length (was h)) (one_small : p.one < length (was h)) where
       goes : (l : ℕ) → (l ≡ p.zero) ⊎ (l ≡ p.one) → Goes (message_on kind l) k h bs after
-      goes l inlet = let it = at_inlet (was k) (was h) p zero_small one_small l inlet in grind (arith, at_k, at_h, others, table_with)
+      goes l inlet = grind (arith, table_with, emptied, emptied_first, put_there, put_apart, length-put_on, length-set, get_or-set_same, get_or-set_other)
 
       stays : (l : ℕ) → l ≢ p.zero → l ≢ p.one → Stays (message_on kind l) k h bs after
-      stays l zero one j = let it = at_other (was k) (was h) p l zero one in grind (arith, at_k, at_h, others, table_with)
+      stays l zero one j = grind (arith, table_with, put_apart, length-set, get_or-set_same, get_or-set_other)
 
       moves : (l : ℕ) → Goes (message_on kind l) k h bs after ⊎ Stays (message_on kind l) k h bs after
       moves l = search (arith, goes, stays)
@@ -192,10 +176,10 @@ module _ (kind : Kind) where
         carried_step single = record {
           only = record {
             count = count;
-            rest = grind (arith, at_k, at_h, others, table_with, with_own);
-            lengths = grind (arith, at_k, at_h, others, table_with, length-set, length-put_on);
-            links = λ l. first_after (message_on kind l) k h bs after count apart k_within h_within (single l) (moves l) _ refl;
-            single = λ l. single_after (message_on kind l) k h bs after count apart k_within h_within (single l) (moves l);
+            rest = grind (arith, table_with, with_own, length-set, get_or-set_same, get_or-set_other);
+            lengths = grind (arith, table_with, length-put_on, length-set, get_or-set_same, get_or-set_other);
+            links = λ l. first_after _ _ _ _ _ count apart k_within h_within (single l) (moves l) _ refl;
+            single = λ l. single_after _ _ _ _ _ count apart k_within h_within (single l) (moves l);
           };
           gone = grind (arith, goes);
           kept = grind (arith, kept_at);

@@ -1,14 +1,14 @@
 -- What is asked of all blocks: where there is no room, which units hold something, and whether anything is left to do. What
 -- they answer is true of the whole machine that they make up.
 use Rattle.std.proofs.Common.{◌≡◌, ℕ, ◌+◌, ◌^◌, ◌<◌, List, Bool, length, arith, [], ◌∷◌, refl, ◌*◌, ◌/◌, ◌≤◌, true, false, get_or, None, take, ap, ◌∙◌, ◌&&◌, is_some, not, ◌==◌, take_all}
-use Rattle.ultra_cut.proofs.Common.{list_all, list_any, All-from_get_or, get_or_default, itself, sizes, Lane, Element, size, is_empty, is_quiet, places, places_at, length-places, has_unit, switch_count, module_number, has_reply_room, has_request_room, quiet_switch, has_none, quiet_bank, element_of, quiet_element, if_here, switch_at, module_at, HasNoted, AreOwnRooms, Rooms, Held, holds_at, switch_holds, module_holds, element_holds, is_switch, unit_of_module, unit_of_element, by_kind, unit_of_none, index_of, stage_of, Frame, ReplyMessage, ProcessingElement, sized_lane, sized_replies, Settings, number_small, lane_is, replies_is, bank_is, element_is, block_at, frame_of, home, no_block, BlockState, AreRooms, AreBlocks, OfEach, AreRoomsOfAll, holds, IsSetOfAll, Event, Stop}
+use Rattle.ultra_cut.proofs.Common.{list_all, list_any, All-from_get_or, get_or_default, itself, sizes, Lane, Element, size, is_empty, is_quiet, places_at, length-places, has_unit, switch_count, module_number, has_reply_room, has_request_room, quiet_switch, has_none, quiet_bank, element_of, quiet_element, if_here, switch_at, module_at, HasNoted, AreOwnRooms, Rooms, Held, holds_at, switch_holds, module_holds, element_holds, is_switch, unit_of_module, unit_of_element, by_kind, unit_of_none, index_of, stage_of, Frame, ReplyMessage, ProcessingElement, Settings, number_small, lane_is, replies_is, bank_is, element_is, block_at, frame_of, home, no_block, BlockState, AreRooms, AreBlocks, OfEach, AreRoomsOfAll, holds, IsSetOfAll, Event, Stop}
 use Rattle.std.proofs.lemmas.List.Folds.{list_any_more, list_any_at, list_any_none}
 use Rattle.std.proofs.lemmas.List.Sums.{AllPass-from_list_all, list_all-from_AllPass}
 use Rattle.ultra_isa.specs.Step.{has_stopped}
-use Rattle.ultra_model.specs.Places.{table}
+use Rattle.ultra_model.specs.Places.{table, places}
 use Rattle.ultra_units.proofs.Set.{none_there}
 use Rattle.ultra_section.specs.Quiet.{or_elsewhere, quiet_block}
-use Rattle.ultra_course.specs.Whole.{whole}
+use Rattle.ultra_course.specs.Whole.{whole, sized_lane, sized_replies}
 use Rattle.ultra_cut.proofs.Units.{home_small, if_home, modules, switches, elements, Sort, at_home, here, unit}
 
 -- ---- of one block after another
@@ -38,7 +38,7 @@ next_noted d bs i b old now stages within is noted before =
 module _ (d : ℕ) (partition : List ℕ) (bs : List BlockState) (are : AreBlocks d partition bs) where
   -- a unit of the machine passes a test where its block notes it
   any_passes : {X : Type 0} (sort : Sort X) (p : X → Bool) (i : ℕ) (h : i < sort.count d) → list_any (λ b. if_here p (sort.at b i)) bs ≡ p (unit sort d partition bs are.cut i h)
-  any_passes sort p i h = any_home _ _ _ bs (if_home sort d partition bs are.cut i h p) (λ _. home_small sort d partition bs are.cut i h)
+  any_passes sort p i h = any_home _ _ _ bs (if_home sort _ _ _ are.cut i h p) (λ _. home_small sort _ _ _ are.cut i h)
 
   pub rooms_are : (rooms : Rooms) → HaveNoted d bs rooms → AreRooms d (frame_of d partition bs) rooms
   rooms_are rooms have =
@@ -63,15 +63,15 @@ module _ (c : Settings) (partition : List ℕ) (bs : List BlockState) (are : Are
   holds_here u i within =
       let stages = are.cut.stages i within in
       by_kind c.stages (λ u. holds_at (block_at bs i) held u ≡ ((home partition u == i) && whole_holds u))
-      (λ u h. let mine = if_home switches c.stages partition bs are.cut u h (switch_holds held) i within in let two = sizes c.stages are.some_stages are.few_stages in grind (arith, is_switch, replies_is, lane_is))
-      (λ j h. let mine = if_home modules c.stages partition bs are.cut j h (module_holds held) i within in grind (arith, unit_of_module, bank_is))
-      (λ p h. let mine = if_home elements c.stages partition bs are.cut p h (element_holds held) i within in grind (arith, unit_of_element, element_is))
+      (λ u h. let mine = if_home switches _ _ _ are.cut u h (switch_holds held) i within in let two = sizes c.stages are.some_stages are.few_stages in grind (arith, is_switch, replies_is, lane_is))
+      (λ j h. let mine = if_home modules _ _ _ are.cut j h (module_holds held) i within in grind (arith, unit_of_module, bank_is))
+      (λ p h. let mine = if_home elements _ _ _ are.cut p h (element_holds held) i within in grind (arith, unit_of_element, element_is))
       (grind (arith, unit_of_none)) u
 
 pub held_by_all : (bs : List BlockState) (held : Held) (set : List ℕ) (i : ℕ) → length bs ≤ i → ((u : ℕ) → has_unit set u ≡ list_any (λ b. holds_at b held u) (take i bs)) → IsSetOfAll bs held set
 held_by_all bs held set i all are c partition n events stops blocks u =
     are u ∙ ap (list_any (λ b. holds_at b held u)) (take_all i bs all)
-    ∙ any_home (λ b. holds_at b held u) (whole_holds c partition bs blocks n events stops held u) (home partition u) bs (holds_here c partition bs blocks n events stops held u) (λ h. grind (arith, unit_of_none, blocks.cut.homes))
+    ∙ any_home _ _ _ bs (holds_here c partition bs blocks n events stops held u) (λ h. grind (arith, unit_of_none, blocks.cut.homes))
 
 -- ---- a machine is quiet where each of its units is, and so where each of its blocks is
 
@@ -122,11 +122,8 @@ module _ (c : Settings) (low : 1 ≤ c.stages) (high : c.stages ≤ 6) (f : Fram
             let is = is_switch c.stages n h in
             let lanes = lane (stage_of c.stages n) in
             let queues = queue (stage_of c.stages n) in
-            let even = lanes (2 * index_of c.stages n) in
-            let odd = lanes (2 * index_of c.stages n + 1) in
-            let even_queue = queues (2 * index_of c.stages n) in
-            let odd_queue = queues (2 * index_of c.stages n + 1) in
-            grind (arith, none_test);
+            let even = 2 * index_of c.stages n in
+            grind (arith, none_test, lanes even, lanes (even + 1), queues even, queues (even + 1));
         banks = at_place quiet_bank (size c) (λ k. f.bank k) (grind arith);
         elements = λ p hp. let it = at_place (λ (v : Element). has_stopped v.core.activity && is_empty v.interface.opened && is_empty v.interface.pending) (size c) (λ p. element_of (f.element p)) (grind arith) p hp in grind (arith, stopped_is);
       }

@@ -28,29 +28,29 @@ switches = record {
   at = λ b n. switch_at b.switches n;
   nothing = no_switch;
   number = λ d n. n;
-  count = λ d. switch_count d;
+  count = switch_count;
   small = λ d n h. omega arith;
-  stand = λ d b stages n h. switch_stands d b stages n h;
+  stand = switch_stands;
 }
 
 abbrev pub modules : Sort Bank
 modules = record {
   at = λ b m. module_at b.modules m;
   nothing = empty_bank;
-  number = λ d m. module_number d m;
+  number = module_number;
   count = λ d. 2 ^ d;
   small = λ d m h. omega arith;
-  stand = λ d b stages m h. module_stands d b stages m h;
+  stand = module_stands;
 }
 
 abbrev pub elements : Sort ProcessingElement
 elements = record {
   at = λ b p. element_at b.elements p;
   nothing = no_element;
-  number = λ d p. element_number d p;
+  number = element_number;
   count = λ d. 2 ^ d;
   small = λ d p h. omega arith;
-  stand = λ d b stages p h. element_stands d b stages p h;
+  stand = element_stands;
 }
 
 -- ---- unit i of a sort

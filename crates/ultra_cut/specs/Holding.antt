@@ -18,9 +18,8 @@ stage_holds m Record s k =
 
 -- a processing element: in its interface
 abbrev pub interface_holds : Held → Element → Bool
-interface_holds Reply e = false
 interface_holds Request e = not (has_none e.interface.pending)
-interface_holds Record e = false
+interface_holds held e = false
 
 -- the unit with number n
 abbrev pub holds : ℕ → Machine → Held → ℕ → Bool

@@ -2,16 +2,16 @@
 //! all blocks together do to the whole machine in a cycle.
 #![tactic(auto)]
 
-mod exchange;
 mod holding;
 mod kind;
 mod laws;
+mod moving;
 mod quiet;
 mod rooms;
 
-pub use exchange::exchange_messages;
 pub use holding::holders;
 pub use kind::Kind;
-pub use laws::{half_laws, happening_laws};
+pub use laws::half_laws;
+pub use moving::exchange;
 pub use quiet::are_quiet;
 pub use rooms::note_rooms;

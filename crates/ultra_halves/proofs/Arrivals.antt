@@ -1,22 +1,15 @@
--- a request that arrives takes at most one place of a queue and frees none, and the record that is kept gives its combination
-use Rattle.std.proofs.Common.{◌≡◌, ℕ, ◌+◌, ◌-◌, ◌≤◌, List, [], ◌∷◌, ◌++◌, refl, arith, length, length-append, Option, Some, IfSome, slice_get, not}
+-- a request that arrives frees no place of a queue, and the record that is kept gives its combination
+use Rattle.std.proofs.Common.{◌≡◌, ℕ, ◌-◌, ◌≤◌, List, [], ◌∷◌, ◌++◌, refl, arith, length, length-append, Option, Some, IfSome, slice_get, not}
 use Rattle.ultra_halves.proofs.Common.{common_steps, Request, WaitRecord, combination_event, arrive_all}
-use Rattle.ultra_msg.specs.declared.Event.TheVariants.{Combined}
-use Rattle.ultra_msg.specs.Pair.{is_fixed}
-use Rattle.ultra_switch.specs.declared.Entry.{Entry}
-use Rattle.ultra_switch.specs.declared.Arrived.TheVariants.{CombinedWith}
+use Rattle.ultra_msg.specs.{declared.Event.TheVariants.Combined, Pair.is_fixed}
+use Rattle.ultra_model.proofs.Capacities.{arrive_queue}
+use Rattle.ultra_switch.specs.{declared.Entry.Entry, declared.Arrived.TheVariants.CombinedWith}
 use Rattle.ultra_switch.specs.Arrive.{Lane, Combination, combine, after_arrival, arrive, outcome}
 
 -- ---- how long the queue is
-abbrev KeepsLength : List Entry → Option Combination → Type 0
-KeepsLength es o = IfSome o (λ c. length c.queue ≡ length es)
-
-combine_keeps : (r : Request) (es : List Entry) → KeepsLength es (combine r es)
+combine_keeps : (r : Request) (es : List Entry) → IfSome (combine r es) (λ c. length c.queue ≡ length es)
 combine_keeps r [] = tt
 combine_keeps r (e ∷ es) = grind (arith, combine_keeps r es)
-
-pub arrive_longer : (w : ℕ) (l : Lane) (r : Request) → length (arrive w l r).queue ≤ length l.queue + 1
-arrive_longer w l r = let kept = combine_keeps r l.queue in grind (arith, length-append)
 
 arrive_no_shorter : (w : ℕ) (l : Lane) (r : Request) → length l.queue ≤ length (arrive w l r).queue
 arrive_no_shorter w l r = let kept = combine_keeps r l.queue in grind (arith, length-append)
@@ -35,4 +28,4 @@ pub combination_kept : (s x p : ℕ) (r : Request) (l : Lane) (o : Option Combin
     → combination_event s x r o ≡ Some (Combined s x r.cell p r.pe (not (is_fixed w.give_old)))
 combination_kept s x p r l o w e h = let last = at_end l.records in grind (arith, at_end, length-append)
 
-pub ruleset arrivals = (common_steps, arrive_longer, combination_kept)
+pub ruleset arrivals = (common_steps, arrive_queue, combination_kept)

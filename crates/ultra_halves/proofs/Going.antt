@@ -9,10 +9,7 @@ two_replies : (m : ReplyMessage) (ws : List WaitRecord) → length (replies_of m
 two_replies m [] = omega arith
 two_replies m (w ∷ ws) = grind (arith, two_replies m ws)
 
-made_two : (ws : List WaitRecord) (o : Option ReplyMessage) → length (replies_made ws o) ≤ 2
-made_two ws o = grind (arith, two_replies)
-
 -- where there was room for four, and what came of one reply has taken some, there is room for two
 pub room_left : (d s j : ℕ) (q : SizedReplies) (ws : List WaitRecord) (o : Option ReplyMessage) → has_room_for 4 q ≡ true
     → length (with_replies q (going_by d s j (replies_made ws o))).replies + 2 ≤ (with_replies q (going_by d s j (replies_made ws o))).places
-room_left d s j q ws o h = grind (arith, made_two, length-filter, count_by-le-length, length-append)
+room_left d s j q ws o h = grind (arith, two_replies, length-filter, count_by-le-length, length-append)

@@ -1,11 +1,26 @@
 -- what the halves of a cycle do at one port of a switch of a machine of d stages
 use Rattle.std.specs.Prelude.{ℕ, ◌+◌, ◌-◌, ◌*◌, ◌%◌, ◌^◌, List, [], ◌∷◌, ◌++◌, Bool, true, false, ◌==◌, ◌&&◌, nat_le, length, Option, Some, None}
-use Rattle.ultra_halves.specs.Prelude.{filter, Request, ReplyMessage, Event, Combined, bit_of, Ports, SizedLane, SizedReplies, after_leaving, records_left, replies_made, arrive_all}
+use Rattle.ultra_halves.specs.Prelude.{filter, Request, ReplyMessage, Event, Combined, bit_of, Ports, SizedLane, SizedReplies, after_leaving, records_left, arrive_all}
 use Rattle.ultra_msg.specs.Pair.{pair_of}
 use Rattle.ultra_switch.specs.Arrive.{Combination, combine_within}
 
 abbrev pub ports : {X : Type 0} → X → X → Ports X
 ports x y = record { zero = x; one = y }
+
+-- what is made of what there is at each of two ports: of that alone, of two things at the same
+-- port, or by the number of the port
+abbrev pub map_ports : {X Y : Type 0} → (X → Y) → Ports X → Ports Y
+map_ports f p = ports (f p.zero) (f p.one)
+
+abbrev pub zip_ports : {X Y Z : Type 0} → (X → Y → Z) → Ports X → Ports Y → Ports Z
+zip_ports f p q = ports (f p.zero q.zero) (f p.one q.one)
+
+abbrev pub ports_by : {X Y : Type 0} → (ℕ → X → Y) → Ports X → Ports Y
+ports_by f p = ports (f 0 p.zero) (f 1 p.one)
+
+-- whether a test is true at both
+abbrev pub of_both : {X : Type 0} → (X → Bool) → Ports X → Bool
+of_both test p = test p.zero && test p.one
 
 -- what moves where there is room
 abbrev pub where_room : {X : Type 0} → Bool → Option X → Option X
@@ -34,12 +49,6 @@ going_by d s j rs = filter (λ (r : ReplyMessage). bit_of (d - 1 - s) r.pe == j)
 -- a queue toward memory after a reply came back to it
 abbrev pub lane_after_reply : SizedLane → Option ReplyMessage → SizedLane
 lane_after_reply l o = record l { lane = record l.lane { records = records_left l.lane.records o } }
-
--- a queue toward the processing elements after what became of the replies that came to both ports
-abbrev pub with_arrived : ℕ → ℕ → ℕ → Ports SizedLane → Ports (Option ReplyMessage) → SizedReplies
-    → SizedReplies
-with_arrived d s j lanes came q =
-    with_replies (with_replies q (going_by d s j (replies_made lanes.zero.lane.records came.zero))) (going_by d s j (replies_made lanes.one.lane.records came.one))
 
 -- ---- requests
 -- a queue toward memory without its first where one leaves, and after some requests arrived
@@ -95,9 +104,8 @@ combination_by d s k lanes (Some r) =
 
 -- whether of two requests the second leaves stage s by port 0, and the first by port 1
 abbrev pub is_turned : ℕ → ℕ → Option Request → Option Request → Bool
-is_turned d s None second = false
-is_turned d s (Some f) None = false
 is_turned d s (Some f) (Some g) = leaves_by d s 1 f && leaves_by d s 0 g
+is_turned d s f g = false
 
 -- two in their order, or turned
 abbrev pub in_order : {X : Type 0} → Bool → X → X → List X

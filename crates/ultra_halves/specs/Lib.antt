@@ -2,5 +2,4 @@ pub mod Prelude
 pub mod Halves
 pub mod Switches
 pub mod Modules
-pub mod Rest
 pub mod Elements

@@ -1,52 +1,55 @@
 -- a switch after each half of a cycle, at stage s of a machine of d stages
 use Rattle.std.specs.Prelude.{ℕ, ◌+◌, ◌*◌, List, ◌++◌, Bool, ◌&&◌, not, IsTrue, Option, slice_get}
-use Rattle.ultra_halves.specs.Prelude.{ForSome, Request, ReplyMessage, Event, Ports, SizedLane, request_of, combinations}
+use Rattle.ultra_halves.specs.Prelude.{ForSome, Request, ReplyMessage, Event, Ports, SizedLane, request_of, combinations, replies_made}
 use Rattle.ultra_switch.specs.declared.Switch.{Switch}
-use Rattle.ultra_halves.specs.Halves.{ports, where_room, has_none, replies_without, has_room_for, lane_after_reply, with_arrived, lane_without, lane_with, has_place_for, leaves_by, both_coming, first_of, second_of}
+use Rattle.ultra_halves.specs.Halves.{map_ports, zip_ports, ports_by, of_both, where_room, has_none, with_replies, going_by, replies_without, has_room_for, lane_after_reply, lane_without, lane_with, has_place_for, leaves_by, both_coming, first_of, second_of}
 
 -- ---- replies
 -- the replies that leave: the first of each queue, where it goes on
 abbrev pub replies_leaving : Ports Bool → Switch → Ports (Option ReplyMessage)
-replies_leaving goes w = ports (where_room goes.zero (slice_get w.to_pe.zero.replies 0)) (where_room goes.one (slice_get w.to_pe.one.replies 0))
+replies_leaving goes w = zip_ports (λ goes q. where_room goes (slice_get q.replies 0)) goes w.to_pe
 
 -- the switch without the first of each queue where one leaves
 abbrev pub without_replies : {X : Type 0} → Switch → Ports (Option X) → Switch
-without_replies w out = record w { to_pe = ports (replies_without w.to_pe.zero out.zero) (replies_without w.to_pe.one out.one) }
+without_replies w out = record w { to_pe = zip_ports replies_without w.to_pe out }
 
 -- both queues toward the processing elements have room for all that may come
 abbrev pub has_reply_room : Switch → Bool
-has_reply_room w = has_room_for 4 w.to_pe.zero && has_room_for 4 w.to_pe.one
+has_reply_room w = of_both (has_room_for 4) w.to_pe
 
 -- where a reply has come there is room
 pub record CanTakeReplies (w : Switch) (came : Ports (Option ReplyMessage)) : Type 0 where
   pub zero : ForSome came.zero (λ _. IsTrue (has_reply_room w))
   pub one : ForSome came.one (λ _. IsTrue (has_reply_room w))
 
--- after these replies came
+-- after these replies came: what became of those of both ports goes on by the port of a queue
 abbrev pub after_replies : ℕ → ℕ → Switch → Ports (Option ReplyMessage) → Switch
-after_replies d s w came = record {
-  to_mm = ports (lane_after_reply w.to_mm.zero came.zero) (lane_after_reply w.to_mm.one came.one);
-  to_pe = ports (with_arrived d s 0 w.to_mm came w.to_pe.zero) (with_arrived d s 1 w.to_mm came w.to_pe.one);
-}
+after_replies d s w came =
+    let made = zip_ports (λ (l : SizedLane) o. replies_made l.lane.records o) w.to_mm came in
+    record {
+      to_mm = zip_ports lane_after_reply w.to_mm came;
+      to_pe = ports_by (λ j q.
+          with_replies (with_replies q (going_by d s j made.zero)) (going_by d s j made.one)) w.to_pe;
+    }
 
 -- ---- requests
 abbrev pub first_request : SizedLane → Option Request
 first_request l = request_of (slice_get l.lane.queue 0)
 
 abbrev pub request_heads : Switch → Ports (Option Request)
-request_heads w = ports (first_request w.to_mm.zero) (first_request w.to_mm.one)
+request_heads w = map_ports first_request w.to_mm
 
 -- the requests that leave: the first of each queue, where it goes on
 abbrev pub requests_leaving : Ports Bool → Switch → Ports (Option Request)
-requests_leaving goes w = ports (where_room goes.zero (first_request w.to_mm.zero)) (where_room goes.one (first_request w.to_mm.one))
+requests_leaving goes w = zip_ports where_room goes (request_heads w)
 
 -- the switch without the first of each queue where one leaves
 abbrev pub without_requests : {X : Type 0} → Switch → Ports (Option X) → Switch
-without_requests w out = record w { to_mm = ports (lane_without w.to_mm.zero out.zero) (lane_without w.to_mm.one out.one) }
+without_requests w out = record w { to_mm = zip_ports lane_without w.to_mm out }
 
 -- which queues toward memory have room for all that may come
 abbrev pub has_request_room : Switch → Ports Bool
-has_request_room w = ports (has_place_for 2 w.to_mm.zero) (has_place_for 2 w.to_mm.one)
+has_request_room w = map_ports (has_place_for 2) w.to_mm
 
 -- a request that has come finds room for two where it goes
 abbrev pub HasWay : ℕ → ℕ → Switch → Request → Type 0
@@ -58,9 +61,8 @@ pub record CanTakeRequests (d s : ℕ) (w : Switch) (came : Ports (Option Reques
 
 -- after two requests came, one after the other, and after these requests came in cycle n
 abbrev pub after_both : ℕ → ℕ → Switch → Option Request → Option Request → Switch
-after_both d s w first second = record w {
-  to_mm = ports (lane_with w.to_mm.zero (both_coming d s 0 first second)) (lane_with w.to_mm.one (both_coming d s 1 first second));
-}
+after_both d s w first second =
+    record w { to_mm = ports_by (λ j l. lane_with l (both_coming d s j first second)) w.to_mm }
 
 abbrev pub after_requests : ℕ → ℕ → ℕ → Switch → Ports (Option Request) → Switch
 after_requests d s n w came = after_both d s w (first_of n came) (second_of n came)
@@ -80,19 +82,19 @@ combinations_of d s k n w came = combinations_of_both d s k w (first_of n came) 
 
 -- ---- what it holds
 abbrev pub holds_replies : Switch → Bool
-holds_replies w = not (has_none w.to_pe.zero.replies && has_none w.to_pe.one.replies)
+holds_replies w = not (of_both (λ q. has_none q.replies) w.to_pe)
 
 -- there may be records in its wait buffers where it holds none
 abbrev pub holds_requests : Switch → Bool
-holds_requests w = not (has_none w.to_mm.zero.lane.queue && has_none w.to_mm.one.lane.queue)
+holds_requests w = not (of_both (λ l. has_none l.lane.queue) w.to_mm)
 
 -- a record is in one of its wait buffers
 abbrev pub keeps_records : Switch → Bool
-keeps_records w = not (has_none w.to_mm.zero.lane.records && has_none w.to_mm.one.lane.records)
+keeps_records w = not (of_both (λ l. has_none l.lane.records) w.to_mm)
 
 abbrev pub quiet_lane : SizedLane → Bool
 quiet_lane l = has_none l.lane.queue && has_none l.lane.records
 
 -- nothing is in its queues and wait buffers
 abbrev pub quiet_switch : Switch → Bool
-quiet_switch w = (quiet_lane w.to_mm.zero && quiet_lane w.to_mm.one) && (has_none w.to_pe.zero.replies && has_none w.to_pe.one.replies)
+quiet_switch w = of_both quiet_lane w.to_mm && of_both (λ q. has_none q.replies) w.to_pe

@@ -1,6 +1,6 @@
 //! Processing elements, and what the halves of a cycle do to one.
 
-ghost use Rattle.std.specs.Prelude.{◌≡◌, ℕ, ◌+◌, ◌-◌, ◌^◌, ◌<◌, ◌↔◌, Some, IsSome, IsTrue, length, not, slice_get};
+ghost use Rattle.std.specs.Prelude.{◌≡◌, ◌+◌, ◌-◌, ◌^◌, ◌<◌, ◌↔◌, Some, IsTrue, length, slice_get};
 ghost use Rattle.ultra_halves.specs.Prelude.{has_stopped, issue_event, stop_of};
 
 use ultra_isa::{Processor, Program, Step};
@@ -73,25 +73,17 @@ impl ProcessingElement {
         ensures same { result ≡ Outcome.AtRest → self.new ≡ self.old }
     {
         match self.processor.step(program, &mut self.interface) {
-            Step::Issued => Outcome::Issued(self.count_issue()),
+            Step::Issued => {
+                let number = self.issued;
+                self.issued += 1;
+                Outcome::Issued(Event::Issued {
+                    request: self.interface.newest().unwrap(),
+                    number,
+                })
+            }
             Step::Fault(fault) => Outcome::Faulted(Stop { pe, fault }),
             Step::Done => Outcome::Done,
             Step::Stalled | Step::Halted => Outcome::AtRest,
-        }
-    }
-
-    /// Counts the request that was issued last, and gives its event.
-    fn count_issue(&mut self) -> Event
-        requires few { self.old.issued < 2 ^ 32 - 1 }
-        requires some { IsSome (slice_get self.old.interface.interface.pending (length self.old.interface.interface.pending - 1)) }
-        ensures counted { self.new ≡ record self.old { issued = self.old.issued + 1 } }
-        ensures event { Some result ≡ issue_event (element_of self.old) (slice_get self.old.interface.interface.pending (length self.old.interface.interface.pending - 1)) }
-    {
-        let number = self.issued;
-        self.issued += 1;
-        Event::Issued {
-            request: self.interface.newest().unwrap(),
-            number,
         }
     }
 

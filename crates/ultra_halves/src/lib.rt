@@ -4,12 +4,22 @@
 //! in which order, is this project's profile.
 #![tactic(auto)]
 
+ghost use Rattle.std.specs.Prelude.{◌≡◌, ◌<◌, ◌≤◌, ◌++◌, ◌∷◌, [], length, vec_capacity};
+
 mod elements;
-mod lists;
 pub mod modules;
 pub mod replies;
 pub mod requests;
 pub mod switches;
 
 pub use elements::{Outcome, ProcessingElement};
-pub use lists::append;
+
+/// Adds an entry at the end of a list that has memory for it.
+#[inline(always)]
+pub fn append<T: Drop>(list: &mut Vec<T>, entry: T)
+    requires { length list.old.items < vec_capacity list.old }
+    ensures entries { list.new.items ≡ list.old.items ++ entry ∷ [] }
+    ensures places { vec_capacity list.old ≤ vec_capacity list.new }
+{
+    let _pushed = list.push(entry);
+}

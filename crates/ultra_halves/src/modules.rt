@@ -1,6 +1,6 @@
 //! What the halves of a cycle do to a memory module. It serves by `Module::serve`.
 
-ghost use Rattle.std.specs.Prelude.{◌≡◌, ℕ, ◌/◌, ◌^◌, ◌<◌, Some, None, is_some, length};
+ghost use Rattle.std.specs.Prelude.{◌≡◌, ◌/◌, ◌^◌, ◌<◌, Some, None, is_some, length};
 ghost use Rattle.ultra_halves.specs.Prelude.{without_reply};
 ghost use Rattle.ultra_halves.specs.{Halves.where_room, Modules.bank_with, Modules.quiet_bank};
 

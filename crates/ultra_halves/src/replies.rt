@@ -1,8 +1,8 @@
 //! Replies on their way through a switch.
 
-ghost use Rattle.std.specs.Prelude.{◌≡◌, ℕ, ◌+◌, ◌≤◌, ◌<◌, ◌∷◌, [], length, slice_get};
+ghost use Rattle.std.specs.Prelude.{◌≡◌, ◌+◌, ◌≤◌, ◌<◌, ◌∷◌, [], length, slice_get};
 ghost use Rattle.ultra_halves.specs.Prelude.{ForSome, replies_made};
-ghost use Rattle.ultra_halves.specs.Halves.{going_by, lane_after_reply, replies_without, where_room, with_replies};
+ghost use Rattle.ultra_halves.specs.Halves.{going_by, lane_after_reply, ports_by, replies_without, where_room, with_replies};
 
 use ultra_msg::ReplyPacket;
 use ultra_route::Net;
@@ -23,8 +23,7 @@ fn put_reply(to_pe: &mut Ports<ToPe>, net: Net, stage: u32, reply: ReplyPacket)
     requires stage { stage < net }
     requires zero { length to_pe.old.zero.replies < to_pe.old.zero.places }
     requires one { length to_pe.old.one.replies < to_pe.old.one.places }
-    ensures zero { to_pe.new.zero ≡ with_replies to_pe.old.zero (going_by net stage 0 (reply ∷ [])) }
-    ensures one { to_pe.new.one ≡ with_replies to_pe.old.one (going_by net stage 1 (reply ∷ [])) }
+    ensures { to_pe.new ≡ ports_by (λ j q. with_replies q (going_by net stage j (reply ∷ []))) to_pe.old }
 {
     if net.reply_port(stage, reply.pe()) == 0 {
         to_pe.zero.receive(reply);

@@ -1,13 +1,14 @@
 //! Requests on their way through a switch.
 
-ghost use Rattle.std.specs.Prelude.{◌≡◌, ◌+◌, ◌-◌, ◌%◌, ◌^◌, ◌<◌, ◌≤◌, ◌++◌, ◌∷◌, [], IsTrue, List, is_some, length, slice_get, vec_capacity};
-ghost use Rattle.ultra_halves.specs.Prelude.{ForSome, bit_of, Event, Combined, request_of, present};
+ghost use Rattle.std.specs.Prelude.{◌≡◌, ◌+◌, ◌-◌, ◌^◌, ◌<◌, ◌≤◌, ◌++◌, ◌∷◌, [], IsTrue, List, is_some, length, not, slice_get, vec_capacity};
+ghost use Rattle.ultra_msg.specs.Pair.{is_fixed};
+ghost use Rattle.ultra_halves.specs.Prelude.{ForSome, Event, Combined, request_of, present};
 ghost use Rattle.ultra_halves.specs.Halves.{combination_by, combination_in, coming_to, in_order, is_turned, lane_with, lane_without, leaves_by, where_room};
 
-use crate::lists::append;
-use ultra_msg::{Cell, Event, Pe, RequestPacket};
+use crate::append;
+use ultra_msg::{Event, Pe, RequestPacket};
 use ultra_route::Net;
-use ultra_switch::{Arrived, Ports, ToMm};
+use ultra_switch::{Arrived, Ports, ToMm, WaitRecord};
 
 /// The first request of a queue toward memory leaves, if there is room for it where it goes. `None` stands where nothing leaves.
 #[inline(always)]
@@ -18,37 +19,27 @@ pub fn leave_where(has_room: bool, queue: &mut ToMm) -> Option<RequestPacket>
     if has_room { queue.send() } else { None }
 }
 
-/// The memory-side port by which a request leaves a stage.
-fn exit(net: Net, stage: u32, request: &RequestPacket) -> u32
-    requires { stage < net }
-    ensures value { result ≡ bit_of (net - 1 - stage) (request.now.cell % 2 ^ net) }
-    ensures small { result < 2 }
-{
-    net.request_port(stage, request.cell())
-}
-
-/// Appends a combination. Few requests combine, so this code stands apart from that of a visit.
+/// Appends the combination of a request with one of `old`, of which this is the record. Few requests combine, so this code stands apart from that of a visit.
 #[inline(never)]
 fn append_combination(
     events: &mut Vec<Event>,
     stage: u32,
     position: u32,
-    cell: Cell,
+    request: &RequestPacket,
     old: Pe,
-    new: Pe,
-    old_first: bool,
+    wait_record: &WaitRecord,
 )
     requires { length events.old.items < vec_capacity events.old }
-    ensures entries { events.new.items ≡ events.old.items ++ Combined stage position cell old new old_first ∷ [] }
+    ensures entries { events.new.items ≡ events.old.items ++ Combined stage position request.now.cell old request.now.pe (not (is_fixed wait_record.now.give_old)) ∷ [] }
     ensures places { vec_capacity events.old ≤ vec_capacity events.new }
 {
     let event = Event::Combined {
         stage,
         position,
-        cell,
+        cell: request.cell(),
         old,
-        new,
-        old_first,
+        new: request.pe(),
+        old_first: wait_record.give_old.old_goes_first(),
     };
     append(events, event);
 }
@@ -69,23 +60,13 @@ fn arrive(
     ensures longer { length to_mm.new.lane.queue ≤ length to_mm.old.lane.queue + 1 }
     ensures events { events.new.items ≡ events.old.items ++ present (combination_in stage position to_mm.old request.now ∷ []) }
     ensures places { vec_capacity events.old ≤ vec_capacity events.new }
-    ensures few { length events.new.items ≤ length events.old.items + 1 }
     ensures combined { result ≡ is_some (combination_in stage position to_mm.old request.now) }
 {
     match to_mm.receive(request) {
         Arrived::Appended => false,
         Arrived::CombinedWith(pe) => {
             let record = to_mm.record(to_mm.record_count() - 1);
-            let old_first = record.give_old.old_goes_first();
-            append_combination(
-                events,
-                stage,
-                position,
-                request.cell(),
-                pe,
-                request.pe(),
-                old_first,
-            );
+            append_combination(events, stage, position, request, pe, &record);
             true
         }
     }
@@ -119,7 +100,7 @@ pub fn take_request(
         return false;
     };
     let _even = net.size();
-    if exit(net, stage, request) == 0 {
+    if net.request_port(stage, request.cell()) == 0 {
         arrive(&mut to_mm.zero, stage, 2 * index, request, events)
     } else {
         arrive(&mut to_mm.one, stage, 2 * index + 1, request, events)
@@ -156,7 +137,8 @@ pub fn is_turned(
 {
     match (first, second) {
         (Some(first), Some(second)) => {
-            exit(net, stage, first) == 1 && exit(net, stage, second) == 0
+            net.request_port(stage, first.cell()) == 1
+                && net.request_port(stage, second.cell()) == 0
         }
         _ => false,
     }

@@ -1,9 +1,8 @@
 -- a block: some of the units of a machine, and the links
 use Rattle.std.specs.Prelude.{◌≡◌, ℕ, ◌+◌, ◌*◌, ◌^◌, ◌<◌, ◌≤◌, List, length, false, IsTrue, Option, None, slice_index_or}
-use Rattle.ultra_section.specs.Prelude.{ForSome, Request, ReplyMessage, Switch, Bank, Instr, switch_count, element_number, has_unit, of_unit, is_at_rest, ProcessingElement, LinksState}
+use Rattle.ultra_section.specs.Prelude.{ForSome, Request, ReplyMessage, Switch, Bank, Instr, element_number, has_unit, is_at_rest, ProcessingElement}
 use Rattle.ultra_msg.specs.declared.Event.{Event}
 use Rattle.ultra_model.specs.declared.Stop.{Stop}
-use Rattle.ultra_section.specs.{declared.sets.Sets.Sets, Sets.facts_at, Sets.no_facts, Sets.switch_facts, Sets.module_facts, Sets.element_facts}
 
 -- the program that its processing elements run, the units that stand there, by their numbers, what
 -- is on each link, and what has happened in the cycle
@@ -28,19 +27,6 @@ module_at bs m = slice_index_or bs m None
 abbrev pub element_at : List (Option ProcessingElement) → ℕ → Option ProcessingElement
 element_at es p = slice_index_or es p None
 
--- there is an entry for each unit, and the sets say what is true of it
-pub record UnitsAreKnown (d : ℕ) (s : Sets) (ws : List (Option Switch)) (bs : List (Option Bank)) (es : List (Option ProcessingElement)) : Type 0 where
-  pub switch_entries : length ws ≡ switch_count d
-  pub module_entries : length bs ≡ 2 ^ d
-  pub element_entries : length es ≡ 2 ^ d
-  pub facts :
-      (n : ℕ) → facts_at s n
-      ≡ of_unit d
-      (λ s k. switch_facts (switch_at ws n))
-      (λ m. module_facts (module_at bs m))
-      (λ p. element_facts (element_at es p))
-      no_facts n
-
 -- the processing elements outside a set are at rest: a step of the program leaves each as it is
 abbrev pub AreOthersAtRest : ℕ → List Instr → List ℕ → List (Option ProcessingElement) → Type 0
 AreOthersAtRest d program awake es =
@@ -53,15 +39,6 @@ most_events = 2560
 
 abbrev pub most_stops : ℕ
 most_stops = 320
-
-pub record IsKept (d wiring : ℕ) (program : List Instr) (s : Sets) (awake : List ℕ) (ws : List (Option Switch)) (bs : List (Option Bank)) (es : List (Option ProcessingElement)) (for_replies : LinksState ReplyMessage) (for_requests : LinksState Request) (event_places stop_places : ℕ) : Type 0 where
-  pub network : wiring ≡ d
-  pub units : UnitsAreKnown d s ws bs es
-  pub rests : AreOthersAtRest d program awake es
-  pub replies : for_replies.stages ≡ d
-  pub requests : for_requests.stages ≡ d
-  pub events_fit : most_events ≤ event_places
-  pub stops_fit : most_stops ≤ stop_places
 
 -- there is memory for the events of the units from number n on, of 320: each has at most two in a
 -- half

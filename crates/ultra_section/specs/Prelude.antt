@@ -16,7 +16,7 @@ pub use Rattle.ultra_msg.specs.declared.Request.{Request}
 pub use Rattle.ultra_switch.specs.declared.Ports.{Ports}
 pub use Rattle.ultra_switch.specs.declared.Switch.{Switch}
 pub use Rattle.ultra_units.specs.Inlets.{AreEmpty, AreInlets, LeadOn, LeadsTo, link_count, put_on_both, reply_inlets, request_inlets, taken_by_turns}
-pub use Rattle.ultra_units.specs.Links.{LinksState, put_on}
+pub use Rattle.ultra_units.specs.Links.{put_on}
 pub use Rattle.ultra_units.specs.Marks.{delivery_link, memory_link, on_both, on_link, ports_in_turn, reply_links, request_links, without_both}
 pub use Rattle.ultra_units.specs.Numbers.{element_number, module_number, place_number, request_target, switch_count}
 pub use Rattle.ultra_units.specs.Set.{HasNoneFrom, IsFirstFrom, has_unit}

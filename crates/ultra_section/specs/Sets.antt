@@ -1,7 +1,7 @@
--- what is known of one unit of a block
-use Rattle.std.specs.Prelude.{◌≡◌, ◌≢◌, ℕ, Bool, true, false, not, ◌&&◌, ◌||◌, Option, Some, None, is_some}
-use Rattle.ultra_section.specs.Prelude.{Switch, Bank, has_stopped, has_unit, has_reply_room, has_request_room, holds_replies, holds_requests, keeps_records, holds_request, ProcessingElement}
-use Rattle.ultra_section.specs.{declared.sets.Sets.Sets, declared.held.Held.Held, declared.held.Held.TheVariants.Reply, declared.held.Held.TheVariants.Request, declared.held.Held.TheVariants.Record}
+-- what a block knows of its units
+use Rattle.std.specs.Prelude.{◌≡◌, ◌≢◌, ℕ, ◌^◌, ◌≤◌, Bool, false, not, ◌&&◌, ◌||◌, length, Option, Some, None, is_some, vec_capacity}
+use Rattle.ultra_section.specs.Prelude.{Switch, Bank, has_stopped, has_unit, has_reply_room, has_request_room, holds_replies, holds_requests, keeps_records, holds_request, ProcessingElement, switch_count, of_unit}
+use Rattle.ultra_section.specs.{declared.sets.Sets.Sets, declared.block.Block.TheInside.Inside as Block, BlockState.AreOthersAtRest, BlockState.BlockState, BlockState.switch_at, BlockState.module_at, BlockState.element_at, BlockState.most_events, BlockState.most_stops}
 
 -- what the sets of a block say of one unit
 pub record UnitFacts : Type 0 where
@@ -43,12 +43,6 @@ no_facts = record {
   keeps_records = false;
 }
 
--- what is said of what a unit may hold
-abbrev pub fact_of : Held → UnitFacts → Bool
-fact_of Reply f = f.holds_replies
-fact_of Request f = f.holds_requests
-fact_of Record f = f.keeps_records
-
 -- whether a module holds a request and no reply
 abbrev pub would_serve : Bank → Bool
 would_serve b = is_some b.inp && not (is_some b.out)
@@ -89,13 +83,7 @@ element_facts o = record no_facts {
 }
 
 -- ---- what is said of a unit once some of it is noted anew, where what was said before counts too:
--- after messages came `either` is true, and after some left `both` are
-abbrev pub either : Bool → Bool → Bool
-either x y = x || y
-
-abbrev pub both : Bool → Bool → Bool
-both x y = x && y
-
+-- `by` is `◌||◌` after messages came, and `◌&&◌` after some left
 module _ (by : Bool → Bool → Bool) where
   abbrev pub replies_noted : Switch → UnitFacts → UnitFacts
   replies_noted w f = record f {
@@ -110,9 +98,6 @@ module _ (by : Bool → Bool → Bool) where
     no_room_one = by f.no_room_one (not (has_request_room w).one);
   }
 
-  abbrev pub records_noted : Switch → UnitFacts → UnitFacts
-  records_noted w f = record f { keeps_records = by f.keeps_records (keeps_records w) }
-
   -- of a module
   abbrev pub request_noted : Bank → UnitFacts → UnitFacts
   request_noted b f = record f {
@@ -123,23 +108,46 @@ module _ (by : Bool → Bool → Bool) where
 
 -- of a switch once requests came, where its records may differ
 abbrev pub all_noted : Bool → Switch → UnitFacts → UnitFacts
-all_noted may_differ w f = elim may_differ [
-  | true ↦ records_noted either w (requests_noted either w f)
-  | false ↦ requests_noted either w f
-]
-
--- of a module once it has served, and once a reply has left it
-abbrev pub service_noted : Bank → UnitFacts → UnitFacts
-service_noted b f =
-    record (request_noted both b f) { holds_replies = either f.holds_replies (is_some b.out) }
-
-abbrev pub departure_noted : Bank → UnitFacts → UnitFacts
-departure_noted b f = record f {
-  holds_replies = both f.holds_replies (is_some b.out);
-  to_serve = either f.to_serve (would_serve b);
+all_noted may_differ w f = record (requests_noted ◌||◌ w f) {
+  keeps_records = f.keeps_records || (may_differ && keeps_records w);
 }
 
--- this is said of unit n now, and of the others what was said before
-pub record AreNoted (n : ℕ) (f : UnitFacts) (old now : Sets) : Type 0 where
-  pub there : facts_at now n ≡ f
+-- what was said of unit n before gives what is said of it now, and of the others the same is said
+pub record AreNoted (n : ℕ) (noted : UnitFacts → UnitFacts) (old now : Sets) : Type 0 where
+  pub there : facts_at now n ≡ noted (facts_at old n)
   pub others : (k : ℕ) → k ≢ n → facts_at now k ≡ facts_at old k
+
+-- what contracts see of a block
+abbrev pub seen_of : Block → BlockState
+seen_of b = record {
+  stages = b.net;
+  done = b.done;
+  program = b.program;
+  switches = b.switches.items;
+  modules = b.modules.items;
+  elements = b.elements.items;
+  replies = b.replies.table;
+  requests = b.requests.table;
+  events = b.events.items;
+  stops = b.stops.items;
+}
+
+-- the wiring and the links are those of the network, there is an entry for each unit, the sets say
+-- what is true of it, and there is memory for what happens in a cycle
+pub record IsKept (b : Block) : Type 0 where
+  pub network : b.wiring ≡ b.net
+  pub switches : length b.switches.items ≡ switch_count b.net
+  pub modules : length b.modules.items ≡ 2 ^ b.net
+  pub elements : length b.elements.items ≡ 2 ^ b.net
+  pub facts :
+      (n : ℕ) → facts_at b.sets n
+      ≡ of_unit b.net
+      (λ s k. switch_facts (switch_at b.switches.items n))
+      (λ m. module_facts (module_at b.modules.items m))
+      (λ p. element_facts (element_at b.elements.items p))
+      no_facts n
+  pub rests : AreOthersAtRest b.net b.program b.awake b.elements.items
+  pub replies : b.replies.stages ≡ b.net
+  pub requests : b.requests.stages ≡ b.net
+  pub events_fit : most_events ≤ vec_capacity b.events
+  pub stops_fit : most_stops ≤ vec_capacity b.stops

@@ -24,6 +24,7 @@ fn next_of(away: UnitSet, from: usize) -> Option<usize>
 impl Block {
     /// The first unit from `from` on to which replies may lead from this block, if it stands elsewhere.
     #[inline(always)]
+    #[tactic(auto, using(crate::proofs::Known::next_away))]
     pub fn next_for_replies(&self, from: usize) -> Option<usize>
         ensures some { IfSome result (λ k. IsNextAway self.now.replies (reply_inlets self.now.stages) self.now from k) }
         ensures none { IfNone result (AllStayWithin self.now.replies (reply_inlets self.now.stages) self.now from 320) }
@@ -64,6 +65,7 @@ impl Block {
 
     /// The first unit from `from` on to which requests may lead from this block, if it stands elsewhere.
     #[inline(always)]
+    #[tactic(auto, using(crate::proofs::Known::next_away))]
     pub fn next_for_requests(&self, from: usize) -> Option<usize>
         ensures some { IfSome result (λ k. IsNextAway self.now.requests (request_inlets self.now.stages) self.now from k) }
         ensures none { IfNone result (AllStayWithin self.now.requests (request_inlets self.now.stages) self.now from 320) }

@@ -43,25 +43,15 @@ pub struct Block {
 }
 
 impl Model for Block {
-    ghost use Rattle.std.specs.Prelude.{vec_capacity};
-    ghost use Rattle.ultra_section.specs.BlockState.{BlockState, IsKept};
+    ghost use Rattle.ultra_section.specs.BlockState.{BlockState};
 
     ghost Value = { BlockState };
 
-    ghost view = { λ b. record {
-      stages = b.net;
-      done = b.done;
-      program = b.program;
-      switches = b.switches.items;
-      modules = b.modules.items;
-      elements = b.elements.items;
-      replies = b.replies.table;
-      requests = b.requests.table;
-      events = b.events.items;
-      stops = b.stops.items;
-    } };
+    ghost use Rattle.ultra_section.specs.Sets.{IsKept, seen_of};
 
-    ghost invariant = { λ b. IsKept b.net b.wiring b.program b.sets b.awake b.switches.items b.modules.items b.elements.items b.replies b.requests (vec_capacity b.events) (vec_capacity b.stops) };
+    ghost view = { seen_of };
+
+    ghost invariant = { IsKept };
 }
 
 impl Block {

@@ -103,59 +103,31 @@ impl Block {
         self.elements[pe as usize] = Some(element);
     }
 
-    /// Takes a switch out of the block, if it stands there.
-    pub fn take_switch(&mut self, number: usize) -> Option<Switch>
-        requires { number < count_of_switches self.old.stages }
-        ensures switch { result ≡ switch_at self.old.switches number }
-        ensures rest { self.new ≡ record self.old { switches = slice_set self.old.switches number None } }
-    {
-        let _count = switch_count(self.net);
-        self.sets.leave(UnitNumber::of(number));
-        self.switches[number].take()
-    }
-
-    /// Takes a memory module out of the block, if it stands there.
-    pub fn take_module(&mut self, number: u32) -> Option<Module>
-        requires { number < 2 ^ self.old.stages }
-        ensures bank { result ≡ module_at self.old.modules number }
-        ensures rest { self.new ≡ record self.old { modules = slice_set self.old.modules number None } }
-    {
-        let unit = UnitNumber::of(module_number(self.net, number));
-        self.sets.leave(unit);
-        self.modules[number as usize].take()
-    }
-
-    /// Takes a processing element out of the block, if it stands there.
-    pub fn take_element(&mut self, pe: u32) -> Option<ProcessingElement>
-        requires { pe < 2 ^ self.old.stages }
-        ensures element { result ≡ element_at self.old.elements pe }
-        ensures rest { self.new ≡ record self.old { elements = slice_set self.old.elements pe None } }
-    {
-        let unit = UnitNumber::of(element_number(self.net, pe));
-        self.sets.leave(unit);
-        self.awake.remove(unit);
-        self.elements[pe as usize].take()
-    }
-
     /// The unit of this number goes to another block of the machine, if it stands here.
     pub fn move_unit(&mut self, number: usize, to: &mut Block)
         requires { to.old.stages ≡ self.old.stages }
         ensures left { self.new ≡ without_unit number self.old }
         ensures there { to.new ≡ with_unit number self.old to.old }
     {
+        let _even = self.net.size();
         match self.unit(number) {
             Unit::Switch { .. } => {
-                if let Some(switch) = self.take_switch(number) {
+                self.sets.leave(UnitNumber::of(number));
+                if let Some(switch) = self.switches[number].take() {
                     to.put_switch(number, switch);
                 }
             }
             Unit::Module(module) => {
-                if let Some(bank) = self.take_module(module) {
+                self.sets.leave(UnitNumber::of(number));
+                if let Some(bank) = self.modules[module as usize].take() {
                     to.put_module(module, bank);
                 }
             }
             Unit::Element(pe) => {
-                if let Some(element) = self.take_element(pe) {
+                let unit = UnitNumber::of(number);
+                self.sets.leave(unit);
+                self.awake.remove(unit);
+                if let Some(element) = self.elements[pe as usize].take() {
                     to.put_element(pe, element);
                 }
             }

@@ -22,6 +22,10 @@ impl Block {
     pub fn holding(&self, held: Held) -> &UnitSet
         ensures { IsSetOf (holds_at self.now held) result.now }
     {
-        self.sets.holding(held)
+        match held {
+            Held::Reply => &self.sets.holds_replies,
+            Held::Request => &self.sets.holds_requests,
+            Held::Record => &self.sets.keeps_records,
+        }
     }
 }

@@ -1,10 +1,9 @@
 //! What is known of the units that stand in a block, as sets of their numbers.
 
-ghost use Rattle.std.specs.Prelude.{◌≡◌, ℕ, ◌<◌, true, false, Some, is_some, ◌&&◌};
+ghost use Rattle.std.specs.Prelude.{◌≡◌, ℕ, ◌<◌, true, false, Some, is_some, ◌&&◌, ◌||◌};
 ghost use Rattle.ultra_section.specs.Prelude.{has_stopped, holds_request, has_reply_room, has_request_room, holds_replies, holds_requests, keeps_records, has_unit};
-ghost use Rattle.ultra_section.specs.Sets.{AreNoted, all_noted, both, departure_noted, either, element_facts, fact_of, facts_at, module_facts, no_facts, records_noted, replies_noted, request_noted, requests_noted, service_noted, switch_facts};
+ghost use Rattle.ultra_section.specs.Sets.{AreNoted, all_noted, element_facts, facts_at, module_facts, no_facts, replies_noted, request_noted, requests_noted, switch_facts, would_serve};
 
-use crate::held::Held;
 use ultra_halves::{ProcessingElement, modules, switches};
 use ultra_mem::Module;
 use ultra_switch::{Ports, Switch};
@@ -54,7 +53,7 @@ impl Sets {
 
     /// A unit stands here from now on. What is true of it is noted then.
     pub(crate) fn stand(&mut self, unit: UnitNumber)
-        ensures { AreNoted unit (record no_facts { here = true }) self.old self.new }
+        ensures { AreNoted unit (λ _. record no_facts { here = true }) self.old self.new }
     {
         self.leave(unit);
         self.here.insert(unit);
@@ -62,7 +61,7 @@ impl Sets {
 
     /// A switch stands here from now on, and what is true of it is noted.
     pub(crate) fn stand_switch(&mut self, unit: UnitNumber, switch: &Switch)
-        ensures { AreNoted unit (switch_facts (Some switch.now)) self.old self.new }
+        ensures { AreNoted unit (λ _. switch_facts (Some switch.now)) self.old self.new }
     {
         self.stand(unit);
         self.note_requests_taken(unit, switch, true);
@@ -71,7 +70,7 @@ impl Sets {
 
     /// A module stands here from now on, and what is true of it is noted.
     pub(crate) fn stand_module(&mut self, unit: UnitNumber, bank: &Module)
-        ensures { AreNoted unit (module_facts (Some bank.now)) self.old self.new }
+        ensures { AreNoted unit (λ _. module_facts (Some bank.now)) self.old self.new }
     {
         self.stand(unit);
         self.holds_replies
@@ -81,7 +80,7 @@ impl Sets {
 
     /// A processing element stands here from now on, and what is true of it is noted.
     pub(crate) fn stand_element(&mut self, unit: UnitNumber, element: &ProcessingElement)
-        ensures { AreNoted unit (element_facts (Some element.now)) self.old self.new }
+        ensures { AreNoted unit (λ _. element_facts (Some element.now)) self.old self.new }
     {
         self.stand(unit);
         self.holds_requests.insert_if(unit, element.holds_request());
@@ -90,7 +89,7 @@ impl Sets {
 
     /// A unit doesn't stand here any more.
     pub(crate) fn leave(&mut self, unit: UnitNumber)
-        ensures { AreNoted unit no_facts self.old self.new }
+        ensures { AreNoted unit (λ _. no_facts) self.old self.new }
     {
         self.here.remove(unit);
         self.holds_replies.remove(unit);
@@ -103,22 +102,10 @@ impl Sets {
         self.keeps_records.remove(unit);
     }
 
-    /// The units that hold what is asked for.
-    #[inline(always)]
-    pub(crate) fn holding(&self, held: Held) -> &UnitSet
-        ensures { (k : ℕ) → has_unit result.now k ≡ fact_of held (facts_at self.now k) }
-    {
-        match held {
-            Held::Reply => &self.holds_replies,
-            Held::Request => &self.holds_requests,
-            Held::Record => &self.keeps_records,
-        }
-    }
-
     /// Notes what is true of the replies of a switch that stands here, once replies have left it.
     #[inline(always)]
     pub(crate) fn note_replies_sent(&mut self, unit: UnitNumber, switch: &Switch)
-        ensures { AreNoted unit (replies_noted both switch.now (facts_at self.old unit)) self.old self.new }
+        ensures { AreNoted unit (replies_noted ◌&&◌ switch.now) self.old self.new }
     {
         let is_full = !switches::has_reply_room(switch);
         self.holds_replies
@@ -129,7 +116,7 @@ impl Sets {
     /// Notes what is true of the requests of a switch that stands here, once requests have left it.
     #[inline(always)]
     pub(crate) fn note_requests_sent(&mut self, unit: UnitNumber, switch: &Switch)
-        ensures { AreNoted unit (requests_noted both switch.now (facts_at self.old unit)) self.old self.new }
+        ensures { AreNoted unit (requests_noted ◌&&◌ switch.now) self.old self.new }
     {
         let room = switches::has_request_room(switch);
         self.holds_requests
@@ -141,7 +128,7 @@ impl Sets {
     /// Notes what is true of a switch that stands here, once replies have come to it. It keeps no record that it didn't keep before.
     #[inline(always)]
     pub(crate) fn note_replies_taken(&mut self, unit: UnitNumber, switch: &Switch)
-        ensures { AreNoted unit (records_noted both switch.now (replies_noted either switch.now (facts_at self.old unit))) self.old self.new }
+        ensures { AreNoted unit (λ f. record (replies_noted ◌||◌ switch.now f) { keeps_records = f.keeps_records && keeps_records switch.now }) self.old self.new }
     {
         let is_full = !switches::has_reply_room(switch);
         self.holds_replies
@@ -161,7 +148,7 @@ impl Sets {
         switch: &Switch,
         may_differ: bool,
     )
-        ensures { AreNoted unit (all_noted may_differ switch.now (facts_at self.old unit)) self.old self.new }
+        ensures { AreNoted unit (all_noted may_differ switch.now) self.old self.new }
     {
         let room = switches::has_request_room(switch);
         self.holds_requests
@@ -177,7 +164,7 @@ impl Sets {
     /// Notes what is true of a module that stands here, once a request has come to it.
     #[inline(always)]
     pub(crate) fn note_request_came(&mut self, unit: UnitNumber, bank: &Module)
-        ensures { AreNoted unit (request_noted either bank.now (facts_at self.old unit)) self.old self.new }
+        ensures { AreNoted unit (request_noted ◌||◌ bank.now) self.old self.new }
     {
         let holds_request = modules::holds_request(bank);
         self.holds_requests.insert_if(unit, holds_request);
@@ -189,7 +176,7 @@ impl Sets {
     /// Notes what is true of a module that stands here, once it has served.
     #[inline(always)]
     pub(crate) fn note_served(&mut self, unit: UnitNumber, bank: &Module)
-        ensures { AreNoted unit (service_noted bank.now (facts_at self.old unit)) self.old self.new }
+        ensures { AreNoted unit (λ f. record (request_noted ◌&&◌ bank.now f) { holds_replies = f.holds_replies || is_some bank.now.out }) self.old self.new }
     {
         let holds_reply = modules::holds_reply(bank);
         let holds_request = modules::holds_request(bank);
@@ -203,7 +190,7 @@ impl Sets {
     /// Notes what is true of a module that stands here, once a reply has left it.
     #[inline(always)]
     pub(crate) fn note_reply_left(&mut self, unit: UnitNumber, bank: &Module)
-        ensures { AreNoted unit (departure_noted bank.now (facts_at self.old unit)) self.old self.new }
+        ensures { AreNoted unit (λ f. record f { holds_replies = f.holds_replies && is_some bank.now.out; to_serve = f.to_serve || would_serve bank.now }) self.old self.new }
     {
         let holds_reply = modules::holds_reply(bank);
         self.holds_replies.remove_unless(unit, holds_reply);
@@ -214,7 +201,7 @@ impl Sets {
     /// Notes that a processing element holds a request.
     #[inline(always)]
     pub(crate) fn note_issued(&mut self, unit: UnitNumber)
-        ensures { AreNoted unit (record (facts_at self.old unit) { holds_requests = true }) self.old self.new }
+        ensures { AreNoted unit (λ f. record f { holds_requests = true }) self.old self.new }
     {
         self.holds_requests.insert(unit);
     }
@@ -222,7 +209,7 @@ impl Sets {
     /// Notes that a processing element has stopped.
     #[inline(always)]
     pub(crate) fn note_stopped(&mut self, unit: UnitNumber)
-        ensures { AreNoted unit (record (facts_at self.old unit) { running = false }) self.old self.new }
+        ensures { AreNoted unit (λ f. record f { running = false }) self.old self.new }
     {
         self.running.remove(unit);
     }
@@ -230,7 +217,7 @@ impl Sets {
     /// Notes what is true of the requests of a processing element, once one has left it.
     #[inline(always)]
     pub(crate) fn note_request_left(&mut self, unit: UnitNumber, element: &ProcessingElement)
-        ensures { AreNoted unit (record (facts_at self.old unit) { holds_requests = (facts_at self.old unit).holds_requests && holds_request element.now }) self.old self.new }
+        ensures { AreNoted unit (λ f. record f { holds_requests = f.holds_requests && holds_request element.now }) self.old self.new }
     {
         self.holds_requests
             .remove_unless(unit, element.holds_request());

@@ -4,10 +4,10 @@ pub use Rattle.std.proofs.lemmas.Bool.Decides.{nat_tests}
 pub use Rattle.std.proofs.lemmas.List.{get_or-replicate, get_or_past, length-replicate, length-set, set_comm}
 pub use Rattle.ultra_route.proofs.Table.{all_below_at, sizes}
 pub use Rattle.ultra_switch.specs.declared.Ports.{Ports}
-pub use Rattle.ultra_units.specs.Inlets.{AreInlets, AreTargets, LeadOn, LeadsTo, at_both, link_count, put_on_both, reply_inlets, request_inlets}
-pub use Rattle.ultra_units.specs.Links.{LinksState, put_on}
+pub use Rattle.ultra_units.specs.Inlets.{AreInlets, AreTargets, LeadOn, LeadsTo, at_both, link_count, reply_inlets, request_inlets}
+pub use Rattle.ultra_units.specs.Links.{put_on}
 pub use Rattle.ultra_units.specs.Marks.{delivery_link, memory_link, on_link, ports_in_turn, reply_links, request_links, without_both}
 pub use Rattle.ultra_units.specs.Numbers.{element_number, module_number, place_number, reply_target, request_target, switch_count, switch_number, unit_count}
-pub use Rattle.ultra_units.specs.Set.{AreBehind, HasNoneFrom, HasNoneWithin, IsFirstBit, IsFirstFrom, has_bit, has_unit, word_end}
+pub use Rattle.ultra_units.specs.Set.{AreSameBut, HasNoneFrom, HasNoneWithin, IsFirstOf, has_bit, has_unit}
 pub use Rattle.ultra_units.specs.Units.{IsElement, IsModule, IsSwitch, IsUnit, index_of, stage_of, unit_of}
-pub use Rattle.ultra_units.specs.Walk.{HasCome, IsWalk, WalkState, comes_to, keeps}
+pub use Rattle.ultra_units.specs.Walk.{AreBits, HasCome, IsWalk, WalkState, comes_to, word_end}

@@ -1,6 +1,5 @@
 pub mod Common
 pub mod Set
-pub mod Steps
 pub mod Visits
 pub mod Readers
 pub mod Standing

@@ -1,6 +1,6 @@
 -- The unit to which each link leads, computed over every network of at most six stages.
-use Rattle.std.proofs.Common.{◌≡◌, ◌≢◌, ℕ, ◌+◌, ◌-◌, ◌*◌, ◌/◌, ◌%◌, ◌^◌, ◌<◌, ◌≤◌, Bool, true, false, ◌&&◌, Option, Some, None, refl, subst, inl, inr, arith, ◌==◌, ◌||◌, nat_le, nat_lt, not}
-use Rattle.ultra_units.proofs.Common.{cases_lt, nat_tests, Ports, all_below_at, AreInlets, LeadOn, LeadsTo, at_both, link_count, reply_inlets, request_inlets, delivery_link, memory_link, reply_links, request_links, switch_count, switch_number, unit_count, place_number, reply_target, request_target, IsElement, IsModule, IsSwitch, index_of, stage_of}
+use Rattle.std.proofs.Common.{◌≡◌, ◌≢◌, ℕ, ◌+◌, ◌-◌, ◌*◌, ◌/◌, ◌%◌, ◌^◌, ◌<◌, ◌≤◌, Bool, true, false, ◌&&◌, Option, Some, None, refl, subst, arith, ◌==◌, ◌||◌, nat_le, nat_lt, not}
+use Rattle.ultra_units.proofs.Common.{nat_tests, Ports, all_below_at, AreInlets, LeadOn, LeadsTo, at_both, link_count, reply_inlets, request_inlets, delivery_link, memory_link, reply_links, request_links, switch_count, switch_number, unit_count, reply_target, request_target, IsElement, IsModule, IsSwitch, index_of, stage_of}
 use Rattle.ultra_route.specs.Route.{shuffled}
 use Rattle.ultra_route.proofs.Table.{all_below}
 use Rattle.ultra_units.proofs.{Put.has_places, Standing.is_switch}
@@ -56,17 +56,11 @@ module _ (inlets : ℕ → ℕ → Option (Ports ℕ)) (reader : ℕ → ℕ →
   all_next_read targets d = all_below (λ n. next_read d n (targets d (stage_of d n) (index_of d n))) (switch_count d)
 
   module _ (read : ReadInlets) (d : ℕ) (low : 1 ≤ d) (high : d ≤ 6) where
-    test_at : (n : ℕ) → n < unit_count d → is_read d n (inlets d n) ≡ true
-    test_at = all_below_at (λ n. is_read d n (inlets d n)) (unit_count d) (each_network all_read read.tested d low high)
-
-    from_test : (n : ℕ) (p : Ports ℕ) → is_read d n (Some p) ≡ true → AreRead d (reader d) n p
-    from_test n p test = grind (arith, nat_tests)
-
     pub are_read : (n : ℕ) (p : Ports ℕ) → inlets d n ≡ Some p → AreRead d (reader d) n p
-    are_read n p are = elim (cases_lt n (unit_count d)) [
-      | inl within ↦ from_test n p (subst (λ o. is_read d n o ≡ true) are (test_at n within))
-      | inr past ↦ absurd (let none = read.none_past d n past in cc)
-    ]
+    are_read n p are =
+        let test = all_below_at (λ n. is_read d n (inlets d n)) (unit_count d) (each_network all_read read.tested d low high) n in
+        let none = read.none_past d n in
+        grind (arith, nat_tests)
 
     -- a link leads to the unit that reads it
     pub leads : (link unit : ℕ) → link < link_count d → reader d link ≡ unit → LeadsTo (inlets d) d link unit
@@ -75,26 +69,17 @@ module _ (inlets : ℕ → ℕ → Option (Ports ℕ)) (reader : ℕ → ℕ →
     pub are_inlets : (n : ℕ) (p : Ports ℕ) → inlets d n ≡ Some p → AreInlets (inlets d) d n p
     are_inlets n p are =
         let it = are_read n p are in
-        record { are = are; zero = leads _ n it.zero_small it.zero_reader; one = leads _ n it.one_small it.one_reader; apart = it.apart }
-
-    from_next : (n : ℕ) (p : Ports ℕ) → next_read d n p ≡ true → (reader d (2 * n) ≡ p.zero) × (reader d (2 * n + 1) ≡ p.one) × (p.zero < 320) × (p.one < 320)
-    from_next n p test = grind (arith, nat_tests)
-
-    lead_next : (n : ℕ) (p : Ports ℕ) → n < switch_count d → next_read d n p ≡ true → LeadOn (inlets d) d n p
-    lead_next n p within test =
-        let (zero, one, zero_small, one_small) = from_next n p test in
-        let places = has_places d n _ _ low high (is_switch d n within) in
-        record {
-          zero = leads _ _ (omega (arith, places.first, places.first_small)) zero;
-          one = leads _ _ (omega (arith, places.second, places.second_small)) one;
-          zero_small = zero_small;
-          one_small = one_small;
-          places = rw (places.first, places.second) refl;
-        }
+        let zero = leads p.zero n in
+        let one = leads p.one n in
+        grind arith
 
     lead_on : (targets : ℕ → ℕ → ℕ → Ports ℕ) → all_below (λ k. all_next_read targets (k + 1)) 6 ≡ true → (n : ℕ) → n < switch_count d → LeadOn (inlets d) d n (targets d (stage_of d n) (index_of d n))
     lead_on targets all n within =
-        lead_next n _ within (all_below_at (λ n. next_read d n (targets d (stage_of d n) (index_of d n))) (switch_count d) (each_network (all_next_read targets) all d low high) n within)
+        let test = all_below_at (λ n. next_read d n (targets d (stage_of d n) (index_of d n))) (switch_count d) (each_network (all_next_read targets) all d low high) n within in
+        let places = has_places d n _ _ low high (is_switch d n within) in
+        let zero = leads (2 * n) (targets d (stage_of d n) (index_of d n)).zero in
+        let one = leads (2 * n + 1) (targets d (stage_of d n) (index_of d n)).one in
+        grind (arith, nat_tests)
 
 pub replies_read : ReadInlets reply_inlets reply_reader
 unfolding all_below
@@ -107,44 +92,23 @@ requests_read = record { tested = refl; none_past = λ d n past. grind arith }
 -- ---- by the kind of unit
 module _ (d : ℕ) (low : 1 ≤ d) (high : d ≤ 6) where
   pub replies_to_switch : (n s k : ℕ) → IsSwitch d n s k → AreRead d (reply_reader d) n (reply_links d s k)
-  replies_to_switch n s k is = are_read reply_inlets reply_reader replies_read d low high n _ (grind arith)
+  replies_to_switch n s k is = are_read _ _ replies_read d low high n _ (grind arith)
 
   pub reply_to_element : (n p : ℕ) → IsElement d n p → AreRead d (reply_reader d) n (at_both (delivery_link d p))
-  reply_to_element n p is = are_read reply_inlets reply_reader replies_read d low high n _ (grind arith)
+  reply_to_element n p is = are_read _ _ replies_read d low high n _ (grind arith)
 
   pub requests_to_switch : (n s k : ℕ) → IsSwitch d n s k → AreRead d (request_reader d) n (request_links d s k)
-  requests_to_switch n s k is = are_read request_inlets request_reader requests_read d low high n _ (grind arith)
+  requests_to_switch n s k is = are_read _ _ requests_read d low high n _ (grind arith)
 
   pub request_to_module : (n m : ℕ) → IsModule d n m → AreRead d (request_reader d) n (at_both (memory_link d m))
-  request_to_module n m is = are_read request_inlets request_reader requests_read d low high n _ (grind arith)
+  request_to_module n m is = are_read _ _ requests_read d low high n _ (grind arith)
 
--- ---- by which links messages come to the unit with number n, and where messages lead
-replies_next : all_below (λ k. all_next_read reply_inlets reply_reader reply_targets (k + 1)) 6 ≡ true
-unfolding all_below
-replies_next = refl
-
-requests_next : all_below (λ k. all_next_read request_inlets request_reader request_targets (k + 1)) 6 ≡ true
-unfolding all_below
-requests_next = refl
-
+-- ---- where messages lead from switch n
 module _ (d : ℕ) (low : 1 ≤ d) (high : d ≤ 6) where
-  -- to switch n
-  pub replies_come : (n : ℕ) (p : Ports ℕ) → n < switch_count d → p ≡ reply_links d (stage_of d n) (index_of d n) → AreInlets (reply_inlets d) d n p
-  replies_come n p within are = are_inlets reply_inlets reply_reader replies_read d low high n p (grind arith)
-
-  pub requests_come : (n : ℕ) (p : Ports ℕ) → n < switch_count d → p ≡ request_links d (stage_of d n) (index_of d n) → AreInlets (request_inlets d) d n p
-  requests_come n p within are = are_inlets request_inlets request_reader requests_read d low high n p (grind arith)
-
-  -- from switch n
   pub replies_lead : (n : ℕ) → n < switch_count d → LeadOn (reply_inlets d) d n (reply_targets d (stage_of d n) (index_of d n))
-  replies_lead = lead_on reply_inlets reply_reader replies_read d low high reply_targets replies_next
+  unfolding all_below
+  replies_lead = lead_on _ _ replies_read d low high reply_targets refl
 
   pub requests_lead : (n : ℕ) → n < switch_count d → LeadOn (request_inlets d) d n (request_targets d (stage_of d n) (index_of d n))
-  requests_lead = lead_on request_inlets request_reader requests_read d low high request_targets requests_next
-
-  -- from module m, and from processing element p
-  pub module_leads : (m : ℕ) → m < 2 ^ d → LeadsTo (reply_inlets d) d (place_number d d m) (switch_number d (d - 1) (m / 2))
-  module_leads m h = leads reply_inlets reply_reader replies_read d low high _ _ (grind arith) (grind arith)
-
-  pub element_leads : (p : ℕ) → p < 2 ^ d → LeadsTo (request_inlets d) d (place_number d d p) (switch_number d 0 (shuffled d p / 2))
-  element_leads p h = leads request_inlets request_reader requests_read d low high _ _ (grind arith) (grind arith)
+  unfolding all_below
+  requests_lead = lead_on _ _ requests_read d low high request_targets refl

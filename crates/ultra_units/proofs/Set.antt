@@ -1,37 +1,14 @@
--- Units and the bits of their words.
-use Rattle.std.proofs.Common.{◌≡◌, ℕ, min, Bool, ◌&&◌, ◌+◌, ◌-◌, ◌*◌, ◌/◌, ◌%◌, ◌^◌, ◌<◌, ◌≤◌, true, false, List, [], ◌∷◌, zero, suc, refl, length, get_or, set, eqb, sym, ◌∙◌, ap, inl, inr, arith, eq-eqb, get_or-set_same, get_or-set_other, replicate, w64, bit_and, bit_or, not, ◌||◌, ◌≢◌}
-use Rattle.ultra_units.proofs.Common.{cases_lt, eqb-true, get_or-replicate, get_or_past, length-replicate, AreBehind, has_bit, HasNoneWithin, HasNoneFrom, IsFirstFrom, IsFirstBit}
-use Rattle.std.proofs.lemmas.Nat.{pow_below, shr-shr, le_or_l, le_or_r}
-use Rattle.std.proofs.lemmas.Nat.Bits.{bit_at-lt, bit_at-zero, shr_and_one, bit_at_above, bit_at_and, bit_at_not, bit_at_or, bit_at_set_same, bit_at_set_other, bit_at_clear_same, bit_at_clear_other, bit_at-trailing_zeros}
-use Rattle.std.specs.Int.{bit_at, bit_not, trailing_zeros}
+-- Units and the bits of their words, and walks over units.
+use Rattle.std.proofs.Common.{◌≡◌, ℕ, min, Bool, ◌&&◌, ◌+◌, ◌-◌, ◌*◌, ◌/◌, ◌%◌, ◌^◌, ◌<◌, ◌≤◌, true, false, List, [], ◌∷◌, zero, suc, refl, length, get_or, map, set, eqb, sym, ◌∙◌, ap, inl, inr, arith, eq-eqb, get_or-set_same, get_or-set_other, replicate, w64, bit_and, bit_or, not, ◌||◌, ◌≢◌}
+use Rattle.ultra_units.proofs.Common.{cases_lt, eqb-true, get_or-replicate, get_or_past, length-replicate, nat_tests, AreBits, has_bit, comes_to, word_end, HasCome, AreSameBut, HasNoneFrom, HasNoneWithin, IsFirstOf, IsWalk, WalkState}
+use Rattle.std.proofs.lemmas.Nat.{shr-shr, le_or_l, le_or_r}
+use Rattle.std.proofs.lemmas.Nat.Bits.{bit_at-lt, bit_at-zero, shr_and_one, bit_at_above, bit_at_and, bit_at_not, bit_at_ones, bit_at_or, bit_at_set_same, bit_at_set_other, bit_at_clear_same, bit_at_clear_other, bit_at-trailing_zeros}
+use Rattle.std.proofs.lemmas.List.FromFn.{get_or-map-range_with_len}
+use Rattle.std.specs.List.{range_with_len}
+use Rattle.std.specs.Int.{bit_not, trailing_zeros}
 use Rattle.ultra_units.specs.Set.{has_unit}
 
--- ---- bits of one word
-
--- bit i of a number shifted right by `from` is its bit from + i
-shifted : (n from i : ℕ) → bit_at (n / 2 ^ from) i ≡ bit_at n (from + i)
-shifted n from i = ap (λ x. x % 2) (shr-shr n from i)
-
-pub shifted_twice : (n from rest : ℕ) → rest ≡ n / 2 ^ from / 2 → (i : ℕ) → bit_at rest i ≡ bit_at n (from + 1 + i)
-shifted_twice n from rest is i = ap (λ r. bit_at r i) (is ∙ shr-shr n from 1) ∙ shifted n (from + 1) i
-
-module _ (word : ℕ) (fits : word < 2 ^ 64) where
-  pub below_64 : (i : ℕ) → bit_at word i ≡ 1 → i < 64
-  below_64 i here = elim (cases_lt i 64) [ inl below ↦ below | inr past ↦ absurd (let none = bit_at_above word 64 i fits past in omega arith) ]
-
-  pub first_of_bits : 0 < word → IsFirstBit word 0 (trailing_zeros w64 word)
-  first_of_bits some =
-      let lowest = bit_at-trailing_zeros w64 word some fits in
-      record { after = omega arith; within = below_64 _ lowest.1; set = lowest.1; between = λ i _ before. lowest.2 i before }
-
-ones_kept : (n i : ℕ) → i < 64 → bit_at (bit_and n (bit_not w64 0)) i ≡ bit_at n i
-ones_kept n i within = omega (arith, bit_at_and n (bit_not w64 0) i, bit_at_not w64 0 i (omega arith) within, bit_at-zero i, bit_at-lt n i)
-
 -- ---- one unit
-
-alone : (i : ℕ) → i < 64 → 1 * 2 ^ i % 2 ^ 64 ≡ 2 ^ i
-alone i within = let fits = pow_below i 64 within in omega (arith, fits)
-
 pub none_there : (n k : ℕ) → has_unit (replicate n 0) k ≡ false
 unfolding has_unit
 none_there n k = grind (arith, get_or-replicate, get_or_past, length-replicate)
@@ -44,115 +21,97 @@ pub past_words : (words : List ℕ) (k : ℕ) → 64 * length words ≤ k → ha
 unfolding has_unit
 past_words words k past = grind (arith, get_or_past)
 
+-- the word of a unit is written
 module _ (words : List ℕ) (number : ℕ) (within : number < 64 * length words) where
-  -- a word in which only the unit's bit may differ
-  others_kept : (v : ℕ) → ((i : ℕ) → i < 64 → i ≢ number % 64 → bit_at v i ≡ bit_at (get_or words (number / 64) 0) i)
-      → (k : ℕ) → k ≢ number → has_unit (set words (number / 64) v) k ≡ has_unit words k
+  abbrev word : ℕ
+  word = get_or words (number / 64) 0
+
+  abbrev bit : ℕ
+  bit = 1 * 2 ^ (number % 64) % 2 ^ 64
+
+  abbrev with_word : ℕ → List ℕ
+  with_word v = set words (number / 64) v
+
+  pub inserted_there : has_unit (with_word (bit_or word bit)) number ≡ true
   unfolding has_unit
-  others_kept v kept k other = grind (arith, get_or-set_same, get_or-set_other)
+  inserted_there = let set = bit_at_set_same w64 word (number % 64) (omega arith) in grind (arith, get_or-set_same)
 
-  read_back : (v : ℕ) → has_unit (set words (number / 64) v) number ≡ eqb (bit_at v (number % 64)) 1
+  pub inserted_others : AreSameBut number words (with_word (bit_or word bit))
   unfolding has_unit
-  read_back v = grind (arith, get_or-set_same)
+  inserted_others k other = let kept = bit_at_set_other w64 word (number % 64) (omega arith) (k % 64) in grind (arith, get_or-set_same, get_or-set_other)
 
-  -- the word with the unit's bit set, and the word with that bit cleared
-  abbrev pub marked : ℕ
-  marked = bit_or (get_or words (number / 64) 0) (1 * 2 ^ (number % 64) % 2 ^ 64)
+  pub removed_there : has_unit (with_word (bit_and word (bit_not w64 bit))) number ≡ false
+  unfolding has_unit
+  removed_there = let cleared = bit_at_clear_same w64 word (number % 64) (omega arith) in grind (arith, get_or-set_same)
 
-  abbrev pub unmarked : ℕ
-  unmarked = bit_and (get_or words (number / 64) 0) (bit_not w64 (1 * 2 ^ (number % 64) % 2 ^ 64))
-
-  pub inserted_there : has_unit (set words (number / 64) marked) number ≡ true
-  inserted_there = read_back marked ∙ eq-eqb _ 1 (bit_at_set_same w64 _ (number % 64) (omega arith))
-
-  pub inserted_others : (k : ℕ) → k ≢ number → has_unit (set words (number / 64) marked) k ≡ has_unit words k
-  inserted_others = others_kept marked (λ i _ other. bit_at_set_other w64 _ (number % 64) (omega arith) i other)
-
-  pub removed_there : has_unit (set words (number / 64) unmarked) number ≡ false
-  removed_there =
-      let cleared : bit_at unmarked (number % 64) ≡ 0 = bit_at_clear_same w64 _ (number % 64) (omega arith) in
-      read_back unmarked ∙ ap (λ x. eqb x 1) cleared
-
-  pub removed_others : (k : ℕ) → k ≢ number → has_unit (set words (number / 64) unmarked) k ≡ has_unit words k
-  removed_others = others_kept unmarked (λ i inside other. bit_at_clear_other w64 _ (number % 64) (omega arith) i inside other)
+  pub removed_others : AreSameBut number words (with_word (bit_and word (bit_not w64 bit)))
+  unfolding has_unit
+  removed_others k other = let kept = bit_at_clear_other w64 word (number % 64) (omega arith) (k % 64) (omega arith) in grind (arith, get_or-set_same, get_or-set_other)
 
   -- a mask of ones keeps every unit
-  pub all_kept : (mask : ℕ) → mask ≡ bit_not w64 0 → (k : ℕ) → has_unit (set words (number / 64) (bit_and (get_or words (number / 64) 0) mask)) k ≡ has_unit words k
+  pub all_kept : (mask : ℕ) → mask ≡ bit_not w64 0 → (k : ℕ) → has_unit (with_word (bit_and word mask)) k ≡ has_unit words k
   unfolding has_unit
-  all_kept mask whole k = let kept = ones_kept (get_or words (number / 64) 0) (k % 64) (omega arith) in grind (arith, get_or-set_same, get_or-set_other)
+  all_kept mask whole k =
+      let ones = bit_at_ones 64 (k % 64) (omega arith) in
+      let kept = bit_at_and word mask (k % 64) in
+      grind (arith, bit_at-lt, get_or-set_same, get_or-set_other)
 
--- ---- the units of a word
+-- ---- the bits of a word as units
 
--- unit w * 64 + b is bit b of word w
-pub at_bit : (words : List ℕ) (w b : ℕ) → b < 64 → has_unit words (w * 64 + b) ≡ eqb (bit_at (get_or words w 0) b) 1
+pub none_in_word : (words : List ℕ) (k w : ℕ) → get_or words w 0 ≡ 0 → k / 64 ≡ w → has_unit words k ≡ false
 unfolding has_unit
-at_bit words w b within = grind arith
+none_in_word words k w none is = let clear = bit_at-zero (k % 64) in grind arith
 
-pub none_in_word : (words : List ℕ) (w : ℕ) → get_or words w 0 ≡ 0 → HasNoneWithin words (w * 64) ((w + 1) * 64)
-none_in_word words w none k after before =
-    let there = at_bit words w (k - w * 64) (omega arith) in
-    let clear = bit_at-zero (k - w * 64) in
-    let same : w * 64 + (k - w * 64) ≡ k = omega arith in
-    grind arith
+bits_of_word : (words : List ℕ) (w : ℕ) → get_or words w 0 < 2 ^ 64 → AreBits (has_unit words) (w * 64) ((w + 1) * 64) (get_or words w 0)
+unfolding has_unit
+bits_of_word words w fits = let past = bit_at_above (get_or words w 0) 64 in grind (arith, nat_tests)
 
-pub first_in_word : (words : List ℕ) (w bit : ℕ) → w < 5 → IsFirstBit (get_or words w 0) 0 bit → IsFirstFrom words (w * 64) (w * 64 + bit)
-first_in_word words w bit small first = let there = at_bit words w bit first.within in record {
-  after = omega arith;
-  within = omega (arith, first.within);
-  there = (let set = first.set in grind arith);
-  between = λ k after before. (let at = at_bit words w (k - w * 64) (omega (arith, first.within)) in let clear = first.between (k - w * 64) (omega arith) (omega arith) in let same : w * 64 + (k - w * 64) ≡ k = omega arith in grind arith);
-}
-
--- ---- the units behind one in its word
-pub behind : (words : List ℕ) (n bits : ℕ) → get_or words (n / 64) 0 < 2 ^ 64 → bits ≡ get_or words (n / 64) 0 / 2 ^ (n % 64) / 2 → AreBehind words n bits
-behind words n bits fits is = record {
-  within = λ i set. (let there = below_64 _ fits (n % 64 + 1 + i) (sym (shifted_twice _ (n % 64) bits is i) ∙ set) in omega arith);
-  are = λ k after before. (
-      let moved = shifted_twice _ (n % 64) bits is (k - n - 1) in
-      let there = at_bit words (n / 64) (k % 64) (omega arith) in
-      let place : n % 64 + 1 + (k - n - 1) ≡ k % 64 = omega arith in
-      let same : n / 64 * 64 + k % 64 ≡ k = omega arith in
+module _ (are : ℕ → Bool) (from to bits : ℕ) (is : AreBits are from to bits) where
+  -- what is left of the bits when the first n are gone
+  shifted : (n later rest : ℕ) → later ≡ from + n → rest ≡ bits / 2 ^ n → AreBits are later to rest
+  shifted n later rest place left =
+      let same = λ (i : ℕ). ap (λ x. x % 2) (shr-shr bits n i) in
+      let there = λ (i : ℕ). is.each (n + i) in
       grind arith
-      );
-}
 
--- ---- units one after another
+  pub bit_of_number : (k : ℕ) → from ≤ k → k < to → has_bit bits (k - from) ≡ are k
+  bit_of_number k after before =
+      let there = is.each (k - from) in
+      let place : from + (k - from) ≡ k = omega arith in
+      grind (arith, nat_tests)
 
-pub joined : (words : List ℕ) (a b c : ℕ) → HasNoneWithin words a b → HasNoneWithin words b c → HasNoneWithin words a c
-joined words a b c low high k after before = grind arith
+  none_of_bits : bits ≡ 0 → HasNoneWithin are from to
+  none_of_bits none k after before = let there = bit_of_number k after before in grind (arith, bit_at-zero)
 
-pub first_after : (words : List ℕ) (a b k : ℕ) → a ≤ b → HasNoneWithin words a b → IsFirstFrom words b k → IsFirstFrom words a k
-first_after words a b k order low first = grind arith
+  first_of_bits : to ≤ 320 → 0 < bits → bits < 2 ^ 64 → IsFirstOf are from (from + trailing_zeros w64 bits) × (from + trailing_zeros w64 bits < to)
+  first_of_bits small some fits =
+      let lowest = bit_at-trailing_zeros w64 bits some fits in
+      let there = is.each (trailing_zeros w64 bits) in
+      let inside : (from + trailing_zeros w64 bits < to) × (are (from + trailing_zeros w64 bits) ≡ true) = grind (arith, nat_tests) in
+      let between : HasNoneWithin are from (from + trailing_zeros w64 bits) = λ k after before. (let there = bit_of_number k after (omega arith) in let clear = lowest.2 (k - from) (omega arith) in grind arith) in
+      grind arith
 
--- ---- the units from a number on: what is left of its word when the bits before it are gone
+first_after : (are : ℕ → Bool) (a b k : ℕ) → a ≤ b → HasNoneWithin are a b → IsFirstOf are b k → IsFirstOf are a k
+first_after are a b k order low first = grind arith
+
+-- the units of a word from a number on
 module _ (words : List ℕ) (from : ℕ) (fits : get_or words (from / 64) 0 < 2 ^ 64) where
-  abbrev rest : ℕ
+  abbrev pub rest : ℕ
   rest = get_or words (from / 64) 0 / 2 ^ (from % 64)
 
-  in_rest : (k : ℕ) → from ≤ k → k / 64 ≡ from / 64 → has_unit words k ≡ has_bit rest (k - from)
-  in_rest k after row =
-      let moved = shifted (get_or words (from / 64) 0) (from % 64) (k - from) in
-      let there = at_bit words (from / 64) (k % 64) (omega arith) in
-      let place : from % 64 + (k - from) ≡ k % 64 = omega arith in
-      let same : from / 64 * 64 + k % 64 ≡ k = omega arith in
-      grind arith
+  bits_from : AreBits (has_unit words) from ((from / 64 + 1) * 64) rest
+  bits_from = shifted _ _ _ _ (bits_of_word words (from / 64) fits) (from % 64) from _ (omega arith) refl
 
-  pub first_in_rest : from < 320 → (bit : ℕ) → IsFirstBit rest 0 bit → IsFirstFrom words from (from + bit)
-  first_in_rest small bit lowest =
-      let within = below_64 _ fits (from % 64 + bit) (sym (shifted _ (from % 64) bit) ∙ lowest.set) in
-      record {
-        after = omega arith;
-        within = omega arith;
-        there = (let there = in_rest (from + bit) (omega arith) (omega arith) in let set = lowest.set in let place : from + bit - from ≡ bit = omega arith in grind arith);
-        between = λ k after before. (let there = in_rest k after (omega arith) in let clear = lowest.between (k - from) (omega arith) (omega arith) in grind arith);
-      }
+  pub none_in_rest : rest ≡ 0 → HasNoneWithin (has_unit words) from ((from / 64 + 1) * 64)
+  none_in_rest = none_of_bits _ _ _ _ bits_from
 
-  pub none_in_rest : rest ≡ 0 → HasNoneWithin words from ((from / 64 + 1) * 64)
-  none_in_rest none k after before = let there = in_rest k after (omega arith) in let clear = bit_at-zero (k - from) in grind arith
+  pub first_in_rest : from < 320 → 0 < rest → IsFirstOf (has_unit words) from (from + trailing_zeros w64 rest)
+  first_in_rest small some = (first_of_bits _ _ _ _ bits_from (omega arith) some (omega arith)).0
 
--- no unit from 320 on is in a set
-pub none_past : (words : List ℕ) → length words ≡ 5 → HasNoneFrom words 320
-none_past words five k past = past_words words k (omega arith)
+  pub first_past_rest : (k : ℕ) → rest ≡ 0 → IsFirstOf (has_unit words) ((from / 64 + 1) * 64) k → IsFirstOf (has_unit words) from k
+  first_past_rest k none first = first_after _ _ _ k (omega arith) (none_in_rest none) first
+
+pub ruleset next_steps = (none_in_rest, first_in_rest, first_past_rest, past_words)
 
 -- ---- reading, uniting and taking away
 
@@ -161,66 +120,73 @@ pub read_bit : (words : List ℕ) (number : ℕ) → eqb (bit_and (get_or words 
 unfolding has_unit
 read_bit words number = grind (arith, shr_and_one)
 
-pub or_bits : (a b i : ℕ) → has_bit (bit_or a b) i ≡ has_bit a i || has_bit b i
-or_bits a b i = grind (arith, bit_at_or)
-
--- one is 1 and the other isn't
-one_without : (a b : ℕ) → a < 2 → b < 2 → eqb (min a (1 - b)) 1 ≡ eqb a 1 && not (eqb b 1)
-one_without a b small_a small_b = grind arith
-
-pub bits_left : (a b : ℕ) → b < 2 ^ 64 → (i : ℕ) → i < 64 → has_bit (bit_and a (bit_not w64 b)) i ≡ has_bit a i && not (has_bit b i)
-bits_left a b fits i within = search (arith, bit_at_and, bit_at_not, one_without, bit_at-lt)
-
--- five words, each made of two others bit by bit
-module _ (f : Bool → Bool → Bool) (none : f false false ≡ false) (a b : List ℕ) (five_a : length a ≡ 5) (five_b : length b ≡ 5) where
-  abbrev Made : ℕ → ℕ → Type 0
-  Made i word = (j : ℕ) → j < 64 → has_bit word j ≡ f (has_bit (get_or a i 0) j) (has_bit (get_or b i 0) j)
-
-  module _ (v w x y z : ℕ) (first : Made 0 v) (second : Made 1 w) (third : Made 2 x) (fourth : Made 3 y) (fifth : Made 4 z) where
-    made_at : (i : ℕ) → Made i (get_or (v ∷ w ∷ x ∷ y ∷ z ∷ []) i 0)
-    made_at zero = first
-    made_at (suc zero) = second
-    made_at (suc (suc zero)) = third
-    made_at (suc (suc (suc zero))) = fourth
-    made_at (suc (suc (suc (suc zero)))) = fifth
-    made_at (suc (suc (suc (suc (suc i))))) = λ j _. let clear = bit_at-zero j in grind (arith, get_or_past)
-
-    pub word_by_word : (k : ℕ) → has_unit (v ∷ w ∷ x ∷ y ∷ z ∷ []) k ≡ f (has_unit a k) (has_unit b k)
-    unfolding has_unit
-    word_by_word k = made_at (k / 64) (k % 64) (omega arith)
-
 module _ (a b : List ℕ) (five_a : length a ≡ 5) (five_b : length b ≡ 5) where
-  abbrev Without : ℕ → ℕ → Type 0
-  Without i word = (j : ℕ) → j < 64 → has_bit word j ≡ has_bit (get_or a i 0) j && not (has_bit (get_or b i 0) j)
+  -- five words, each made of one of a and one of b
+  abbrev made : (ℕ → ℕ → ℕ) → List ℕ
+  made op = map (λ i. op (get_or a i 0) (get_or b i 0)) (range_with_len 0 5)
 
-  united : (i j : ℕ) → j < 64 → has_bit (bit_or (get_or a i 0) (get_or b i 0)) j ≡ has_bit (get_or a i 0) j || has_bit (get_or b i 0) j
-  united i j _ = or_bits _ _ j
+  word_by_word : (op : ℕ → ℕ → ℕ) (f : Bool → Bool → Bool) → f false false ≡ false → ((i j : ℕ) → i < 5 → j < 64 → has_bit (op (get_or a i 0) (get_or b i 0)) j ≡ f (has_bit (get_or a i 0) j) (has_bit (get_or b i 0) j))
+      → (k : ℕ) → has_unit (made op) k ≡ f (has_unit a k) (has_unit b k)
+  unfolding has_unit
+  word_by_word op f none bits k = elim (cases_lt (k / 64) 5) [
+    | inl within ↦ ap (λ w. has_bit w (k % 64)) (get_or-map-range_with_len (λ i. op (get_or a i 0) (get_or b i 0)) 0 5 _ (k / 64) 0 within (omega arith)) ∙ bits _ (k % 64) within (omega arith)
+    | inr past ↦ rw (past_words (made op) k (omega arith), past_words a k (omega arith), past_words b k (omega arith)) (sym none)
+  ]
 
-  pub union : (k : ℕ) → has_unit (bit_or (get_or a 0 0) (get_or b 0 0) ∷ bit_or (get_or a 1 0) (get_or b 1 0) ∷ bit_or (get_or a 2 0) (get_or b 2 0) ∷ bit_or (get_or a 3 0) (get_or b 3 0) ∷ bit_or (get_or a 4 0) (get_or b 4 0) ∷ []) k
-      ≡ has_unit a k || has_unit b k
-  union = word_by_word (λ x y. x || y) refl a b five_a five_b _ _ _ _ _ (united 0) (united 1) (united 2) (united 3) (united 4)
+  pub union : (k : ℕ) → has_unit (made bit_or) k ≡ has_unit a k || has_unit b k
+  union = word_by_word bit_or (λ x y. x || y) refl (λ i j _ _. grind (arith, bit_at_or))
 
-  pub difference : (v w x y z : ℕ) → Without 0 v → Without 1 w → Without 2 x → Without 3 y → Without 4 z → (k : ℕ) → has_unit (v ∷ w ∷ x ∷ y ∷ z ∷ []) k ≡ has_unit a k && not (has_unit b k)
-  difference = word_by_word (λ x y. x && not y) refl a b five_a five_b
+  module _ (first : get_or b 0 0 < 2 ^ 64) (second : get_or b 1 0 < 2 ^ 64) (third : get_or b 2 0 < 2 ^ 64) (fourth : get_or b 3 0 < 2 ^ 64) (fifth : get_or b 4 0 < 2 ^ 64) where
+    fits : (i : ℕ) → i < 5 → get_or b i 0 < 2 ^ 64
+    fits i within = grind arith
+
+    pub difference : (k : ℕ) → has_unit (made (λ x y. bit_and x (bit_not w64 y))) k ≡ has_unit a k && not (has_unit b k)
+    difference = word_by_word (λ x y. bit_and x (bit_not w64 y)) (λ x y. x && not y) refl (λ i j row within. let clear = bit_at_not w64 (get_or b i 0) j (fits i row) within in grind (arith, bit_at_and, bit_at-lt))
 
 -- ---- a set without any unit
 
-empty_word : (words : List ℕ) (k : ℕ) → get_or words (k / 64) 0 ≡ 0 → has_unit words k ≡ false
-unfolding has_unit
-empty_word words k none = grind arith
-
--- numbers whose union is 0 are 0
-none_of_both : (a b : ℕ) → bit_or a b ≡ 0 → (a ≡ 0) × (b ≡ 0)
-none_of_both a b none = (omega (arith, le_or_l a b), omega (arith, le_or_r a b))
-
 module _ (words : List ℕ) (five : length words ≡ 5) where
-  row_at : (k row : ℕ) → k / 64 ≡ row → get_or words row 0 ≡ 0 → has_unit words k ≡ false
-  row_at k row is none = empty_word words k (ap (λ i. get_or words i 0) is ∙ none)
-
   pub none_past_first : bit_or (bit_or (bit_or (get_or words 1 0) (get_or words 2 0)) (get_or words 3 0)) (get_or words 4 0) ≡ 0 → HasNoneFrom words 64
-  none_past_first none k one = grind (arith, none_of_both, row_at, past_words)
+  none_past_first none k one = grind (arith, le_or_l, le_or_r, none_in_word, past_words)
 
   pub none_in_words : get_or words 0 0 ≡ 0 → HasNoneFrom words 64 → HasNoneFrom words 0
-  none_in_words none others k past = grind (arith, row_at)
+  none_in_words none others k past = grind (arith, none_in_word)
 
 pub ruleset first_word_steps = (none_past_first, eqb-true)
+
+-- ---- a walk, which comes to each unit of a set
+
+-- a walk that has come to the first unit of these bits, which begin with number `from`
+abbrev walk_at : ℕ → ℕ → WalkState
+walk_at from bits = record { unit = from + trailing_zeros w64 bits; rest = bits / 2 ^ trailing_zeros w64 bits / 2 }
+
+come : (are : ℕ → Bool) (from word bits : ℕ) → AreBits are from ((word + 1) * 64) bits → word * 64 ≤ from → word < 5 → 0 < bits → bits < 2 ^ 64 → HasCome are from (walk_at from bits)
+come are from word bits is low small some fits =
+    let (first, inside) = first_of_bits are from _ bits is (omega arith) some fits in
+    let end : word_end (from + trailing_zeros w64 bits) ≡ (word + 1) * 64 = omega arith in
+    record { first = first; rest = rw end (shifted are from _ bits is (trailing_zeros w64 bits + 1) _ _ (omega arith) (shr-shr bits _ 1)) }
+
+is_walk : (are : ℕ → Bool) (from : ℕ) (w : WalkState) → HasCome are from w → IsWalk w
+is_walk are from w come = let there = come.rest.each in grind (arith, nat_tests)
+
+module _ (words : List ℕ) (word : ℕ) (small : word < 5) (fits : get_or words word 0 < 2 ^ 64) (some : 0 < get_or words word 0) where
+  come_here : HasCome (has_unit words) (word * 64) (walk_at (word * 64) (get_or words word 0))
+  come_here = come _ _ word _ (bits_of_word words word fits) (omega arith) small some fits
+
+  pub walk_in_word : IsWalk (walk_at (word * 64) (get_or words word 0))
+  walk_in_word = is_walk _ _ _ come_here
+
+  pub come_in_word : (from : ℕ) → from ≤ word * 64 → HasNoneWithin (has_unit words) from (word * 64) → HasCome (has_unit words) from (walk_at (word * 64) (get_or words word 0))
+  come_in_word from order none = record { first = first_after _ from _ _ order none come_here.first; rest = come_here.rest }
+
+module _ (w : WalkState) (is : IsWalk w) (some : 0 < w.rest) (fits : w.rest < 2 ^ 64) where
+  kept : (words : List ℕ) → AreBits (comes_to w words) (w.unit + 1) (word_end w.unit) w.rest
+  kept words = let inside = is.within in grind (arith, nat_tests)
+
+  pub come_on : (words : List ℕ) → HasCome (comes_to w words) (w.unit + 1) (walk_at (w.unit + 1) w.rest)
+  come_on words = come _ _ (w.unit / 64) _ (kept words) (omega arith) (let small = is.small in omega arith) some fits
+
+  pub walk_on : IsWalk (walk_at (w.unit + 1) w.rest)
+  walk_on = is_walk _ _ _ (come_on [])
+
+pub ruleset word_steps = (walk_in_word, come_in_word, none_in_word, past_words)

@@ -2,8 +2,7 @@
 -- another
 use Rattle.std.specs.Prelude.{◌≡◌, ◌≢◌, ℕ, ◌+◌, ◌*◌, ◌^◌, ◌<◌, ◌⊎◌, false, length, List, Option, Some, None, slice_set}
 use Rattle.ultra_units.specs.Prelude.{Ports}
-use Rattle.ultra_units.specs.declared.unit.Unit.TheVariants as unit
-use Rattle.ultra_units.specs.{Numbers.switch_count, Set.has_unit, Units.index_of, Units.stage_of, Units.unit_of, Links.put_on, Ways.places_of, Marks.on_link, Marks.reply_links, Marks.delivery_link, Marks.request_links, Marks.memory_link}
+use Rattle.ultra_units.specs.{Numbers.switch_count, Set.has_unit, Units.index_of, Units.stage_of, Units.of_unit, Links.put_on, Ways.places_of, Marks.on_link, Marks.reply_links, Marks.delivery_link, Marks.request_links, Marks.memory_link}
 
 -- one link, which stands at both ports
 abbrev pub at_both : ℕ → Ports ℕ
@@ -12,21 +11,15 @@ at_both link = record { zero = link; one = link }
 -- the links by which replies come to the unit with number n, if any can: a processing element has
 -- one, which stands at both ports
 abbrev pub reply_inlets : ℕ → ℕ → Option (Ports ℕ)
-reply_inlets d n = elim (unit_of d n) [
-  | unit.Switch s k ↦ Some (reply_links d s k)
-  | unit.Module m ↦ None
-  | unit.Element p ↦ Some (at_both (delivery_link d p))
-  | unit.Nothing ↦ None
-]
+reply_inlets d n =
+    of_unit d (λ s k. Some (reply_links d s k)) (λ m. None)
+    (λ p. Some (at_both (delivery_link d p))) None n
 
 -- the links by which requests come to it: a module has one
 abbrev pub request_inlets : ℕ → ℕ → Option (Ports ℕ)
-request_inlets d n = elim (unit_of d n) [
-  | unit.Switch s k ↦ Some (request_links d s k)
-  | unit.Module m ↦ Some (at_both (memory_link d m))
-  | unit.Element p ↦ None
-  | unit.Nothing ↦ None
-]
+request_inlets d n =
+    of_unit d (λ s k. Some (request_links d s k)) (λ m. Some (at_both (memory_link d m)))
+    (λ p. None) None n
 
 -- what is taken from two links, first from the one and then from the other, and put on them
 abbrev pub taken_by_turns : {M : Type 0} → List (Option M) → Ports ℕ → Ports (Option M)

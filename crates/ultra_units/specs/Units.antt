@@ -1,5 +1,5 @@
 -- which unit of a machine of d stages has a number
-use Rattle.std.specs.Prelude.{◌≡◌, ℕ, ◌+◌, ◌-◌, ◌/◌, ◌%◌, ◌^◌, ◌<◌, ◌≤◌, true, false, nat_lt, Option, Some, None}
+use Rattle.std.specs.Prelude.{◌≡◌, ℕ, ◌+◌, ◌-◌, ◌/◌, ◌%◌, ◌^◌, ◌<◌, ◌≤◌, true, false, nat_lt}
 use Rattle.ultra_units.specs.{Numbers.switch_count, Numbers.switch_number, Numbers.module_number, Numbers.element_number, Numbers.unit_count, declared.unit.Unit.Unit, declared.unit.Unit.TheVariants.Switch, declared.unit.Unit.TheVariants.Module, declared.unit.Unit.TheVariants.Element, declared.unit.Unit.TheVariants.Nothing}
 
 -- the stage of the switch with a number, and its index there
@@ -17,19 +17,6 @@ unit_of d n = elim (nat_lt n (switch_count d)) [
     | false ↦ elim (nat_lt n (unit_count d)) [ true ↦ Element (n - switch_count d - 2 ^ d) | false ↦ Nothing ]
   ]
 ]
-
--- the number of a module among modules, and of a processing element among those, if the unit is one
-abbrev pub module_among : Unit → Option ℕ
-module_among (Switch s k) = None
-module_among (Module m) = Some m
-module_among (Element p) = None
-module_among Nothing = None
-
-abbrev pub element_among : Unit → Option ℕ
-element_among (Switch s k) = None
-element_among (Module m) = None
-element_among (Element p) = Some p
-element_among Nothing = None
 
 -- number n is that of switch k of stage s
 pub record IsSwitch (d n s k : ℕ) : Type 0 where

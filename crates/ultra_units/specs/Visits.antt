@@ -1,11 +1,7 @@
 -- visits of units, one after another by their numbers
-use Rattle.std.specs.Prelude.{◌≡◌, ℕ, zero, suc, ◌<◌, ◌≤◌}
+use Rattle.std.specs.Prelude.{ℕ, zero, suc}
 
 -- what is left after visits of the units below a number
 unfoldable pub after_units : {T : Type 0} → (ℕ → T → T) → ℕ → T → T
 after_units f zero t = t
 after_units f (suc n) t = f n (after_units f n t)
-
--- a visit of any unit from `from` on, below `to`, changes nothing
-abbrev pub AreStillWithin : {T : Type 0} → (ℕ → T → T) → T → ℕ → ℕ → Type 0
-AreStillWithin f t from to = (k : ℕ) → from ≤ k → k < to → f k t ≡ t

@@ -1,30 +1,33 @@
 -- a walk over the units of a set, by their numbers, while the set loses some
-use Rattle.std.specs.Prelude.{◌≡◌, ℕ, ◌+◌, ◌-◌, ◌<◌, ◌≤◌, Bool, true, false, List, nat_lt}
+use Rattle.std.specs.Prelude.{◌≡◌, ℕ, ◌+◌, ◌-◌, ◌*◌, ◌/◌, ◌<◌, Bool, true, false, ◌&&◌, List, nat_lt}
 use Rattle.ultra_units.specs.Prelude.{bit_at}
-use Rattle.ultra_units.specs.Set.{has_bit, has_unit, word_end}
+use Rattle.ultra_units.specs.Set.{has_bit, has_unit, IsFirstOf}
 
 -- the unit to which it has come, and the units behind that one in its word, by their distance
 pub record WalkState : Type 0 where
   pub unit : ℕ
   pub rest : ℕ
 
-pub record IsWalk (unit rest : ℕ) : Type 0 where
-  pub small : unit < 320
-  pub within : (i : ℕ) → bit_at rest i ≡ 1 → unit + 1 + i < word_end unit
+-- the end of the word of unit n
+abbrev pub word_end : ℕ → ℕ
+word_end n = (n / 64 + 1) * 64
 
--- whether it keeps unit k, which is behind
-abbrev pub keeps : WalkState → ℕ → Bool
-keeps w k = has_bit w.rest (k - w.unit - 1)
+pub record IsWalk (w : WalkState) : Type 0 where
+  pub small : w.unit < 320
+  pub within : (i : ℕ) → bit_at w.rest i ≡ 1 → w.unit + 1 + i < word_end w.unit
 
 -- whether it still comes to unit k: in its word as it keeps it, and behind that as it is in the set
 abbrev pub comes_to : WalkState → List ℕ → ℕ → Bool
-comes_to w words k =
-    elim (nat_lt k (word_end w.unit)) [ true ↦ keeps w k | false ↦ has_unit words k ]
+comes_to w words k = elim (nat_lt k (word_end w.unit)) [
+  | true ↦ has_bit w.rest (k - (w.unit + 1))
+  | false ↦ has_unit words k
+]
+
+-- the bits say which of the numbers from `from` on, below `to`, are those of these units
+pub record AreBits (are : ℕ → Bool) (from to bits : ℕ) : Type 0 where
+  pub each : (i : ℕ) → has_bit bits i ≡ (nat_lt (from + i) to && are (from + i))
 
 -- it has come to the first of these units from number `from` on, and keeps those behind
 pub record HasCome (are : ℕ → Bool) (from : ℕ) (w : WalkState) : Type 0 where
-  pub later : from ≤ w.unit
-  pub small : w.unit < 320
-  pub there : are w.unit ≡ true
-  pub none : (k : ℕ) → from ≤ k → k < w.unit → are k ≡ false
-  pub rest : (k : ℕ) → w.unit < k → k < word_end w.unit → keeps w k ≡ are k
+  pub first : IsFirstOf are from w.unit
+  pub rest : AreBits are (w.unit + 1) (word_end w.unit) w.rest

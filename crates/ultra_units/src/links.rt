@@ -1,10 +1,9 @@
 //! The links of one kind of message, and the units to which messages lead.
 
-ghost use Rattle.std.specs.Prelude.{◌≡◌, ◌≢◌, ℕ, ◌<◌, true, false, Option, IfOk, None, is_some, length, replicate, slice_set};
+ghost use Rattle.std.specs.Prelude.{◌≡◌, ℕ, ◌<◌, true, false, Option, IfOk, None, is_some, length, replicate, slice_set};
 ghost use Rattle.ultra_units.specs.Prelude.{Ports};
-ghost use Rattle.ultra_units.specs.{Inlets.AreEmpty, Inlets.AreInlets, Inlets.AreTargets, Inlets.LeadsTo, Inlets.link_count, Inlets.put_on_both, Inlets.reply_inlets, Inlets.request_inlets, Inlets.taken_by_turns, Links.put_on, Set.HasNoneFrom, Set.has_unit, Marks.on_link, Marks.ports_in_turn, Marks.without_both};
+ghost use Rattle.ultra_units.specs.{Inlets.AreEmpty, Inlets.AreInlets, Inlets.AreTargets, Inlets.LeadsTo, Inlets.link_count, Inlets.put_on_both, Inlets.reply_inlets, Inlets.request_inlets, Inlets.taken_by_turns, Links.put_on, Set.AreSameBut, Set.HasNoneFrom, Set.has_unit, Marks.on_link, Marks.ports_in_turn, Marks.without_both};
 
-use crate::entries::no_items;
 use crate::unit_set::{UnitNumber, UnitSet};
 use std::alloc::{AllocError, Global};
 use std::marker::Model;
@@ -66,9 +65,14 @@ impl<M: Message> Links<M> {
         ensures targets { IfOk result (λ l. HasNoneFrom l.targets 0) }
     {
         let count = (net.stages() as usize + 1) * net.size() as usize;
+        let mut table = Vec::with_capacity(alloc, count)?;
+        for link in 0..count {
+            let _ = link;
+            table.push(Slot::empty())?;
+        }
         Ok(Links {
             net,
-            table: no_items(alloc, count)?,
+            table,
             targets: UnitSet::empty(),
         })
     }
@@ -90,7 +94,7 @@ impl<M: Message> Links<M> {
         ensures table { self.new ≡ record self.old { table = put_on self.old.table link message; targets = self.new.targets } }
         ensures there { is_some message ≡ true → has_unit self.new.targets target ≡ true }
         ensures kept { (k : ℕ) → has_unit self.old.targets k ≡ true → has_unit self.new.targets k ≡ true }
-        ensures others { (k : ℕ) → k ≢ target → has_unit self.new.targets k ≡ has_unit self.old.targets k }
+        ensures others { AreSameBut target self.old.targets self.new.targets }
     {
         let Some(message) = message else {
             return;
@@ -114,7 +118,7 @@ impl<M: Message> Links<M> {
     pub fn clear(&mut self, unit: UnitNumber)
         requires none { AreEmpty self.old.table (M.inlets self.old.stages unit) }
         ensures rest { self.new ≡ record self.old { targets = self.new.targets } }
-        ensures others { (k : ℕ) → k ≢ unit → has_unit self.new.targets k ≡ has_unit self.old.targets k }
+        ensures others { AreSameBut unit self.old.targets self.new.targets }
         ensures gone { has_unit self.new.targets unit ≡ false }
     {
         self.targets.remove(unit);
@@ -126,7 +130,7 @@ impl<M: Message> Links<M> {
         requires inlets { AreInlets (M.inlets self.old.stages) self.old.stages unit inlets }
         ensures value { result ≡ taken_by_turns self.old.table inlets }
         ensures rest { self.new ≡ record self.old { table = without_both self.old.table inlets; targets = self.new.targets } }
-        ensures others { (k : ℕ) → k ≢ unit → has_unit self.new.targets k ≡ has_unit self.old.targets k }
+        ensures others { AreSameBut unit self.old.targets self.new.targets }
         ensures gone { has_unit self.new.targets unit ≡ false }
     {
         let zero = self.take(inlets.zero);
@@ -141,7 +145,7 @@ impl<M: Message> Links<M> {
         requires small { unit < 320 }
         requires inlets { AreInlets (M.inlets self.old.stages) self.old.stages unit inlets }
         ensures received { self.new ≡ record self.old { table = put_on_both self.old.table inlets messages; targets = self.new.targets } }
-        ensures others { (k : ℕ) → k ≢ unit → has_unit self.new.targets k ≡ has_unit self.old.targets k }
+        ensures others { AreSameBut unit self.old.targets self.new.targets }
         ensures count { length self.old.table ≡ link_count self.old.stages }
     {
         let _count = &self.table;

@@ -60,26 +60,10 @@ pub(crate) fn place_number(net: Net, stage: u32, position: u32) -> usize
     (stage * net.size() + position) as usize
 }
 
-/// The numbers of two links that lead from one stage, by the port.
-fn place_numbers(net: Net, stage: u32, zero: u32, one: u32) -> Ports<usize>
-    requires stage { stage ≤ net }
-    requires zero { zero < 2 ^ net }
-    requires one { one < 2 ^ net }
-    ensures value { result ≡ record { zero = number_of_place net stage zero; one = number_of_place net stage one } }
-    ensures zero { result.zero < 448 }
-    ensures one { result.one < 448 }
-{
-    Ports {
-        zero: place_number(net, stage, zero),
-        one: place_number(net, stage, one),
-    }
-}
-
 /// The positions of a switch in its stage, by the port.
 pub(crate) fn positions(net: Net, index: u32) -> Ports<u32>
     requires { index < 2 ^ (net - 1) }
-    ensures zero { result.zero ≡ 2 * index }
-    ensures one { result.one ≡ 2 * index + 1 }
+    ensures value { result ≡ record { zero = 2 * index; one = 2 * index + 1 } }
     ensures zero_small { result.zero < 2 ^ net }
     ensures one_small { result.one < 2 ^ net }
 {
@@ -99,10 +83,15 @@ pub(crate) fn reply_sources(net: Net, stage: u32, index: u32) -> Ports<usize>
     ensures one { result.one < 448 }
 {
     let Ports { zero, one } = positions(net, index);
-    if stage == net.stages() - 1 {
-        return place_numbers(net, net.stages(), zero, one);
+    let (from, zero, one) = if stage == net.stages() - 1 {
+        (net.stages(), zero, one)
+    } else {
+        (stage + 1, net.shuffle(zero), net.shuffle(one))
+    };
+    Ports {
+        zero: place_number(net, from, zero),
+        one: place_number(net, from, one),
     }
-    place_numbers(net, stage + 1, net.shuffle(zero), net.shuffle(one))
 }
 
 /// The unit to which a reply goes from a PE-side position of a stage.
@@ -130,11 +119,11 @@ pub(crate) fn request_sources(net: Net, stage: u32, index: u32) -> Ports<usize>
     ensures one { result.one < 448 }
 {
     let Ports { zero, one } = positions(net, index);
-    let (zero, one) = (net.unshuffle(zero), net.unshuffle(one));
-    if stage == 0 {
-        return place_numbers(net, net.stages(), zero, one);
+    let from = if stage == 0 { net.stages() } else { stage - 1 };
+    Ports {
+        zero: place_number(net, from, net.unshuffle(zero)),
+        one: place_number(net, from, net.unshuffle(one)),
     }
-    place_numbers(net, stage - 1, zero, one)
 }
 
 /// The unit to which a request goes from a memory-side position of a stage.

@@ -35,6 +35,7 @@ pub trait Visit<T> {
 ///
 /// Where none has, it takes no more than one look at the set.
 #[inline(always)]
+#[tactic(auto, using(crate::proofs::Visits::none_to_do))]
 pub fn visit_all<T, V: Visit<T>>(visit: &V, target: &mut T)
     requires { (k : ℕ) → k < 320 → V.can_visit visit.now k target.old }
     ensures { target.new ≡ after_units (V.visited visit.now) 320 target.old }

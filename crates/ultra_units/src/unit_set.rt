@@ -1,7 +1,7 @@
 //! Sets of units.
 
-ghost use Rattle.std.specs.Prelude.{◌≡◌, ◌≢◌, ℕ, ◌+◌, ◌*◌, ◌<◌, ◌≤◌, ◌&&◌, ◌||◌, true, false, not, IfNone, IfSome, length};
-ghost use Rattle.ultra_units.specs.Set.{HasNoneFrom, IsFirstFrom, has_bit, has_unit};
+ghost use Rattle.std.specs.Prelude.{◌≡◌, ℕ, ◌+◌, ◌*◌, ◌<◌, ◌≤◌, ◌&&◌, ◌||◌, true, false, not, IfNone, IfSome, length};
+ghost use Rattle.ultra_units.specs.Set.{AreSameBut, HasNoneFrom, IsFirstFrom, has_unit};
 
 use crate::walk::Walk;
 use std::marker::Model;
@@ -97,7 +97,7 @@ impl UnitSet {
     #[inline(always)]
     #[tactic(auto, using(crate::proofs::Set::inserted_there, crate::proofs::Set::inserted_others))]
     pub fn insert(&mut self, unit: UnitNumber)
-        ensures others { (k : ℕ) → k ≢ unit → has_unit self.new k ≡ has_unit self.old k }
+        ensures others { AreSameBut unit self.old self.new }
         ensures there { has_unit self.new unit ≡ true }
     {
         self.words[unit.number / 64] |= 1u64 << (unit.number % 64);
@@ -106,7 +106,7 @@ impl UnitSet {
     /// Takes a unit out of the set, if it is there.
     #[inline(always)]
     pub fn remove(&mut self, unit: UnitNumber)
-        ensures others { (k : ℕ) → k ≢ unit → has_unit self.new k ≡ has_unit self.old k }
+        ensures others { AreSameBut unit self.old self.new }
         ensures gone { has_unit self.new unit ≡ false }
     {
         self.remove_unless(unit, false);
@@ -115,7 +115,7 @@ impl UnitSet {
     /// Puts a unit into the set, if `is_in`. One that is there already stays.
     #[inline(always)]
     pub fn insert_if(&mut self, unit: UnitNumber, is_in: bool)
-        ensures others { (k : ℕ) → k ≢ unit → has_unit self.new k ≡ has_unit self.old k }
+        ensures others { AreSameBut unit self.old self.new }
         ensures there { has_unit self.new unit ≡ has_unit self.old unit || is_in }
     {
         if is_in {
@@ -127,7 +127,7 @@ impl UnitSet {
     #[inline(always)]
     #[tactic(auto, using(crate::proofs::Set::all_kept, crate::proofs::Set::removed_there, crate::proofs::Set::removed_others))]
     pub fn remove_unless(&mut self, unit: UnitNumber, is_in: bool)
-        ensures others { (k : ℕ) → k ≢ unit → has_unit self.new k ≡ has_unit self.old k }
+        ensures others { AreSameBut unit self.old self.new }
         ensures there { has_unit self.new unit ≡ has_unit self.old unit && is_in }
     {
         let kept = if is_in {
@@ -160,20 +160,21 @@ impl UnitSet {
     pub fn without(&self, other: &UnitSet) -> UnitSet
         ensures { (k : ℕ) → has_unit result k ≡ has_unit self.now k && not (has_unit other.now k) }
     {
-        let (a, b) = (&self.words, &other.words);
+        let (a, b) = (self.words(), other.words());
         UnitSet {
             words: [
-                bits_without(a[0], b[0]),
-                bits_without(a[1], b[1]),
-                bits_without(a[2], b[2]),
-                bits_without(a[3], b[3]),
-                bits_without(a[4], b[4]),
+                a[0] & !b[0],
+                a[1] & !b[1],
+                a[2] & !b[2],
+                a[3] & !b[3],
+                a[4] & !b[4],
             ],
         }
     }
 
     /// The first unit of the set whose number is at least `from`.
     #[inline(always)]
+    #[tactic(auto, using(crate::proofs::Set::next_steps))]
     pub fn next(&self, from: usize) -> Option<usize>
         ensures some { IfSome result (λ k. IsFirstFrom self.now from k) }
         ensures none { IfNone result (HasNoneFrom self.now from) }
@@ -210,13 +211,4 @@ impl UnitSet {
     {
         &self.words
     }
-}
-
-/// The bits of a word that aren't set in the other.
-#[inline(always)]
-#[tactic(auto, using(crate::proofs::Set::bits_left))]
-fn bits_without(word: u64, other: u64) -> u64
-    ensures { (i : ℕ) → i < 64 → has_bit result i ≡ has_bit word i && not (has_bit other i) }
-{
-    word & !other
 }

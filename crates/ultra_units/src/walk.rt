@@ -22,7 +22,7 @@ impl Model for Walk {
 
     ghost view = { λ w. record { unit = w.unit; rest = w.rest } };
 
-    ghost invariant = { λ w. IsWalk w.unit w.rest };
+    ghost invariant = { λ w. IsWalk record { unit = w.unit; rest = w.rest } };
 
     ghost inverse = { λ w. record { unit = w.unit; rest = w.rest } };
 }
@@ -47,6 +47,7 @@ impl Walk {
 
     /// The same walk at its next unit, or `None` where there is none.
     #[inline(always)]
+    #[tactic(auto, using(crate::proofs::Set::walk_on))]
     pub(crate) fn go_on(self, set: &UnitSet) -> Option<Walk>
         ensures some { IfSome result (HasCome (comes_to self set.now) (self.unit + 1)) }
         ensures none { IfNone result ((k : ℕ) → self.unit + 1 ≤ k → comes_to self set.now k ≡ false) }
@@ -67,6 +68,7 @@ impl Walk {
 
     /// A walk at its first unit in the words from `first` on, or `None` where there is none.
     #[inline(always)]
+    #[tactic(auto, using(crate::proofs::Set::word_steps))]
     pub(crate) fn from_word(set: &UnitSet, first: usize) -> Option<Walk>
         requires { first ≤ 5 }
         ensures some { IfSome result (HasCome (has_unit set.now) (first * 64)) }

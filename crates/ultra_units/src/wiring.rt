@@ -1,7 +1,7 @@
 //! What is beside each switch of a network.
 
-ghost use Rattle.std.specs.Prelude.{◌≡◌, ◌-◌, ◌^◌, ◌<◌, IfOk, IfSome};
-ghost use Rattle.ultra_units.specs.{Inlets.AreInlets, Inlets.LeadOn, Inlets.reply_inlets, Inlets.request_inlets, Marks.reply_links as links_of_replies, Marks.request_links as links_of_requests, Numbers.switch_count as count_of_switches, Units.IsElement, Units.IsModule, Units.IsUnit, Units.element_among, Units.index_of, Units.module_among, Units.stage_of, Units.unit_of, Ways.reply_targets as targets_of_replies, Ways.request_targets as targets_of_requests, Wiring.neighbours};
+ghost use Rattle.std.specs.Prelude.{◌≡◌, ◌-◌, ◌^◌, ◌<◌, IfOk, IfSome, None, Some};
+ghost use Rattle.ultra_units.specs.{Inlets.AreInlets, Inlets.LeadOn, Inlets.reply_inlets, Inlets.request_inlets, Marks.reply_links as links_of_replies, Marks.request_links as links_of_requests, Numbers.switch_count as count_of_switches, Units.IsElement, Units.IsModule, Units.IsUnit, Units.index_of, Units.of_unit, Units.stage_of, Units.unit_of, Ways.reply_targets as targets_of_replies, Ways.request_targets as targets_of_requests, Wiring.neighbours};
 
 use crate::numbers::{
     positions, reply_sources, reply_target, request_sources, request_target, switch_count,
@@ -38,43 +38,39 @@ impl Neighbours {
         ensures { result ≡ neighbours net stage index }
     {
         let Ports { zero, one } = positions(net, index);
-        let requests = request_sources(net, stage, index);
-        let replies = reply_sources(net, stage, index);
         Neighbours {
             stage: stage as u16,
             index: index as u16,
-            request_links: narrow(requests.zero, requests.one),
-            request_targets: narrow(
-                request_target(net, stage, zero),
-                request_target(net, stage, one),
-            ),
-            reply_links: narrow(replies.zero, replies.one),
-            reply_targets: narrow(
-                reply_target(net, stage, zero),
-                reply_target(net, stage, one),
-            ),
+            request_links: narrow(request_sources(net, stage, index)),
+            request_targets: narrow(Ports {
+                zero: request_target(net, stage, zero),
+                one: request_target(net, stage, one),
+            }),
+            reply_links: narrow(reply_sources(net, stage, index)),
+            reply_targets: narrow(Ports {
+                zero: reply_target(net, stage, zero),
+                one: reply_target(net, stage, one),
+            }),
         }
     }
 }
 
-/// Two numbers in little memory, by the port.
-fn narrow(zero: usize, one: usize) -> Ports<u16>
-    requires zero { zero < 2 ^ 16 }
-    requires one { one < 2 ^ 16 }
-    ensures zero { result.zero ≡ zero }
-    ensures one { result.one ≡ one }
+/// The numbers in little memory.
+fn narrow(numbers: Ports<usize>) -> Ports<u16>
+    requires zero { numbers.zero < 2 ^ 16 }
+    requires one { numbers.one < 2 ^ 16 }
+    ensures { result ≡ numbers }
 {
     Ports {
-        zero: zero as u16,
-        one: one as u16,
+        zero: numbers.zero as u16,
+        one: numbers.one as u16,
     }
 }
 
 /// The numbers as indices.
 #[inline(always)]
 fn widen(numbers: Ports<u16>) -> Ports<usize>
-    ensures zero { result.zero ≡ numbers.zero }
-    ensures one { result.one ≡ numbers.one }
+    ensures { result ≡ numbers }
 {
     Ports {
         zero: numbers.zero as usize,
@@ -144,7 +140,7 @@ impl Wiring {
     {
         let _size = self.net.size();
         if number < self.modules {
-            let Neighbours { stage, index, .. } = self.beside(number);
+            let Neighbours { stage, index, .. } = self.switches[number];
             return Unit::Switch {
                 stage: u32::from(stage),
                 index: u32::from(index),
@@ -162,7 +158,7 @@ impl Wiring {
     /// The module with this number, by its number among modules, or `None` where another unit or none has it.
     #[inline(always)]
     pub fn module(&self, number: usize) -> Option<u32>
-        ensures value { result ≡ module_among (unit_of self.now number) }
+        ensures value { result ≡ of_unit self.now (λ s k. None) Some (λ p. None) None number }
         ensures is { IfSome result (IsModule self.now number) }
     {
         let (_size, _count) = (self.net.size(), switch_count(self.net));
@@ -172,20 +168,11 @@ impl Wiring {
     /// The processing element with this number, by its number among those, or `None` where another unit or none has it.
     #[inline(always)]
     pub fn element(&self, number: usize) -> Option<u32>
-        ensures value { result ≡ element_among (unit_of self.now number) }
+        ensures value { result ≡ of_unit self.now (λ s k. None) (λ m. None) Some None number }
         ensures is { IfSome result (IsElement self.now number) }
     {
         let (_size, _count) = (self.net.size(), switch_count(self.net));
         place_from(number, self.elements, self.size)
-    }
-
-    /// What is beside a switch.
-    #[inline(always)]
-    fn beside(&self, number: usize) -> Neighbours
-        requires { number < count_of_switches self.now }
-        ensures { result ≡ neighbours self.now (stage_of self.now number) (index_of self.now number) }
-    {
-        self.switches[number]
     }
 
     /// The links by which requests come to a switch, by the PE-side port.
@@ -196,7 +183,7 @@ impl Wiring {
         ensures inlets { AreInlets (request_inlets self.now) self.now unit result }
     {
         let _stages = self.net.stages();
-        widen(self.beside(unit.number()).request_links)
+        widen(self.switches[unit.number()].request_links)
     }
 
     /// The units to which requests go from a switch, by the memory-side port.
@@ -208,7 +195,7 @@ impl Wiring {
         ensures lead { LeadOn (request_inlets self.now) self.now unit result }
     {
         let _stages = self.net.stages();
-        widen(self.beside(unit.number()).request_targets)
+        widen(self.switches[unit.number()].request_targets)
     }
 
     /// The links by which replies come to a switch, by the memory-side port.
@@ -219,7 +206,7 @@ impl Wiring {
         ensures inlets { AreInlets (reply_inlets self.now) self.now unit result }
     {
         let _stages = self.net.stages();
-        widen(self.beside(unit.number()).reply_links)
+        widen(self.switches[unit.number()].reply_links)
     }
 
     /// The units to which replies go from a switch, by the PE-side port.
@@ -231,6 +218,6 @@ impl Wiring {
         ensures lead { LeadOn (reply_inlets self.now) self.now unit result }
     {
         let _stages = self.net.stages();
-        widen(self.beside(unit.number()).reply_targets)
+        widen(self.switches[unit.number()].reply_targets)
     }
 }

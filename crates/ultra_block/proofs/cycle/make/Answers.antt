@@ -1,5 +1,5 @@
 use Rattle.std.proofs.Common.{arith}
-use Rattle.ultra_block.proofs.Common.{own_made}
+use Rattle.ultra_section.specs.Making.{own_made}
 use Rattle.std.proofs.lemmas.List.Edits.{map_over_more}
 use Rattle.ultra_block.proofs.cycle.make.Goals as goal
 

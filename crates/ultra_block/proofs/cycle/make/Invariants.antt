@@ -1,5 +1,5 @@
 use Rattle.std.proofs.Common.{◌≡◌, ◌++◌, drop, map, take}
-use Rattle.ultra_block.proofs.Common.{own_made}
+use Rattle.ultra_section.specs.Making.{own_made}
 use Rattle.ultra_block.proofs.cycle.make.Given as goal
 
 abbrev pub invariant-loop-block : goal.invariant-loop-block

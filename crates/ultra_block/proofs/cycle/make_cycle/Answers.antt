@@ -1,5 +1,5 @@
 use Rattle.std.proofs.Common.{◌≡◌, [], ◌∷◌, get_or, arith}
-use Rattle.ultra_block.proofs.Common.{common_steps}
+use Rattle.std.proofs.lemmas.Grind.{common_steps}
 use Rattle.ultra_block.proofs.cycle.make_cycle.Goals as goal
 
 pub returns-in-len1 : goal.returns-in-len1

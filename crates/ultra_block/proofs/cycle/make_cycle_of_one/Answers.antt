@@ -1,8 +1,11 @@
 use Rattle.std.proofs.Common.{ℕ, List, [], ◌∷◌, ap, arith}
-use Rattle.ultra_block.proofs.Common.{Instr, Settings, BlockState, Replies, Requests, AreWhole, Come, can_execute, can_serve, can_take_replies, can_take_requests, come_to_one, next, replies_left, replies_taken, requests_left, requests_taken, served}
-use Rattle.ultra_cut.proofs.Questions.{own_are_all}
-use Rattle.ultra_block.proofs.cycle.make_cycle_of_one.Goals as goal
+use Rattle.ultra_isa.specs.declared.Instr.{Instr}
+use Rattle.ultra_model.specs.Machine.{Settings}
+use Rattle.ultra_section.specs.BlockState.{BlockState}
+use Rattle.ultra_cut.specs.{Moments.AreWhole, declared.kind.Kind.TheVariants.Replies, declared.kind.Kind.TheVariants.Requests}
+use Rattle.ultra_cut.proofs.{Questions.own_are_all, Whole.Come, Whole.can_execute, Whole.can_serve, Whole.can_take_replies, Whole.can_take_requests, Whole.come_to_one, Whole.next, Whole.replies_left, Whole.replies_taken, Whole.requests_left, Whole.requests_taken, Whole.served}
 use Rattle.ultra_block.proofs.cycle.make_cycle_of_one.Goals.{After-send_replies_here, After-send_requests_here}
+use Rattle.ultra_block.proofs.cycle.make_cycle_of_one.Goals as goal
 
 abbrev one : BlockState → List BlockState
 one b = b ∷ []

@@ -1,9 +1,5 @@
-use Rattle.std.proofs.Common.{◌≡◌, length}
 use Rattle.ultra_block.proofs.Dealt.{AreCarried}
 use Rattle.ultra_block.proofs.dealing.deal.Given as goal
 
 abbrev pub invariant-loop-unit : goal.invariant-loop-unit
-invariant-loop-unit l = record {
-  carried : AreCarried l.fn.block.stages l.partition l.fn.block l.unit l.block l.blocks.items;
-  count : length l.blocks.items ≡ length l.initial.blocks.items;
-}
+invariant-loop-unit l = AreCarried l.fn.block.stages l.partition l.fn.block l.unit l.block l.blocks.items

@@ -1,5 +1,5 @@
 use Rattle.std.proofs.Common.{◌≡◌, replicate}
-use Rattle.ultra_block.proofs.Common.{empty_beside}
+use Rattle.ultra_block.specs.Dealt.{empty_beside}
 use Rattle.ultra_block.proofs.dealing.empty_blocks.Given as goal
 
 abbrev pub invariant-loop-place : goal.invariant-loop-place

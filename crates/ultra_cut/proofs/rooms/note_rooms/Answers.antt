@@ -5,4 +5,4 @@ use Rattle.ultra_cut.proofs.rooms.note_rooms.Goals as goal
 pub returns : goal.returns
 returns c = λ d partition are.
     let all = take_all c.loop-block.block-index c.args.blocks.now (omega arith) in
-    rooms_are d partition c.args.blocks.now are c.loop-block.rooms (rw all at (c.loop-block.invariant d are.cut.stages))
+    rooms_are _ _ _ are _ (rw all at (c.loop-block.invariant d are.cut.stages))

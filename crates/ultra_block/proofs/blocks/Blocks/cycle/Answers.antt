@@ -1,5 +1,5 @@
 use Rattle.std.proofs.Common.{arith}
-use Rattle.ultra_block.proofs.Common.{with_items_is}
+use Rattle.std.proofs.lemmas.List.{with_items_is}
 use Rattle.ultra_block.proofs.blocks.Blocks.cycle.Goals as goal
 
 pub invariant_of-self : goal.invariant_of-self

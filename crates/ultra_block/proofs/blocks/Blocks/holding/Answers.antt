@@ -1,5 +1,5 @@
 use Rattle.std.proofs.Common.{arith}
-use Rattle.ultra_block.proofs.Common.{events_of, stops_of}
+use Rattle.ultra_cut.specs.Events.{events_of, stops_of}
 use Rattle.ultra_block.proofs.blocks.Blocks.holding.Goals as goal
 
 pub returns : goal.returns

@@ -1,5 +1,5 @@
 use Rattle.std.proofs.Common.{◌≡◌, map, take}
-use Rattle.ultra_block.proofs.Common.{BlockState}
+use Rattle.ultra_section.specs.BlockState.{BlockState}
 use Rattle.ultra_block.proofs.blocks.Blocks.stops.Given as goal
 
 abbrev pub invariant-loop-block : goal.invariant-loop-block

@@ -1,6 +1,6 @@
-use Rattle.std.proofs.Common.{ap, arith}
-use Rattle.ultra_section.proofs.Common.{are_inlets, replies_read, BlockState}
+use Rattle.std.proofs.Common.{arith}
+use Rattle.ultra_section.proofs.Common.{are_inlets, replies_read}
 use Rattle.ultra_section.proofs.block.Block.receive_replies.Goals as goal
 
 pub receive-requires-clause-inlets : goal.receive-requires-clause-inlets
-receive-requires-clause-inlets c = rw (c.self.invariant.replies) (are_inlets _ _ replies_read c.self.inside.net (omega arith) (omega arith) c.args.unit c.args.inlets (rw (ap (λ (b : BlockState). b.stages) c.self.view_is) c.requires.links))
+receive-requires-clause-inlets c = rw (c.self.invariant.replies) (are_inlets _ _ replies_read _ (omega arith) (omega arith) _ _ (rw (← c.self.view_is) at c.requires.links))

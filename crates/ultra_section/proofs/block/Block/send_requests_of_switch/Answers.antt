@@ -1,12 +1,8 @@
-use Rattle.std.proofs.Common.{Some, arith, ap, ◌∙◌}
-use Rattle.ultra_section.proofs.Common.{requests_noted, both}
-use Rattle.ultra_section.proofs.{Known.same_stages, Known.switch_found, Known.switch_kept, Noted.requests_left}
+use Rattle.std.proofs.Common.{arith}
+use Rattle.std.proofs.lemmas.Bool.Decides.{nat_tests}
+use Rattle.ultra_section.proofs.{Known.switch_renewed, Noted.shorter}
 use Rattle.ultra_section.proofs.block.Block.send_requests_of_switch.Goals as goal
 
 pub invariant_of-self-2 : goal.invariant_of-self-2
 invariant_of-self-2 c =
-    let known = c.self.invariant in
-    let (is, at, was) = switch_found c.self.view_is c.self.invariant.units c.requires.is c.number-number.ensures.value c.index_mut.ensures.value c.in-Some.is in
-    let now = c.send_from_switch.new.switch in
-    switch_kept known c.note_requests_sent.ensures known.replies (same_stages c.send_from_switch.ensures.links known.requests) (omega arith) (omega arith)
-    (Some now) c.number-number.ensures.value is.within (ap (requests_noted both now) was ∙ rw (c.send_from_switch.ensures.switch) (requests_left c.in-Some.switch _))
+    switch_renewed c.self.invariant c.note_requests_sent.ensures c.send_from_switch.new.switch (rw (c.number-number.ensures.value) at c.index_mut.ensures.value) c.in-Some.is (grind (arith, nat_tests, shorter)) (grind arith)

@@ -1,22 +1,16 @@
-use Rattle.std.proofs.Common.{◌∙◌, refl, arith, Some}
-use Rattle.ultra_section.proofs.Known.{element_found, element_kept, rests_still, same_facts, same_stages, entry_there, woken_up}
+use Rattle.std.proofs.Common.{refl, arith}
+use Rattle.ultra_section.proofs.Known.{element_renewed, entry_there, same_facts}
 use Rattle.ultra_section.proofs.block.Block.take_reply_of_element.Goals as goal
 
 pub deliver-requires : goal.deliver-requires
-deliver-requires c = grind (arith, entry_there)
+deliver-requires c =
+    let there = entry_there c.self.inside.elements.items c.args.pe (grind arith) c.index_mut.ensures.value c.in-Some.is in
+    grind arith
 
 pub invariant_of-self-in-Some-came : goal.invariant_of-self-in-Some-came
 invariant_of-self-in-Some-came c =
-    let known = c.self.invariant in
-    let (is, at, was) = element_found c.self.view_is c.self.invariant.units c.requires.is c.index_mut.ensures.value c.in-Some.is in
-    element_kept known (same_facts c.self.inside.sets _) (same_stages c.take_at_element-came.ensures.rest known.replies) known.requests c.append.ensures.places (omega arith)
-    (Some c.deliver.new.self) is (was ∙ rw (c.deliver.ensures) refl)
-    (woken_up known is _ c.insert.new.self c.insert.ensures.others c.insert.ensures.there)
+    element_renewed c.self.invariant (same_facts c.self.inside.sets c.args.unit) c.deliver.new.self c.index_mut.ensures.value c.in-Some.is (rw (c.deliver.ensures) refl) (grind arith)
 
 pub invariant_of-self-in_default-came : goal.invariant_of-self-in_default-came
 invariant_of-self-in_default-came c =
-    let known = c.self.invariant in
-    let (is, at, was) = element_found c.self.view_is c.self.invariant.units c.requires.is c.index_mut.ensures.value c.in-Some.is in
-    element_kept known (same_facts c.self.inside.sets _) (same_stages c.take_at_element-came.ensures.rest known.replies) known.requests (omega arith) (omega arith)
-    (Some c.in-Some.element) is was
-    (rests_still known is at c.in-Some.element (λ rest. rest))
+    element_renewed c.self.invariant (same_facts c.self.inside.sets c.args.unit) c.in-Some.element c.index_mut.ensures.value c.in-Some.is refl (grind arith)

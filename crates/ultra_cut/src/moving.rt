@@ -71,7 +71,7 @@ fn move_home(blocks: &mut [Block], partition: &[u8], kind: Kind, net: Net, from:
 
 /// Moves each message of a kind to the block of the unit to which it leads; nothing else changes. A block whose messages all lead to its own units is skipped.
 #[inline(always)]
-pub fn exchange_messages(blocks: &mut [Block], partition: &[u8], kind: Kind, net: Net)
+pub fn exchange(blocks: &mut [Block], partition: &[u8], kind: Kind, net: Net)
     requires cut { IsCut net partition.now blocks.old }
     requires single { AreSingle kind blocks.old }
     ensures only { OnlyMove kind blocks.old blocks.new }

@@ -1,5 +1,5 @@
 use Rattle.std.proofs.Common.{arith}
-use Rattle.ultra_cut.proofs.exchange.next_for.Goals as goal
+use Rattle.ultra_cut.proofs.moving.next_for.Goals as goal
 
 pub returns-in-Replies : goal.returns-in-Replies
 returns-in-Replies c = rw c.in-Replies.is (grind arith)

@@ -1,6 +1,6 @@
 use Rattle.std.proofs.Common.{arith}
 use Rattle.ultra_cut.proofs.Common.{common_steps}
-use Rattle.ultra_cut.proofs.exchange.move_messages.Goals as goal
+use Rattle.ultra_cut.proofs.moving.move_messages.Goals as goal
 
 pub returns-in-Some : goal.returns-in-Some
 returns-in-Some c = rw c.in-Replies.is (grind (arith, common_steps))

@@ -1,6 +1,6 @@
 use Rattle.std.proofs.Common.{ℕ, ◌<◌, ◌≤◌, ◌-◌}
 use Rattle.ultra_cut.proofs.Common.{unit_count, HasNoneFor, OnlyMove}
-use Rattle.ultra_cut.proofs.exchange.exchange_messages.Given as goal
+use Rattle.ultra_cut.proofs.moving.exchange.Given as goal
 
 abbrev pub invariant-loop-from : goal.invariant-loop-from
 invariant-loop-from l = record {
