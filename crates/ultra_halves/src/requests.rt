@@ -19,7 +19,7 @@ pub fn leave_where(has_room: bool, queue: &mut ToMm) -> Option<RequestPacket>
     if has_room { queue.send() } else { None }
 }
 
-/// Appends the combination of a request with one of `old`, of which this is the record. Few requests combine, so this code stands apart from that of a visit.
+/// Appends the combination of a request with one of the processing element `old`, which left `wait_record`. Few requests combine, so this code stands apart from that of a visit.
 #[inline(never)]
 fn append_combination(
     events: &mut Vec<Event>,
