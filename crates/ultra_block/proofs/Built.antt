@@ -1,24 +1,20 @@
 -- The units of a machine before its first cycle. A module is filled with the initial values, one after the other; and one block
 -- that holds all units is the machine at its start.
 use Rattle.std.proofs.Common.{◌≡◌, ◌≢◌, ℕ, ◌+◌, ◌*◌, ◌/◌, ◌%◌, ◌<◌, List, [], ◌∷◌, ◌++◌, true, false, None, length, set, take, get_or, refl, ap, arith, get_or-set_same, get_or-set_other, subst, sym, ◌≤◌, nat_lt, ◌^◌, Some, replicate, ◌==◌, Option}
-use Rattle.std.proofs.lemmas.{Bool.Decides.nat_tests, List.ext_get_or, List.get_or-replicate, List.length-replicate, List.length-set, List.take_all, List.take_more, List.get_or_past, List.Elements.All-get_or, Nat.div-mul-add, Nat.mod-mul-add}
+use Rattle.std.proofs.lemmas.{Bool.Decides.nat_tests, List.ext_get_or, List.get_or-replicate, List.length-replicate, List.length-set, List.take_all, List.take_more, List.get_or_past, List.Elements.All-get_or, Nat.div-mul-add, Nat.div_below, Nat.mod-mul-add}
 use Rattle.ultra_model.specs.{Machine.given_value, Machine.Settings, Machine.start, Places.places, Ranges.AreInRange}
-use Rattle.ultra_block.specs.{Fresh.filled, Fresh.all_in_one, Fresh.first_bank, Fresh.first_element, State.MakeUp}
+use Rattle.ultra_block.specs.{Fresh.filled, Fresh.first_bank, Fresh.first_element, State.MakeUp}
 use Rattle.ultra_isa.specs.declared.Instr.{Instr}
-use Rattle.ultra_units.specs.Numbers.{switch_count}
+use Rattle.ultra_units.specs.Numbers.{switch_count, unit_count}
 use Rattle.ultra_section.specs.{BlockState.BlockState, Building.empty_block}
 use Rattle.ultra_section.proofs.OfKind.{by_kind, switch_stands, module_stands}
-use Rattle.ultra_course.specs.{Frame.Frame, Frame.AreAlike, Whole.empty_switch, Whole.whole}
+use Rattle.ultra_course.specs.{Frame.AreAlike, Whole.empty_switch, Whole.whole}
 use Rattle.ultra_course.proofs.AtFrame.{whole_alike}
 use Rattle.ultra_cut.specs.{Cut.frame_of, Cut.home, Moments.machine_in}
-use Rattle.std.proofs.{Math.Nat.div-lt_iff_lt-mul, Math.Path.fun_ext}
+use Rattle.std.proofs.{Math.Path.fun_ext}
 use Rattle.ultra_model.proofs.{Each.places_at, Each.length-places, Sound.sound-start}
 use Rattle.ultra_mem.specs.Serve.{new_bank}
-use Rattle.ultra_block.proofs.Seen.{one_events, one_stops}
-
--- the cell of an address
-pub cell_within : (size n a : ℕ) → 0 < size → a < size * n → a / size < n
-cell_within size n a some small = (div-lt_iff_lt-mul some).1 (omega arith)
+use Rattle.ultra_block.proofs.Seen.{one_lists}
 
 given_more : (values : List (ℕ × ℕ)) (x : ℕ × ℕ) (a v : ℕ) → given_value (values ++ x ∷ []) a v ≡ elim (x.0 == a) [ true ↦ x.1 | false ↦ given_value values a v ]
 given_more [] x a v = refl
@@ -35,19 +31,16 @@ module _ (size m n : ℕ) where
     abbrev x : ℕ × ℕ
     x = get_or values i (0, 0)
 
-    abbrev before : List (ℕ × ℕ)
-    before = take i values
-
-    pub filled_here : x.0 % size ≡ m → x.0 < size * n → filled size m n (take (i + 1) values) ≡ record (filled size m n before) { cells = set (filled size m n before).cells (x.0 / size) x.1 }
+    pub filled_here : x.0 % size ≡ m → x.0 < size * n → filled size m n (take (i + 1) values) ≡ record (filled size m n (take i values)) { cells = set (filled size m n (take i values)).cells (x.0 / size) x.1 }
     filled_here here within =
-        let cells = ext_get_or 0 (filled size m n (before ++ x ∷ [])).cells (set (filled size m n before).cells (x.0 / size) x.1) (grind (arith, length-places, length-set))
-        (λ o inside. grind (arith, places_at, given_more, nat_tests, cell_within size n x.0, length-places, length-set, get_or-set_same, get_or-set_other, div-mul-add, mod-mul-add)) in
+        let cells = ext_get_or 0 (filled size m n (take i values ++ x ∷ [])).cells (set (filled size m n (take i values)).cells (x.0 / size) x.1) (grind (arith, length-places, length-set))
+        (λ o inside. grind (arith, places_at, given_more, nat_tests, div_below, length-places, length-set, get_or-set_same, get_or-set_other, div-mul-add, mod-mul-add)) in
         rw (take_more values i (0, 0) inside) (grind arith)
 
-    pub filled_past : x.0 % size ≢ m → filled size m n (take (i + 1) values) ≡ filled size m n before
+    pub filled_past : x.0 % size ≢ m → filled size m n (take (i + 1) values) ≡ filled size m n (take i values)
     filled_past past = rw (take_more values i (0, 0) inside) (ap (λ cell. record { cells = places n cell; inp = None; out = None }) (fun_ext (λ o. grind (arith, given_more, nat_tests, mod-mul-add))))
 
-pub ruleset fill_steps = (none_filled, filled_here, filled_past, take_all, length-places, cell_within, All-get_or)
+pub ruleset fill_steps = (none_filled, filled_here, filled_past, take_all, length-places, div_below, All-get_or)
 
 -- ---- all units in one block
 -- the first n of `count` places have their units
@@ -69,23 +62,17 @@ module _ (c : Settings) (program : List Instr) where
 module _ (c : Settings) (program : List Instr) (range : AreInRange c) (b : BlockState) (all : AreIn c program (switch_count c.stages) (2 ^ c.stages) (2 ^ c.stages) b) where
   -- all stand in block 0
   abbrev one : List ℕ
-  one = all_in_one c.stages
+  one = replicate (unit_count c.stages) 0
 
   home_is_zero : (n : ℕ) → home one n ≡ 0
   home_is_zero n = grind (arith, get_or-replicate, get_or_past, length-replicate)
 
-  abbrev first_frame : Frame
-  first_frame = record { switch = λ n. empty_switch c; bank = first_bank c; element = first_element c; replies = λ l. None; requests = λ l. None }
-
-  alike : AreAlike c.stages (frame_of c.stages one (b ∷ [])) first_frame
+  alike : AreAlike c.stages (frame_of c.stages one (b ∷ [])) (record { switch = λ n. empty_switch c; bank = first_bank c; element = first_element c; replies = λ l. None; requests = λ l. None })
   alike = grind (arith, get_or-replicate, home_is_zero)
 
-  first_is_start : whole c first_frame 0 [] [] ≡ start c
-  unfolding start whole
-  first_is_start = grind arith
-
   at_start : machine_in c one 0 (b ∷ []) ≡ start c
-  at_start = grind (arith, whole_alike c range (frame_of c.stages one (b ∷ [])) first_frame alike 0 [] [], first_is_start, one_events c.stages (b ∷ []) refl, one_stops c.stages (b ∷ []) refl)
+  unfolding start whole
+  at_start = grind (arith, whole_alike c range _ _ alike 0 [] [], one_lists c.stages (b ∷ []) refl)
 
   pub is_fresh : MakeUp c program one 0 (start c) (b ∷ [])
   is_fresh = (grind (arith, at_start, length-replicate, home_is_zero, by_kind, switch_stands, module_stands, alike, length-places, sound-start c range), at_start)

@@ -1,15 +1,15 @@
 -- A machine that stands in one block is dealt to the blocks that a partition names: it stays the same machine.
-use Rattle.std.proofs.Common.{◌≡◌, ℕ, zero, suc, ◌+◌, ◌<◌, ◌≤◌, List, [], ◌∷◌, None, length, map, replicate, set, subst, arith, get_or-set_same, get_or-set_other, ◌==◌, ◌&&◌, nat_lt, cond, refl, All}
-use Rattle.std.proofs.lemmas.{Bool.eq-eqb, Bool.Decides.nat_tests, Grind.common_steps, List.get_or-replicate, List.get_or_past, List.length-replicate, List.length-set, List.replicate-append-replicate, List.append-nil, List.Elements.All-from_get_or, List.Elements.All-set}
+use Rattle.std.proofs.Common.{◌≡◌, ℕ, ◌+◌, ◌<◌, ◌≤◌, List, [], ◌∷◌, None, length, map, set, arith, get_or-set_same, get_or-set_other, ◌==◌, ◌&&◌, nat_lt, cond, refl, true, All}
+use Rattle.std.proofs.lemmas.{Bool.eq-eqb, Bool.Decides.nat_tests, List.get_or-replicate, List.get_or_past, List.length-replicate, List.length-set, List.append-nil, List.Elements.All-from_get_or, List.Elements.All-set}
 use Rattle.ultra_isa.specs.declared.Instr.{Instr}
 use Rattle.ultra_model.specs.Machine.{Settings}
 use Rattle.ultra_units.specs.Numbers.{unit_count}
-use Rattle.ultra_section.specs.{Away.stands, BlockState.BlockState, Building.with_unit, Building.without_unit, Marks.on_link, Shape.IsShaped}
+use Rattle.ultra_section.specs.{Away.stands, BlockState.BlockState, Building.empty_block, Building.with_unit, Building.without_unit, Shape.IsShaped}
 use Rattle.ultra_section.proofs.OfKind.{by_kind}
 use Rattle.ultra_course.specs.Frame.{AreAlike}
 use Rattle.ultra_course.proofs.AtFrame.{whole_alike}
-use Rattle.ultra_cut.specs.{Cut.block_at, Cut.frame_of, Cut.given, Cut.home, Cut.no_block, Events.IsInOrder, Events.event_rank, Events.stop_rank, Events.events_of, Events.stops_of, Halves.AreBlocks, Halves.OfEach, Moments.AreWhole, Moments.machine_in, Moments.AreMachine}
-use Rattle.ultra_block.specs.{Dealt.IsDealt, Dealt.IsLastNamed, Dealt.empty_beside, State.MakeUp}
+use Rattle.ultra_cut.specs.{Cut.block_at, Cut.frame_of, Cut.given, Cut.home, Cut.is_partition, Cut.no_block, Events.IsInOrder, Events.event_rank, Events.stop_rank, Events.events_of, Events.stops_of, Halves.OfEach, Moments.AreWhole, Moments.machine_in, Moments.AreMachine}
+use Rattle.ultra_block.specs.{Dealt.IsLastNamed, State.MakeUp}
 use Rattle.ultra_units.proofs.{Marks.length-put_on, Put.put_apart, Put.put_there}
 use Rattle.ultra_merge.specs.Merging.{merged}
 use Rattle.ultra_cut.proofs.{Columns.column_empty, Happenings.joined_home, Units.Sort, Units.switches, Units.modules, Units.elements}
@@ -26,43 +26,39 @@ module _ (d : ℕ) (partition : List ℕ) (b : BlockState) where
 
   -- block 0 lists what block b listed
   pub record AreCarried (n : ℕ) (left : BlockState) (now : List BlockState) : Type 0 where
-    few : length now ≤ 64
-    last : IsLastNamed partition (length now)
+    pub few : length now ≤ 64
+    pub last : IsLastNamed partition (length now)
     pub named : All (λ (k : ℕ). k < length now) partition
     pub stages : left.stages ≡ d
     pub shaped : OfEach (IsShaped d) now
     rest : (k : ℕ) → k < length now
-        → block_at now k ≡ record (empty_beside b) { switches = (block_at now k).switches; modules = (block_at now k).modules; elements = (block_at now k).elements; events = (block_at (b ∷ []) k).events; stops = (block_at (b ∷ []) k).stops }
+        → block_at now k ≡ record (empty_block b.stages b.program) { done = b.done; switches = (block_at now k).switches; modules = (block_at now k).modules; elements = (block_at now k).elements; events = (block_at (b ∷ []) k).events; stops = (block_at (b ∷ []) k).stops }
     switches : SortIsCarried switches n left now
     modules : SortIsCarried modules n left now
     elements : SortIsCarried elements n left now
 
   -- no unit yet
-  pub none_carried : (count : ℕ) (x left : BlockState) (bs : List BlockState) → b.stages ≡ d → All (λ (k : ℕ). k < 64) partition → IsLastNamed partition count → All (λ (k : ℕ). k < count) partition → bs ≡ replicate count (empty_beside b)
+  pub none_carried : (count : ℕ) (e x left : BlockState) (bs : List BlockState) → b.stages ≡ d → All (λ (k : ℕ). k < 64) partition → IsLastNamed partition count → All (λ (k : ℕ). k < count) partition → (length bs ≡ count) × All (λ (y : BlockState). y ≡ e) bs → e ≡ record (empty_block b.stages b.program) { done = b.done }
       → x ≡ record (block_at bs 0) { events = b.events; stops = b.stops } → left ≡ record b { events = left.events; stops = left.stops } → AreCarried 0 left (set bs 0 x)
-  none_carried count x left bs stages few last named are is rest =
+  none_carried count e x left bs stages few last named are empty is rest =
       grind (arith, last.1, moving, get_or-replicate, get_or_past, length-replicate)
 
   -- one unit more
   module _ (n : ℕ) (left : BlockState) (now : List BlockState) (was : AreCarried n left now) (small : n < length partition) where
-    abbrev h : ℕ
-    h = home partition n
-
     abbrev y : BlockState
-    y = with_unit n left (block_at now h)
+    y = with_unit n left (block_at now (home partition n))
 
-    pub within : h < length now
-    within = was.named n 0 small
+    abbrev next : List BlockState
+    next = set now (home partition n) y
 
-    still_shaped : IsShaped d y
-    still_shaped = grind (arith, within, was.shaped, length-put_on)
-
-    pub unit_carried : AreCarried (n + 1) (without_unit n left) (set now h y)
+    pub unit_carried : AreCarried (n + 1) (without_unit n left) next
     unit_carried =
-        let shaped = All-set (IsShaped d) now h y still_shaped (All-from_get_or (IsShaped d) now no_block was.shaped) in
-        let switches : SortIsCarried switches (n + 1) (without_unit n left) (set now h y) = grind (arith, within, moving) in
-        let modules : SortIsCarried modules (n + 1) (without_unit n left) (set now h y) = grind (arith, within, moving) in
-        let elements : SortIsCarried elements (n + 1) (without_unit n left) (set now h y) = grind (arith, within, moving) in
+        let within = was.named n 0 small in
+        let here : IsShaped d y = grind (arith, was.shaped, length-put_on) in
+        let shaped = All-set (IsShaped d) now (home partition n) y here (All-from_get_or (IsShaped d) now no_block was.shaped) in
+        let switches : SortIsCarried switches (n + 1) (without_unit n left) next = grind (arith, moving) in
+        let modules : SortIsCarried modules (n + 1) (without_unit n left) next = grind (arith, moving) in
+        let elements : SortIsCarried elements (n + 1) (without_unit n left) next = grind (arith, moving) in
         grind (arith, moving)
 
 -- ---- all units
@@ -71,37 +67,19 @@ module _ (c : Settings) (program : List Instr) (was : List ℕ) (n : ℕ) (b : B
   abbrev d : ℕ
   d = c.stages
 
-  module _ {X : Type 0} (sort : Sort X) (there : SortIsCarried d partition b sort (unit_count d) left now) (i : ℕ) (small : i < sort.count d) where
-    abbrev u : ℕ
-    u = sort.number d i
+  module _ {X : Type 0} (sort : Sort X) (there : SortIsCarried d partition b sort (unit_count d) left now) where
+    sort_stands : (k : ℕ) → k < length now → (i : ℕ) → i < sort.count d → sort.number d i < unit_count d → stands (sort.number d i) (block_at now k) ≡ (home partition (sort.number d i) == k)
+    sort_stands k h i is small =
+        grind (arith, nat_tests, whole.machine.blocks.cut.homes, whole.machine.blocks.cut.stand 0, sort.stand d b (whole.machine.blocks.cut.stages 0 (omega arith)), sort.stand d (block_at now k) (carried.shaped k h).stages)
 
-    sort_stands : (k : ℕ) → k < length now → stands u (block_at now k) ≡ (home partition u == k)
-    sort_stands k h =
-        grind (arith, nat_tests, whole.machine.blocks.cut.homes, sort.small, whole.machine.blocks.cut.stand 0 u, sort.stand d b (whole.machine.blocks.cut.stages 0 (omega arith)), sort.stand d (block_at now k) (carried.shaped k h).stages)
-
-    alike_at : given sort.nothing (sort.at (block_at now (home partition u)) i) ≡ given sort.nothing (sort.at (block_at (b ∷ []) (home was u)) i)
-    alike_at = grind (arith, nat_tests, eq-eqb, whole.machine.blocks.cut.homes, carried.named, sort.small)
+    alike_at : (i : ℕ) → i < sort.count d → given sort.nothing (sort.at (block_at now (home partition (sort.number d i))) i) ≡ given sort.nothing (sort.at (block_at (b ∷ []) (home was (sort.number d i))) i)
+    alike_at i small = grind (arith, nat_tests, eq-eqb, whole.machine.blocks.cut.homes, carried.named, sort.small)
 
   stand_now : (k : ℕ) → k < length now → (u : ℕ) → u < unit_count d → stands u (block_at now k) ≡ (home partition u == k)
-  stand_now k h =
-      by_kind d _
-      (λ i is small. sort_stands switches carried.switches i is k h)
-      (λ i is small. sort_stands modules carried.modules i is k h)
-      (λ i is small. sort_stands elements carried.elements i is k h)
-      (λ u past small. absurd (omega arith))
-
-  are_blocks : AreBlocks d partition now
-  are_blocks = grind (arith, stand_now)
+  stand_now k h = by_kind d _ (sort_stands switches carried.switches k h) (sort_stands modules carried.modules k h) (sort_stands elements carried.elements k h) (λ u past small. absurd (omega arith))
 
   alike : AreAlike d (frame_of d partition now) (frame_of d was (b ∷ []))
-  alike =
-      let replies = λ (l : ℕ). column_empty (λ x. on_link x.replies l) now in
-      let requests = λ (l : ℕ). column_empty (λ x. on_link x.requests l) now in
-      grind (arith, get_or-replicate, alike_at switches carried.switches, alike_at modules carried.modules, alike_at elements carried.elements)
-
-  in_order : OfEach (IsInOrder d) now
-  in_order zero h = grind (arith, whole.in_order 0)
-  in_order (suc k) h = grind arith
+  alike = grind (arith, get_or-replicate, column_empty, alike_at switches carried.switches, alike_at modules carried.modules, alike_at elements carried.elements)
 
   same_merged : {X : Type 0} (list : BlockState → List X) (rank : X → ℕ) (count : ℕ) → list no_block ≡ [] → ((k : ℕ) → k < length now → list (block_at now k) ≡ list (block_at (b ∷ []) k))
       → merged rank count (map list now) ≡ merged rank count (map list (b ∷ []))
@@ -113,19 +91,14 @@ module _ (c : Settings) (program : List Instr) (was : List ℕ) (n : ℕ) (b : B
   same_machine =
       grind (arith, same_merged (λ x. x.events) (event_rank d) 1280 refl, same_merged (λ x. x.stops) stop_rank 64 refl, whole_alike c whole.machine.machine.range (frame_of d partition now) (frame_of d was (b ∷ [])) alike)
 
-  dealt : MakeUp c program partition n (machine_in c was n (b ∷ [])) now
+  pub dealt : MakeUp c program partition n (machine_in c was n (b ∷ [])) now
   dealt =
-      let machine : AreMachine c program partition n (events_of d now) (stops_of d now) (machine_in c partition n now) now = record { blocks = are_blocks; runs = grind arith; done = grind arith; machine = grind (arith, same_machine, alike) } in
-      grind (arith, alike, in_order, same_machine)
+      let in_order : OfEach (IsInOrder d) now = grind (arith, whole.in_order 0) in
+      let machine : AreMachine c program partition n (events_of d now) (stops_of d now) (machine_in c partition n now) now = record { blocks = grind (arith, stand_now); runs = grind arith; done = grind arith; machine = grind (arith, same_machine, alike) } in
+      grind (arith, alike, same_machine)
 
-pub is_dealt : (partition : List ℕ) (b left : BlockState) (now : List BlockState) (u : ℕ) → AreCarried b.stages partition b u left now → u ≡ length partition → IsDealt partition b now
-is_dealt partition b left now u carried all = record {
-  few = carried.few;
-  last = carried.last;
-  whole = λ c program was n is whole.
-      let count : length partition ≡ unit_count c.stages = grind (arith, nat_tests) in
-      let at = subst (λ e. AreCarried e partition b (unit_count c.stages) left now) (whole.machine.blocks.cut.stages 0 (omega arith)) (rw (all, count) at carried) in
-      dealt c program was n b whole partition left now at count;
-}
-
-pub ruleset more_empty = (common_steps, replicate-append-replicate)
+pub same_cut : {c : Settings} {program : List Instr} {was : List ℕ} {n : ℕ} {bs : List BlockState} {partition : List ℕ} {b left : BlockState} {now : List BlockState} {d u : ℕ} → AreWhole c program was n bs → bs ≡ b ∷ [] → AreCarried d partition b u left now → d ≡ c.stages → u ≡ length partition → is_partition c partition ≡ true
+    → MakeUp c program partition n (machine_in c was n bs) now
+same_cut {c = c} {partition = partition} whole only carried stages all is =
+    let count : length partition ≡ unit_count c.stages = grind (arith, nat_tests) in
+    rw only (dealt c _ _ _ _ (rw only at whole) partition _ _ (rw (all, count, stages) at carried) count)

@@ -1,9 +1,8 @@
--- the units of a machine before its first cycle, all in one block
-use Rattle.std.specs.Prelude.{ℕ, ◌+◌, ◌*◌, List, None, replicate}
+-- the units of a machine before its first cycle
+use Rattle.std.specs.Prelude.{ℕ, ◌+◌, ◌*◌, List, None}
 use Rattle.ultra_mem.specs.Serve.{Bank}
 use Rattle.ultra_isa.specs.Step.{fresh_core}
 use Rattle.ultra_model.specs.{Machine.Settings, Machine.given_value, Machine.site, Machine.size, Places.places}
-use Rattle.ultra_units.specs.Numbers.{unit_count}
 use Rattle.ultra_pni.specs.Interface.{empty_interface}
 use Rattle.ultra_halves.specs.declared.elements.ProcessingElement.{ProcessingElement}
 
@@ -26,7 +25,3 @@ module _ (c : Settings) where
     interface = record { interface = empty_interface; most_open = c.most_open };
     issued = 0;
   }
-
--- the partition of a machine of d stages that puts all units into block 0
-abbrev pub all_in_one : ℕ → List ℕ
-all_in_one d = replicate (unit_count d) 0

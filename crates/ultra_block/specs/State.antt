@@ -6,7 +6,7 @@ use Rattle.ultra_section.specs.BlockState.{BlockState}
 use Rattle.ultra_cut.specs.{Events.event_rank, Moments.AreWhole, Moments.machine_in}
 use Rattle.ultra_msg.specs.declared.Event.{Event}
 use Rattle.ultra_merge.specs.Merging.{Remainder, merged}
-use Rattle.ultra_block.specs.{declared.parts.Parts.Parts, declared.ranks.ByElement.ByElement, declared.ranks.ByRules.ByRules}
+use Rattle.ultra_block.specs.{declared.blocks.Parts.Parts, declared.ranks.ByElement.ByElement, declared.ranks.ByRules.ByRules}
 
 -- its settings, its program, the block of each unit, how many blocks there are, and the machine of
 -- the definition, which is the same for every partition

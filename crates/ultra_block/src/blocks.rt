@@ -1,17 +1,17 @@
 //! The whole machine, cut into blocks.
 
-ghost use Rattle.std.specs.Prelude.{◌≡◌, ◌-◌, ◌^◌, ◌<◌, ◌↔◌, ◌==◌, false, length, true, IfErr, IfOk, IsErrOf, OnOk};
+ghost use Rattle.std.specs.Prelude.{◌≡◌, ◌-◌, ◌^◌, ◌<◌, ◌↔◌, ◌==◌, false, length, replicate, true, IfErr, IfOk, IsErrOf, OnOk};
 ghost use Rattle.ultra_model.specs.{Machine.bank_at, Machine.element_at, Machine.is_quiet, Machine.lane_at, Machine.replies_at, Machine.site, Machine.start, Phases.cycle as next_cycle};
-ghost use Rattle.ultra_cut.specs.{Cut.is_partition, Holding.holds};
+ghost use Rattle.ultra_units.specs.Numbers.{unit_count};
+ghost use Rattle.ultra_cut.specs.{Cut.block_at, Cut.home, Cut.is_partition, Holding.holds};
 ghost use Rattle.ultra_course.specs.Frame.{at_port};
-ghost use Rattle.ultra_block.specs.{Dealt.IsLastNamed, Fresh.all_in_one};
+ghost use Rattle.ultra_block.specs.{Dealt.IsLastNamed, State.AreParts, State.BlocksState, State.events_left, State.put_together, State.stops_left};
 ghost use Rattle.ultra_section.specs.Holding.{IsSetOf};
+ghost use Rattle.ultra_halves.specs.Elements.{element_of};
 
-use crate::building::fresh_block;
+use crate::building::{empty_blocks, fresh_block};
 use crate::cycle::make_cycle;
-use crate::dealing::deal;
-use crate::partition::{PartitionFault, count_units, names_all_units};
-use crate::parts::Parts;
+use crate::partition::{PartitionFault, count_blocks, count_units, names_all_units};
 use crate::ranks::{ByElement, ByRules};
 use std::alloc::{AllocError, Global};
 use std::marker::Model;
@@ -22,9 +22,35 @@ use ultra_mem::Module;
 use ultra_merge::Merge;
 use ultra_model::{Config, Stop};
 use ultra_msg::{Event, Pe};
-use ultra_section::Held;
+use ultra_section::{Block, Held};
 use ultra_switch::{Ports, ToMm, ToPe};
 use ultra_units::{UnitSet, element_number, module_number, switch_number};
+
+/// The parts of a machine in blocks, for those who make the halves of a cycle themselves.
+#[derive(Drop)]
+pub struct Parts {
+    /// The machine's settings.
+    pub config: Config,
+    /// Its program.
+    pub program: Program,
+    /// The block of each unit: switches first, then modules, then processing elements.
+    pub partition: Vec<u8>,
+    /// How many cycles it has made.
+    pub done: u32,
+    /// The blocks, by their numbers.
+    pub blocks: Vec<Block>,
+}
+
+impl Parts {
+    /// The block in which the unit with this number stands.
+    fn home_of(&self, unit: usize) -> &Block
+        requires whole { AreParts self.now }
+        requires unit { unit < unit_count self.now.config.stages }
+        ensures { result.now ≡ block_at self.now.blocks.items (home self.now.partition.items unit) }
+    {
+        &self.blocks[self.partition[unit] as usize]
+    }
+}
 
 /// A whole machine, cut into blocks, between two cycles: its settings, its program, the block in which each unit stands, and the blocks. Switches come first in the partition, then modules, then processing elements.
 ///
@@ -35,8 +61,6 @@ pub struct Blocks {
 }
 
 impl Model for Blocks {
-    ghost use Rattle.ultra_block.specs.State.{AreParts, BlocksState, put_together};
-
     ghost Value = { BlocksState };
 
     ghost view = { λ b. put_together b.parts };
@@ -46,9 +70,6 @@ impl Model for Blocks {
 
 #[tactic(auto, using(crate::proofs::Seen::parts_are))]
 impl Blocks {
-    ghost use Rattle.ultra_halves.specs.Elements.{element_of};
-    ghost use Rattle.ultra_block.specs.State.{AreParts, events_left, put_together, stops_left};
-
     /// The machine of these settings and this program before its first cycle, with all units in one block: all registers and cells are 0 but for the initial ones, and nothing is on its way.
     ///
     /// It keeps copies of its own. An error says that memory was refused.
@@ -57,7 +78,7 @@ impl Blocks {
         config: &Config,
         program: &Program,
     ) -> Result<Blocks, AllocError>
-        ensures { IfOk result (λ b. b ≡ record { config = config.now; program = program.now; partition = all_in_one config.now.stages; count = 1; machine = start config.now }) }
+        ensures { IfOk result (λ b. b ≡ record { config = config.now; program = program.now; partition = replicate (unit_count config.now.stages) 0; count = 1; machine = start config.now }) }
     {
         Ok(Blocks {
             parts: Parts {
@@ -109,10 +130,18 @@ impl Blocks {
         let Ok(homes) = Vec::from_slice(alloc, partition) else {
             return Err((self, PartitionFault::NoMemory));
         };
-        let mut parts = self.parts;
-        let Ok(blocks) = deal(alloc, partition, &mut parts.blocks[0]) else {
-            return Err((Blocks { parts }, PartitionFault::NoMemory));
+        let count = count_blocks(partition);
+        let Ok(mut blocks) = empty_blocks(alloc, &self.parts.blocks[0], count) else {
+            return Err((self, PartitionFault::NoMemory));
         };
+        let mut parts = self.parts;
+        let block = &mut parts.blocks[0];
+        // Block 0 gets the events and faults of the cycle.
+        blocks[0].take_story(block);
+        for unit in 0..partition.len() {
+            let home = partition[unit] as usize;
+            block.move_unit(unit, &mut blocks[home]);
+        }
         parts.partition = homes;
         parts.blocks = blocks;
         Ok(Blocks { parts })
@@ -253,9 +282,7 @@ impl Blocks {
         ensures requests { result.now.request_places ≡ self.now.config.request_places }
         ensures waits { result.now.wait_places ≡ self.now.config.wait_places }
     {
-        let net = self.parts.config.net();
-        let _even = net.size();
-        let number = switch_number(net, stage, position / 2);
+        let number = switch_number(self.parts.config.net(), stage, position / 2);
         let switch = self.parts.home_of(number).switch(number);
         at(&switch.to_mm, position % 2)
     }
@@ -267,9 +294,7 @@ impl Blocks {
         ensures state { result.now.replies ≡ replies_at self.now.machine stage position }
         ensures places { result.now.places ≡ self.now.config.reply_places }
     {
-        let net = self.parts.config.net();
-        let _even = net.size();
-        let number = switch_number(net, stage, position / 2);
+        let number = switch_number(self.parts.config.net(), stage, position / 2);
         let switch = self.parts.home_of(number).switch(number);
         at(&switch.to_pe, position % 2)
     }

@@ -1,9 +1,11 @@
-//! The units of a machine before its first cycle.
+//! The units of a machine before its first cycle, and blocks without units.
 
-ghost use Rattle.std.specs.Prelude.{◌≡◌, ◌^◌, ◌<◌, ◌∷◌, [], IfOk};
+ghost use Rattle.std.specs.Prelude.{◌≡◌, ◌^◌, ◌<◌, ◌∷◌, [], IfOk, All, length, replicate};
+ghost use Rattle.ultra_units.specs.Numbers.{unit_count};
+ghost use Rattle.ultra_section.specs.Building.{empty_block};
 ghost use Rattle.ultra_course.specs.Whole.{empty_switch};
 ghost use Rattle.ultra_model.specs.Machine.{start};
-ghost use Rattle.ultra_block.specs.{Fresh.all_in_one, Fresh.first_bank, Fresh.first_element, State.MakeUp};
+ghost use Rattle.ultra_block.specs.{Fresh.first_bank, Fresh.first_element, State.MakeUp};
 
 use std::alloc::{AllocError, Global};
 use ultra_halves::ProcessingElement;
@@ -64,7 +66,7 @@ pub(crate) fn fresh_block(
     config: &Config,
     program: &Program,
 ) -> Result<Block, AllocError>
-    ensures { IfOk result (λ b. MakeUp config.now program.now (all_in_one config.now.stages) 0 (start config.now) (b ∷ [])) }
+    ensures { IfOk result (λ b. MakeUp config.now program.now (replicate (unit_count config.now.stages) 0) 0 (start config.now) (b ∷ [])) }
 {
     let _initial = config.initial();
     let net = config.net();
@@ -79,4 +81,17 @@ pub(crate) fn fresh_block(
         block.put_element(pe, new_element(config, pe));
     }
     Ok(block)
+}
+
+/// `count` blocks without units of the machine of this block, after as many cycles. An error says that memory was refused.
+pub(crate) fn empty_blocks(
+    alloc: Global,
+    block: &Block,
+    count: usize,
+) -> Result<Vec<Block>, AllocError>
+    ensures { IfOk result (λ v. (length v.items ≡ count) × All (λ b. b ≡ record (empty_block block.now.stages block.now.program) { done = block.now.done }) v.items) }
+{
+    (0..count)
+        .map(|_| Block::empty_after(alloc, block.net(), block.program(), block.done()))
+        .try_collect(alloc)
 }

@@ -16,11 +16,10 @@ pub(crate) fn make_cycle(blocks: &mut [Block], config: &Config, partition: &[u8]
     requires counted { done < 2 ^ 32 - 1 }
     ensures { MakesCycle config.now partition.now done blocks.old blocks.new }
 {
-    if let [block] = blocks {
-        make_cycle_of_one(block);
-        return;
+    match blocks {
+        [block] => make_cycle_of_one(block),
+        _ => make_cycle_of_several(blocks, config, partition, done),
     }
-    make_cycle_of_several(blocks, config, partition, done);
 }
 
 /// Blocks, however many, make a cycle. All make a half before any makes the next, and between the two halves of a phase each message goes to the block of the unit to which it leads. It stands apart so that a machine in one block makes no room for what is noted here.
@@ -59,7 +58,7 @@ fn make_cycle_of_one(block: &mut Block)
 
 /// Every block makes this half of a cycle, with the rooms that were noted before it. Each block has to meet the half's conditions.
 #[inline(always)]
-#[tactic(auto, using(crate::proofs::Seen::each_can))]
+#[tactic(auto, using(ultra_section::proofs::OwnProgram::can_by_own, std::proofs::lemmas::List::get_or_default, std::proofs::lemmas::Grind::common_steps))]
 fn make(blocks: &mut [Block], half: Half, rooms: &Rooms)
     requires { (program : List Instr) × AllCanMake program half blocks.old }
     ensures { blocks.new ≡ all_made_own half rooms.now blocks.old }

@@ -4,14 +4,11 @@
 mod blocks;
 mod building;
 mod cycle;
-mod dealing;
 mod partition;
-mod parts;
 mod ranks;
 
-pub use blocks::Blocks;
+pub use blocks::{Blocks, Parts};
 pub use partition::{MOST_BLOCKS, PartitionFault, count_units};
-pub use parts::Parts;
 pub use ranks::{ByElement, ByRules};
 pub use ultra_cut::{Kind, exchange, note_rooms};
 pub use ultra_section::{Block, Half, Held, Rooms};

@@ -1,9 +1,10 @@
 //! Partitions, which name the block of each unit.
 
-ghost use Rattle.std.specs.Prelude.{◌≡◌, ℕ, ◌≤◌, nat_lt};
+ghost use Rattle.std.specs.Prelude.{◌≡◌, ℕ, ◌<◌, ◌≤◌, All, nat_lt};
+ghost use Rattle.std.specs.List.{list_all};
 ghost use Rattle.ultra_units.specs.Numbers.{unit_count};
 ghost use Rattle.ultra_cut.specs.Cut.{is_partition};
-ghost use Rattle.std.specs.List.{list_all};
+ghost use Rattle.ultra_block.specs.Dealt.{IsLastNamed};
 
 use std::alloc::AllocError;
 use thiserror::Error;
@@ -41,6 +42,14 @@ pub fn count_units(config: &Config) -> usize
 {
     let net = config.net();
     switch_count(net) + 2 * net.size() as usize
+}
+
+/// How many blocks a partition makes: one more than the greatest number in it, and at least one.
+pub(crate) fn count_blocks(partition: &[u8]) -> usize
+    ensures named { All (λ b. b < result) partition.now }
+    ensures last { IsLastNamed partition.now result }
+{
+    partition.iter().max().map_or(1, |last| *last as usize + 1)
 }
 
 /// Whether each is a block from 0 to 63.

@@ -1,6 +1,6 @@
 -- the numbers of switches, the machine that the units of a frame make up, place by place, and lists joined by the switches
 use Rattle.std.proofs.Common.{◌≡◌, ℕ, zero, suc, ◌+◌, ◌*◌, ◌-◌, ◌/◌, ◌%◌, ◌^◌, ◌<◌, List, [], refl, arith, ap, ◌∷◌, ◌++◌, sym, append_assoc, append-nil}
-use Rattle.ultra_course.proofs.Common.{sizes, places, table, joined, size, lane_at, replies_at, bank_at, element_at, switch_number, switch_count, element_of, Frame, AreAlike, at_port, Switch, at_switch, Event, Stop, sized_lane, sized_replies, Settings, Machine, Lane, ReplyMessage, Element, div-mul-add, mod-mul-add, mul-add-lt}
+use Rattle.ultra_course.proofs.Common.{sizes, places, table, joined, size, lane_at, replies_at, bank_at, element_at, switch_number, switch_count, element_of, Frame, AreAlike, at_port, Switch, at_switch, Event, Stop, sized_lane, sized_replies, Settings, Lane, ReplyMessage, Element, div-mul-add, mod-mul-add, mul-add-lt}
 use Rattle.std.proofs.lemmas.Grind.{common_steps}
 use Rattle.std.proofs.lemmas.List.{ext_get_or}
 use Rattle.ultra_model.specs.Ranges.{AreInRange}
@@ -18,30 +18,23 @@ number_small d s k hs hk = grind (arith, mul-add-lt)
 pub same_places : {X : Type 0} (n : ℕ) (f g : ℕ → X) → ((k : ℕ) → k < n → f k ≡ g k) → places n f ≡ places n g
 same_places n f g h = ext_get_or (f 0) (places n f) (places n g) (grind (arith, length-places)) (grind (arith, length-places, places_at))
 
-pub same_table : {X : Type 0} (m n : ℕ) (f g : ℕ → ℕ → X) → ((s x : ℕ) → s < m → x < n → f s x ≡ g s x) → table m n f ≡ table m n g
-same_table m n f g h = same_places m _ _ (λ s l. same_places n _ _ (λ x k. h s x l k))
-
-module _ (c : Settings) (range : AreInRange c) where
-  pub size_is : 2 * 2 ^ (c.stages - 1) ≡ size c
-  size_is = (sizes c.stages range.some_stages range.most_stages).0
+pub size_is : (c : Settings) → AreInRange c → 2 * 2 ^ (c.stages - 1) ≡ size c
+size_is c range = (sizes c.stages range.some_stages range.most_stages).0
 
 module _ (c : Settings) (f : Frame) (n : ℕ) (events : List Event) (stops : List Stop) where
-  abbrev m : Machine
-  m = whole c f n events stops
-
-  pub lane_is : (s x : ℕ) → s < c.stages → x < size c → lane_at m s x ≡ (sized_lane c f s x).lane
+  pub lane_is : (s x : ℕ) → s < c.stages → x < size c → lane_at (whole c f n events stops) s x ≡ (sized_lane c f s x).lane
   unfolding whole
   lane_is s x hs hx = table_at _ _ _ s x _ hs hx
 
-  pub replies_is : (s y : ℕ) → s < c.stages → y < size c → replies_at m s y ≡ (sized_replies c f s y).replies
+  pub replies_is : (s y : ℕ) → s < c.stages → y < size c → replies_at (whole c f n events stops) s y ≡ (sized_replies c f s y).replies
   unfolding whole
   replies_is s y hs hy = table_at _ _ _ s y _ hs hy
 
-  pub bank_is : (k : ℕ) → k < size c → bank_at m k ≡ f.bank k
+  pub bank_is : (k : ℕ) → k < size c → bank_at (whole c f n events stops) k ≡ f.bank k
   unfolding whole
   bank_is k h = places_at _ _ k _ h
 
-  pub element_is : (p : ℕ) → p < size c → element_at m p ≡ element_of (f.element p)
+  pub element_is : (p : ℕ) → p < size c → element_at (whole c f n events stops) p ≡ element_of (f.element p)
   unfolding whole
   element_is p h = places_at _ _ p _ h
 
@@ -49,23 +42,16 @@ module _ (c : Settings) (f : Frame) (n : ℕ) (events : List Event) (stops : Lis
   pub whole_is : {happened : List Event} {stopped : List Stop} {lanes : ℕ → ℕ → Lane} {replies : ℕ → ℕ → List ReplyMessage} {banks : ℕ → Bank} {elements : ℕ → Element}
       → ((s x : ℕ) → s < c.stages → x < size c → (sized_lane c f s x).lane ≡ lanes s x) → ((s y : ℕ) → s < c.stages → y < size c → (sized_replies c f s y).replies ≡ replies s y)
       → ((k : ℕ) → k < size c → f.bank k ≡ banks k) → ((p : ℕ) → p < size c → element_of (f.element p) ≡ elements p) → events ≡ happened → stops ≡ stopped
-      → m ≡ record { lanes = table c.stages (size c) lanes; replies = table c.stages (size c) replies; banks = places (size c) banks; elements = places (size c) elements; cycles = n; events = happened; stops = stopped }
+      → whole c f n events stops ≡ record { lanes = table c.stages (size c) lanes; replies = table c.stages (size c) replies; banks = places (size c) banks; elements = places (size c) elements; cycles = n; events = happened; stops = stopped }
   unfolding whole
-  whole_is lanes replies banks elements events stops =
-      let lanes = same_table _ _ _ _ lanes in
-      let replies = same_table _ _ _ _ replies in
-      let banks = same_places _ _ _ banks in
-      let elements = same_places _ _ _ elements in
-      cc
+  whole_is lanes replies banks elements events stops = cc (same_places _ _ _ (λ s hs. same_places _ _ _ (λ x hx. lanes s x hs hx)), same_places _ _ _ (λ s hs. same_places _ _ _ (λ y hy. replies s y hs hy)), same_places _ _ _ banks, same_places _ _ _ elements)
 
 -- ---- frames that are alike
-pub alike_at : {X : Type 0} {d : ℕ} (two : 2 * 2 ^ (d - 1) ≡ 2 ^ d) {f g : Frame} → AreAlike d f g → (h : Switch → X) (s x : ℕ) → s < d → x < 2 ^ d → (let q = switch_number d s (x / 2) in h (f.switch q) ≡ h (g.switch q))
-alike_at {d = d} two a h s x hs hx = ap h (a.switches _ (number_small d s (x / 2) hs (omega arith)))
-
 pub whole_alike : (c : Settings) (range : AreInRange c) (f g : Frame) → AreAlike c.stages f g → (n : ℕ) (events : List Event) (stops : List Stop) → whole c f n events stops ≡ whole c g n events stops
 unfolding whole
 whole_alike c range f g a n events stops =
-    whole_is c f n events stops (λ s x. alike_at (size_is c range) a (λ w. (at_port w.to_mm (x % 2)).lane) s x) (λ s y. alike_at (size_is c range) a (λ w. (at_port w.to_pe (y % 2)).replies) s y)
+    let same = λ (s x : ℕ) (hs : s < c.stages) (hx : x < size c). a.switches _ (number_small c.stages s (x / 2) hs (omega (arith, size_is c range))) in
+    whole_is c f n events stops (λ s x hs hx. ap (λ (w : Switch). (at_port w.to_mm (x % 2)).lane) (same s x hs hx)) (λ s y hs hy. ap (λ (w : Switch). (at_port w.to_pe (y % 2)).replies) (same s y hs hy))
     a.banks (λ p hp. ap element_of (a.elements p hp)) refl refl
 
 -- ---- a table of lists by stage and position, joined, and the same by the numbers of the switches
@@ -84,19 +70,13 @@ joined_next g i n e = grind (arith, places_more, joined-append, append-nil)
 pub joined_split : {X : Type 0} (n k : ℕ) (g : ℕ → List X) → joined (places (n + k) g) ≡ joined (places n g) ++ joined (places k (λ i. g (n + i)))
 joined_split n zero g = grind (arith, append-nil, joined_none)
 joined_split n (suc k) g =
-    let next = joined_next g (n + suc k) (n + k) (omega arith) in
-    let last = joined_next (λ i. g (n + i)) (suc k) k (omega arith) in
-    let split = joined_split n k g in
-    grind (arith, append_assoc)
+    grind (arith, append_assoc, joined_split n k g, joined_next g (n + suc k) (n + k) (omega arith), joined_next (λ i. g (n + i)) (suc k) k (omega arith))
 
 -- two by two
 in_pairs : {X : Type 0} (g : ℕ → List X) (n : ℕ) → joined (places (2 * n) g) ≡ joined (places n (λ k. g (2 * k) ++ g (2 * k + 1)))
 in_pairs g zero = grind (arith, joined_none)
 in_pairs g (suc n) =
-    let even = joined_next g (2 * n + 1) (2 * n) refl in
-    let odd = joined_next g (2 * suc n) (2 * n + 1) (omega arith) in
-    let pair = joined_next (λ k. g (2 * k) ++ g (2 * k + 1)) (suc n) n (omega arith) in
-    grind (arith, append_assoc, in_pairs g n)
+    grind (arith, append_assoc, in_pairs g n, joined_next g (2 * n + 1) (2 * n) refl, joined_next g (2 * suc n) (2 * n + 1) (omega arith), joined_next (λ k. g (2 * k) ++ g (2 * k + 1)) (suc n) n (omega arith))
 
 module _ {X : Type 0} (d : ℕ) (two : 2 * 2 ^ (d - 1) ≡ 2 ^ d) (g : ℕ → ℕ → List X) where
   abbrev numbered : ℕ → List X
@@ -105,8 +85,5 @@ module _ {X : Type 0} (d : ℕ) (two : 2 * 2 ^ (d - 1) ≡ 2 ^ d) (g : ℕ → �
   pub regroup : (m : ℕ) → joined (joined (table m (2 ^ d) g)) ≡ joined (places (m * 2 ^ (d - 1)) numbered)
   regroup zero = let none = joined_none numbered in rw (joined_none (λ s. places (2 ^ d) (λ x. g s x))) (grind arith)
   regroup (suc r) =
-      let rows = joined_next (λ s. places (2 ^ d) (g s)) (suc r) r (omega arith) in
-      let row = rw two at (in_pairs (g r) (2 ^ (d - 1))) in
       let here = same_places _ _ _ (λ k hk. sym (at_number d (λ s k. g s (2 * k) ++ g s (2 * k + 1)) r k hk)) in
-      let split = joined_split (r * 2 ^ (d - 1)) (2 ^ (d - 1)) numbered in
-      grind (arith, joined-append, regroup r)
+      grind (arith, joined-append, regroup r, rw two at (in_pairs (g r) (2 ^ (d - 1))), joined_next (λ s. places (2 ^ d) (g s)) (suc r) r (omega arith), joined_split (r * 2 ^ (d - 1)) (2 ^ (d - 1)) numbered)

@@ -1,7 +1,7 @@
 -- The words and lemmas of the crates below and of this one that proofs here use. Those of std's `Common` come from there.
 pub use Rattle.std.proofs.lemmas.Nat.{div-mul-add, mod-mul-add, mul-add-lt, pow_pos}
 pub use Rattle.ultra_halves.specs.Elements.{element_of}
-pub use Rattle.ultra_halves.specs.Halves.{going_by, lane_after_reply, lane_with, lane_without, ports, ports_by, where_room, zip_ports}
+pub use Rattle.ultra_halves.specs.Halves.{going_by, lane_after_reply, lane_with, lane_without, ports, where_room}
 pub use Rattle.ultra_mem.specs.Serve.{serve, served}
 pub use Rattle.ultra_model.specs.Machine.{Element, bank_at, element_at, lane_at, last_stage, replies_at, request_exit, size}
 pub use Rattle.ultra_model.specs.Places.{joined, places, present, table}

@@ -27,14 +27,8 @@ module _ (c : Settings) (f : Frame) where
     stops = stops;
   }
 
--- a switch with nothing in it, and the one of a machine's sizes
-abbrev pub emptied : Switch → Switch
-emptied w = record {
-  to_mm = map_ports (λ l. empty_requests l.request_places l.wait_places) w.to_mm;
-  to_pe = map_ports (λ q. empty_replies q.places) w.to_pe;
-}
-
 module _ (c : Settings) where
+  -- a switch with nothing in it
   abbrev pub empty_switch : Switch
   empty_switch =
       let lane = empty_requests c.request_places c.wait_places in
@@ -44,7 +38,11 @@ module _ (c : Settings) where
   -- each unit has the settings' sizes; after n cycles a processing element has issued at most a
   -- request in each
   pub record Fits (n : ℕ) (f : Frame) : Type 0 where
-    pub switches : (k : ℕ) → k < switch_count c.stages → emptied (f.switch k) ≡ empty_switch
+    pub switches : (k : ℕ) → k < switch_count c.stages
+        → (let w = f.switch k in record {
+          to_mm = map_ports (λ l. empty_requests l.request_places l.wait_places) w.to_mm;
+          to_pe = map_ports (λ q. empty_replies q.places) w.to_pe;
+        }) ≡ empty_switch
     pub cells : (k : ℕ) → k < size c → length (f.bank k).cells ≡ c.cells
     pub sites : (p : ℕ) → p < size c → (f.element p).processor.site ≡ site c p
     pub most_open : (p : ℕ) → p < size c → (f.element p).interface.most_open ≡ c.most_open

@@ -5,7 +5,7 @@ pub use Rattle.std.proofs.lemmas.Grind.{common_steps}
 pub use Rattle.std.proofs.lemmas.List.{append-nil, ext_get_or, get_or-append_right, get_or-map, get_or_append_left, get_or_default, get_or_past, length-map, length-set, set-get_or}
 pub use Rattle.std.proofs.lemmas.List.Elements.{All-from_get_or, All-from_recursion, filter-append}
 pub use Rattle.std.specs.List.{AllByRecursion, list_all, list_any, range_with_len}
-pub use Rattle.ultra_course.proofs.AtFrame.{at_number, bank_is, element_is, joined_next, joined_none, joined_split, lane_is, number_small, replies_is, same_places}
+pub use Rattle.ultra_course.proofs.AtFrame.{at_number, bank_is, element_is, joined_next, joined_none, lane_is, number_small, replies_is, same_places}
 pub use Rattle.ultra_course.specs.Course.{Event, Instr, Stop, on_links, pending_head}
 pub use Rattle.ultra_course.specs.Frame.{AreAlike, Bank, Frame, IsClear, Ports, ProcessingElement, ReplyMessage, Request, Switch}
 pub use Rattle.ultra_course.specs.Whole.{IsFrameOf, Machine, Settings}
@@ -24,7 +24,7 @@ pub use Rattle.ultra_section.proofs.OfKind.{by_kind, element_stands, module_stan
 pub use Rattle.ultra_section.proofs.Put.{has_places, places_of, places_twice, put_apart, put_or, put_there}
 pub use Rattle.ultra_section.proofs.Readers.{AreRead, are_read, each_network, replies_read, replies_to_switch, reply_reader, reply_to_element, request_reader, request_to_module, requests_read, requests_to_switch}
 pub use Rattle.ultra_section.proofs.Standing.{is_switch, unit_is, unit_of_element, unit_of_module, unit_of_switch}
-pub use Rattle.ultra_section.specs.Away.{AllStayWithin, AreEmpty, put_on_both, reply_inlets, request_inlets, stands, taken_by_turns}
+pub use Rattle.ultra_section.specs.Away.{AllStayWithin, AreEmpty, reply_inlets, request_inlets, stands}
 pub use Rattle.ultra_section.specs.BlockState.{module_at, switch_at}
 pub use Rattle.ultra_section.specs.Holding.{element_holds, holds_at, module_holds, switch_holds}
 pub use Rattle.ultra_section.specs.Marks.{delivery_link, memory_link, on_both, on_link, reply_links, request_links}
@@ -39,7 +39,7 @@ pub use Rattle.ultra_units.specs.Numbers.{element_number, module_number, place_n
 pub use Rattle.ultra_units.specs.Set.{has_unit}
 pub use Rattle.ultra_cut.specs.Cut.{BlockState, IsCut, block_at, first, frame_of, given, home, no_block, no_element, no_switch}
 pub use Rattle.ultra_cut.specs.Events.{event_rank, events_of, stop_rank, stops_of}
-pub use Rattle.ultra_cut.specs.Exchange.{AreSingle, AreThere, HasNoneFor, Kind, MessageOf, OnlyMove, Replies, Requests, carried, inlets, message_on, moved, on_each, table, with_table}
+pub use Rattle.ultra_cut.specs.Exchange.{AreSingle, AreThere, HasNoneFor, Kind, MessageOf, OnlyMove, Replies, Requests, carried, inlets, message_on, on_each, table, with_table}
 pub use Rattle.ultra_cut.specs.Halves.{AllCanMake, AreBlocks, AreBlocksAfter, AreMerged, AreNamed, AreReady, AreRooms, CanMakeLaw, CanMakeTogether, Execute, Half, HalfLaw, HasHalfRoom, HaveMade, HaveLeft, HaveStopped, InRanks, MergedLaw, OfEach, SendReplies, SendRequests, Serve, TakeReplies, TakeRequests, all_made, all_made_own, cycles_made, events_in, first_rank, frame_after, listed_before, rank_after}
 pub use Rattle.ultra_cut.specs.Holding.{IsSetOfAll, holds, stage_holds}
-pub use Rattle.ultra_cut.specs.Moments.{AreRoomsOfAll, AreWhole, machine_in}
+pub use Rattle.ultra_cut.specs.Moments.{AreMachine, AreRoomsOfAll, AreWhole, machine_in}

@@ -2,29 +2,15 @@
 -- unit. All blocks become the machine after the half: messages leave switches and the units at the start of the way, and are
 -- taken by switches and the units at its end; else each unit works by itself. What the blocks list is what happens to the
 -- machine. And each block may make a half where the whole machine may, and it has memory for the events.
-use Rattle.std.proofs.Common.{nat_lt, true, false, ◌≡◌, ◌≢◌, ℕ, ◌+◌, ◌<◌, ◌≤◌, List, ◌++◌, map, Option, Some, None, length, arith, ◌-◌, ◌*◌, ◌/◌, ◌^◌, inl, inr, ◌∙◌, zero, suc, [], refl, sym, ap, ◌∷◌, set, get_or-set_other}
-use Rattle.ultra_cut.proofs.Common.{sizes, unit_of_element, unit_of_module, unit_of_switch, AreNamed, HalfLaw, HaveStopped, AreMerged, events_in, event_rank, stop_rank, length-map, get_or_past, set-get_or, append-nil, cases_lt, switch_count, place_number, unit_count, ports, where_room, IsShaped, stage_of, index_of, unit_of, IsUnit, on_link, AreEmpty, is_switch, unit_is, has_places, places_of, places_twice, put_or, on_links, Event, Instr, Stop, pending_head, block_at, frame_of, given, home, first, BlockState, AreBlocks, AreBlocksAfter, cycles_made, listed_before, first_rank, rank_after, Half, all_made, AllCanMake, CanMakeLaw, AreAlike, all_made_own, AreReady, CanMakeTogether, HaveLeft, OfEach, HasHalfRoom, frame_after, Frame, SendReplies, TakeReplies, Serve, SendRequests, TakeRequests, Execute, AreSingle, MessageOf, inlets, message_on, on_each, table, with_table, AreThere, Kind, Replies, Requests, Switch, Ports, serve, served, present, without_reply, delivery, serving, issue_event, stop_of, after_replies, after_requests, replies_leaving, request_heads, requests_leaving, without_replies, without_requests, combinations_of, bank_with, delivered_to, element_without, executed, element_of, step_at, Rooms as BlockRooms, replies_to_switch, reply_reader, reply_to_element, request_reader, request_to_module, requests_to_switch}
-use Rattle.ultra_section.proofs.Few.{two_combine, room_for_half}
-use Rattle.ultra_section.proofs.Once.{entries_before, same_visits}
-use Rattle.ultra_cut.proofs.{Columns.changed_at, Columns.column_first, Columns.column_none, Columns.column_empty, Columns.same_entries, Units.few_units, Units.Sort, Units.at_home, Units.away, Units.elements, Units.home_small, Units.modules, Units.switches, Units.here, Moved.by_inlets, Moved.end_link, Moved.end_number, Moved.leads_to, Moved.links, Moved.links_of, Moved.none_among, Moved.none_past, Moved.reader, Moved.end_there, Moved.switch_there}
-use Rattle.ultra_cut.proofs.Happenings.{combinations_ranked, joined_present, listed_behind, nothing_listed, part, same_listed, units_list_nothing}
+use Rattle.std.proofs.Common.{nat_lt, true, false, ◌≡◌, ◌≢◌, ℕ, ◌+◌, ◌<◌, ◌≤◌, List, ◌++◌, map, Option, Some, None, length, arith, ◌-◌, ◌*◌, ◌/◌, ◌^◌, inl, inr, ◌∙◌, [], refl, sym, ap, ◌∷◌, get_or-set_other}
+use Rattle.ultra_cut.proofs.Common.{sizes, unit_of_element, unit_of_module, unit_of_switch, AreNamed, HalfLaw, HaveStopped, AreMerged, events_in, event_rank, stop_rank, length-map, get_or_past, append-nil, cases_lt, switch_count, place_number, unit_count, ports, where_room, IsShaped, stage_of, index_of, unit_of, IsUnit, AreEmpty, is_switch, unit_is, has_places, places_of, places_twice, put_or, on_links, Event, Instr, Stop, pending_head, block_at, frame_of, given, home, first, BlockState, AreBlocks, AreBlocksAfter, cycles_made, listed_before, first_rank, rank_after, Half, all_made, AllCanMake, CanMakeLaw, AreAlike, all_made_own, AreReady, CanMakeTogether, HaveLeft, OfEach, HasHalfRoom, frame_after, Frame, SendReplies, TakeReplies, Serve, SendRequests, TakeRequests, Execute, AreSingle, MessageOf, inlets, message_on, on_each, table, with_table, AreThere, Kind, Replies, Requests, Switch, Ports, serve, served, present, without_reply, delivery, serving, issue_event, stop_of, after_replies, after_requests, replies_leaving, request_heads, requests_leaving, without_replies, without_requests, combinations_of, bank_with, delivered_to, element_without, executed, element_of, step_at, Rooms as BlockRooms, replies_to_switch, reply_reader, reply_to_element, request_reader, request_to_module, requests_to_switch}
+use Rattle.ultra_section.proofs.{Few.two_combine, Few.room_for_half, Once.entries_before, Once.same_visits, OwnProgram.made_by_own, Acts.Act, Acts.Acts, Acts.AllActed, Acts.AreFair, Acts.Seen, Acts.act, Acts.after_act, Acts.all_acted, Acts.end_puts, Acts.event_entries, Acts.on_one, Acts.on_two, Acts.stop_entries, Acts.switch_puts, Acts.on_links_after, Visited.same_entry}
+use Rattle.ultra_cut.proofs.{Columns.changed_at, Columns.column_first, Columns.column_none, Columns.column_empty, Columns.same_entries, Units.few_units, Units.Sort, Units.at_home, Units.away, Units.elements, Units.home_small, Units.modules, Units.switches, Units.here, Moved.by_inlets, Moved.end_link, Moved.end_number, Moved.leads_to, Moved.links, Moved.links_of, Moved.none_among, Moved.none_past, Moved.reader, Moved.end_there, Moved.switch_there, Happenings.combinations_ranked, Happenings.joined_present, Happenings.listed_behind, Happenings.nothing_listed, Happenings.part, Happenings.same_listed, Happenings.units_list_nothing}
 use Rattle.ultra_course.specs.Course as course
 use Rattle.ultra_units.specs.declared.unit.Unit.{Unit as UnitName}
-use Rattle.ultra_section.specs.RequestsSent.{has_way_from_element, request_ways, sends_requests}
-use Rattle.ultra_section.specs.RepliesSent.{begun, has_way_from_module, reply_ways, sends_replies}
-use Rattle.ultra_section.specs.Execution.{UnitCanExecute, counted, executes}
-use Rattle.ultra_section.specs.Making.{made}
-use Rattle.ultra_section.specs.RepliesTaken.{UnitCanTakeReplies, takes_replies}
-use Rattle.ultra_section.specs.RequestsTaken.{UnitCanTakeRequests, takes_requests}
-use Rattle.ultra_section.proofs.OwnProgram.{made_by_own}
+use Rattle.ultra_section.specs.{RequestsSent.has_way_from_element, RequestsSent.request_ways, RequestsSent.sends_requests, RepliesSent.begun, RepliesSent.has_way_from_module, RepliesSent.reply_ways, RepliesSent.sends_replies, Execution.counted, Execution.executes, Making.made, Making.own_made, RepliesTaken.UnitCanTakeReplies, RepliesTaken.takes_replies, RequestsTaken.UnitCanTakeRequests, RequestsTaken.takes_requests, Serving.serves, Rooms.all_open}
 use Rattle.ultra_units.specs.declared.unit.Unit.TheVariants as unit
-use Rattle.ultra_section.proofs.Acts.{Act, Acts, AllActed, AreFair, IsWhole, Seen, act, after_act, all_acted, end_puts, event_entries, on_one, on_two, stop_entries, switch_puts, on_links_after}
-use Rattle.ultra_section.proofs.Visited.{same_entry}
-use Rattle.ultra_units.specs.Inlets.{at_both}
-use Rattle.ultra_section.specs.Serving.{serves}
-use Rattle.ultra_section.specs.Links.{put_on}
-use Rattle.ultra_section.specs.Rooms.{all_open}
-use Rattle.ultra_units.specs.Visits.{after_units}
+use Rattle.ultra_units.specs.{Inlets.at_both}
 
 -- ---- what units do, and list
 -- its links don't matter
@@ -33,6 +19,9 @@ works f events stops = record { at = λ i. None; unit = λ i x on. f x; links = 
 
 abbrev pub idle : {L X : Type 0} → Act L X
 idle = works (λ x. x) (λ i x. []) (λ i x. [])
+
+abbrev pub all_idle : {M : Type 0} → Acts M
+all_idle = record { switch = idle; bank = idle; element = idle }
 
 module _ {M : Type 0} (d : ℕ) where
   -- what a switch sends is put on its links, and it is left without that; and so at the start of the way
@@ -103,16 +92,11 @@ module _ (d : ℕ) (partition : List ℕ) (bs : List BlockState) (blocks : AreBl
     abbrev sender : ℕ → ℕ
     sender l = home partition (elim (nat_lt l (d * 2 ^ d)) [ true ↦ l / 2 | false ↦ starts.number d (l - d * 2 ^ d) ])
 
-    pub record IsAlone (l : ℕ) : Type 0 where
-      pub within : sender l < length changed
-      pub here : message_on kind l (block_at changed (sender l)) ≡ sent_on l
-      pub away : (k : ℕ) → k < length changed → k ≢ sender l → message_on kind l (block_at changed k) ≡ None
-
-    alone : (l : ℕ) → l < (d + 1) * 2 ^ d → IsAlone l
+    alone : (l : ℕ) → l < (d + 1) * 2 ^ d
+        → record { within : sender l < length changed; here : message_on kind l (block_at changed (sender l)) ≡ sent_on l; away : (k : ℕ) → k < length changed → k ≢ sender l → message_on kind l (block_at changed k) ≡ None }
     alone l small_link = elim (cases_lt l (d * 2 ^ d)) [
       | inl h ↦
-          let twice = places_twice d blocks.some_stages blocks.few_stages in
-          let small : l / 2 < switch_count d = omega arith in
+          let small : l / 2 < switch_count d = omega (arith, places_twice d blocks.some_stages blocks.few_stages) in
           let it = switches_act (l / 2) small in
           let place = has_places d (l / 2) _ _ blocks.some_stages blocks.few_stages (is_switch d (l / 2) small) in
           grind (arith, nothing, changed_at, length-map)
@@ -124,10 +108,12 @@ module _ (d : ℕ) (partition : List ℕ) (bs : List BlockState) (blocks : AreBl
     sent : ((l : ℕ) → l < (d + 1) * 2 ^ d → first (on_each kind changed l) ≡ sent_on l) × AreSingle kind changed
     sent = (
       λ l h. let it = alone l h in column_first (message_on kind l) changed _ it.within it.away ∙ it.here,
-      λ l i j other there. elim (cases_lt l ((d + 1) * 2 ^ d)) [
-        | inl within ↦ let it = alone l within in grind (arith, none_past)
-        | inr past ↦ grind (arith, none_past, get_or_past, links_of)
-      ],
+      record {
+        alone = λ l i j other there. elim (cases_lt l ((d + 1) * 2 ^ d)) [
+          | inl within ↦ let it = alone l within in grind (arith, none_past)
+          | inr past ↦ grind (arith, none_past, get_or_past, links_of)
+        ];
+      },
     )
 
   -- ---- they are taken
@@ -186,36 +172,26 @@ after_visits half b = b
 abbrev UnitCan : Half → ℕ → BlockState → UnitName → Type 0
 UnitCan TakeReplies i b u = UnitCanTakeReplies i b u
 UnitCan TakeRequests i b u = UnitCanTakeRequests i b u
-UnitCan Execute i b u = UnitCanExecute b u
 UnitCan half i b u = Unit {0}
-
-put_as_set : {M : Type 0} (t : List (Option M)) (l : ℕ) (o : Option M) → put_on t l o ≡ set t l (put_or o (on_link t l))
-put_as_set t l None = sym (set-get_or t l None)
-put_as_set t l (Some m) = refl
 
 module _ (d n : ℕ) (rooms : BlockRooms) (program : List Instr) where
   -- what the units do, in cycle n
   abbrev pub acts : (half : Half) → Acts (MessageOf (kind_of half))
-  acts SendReplies = record {
+  acts SendReplies = record all_idle {
     switch = switch_sends d (λ i. replies_leaving (reply_ways rooms.no_reply_room d (stage_of d i) (index_of d i))) without_replies;
     bank = start_sends d (λ m x. where_room (has_way_from_module rooms.no_reply_room d m) x.out) without_reply;
-    element = idle;
   }
-  acts TakeReplies = record { switch = switch_takes Replies d (λ i. after_replies d (stage_of d i)) (λ i w on. []); bank = idle; element = end_takes Replies d delivered_to (λ p e came. present (delivery came ∷ [])) }
-  acts Serve = record { switch = idle; bank = works serve (λ m x. present (serving m (served x) ∷ [])) (λ m x. []); element = idle }
-  acts SendRequests = record {
+  acts TakeReplies = record all_idle { switch = switch_takes Replies d (λ i. after_replies d (stage_of d i)) (λ i w on. []); element = end_takes Replies d delivered_to (λ p e came. present (delivery came ∷ [])) }
+  acts Serve = record all_idle { bank = works serve (λ m x. present (serving m (served x) ∷ [])) (λ m x. []) }
+  acts SendRequests = record all_idle {
     switch = switch_sends d (λ i w. requests_leaving (request_ways rooms.no_request_room d (stage_of d i) (index_of d i) (request_heads w)) w) without_requests;
-    bank = idle;
     element = start_sends d (λ p e. where_room (has_way_from_element rooms.no_request_room d p (pending_head e)) (pending_head e)) element_without;
   }
-  acts TakeRequests = record {
+  acts TakeRequests = record all_idle {
     switch = switch_takes Requests d (λ i. after_requests d (stage_of d i) n) (λ i. combinations_of d (stage_of d i) (index_of d i) n);
     bank = end_takes Requests d (bank_with (2 ^ d)) (λ m x came. []);
-    element = idle;
   }
-  acts Execute = record {
-    switch = idle;
-    bank = idle;
+  acts Execute = record all_idle {
     element = works (executed program) (λ p e. present (issue_event (element_of e) (step_at program e).sent ∷ [])) (λ p e. present (stop_of p (step_at program e).was ∷ []));
   }
 
@@ -249,9 +225,6 @@ module _ (d n : ℕ) (rooms : BlockRooms) (program : List Instr) where
   visit Execute = executes program
 
   module _ (low : 1 ≤ d) (high : d ≤ 6) where
-    small : unit_count d < 321
-    small = few_units d low high
-
     fair : (half : Half) → AreFair d (acts half)
     fair SendReplies = record { owner = _; switches = switch_puts d (switch_count d) low high; modules = end_puts d (switch_count d) low high (omega arith); elements = λ p h. tt; few = λ i v. grind arith }
     fair TakeReplies = record { owner = reply_reader d; switches = λ i h. replies_to_switch d low high i _ _ (is_switch d i h); modules = λ m h. tt; elements = λ p h. reply_to_element d low high _ p (record { small = h; number = refl }); few = λ i v. grind arith }
@@ -262,15 +235,7 @@ module _ (d n : ℕ) (rooms : BlockRooms) (program : List Instr) where
     module _ (b : BlockState) (shape : IsShaped d b) where
       each : (half : Half) → (half ≡ TakeRequests → b.done ≡ n) → (i : ℕ) (v : Seen (MessageOf (kind_of half))) → visit half i (with_seen b half v) ≡ with_seen b half (act d (acts half) i v)
       each TakeRequests in_cycle i v = rw (shape.stages, in_cycle refl) (grind (arith, same_entry, append-nil))
-      each half in_cycle i v = rw (shape.stages) (grind (arith, put_as_set, get_or-set_other, same_entry, append-nil))
-
-      visited : (half : Half) → (half ≡ TakeRequests → b.done ≡ n) → made half rooms program b ≡ after_visits half (with_seen b half (after_units (act d (acts half)) 320 (seen_first half b)))
-      visited Execute in_cycle = ap counted (same_visits (visit Execute) (act d (acts Execute)) (with_seen b Execute) (each Execute in_cycle) 320 _)
-      visited half in_cycle = same_visits (visit half) (act d (acts half)) (with_seen b half) (each half in_cycle) 320 _
-
-      whole : (half : Half) → IsWhole d (acts half) (seen_first half b)
-      whole SendReplies = grind arith
-      whole half = grind arith
+      each half in_cycle i v = rw (shape.stages) (grind (arith, get_or-set_other, same_entry, append-nil))
 
       acted : (half : Half) (after : Seen (MessageOf (kind_of half))) → AllActed d (acts half) (fair half) (seen_first half b) after → AllAct half b (after_visits half (with_seen b half after))
       acted SendReplies after it = let none = units_list_nothing (event_entries d (acts SendReplies)) 320 (seen Replies (begun b)) (λ i. grind arith) in grind arith
@@ -278,7 +243,10 @@ module _ (d n : ℕ) (rooms : BlockRooms) (program : List Instr) where
       acted half after it = grind arith
 
       half_act : (half : Half) → (half ≡ TakeRequests → b.done ≡ n) → AllAct half b (made half rooms program b)
-      half_act half in_cycle = rw (visited half in_cycle) (acted half _ (all_acted d (acts half) (fair half) small _ (whole half)))
+      half_act Execute in_cycle =
+          rw (same_visits (visit Execute) (act d (acts Execute)) (with_seen b Execute) (each Execute in_cycle) 320 (seen_first Execute b)) (acted Execute _ (all_acted d (acts Execute) (fair Execute) (few_units d low high) _ (grind arith)))
+      half_act half in_cycle =
+          rw (same_visits (visit half) (act d (acts half)) (with_seen b half) (each half in_cycle) 320 (seen_first half b)) (acted half _ (all_acted d (acts half) (fair half) (few_units d low high) _ (grind arith)))
 
   -- ---- all blocks
   module _ (partition : List ℕ) (bs : List BlockState) (blocks : AreBlocks d partition bs) where
@@ -343,21 +311,19 @@ module _ (d n : ℕ) (rooms : BlockRooms) (program : List Instr) where
         let it = here switches _ _ _ blocks.cut i is.within k within w at in grind (arith, switch_there Requests _ _ _ blocks.cut there i is.within, can.switches i is.within)
     unit_can TakeRequests (there, same) can k within stages i (unit.Module m) is = λ x at r on.
         let it = here modules _ _ _ blocks.cut m is.small k within x at in grind (arith, end_there Requests _ _ _ blocks.cut there m is.small, can.banks m is.small r)
-    unit_can Execute ready can k within stages i (unit.Element p) is = λ e at.
-        let it = here elements _ _ _ blocks.cut p is.small k within e at in grind (arith, can)
     unit_can half ready can k within stages i u is = tt
 
     can_make : (half : Half) → AreReady d partition n program bs half → CanMakeTogether d partition n program bs half → OfEach HasHalfRoom bs → AllCanMake program half bs
     can_make SendReplies ready can room = λ k within. tt
     can_make SendRequests ready can room = λ k within. tt
     can_make Serve ready can room = λ k within i before. room_for_half (block_at bs k) (room k within) i
-    can_make Execute ready can room = grind (arith, unit_is, unit_can Execute ready can, blocks.cut.stages, room)
+    can_make Execute ready can room = grind (arith, unit_is, here elements _ _ _ blocks.cut, blocks.cut.stages, room)
     can_make half ready can room = λ k within i before.
         let stages = blocks.cut.stages k within in let unit = unit_can half ready can k within stages i (unit_of d i) (unit_is d i) in grind (arith, room)
 
     -- ---- what the blocks list in it
     few : unit_count d < 321
-    few = small blocks.some_stages blocks.few_stages
+    few = few_units d blocks.some_stages blocks.few_stages
 
     listed : (half : Half) → AreReady d partition n program bs half → AreNamed d partition n program bs half
         → AreMerged (event_rank d) (first_rank half) (rank_after half) (events_by half) bs (events_in d n rooms program f half)
@@ -380,27 +346,20 @@ module _ (d n : ℕ) (rooms : BlockRooms) (program : List Instr) where
     listed half ready named = nothing_listed (event_rank d) _ _ _ bs (λ k h. units_list_nothing _ 320 _ (λ i. grind arith))
 
     -- each block lists that behind what it had listed
-    module _ (half : Half) (ready : AreReady d partition n program bs half) (k : ℕ) (h : k < length bs) where
-      each_lists : ((block_at (after half) k).events ≡ listed_before half (block_at bs k).events ++ events_by half (block_at bs k))
-          × ((block_at (after half) k).stops ≡ listed_before half (block_at bs k).stops ++ stops_by half (block_at bs k))
-      each_lists = let acts = each_acts half ready k h in grind (arith, changed_at)
-
     events_after : (half : Half) → AreReady d partition n program bs half → AreNamed d partition n program bs half → (so_far : List Event) → AreMerged (event_rank d) 0 (first_rank half) (λ b. listed_before half b.events) bs so_far
         → AreMerged (event_rank d) 0 (rank_after half) (λ b. b.events) (after half) (so_far ++ events_in d n rooms program f half)
     events_after half ready named so_far was =
         listed_behind _ _ _ _ (omega arith) (grind arith) _ _ (length-map _ _) _ _ _
-        (λ k h. (each_lists half ready k h).0) _ _ was (listed half ready named)
+        (λ k h. let acts = each_acts half ready k h in grind (arith, changed_at)) _ _ was (listed half ready named)
 
     stops_after : (half : Half) → AreReady d partition n program bs half → OfEach (λ b. listed_before half b.stops ≡ []) bs → HaveStopped d partition n program bs (after half) half
     unfolding course.stops
     stops_after Execute ready none =
-        same_listed _ _ _ _ _ (stops_by Execute) _ _ (length-map _ _) (λ k h. let lists = each_lists Execute ready k h in grind (arith, none))
+        same_listed _ _ _ _ _ (stops_by Execute) _ _ (length-map _ _) (λ k h. let acts = each_acts Execute ready k h in grind (arith, changed_at, none))
         (rw (← joined_present) (part _ _ _ blocks stop_rank 0 0 (omega arith) elements (on Replies (acts Execute).element on_one) (acts Execute).element.stops _ 64 (let narrow = (sizes d blocks.some_stages blocks.few_stages).1 in omega arith)
         (λ p small. (refl, grind arith)) (grind (arith, few, unit_of_element))))
-    stops_after half ready none = λ k h.
-        let within : k < length bs = grind (arith, length-map) in
-        let lists = each_lists half ready k within in
-        let no_more : stops_by half (block_at bs k) ≡ [] = units_list_nothing _ 320 _ (λ i. grind arith) in grind (arith, none)
+    stops_after half ready none =
+        let no_more = λ (k : ℕ). units_list_nothing (stop_entries d (acts half)) 320 (seen_first half (block_at bs k)) (λ i. grind arith) in grind (arith, each_acts half ready, changed_at, no_more, none, length-map)
 
 pub half_law : HalfLaw
 half_law d n partition half rooms program bs blocks ready =
@@ -411,7 +370,4 @@ pub can_make_law : CanMakeLaw
 can_make_law d n partition half program bs blocks = can_make d n all_open program partition bs blocks half
 
 pub all_by_own : (program : List Instr) (half : Half) (rooms : BlockRooms) (bs : List BlockState) → AllCanMake program half bs → all_made_own half rooms bs ≡ all_made half rooms program bs
-all_by_own program half rooms [] can = refl
-all_by_own program half rooms (b ∷ bs) can =
-    ap (λ x. x ∷ all_made_own half rooms bs) (made_by_own program b half rooms (can zero (omega arith)))
-    ∙ ap (λ xs. made half rooms program b ∷ xs) (all_by_own program half rooms bs (λ k h. can (suc k) (omega arith)))
+all_by_own program half rooms bs can = same_entries (made half rooms program) (own_made half rooms) bs bs refl (λ k h. made_by_own program _ half rooms (can k h))

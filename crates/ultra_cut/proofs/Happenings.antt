@@ -1,41 +1,24 @@
 -- What blocks list, merged by rank. First, lists joined, one for each place, and what several blocks list. Then, what the units
 -- of a sort list in all blocks is what they list in the whole machine, and each block lists it in the order of the ranks.
-use Rattle.std.proofs.Common.{◌≡◌, ◌≢◌, ℕ, zero, suc, ◌+◌, ◌<◌, List, [], ◌∷◌, ◌++◌, map, Option, length, length-append, refl, sym, ◌∙◌, ap, subst, inl, inr, arith, ◌≤◌, ◌-◌, ◌/◌, append-nil}
-use Rattle.ultra_cut.proofs.Common.{cases_lt, get_or-append_right, get_or_append_left, All-from_recursion, filter-append, AllByRecursion, range_with_len, present, each-append, same_places, joined_next, joined_none, joined_split, block_at, BlockState, given, home, AreMerged, InRanks, AreBlocks, MergedLaw, Lane, arrive, combinations, switch_number, combinations_of, Request, Ports, Switch, event_rank, stop_rank}
+use Rattle.std.proofs.Common.{◌≡◌, ◌≢◌, ℕ, zero, suc, ◌+◌, ◌<◌, List, [], ◌∷◌, ◌++◌, map, Option, length, length-append, refl, sym, ◌∙◌, ap, inl, inr, arith, ◌≤◌, ◌-◌, ◌/◌, min, append-nil}
+use Rattle.ultra_cut.proofs.Common.{cases_lt, get_or-append_right, get_or_append_left, All-from_recursion, filter-append, AllByRecursion, range_with_len, present, each-append, same_places, joined_next, joined_none, block_at, BlockState, given, home, AreMerged, InRanks, AreBlocks, MergedLaw, Lane, arrive, combinations, switch_number, combinations_of, Request, Ports, Switch, event_rank, stop_rank}
 use Rattle.ultra_model.specs.Places.{places, joined}
 use Rattle.ultra_merge.specs.Merging.{merged, of_rank}
 use Rattle.ultra_merge.proofs.Merged.{merged_alone, of_rank_none}
 use Rattle.ultra_cut.specs.{Events.events_of, Events.stops_of}
 use Rattle.ultra_cut.proofs.{Columns.same_entries, Units.Sort, Units.at_home, Units.away, Units.home_small}
-use Rattle.ultra_section.proofs.Acts.{list_of}
-use Rattle.ultra_section.proofs.Once.{entries_before}
-
--- no list has anything
-pub joined_nothing : {X : Type 0} (n : ℕ) (g : ℕ → List X) → ((i : ℕ) → i < n → g i ≡ []) → joined (places n g) ≡ []
-joined_nothing zero g none = joined_none g
-joined_nothing (suc n) g none = rw (joined_next g (suc n) n (omega arith), joined_nothing n g (λ i h. none i (omega arith))) (none n (omega arith))
-
--- only some lists behind one another have something
-pub joined_window : {X : Type 0} (before n after : ℕ) (g : ℕ → List X) → ((i : ℕ) → i < before → g i ≡ []) → ((i : ℕ) → i < after → g (before + (n + i)) ≡ [])
-    → joined (places (before + (n + after)) g) ≡ joined (places n (λ i. g (before + i)))
-joined_window before n after g none_before none_after = search (arith, joined_split, joined_nothing, append-nil)
-
-pub units_list_nothing : {T E : Type 0} (listed : ℕ → T → List E) (m : ℕ) (t : T) → ((i : ℕ) → listed i t ≡ []) → entries_before listed m t ≡ []
-unfolding entries_before
-units_list_nothing listed zero t none = refl
-units_list_nothing listed (suc m) t none = rw (units_list_nothing listed m t none, none m)
+use Rattle.ultra_section.proofs.{Acts.list_of, Once.entries_before}
 
 -- what units list, one after another, where only n of them behind others list anything
-before_as_places : {T E : Type 0} (listed : ℕ → T → List E) (m : ℕ) (t : T) → entries_before listed m t ≡ joined (places m (λ i. listed i t))
+listed_by_sort : {T E : Type 0} (listed : ℕ → T → List E) (t : T) (before n : ℕ) (g : ℕ → List E) → ((i : ℕ) → i < before → listed i t ≡ []) → ((i : ℕ) → before + n ≤ i → listed i t ≡ [])
+    → ((i : ℕ) → i < n → listed (before + i) t ≡ g i) → (m : ℕ) → entries_before listed m t ≡ joined (places (min (m - before) n) g)
 unfolding entries_before
-before_as_places listed zero t = sym (joined_none (λ i. listed i t))
-before_as_places listed (suc m) t = ap (λ es. es ++ listed m t) (before_as_places listed m t) ∙ sym (joined_next (λ i. listed i t) (suc m) m (omega arith))
+listed_by_sort listed t before n g lower upper same zero = grind (arith, joined_none)
+listed_by_sort listed t before n g lower upper same (suc m) =
+    let here = same (m - before) in grind (arith, joined_next, append-nil, listed_by_sort listed t before n g lower upper same m)
 
-listed_by_sort : {T E : Type 0} (listed : ℕ → T → List E) (t : T) (before n : ℕ) (g : ℕ → List E) → before + n ≤ 320
-    → ((i : ℕ) → i < before → listed i t ≡ []) → ((i : ℕ) → before + n ≤ i → listed i t ≡ []) → ((i : ℕ) → i < n → listed (before + i) t ≡ g i) → entries_before listed 320 t ≡ joined (places n g)
-listed_by_sort listed t before n g within lower upper same =
-    let all : before + (n + (320 - (before + n))) ≡ 320 = omega arith in
-    grind (arith, before_as_places, joined_window, same_places)
+pub units_list_nothing : {T E : Type 0} (listed : ℕ → T → List E) (m : ℕ) (t : T) → ((i : ℕ) → listed i t ≡ []) → entries_before listed m t ≡ []
+units_list_nothing listed m t none = listed_by_sort listed t 0 0 (λ i. []) (λ i h. none i) (λ i h. none i) (λ i h. none _) m ∙ grind (arith, joined_none)
 
 -- ---- lists with at most one element each
 present_each : {X Y : Type 0} (o : Y → Option X) (ys : List Y) → joined (map (λ y. present (o y ∷ [])) ys) ≡ present (map o ys)
@@ -100,11 +83,8 @@ module _ {X : Type 0} (rank : X → ℕ) where
   pub same_listed : (low high : ℕ) (old now : List BlockState) (f h : BlockState → List X) (all : List X) → length now ≡ length old → ((k : ℕ) → k < length old → h (block_at now k) ≡ f (block_at old k))
       → AreMerged rank low high f old all → AreMerged rank low high h now all
   same_listed low high old now f h all count same was =
-      record {
-        each = λ k within. subst (InRanks rank low high) (sym (same k (omega arith))) (was.each k (omega arith));
-        whole = was.whole;
-        same = λ r. ap (λ xss. of_rank rank r (joined xss)) (same_entries f h old now count same) ∙ was.same r;
-      }
+      let lists = same_entries f h old now count same in
+      record { each = λ k within. rw (same k (omega arith)) (was.each k (omega arith)); whole = was.whole; same = rw lists was.same }
 
   -- none lists anything
   pub nothing_listed : (low high : ℕ) (f : BlockState → List X) (bs : List BlockState) → ((k : ℕ) → k < length bs → f (block_at bs k) ≡ []) → AreMerged rank low high f bs []
@@ -165,8 +145,9 @@ module _ (d : ℕ) (partition : List ℕ) (bs : List BlockState) (blocks : AreBl
 
     pub part : {T : Type 0} {entries : ℕ → T → List E} {see : BlockState → T} (high : ℕ) → base + sort.count d ≤ high → IsOfMachine → OnlyList sort on list entries see → AreMerged rank low high (λ b. entries_before entries 320 (see b)) bs (joined (places (sort.count d) g))
     part {entries = entries} {see = see} high to are only =
+        let all : min (320 - sort.number d 0) (sort.count d) ≡ sort.count d = omega (arith, only.within) in
         same_listed _ _ _ _ _ _ _ _ refl
-        (λ k h. listed_by_sort _ _ (sort.number d 0) _ _ only.within (λ i. only.lower i _) (λ i. only.upper i _) (λ i h. rw (only.number i) (only.same i _ h)))
+        (λ k h. rw all at (listed_by_sort entries (see (block_at bs k)) (sort.number d 0) (sort.count d) (λ i. of_unit i (block_at bs k)) (λ i. only.lower i _) (λ i. only.upper i _) (λ i h. rw (only.number i) (only.same i _ h)) 320))
         (first_listed are (sort.count d) high (omega arith) to)
 
 pub merged_law : MergedLaw

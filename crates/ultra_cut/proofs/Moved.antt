@@ -1,8 +1,8 @@
 -- Messages on links: to which unit each link leads, computed over every network of at most six stages, and what is true of
 -- messages of each kind. Where each message is in the block to which it leads, what comes to a unit is what its block has
 -- for it. Messages that lead from one block to a unit in another go there, and nothing else changes.
-use Rattle.std.proofs.Common.{◌≡◌, ◌≢◌, ℕ, ◌+◌, ◌-◌, ◌*◌, ◌^◌, ◌<◌, ◌≤◌, Bool, true, false, List, Option, Some, None, length, refl, sym, ap, subst, arith, map, ◌∙◌, get_or-set_same, get_or-set_other, inl, inr, ◌&&◌, ◌||◌, ◌==◌, nat_lt, ◌⊎◌, get_or}
-use Rattle.ultra_cut.proofs.Common.{nat_tests, get_or_default, get_or_past, length-set, switch_count, unit_count, module_number, element_number, ports, stage_of, index_of, delivery_link, memory_link, reply_links, request_links, on_both, on_link, AllStayWithin, AreEmpty, put_on_both, reply_inlets, request_inlets, taken_by_turns, IsShaped, AreRead, are_read, each_network, replies_read, reply_reader, request_reader, requests_read, unit_is, put_apart, put_or, put_there, AreAlike, Frame, Ports, IsCut, block_at, no_block, first, home, frame_of, BlockState, AreThere, MessageOf, inlets, message_on, on_each, table, with_table, AreSingle, HasNoneFor, OnlyMove, carried, moved, Kind, Replies, Requests, AreBlocks, other}
+use Rattle.std.proofs.Common.{◌≡◌, ◌≢◌, ℕ, ◌+◌, ◌-◌, ◌*◌, ◌^◌, ◌<◌, ◌≤◌, Bool, true, false, List, Option, Some, None, length, refl, sym, ap, subst, arith, map, ◌∙◌, get_or-set_same, get_or-set_other, ◌&&◌, ◌||◌, ◌==◌, nat_lt, ◌⊎◌, get_or}
+use Rattle.ultra_cut.proofs.Common.{nat_tests, get_or_default, get_or_past, length-set, switch_count, unit_count, module_number, element_number, ports, stage_of, index_of, delivery_link, memory_link, reply_links, request_links, on_both, on_link, AllStayWithin, AreEmpty, reply_inlets, request_inlets, IsShaped, AreRead, are_read, each_network, replies_read, reply_reader, request_reader, requests_read, unit_is, put_apart, put_or, put_there, AreAlike, Frame, Ports, IsCut, block_at, no_block, first, home, frame_of, BlockState, AreThere, MessageOf, inlets, message_on, on_each, table, with_table, AreSingle, HasNoneFor, OnlyMove, carried, Kind, Replies, Requests, AreBlocks, other}
 use Rattle.ultra_route.proofs.Table.{all_below, all_below_at}
 use Rattle.ultra_section.proofs.Marks.{emptied, emptied_first, length-put_on}
 use Rattle.ultra_cut.proofs.Columns.{column_first, same_entries}
@@ -11,10 +11,6 @@ use Rattle.ultra_cut.proofs.Columns.{column_first, same_entries}
 pub table_with : (kind : Kind) (t : List (Option (MessageOf kind))) (b : BlockState) → table kind (with_table kind t b) ≡ t
 table_with Replies t b = refl
 table_with Requests t b = refl
-
-pub with_twice : (kind : Kind) (t u : List (Option (MessageOf kind))) (b : BlockState) → with_table kind t (with_table kind u b) ≡ with_table kind t b
-with_twice Replies t u b = refl
-with_twice Requests t u b = refl
 
 pub with_own : (kind : Kind) (b : BlockState) → b ≡ with_table kind (table kind b) b
 with_own Replies b = refl
@@ -100,105 +96,73 @@ module _ (kind : Kind) (d : ℕ) (partition : List ℕ) (bs : List BlockState) (
   nothing_away low high k l within small away =
       let it = leads_to kind d low high l small in none_among (table kind (block_at bs k)) l _ it.among (there k (reader kind d l) within it.small away)
 
--- ---- two tables: what the one has on two links goes to the other
-abbrev got : {M : Type 0} → List (Option M) → List (Option M) → Ports ℕ → List (Option M)
-got t u p = put_on_both u p (taken_by_turns t p)
-
--- ---- what block k has somewhere goes to block h, or each block has there what it had
+-- ---- what goes from block k, which may be what it has somewhere, to block h
 module _ {X : Type 0} (g : BlockState → Option X) (k h : ℕ) (bs now : List BlockState) where
-  pub record Goes : Type 0 where
-    pub left : g (block_at now k) ≡ None
-    pub got : g (block_at now h) ≡ put_or (g (block_at bs k)) (g (block_at bs h))
+  pub record Goes (o : Option X) : Type 0 where
+    pub own : (o ≡ None) ⊎ (o ≡ g (block_at bs k))
+    pub left : g (block_at now k) ≡ elim o [ None ↦ g (block_at bs k) | Some x ↦ None ]
+    pub got : g (block_at now h) ≡ put_or o (g (block_at bs h))
     pub others : (j : ℕ) → j ≢ k → j ≢ h → g (block_at now j) ≡ g (block_at bs j)
 
-  abbrev Stays : Type 0
-  Stays = (j : ℕ) → g (block_at now j) ≡ g (block_at bs j)
-
-  none_after : Goes ⊎ Stays → (j : ℕ) → g (block_at bs j) ≡ None → (j ≡ h → g (block_at now j) ≡ g (block_at bs j)) → g (block_at now j) ≡ None
-  none_after goes j none here = grind arith
+  none_after : (o : Option X) → Goes o → (j : ℕ) → g (block_at bs j) ≡ None → (j ≡ h → o ≡ None) → g (block_at now j) ≡ None
+  none_after o goes j none here = grind arith
 
   module _ (count : length now ≡ length bs) (apart : h ≢ k) (k_within : k < length bs) (h_within : h < length bs)
       (single : (i j : ℕ) → i ≢ j → g (block_at bs i) ≢ None → g (block_at bs j) ≡ None) where
-    single_after : Goes ⊎ Stays → (i j : ℕ) → i ≢ j → g (block_at now i) ≢ None → g (block_at now j) ≡ None
-    single_after goes i j other there = grind arith
+    single_after : (o : Option X) → Goes o → (i j : ℕ) → i ≢ j → g (block_at now i) ≢ None → g (block_at now j) ≡ None
+    single_after o goes i j other there = grind arith
 
-    first_after : Goes ⊎ Stays → (o : Option X) → g (block_at bs k) ≡ o → first (map g now) ≡ first (map g bs)
-    first_after (inr stays) o is = ap first (same_entries g g bs now count (λ j h. stays j))
-    first_after (inl goes) None is = ap first (same_entries g g bs now count (grind arith))
-    first_after (inl goes) (Some x) is = column_first g now h (omega arith) (grind arith) ∙ grind arith ∙ sym (column_first g bs k k_within (grind arith))
+    first_after : (o : Option X) → Goes o → first (map g now) ≡ first (map g bs)
+    first_after None goes = ap first (same_entries g g bs now count (λ j within. grind arith))
+    first_after (Some x) goes = column_first g now h (omega arith) (grind arith) ∙ grind arith ∙ sym (column_first g bs k k_within (grind arith))
+
+pub both_moved : (kind : Kind) (a b c : List BlockState) → OnlyMove kind a b → OnlyMove kind b c → OnlyMove kind a c
+both_moved Replies a b c one two = grind arith
+both_moved Requests a b c one two = grind arith
 
 module _ (kind : Kind) where
   pub nothing_moved : (bs : List BlockState) → AreSingle kind bs → OnlyMove kind bs bs
   nothing_moved bs single = grind (arith, with_own)
 
-  pub both_moved : (a b c : List BlockState) → OnlyMove kind a b → OnlyMove kind b c → OnlyMove kind a c
-  both_moved a b c one two = grind (arith, with_twice)
+  -- ---- what block k has on the inlets p of unit n goes to the block in which that stands
+  module _ (d : ℕ) (low : 1 ≤ d) (high : d ≤ 6) (partition : List ℕ) (bs : List BlockState) (k n : ℕ) (p : Ports ℕ) (is : inlets kind d n ≡ Some p)
+      (k_within : k < length bs) (h_within : home partition n < length bs) (apart : home partition n ≢ k) (long : length (table kind (block_at bs (home partition n))) ≡ (d + 1) * 2 ^ d) where
+    abbrev h : ℕ
+    h = home partition n
 
-  -- what a move of the messages for unit n from block k leaves
-  pub record Step (d : ℕ) (partition : List ℕ) (k n : ℕ) (bs now : List BlockState) : Type 0 where
-    pub only : OnlyMove kind bs now
-    pub gone : HasNoneFor kind d partition now k n
-    pub kept : (j m : ℕ) → HasNoneFor kind d partition bs j m → HasNoneFor kind d partition now j m
-
-  -- ---- what block k has on the inlets p of a unit goes to block h
-  module _ (bs : List BlockState) (k h : ℕ) (p : Ports ℕ) (apart : h ≢ k) (k_within : k < length bs) (h_within : h < length bs) where
     abbrev after : List BlockState
     after = carried kind k h p bs
 
-    abbrev was : ℕ → List (Option (MessageOf kind))
-    was j = table kind (block_at bs j)
+    abbrev leaving : ℕ → Option (MessageOf kind)
+    leaving l = elim (is_among l (Some p)) [ true ↦ message_on kind l (block_at bs k) | false ↦ None ]
 
-    count : length after ≡ length bs
-    count = grind (arith, length-set)
+    goes : (l : ℕ) → Goes (message_on kind l) k h bs after (leaving l)
+    goes l = grind (arith, nat_tests, lead_here kind d low high n p is, table_with, emptied, emptied_first, put_there, put_apart, length-put_on, length-set, get_or-set_same, get_or-set_other)
 
-    module _ (zero_small : p.zero < length (was h)) (one_small : p.one < length (was h)) where
-      goes : (l : ℕ) → (l ≡ p.zero) ⊎ (l ≡ p.one) → Goes (message_on kind l) k h bs after
-      goes l inlet = grind (arith, table_with, emptied, emptied_first, put_there, put_apart, length-put_on, length-set, get_or-set_same, get_or-set_other)
+    -- no other block has anything more for a unit
+    kept_at : (j m : ℕ) (o : Option (Ports ℕ)) → inlets kind d m ≡ o → home partition m ≢ j → AreEmpty (table kind (block_at bs j)) o → AreEmpty (table kind (block_at after j)) o
+    kept_at j m None leads elsewhere none = tt
+    kept_at j m (Some q) leads elsewhere none =
+        let own = lead_here kind d low high n p is in
+        let other = lead_here kind d low high m q leads in
+        let still = λ (l : ℕ) (to : reader kind d l ≡ m) (empty : message_on kind l (block_at bs j) ≡ None). none_after (message_on kind l) k h bs after (leaving l) (goes l) j empty (λ here. grind (arith, nat_tests)) in
+        grind arith
 
-      stays : (l : ℕ) → l ≢ p.zero → l ≢ p.one → Stays (message_on kind l) k h bs after
-      stays l zero one j = grind (arith, table_with, put_apart, length-set, get_or-set_same, get_or-set_other)
-
-      moves : (l : ℕ) → Goes (message_on kind l) k h bs after ⊎ Stays (message_on kind l) k h bs after
-      moves l = search (arith, goes, stays)
-
-      -- if that is unit n, which stands there, no other block has anything more for a unit
-      module _ (d : ℕ) (low : 1 ≤ d) (high : d ≤ 6) (partition : List ℕ) (n : ℕ) (at_home : home partition n ≡ h) (is : inlets kind d n ≡ Some p) where
-        kept_at : (j m : ℕ) (o : Option (Ports ℕ)) → inlets kind d m ≡ o → home partition m ≢ j → AreEmpty (was j) o → AreEmpty (table kind (block_at after j)) o
-        kept_at j m None leads elsewhere none = tt
-        kept_at j m (Some q) leads elsewhere none =
-            let it = lead_here kind d low high n p is in
-            let other = lead_here kind d low high m q leads in
-            let still = λ (l : ℕ) (to : reader kind d l ≡ m) (empty : message_on kind l (block_at bs j) ≡ None).
-            none_after (message_on kind l) k h bs after (moves l) j empty (λ here. stays l (λ same. grind arith) (λ same. grind arith) j) in
-            grind arith
-
-        carried_step : AreSingle kind bs → Step d partition k n bs after
-        carried_step single = record {
-          only = record {
+    pub carried_moved : AreSingle kind bs → (now : List BlockState) → now ≡ after
+        → OnlyMove kind bs now × HasNoneFor kind d partition now k n × ((j m : ℕ) → HasNoneFor kind d partition bs j m → HasNoneFor kind d partition now j m)
+    carried_moved single now same =
+        let count : length after ≡ length bs = grind (arith, length-set) in
+        rw same (
+          record {
             count = count;
             rest = grind (arith, table_with, with_own, length-set, get_or-set_same, get_or-set_other);
             lengths = grind (arith, table_with, length-put_on, length-set, get_or-set_same, get_or-set_other);
-            links = λ l. first_after _ _ _ _ _ count apart k_within h_within (single l) (moves l) _ refl;
-            single = λ l. single_after _ _ _ _ _ count apart k_within h_within (single l) (moves l);
-          };
-          gone = grind (arith, goes);
-          kept = grind (arith, kept_at);
-        }
-
-  module _ (d : ℕ) (low : 1 ≤ d) (high : d ≤ 6) (partition : List ℕ) (bs : List BlockState) (k n : ℕ) (single : AreSingle kind bs) (k_within : k < length bs) (h_within : home partition n < length bs)
-      (links : home partition n ≢ k → (p : Ports ℕ) → inlets kind d n ≡ Some p → length (table kind (block_at bs (home partition n))) ≡ (d + 1) * 2 ^ d) where
-    step_if : (here : Bool) (o : Option (Ports ℕ)) → (home partition n == k) ≡ here → inlets kind d n ≡ o
-        → Step d partition k n bs (elim here [ true ↦ bs | false ↦ elim o [ None ↦ bs | Some p ↦ carried kind k (home partition n) p bs ] ])
-    step_if true o same is = grind (arith, nothing_moved)
-    step_if false None same is = grind (arith, nothing_moved)
-    step_if false (Some p) same is =
-        let it = lead_here kind d low high n p is in
-        let apart : home partition n ≢ k = grind (arith, nat_tests) in
-        let all = links apart p is in
-        carried_step bs k (home partition n) p apart k_within h_within (omega arith) (omega arith) d low high partition n refl is single
-
-    pub moved_step : (now : List BlockState) → now ≡ moved kind d k (home partition n) n bs → Step d partition k n bs now
-    moved_step now is = rw is (step_if (home partition n == k) (inlets kind d n) refl refl)
+            links = λ l. first_after _ _ _ _ _ count apart k_within h_within (single.alone l) _ (goes l);
+            single = record { alone = λ l. single_after _ _ _ _ _ count apart k_within h_within (single.alone l) _ (goes l) };
+          },
+          (let zero = goes p.zero in let one = goes p.one in grind (arith, nat_tests)),
+          grind (arith, kept_at),
+        )
 
 -- what a block has for units elsewhere is gone up to a number, if nothing leaves it from where it was gone
 pub gone_until : (kind : Kind) (d : ℕ) (partition : List ℕ) (bs : List BlockState) (k from to : ℕ) (x : BlockState) → IsCut d partition bs → k < length bs → (let b = get_or bs k x in AllStayWithin (table kind b) (inlets kind b.stages) b from to)

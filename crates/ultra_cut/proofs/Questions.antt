@@ -1,9 +1,8 @@
 -- What is asked of all blocks: where there is no room, which units hold something, and whether anything is left to do. What
 -- they answer is true of the whole machine that they make up.
 use Rattle.std.proofs.Common.{◌≡◌, ℕ, ◌+◌, ◌^◌, ◌<◌, List, Bool, length, arith, [], ◌∷◌, refl, ◌*◌, ◌/◌, ◌≤◌, true, false, get_or, None, take, ap, ◌∙◌, ◌&&◌, is_some, not, ◌==◌, take_all}
-use Rattle.ultra_cut.proofs.Common.{list_all, list_any, All-from_get_or, get_or_default, itself, sizes, Lane, Element, size, is_empty, is_quiet, places_at, length-places, has_unit, switch_count, module_number, has_reply_room, has_request_room, quiet_switch, has_none, quiet_bank, element_of, quiet_element, if_here, switch_at, module_at, HasNoted, AreOwnRooms, Rooms, Held, holds_at, switch_holds, module_holds, element_holds, is_switch, unit_of_module, unit_of_element, by_kind, unit_of_none, index_of, stage_of, Frame, ReplyMessage, ProcessingElement, Settings, number_small, lane_is, replies_is, bank_is, element_is, block_at, frame_of, home, no_block, BlockState, AreRooms, AreBlocks, OfEach, AreRoomsOfAll, holds, IsSetOfAll, Event, Stop}
-use Rattle.std.proofs.lemmas.List.Folds.{list_any_more, list_any_at, list_any_none}
-use Rattle.std.proofs.lemmas.List.Sums.{AllPass-from_list_all, list_all-from_AllPass}
+use Rattle.ultra_cut.proofs.Common.{list_all, list_any, All-from_get_or, get_or_default, itself, sizes, Lane, Element, size, is_empty, is_quiet, places_at, length-places, has_unit, switch_count, module_number, has_reply_room, has_request_room, quiet_switch, quiet_bank, element_of, quiet_element, if_here, switch_at, module_at, HasNoted, AreOwnRooms, Rooms, Held, holds_at, switch_holds, module_holds, element_holds, is_switch, unit_of_module, unit_of_element, by_kind, unit_of_none, index_of, stage_of, Frame, ReplyMessage, Settings, number_small, lane_is, replies_is, bank_is, element_is, block_at, frame_of, home, no_block, BlockState, AreRooms, AreBlocks, OfEach, AreRoomsOfAll, holds, IsSetOfAll, Event, Stop}
+use Rattle.std.proofs.lemmas.List.{Folds.list_any_more, Folds.list_any_at, Folds.list_any_none, Sums.AllPass-from_list_all, Sums.list_all-from_AllPass}
 use Rattle.ultra_isa.specs.Step.{has_stopped}
 use Rattle.ultra_model.specs.Places.{table, places}
 use Rattle.ultra_units.proofs.Set.{none_there}
@@ -75,15 +74,9 @@ held_by_all bs held set i all are c partition n events stops blocks u =
 
 -- ---- a machine is quiet where each of its units is, and so where each of its blocks is
 
-none_test : {X : Type 0} (xs : List X) → has_none xs ≡ is_empty xs
-none_test xs = grind arith
-
 -- ---- of each element of a list
 all_if : {X : Type 0} (t : X → Bool) (d : X) (xs : List X) → ((i : ℕ) → i < length xs → t (get_or xs i d) ≡ true) → list_all t xs ≡ true
 all_if t d xs h = list_all-from_AllPass t xs (All-from_get_or (λ x. t x ≡ true) xs d h)
-
-all_at : {X : Type 0} (t : X → Bool) (d : X) (xs : List X) (i : ℕ) → i < length xs → list_all t xs ≡ true → t (get_or xs i d) ≡ true
-all_at t d xs i l h = AllPass-from_list_all t xs h i d l
 
 -- of a list that is given place by place
 module _ {X : Type 0} (t : X → Bool) (n : ℕ) (f : ℕ → X) where
@@ -91,7 +84,7 @@ module _ {X : Type 0} (t : X → Bool) (n : ℕ) (f : ℕ → X) where
   all_places h = all_if t (f 0) (places n f) (grind (arith, length-places, places_at))
 
   at_place : list_all t (places n f) ≡ true → (k : ℕ) → k < n → t (f k) ≡ true
-  at_place h k l = let all = all_at t (f 0) (places n f) k in grind (arith, length-places, places_at)
+  at_place h k l = let all = AllPass-from_list_all t (places n f) h k (f 0) in grind (arith, length-places, places_at)
 
 -- or of a table
 at_table : {X : Type 0} (t : X → Bool) (m n : ℕ) (f : ℕ → ℕ → X) → list_all (λ xs. list_all t xs) (table m n f) ≡ true → (s x : ℕ) → s < m → x < n → t (f s x) ≡ true
@@ -103,13 +96,10 @@ pub record AreQuiet (d : ℕ) (f : Frame) : Type 0 where
   pub banks : (m : ℕ) → m < 2 ^ d → quiet_bank (f.bank m) ≡ true
   pub elements : (p : ℕ) → p < 2 ^ d → quiet_element (f.element p) ≡ true
 
-stopped_is : (e : ProcessingElement) → quiet_element e ≡ (let v = element_of e in has_stopped v.core.activity && is_empty v.interface.opened && is_empty v.interface.pending)
-stopped_is e = grind arith
-
 module _ (c : Settings) (low : 1 ≤ c.stages) (high : c.stages ≤ 6) (f : Frame) (n : ℕ) (events : List Event) (stops : List Stop) where
   pub quiet_if : AreQuiet c.stages f → is_quiet (whole c f n events stops) ≡ true
   unfolding whole
-  quiet_if q = let switch_small = λ (s x : ℕ) (hs : s < c.stages) (hx : x < size c). number_small c.stages s (x / 2) hs in grind (arith, all_places, sizes, stopped_is, none_test)
+  quiet_if q = let switch_small = λ (s x : ℕ) (hs : s < c.stages) (hx : x < size c). number_small c.stages s (x / 2) hs in grind (arith, all_places, sizes)
 
   pub quiet_units : is_quiet (whole c f n events stops) ≡ true → AreQuiet c.stages f
   unfolding whole
@@ -123,9 +113,9 @@ module _ (c : Settings) (low : 1 ≤ c.stages) (high : c.stages ≤ 6) (f : Fram
             let lanes = lane (stage_of c.stages n) in
             let queues = queue (stage_of c.stages n) in
             let even = 2 * index_of c.stages n in
-            grind (arith, none_test, lanes even, lanes (even + 1), queues even, queues (even + 1));
+            grind (arith, lanes even, lanes (even + 1), queues even, queues (even + 1));
         banks = at_place quiet_bank (size c) (λ k. f.bank k) (grind arith);
-        elements = λ p hp. let it = at_place (λ (v : Element). has_stopped v.core.activity && is_empty v.interface.opened && is_empty v.interface.pending) (size c) (λ p. element_of (f.element p)) (grind arith) p hp in grind (arith, stopped_is);
+        elements = λ p hp. let it = at_place (λ (v : Element). has_stopped v.core.activity && is_empty v.interface.opened && is_empty v.interface.pending) (size c) (λ p. element_of (f.element p)) (grind arith) p hp in grind arith;
       }
 
 -- ---- all blocks
@@ -143,7 +133,7 @@ module _ (d : ℕ) (partition : List ℕ) (bs : List BlockState) (are : AreBlock
       grind arith)
 
   pub units_quiet : list_all quiet_block bs ≡ true → AreQuiet d (frame_of d partition bs)
-  units_quiet q = let stands = at_home elements d partition bs are.cut in grind (arith, all_at)
+  units_quiet q = let stands = at_home elements d partition bs are.cut in grind (arith, AllPass-from_list_all)
 
 pub quiet_is : (c : Settings) (partition : List ℕ) (bs : List BlockState) → AreBlocks c.stages partition bs → (n : ℕ) (events : List Event) (stops : List Stop)
     → list_all quiet_block bs ≡ is_quiet (whole c (frame_of c.stages partition bs) n events stops)

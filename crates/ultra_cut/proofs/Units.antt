@@ -1,17 +1,14 @@
 -- The units of a machine in its blocks: each stands at home, in the block that the partition names, and in no other.
-use Rattle.std.proofs.Common.{◌≡◌, ◌≢◌, ℕ, ◌+◌, ◌^◌, ◌<◌, ◌≤◌, true, nat_lt, refl, List, Bool, Option, Some, None, length, sym, ◌∙◌, arith, ◌==◌, ◌&&◌, is_some}
+use Rattle.std.proofs.Common.{◌≡◌, ◌≢◌, ℕ, ◌^◌, ◌<◌, ◌≤◌, nat_lt, refl, List, Bool, Option, Some, None, length, sym, ◌∙◌, arith, ◌==◌, ◌&&◌, is_some}
 use Rattle.ultra_cut.proofs.Common.{nat_tests, empty_bank, switch_count, unit_count, module_number, element_number, switch_at, module_at, stands, if_here, switch_stands, module_stands, element_stands, IsCut, block_at, given, home, no_element, no_switch, BlockState, other as other_number, Switch, Bank, ProcessingElement}
 use Rattle.ultra_route.proofs.Table.{all_below}
 use Rattle.ultra_units.proofs.Readers.{each_network}
 use Rattle.ultra_section.specs.BlockState.{element_at}
 
-units_right : all_below (λ k. nat_lt (unit_count (k + 1)) 321) 6 ≡ true
-unfolding all_below
-units_right = refl
-
 -- a machine has at most 320 units
 pub few_units : (d : ℕ) → 1 ≤ d → d ≤ 6 → unit_count d < 321
-few_units d low high = let it = each_network (λ d. nat_lt (unit_count d) 321) units_right d low high in grind (arith, nat_tests)
+unfolding all_below
+few_units d low high = let it = each_network (λ d. nat_lt (unit_count d) 321) refl d low high in grind (arith, nat_tests)
 
 -- ---- switches, modules, processing elements
 -- units of one sort: what a block has of number i among them, and the number of that among all units

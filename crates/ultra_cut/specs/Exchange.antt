@@ -1,6 +1,6 @@
 -- messages go to the block of the unit to which they lead. What is said of replies and of requests
 -- is said of a kind
-use Rattle.std.specs.Prelude.{◌≡◌, ◌≢◌, ℕ, ◌+◌, ◌*◌, ◌^◌, ◌<◌, ◌==◌, List, Option, Some, None, true, false, length, map, slice_set}
+use Rattle.std.specs.Prelude.{◌≡◌, ◌≢◌, ℕ, ◌<◌, List, Option, None, length, map, slice_set}
 use Rattle.ultra_cut.specs.Prelude.{unit_count, on_link, without_both, AreEmpty, put_on_both, reply_inlets, request_inlets, taken_by_turns, Request, ReplyMessage, Ports}
 pub use Rattle.ultra_cut.specs.declared.kind.Kind.{Kind}
 pub use Rattle.ultra_cut.specs.declared.kind.Kind.TheVariants.{Replies, Requests}
@@ -33,10 +33,9 @@ on_each kind bs l = map (message_on kind l) bs
 
 -- ---- before and after
 -- no link has a message in two blocks
-abbrev pub AreSingle : Kind → List BlockState → Type 0
-AreSingle kind bs =
-    (l i j : ℕ) → i ≢ j → message_on kind l (block_at bs i) ≢ None
-    → message_on kind l (block_at bs j) ≡ None
+pub record AreSingle (kind : Kind) (bs : List BlockState) : Type 0 where
+  pub alone : (l i j : ℕ) → i ≢ j → message_on kind l (block_at bs i) ≢ None
+      → message_on kind l (block_at bs j) ≡ None
 
 -- of the blocks nothing has changed but where messages of the kind are; on each link is what was
 -- there
@@ -67,16 +66,3 @@ carried kind k h p bs =
     let left = slice_set bs k (with_table kind (without_both was p) (block_at bs k)) in
     let got = put_on_both (table kind (block_at left h)) p (taken_by_turns was p) in
     slice_set left h (with_table kind got (block_at left h))
-
--- unit n stands in block h: if that is another, what block k has for the unit goes there
-abbrev pub moved : Kind → ℕ → ℕ → ℕ → ℕ → List BlockState → List BlockState
-moved kind d k h n bs = elim (h == k) [
-  | true ↦ bs
-  | false ↦ elim (inlets kind d n) [ None ↦ bs | Some p ↦ carried kind k h p bs ]
-]
-
--- if it is another and anything can come to the unit, block h has all links
-abbrev pub HasLinks : Kind → ℕ → ℕ → ℕ → ℕ → List BlockState → Type 0
-HasLinks kind d k h n bs =
-    h ≢ k → (p : Ports ℕ) → inlets kind d n ≡ Some p
-    → length (table kind (block_at bs h)) ≡ (d + 1) * 2 ^ d

@@ -2,16 +2,12 @@
 //! all blocks together do to the whole machine in a cycle.
 #![tactic(auto)]
 
-mod holding;
+mod answers;
 mod kind;
 mod laws;
 mod moving;
-mod quiet;
-mod rooms;
 
-pub use holding::holders;
+pub use answers::{are_quiet, holders, note_rooms};
 pub use kind::Kind;
 pub use laws::half_laws;
 pub use moving::exchange;
-pub use quiet::are_quiet;
-pub use rooms::note_rooms;

@@ -1,8 +1,8 @@
 //! Messages go from the block in which they were sent to the block of the unit to which they lead.
 
 ghost use Rattle.std.specs.Prelude.{◌≡◌, ℕ, ◌<◌, IfNone, IfSome, length};
-ghost use Rattle.ultra_cut.specs.Prelude.{unit_count, AllStayWithin, IsNextAway};
-ghost use Rattle.ultra_cut.specs.{Cut.IsCut, Cut.block_at, Cut.home, Exchange.AreSingle, Exchange.AreThere, Exchange.HasLinks, Exchange.HasNoneFor, Exchange.OnlyMove, Exchange.inlets, Exchange.moved, Exchange.table};
+ghost use Rattle.ultra_cut.specs.Prelude.{AllStayWithin, IsNextAway};
+ghost use Rattle.ultra_cut.specs.{Cut.IsCut, Cut.block_at, Cut.home, Exchange.AreSingle, Exchange.AreThere, Exchange.HasNoneFor, Exchange.OnlyMove, Exchange.inlets, Exchange.table};
 
 use crate::kind::Kind;
 use ultra_route::Net;
@@ -20,17 +20,25 @@ fn next_for(block: &Block, kind: Kind, from: usize) -> Option<usize>
     }
 }
 
-/// Moves the messages of a kind in block `from` that lead to a unit to block `home`, in which the unit stands.
-#[inline(always)]
-fn move_messages(blocks: &mut [Block], kind: Kind, net: Net, from: usize, home: usize, unit: usize)
+/// Moves the messages in block `from` that lead to a unit of another block to that block.
+#[inline(never)]
+#[tactic(auto, using(crate::proofs::Moved::nothing_moved))]
+fn move_home(blocks: &mut [Block], partition: &[u8], kind: Kind, net: Net, from: usize, unit: usize)
     requires from { from < length blocks.old }
-    requires home { home < length blocks.old }
     requires unit { unit < 320 }
+    requires home { unit < length partition.now → home partition.now unit < length blocks.old }
     requires from_stages { (block_at blocks.old from).stages ≡ net }
-    requires home_stages { (block_at blocks.old home).stages ≡ net }
-    ensures moved { blocks.new ≡ moved kind net from home unit blocks.old }
-    ensures links { HasLinks kind net from home unit blocks.old }
+    requires home_stages { unit < length partition.now → (block_at blocks.old (home partition.now unit)).stages ≡ net }
+    requires single { AreSingle kind blocks.old }
+    ensures only { OnlyMove kind blocks.old blocks.new }
+    ensures gone { unit < length partition.now → HasNoneFor kind net partition.now blocks.new from unit }
+    ensures kept { (k n : ℕ) → HasNoneFor kind net partition.now blocks.old k n → HasNoneFor kind net partition.now blocks.new k n }
 {
+    let _stages = net.stages();
+    if unit >= partition.len() {
+        return;
+    }
+    let home = partition[unit] as usize;
     if home == from {
         return;
     }
@@ -50,27 +58,9 @@ fn move_messages(blocks: &mut [Block], kind: Kind, net: Net, from: usize, home: 
     }
 }
 
-/// Moves the messages in block `from` that lead to a unit of another block to that block.
-#[inline(never)]
-fn move_home(blocks: &mut [Block], partition: &[u8], kind: Kind, net: Net, from: usize, unit: usize)
-    requires from { from < length blocks.old }
-    requires unit { unit < 320 }
-    requires cut { IsCut net partition.now blocks.old }
-    requires single { AreSingle kind blocks.old }
-    ensures only { OnlyMove kind blocks.old blocks.new }
-    ensures gone { unit < unit_count net → HasNoneFor kind net partition.now blocks.new from unit }
-    ensures kept { (k n : ℕ) → HasNoneFor kind net partition.now blocks.old k n → HasNoneFor kind net partition.now blocks.new k n }
-{
-    let _stages = net.stages();
-    if unit >= partition.len() {
-        return;
-    }
-    let home = partition[unit] as usize;
-    move_messages(blocks, kind, net, from, home, unit);
-}
-
 /// Moves each message of a kind to the block of the unit to which it leads; nothing else changes. A block whose messages all lead to its own units is skipped.
 #[inline(always)]
+#[tactic(auto, using(crate::proofs::Moved::nothing_moved))]
 pub fn exchange(blocks: &mut [Block], partition: &[u8], kind: Kind, net: Net)
     requires cut { IsCut net partition.now blocks.old }
     requires single { AreSingle kind blocks.old }

@@ -1,5 +1,5 @@
 -- the combinations of two requests that come to a switch, in the order of the positions
-use Rattle.std.proofs.Common.{◌≡◌, ℕ, ◌+◌, ◌-◌, List, [], ◌∷◌, ◌++◌, true, false, get_or, length, length-append, set, refl, ap, ◌∙◌, arith, ◌&&◌, ◌||◌, ◌↔◌, is_some, not, Option}
+use Rattle.std.proofs.Common.{◌≡◌, ℕ, ◌+◌, ◌-◌, List, [], ◌∷◌, ◌++◌, true, false, get_or, length, length-append, set, refl, arith, ◌&&◌, ◌||◌, ◌↔◌, is_some, not, Option}
 use Rattle.ultra_halves.proofs.Common.{common_steps, Request, Event, SizedLane, lane_with, leaves_by, coming_to, combination_by, is_turned, in_order}
 use Rattle.std.proofs.lemmas.List.{append-nil, set-append_right, get_or_at, get_or-append-add}
 use Rattle.ultra_switch.specs.{declared.Ports.Ports, declared.Switch.Switch}
@@ -14,11 +14,7 @@ other_port d s r = grind arith
 pub last_turned : {X : Type 0} (items front : List X) (a b x y : X) (n : ℕ) → items ≡ front ++ a ∷ b ∷ [] → n ≡ length items
     → x ≡ get_or items (n - 2) x → y ≡ get_or items (n - 1) y → set (set items (n - 2) y) (n - 1) x ≡ front ++ b ∷ a ∷ []
 last_turned items front a b x y n are count first second =
-    let size : length items ≡ length front + 2 = ap length are ∙ length-append front (a ∷ b ∷ []) in
-    let low : length front ≡ n - 2 = omega arith in
-    let y_set = set-append_right front (a ∷ b ∷ []) (length front) (n - 2) y refl in
-    let x_set = set-append_right front (y ∷ b ∷ []) (length front) (n - 1) x refl in
-    grind (arith, get_or_at front a (b ∷ []) x (n - 2) low, get_or-append-add front (a ∷ b ∷ []) 1 y)
+    grind (arith, length-append, set-append_right front (a ∷ b ∷ []) (length front) (n - 2) y refl, set-append_right front (y ∷ b ∷ []) (length front) (n - 1) x refl, get_or_at front a (b ∷ []) x (n - 2), get_or-append-add front (a ∷ b ∷ []) 1 y)
 
 -- ---- what two requests that came one after the other have combined
 module _ (d s k : ℕ) (w : Switch) (first second : Option Request) (lanes : Ports SizedLane) (zero : lanes.zero ≡ lane_with w.to_mm.zero (coming_to d s 0 first)) (one : lanes.one ≡ lane_with w.to_mm.one (coming_to d s 1 first)) where

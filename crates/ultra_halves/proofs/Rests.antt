@@ -3,7 +3,7 @@ use Rattle.std.proofs.Common.{◌≡◌, ◌≢◌, ℕ, List, length-append, tr
 use Rattle.ultra_halves.proofs.Common.{Event, issue_event, stop_of}
 use Rattle.ultra_isa.specs.{declared.Instr.Instr, Step.has_stopped}
 use Rattle.ultra_model.specs.declared.Stop.{Stop}
-use Rattle.ultra_halves.specs.{Elements.element_of, Elements.step_at, Elements.executed, Elements.is_at_rest, Elements.holds_request, declared.elements.ProcessingElement.ProcessingElement}
+use Rattle.ultra_halves.specs.{Elements.element_of, Elements.step_at, Elements.executed, Elements.is_at_rest, Elements.changes_nothing, Elements.holds_request, declared.elements.ProcessingElement.ProcessingElement}
 
 module _ (program : List Instr) (e : ProcessingElement) where
   -- one that is at rest: a step leaves it as it is, issues nothing, and doesn't stop it
@@ -13,7 +13,8 @@ module _ (program : List Instr) (e : ProcessingElement) where
     pub stop : (p : ℕ) → stop_of p (step_at program e).was ≡ None
 
   pub left_at_rest : is_at_rest program e ≡ true → IsLeft
-  left_at_rest h = grind arith
+  unfolding changes_nothing
+  left_at_rest h = record { element = grind arith; issue = grind arith; stop = grind arith }
 
   -- a step that issues nothing leaves the interface as it is
   pub holds_as_before : issue_event (element_of e) (step_at program e).sent ≡ None → holds_request (executed program e) ≡ holds_request e
@@ -21,6 +22,7 @@ module _ (program : List Instr) (e : ProcessingElement) where
 
   -- it had not stopped, where it isn't at rest
   pub went_on : is_at_rest program e ≢ true → has_stopped e.processor.core.activity ≡ false
+  unfolding changes_nothing
   went_on moves = grind arith
 
   -- it holds the request that it has issued, and goes on

@@ -1,9 +1,8 @@
 -- a processing element after each half of a cycle
-use Rattle.std.specs.Prelude.{ℕ, List, Bool, false, not, ◌&&◌, ◌||◌, ◌==◌, nat_lt, nat_le, length, Option, Some, None, slice_get}
-use Rattle.ultra_halves.specs.Prelude.{list_any, ReplyMessage, Event, Instr, Core, Stepped, has_stopped, step_of, after_leaving, Element, deliver, stepped}
+use Rattle.std.specs.Prelude.{List, [], Bool, true, false, not, ◌&&◌, Option, Some, None}
+use Rattle.ultra_halves.specs.Prelude.{ReplyMessage, Event, Instr, Stepped, has_stopped, step_of, after_leaving, Element, deliver, stepped}
 use Rattle.ultra_model.specs.declared.Stop.{Stop}
-use Rattle.ultra_pni.specs.{declared.OpenCell.OpenCell, Interface.is_open, Interface.is_awaited}
-use Rattle.ultra_isa.specs.Instruction.{Site, names, Effect, refers, waits, effect}
+use Rattle.ultra_isa.specs.{declared.Step.Step, declared.Step.TheVariants.Stalled, declared.Step.TheVariants.Halted}
 use Rattle.ultra_halves.specs.{Halves.has_none, declared.elements.ProcessingElement.ProcessingElement, declared.elements.Outcome.Outcome, declared.elements.Outcome.TheVariants.Issued, declared.elements.Outcome.TheVariants.Faulted}
 
 -- what the definition of the whole machine sees of it
@@ -43,29 +42,16 @@ stop_in (Faulted s) = Some s
 stop_in outcome = None
 
 -- ---- steps that change nothing
--- at a processing element that may hold at most `most_open` cells open, and holds these open
-module _ (s : Site) (most_open : ℕ) (opened : List OpenCell) where
-  -- a reference to a cell of the memory has to wait where the cell is open already or as many are
-  -- open as may be, and a fence where a cell is open
-  abbrev pub has_to_wait : Effect → Bool
-  has_to_wait (refers a o target) =
-      nat_lt a s.all_cells && (is_open a opened || nat_le most_open (length opened))
-  has_to_wait waits = not (length opened == 0)
-  has_to_wait other = false
+unfoldable pub changes_nothing : Step → Bool
+changes_nothing Stalled = true
+changes_nothing Halted = true
+changes_nothing other = false
 
-  -- an instruction stalls where it names an awaited register or has to wait
-  abbrev pub stalls : Core → Option Instr → Bool
-  stalls c None = false
-  stalls c (Some n) =
-      list_any (λ r. is_awaited r opened) (names n) || has_to_wait (effect s c.registers c.place n)
-
-  -- whatever requests wait in its interface
-  abbrev pub can_only_stall : List Instr → Core → Bool
-  can_only_stall program c = has_stopped c.activity || stalls c (slice_get program c.place)
-
--- whether a step of the program leaves it as it is
+-- whether a step of the program leaves it as it is, whatever requests wait in its interface
 abbrev pub is_at_rest : List Instr → ProcessingElement → Bool
-is_at_rest program e = can_only_stall e.processor.site e.interface.most_open e.interface.interface.opened program e.processor.core
+is_at_rest program e =
+    let i = record e.interface.interface { pending = [] } in
+    changes_nothing (step_of e.processor.site e.interface.most_open program e.processor.core i).was
 
 -- ---- what it holds
 abbrev pub holds_request : ProcessingElement → Bool

@@ -82,10 +82,6 @@ second_of n o = elim (n % 2 == 0) [ true ↦ o.one | false ↦ o.zero ]
 abbrev pub both_coming : ℕ → ℕ → ℕ → Option Request → Option Request → List Request
 both_coming d s j first second = coming_to d s j first ++ coming_to d s j second
 
--- of what came to the two ports, the same in the order of cycle n
-abbrev pub arrivals : ℕ → ℕ → ℕ → ℕ → Ports (Option Request) → List Request
-arrivals d s j n came = both_coming d s j (first_of n came) (second_of n came)
-
 -- a combination, where there was one
 abbrev pub combination_event : ℕ → ℕ → Request → Option Combination → Option Event
 combination_event s x r None = None

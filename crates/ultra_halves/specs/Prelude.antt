@@ -1,5 +1,5 @@
 -- The words of the crates below that contracts and definitions here use. Those of std's own prelude come from there.
-pub use Rattle.std.specs.List.{filter, list_any}
+pub use Rattle.std.specs.List.{filter}
 pub use Rattle.std.specs.Option.{ForSome}
 pub use Rattle.ultra_isa.specs.Step.{Core, Stepped, has_stopped, step_of}
 pub use Rattle.ultra_isa.specs.declared.Instr.{Instr}

@@ -67,15 +67,12 @@ after_both d s w first second =
 abbrev pub after_requests : ℕ → ℕ → ℕ → Switch → Ports (Option Request) → Switch
 after_requests d s n w came = after_both d s w (first_of n came) (second_of n came)
 
--- the combinations that they make in a queue toward memory, which is at position x
-abbrev pub combinations_at : ℕ → ℕ → SizedLane → List Request → List Event
-combinations_at s x l rs = combinations l.wait_places s x l.lane rs
-
--- those that they make in switch k of the stage: those of port 0, and then those of port 1
+-- the combinations that they make in switch k of the stage: those of port 0, then those of port 1
 abbrev pub combinations_of_both : ℕ → ℕ → ℕ → Switch → Option Request → Option Request → List Event
 combinations_of_both d s k w first second =
-    combinations_at s (2 * k) w.to_mm.zero (both_coming d s 0 first second)
-    ++ combinations_at s (2 * k + 1) w.to_mm.one (both_coming d s 1 first second)
+    let made = λ (j : ℕ) (l : SizedLane).
+    combinations l.wait_places s (2 * k + j) l.lane (both_coming d s j first second) in
+    made 0 w.to_mm.zero ++ made 1 w.to_mm.one
 
 abbrev pub combinations_of : ℕ → ℕ → ℕ → ℕ → Switch → Ports (Option Request) → List Event
 combinations_of d s k n w came = combinations_of_both d s k w (first_of n came) (second_of n came)
@@ -92,9 +89,8 @@ holds_requests w = not (of_both (λ l. has_none l.lane.queue) w.to_mm)
 abbrev pub keeps_records : Switch → Bool
 keeps_records w = not (of_both (λ l. has_none l.lane.records) w.to_mm)
 
-abbrev pub quiet_lane : SizedLane → Bool
-quiet_lane l = has_none l.lane.queue && has_none l.lane.records
-
 -- nothing is in its queues and wait buffers
 abbrev pub quiet_switch : Switch → Bool
-quiet_switch w = of_both quiet_lane w.to_mm && of_both (λ q. has_none q.replies) w.to_pe
+quiet_switch w =
+    of_both (λ l. has_none l.lane.queue && has_none l.lane.records) w.to_mm
+    && of_both (λ q. has_none q.replies) w.to_pe

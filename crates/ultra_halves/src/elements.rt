@@ -40,10 +40,10 @@ impl ProcessingElement {
         requires { length self.old.interface.interface.pending < length self.old.interface.interface.opened }
         ensures { self.new ≡ delivered_to self.old (Some reply) }
     {
-        if let Some(register) = self.interface.deliver(reply) {
-            if let Reply::Value(word) = reply.reply {
-                self.processor.receive(register, word);
-            }
+        if let Some(register) = self.interface.deliver(reply)
+            && let Reply::Value(word) = reply.reply
+        {
+            self.processor.receive(register, word);
         }
     }
 
@@ -64,6 +64,7 @@ impl ProcessingElement {
     }
 
     /// One step of the program. `pe` is the number of the processing element.
+    #[tactic(auto, unfolding(crate::specs::Elements::changes_nothing))]
     pub fn execute(&mut self, program: &Program, pe: Pe) -> Outcome
         requires { self.old.issued < 2 ^ 32 - 1 }
         ensures element { self.new ≡ executed program.now self.old }

@@ -42,11 +42,9 @@ pub fn take_reply(
     reply: Option<ReplyPacket>,
 )
     requires stage { stage < net }
-    requires zero { ForSome reply (λ _. length to_pe.old.zero.replies + 2 ≤ to_pe.old.zero.places) }
-    requires one { ForSome reply (λ _. length to_pe.old.one.replies + 2 ≤ to_pe.old.one.places) }
+    requires room { ForSome reply (λ _. (length to_pe.old.zero.replies + 2 ≤ to_pe.old.zero.places) × (length to_pe.old.one.replies + 2 ≤ to_pe.old.one.places)) }
     ensures records { to_mm.new ≡ lane_after_reply to_mm.old reply }
-    ensures zero { to_pe.new.zero ≡ with_replies to_pe.old.zero (going_by net stage 0 (replies_made to_mm.old.lane.records reply)) }
-    ensures one { to_pe.new.one ≡ with_replies to_pe.old.one (going_by net stage 1 (replies_made to_mm.old.lane.records reply)) }
+    ensures queues { to_pe.new ≡ ports_by (λ j q. with_replies q (going_by net stage j (replies_made to_mm.old.lane.records reply))) to_pe.old }
 {
     let Some(reply) = reply else {
         return;

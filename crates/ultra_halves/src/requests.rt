@@ -84,8 +84,7 @@ pub fn take_request(
 ) -> bool
     requires stage { stage < net }
     requires index { index < 2 ^ (net - 1) }
-    requires room_zero { ForSome request.now (λ r. IsTrue (leaves_by net stage 0 r) → length to_mm.old.zero.lane.queue < to_mm.old.zero.request_places) }
-    requires room_one { ForSome request.now (λ r. IsTrue (leaves_by net stage 1 r) → length to_mm.old.one.lane.queue < to_mm.old.one.request_places) }
+    requires room { ForSome request.now (λ r. (IsTrue (leaves_by net stage 0 r) → length to_mm.old.zero.lane.queue < to_mm.old.zero.request_places) × (IsTrue (leaves_by net stage 1 r) → length to_mm.old.one.lane.queue < to_mm.old.one.request_places)) }
     requires event_room { length events.old.items < vec_capacity events.old }
     ensures zero { to_mm.new.zero ≡ lane_with to_mm.old.zero (coming_to net stage 0 request.now) }
     ensures one { to_mm.new.one ≡ lane_with to_mm.old.one (coming_to net stage 1 request.now) }
@@ -135,11 +134,8 @@ pub fn is_turned(
     requires { stage < net }
     ensures { result ≡ is_turned net stage first.now second.now }
 {
-    match (first, second) {
-        (Some(first), Some(second)) => {
-            net.request_port(stage, first.cell()) == 1
-                && net.request_port(stage, second.cell()) == 0
-        }
-        _ => false,
-    }
+    let (Some(first), Some(second)) = (first, second) else {
+        return false;
+    };
+    net.request_port(stage, first.cell()) == 1 && net.request_port(stage, second.cell()) == 0
 }

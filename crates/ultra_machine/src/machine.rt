@@ -4,6 +4,7 @@ ghost use Rattle.std.specs.Prelude.{◌≡◌, ◌-◌, ◌^◌, ◌<◌, ◌↔
 ghost use Rattle.ultra_model.specs.{Machine.start, Machine.is_quiet as quiet, Machine.lane_at, Machine.replies_at, Machine.bank_at, Machine.element_at, Machine.site, Phases.cycle as next_cycle};
 ghost use Rattle.ultra_halves.specs.Elements.{element_of};
 ghost use Rattle.ultra_block.specs.{Cut.is_partition, Dealt.IsLastNamed};
+ghost use Rattle.ultra_machine.specs.Running.{Running};
 
 use std::alloc::{AllocError, Global};
 use std::marker::Model;
@@ -24,9 +25,6 @@ pub struct Machine {
 }
 
 impl Model for Machine {
-    ghost use Rattle.std.specs.Prelude.{◌≡◌};
-    ghost use Rattle.ultra_machine.specs.Running.{Running};
-
     ghost Value = { Running };
 
     ghost view = { λ m. record { settings = m.blocks.config; program = m.blocks.program; state = m.blocks.machine } };

@@ -1,2 +1,1 @@
 pub mod Merged
-pub mod Front

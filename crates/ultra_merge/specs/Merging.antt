@@ -1,8 +1,9 @@
 -- lists of entries, each in the order of the ranks, and the one list that they make together
-use Rattle.std.specs.Prelude.{◌≡◌, ℕ, ◌<◌, ◌≤◌, ◌==◌, List, [], ◌∷◌, All, filter, refl, slice_index_or}
+use Rattle.std.specs.Prelude.{◌≡◌, ℕ, ◌<◌, ◌≤◌, ◌==◌, List, [], ◌∷◌, All, filter, refl, slice_index_or, Option, Some, None}
 use Rattle.std.specs.List.Sorted.{IsNonDecreasingBy}
 use Rattle.std.specs.Coded.{Coded, code_by, coded×, coded_list}
 use Rattle.ultra_model.specs.Places.{places, joined}
+use Rattle.ultra_merge.specs.declared.Front.{Front}
 
 module _ {T : Type 0} (rank : T → ℕ) where
   -- the entries of one rank, in order
@@ -18,20 +19,21 @@ module _ {T : Type 0} (rank : T → ℕ) where
     pub ascends : IsNonDecreasingBy rank entries
     pub within : All (λ e. rank e < count) entries
 
-  -- of the first n lists, list k has the entry that comes next: one of rank r stands first there,
-  -- the lists before it have greater ranks only, and from it on no list has a smaller one
-  pub record IsNextPlace (lists : List (List T)) (n k r : ℕ) : Type 0 where
-    pub within : k < n
+  -- of the first n lists, list `place` has the entry that comes next: one of this rank stands first
+  -- there, the lists before it have greater ranks only, and from it on no list has a smaller one
+  pub record IsNextPlace (lists : List (List T)) (n place r : ℕ) : Type 0 where
+    pub within : place < n
     pub entry : T
     pub rest : List T
-    pub is : slice_index_or lists k [] ≡ entry ∷ rest
+    pub is : slice_index_or lists place [] ≡ entry ∷ rest
     pub ranked : rank entry ≡ r
-    pub before : (i : ℕ) → i < k → All (λ e. r < rank e) (slice_index_or lists i [])
-    pub behind : (i : ℕ) → k ≤ i → i < n → All (λ e. r ≤ rank e) (slice_index_or lists i [])
+    pub before : (i : ℕ) → i < place → All (λ e. r < rank e) (slice_index_or lists i [])
+    pub behind : (i : ℕ) → place ≤ i → i < n → All (λ e. r ≤ rank e) (slice_index_or lists i [])
 
--- the first n lists have no entry
-abbrev pub AreEmpty : {T : Type 0} → List (List T) → ℕ → Type 0
-AreEmpty lists n = (i : ℕ) → i < n → slice_index_or lists i [] ≡ []
+  -- the one of the first n lists whose first entry comes next; there is none where they are empty
+  abbrev pub IsFront : List (List T) → ℕ → Option Front → Type 0
+  IsFront lists n None = (i : ℕ) → i < n → slice_index_or lists i [] ≡ []
+  IsFront lists n (Some f) = IsNextPlace lists n f.place f.rank
 
 -- what a merge has left: what ranks its entries, and the rest of each list
 pub record Remainder (R T : Type 0) : Type 0 where

@@ -72,12 +72,10 @@ module _ {M : Type 0} (d : ℕ) (owner : ℕ → ℕ) (n : ℕ) (t : List (Optio
   one_apart q own o l other = grind (arith, get_or-set_other)
 
   two_there : (q : Option (Ports ℕ)) → AreOwn d owner n q → length t ≡ (d + 1) * 2 ^ d → n < switch_count d → (o : Ports (Option M)) → on_two (with_two t q o) q ≡ on_links_after q (on_two t q) o
-  two_there None own long h o = refl
-  two_there (Some p) own long h o = grind (arith, get_or-set_same, get_or-set_other, length-set)
+  two_there q own long h o = grind (arith, get_or-set_same, get_or-set_other, length-set)
 
   one_there : (q : Option (Ports ℕ)) → AreOwn d owner n q → length t ≡ (d + 1) * 2 ^ d → (o : Option M) → on_one (with_one t q o) q ≡ on_links_after q (on_one t q) o
-  one_there None own long o = refl
-  one_there (Some p) own long o = grind (arith, get_or-set_same)
+  one_there q own long o = grind (arith, get_or-set_same)
 
   -- what is the same on its links is read the same
   same_on : (q : Option (Ports ℕ)) → AreOwn d owner n q → (now : List (Option M)) → ((l : ℕ) → owner l ≡ n → on_link now l ≡ on_link t l) → (on_two now q ≡ on_two t q) × (on_one now q ≡ on_one t q)

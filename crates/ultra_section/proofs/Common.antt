@@ -1,37 +1,13 @@
 -- The words and lemmas of the crates below and of this one that proofs here use. Those of std's `Common` come from there.
-pub use Rattle.std.proofs.lemmas.Grind.{common_steps}
-pub use Rattle.std.proofs.lemmas.List.{append-nil, get_or_default, length-replicate, length-set, set-get_or}
+pub use Rattle.std.proofs.lemmas.{Bool.cases_eq, Bool.Decides.nat_tests, Grind.common_steps, List.append-nil, List.get_or_default, List.length-replicate, List.length-set, List.set-get_or}
 pub use Rattle.std.specs.Option.{ForSome}
-pub use Rattle.ultra_halves.proofs.Combinations.{all_in_order, combined_alone, combined_both, none_combined}
-pub use Rattle.ultra_halves.proofs.Rests.{faulted_stops, holds_as_before, issued_holds, issued_runs, left_at_rest, went_on}
-pub use Rattle.ultra_halves.specs.Elements.{holds_request, is_at_rest}
-pub use Rattle.ultra_halves.specs.Halves.{coming_to, first_of, has_none, in_order, lane_with, ports, second_of}
-pub use Rattle.ultra_halves.specs.Switches.{after_both, combinations_of, combinations_of_both, holds_replies, holds_requests}
-pub use Rattle.ultra_halves.specs.declared.elements.ProcessingElement.{ProcessingElement}
+pub use Rattle.ultra_halves.proofs.{Combinations.all_in_order, Combinations.combined_alone, Combinations.combined_both, Combinations.none_combined, Rests.faulted_stops, Rests.holds_as_before, Rests.issued_holds, Rests.issued_runs, Rests.left_at_rest, Rests.went_on}
+pub use Rattle.ultra_halves.specs.{Elements.holds_request, Elements.is_at_rest, Halves.coming_to, Halves.first_of, Halves.has_none, Halves.in_order, Halves.lane_with, Halves.ports, Halves.second_of, Switches.after_both, Switches.combinations_of, Switches.combinations_of_both, Switches.holds_replies, Switches.holds_requests, declared.elements.ProcessingElement.ProcessingElement}
 pub use Rattle.ultra_isa.specs.declared.Instr.{Instr}
 pub use Rattle.ultra_mem.specs.Serve.{Bank}
-pub use Rattle.ultra_model.specs.Phases.{arrive_all, combination, combinations, records_left}
-pub use Rattle.ultra_model.specs.Places.{after_leaving, present}
-pub use Rattle.ultra_msg.specs.declared.Event.{Event}
-pub use Rattle.ultra_msg.specs.declared.ReplyMessage.{ReplyMessage}
-pub use Rattle.ultra_msg.specs.declared.Request.{Request}
-pub use Rattle.ultra_switch.specs.declared.Ports.{Ports}
-pub use Rattle.ultra_switch.specs.declared.Switch.{Switch}
-pub use Rattle.ultra_units.proofs.Marks.{Fewer, emptied, emptied_first, emptied_in_turn, fewer_both, fewer_set, no_entry}
-pub use Rattle.ultra_units.proofs.Readers.{AreRead, are_inlets, replies_read, requests_read}
-pub use Rattle.ultra_units.proofs.Standing.{is_switch, unit_is, unit_of_element, unit_of_module, unit_of_switch}
-pub use Rattle.ultra_units.specs.Inlets.{AreEmpty, AreTargets, at_both}
-pub use Rattle.ultra_units.specs.Marks.{on_both, on_link, reply_links, request_links}
-pub use Rattle.ultra_units.specs.Numbers.{element_number, module_number, place_number, switch_count, unit_count}
-pub use Rattle.ultra_units.specs.Set.{IsFirstFrom, has_unit}
-pub use Rattle.ultra_units.specs.Units.{IsElement, IsModule, IsUnit, index_of, of_unit, stage_of, unit_of}
-pub use Rattle.ultra_units.specs.declared.unit.Unit.{Unit}
-pub use Rattle.ultra_section.specs.Away.{IsNextAway, stands}
-pub use Rattle.ultra_section.specs.BlockState.{AreOthersAtRest, BlockState, HasEventRoom, HasStopRoom, element_at, module_at, most_events, switch_at}
-pub use Rattle.ultra_section.specs.Execution.{CanExecuteAt, element_executes, executes, executes_own}
-pub use Rattle.ultra_section.specs.Idle.{GetsNoReply, GetsNoRequest, HoldsNoReply, HoldsNoRequest, IsAsleep, ServesNothing}
-pub use Rattle.ultra_section.specs.RepliesTaken.{CanTakeRepliesAt, UnitCanTakeReplies, element_takes_reply, reply_at_element, switch_takes_replies, takes_replies}
-pub use Rattle.ultra_section.specs.RequestsTaken.{CanTakeRequestsAt, UnitCanTakeRequests, module_takes_request, request_at_module, switch_takes_requests, takes_requests}
-pub use Rattle.ultra_section.specs.Rooms.{AreOwnRooms}
-pub use Rattle.ultra_section.specs.Sets.{AreNoted, IsKept, UnitFacts, all_noted, element_facts, facts_at, if_here, module_facts, no_facts, seen_of, switch_facts, would_serve}
-pub use Rattle.ultra_section.specs.declared.rooms.Rooms.{Rooms}
+pub use Rattle.ultra_model.specs.{Phases.arrive_all, Phases.combination, Phases.combinations, Phases.records_left, Places.after_leaving, Places.present}
+pub use Rattle.ultra_msg.specs.{declared.Event.Event, declared.ReplyMessage.ReplyMessage, declared.Request.Request}
+pub use Rattle.ultra_switch.specs.{declared.Ports.Ports, declared.Switch.Switch}
+pub use Rattle.ultra_units.proofs.{Marks.Fewer, Marks.emptied, Marks.emptied_first, Marks.emptied_in_turn, Marks.fewer_both, Marks.fewer_set, Marks.no_entry, Readers.AreRead, Readers.are_inlets, Readers.replies_read, Readers.requests_read, Standing.is_switch, Standing.unit_is, Standing.unit_of_element, Standing.unit_of_module, Standing.unit_of_switch}
+pub use Rattle.ultra_units.specs.{Inlets.AreEmpty, Inlets.AreTargets, Inlets.at_both, Marks.on_both, Marks.on_link, Marks.reply_links, Marks.request_links, Numbers.element_number, Numbers.module_number, Numbers.place_number, Numbers.switch_count, Numbers.unit_count, Set.IsFirstFrom, Set.has_unit, Units.IsElement, Units.IsModule, Units.IsUnit, Units.index_of, Units.of_unit, Units.stage_of, Units.unit_of, declared.unit.Unit.Unit}
+pub use Rattle.ultra_section.specs.{Away.IsNextAway, Away.stands, BlockState.AreOthersAtRest, BlockState.BlockState, BlockState.HasEventRoom, BlockState.HasStopRoom, BlockState.element_at, BlockState.module_at, BlockState.most_events, BlockState.switch_at, Execution.CanExecuteAt, Execution.element_executes, Execution.executes, Execution.executes_own, Holding.GetsNoReply, Holding.GetsNoRequest, Holding.HoldsNoReply, Holding.HoldsNoRequest, Holding.IsAsleep, Holding.ServesNothing, RepliesTaken.CanTakeRepliesAt, RepliesTaken.UnitCanTakeReplies, RepliesTaken.element_takes_reply, RepliesTaken.reply_at_element, RepliesTaken.switch_takes_replies, RepliesTaken.takes_replies, RequestsTaken.CanTakeRequestsAt, RequestsTaken.UnitCanTakeRequests, RequestsTaken.module_takes_request, RequestsTaken.request_at_module, RequestsTaken.switch_takes_requests, RequestsTaken.takes_requests, Rooms.AreOwnRooms, Sets.AreNoted, Sets.IsKept, Sets.UnitFacts, Sets.all_noted, Sets.element_facts, Sets.facts_at, Sets.if_here, Sets.module_facts, Sets.no_facts, Sets.seen_of, Sets.switch_facts, Sets.would_serve, declared.rooms.Rooms.Rooms}

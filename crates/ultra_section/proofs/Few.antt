@@ -8,14 +8,11 @@ unfolding entries_before
 few_entries entries t most few zero = omega arith
 few_entries entries t most few (suc n) = omega (arith, few_entries entries t most few n, few n, length-append (entries_before entries n t) (entries n t))
 
-ordered_present : {E : Type 0} (turned : Bool) (x y : Option E) → length (present (in_order turned x y)) ≤ 2
-ordered_present turned x y = grind arith
-
 -- a switch makes at most two combinations in a cycle
 pub two_combine : (d s k n : ℕ) (w : Switch) (came : Ports (Option Request)) → length (combinations_of d s k n w came) ≤ 2
 two_combine d s k n w came =
     let lanes = ports (lane_with w.to_mm.zero (coming_to d s 0 (first_of n came))) (lane_with w.to_mm.one (coming_to d s 1 (first_of n came))) in
-    subst (λ es. length es ≤ 2) (all_in_order d s k w (first_of n came) (second_of n came) lanes refl refl) (ordered_present _ _ _)
+    subst (λ es. length es ≤ 2) (all_in_order d s k w (first_of n came) (second_of n came) lanes refl refl) (grind arith)
 
 -- where at most n events have happened, there is room for those of one half
 pub room_for_half : (b : BlockState) → length b.events + 640 ≤ most_events → (n : ℕ) → HasEventRoom n b

@@ -1,10 +1,8 @@
 -- What a block knows of its units is kept when one of them is put anew and noted, and says which rooms are its own and what leads elsewhere.
 use Rattle.std.proofs.Common.{◌≡◌, ◌≢◌, ℕ, ◌^◌, ◌<◌, ◌≤◌, List, false, Option, Some, None, set, get_or, refl, sym, ◌∙◌, ap, arith, get_or-set_same, get_or-set_other, ◌&&◌, Bool, slice_index_or, IsTrue, not, IfSome, ◌||◌, replicate, length, vec_capacity}
-use Rattle.ultra_section.proofs.Common.{ForSome, length-set, get_or_default, Switch, Bank, Instr, ProcessingElement, switch_count, has_unit, IsFirstFrom, is_at_rest, Ports, IsModule, IsElement, of_unit, unit_is, unit_of_element, unit_of_module, unit_of_switch, AreNoted, UnitFacts, facts_at, no_facts, switch_facts, module_facts, element_facts, AreOthersAtRest, IsKept, seen_of, element_at, AreTargets, IsNextAway, AreOwnRooms, Rooms}
-use Rattle.std.proofs.lemmas.Bool.{cases_eq}
+use Rattle.ultra_section.proofs.Common.{cases_eq, ForSome, length-set, get_or_default, Switch, Bank, Instr, ProcessingElement, switch_count, has_unit, IsFirstFrom, is_at_rest, Ports, IsModule, IsElement, of_unit, unit_is, unit_of_element, unit_of_module, unit_of_switch, AreNoted, UnitFacts, facts_at, no_facts, switch_facts, module_facts, element_facts, AreOthersAtRest, IsKept, seen_of, element_at, AreTargets, IsNextAway, AreOwnRooms, Rooms}
 use Rattle.ultra_units.specs.Links.{LinksState}
-use Rattle.ultra_section.specs.declared.block.Block.TheInside.{Inside as Block}
-use Rattle.ultra_section.specs.declared.sets.Sets.{Sets}
+use Rattle.ultra_section.specs.{declared.block.Block.TheInside.Inside as Block, declared.sets.Sets.Sets}
 use Rattle.ultra_units.proofs.Set.{none_there}
 
 -- ---- facts of units, where `fs`, `fb` and `fe` give those of a switch, of a module and of a processing element
@@ -103,12 +101,8 @@ module _ {b a : Block} (known : IsKept b) {n : ℕ} {g : UnitFacts → UnitFacts
 abbrev pub own_rooms : Sets → Rooms
 own_rooms s = record { no_reply_room = s.no_reply_room; no_request_room = s.no_request_room }
 
--- what is true here is noted, whatever wasn't noted before
-first : (n : ℕ) (seen here : Bool) → seen ≡ here → seen ≡ (has_unit (replicate 5 0) n || here)
-first n seen here is = is ∙ sym (ap (λ b. b || here) (none_there 5 n))
-
 pub are_own : {b : Block} → IsKept b → AreOwnRooms (seen_of b) (own_rooms b.sets)
-are_own known = grind (arith, known.facts, first)
+are_own known = grind (arith, known.facts, none_there 5)
 
 -- ---- what leads to units elsewhere
 -- `away` are the units to which messages of a kind lead that don't stand in the block

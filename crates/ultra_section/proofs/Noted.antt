@@ -1,34 +1,26 @@
 -- What is noted of a switch or a module once messages have come to it or left it: its queues are longer then, or shorter, and it keeps more records, or fewer.
 use Rattle.std.proofs.Common.{◌≡◌, ℕ, ◌≤◌, List, ◌++◌, true, Option, Some, length, length-append, arith, [], ◌∷◌, refl, Bool, false}
-use Rattle.ultra_section.proofs.Common.{Request, ReplyMessage, Switch, after_leaving, arrive_all, combination, combinations, records_left, has_none, after_both, combinations_of_both, switch_facts, common_steps, all_noted}
-use Rattle.std.proofs.lemmas.Bool.Decides.{nat_tests}
+use Rattle.ultra_section.proofs.Common.{nat_tests, Request, ReplyMessage, Switch, after_leaving, arrive_all, combination, combinations, records_left, has_none, after_both, combinations_of_both, switch_facts, common_steps, all_noted}
 use Rattle.ultra_halves.proofs.Arrivals.{arrive_all_no_shorter}
-use Rattle.ultra_switch.specs.declared.WaitRecord.{WaitRecord}
-use Rattle.ultra_switch.specs.Arrive.{Lane, Combination, after_arrival, arrive, combine_within}
+use Rattle.ultra_switch.specs.{declared.WaitRecord.WaitRecord, Arrive.Lane, Arrive.Combination, Arrive.after_arrival, Arrive.arrive, Arrive.combine_within}
 
 -- ---- records: none comes with replies
 pub none_left : (ws : List WaitRecord) (o : Option ReplyMessage) → has_none ws ≡ true → has_none (records_left ws o) ≡ true
 none_left ws o h = grind (arith, common_steps)
 
 -- none goes with requests
-no_fewer_yet : (l : Lane) (r : Request) (o : Option Combination) → length l.records ≤ length (after_arrival l r o).records
-no_fewer_yet l r o = grind (arith, length-append)
-
 no_fewer : (n : ℕ) (l : Lane) (rs : List Request) → length l.records ≤ length (arrive_all n l rs).records
 no_fewer n l [] = omega arith
-no_fewer n l (r ∷ rs) = omega (arith, no_fewer_yet l r (combine_within n l r), no_fewer n (arrive n l r) rs)
+no_fewer n l (r ∷ rs) = let later = no_fewer n (arrive n l r) rs in grind (arith, length-append)
 
 -- one comes only with a combination
 both_empty : {X : Type 0} (xs ys : List X) → xs ++ ys ≡ [] → (xs ≡ []) × (ys ≡ [])
 both_empty [] ys h = (refl, h)
 both_empty (x ∷ xs) ys h = cc
 
-not_combined : (s x : ℕ) (r : Request) (l : Lane) (o : Option Combination) → combination s x r o ≡ [] → (after_arrival l r o).records ≡ l.records
-not_combined s x r l o h = grind arith
-
 none_combined : (n s x : ℕ) (l : Lane) (rs : List Request) → combinations n s x l rs ≡ [] → (arrive_all n l rs).records ≡ l.records
 none_combined n s x l [] h = refl
-none_combined n s x l (r ∷ rs) h = grind (arith, both_empty, not_combined, none_combined n s x (arrive n l r) rs)
+none_combined n s x l (r ∷ rs) h = grind (arith, both_empty, none_combined n s x (arrive n l r) rs)
 
 -- ---- a queue that something leaves
 pub shorter : {X Y : Type 0} (o : Option Y) (xs : List X) → length (after_leaving o xs) ≤ length xs

@@ -29,13 +29,10 @@ module _ {T : Type 0} (f : ℕ → T → T) (P : T → Type 0) (keeps : (j : ℕ
     not_yet_changed (suc k) t p before = others k (after_units f k t) (all_keep k t p) (λ same. absurd (omega arith)) ∙ not_yet_changed k t p (omega arith)
 
     module _ (g : X → X) (own : (t : T) → P t → get (f n t) ≡ g (get t)) where
-      next_visit : (k : ℕ) (t : T) → P t → n < suc k → (n < k → get (after_units f k t) ≡ g (get t)) → get (f k (after_units f k t)) ≡ g (get t)
-      next_visit k t p within before = grind (arith, all_keep, not_yet_changed)
-
       pub changed_once : (m : ℕ) (t : T) → P t → n < m → get (after_units f m t) ≡ g (get t)
       unfolding after_units
       changed_once zero t p within = absurd (omega arith)
-      changed_once (suc k) t p within = next_visit k t p within (changed_once k t p)
+      changed_once (suc k) t p within = let before = changed_once k t p in grind (arith, all_keep, not_yet_changed)
 
   -- the events of the units, one after another
   module _ {E : Type 0} (events : T → List E) (entries : ℕ → T → List E) (adds : (j : ℕ) (t : T) → P t → events (f j t) ≡ events t ++ entries j t)

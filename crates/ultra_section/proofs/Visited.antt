@@ -9,55 +9,22 @@ use Rattle.ultra_section.proofs.Once.{all_keep}
 pub same_entry : {X : Type 0} (xs : List (Option X)) (i : ℕ) (o : Option X) → get_or xs i None ≡ o → set xs i o ≡ xs
 same_entry xs i o is = ap (λ x. set xs i x) (sym is) ∙ set-get_or xs i None
 
--- ---- where nothing is sent or served
+-- ---- where there is nothing to do
 module _ (b : BlockState) where
-  -- ---- replies
-  switch_replies : (closed : List ℕ) (n s k : ℕ) → if_here holds_replies (switch_at b.switches n) ≡ false → switch_sends_replies closed n s k b ≡ b
-  switch_replies closed n s k h = grind (arith, common_steps, same_entry)
-
-  module_reply : (closed : List ℕ) (m : ℕ) → if_here (λ bank. is_some bank.out) (module_at b.modules m) ≡ false → module_sends_reply closed m b ≡ b
-  module_reply closed m h = grind (arith, same_entry)
-
-  -- ---- requests
-  switch_requests : (closed : Ports (List ℕ)) (n s k : ℕ) → if_here holds_requests (switch_at b.switches n) ≡ false → switch_sends_requests closed n s k b ≡ b
-  switch_requests closed n s k h = grind (arith, common_steps, same_entry)
-
-  element_request : (closed : Ports (List ℕ)) (p : ℕ) → if_here holds_request (element_at b.elements p) ≡ false → element_sends_request closed p b ≡ b
-  element_request closed p h = grind (arith, same_entry)
-
-  -- ---- memory
-  module_service : (m : ℕ) → if_here would_serve (module_at b.modules m) ≡ false → module_serves m b ≡ b
-  module_service m h = grind (arith, same_entry, append-nil)
-
-  -- ---- each unit
   pub sends_no_reply : (closed : List ℕ) (n : ℕ) → HoldsNoReply n b → sends_replies closed n b ≡ b
-  sends_no_reply closed n none = grind (arith, switch_replies, module_reply)
+  sends_no_reply closed n none = grind (arith, common_steps, same_entry)
 
   pub sends_no_request : (closed : Ports (List ℕ)) (n : ℕ) → HoldsNoRequest n b → sends_requests closed n b ≡ b
-  sends_no_request closed n none = grind (arith, switch_requests, element_request)
+  sends_no_request closed n none = grind (arith, common_steps, same_entry)
 
   pub serves_none : (n : ℕ) → ServesNothing n b → serves n b ≡ b
-  serves_none n none = grind (arith, module_service)
-
--- ---- where nothing comes
-module _ (b : BlockState) where
-  no_replies_to_switch : (n s k : ℕ) → AreEmpty b.replies (Some (reply_links b.stages s k)) → switch_takes_replies n s k b ≡ b
-  no_replies_to_switch n s k empty = grind (arith, same_entry, append-nil)
-
-  element_reply : (p : ℕ) → reply_at_element p b ≡ None → element_takes_reply p b ≡ b
-  element_reply p empty = grind (arith, same_entry, append-nil)
+  serves_none n none = grind (arith, same_entry, append-nil)
 
   pub takes_no_reply : (n : ℕ) → GetsNoReply n b → takes_replies n b ≡ b
-  takes_no_reply n empty = grind (arith, no_replies_to_switch, element_reply)
-
-  no_requests_to_switch : (n s k : ℕ) → AreEmpty b.requests (Some (request_links b.stages s k)) → switch_takes_requests n s k b ≡ b
-  no_requests_to_switch n s k empty = grind (arith, same_entry, append-nil)
-
-  module_request : (m : ℕ) → request_at_module m b ≡ None → module_takes_request m b ≡ b
-  module_request m empty = grind (arith, same_entry)
+  takes_no_reply n empty = grind (arith, same_entry, append-nil)
 
   pub takes_no_request : (n : ℕ) → GetsNoRequest n b → takes_requests n b ≡ b
-  takes_no_request n empty = grind (arith, no_requests_to_switch, module_request)
+  takes_no_request n empty = grind (arith, same_entry, append-nil)
 
   -- ---- where nothing comes once something has been taken elsewhere
   pub no_reply_left : (n s i k : ℕ) → GetsNoReply k b → GetsNoReply k (switch_takes_replies n s i b)

@@ -1,9 +1,8 @@
 -- which unit stands in a block, and what leads from it to units elsewhere
 use Rattle.std.specs.Prelude.{◌≡◌, ℕ, ◌≤◌, ◌<◌, Bool, false, List, Option, is_some}
-use Rattle.ultra_section.specs.Prelude.{Ports, unit_of}
+use Rattle.ultra_section.specs.{Prelude.Ports, Prelude.unit_of, BlockState.BlockState, BlockState.switch_at, BlockState.module_at, BlockState.element_at}
 use Rattle.ultra_units.specs.declared.unit.Unit.TheVariants as unit
 pub use Rattle.ultra_units.specs.Inlets.{reply_inlets, request_inlets, taken_by_turns, put_on_both, AreEmpty}
-use Rattle.ultra_section.specs.BlockState.{BlockState, switch_at, module_at, element_at}
 
 -- whether the unit with number n stands in a block
 abbrev pub stands : ℕ → BlockState → Bool

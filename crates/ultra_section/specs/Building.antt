@@ -1,8 +1,7 @@
 -- a block without units, and units that go from one block to another
 use Rattle.std.specs.Prelude.{ℕ, ◌+◌, ◌*◌, ◌^◌, List, [], None, replicate, slice_set}
-use Rattle.ultra_section.specs.Prelude.{Instr, switch_count, unit_of, put_on}
+use Rattle.ultra_section.specs.{Prelude.Instr, Prelude.switch_count, Prelude.unit_of, Prelude.put_on, BlockState.BlockState, BlockState.switch_at, BlockState.module_at, BlockState.element_at}
 use Rattle.ultra_units.specs.declared.unit.Unit.TheVariants as unit
-use Rattle.ultra_section.specs.BlockState.{BlockState, switch_at, module_at, element_at}
 
 -- of a machine of d stages that runs this program, before its first cycle
 abbrev pub empty_block : ℕ → List Instr → BlockState

@@ -1,20 +1,20 @@
 -- the half of a cycle in which processing elements make a step of the program
 use Rattle.std.specs.Prelude.{ℕ, ◌+◌, ◌-◌, ◌^◌, ◌<◌, List, [], ◌∷◌, ◌++◌, Some, None, slice_set}
-use Rattle.ultra_section.specs.Prelude.{ForSome, Instr, present, issue_event, stop_of, ProcessingElement, element_of, executed, step_at, Unit as UnitName, of_unit, unit_of}
+use Rattle.ultra_section.specs.Prelude.{ForSome, Instr, present, issue_event, stop_of, element_of, executed, step_at, Unit as UnitName, of_unit, unit_of}
 use Rattle.ultra_units.specs.declared.unit.Unit.TheVariants as unit
 use Rattle.ultra_section.specs.BlockState.{BlockState, HasEventRoom, HasStopRoom, element_at}
 
 module _ (program : List Instr) where
   -- ---- processing element p
-  abbrev pub stepped_by : ℕ → BlockState → ProcessingElement → BlockState
-  stepped_by p b e = record b {
-    elements = slice_set b.elements p (Some (executed program e));
-    events = b.events ++ present (issue_event (element_of e) (step_at program e).sent ∷ []);
-    stops = b.stops ++ present (stop_of p (step_at program e).was ∷ []);
-  }
-
   abbrev pub element_executes : ℕ → BlockState → BlockState
-  element_executes p b = elim (element_at b.elements p) [ None ↦ b | Some e ↦ stepped_by p b e ]
+  element_executes p b = elim (element_at b.elements p) [
+    | None ↦ b
+    | Some e ↦ record b {
+      elements = slice_set b.elements p (Some (executed program e));
+      events = b.events ++ present (issue_event (element_of e) (step_at program e).sent ∷ []);
+      stops = b.stops ++ present (stop_of p (step_at program e).was ∷ []);
+    }
+  ]
 
   -- ---- the unit with number n
   abbrev pub executes : ℕ → BlockState → BlockState
@@ -30,10 +30,8 @@ abbrev pub ElementCanExecute : ℕ → BlockState → Type 0
 ElementCanExecute p b = ForSome (element_at b.elements p) (λ e. e.issued < 2 ^ 32 - 1)
 
 abbrev pub UnitCanExecute : BlockState → UnitName → Type 0
-UnitCanExecute b (unit.Switch s k) = Unit {0}
-UnitCanExecute b (unit.Module m) = Unit {0}
 UnitCanExecute b (unit.Element p) = ElementCanExecute p b
-UnitCanExecute b unit.Nothing = Unit {0}
+UnitCanExecute b other = Unit {0}
 
 -- the conditions of the unit with number n
 pub record CanExecuteAt (n : ℕ) (b : BlockState) : Type 0 where

@@ -17,4 +17,3 @@ pub mod RequestsTaken
 pub mod Away
 pub mod Quiet
 pub mod Holding
-pub mod Idle

@@ -1,7 +1,6 @@
 -- a half of a cycle, whichever it is, made by a block
 use Rattle.std.specs.Prelude.{◌≡◌, ℕ, ◌-◌, ◌^◌, ◌<◌, List}
-use Rattle.ultra_section.specs.Prelude.{Instr, after_units}
-use Rattle.ultra_section.specs.{declared.half.Half.Half, declared.half.Half.TheVariants.SendReplies, declared.half.Half.TheVariants.TakeReplies, declared.half.Half.TheVariants.Serve, declared.half.Half.TheVariants.SendRequests, declared.half.Half.TheVariants.TakeRequests, declared.half.Half.TheVariants.Execute, declared.rooms.Rooms.Rooms, BlockState.BlockState, BlockState.HasEventRoom, RepliesSent.begun, RepliesSent.sends_replies, RepliesTaken.CanTakeRepliesAt, RepliesTaken.takes_replies, Serving.serves, RequestsSent.sends_requests, RequestsTaken.CanTakeRequestsAt, RequestsTaken.takes_requests, Execution.CanExecuteAt, Execution.counted, Execution.executes}
+use Rattle.ultra_section.specs.{Prelude.Instr, Prelude.after_units, declared.half.Half.Half, declared.half.Half.TheVariants.SendReplies, declared.half.Half.TheVariants.TakeReplies, declared.half.Half.TheVariants.Serve, declared.half.Half.TheVariants.SendRequests, declared.half.Half.TheVariants.TakeRequests, declared.half.Half.TheVariants.Execute, declared.rooms.Rooms.Rooms, BlockState.BlockState, BlockState.HasEventRoom, RepliesSent.begun, RepliesSent.sends_replies, RepliesTaken.CanTakeRepliesAt, RepliesTaken.takes_replies, Serving.serves, RequestsSent.sends_requests, RequestsTaken.CanTakeRequestsAt, RequestsTaken.takes_requests, Execution.CanExecuteAt, Execution.counted, Execution.executes}
 
 -- a fact is true at each unit
 abbrev pub AtUnits : (ℕ → BlockState → Type 0) → BlockState → Type 0
@@ -16,12 +15,11 @@ pub record CanExecute (program : List Instr) (b : BlockState) : Type 0 where
 
 -- the conditions of the half, in a machine that runs the program
 abbrev pub CanMake : List Instr → Half → BlockState → Type 0
-CanMake program SendReplies b = Unit {0}
 CanMake program TakeReplies b = AtUnits CanTakeRepliesAt b
 CanMake program Serve b = AtUnits HasEventRoom b
-CanMake program SendRequests b = Unit {0}
 CanMake program TakeRequests b = AtUnits CanTakeRequestsAt b
 CanMake program Execute b = CanExecute program b
+CanMake program other b = Unit {0}
 
 -- the block after it
 abbrev pub made : Half → Rooms → List Instr → BlockState → BlockState

@@ -1,7 +1,6 @@
 -- a block in which nothing is left to do
 use Rattle.std.specs.Prelude.{Bool, true, ◌&&◌, Option, Some, None}
-use Rattle.ultra_section.specs.Prelude.{list_all, quiet_switch, quiet_bank, quiet_element}
-use Rattle.ultra_section.specs.BlockState.{BlockState}
+use Rattle.ultra_section.specs.{Prelude.list_all, Prelude.quiet_switch, Prelude.quiet_bank, Prelude.quiet_element, BlockState.BlockState}
 
 -- a test is true of a unit, or the unit stands elsewhere
 abbrev pub or_elsewhere : {X : Type 0} → (X → Bool) → Option X → Bool

@@ -1,36 +1,34 @@
 -- the half of a cycle in which replies leave switches and modules
 use Rattle.std.specs.Prelude.{ℕ, List, [], Some, None, slice_set}
-use Rattle.ultra_section.specs.Prelude.{Switch, Bank, without_reply, place_number, where_room, replies_leaving, without_replies, of_unit, put_on, put_on_both, places_of}
+use Rattle.ultra_section.specs.Prelude.{without_reply, place_number, where_room, replies_leaving, without_replies, of_unit, put_on, put_on_both, places_of}
 pub use Rattle.ultra_units.specs.Ways.{reply_targets, has_reply_way, reply_ways, has_way_from_module}
 use Rattle.ultra_section.specs.BlockState.{BlockState, switch_at, module_at}
 
 -- `closed` are the switches without room for replies
 module _ (closed : List ℕ) where
   -- ---- from switch k of stage s, which has number n
-  abbrev pub replies_sent_by : ℕ → ℕ → ℕ → BlockState → Switch → BlockState
-  replies_sent_by n s k b w =
-      let out = replies_leaving (reply_ways closed b.stages s k) w in
-      record b {
-        switches = slice_set b.switches n (Some (without_replies w out));
-        replies = put_on_both b.replies (places_of b.stages s k) out;
-      }
-
   abbrev pub switch_sends_replies : ℕ → ℕ → ℕ → BlockState → BlockState
-  switch_sends_replies n s k b =
-      elim (switch_at b.switches n) [ None ↦ b | Some w ↦ replies_sent_by n s k b w ]
+  switch_sends_replies n s k b = elim (switch_at b.switches n) [
+    | None ↦ b
+    | Some w ↦
+        let out = replies_leaving (reply_ways closed b.stages s k) w in
+        record b {
+          switches = slice_set b.switches n (Some (without_replies w out));
+          replies = put_on_both b.replies (places_of b.stages s k) out;
+        }
+  ]
 
   -- ---- from module m
-  abbrev pub reply_sent_by : ℕ → BlockState → Bank → BlockState
-  reply_sent_by m b bank =
-      let out = where_room (has_way_from_module closed b.stages m) bank.out in
-      record b {
-        modules = slice_set b.modules m (Some (without_reply bank out));
-        replies = put_on b.replies (place_number b.stages b.stages m) out;
-      }
-
   abbrev pub module_sends_reply : ℕ → BlockState → BlockState
-  module_sends_reply m b =
-      elim (module_at b.modules m) [ None ↦ b | Some bank ↦ reply_sent_by m b bank ]
+  module_sends_reply m b = elim (module_at b.modules m) [
+    | None ↦ b
+    | Some bank ↦
+        let out = where_room (has_way_from_module closed b.stages m) bank.out in
+        record b {
+          modules = slice_set b.modules m (Some (without_reply bank out));
+          replies = put_on b.replies (place_number b.stages b.stages m) out;
+        }
+  ]
 
   -- ---- from the unit with number n
   abbrev pub sends_replies : ℕ → BlockState → BlockState

@@ -1,6 +1,6 @@
 -- the half of a cycle in which replies come to switches and processing elements
 use Rattle.std.specs.Prelude.{ℕ, ◌<◌, [], ◌∷◌, ◌++◌, length, Option, Some, None, slice_set}
-use Rattle.ultra_section.specs.Prelude.{ForSome, ReplyMessage, Ports, Switch, present, delivery, ProcessingElement, CanTakeReplies, after_replies, delivered_to, Unit as UnitName, of_unit, unit_of, reply_links, delivery_link, on_link, on_both, without_both}
+use Rattle.ultra_section.specs.Prelude.{ForSome, ReplyMessage, Ports, present, delivery, CanTakeReplies, after_replies, delivered_to, Unit as UnitName, of_unit, unit_of, reply_links, delivery_link, on_link, on_both, without_both}
 use Rattle.ultra_units.specs.declared.unit.Unit.TheVariants as unit
 use Rattle.ultra_section.specs.BlockState.{BlockState, HasEventRoom, switch_at, element_at}
 
@@ -8,30 +8,28 @@ use Rattle.ultra_section.specs.BlockState.{BlockState, HasEventRoom, switch_at, 
 abbrev pub replies_at_switch : ℕ → ℕ → BlockState → Ports (Option ReplyMessage)
 replies_at_switch s k b = on_both b.replies (reply_links b.stages s k)
 
-abbrev pub replies_taken_by : ℕ → ℕ → ℕ → BlockState → Switch → BlockState
-replies_taken_by n s k b w = record b {
-  switches = slice_set b.switches n (Some (after_replies b.stages s w (replies_at_switch s k b)));
-  replies = without_both b.replies (reply_links b.stages s k);
-}
-
 abbrev pub switch_takes_replies : ℕ → ℕ → ℕ → BlockState → BlockState
-switch_takes_replies n s k b =
-    elim (switch_at b.switches n) [ None ↦ b | Some w ↦ replies_taken_by n s k b w ]
+switch_takes_replies n s k b = elim (switch_at b.switches n) [
+  | None ↦ b
+  | Some w ↦ record b {
+    switches = slice_set b.switches n (Some (after_replies b.stages s w (replies_at_switch s k b)));
+    replies = without_both b.replies (reply_links b.stages s k);
+  }
+]
 
 -- ---- at processing element p
 abbrev pub reply_at_element : ℕ → BlockState → Option ReplyMessage
 reply_at_element p b = on_link b.replies (delivery_link b.stages p)
 
-abbrev pub reply_taken_by : ℕ → BlockState → ProcessingElement → BlockState
-reply_taken_by p b e = record b {
-  elements = slice_set b.elements p (Some (delivered_to e (reply_at_element p b)));
-  replies = slice_set b.replies (delivery_link b.stages p) None;
-  events = b.events ++ present (delivery (reply_at_element p b) ∷ []);
-}
-
 abbrev pub element_takes_reply : ℕ → BlockState → BlockState
-element_takes_reply p b =
-    elim (element_at b.elements p) [ None ↦ b | Some e ↦ reply_taken_by p b e ]
+element_takes_reply p b = elim (element_at b.elements p) [
+  | None ↦ b
+  | Some e ↦ record b {
+    elements = slice_set b.elements p (Some (delivered_to e (reply_at_element p b)));
+    replies = slice_set b.replies (delivery_link b.stages p) None;
+    events = b.events ++ present (delivery (reply_at_element p b) ∷ []);
+  }
+]
 
 -- ---- at the unit with number n
 abbrev pub takes_replies : ℕ → BlockState → BlockState
@@ -51,9 +49,8 @@ ElementCanTakeReply p b =
 
 abbrev pub UnitCanTakeReplies : ℕ → BlockState → UnitName → Type 0
 UnitCanTakeReplies n b (unit.Switch s k) = SwitchCanTakeReplies n s k b
-UnitCanTakeReplies n b (unit.Module m) = Unit {0}
 UnitCanTakeReplies n b (unit.Element p) = ElementCanTakeReply p b
-UnitCanTakeReplies n b unit.Nothing = Unit {0}
+UnitCanTakeReplies n b other = Unit {0}
 
 -- the conditions of the unit with number n
 pub record CanTakeRepliesAt (n : ℕ) (b : BlockState) : Type 0 where

@@ -1,6 +1,6 @@
 -- the half of a cycle in which requests leave switches and processing elements
 use Rattle.std.specs.Prelude.{ℕ, List, Option, Some, None, slice_get, slice_set}
-use Rattle.ultra_section.specs.Prelude.{Ports, Switch, Request, place_number, ProcessingElement, where_room, first_request, requests_leaving, request_heads, without_requests, element_without, of_unit, put_on, put_on_both, places_of}
+use Rattle.ultra_section.specs.Prelude.{Ports, Request, place_number, where_room, first_request, requests_leaving, request_heads, without_requests, element_without, of_unit, put_on, put_on_both, places_of}
 use Rattle.ultra_switch.specs.Queues.{SizedLane}
 pub use Rattle.ultra_units.specs.Ways.{request_targets, has_room_at, has_request_way, request_ways, has_way_from_element}
 use Rattle.ultra_section.specs.BlockState.{BlockState, switch_at, element_at}
@@ -15,31 +15,29 @@ module _ (closed : Ports (List ℕ)) where
       where_room (has_request_way closed d s x (first_request q)) (first_request q)
 
   -- ---- from switch k of stage s, which has number n
-  abbrev pub requests_sent_by : ℕ → ℕ → ℕ → BlockState → Switch → BlockState
-  requests_sent_by n s k b w =
-      let out = requests_leaving (request_ways closed b.stages s k (request_heads w)) w in
-      record b {
-        switches = slice_set b.switches n (Some (without_requests w out));
-        requests = put_on_both b.requests (places_of b.stages s k) out;
-      }
-
   abbrev pub switch_sends_requests : ℕ → ℕ → ℕ → BlockState → BlockState
-  switch_sends_requests n s k b =
-      elim (switch_at b.switches n) [ None ↦ b | Some w ↦ requests_sent_by n s k b w ]
+  switch_sends_requests n s k b = elim (switch_at b.switches n) [
+    | None ↦ b
+    | Some w ↦
+        let out = requests_leaving (request_ways closed b.stages s k (request_heads w)) w in
+        record b {
+          switches = slice_set b.switches n (Some (without_requests w out));
+          requests = put_on_both b.requests (places_of b.stages s k) out;
+        }
+  ]
 
   -- ---- from processing element p
-  abbrev pub request_sent_by : ℕ → BlockState → ProcessingElement → BlockState
-  request_sent_by p b e =
-      let head = slice_get e.interface.interface.pending 0 in
-      let out = where_room (has_way_from_element closed b.stages p head) head in
-      record b {
-        elements = slice_set b.elements p (Some (element_without e out));
-        requests = put_on b.requests (place_number b.stages b.stages p) out;
-      }
-
   abbrev pub element_sends_request : ℕ → BlockState → BlockState
-  element_sends_request p b =
-      elim (element_at b.elements p) [ None ↦ b | Some e ↦ request_sent_by p b e ]
+  element_sends_request p b = elim (element_at b.elements p) [
+    | None ↦ b
+    | Some e ↦
+        let head = slice_get e.interface.interface.pending 0 in
+        let out = where_room (has_way_from_element closed b.stages p head) head in
+        record b {
+          elements = slice_set b.elements p (Some (element_without e out));
+          requests = put_on b.requests (place_number b.stages b.stages p) out;
+        }
+  ]
 
   -- ---- from the unit with number n
   abbrev pub sends_requests : ℕ → BlockState → BlockState

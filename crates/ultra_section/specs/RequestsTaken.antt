@@ -1,6 +1,6 @@
 -- the half of a cycle in which requests come to switches and modules
 use Rattle.std.specs.Prelude.{◌≡◌, ℕ, ◌/◌, ◌^◌, ◌<◌, ◌++◌, length, Option, Some, None, slice_set}
-use Rattle.ultra_section.specs.Prelude.{ForSome, Request, Ports, Switch, Bank, CanTakeRequests, after_requests, combinations_of, bank_with, Unit as UnitName, of_unit, unit_of, request_links, memory_link, on_link, on_both, without_both}
+use Rattle.ultra_section.specs.Prelude.{ForSome, Request, Ports, CanTakeRequests, after_requests, combinations_of, bank_with, Unit as UnitName, of_unit, unit_of, request_links, memory_link, on_link, on_both, without_both}
 use Rattle.ultra_units.specs.declared.unit.Unit.TheVariants as unit
 use Rattle.ultra_section.specs.BlockState.{BlockState, HasEventRoom, switch_at, module_at}
 
@@ -8,30 +8,28 @@ use Rattle.ultra_section.specs.BlockState.{BlockState, HasEventRoom, switch_at, 
 abbrev pub requests_at_switch : ℕ → ℕ → BlockState → Ports (Option Request)
 requests_at_switch s k b = on_both b.requests (request_links b.stages s k)
 
-abbrev pub requests_taken_by : ℕ → ℕ → ℕ → BlockState → Switch → BlockState
-requests_taken_by n s k b w = record b {
-  switches = slice_set b.switches n (Some (after_requests b.stages s b.done w (requests_at_switch s k b)));
-  requests = without_both b.requests (request_links b.stages s k);
-  events = b.events ++ combinations_of b.stages s k b.done w (requests_at_switch s k b);
-}
-
 abbrev pub switch_takes_requests : ℕ → ℕ → ℕ → BlockState → BlockState
-switch_takes_requests n s k b =
-    elim (switch_at b.switches n) [ None ↦ b | Some w ↦ requests_taken_by n s k b w ]
+switch_takes_requests n s k b = elim (switch_at b.switches n) [
+  | None ↦ b
+  | Some w ↦ record b {
+    switches = slice_set b.switches n (Some (after_requests b.stages s b.done w (requests_at_switch s k b)));
+    requests = without_both b.requests (request_links b.stages s k);
+    events = b.events ++ combinations_of b.stages s k b.done w (requests_at_switch s k b);
+  }
+]
 
 -- ---- at module m
 abbrev pub request_at_module : ℕ → BlockState → Option Request
 request_at_module m b = on_link b.requests (memory_link b.stages m)
 
-abbrev pub request_taken_by : ℕ → BlockState → Bank → BlockState
-request_taken_by m b bank = record b {
-  modules = slice_set b.modules m (Some (bank_with (2 ^ b.stages) bank (request_at_module m b)));
-  requests = slice_set b.requests (memory_link b.stages m) None;
-}
-
 abbrev pub module_takes_request : ℕ → BlockState → BlockState
-module_takes_request m b =
-    elim (module_at b.modules m) [ None ↦ b | Some bank ↦ request_taken_by m b bank ]
+module_takes_request m b = elim (module_at b.modules m) [
+  | None ↦ b
+  | Some bank ↦ record b {
+    modules = slice_set b.modules m (Some (bank_with (2 ^ b.stages) bank (request_at_module m b)));
+    requests = slice_set b.requests (memory_link b.stages m) None;
+  }
+]
 
 -- ---- at the unit with number n
 abbrev pub takes_requests : ℕ → BlockState → BlockState
@@ -52,8 +50,7 @@ ModuleCanTakeRequest m b =
 abbrev pub UnitCanTakeRequests : ℕ → BlockState → UnitName → Type 0
 UnitCanTakeRequests n b (unit.Switch s k) = SwitchCanTakeRequests n s k b
 UnitCanTakeRequests n b (unit.Module m) = ModuleCanTakeRequest m b
-UnitCanTakeRequests n b (unit.Element p) = Unit {0}
-UnitCanTakeRequests n b unit.Nothing = Unit {0}
+UnitCanTakeRequests n b other = Unit {0}
 
 -- the conditions of the unit with number n
 pub record CanTakeRequestsAt (n : ℕ) (b : BlockState) : Type 0 where

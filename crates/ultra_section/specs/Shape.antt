@@ -1,7 +1,6 @@
 -- a block of a machine of d stages: it has an entry for each unit, and for each link
 use Rattle.std.specs.Prelude.{◌≡◌, ℕ, ◌+◌, ◌*◌, ◌^◌, length}
-use Rattle.ultra_section.specs.Prelude.{switch_count}
-use Rattle.ultra_section.specs.BlockState.{BlockState}
+use Rattle.ultra_section.specs.{Prelude.switch_count, BlockState.BlockState}
 
 pub record IsShaped (d : ℕ) (b : BlockState) : Type 0 where
   pub stages : b.stages ≡ d

@@ -1,7 +1,7 @@
 //! Blocks: some of the units of a machine.
 
-ghost use Rattle.std.specs.Prelude.{◌≡◌};
-ghost use Rattle.ultra_section.specs.Prelude.{IsUnit, unit_of};
+ghost use Rattle.std.specs.Prelude.{◌≡◌, true, Some, is_some};
+ghost use Rattle.ultra_section.specs.{Prelude.IsUnit, Prelude.unit_of, BlockState.switch_at, BlockState.module_at, BlockState.element_at, Shape.IsShaped};
 
 use crate::sets::Sets;
 use std::marker::Model;
@@ -43,11 +43,9 @@ pub struct Block {
 }
 
 impl Model for Block {
-    ghost use Rattle.ultra_section.specs.BlockState.{BlockState};
+    ghost use Rattle.ultra_section.specs.{BlockState.BlockState, Sets.IsKept, Sets.seen_of};
 
     ghost Value = { BlockState };
-
-    ghost use Rattle.ultra_section.specs.Sets.{IsKept, seen_of};
 
     ghost view = { seen_of };
 
@@ -62,5 +60,67 @@ impl Block {
         ensures is { IsUnit self.now.stages number result }
     {
         self.wiring.unit(number)
+    }
+
+    /// The switch of this number, counted over all stages. It has to stand here.
+    pub fn switch(&self, number: usize) -> &Switch
+        requires { is_some (switch_at self.now.switches number) ≡ true }
+        ensures { Some result.now ≡ switch_at self.now.switches number }
+    {
+        self.switches[number].as_ref().unwrap()
+    }
+
+    /// The module of this number. It has to stand here.
+    pub fn module(&self, number: u32) -> &Module
+        requires { is_some (module_at self.now.modules number) ≡ true }
+        ensures { Some result.now ≡ module_at self.now.modules number }
+    {
+        self.modules[number as usize].as_ref().unwrap()
+    }
+
+    /// The processing element of this number. It has to stand here.
+    pub fn element(&self, pe: u32) -> &ProcessingElement
+        requires { is_some (element_at self.now.elements pe) ≡ true }
+        ensures { Some result.now ≡ element_at self.now.elements pe }
+    {
+        self.elements[pe as usize].as_ref().unwrap()
+    }
+
+    /// What has happened to its units in the cycle, in the order of the halves, and in each half by the number of the unit.
+    pub fn events(&self) -> &[Event]
+        ensures { result.now ≡ self.now.events }
+    {
+        self.events.as_slice()
+    }
+
+    /// The faults of its processing elements in the cycle, by their numbers.
+    pub fn stops(&self) -> &[Stop]
+        ensures { result.now ≡ self.now.stops }
+    {
+        self.stops.as_slice()
+    }
+
+    /// The network of the machine. The block has an entry for each unit and for each link.
+    pub fn net(&self) -> Net
+        ensures value { result ≡ self.now.stages }
+        ensures shape { IsShaped result self.now }
+    {
+        let _replies = self.replies.targets();
+        let _requests = self.requests.targets();
+        self.net
+    }
+
+    /// What the machine's processing elements run.
+    pub fn program(&self) -> &Program
+        ensures { result.now ≡ self.now.program }
+    {
+        &self.program
+    }
+
+    /// How many cycles are done.
+    pub fn done(&self) -> u32
+        ensures { result ≡ self.now.done }
+    {
+        self.done
     }
 }

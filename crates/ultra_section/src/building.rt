@@ -1,8 +1,7 @@
 //! Blocks without units, units that are put into a block or taken out of it, and what goes from one block to another.
 
 ghost use Rattle.std.specs.Prelude.{◌≡◌, ◌<◌, ◌^◌, IfOk, None, Some, slice_set};
-ghost use Rattle.ultra_section.specs.Prelude.{switch_count as count_of_switches};
-ghost use Rattle.ultra_section.specs.{BlockState.element_at, BlockState.module_at, BlockState.switch_at, Building.empty_block, Building.with_unit, Building.without_unit};
+ghost use Rattle.ultra_section.specs.{Prelude.switch_count as count_of_switches, BlockState.element_at, BlockState.module_at, BlockState.switch_at, Building.empty_block, Building.with_unit, Building.without_unit};
 
 use crate::block::Block;
 use crate::sets::Sets;
@@ -31,31 +30,7 @@ impl Block {
     pub fn empty(alloc: Global, net: Net, program: &Program) -> Result<Block, AllocError>
         ensures { IfOk result (λ b. b ≡ empty_block net program.now) }
     {
-        let program = program.try_clone(alloc)?;
-        let wiring = Wiring::of(alloc, net)?;
-        let size = net.size() as usize;
-        let switches = no_entries(alloc, switch_count(net))?;
-        let modules = no_entries(alloc, size)?;
-        let elements = no_entries(alloc, size)?;
-        let replies = Links::empty(alloc, net)?;
-        let requests = Links::empty(alloc, net)?;
-        let events = Vec::with_capacity(alloc, MOST_EVENTS)?;
-        let stops = Vec::with_capacity(alloc, MOST_STOPS)?;
-        Ok(Block {
-            net,
-            wiring,
-            done: 0,
-            program,
-            switches,
-            modules,
-            elements,
-            sets: Sets::empty(),
-            awake: UnitSet::empty(),
-            replies,
-            requests,
-            events,
-            stops,
-        })
+        Block::empty_after(alloc, net, program, 0)
     }
 
     /// A block without units, of a machine with this network that runs this program, after this many cycles. It keeps a copy of the program. An error says that memory was refused.
@@ -67,9 +42,22 @@ impl Block {
     ) -> Result<Block, AllocError>
         ensures { IfOk result (λ b. b ≡ record (empty_block net program.now) { done = done }) }
     {
-        let mut block = Block::empty(alloc, net, program)?;
-        block.done = done;
-        Ok(block)
+        let size = net.size() as usize;
+        Ok(Block {
+            net,
+            wiring: Wiring::of(alloc, net)?,
+            done,
+            program: program.try_clone(alloc)?,
+            switches: no_entries(alloc, switch_count(net))?,
+            modules: no_entries(alloc, size)?,
+            elements: no_entries(alloc, size)?,
+            sets: Sets::empty(),
+            awake: UnitSet::empty(),
+            replies: Links::empty(alloc, net)?,
+            requests: Links::empty(alloc, net)?,
+            events: Vec::with_capacity(alloc, MOST_EVENTS)?,
+            stops: Vec::with_capacity(alloc, MOST_STOPS)?,
+        })
     }
 
     /// Puts a switch into the block, by its number.

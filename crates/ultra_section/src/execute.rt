@@ -1,8 +1,7 @@
 //! The half of a cycle in which processing elements make a step of the program.
 
 ghost use Rattle.std.specs.Prelude.{◌≡◌, ℕ, ◌+◌, ◌-◌, ◌^◌, ◌<◌, length};
-ghost use Rattle.ultra_section.specs.Prelude.{after_units, IsElement};
-ghost use Rattle.ultra_section.specs.{BlockState.most_events, BlockState.most_stops, Execution.CanExecuteAt, Execution.ElementCanExecute, Execution.counted, Execution.element_executes, Execution.executes, Execution.executes_own, Idle.IsAsleep};
+ghost use Rattle.ultra_section.specs.{Prelude.after_units, Prelude.IsElement, BlockState.most_events, BlockState.most_stops, Execution.CanExecuteAt, Execution.ElementCanExecute, Execution.counted, Execution.element_executes, Execution.executes, Execution.executes_own, Holding.IsAsleep};
 
 use crate::block::Block;
 use ultra_halves::{Outcome, append};
@@ -44,6 +43,7 @@ impl Block {
 #[derive(Clone, Copy, Drop)]
 struct Execute;
 
+#[tactic(auto, using(crate::proofs::Visited::executes_none, crate::proofs::Visited::sleeps))]
 impl Visit<Block> for Execute {
     ghost can_visit = { λ v n b. CanExecuteAt n b };
 
@@ -52,13 +52,11 @@ impl Visit<Block> for Execute {
     ghost is_idle = { λ v n b. IsAsleep n b };
 
     #[inline(always)]
-    #[tactic(auto, using(crate::proofs::Visited::executes_none, crate::proofs::Visited::sleeps))]
     fn units<'t>(&self, block: &'t Block) -> &'t UnitSet {
         &block.awake
     }
 
     #[inline(always)]
-    #[tactic(auto, using(crate::proofs::Visited::executes_none))]
     fn visit(&self, block: &mut Block, unit: UnitNumber) {
         if let Some(pe) = block.wiring.element(unit.number()) {
             block.execute_element(unit, pe);

@@ -1,5 +1,11 @@
 //! The halves of a cycle.
 
+ghost use Rattle.std.specs.Prelude.{◌≡◌};
+ghost use Rattle.ultra_section.specs.Making.{CanMake, own_made};
+
+use crate::block::Block;
+use crate::rooms::Rooms;
+
 /// A half of a cycle. A cycle makes all six, in this order.
 #[derive(Clone, Copy, PartialEq, Eq, Drop)]
 pub enum Half {
@@ -15,4 +21,22 @@ pub enum Half {
     TakeRequests,
     /// Each processing element makes one step of the program.
     Execute,
+}
+
+impl Block {
+    /// Makes this half of a cycle, with the rooms that were noted before it. The half's conditions have to be met.
+    #[inline(always)]
+    pub fn make(&mut self, half: Half, rooms: &Rooms)
+        requires { CanMake self.old.program half self.old }
+        ensures { self.new ≡ own_made half rooms.now self.old }
+    {
+        match half {
+            Half::SendReplies => self.send_replies(rooms),
+            Half::TakeReplies => self.take_replies(),
+            Half::Serve => self.serve(),
+            Half::SendRequests => self.send_requests(rooms),
+            Half::TakeRequests => self.take_requests(),
+            Half::Execute => self.execute(),
+        }
+    }
 }

@@ -11,8 +11,6 @@ mod building;
 mod execute;
 mod half;
 mod held;
-mod lent;
-mod making;
 mod quiet;
 mod rooms;
 mod send_replies;

@@ -1,8 +1,7 @@
 //! Whether anything is left to do in a block.
 
 ghost use Rattle.std.specs.Prelude.{◌≡◌, true, false};
-ghost use Rattle.ultra_section.specs.Prelude.{list_all, quiet_element, quiet_bank, quiet_switch};
-ghost use Rattle.ultra_section.specs.Quiet.{or_elsewhere, quiet_block};
+ghost use Rattle.ultra_section.specs.{Prelude.list_all, Prelude.quiet_element, Prelude.quiet_bank, Prelude.quiet_switch, Quiet.or_elsewhere, Quiet.quiet_block};
 
 use crate::block::Block;
 use ultra_halves::{ProcessingElement, modules, switches};

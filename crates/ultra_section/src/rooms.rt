@@ -1,7 +1,6 @@
 //! Where there is no room for the messages that may come in a cycle.
 
-ghost use Rattle.ultra_section.specs.Prelude.{HasNoneFrom};
-ghost use Rattle.ultra_section.specs.Rooms.{HasNoted};
+ghost use Rattle.ultra_section.specs.{Prelude.HasNoneFrom, Rooms.HasNoted};
 
 use crate::block::Block;
 use ultra_switch::Ports;

@@ -2,7 +2,7 @@
 
 ghost use Rattle.std.specs.Prelude.{◌≡◌, ◌<◌};
 ghost use Rattle.ultra_section.specs.Prelude.{replies_leaving, without_replies, LeadOn, put_on_both, reply_inlets, places_of, after_units, IsModule, IsSwitch, index_of, stage_of};
-ghost use Rattle.ultra_section.specs.{Rooms.AreOwnRooms, declared.rooms.Rooms.Rooms, RepliesSent.begun, RepliesSent.module_sends_reply, RepliesSent.sends_replies, RepliesSent.switch_sends_replies, Idle.HoldsNoReply};
+ghost use Rattle.ultra_section.specs.{Rooms.AreOwnRooms, declared.rooms.Rooms.Rooms, RepliesSent.begun, RepliesSent.module_sends_reply, RepliesSent.sends_replies, RepliesSent.switch_sends_replies, Holding.HoldsNoReply};
 
 use crate::block::Block;
 use crate::rooms::Rooms;
@@ -78,6 +78,7 @@ struct SendReplies<'a> {
     closed: &'a UnitSet,
 }
 
+#[tactic(auto, using(crate::proofs::Visited::sends_no_reply))]
 impl Visit<Block> for SendReplies<'_> {
     ghost can_visit = { λ v n b. Unit {0} };
 
@@ -86,13 +87,11 @@ impl Visit<Block> for SendReplies<'_> {
     ghost is_idle = { λ v n b. HoldsNoReply n b };
 
     #[inline(always)]
-    #[tactic(auto, using(crate::proofs::Visited::sends_no_reply))]
     fn units<'t>(&self, block: &'t Block) -> &'t UnitSet {
         &block.sets.holds_replies
     }
 
     #[inline(always)]
-    #[tactic(auto, using(crate::proofs::Visited::sends_no_reply))]
     fn visit(&self, block: &mut Block, unit: UnitNumber) {
         match block.unit(unit.number()) {
             Unit::Switch { stage, index } => {
@@ -105,7 +104,7 @@ impl Visit<Block> for SendReplies<'_> {
 }
 
 impl Block {
-    /// Replies leave the switches and modules, past the switches in `closed`, which have no room for them. What had happened in the cycle before is forgotten.
+    /// Replies leave the switches and modules, past the switches in `closed`, which have no room for them.
     #[inline(always)]
     fn send_replies_past(&mut self, closed: &UnitSet)
         ensures { self.new ≡ after_units (sends_replies closed.now) 320 (begun self.old) }

@@ -2,7 +2,7 @@
 
 ghost use Rattle.std.specs.Prelude.{◌≡◌, ℕ, ◌<◌};
 ghost use Rattle.ultra_section.specs.Prelude.{lane_without, request_heads, requests_leaving, without_requests, LeadOn, LeadsTo, put_on_both, request_inlets, put_on, request_target, places_of, request_targets, request_ways, after_units, IsElement, IsSwitch};
-ghost use Rattle.ultra_section.specs.{Rooms.AreOwnRooms, declared.rooms.Rooms.Rooms, RequestsSent.element_sends_request, RequestsSent.request_leaving, RequestsSent.sends_requests, RequestsSent.switch_sends_requests, Idle.HoldsNoRequest};
+ghost use Rattle.ultra_section.specs.{Rooms.AreOwnRooms, declared.rooms.Rooms.Rooms, RequestsSent.element_sends_request, RequestsSent.request_leaving, RequestsSent.sends_requests, RequestsSent.switch_sends_requests, Holding.HoldsNoRequest};
 
 use crate::block::Block;
 use crate::rooms::Rooms;
@@ -112,6 +112,7 @@ struct SendRequests<'a> {
     closed: &'a Ports<UnitSet>,
 }
 
+#[tactic(auto, using(crate::proofs::Visited::sends_no_request))]
 impl Visit<Block> for SendRequests<'_> {
     ghost can_visit = { λ v n b. Unit {0} };
 
@@ -120,13 +121,11 @@ impl Visit<Block> for SendRequests<'_> {
     ghost is_idle = { λ v n b. HoldsNoRequest n b };
 
     #[inline(always)]
-    #[tactic(auto, using(crate::proofs::Visited::sends_no_request))]
     fn units<'t>(&self, block: &'t Block) -> &'t UnitSet {
         &block.sets.holds_requests
     }
 
     #[inline(always)]
-    #[tactic(auto, using(crate::proofs::Visited::sends_no_request))]
     fn visit(&self, block: &mut Block, unit: UnitNumber) {
         match block.unit(unit.number()) {
             Unit::Switch { stage, index } => {

@@ -1,8 +1,7 @@
 //! The half of a cycle in which modules serve.
 
 ghost use Rattle.std.specs.Prelude.{◌≡◌, ℕ, ◌<◌, length};
-ghost use Rattle.ultra_section.specs.Prelude.{after_units, IsModule};
-ghost use Rattle.ultra_section.specs.{BlockState.HasEventRoom, BlockState.most_events, Serving.module_serves, Serving.serves, Idle.ServesNothing};
+ghost use Rattle.ultra_section.specs.{Prelude.after_units, Prelude.IsModule, BlockState.HasEventRoom, BlockState.most_events, Serving.module_serves, Serving.serves, Holding.ServesNothing};
 
 use crate::block::Block;
 use ultra_halves::append;
@@ -37,6 +36,7 @@ impl Block {
 #[derive(Clone, Copy, Drop)]
 struct Serve;
 
+#[tactic(auto, using(crate::proofs::Visited::serves_none))]
 impl Visit<Block> for Serve {
     ghost can_visit = { λ v n b. HasEventRoom n b };
 
@@ -45,13 +45,11 @@ impl Visit<Block> for Serve {
     ghost is_idle = { λ v n b. ServesNothing n b };
 
     #[inline(always)]
-    #[tactic(auto, using(crate::proofs::Visited::serves_none))]
     fn units<'t>(&self, block: &'t Block) -> &'t UnitSet {
         &block.sets.to_serve
     }
 
     #[inline(always)]
-    #[tactic(auto, using(crate::proofs::Visited::serves_none))]
     fn visit(&self, block: &mut Block, unit: UnitNumber) {
         if let Some(number) = block.wiring.module(unit.number()) {
             block.serve_module(unit, number);

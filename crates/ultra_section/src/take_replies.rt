@@ -2,7 +2,7 @@
 
 ghost use Rattle.std.specs.Prelude.{◌≡◌, ℕ, ◌<◌, length};
 ghost use Rattle.ultra_section.specs.Prelude.{CanTakeReplies, after_replies, AreInlets, reply_inlets, on_both, without_both, switch_count, after_units, IsElement, IsSwitch};
-ghost use Rattle.ultra_section.specs.{BlockState.most_events, RepliesTaken.CanTakeRepliesAt, RepliesTaken.ElementCanTakeReply, RepliesTaken.SwitchCanTakeReplies, RepliesTaken.element_takes_reply, RepliesTaken.switch_takes_replies, RepliesTaken.takes_replies, Idle.GetsNoReply};
+ghost use Rattle.ultra_section.specs.{BlockState.most_events, RepliesTaken.CanTakeRepliesAt, RepliesTaken.ElementCanTakeReply, RepliesTaken.SwitchCanTakeReplies, RepliesTaken.element_takes_reply, RepliesTaken.switch_takes_replies, RepliesTaken.takes_replies, Holding.GetsNoReply};
 
 use crate::block::Block;
 use ultra_halves::append;
@@ -81,6 +81,7 @@ impl Block {
 #[derive(Clone, Copy, Drop)]
 struct TakeReplies;
 
+#[tactic(auto, using(crate::proofs::Visited::switch_took_replies, crate::proofs::Visited::takes_no_reply, crate::proofs::Visited::no_reply_left))]
 impl Visit<Block> for TakeReplies {
     ghost can_visit = { λ v n b. CanTakeRepliesAt n b };
 
@@ -89,13 +90,11 @@ impl Visit<Block> for TakeReplies {
     ghost is_idle = { λ v n b. GetsNoReply n b };
 
     #[inline(always)]
-    #[tactic(auto, using(crate::proofs::Visited::takes_no_reply))]
     fn units<'t>(&self, block: &'t Block) -> &'t UnitSet {
         block.replies.targets()
     }
 
     #[inline(always)]
-    #[tactic(auto, using(crate::proofs::Visited::switch_took_replies, crate::proofs::Visited::takes_no_reply, crate::proofs::Visited::no_reply_left))]
     fn visit(&self, block: &mut Block, unit: UnitNumber) {
         match block.unit(unit.number()) {
             Unit::Switch { stage, index } => block.take_replies_of_switch(unit, stage, index),

@@ -2,7 +2,7 @@
 
 ghost use Rattle.std.specs.Prelude.{◌≡◌, ℕ, ◌+◌, ◌<◌, ◌≤◌, ◌↔◌, ◌++◌, [], Bool, false, length, vec_capacity};
 ghost use Rattle.ultra_section.specs.Prelude.{ForSome, HasWay, after_both, combinations_of_both, AreInlets, request_inlets, on_link, ports_in_turn, request_links, without_both, after_units, IsModule, IsSwitch};
-ghost use Rattle.ultra_section.specs.{BlockState.most_events, RequestsTaken.CanTakeRequestsAt, RequestsTaken.ModuleCanTakeRequest, RequestsTaken.SwitchCanTakeRequests, RequestsTaken.module_takes_request, RequestsTaken.switch_takes_requests, RequestsTaken.takes_requests, Idle.GetsNoRequest};
+ghost use Rattle.ultra_section.specs.{BlockState.most_events, RequestsTaken.CanTakeRequestsAt, RequestsTaken.ModuleCanTakeRequest, RequestsTaken.SwitchCanTakeRequests, RequestsTaken.module_takes_request, RequestsTaken.switch_takes_requests, RequestsTaken.takes_requests, Holding.GetsNoRequest};
 
 use crate::block::Block;
 use ultra_halves::modules;
@@ -96,6 +96,7 @@ impl Block {
 #[derive(Clone, Copy, Drop)]
 struct TakeRequests;
 
+#[tactic(auto, using(crate::proofs::Visited::switch_took_requests, crate::proofs::Visited::module_took_request, crate::proofs::Visited::takes_no_request, crate::proofs::Visited::no_request_left))]
 impl Visit<Block> for TakeRequests {
     ghost can_visit = { λ v n b. CanTakeRequestsAt n b };
 
@@ -104,13 +105,11 @@ impl Visit<Block> for TakeRequests {
     ghost is_idle = { λ v n b. GetsNoRequest n b };
 
     #[inline(always)]
-    #[tactic(auto, using(crate::proofs::Visited::takes_no_request))]
     fn units<'t>(&self, block: &'t Block) -> &'t UnitSet {
         block.requests.targets()
     }
 
     #[inline(always)]
-    #[tactic(auto, using(crate::proofs::Visited::switch_took_requests, crate::proofs::Visited::module_took_request, crate::proofs::Visited::takes_no_request, crate::proofs::Visited::no_request_left))]
     fn visit(&self, block: &mut Block, unit: UnitNumber) {
         match block.unit(unit.number()) {
             Unit::Switch { stage, index } => block.take_requests_of_switch(unit, stage, index),

@@ -16,12 +16,6 @@ module _ {M : Type 0} (t : List (Option M)) where
   put_there a o within = grind (arith, get_or-set_same)
 
 -- ---- places
-row : (d n : ℕ) → (d + 1) * n ≡ d * n + n
-row d n = grind arith
-
-place_twice : (d n s k : ℕ) → 1 ≤ d → d ≤ 6 → IsSwitch d n s k → place_number d s (2 * k) ≡ 2 * n
-place_twice d n s k low high is = let size = (sizes d low high).0 in rw (← size, is.number) (grind arith)
-
 pub places_twice : (d : ℕ) → 1 ≤ d → d ≤ 6 → d * 2 ^ d ≡ 2 * switch_count d
 places_twice d low high = let size = (sizes d low high).0 in rw (← size) (grind arith)
 
@@ -33,7 +27,10 @@ pub record HasPlaces (d n s k : ℕ) : Type 0 where
   pub second_small : place_number d s (2 * k + 1) < (d + 1) * 2 ^ d
 
 pub has_places : (d n s k : ℕ) → 1 ≤ d → d ≤ 6 → IsSwitch d n s k → HasPlaces d n s k
-has_places d n s k low high is = grind (arith, place_twice, places_twice, row)
+has_places d n s k low high is =
+    let twice : place_number d s (2 * k) ≡ 2 * n = (let size = (sizes d low high).0 in rw (← size, is.number) (grind arith)) in
+    let row : (d + 1) * 2 ^ d ≡ d * 2 ^ d + 2 ^ d = grind arith in
+    grind (arith, places_twice)
 
 -- the unit that puts messages on link l: behind the places of switches come those of the units from number `behind` on
 pub writer : ℕ → ℕ → ℕ → ℕ

@@ -12,6 +12,9 @@ each_network test all d low high =
     let e : (d - 1) + 1 ≡ d = omega arith in
     subst (λ x. test x ≡ true) e (all_below_at (λ k. test (k + 1)) 6 all (d - 1) (omega arith))
 
+each_network_at : (test : ℕ → ℕ → Bool) (count : ℕ → ℕ) → all_below (λ k. all_below (test (k + 1)) (count (k + 1))) 6 ≡ true → (d : ℕ) → 1 ≤ d → d ≤ 6 → (n : ℕ) → n < count d → test d n ≡ true
+each_network_at test count all d low high = all_below_at (test d) (count d) (each_network (λ d. all_below (test d) (count d)) all d low high)
+
 -- the units that read links
 abbrev pub reply_reader : ℕ → ℕ → ℕ
 reply_reader d l = elim (nat_lt l (d * 2 ^ d)) [
@@ -40,46 +43,33 @@ module _ (inlets : ℕ → ℕ → Option (Ports ℕ)) (reader : ℕ → ℕ →
   is_read d n (Some p) =
       (reader d p.zero == n) && (reader d p.one == n) && nat_lt p.zero (link_count d) && nat_lt p.one (link_count d) && (nat_le (switch_count d) n || not (p.zero == p.one))
 
-  abbrev all_read : ℕ → Bool
-  all_read d = all_below (λ n. is_read d n (inlets d n)) (unit_count d)
-
   pub record ReadInlets : Type 0 where
-    pub tested : all_below (λ k. all_read (k + 1)) 6 ≡ true
+    pub tested : all_below (λ k. all_below (λ n. is_read (k + 1) n (inlets (k + 1) n)) (unit_count (k + 1))) 6 ≡ true
     pub none_past : (d n : ℕ) → unit_count d ≤ n → inlets d n ≡ None
 
   -- these are the units to which messages go from switch n
   abbrev next_read : ℕ → ℕ → Ports ℕ → Bool
   next_read d n p = (reader d (2 * n) == p.zero) && (reader d (2 * n + 1) == p.one) && nat_lt p.zero 320 && nat_lt p.one 320
 
-  -- `targets` gives them by the stage of the switch and its index there
-  abbrev all_next_read : (ℕ → ℕ → ℕ → Ports ℕ) → ℕ → Bool
-  all_next_read targets d = all_below (λ n. next_read d n (targets d (stage_of d n) (index_of d n))) (switch_count d)
-
   module _ (read : ReadInlets) (d : ℕ) (low : 1 ≤ d) (high : d ≤ 6) where
     pub are_read : (n : ℕ) (p : Ports ℕ) → inlets d n ≡ Some p → AreRead d (reader d) n p
-    are_read n p are =
-        let test = all_below_at (λ n. is_read d n (inlets d n)) (unit_count d) (each_network all_read read.tested d low high) n in
-        let none = read.none_past d n in
-        grind (arith, nat_tests)
+    are_read n p are = let none = read.none_past d n in grind (arith, nat_tests, each_network_at (λ d n. is_read d n (inlets d n)) unit_count read.tested d low high n)
 
     -- a link leads to the unit that reads it
     pub leads : (link unit : ℕ) → link < link_count d → reader d link ≡ unit → LeadsTo (inlets d) d link unit
     leads link unit small reads = record { small = small; alone = λ n p are either. let it = are_read n p are in grind arith }
 
     pub are_inlets : (n : ℕ) (p : Ports ℕ) → inlets d n ≡ Some p → AreInlets (inlets d) d n p
-    are_inlets n p are =
-        let it = are_read n p are in
-        let zero = leads p.zero n in
-        let one = leads p.one n in
-        grind arith
+    are_inlets n p are = let it = are_read n p are in grind (arith, leads p.zero n, leads p.one n)
 
-    lead_on : (targets : ℕ → ℕ → ℕ → Ports ℕ) → all_below (λ k. all_next_read targets (k + 1)) 6 ≡ true → (n : ℕ) → n < switch_count d → LeadOn (inlets d) d n (targets d (stage_of d n) (index_of d n))
+    -- `targets` gives them by the stage of the switch and its index there
+    lead_on : (targets : ℕ → ℕ → ℕ → Ports ℕ) → all_below (λ k. all_below (λ n. next_read (k + 1) n (targets (k + 1) (stage_of (k + 1) n) (index_of (k + 1) n))) (switch_count (k + 1))) 6 ≡ true
+        → (n : ℕ) → n < switch_count d → LeadOn (inlets d) d n (targets d (stage_of d n) (index_of d n))
     lead_on targets all n within =
-        let test = all_below_at (λ n. next_read d n (targets d (stage_of d n) (index_of d n))) (switch_count d) (each_network (all_next_read targets) all d low high) n within in
+        let p = targets d (stage_of d n) (index_of d n) in
+        let test = each_network_at (λ d n. next_read d n (targets d (stage_of d n) (index_of d n))) switch_count all d low high n within in
         let places = has_places d n _ _ low high (is_switch d n within) in
-        let zero = leads (2 * n) (targets d (stage_of d n) (index_of d n)).zero in
-        let one = leads (2 * n + 1) (targets d (stage_of d n) (index_of d n)).one in
-        grind (arith, nat_tests)
+        grind (arith, nat_tests, leads (2 * n) p.zero, leads (2 * n + 1) p.one)
 
 pub replies_read : ReadInlets reply_inlets reply_reader
 unfolding all_below
@@ -89,7 +79,7 @@ pub requests_read : ReadInlets request_inlets request_reader
 unfolding all_below
 requests_read = record { tested = refl; none_past = λ d n past. grind arith }
 
--- ---- by the kind of unit
+-- ---- by which links messages come, by the kind of unit
 module _ (d : ℕ) (low : 1 ≤ d) (high : d ≤ 6) where
   pub replies_to_switch : (n s k : ℕ) → IsSwitch d n s k → AreRead d (reply_reader d) n (reply_links d s k)
   replies_to_switch n s k is = are_read _ _ replies_read d low high n _ (grind arith)
@@ -103,12 +93,11 @@ module _ (d : ℕ) (low : 1 ≤ d) (high : d ≤ 6) where
   pub request_to_module : (n m : ℕ) → IsModule d n m → AreRead d (request_reader d) n (at_both (memory_link d m))
   request_to_module n m is = are_read _ _ requests_read d low high n _ (grind arith)
 
--- ---- where messages lead from switch n
-module _ (d : ℕ) (low : 1 ≤ d) (high : d ≤ 6) where
-  pub replies_lead : (n : ℕ) → n < switch_count d → LeadOn (reply_inlets d) d n (reply_targets d (stage_of d n) (index_of d n))
+  -- where messages lead from switch n, and by which links they come to it
+  pub replies_at : (n : ℕ) → n < switch_count d → LeadOn (reply_inlets d) d n (reply_targets d (stage_of d n) (index_of d n)) × AreInlets (reply_inlets d) d n (reply_links d (stage_of d n) (index_of d n))
   unfolding all_below
-  replies_lead = lead_on _ _ replies_read d low high reply_targets refl
+  replies_at n within = (lead_on _ _ replies_read d low high reply_targets refl n within, are_inlets _ _ replies_read d low high n _ (grind arith))
 
-  pub requests_lead : (n : ℕ) → n < switch_count d → LeadOn (request_inlets d) d n (request_targets d (stage_of d n) (index_of d n))
+  pub requests_at : (n : ℕ) → n < switch_count d → LeadOn (request_inlets d) d n (request_targets d (stage_of d n) (index_of d n)) × AreInlets (request_inlets d) d n (request_links d (stage_of d n) (index_of d n))
   unfolding all_below
-  requests_lead = lead_on _ _ requests_read d low high request_targets refl
+  requests_at n within = (lead_on _ _ requests_read d low high request_targets refl n within, are_inlets _ _ requests_read d low high n _ (grind arith))

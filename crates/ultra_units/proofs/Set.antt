@@ -1,11 +1,8 @@
 -- Units and the bits of their words, and walks over units.
-use Rattle.std.proofs.Common.{◌≡◌, ℕ, min, Bool, ◌&&◌, ◌+◌, ◌-◌, ◌*◌, ◌/◌, ◌%◌, ◌^◌, ◌<◌, ◌≤◌, true, false, List, [], ◌∷◌, zero, suc, refl, length, get_or, map, set, eqb, sym, ◌∙◌, ap, inl, inr, arith, eq-eqb, get_or-set_same, get_or-set_other, replicate, w64, bit_and, bit_or, not, ◌||◌, ◌≢◌}
-use Rattle.ultra_units.proofs.Common.{cases_lt, eqb-true, get_or-replicate, get_or_past, length-replicate, nat_tests, AreBits, has_bit, comes_to, word_end, HasCome, AreSameBut, HasNoneFrom, HasNoneWithin, IsFirstOf, IsWalk, WalkState}
-use Rattle.std.proofs.lemmas.Nat.{shr-shr, le_or_l, le_or_r}
-use Rattle.std.proofs.lemmas.Nat.Bits.{bit_at-lt, bit_at-zero, shr_and_one, bit_at_above, bit_at_and, bit_at_not, bit_at_ones, bit_at_or, bit_at_set_same, bit_at_set_other, bit_at_clear_same, bit_at_clear_other, bit_at-trailing_zeros}
-use Rattle.std.proofs.lemmas.List.FromFn.{get_or-map-range_with_len}
-use Rattle.std.specs.List.{range_with_len}
-use Rattle.std.specs.Int.{bit_not, trailing_zeros}
+use Rattle.std.proofs.Common.{◌≡◌, ℕ, min, Bool, ◌&&◌, ◌+◌, ◌-◌, ◌*◌, ◌/◌, ◌%◌, ◌^◌, ◌<◌, ◌≤◌, true, false, List, [], ◌∷◌, zero, suc, refl, length, get_or, map, set, eqb, sym, ◌∙◌, ap, inl, inr, arith, eq-eqb, get_or-set_same, get_or-set_other, replicate, w64, bit_and, bit_or, not, ◌||◌, ◌≢◌, ◌==◌}
+use Rattle.ultra_units.proofs.Common.{cases_lt, eqb-true, get_or-replicate, get_or_past, length-replicate, nat_tests, AreBits, has_bit, comes_to, word_end, HasCome, AreSameBut, HasNoneFrom, HasNoneWithin, IsFirstOf, IsWalk, Walk}
+use Rattle.std.proofs.lemmas.{List.FromFn.get_or-map-range_with_len, Nat.le_or_l, Nat.le_or_r, Nat.shr-shr, Nat.Bits.bit_at-lt, Nat.Bits.bit_at-zero, Nat.Bits.bit_at_above, Nat.Bits.bit_at_and, Nat.Bits.bit_at_not, Nat.Bits.bit_at_ones, Nat.Bits.bit_at_or, Nat.Bits.bit_at_set_same, Nat.Bits.bit_at_set_other, Nat.Bits.bit_at_clear_same, Nat.Bits.bit_at_clear_other, Nat.Bits.bit_at-trailing_zeros}
+use Rattle.std.specs.{Int.bit_not, Int.trailing_zeros, List.range_with_len}
 use Rattle.ultra_units.specs.Set.{has_unit}
 
 -- ---- one unit
@@ -32,32 +29,20 @@ module _ (words : List ℕ) (number : ℕ) (within : number < 64 * length words)
   abbrev with_word : ℕ → List ℕ
   with_word v = set words (number / 64) v
 
-  pub inserted_there : has_unit (with_word (bit_or word bit)) number ≡ true
+  pub inserted : (k : ℕ) → has_unit (with_word (bit_or word bit)) k ≡ (k == number || has_unit words k)
   unfolding has_unit
-  inserted_there = let set = bit_at_set_same w64 word (number % 64) (omega arith) in grind (arith, get_or-set_same)
+  inserted k = grind (arith, nat_tests, get_or-set_same, get_or-set_other, bit_at_set_same w64 word (number % 64) (omega arith), bit_at_set_other w64 word (number % 64) (omega arith) (k % 64))
 
-  pub inserted_others : AreSameBut number words (with_word (bit_or word bit))
+  pub removed : (k : ℕ) → has_unit (with_word (bit_and word (bit_not w64 bit))) k ≡ (not (k == number) && has_unit words k)
   unfolding has_unit
-  inserted_others k other = let kept = bit_at_set_other w64 word (number % 64) (omega arith) (k % 64) in grind (arith, get_or-set_same, get_or-set_other)
-
-  pub removed_there : has_unit (with_word (bit_and word (bit_not w64 bit))) number ≡ false
-  unfolding has_unit
-  removed_there = let cleared = bit_at_clear_same w64 word (number % 64) (omega arith) in grind (arith, get_or-set_same)
-
-  pub removed_others : AreSameBut number words (with_word (bit_and word (bit_not w64 bit)))
-  unfolding has_unit
-  removed_others k other = let kept = bit_at_clear_other w64 word (number % 64) (omega arith) (k % 64) (omega arith) in grind (arith, get_or-set_same, get_or-set_other)
+  removed k = grind (arith, nat_tests, get_or-set_same, get_or-set_other, bit_at_clear_same w64 word (number % 64) (omega arith), bit_at_clear_other w64 word (number % 64) (omega arith) (k % 64) (omega arith))
 
   -- a mask of ones keeps every unit
   pub all_kept : (mask : ℕ) → mask ≡ bit_not w64 0 → (k : ℕ) → has_unit (with_word (bit_and word mask)) k ≡ has_unit words k
   unfolding has_unit
-  all_kept mask whole k =
-      let ones = bit_at_ones 64 (k % 64) (omega arith) in
-      let kept = bit_at_and word mask (k % 64) in
-      grind (arith, bit_at-lt, get_or-set_same, get_or-set_other)
+  all_kept mask whole k = grind (arith, bit_at-lt, bit_at_and word mask (k % 64), bit_at_ones 64 (k % 64) (omega arith), get_or-set_same, get_or-set_other)
 
 -- ---- the bits of a word as units
-
 pub none_in_word : (words : List ℕ) (k w : ℕ) → get_or words w 0 ≡ 0 → k / 64 ≡ w → has_unit words k ≡ false
 unfolding has_unit
 none_in_word words k w none is = let clear = bit_at-zero (k % 64) in grind arith
@@ -65,6 +50,10 @@ none_in_word words k w none is = let clear = bit_at-zero (k % 64) in grind arith
 bits_of_word : (words : List ℕ) (w : ℕ) → get_or words w 0 < 2 ^ 64 → AreBits (has_unit words) (w * 64) ((w + 1) * 64) (get_or words w 0)
 unfolding has_unit
 bits_of_word words w fits = let past = bit_at_above (get_or words w 0) 64 in grind (arith, nat_tests)
+
+-- a walk at the first unit of some bits, which begin with number `from`
+abbrev pub walk_at : ℕ → ℕ → Walk
+walk_at from bits = record { unit = from + trailing_zeros w64 bits; rest = bits / 2 ^ trailing_zeros w64 bits / 2 }
 
 module _ (are : ℕ → Bool) (from to bits : ℕ) (is : AreBits are from to bits) where
   -- what is left of the bits when the first n are gone
@@ -80,19 +69,15 @@ module _ (are : ℕ → Bool) (from to bits : ℕ) (is : AreBits are from to bit
       let place : from + (k - from) ≡ k = omega arith in
       grind (arith, nat_tests)
 
-  none_of_bits : bits ≡ 0 → HasNoneWithin are from to
-  none_of_bits none k after before = let there = bit_of_number k after before in grind (arith, bit_at-zero)
-
-  first_of_bits : to ≤ 320 → 0 < bits → bits < 2 ^ 64 → IsFirstOf are from (from + trailing_zeros w64 bits) × (from + trailing_zeros w64 bits < to)
-  first_of_bits small some fits =
+  -- a walk that has come to the first unit of the bits, which are of one word
+  pub come : (word : ℕ) → to ≡ (word + 1) * 64 → word * 64 ≤ from → word < 5 → 0 < bits → bits < 2 ^ 64 → HasCome are from (walk_at from bits)
+  come word end low small some fits =
       let lowest = bit_at-trailing_zeros w64 bits some fits in
       let there = is.each (trailing_zeros w64 bits) in
       let inside : (from + trailing_zeros w64 bits < to) × (are (from + trailing_zeros w64 bits) ≡ true) = grind (arith, nat_tests) in
       let between : HasNoneWithin are from (from + trailing_zeros w64 bits) = λ k after before. (let there = bit_of_number k after (omega arith) in let clear = lowest.2 (k - from) (omega arith) in grind arith) in
-      grind arith
-
-first_after : (are : ℕ → Bool) (a b k : ℕ) → a ≤ b → HasNoneWithin are a b → IsFirstOf are b k → IsFirstOf are a k
-first_after are a b k order low first = grind arith
+      let same : word_end (from + trailing_zeros w64 bits) ≡ to = omega arith in
+      record { first = grind arith; rest = rw same (shifted (trailing_zeros w64 bits + 1) _ _ (omega arith) (shr-shr bits _ 1)) }
 
 -- the units of a word from a number on
 module _ (words : List ℕ) (from : ℕ) (fits : get_or words (from / 64) 0 < 2 ^ 64) where
@@ -103,22 +88,15 @@ module _ (words : List ℕ) (from : ℕ) (fits : get_or words (from / 64) 0 < 2 
   bits_from = shifted _ _ _ _ (bits_of_word words (from / 64) fits) (from % 64) from _ (omega arith) refl
 
   pub none_in_rest : rest ≡ 0 → HasNoneWithin (has_unit words) from ((from / 64 + 1) * 64)
-  none_in_rest = none_of_bits _ _ _ _ bits_from
+  none_in_rest none k after before = let there = bit_of_number _ _ _ _ bits_from k after before in grind (arith, bit_at-zero)
 
   pub first_in_rest : from < 320 → 0 < rest → IsFirstOf (has_unit words) from (from + trailing_zeros w64 rest)
-  first_in_rest small some = (first_of_bits _ _ _ _ bits_from (omega arith) some (omega arith)).0
+  first_in_rest small some = (come _ _ _ _ bits_from (from / 64) refl (omega arith) (omega arith) some (omega arith)).first
 
   pub first_past_rest : (k : ℕ) → rest ≡ 0 → IsFirstOf (has_unit words) ((from / 64 + 1) * 64) k → IsFirstOf (has_unit words) from k
-  first_past_rest k none first = first_after _ _ _ k (omega arith) (none_in_rest none) first
+  first_past_rest k none first = let clear = none_in_rest none in grind arith
 
-pub ruleset next_steps = (none_in_rest, first_in_rest, first_past_rest, past_words)
-
--- ---- reading, uniting and taking away
-
--- the bit of a unit, as the code reads it
-pub read_bit : (words : List ℕ) (number : ℕ) → eqb (bit_and (get_or words (number / 64) 0 / 2 ^ (number % 64)) 1) 1 ≡ has_unit words number
-unfolding has_unit
-read_bit words number = grind (arith, shr_and_one)
+-- ---- uniting and taking away
 
 module _ (a b : List ℕ) (five_a : length a ≡ 5) (five_b : length b ≡ 5) where
   -- five words, each made of one of a and one of b
@@ -136,57 +114,25 @@ module _ (a b : List ℕ) (five_a : length a ≡ 5) (five_b : length b ≡ 5) wh
   pub union : (k : ℕ) → has_unit (made bit_or) k ≡ has_unit a k || has_unit b k
   union = word_by_word bit_or (λ x y. x || y) refl (λ i j _ _. grind (arith, bit_at_or))
 
-  module _ (first : get_or b 0 0 < 2 ^ 64) (second : get_or b 1 0 < 2 ^ 64) (third : get_or b 2 0 < 2 ^ 64) (fourth : get_or b 3 0 < 2 ^ 64) (fifth : get_or b 4 0 < 2 ^ 64) where
-    fits : (i : ℕ) → i < 5 → get_or b i 0 < 2 ^ 64
-    fits i within = grind arith
-
-    pub difference : (k : ℕ) → has_unit (made (λ x y. bit_and x (bit_not w64 y))) k ≡ has_unit a k && not (has_unit b k)
-    difference = word_by_word (λ x y. bit_and x (bit_not w64 y)) (λ x y. x && not y) refl (λ i j row within. let clear = bit_at_not w64 (get_or b i 0) j (fits i row) within in grind (arith, bit_at_and, bit_at-lt))
-
--- ---- a set without any unit
-
-module _ (words : List ℕ) (five : length words ≡ 5) where
-  pub none_past_first : bit_or (bit_or (bit_or (get_or words 1 0) (get_or words 2 0)) (get_or words 3 0)) (get_or words 4 0) ≡ 0 → HasNoneFrom words 64
-  none_past_first none k one = grind (arith, le_or_l, le_or_r, none_in_word, past_words)
-
-  pub none_in_words : get_or words 0 0 ≡ 0 → HasNoneFrom words 64 → HasNoneFrom words 0
-  none_in_words none others k past = grind (arith, none_in_word)
-
-pub ruleset first_word_steps = (none_past_first, eqb-true)
+  pub difference : ((i : ℕ) → i < 5 → get_or b i 0 < 2 ^ 64) → (k : ℕ) → has_unit (made (λ x y. bit_and x (bit_not w64 y))) k ≡ has_unit a k && not (has_unit b k)
+  difference fits = word_by_word (λ x y. bit_and x (bit_not w64 y)) (λ x y. x && not y) refl (λ i j row within. let clear = bit_at_not w64 (get_or b i 0) j (fits i row) within in grind (arith, bit_at_and, bit_at-lt))
 
 -- ---- a walk, which comes to each unit of a set
 
--- a walk that has come to the first unit of these bits, which begin with number `from`
-abbrev walk_at : ℕ → ℕ → WalkState
-walk_at from bits = record { unit = from + trailing_zeros w64 bits; rest = bits / 2 ^ trailing_zeros w64 bits / 2 }
-
-come : (are : ℕ → Bool) (from word bits : ℕ) → AreBits are from ((word + 1) * 64) bits → word * 64 ≤ from → word < 5 → 0 < bits → bits < 2 ^ 64 → HasCome are from (walk_at from bits)
-come are from word bits is low small some fits =
-    let (first, inside) = first_of_bits are from _ bits is (omega arith) some fits in
-    let end : word_end (from + trailing_zeros w64 bits) ≡ (word + 1) * 64 = omega arith in
-    record { first = first; rest = rw end (shifted are from _ bits is (trailing_zeros w64 bits + 1) _ _ (omega arith) (shr-shr bits _ 1)) }
-
-is_walk : (are : ℕ → Bool) (from : ℕ) (w : WalkState) → HasCome are from w → IsWalk w
+pub is_walk : (are : ℕ → Bool) (from : ℕ) (w : Walk) → HasCome are from w → IsWalk w
 is_walk are from w come = let there = come.rest.each in grind (arith, nat_tests)
 
-module _ (words : List ℕ) (word : ℕ) (small : word < 5) (fits : get_or words word 0 < 2 ^ 64) (some : 0 < get_or words word 0) where
-  come_here : HasCome (has_unit words) (word * 64) (walk_at (word * 64) (get_or words word 0))
-  come_here = come _ _ word _ (bits_of_word words word fits) (omega arith) small some fits
+pub come_in_word : (words : List ℕ) (word from : ℕ) → word < 5 → get_or words word 0 < 2 ^ 64 → 0 < get_or words word 0 → from ≤ word * 64 → HasNoneWithin (has_unit words) from (word * 64)
+    → HasCome (has_unit words) from (walk_at (word * 64) (get_or words word 0))
+come_in_word words word from small fits some order none =
+    let here = come _ _ _ _ (bits_of_word words word fits) word refl (omega arith) small some fits in
+    record { first = grind arith; rest = here.rest }
 
-  pub walk_in_word : IsWalk (walk_at (word * 64) (get_or words word 0))
-  walk_in_word = is_walk _ _ _ come_here
+pub come_on : (w : Walk) → IsWalk w → 0 < w.rest → w.rest < 2 ^ 64 → (words : List ℕ) → HasCome (comes_to w words) (w.unit + 1) (walk_at (w.unit + 1) w.rest)
+come_on w is some fits words =
+    let bits : AreBits (comes_to w words) (w.unit + 1) (word_end w.unit) w.rest = (let inside = is.within in grind (arith, nat_tests)) in
+    come _ _ _ _ bits (w.unit / 64) refl (omega arith) (let small = is.small in omega arith) some fits
 
-  pub come_in_word : (from : ℕ) → from ≤ word * 64 → HasNoneWithin (has_unit words) from (word * 64) → HasCome (has_unit words) from (walk_at (word * 64) (get_or words word 0))
-  come_in_word from order none = record { first = first_after _ from _ _ order none come_here.first; rest = come_here.rest }
+pub ruleset word_steps = (come_in_word, none_in_word, past_words, bit_at-trailing_zeros)
 
-module _ (w : WalkState) (is : IsWalk w) (some : 0 < w.rest) (fits : w.rest < 2 ^ 64) where
-  kept : (words : List ℕ) → AreBits (comes_to w words) (w.unit + 1) (word_end w.unit) w.rest
-  kept words = let inside = is.within in grind (arith, nat_tests)
-
-  pub come_on : (words : List ℕ) → HasCome (comes_to w words) (w.unit + 1) (walk_at (w.unit + 1) w.rest)
-  come_on words = come _ _ (w.unit / 64) _ (kept words) (omega arith) (let small = is.small in omega arith) some fits
-
-  pub walk_on : IsWalk (walk_at (w.unit + 1) w.rest)
-  walk_on = is_walk _ _ _ (come_on [])
-
-pub ruleset word_steps = (walk_in_word, come_in_word, none_in_word, past_words)
+pub ruleset set_steps = (none_in_empty, inserted, removed, all_kept, none_in_word, past_words, none_in_rest, first_in_rest, first_past_rest, union, difference, le_or_l, le_or_r, eqb-true)

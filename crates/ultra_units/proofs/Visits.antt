@@ -1,7 +1,7 @@
 -- Visits that change nothing may be left out.
 use Rattle.std.proofs.Common.{◌≡◌, ℕ, zero, suc, ◌+◌, ◌-◌, ◌≤◌, ◌<◌, Bool, Option, Some, None, false, refl, sym, ◌∙◌, ap, inl, inr, arith, IfNone, IfSome}
-use Rattle.ultra_units.proofs.Common.{cases_lt, has_bit, word_end, HasCome, WalkState}
-use Rattle.ultra_units.proofs.Set.{bit_of_number}
+use Rattle.ultra_units.proofs.Common.{cases_lt, has_bit, word_end, HasCome, IsWalk, Walk}
+use Rattle.ultra_units.proofs.Set.{bit_of_number, is_walk}
 use Rattle.ultra_units.specs.Visits.{after_units}
 
 -- after the visits below `from`, those of the units up to another number change nothing
@@ -18,23 +18,19 @@ pub none_to_do : {T : Type 0} (f : ℕ → T → T) (t : T) → ((k : ℕ) → f
 unfolding after_units
 none_to_do f t still = skipped f t t 0 320 (omega arith) refl (λ k _ _. still k)
 
-pub visited_next : {T : Type 0} (f : ℕ → T → T) (old now after : T) (k : ℕ) → now ≡ after_units f k old → after ≡ f k now → after ≡ after_units f (k + 1) old
-unfolding after_units
-visited_next f old now after k is made = grind arith
-
 -- the number of the unit to which a walk has come, or the end
-abbrev pub place : Option WalkState → ℕ
+abbrev pub place : Option Walk → ℕ
 place None = 320
 place (Some w) = w.unit
 
 -- all units below that are visited, and those in its word that the walk doesn't keep have nothing to do
-pub record HasPassed {T : Type 0} (f : ℕ → T → T) (can_visit is_idle : ℕ → T → Type 0) (old now : T) (next : Option WalkState) : Type 0 where
+pub record HasPassed {T : Type 0} (f : ℕ → T → T) (can_visit is_idle : ℕ → T → Type 0) (old now : T) (next : Option Walk) : Type 0 where
   pub visited : now ≡ after_units f (place next) old
   pub can : (k : ℕ) → place next ≤ k → k < 320 → can_visit k now
   pub idle : IfSome next (λ w. (k : ℕ) → w.unit < k → k < word_end w.unit → has_bit w.rest (k - (w.unit + 1)) ≡ false → is_idle k now)
-  pub within : IfSome next (λ w. w.unit < 320)
+  pub walk : IfSome next IsWalk
 
 -- a walk comes to the first of some units from `from` on, up to which all are visited, where the others have nothing to do
 module _ {T : Type 0} (f : ℕ → T → T) (can_visit is_idle : ℕ → T → Type 0) (old now : T) (still : (k : ℕ) → is_idle k now → f k now ≡ now) (are : ℕ → Bool) (from : ℕ) (small : from ≤ 320) (visited : now ≡ after_units f from old) (others : (k : ℕ) → from ≤ k → are k ≡ false → is_idle k now) (can : (k : ℕ) → from ≤ k → k < 320 → can_visit k now) where
-  pub passed_to : (next : Option WalkState) → IfSome next (HasCome are from) → IfNone next ((k : ℕ) → from ≤ k → are k ≡ false) → HasPassed f can_visit is_idle old now next
-  passed_to next some none = let past = λ (to : ℕ) (order : from ≤ to). skipped f old now from to order visited in grind (arith, bit_of_number)
+  pub passed_to : (next : Option Walk) → IfSome next (HasCome are from) → IfNone next ((k : ℕ) → from ≤ k → are k ≡ false) → HasPassed f can_visit is_idle old now next
+  passed_to next some none = let past = λ (to : ℕ) (order : from ≤ to). skipped f old now from to order visited in grind (arith, bit_of_number, is_walk)

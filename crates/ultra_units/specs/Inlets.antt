@@ -1,7 +1,7 @@
 -- by which links messages come to the unit with a number, and what goes from one table of links to
 -- another
 use Rattle.std.specs.Prelude.{◌≡◌, ◌≢◌, ℕ, ◌+◌, ◌*◌, ◌^◌, ◌<◌, ◌⊎◌, false, length, List, Option, Some, None, slice_set}
-use Rattle.ultra_units.specs.Prelude.{Ports}
+use Rattle.ultra_switch.specs.declared.Ports.{Ports}
 use Rattle.ultra_units.specs.{Numbers.switch_count, Set.has_unit, Units.index_of, Units.stage_of, Units.of_unit, Links.put_on, Ways.places_of, Marks.on_link, Marks.reply_links, Marks.delivery_link, Marks.request_links, Marks.memory_link}
 
 -- one link, which stands at both ports

@@ -1,6 +1,4 @@
-pub mod Prelude
 pub mod Set
-pub mod Walk
 pub mod Numbers
 pub mod Visits
 pub mod Links

@@ -1,6 +1,7 @@
 -- what is on the links by which messages come to a unit of a machine of d stages
 use Rattle.std.specs.Prelude.{ℕ, ◌+◌, ◌-◌, ◌*◌, Bool, true, false, List, Option, None, slice_index_or, slice_set}
-use Rattle.ultra_units.specs.Prelude.{shuffled, Ports}
+use Rattle.ultra_route.specs.Route.{shuffled}
+use Rattle.ultra_switch.specs.declared.Ports.{Ports}
 use Rattle.ultra_units.specs.Numbers.{place_number, reply_source, request_source}
 
 abbrev pub on_link : {M : Type 0} → List (Option M) → ℕ → Option M

@@ -1,6 +1,6 @@
 -- how the units of a machine of d stages are numbered, and the links between them
 use Rattle.std.specs.Prelude.{ℕ, ◌+◌, ◌-◌, ◌*◌, ◌/◌, ◌^◌, true, false, ◌==◌}
-use Rattle.ultra_units.specs.Prelude.{shuffled, unshuffled}
+use Rattle.ultra_route.specs.Route.{shuffled, unshuffled}
 
 -- units are numbered switches first, stage by stage, then modules, then processing elements
 abbrev pub switch_number : ℕ → ℕ → ℕ → ℕ

@@ -1,6 +1,6 @@
 -- a set of units as words of 64 bits
 use Rattle.std.specs.Prelude.{◌≡◌, ◌≢◌, ℕ, ◌/◌, ◌%◌, ◌<◌, ◌≤◌, Bool, true, false, List, ◌==◌, slice_index}
-use Rattle.ultra_units.specs.Prelude.{bit_at}
+use Rattle.std.specs.Int.{bit_at}
 
 -- bit i of the word is set
 abbrev pub has_bit : ℕ → ℕ → Bool

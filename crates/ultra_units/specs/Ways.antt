@@ -1,6 +1,7 @@
 -- where messages go from a unit, and where there is a way: the unit that they go to has room
 use Rattle.std.specs.Prelude.{ℕ, ◌+◌, ◌-◌, ◌*◌, ◌/◌, ◌%◌, ◌^◌, List, Bool, true, false, not, ◌==◌, Option, Some, None}
-use Rattle.ultra_units.specs.Prelude.{shuffled, bit_of, Ports}
+use Rattle.ultra_route.specs.Route.{shuffled, bit_of}
+use Rattle.ultra_switch.specs.declared.Ports.{Ports}
 use Rattle.ultra_msg.specs.declared.Request.{Request}
 use Rattle.ultra_units.specs.{Set.has_unit, Numbers.place_number, Numbers.reply_target, Numbers.request_target, Numbers.switch_number}
 

@@ -22,9 +22,8 @@ pub fn leave_module(
     ensures { links.new ≡ record links.old { table = put_on links.old.table (number_of_place net net number) reply; targets = links.new.targets } }
 {
     let _even = net.size();
-    let stages = net.stages();
-    let link = place_number(net, stages, number);
-    let target = switch_number(net, stages - 1, number / 2);
+    let link = place_number(net, net.stages(), number);
+    let target = switch_number(net, net.stages() - 1, number / 2);
     links.put(link, target, reply);
 }
 

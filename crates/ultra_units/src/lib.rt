@@ -4,24 +4,19 @@
 #![tactic(auto)]
 
 mod ends;
-mod entries;
-mod inlets;
 mod links;
 mod numbers;
 mod pass;
 mod unit;
 mod unit_set;
-mod walk;
 mod ways;
 mod wiring;
 
 pub use ends::{leave_element, leave_module, take_at_element, take_at_module};
-pub use entries::no_entries;
-pub use inlets::{reply_inlets, request_inlets};
 pub use links::{Links, Message, ports_in_turn};
 pub use numbers::{element_number, module_number, switch_count, switch_number};
 pub use pass::{Visit, visit_all};
-pub use unit::Unit;
+pub use unit::{Unit, no_entries};
 pub use unit_set::{UnitNumber, UnitSet};
 pub use ways::{find_reply_ways, has_request_way, has_way_from_element};
-pub use wiring::Wiring;
+pub use wiring::{Wiring, reply_inlets, request_inlets};

@@ -1,8 +1,8 @@
 //! The links of one kind of message, and the units to which messages lead.
 
 ghost use Rattle.std.specs.Prelude.{◌≡◌, ℕ, ◌<◌, true, false, Option, IfOk, None, is_some, length, replicate, slice_set};
-ghost use Rattle.ultra_units.specs.Prelude.{Ports};
-ghost use Rattle.ultra_units.specs.{Inlets.AreEmpty, Inlets.AreInlets, Inlets.AreTargets, Inlets.LeadsTo, Inlets.link_count, Inlets.put_on_both, Inlets.reply_inlets, Inlets.request_inlets, Inlets.taken_by_turns, Links.put_on, Set.AreSameBut, Set.HasNoneFrom, Set.has_unit, Marks.on_link, Marks.ports_in_turn, Marks.without_both};
+ghost use Rattle.ultra_switch.specs.declared.Ports.{Ports};
+ghost use Rattle.ultra_units.specs.{Inlets.AreEmpty, Inlets.AreInlets, Inlets.AreTargets, Inlets.LeadsTo, Inlets.link_count, Inlets.put_on_both, Inlets.reply_inlets, Inlets.request_inlets, Inlets.taken_by_turns, Links.LinksState, Links.put_on, Set.AreSameBut, Set.HasNoneFrom, Set.has_unit, Marks.on_link, Marks.ports_in_turn, Marks.without_both};
 
 use crate::unit_set::{UnitNumber, UnitSet};
 use std::alloc::{AllocError, Global};
@@ -36,8 +36,6 @@ pub struct Links<M: Message> {
 }
 
 impl<M: Message> Model for Links<M> {
-    ghost use Rattle.ultra_units.specs.{Inlets.AreTargets, Links.LinksState};
-
     ghost Value = { LinksState M };
 
     ghost view = { λ l. record { stages = l.net; table = l.table.items; targets = l.targets } };

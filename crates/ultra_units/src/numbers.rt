@@ -1,7 +1,7 @@
 //! The numbers of units and of the links between them.
 
-ghost use Rattle.std.specs.Prelude.{◌≡◌, ◌+◌, ◌-◌, ◌*◌, ◌^◌, ◌<◌, ◌≤◌};
-ghost use Rattle.ultra_units.specs.{Marks.reply_links, Marks.request_links, Numbers.element_number as number_of_element, Numbers.module_number as number_of_module, Numbers.place_number as number_of_place, Numbers.reply_target as target_of_reply, Numbers.request_target as target_of_request, Numbers.switch_count as count_of_switches, Numbers.switch_number as number_of_switch};
+ghost use Rattle.std.specs.Prelude.{◌≡◌, ℕ, ◌+◌, ◌-◌, ◌*◌, ◌^◌, ◌<◌, ◌≤◌};
+ghost use Rattle.ultra_units.specs.{Numbers.element_number as number_of_element, Numbers.module_number as number_of_module, Numbers.place_number as number_of_place, Numbers.reply_source as source_of_reply, Numbers.reply_target as target_of_reply, Numbers.request_source as source_of_request, Numbers.request_target as target_of_request, Numbers.switch_count as count_of_switches, Numbers.switch_number as number_of_switch};
 
 use ultra_route::Net;
 use ultra_switch::Ports;
@@ -12,8 +12,7 @@ pub fn switch_count(net: Net) -> usize
     ensures value { result ≡ count_of_switches net }
     ensures small { result ≤ 192 }
 {
-    let stages = net.stages();
-    (stages * (net.size() / 2)) as usize
+    (net.stages() * (net.size() / 2)) as usize
 }
 
 /// The number of a switch of a stage, by its index there.
@@ -60,83 +59,71 @@ pub(crate) fn place_number(net: Net, stage: u32, position: u32) -> usize
     (stage * net.size() + position) as usize
 }
 
-/// The positions of a switch in its stage, by the port.
-pub(crate) fn positions(net: Net, index: u32) -> Ports<u32>
-    requires { index < 2 ^ (net - 1) }
-    ensures value { result ≡ record { zero = 2 * index; one = 2 * index + 1 } }
-    ensures zero_small { result.zero < 2 ^ net }
-    ensures one_small { result.one < 2 ^ net }
+/// What a function gives for the positions of a switch in its stage, by the port.
+pub(crate) fn by_port<F: Fn(u32) -> u16>(net: Net, index: u32, at: F) -> Ports<u16>
+    requires index { index < 2 ^ (net - 1) }
+    requires at { (x : ℕ) → x < 2 ^ net → F.pre at x }
+    ensures zero { F.post at (2 * index) result.zero }
+    ensures one { F.post at (2 * index + 1) result.one }
 {
     let _even = net.size();
     Ports {
-        zero: 2 * index,
-        one: 2 * index + 1,
+        zero: at(2 * index),
+        one: at(2 * index + 1),
     }
 }
 
-/// The links by which replies come to a switch, by the memory-side port.
-pub(crate) fn reply_sources(net: Net, stage: u32, index: u32) -> Ports<usize>
+/// The link by which a reply comes to a memory-side position of a stage.
+pub(crate) fn reply_source(net: Net, stage: u32, position: u32) -> u16
     requires stage { stage < net }
-    requires index { index < 2 ^ (net - 1) }
-    ensures value { result ≡ reply_links net stage index }
-    ensures zero { result.zero < 448 }
-    ensures one { result.one < 448 }
+    requires position { position < 2 ^ net }
+    ensures { result ≡ source_of_reply net stage position }
 {
-    let Ports { zero, one } = positions(net, index);
-    let (from, zero, one) = if stage == net.stages() - 1 {
-        (net.stages(), zero, one)
+    let link = if stage == net.stages() - 1 {
+        place_number(net, net.stages(), position)
     } else {
-        (stage + 1, net.shuffle(zero), net.shuffle(one))
+        place_number(net, stage + 1, net.shuffle(position))
     };
-    Ports {
-        zero: place_number(net, from, zero),
-        one: place_number(net, from, one),
-    }
+    link as u16
 }
 
 /// The unit to which a reply goes from a PE-side position of a stage.
-pub(crate) fn reply_target(net: Net, stage: u32, position: u32) -> usize
+pub(crate) fn reply_target(net: Net, stage: u32, position: u32) -> u16
     requires stage { stage < net }
     requires position { position < 2 ^ net }
-    ensures value { result ≡ target_of_reply net stage position }
-    ensures small { result < 320 }
+    ensures { result ≡ target_of_reply net stage position }
 {
     let _even = net.size();
     let line = net.unshuffle(position);
-    if stage == 0 {
+    let unit = if stage == 0 {
         element_number(net, line)
     } else {
         switch_number(net, stage - 1, line / 2)
-    }
+    };
+    unit as u16
 }
 
-/// The links by which requests come to a switch, by the PE-side port.
-pub(crate) fn request_sources(net: Net, stage: u32, index: u32) -> Ports<usize>
+/// The link by which a request comes to a PE-side position of a stage.
+pub(crate) fn request_source(net: Net, stage: u32, position: u32) -> u16
     requires stage { stage < net }
-    requires index { index < 2 ^ (net - 1) }
-    ensures value { result ≡ request_links net stage index }
-    ensures zero { result.zero < 448 }
-    ensures one { result.one < 448 }
+    requires position { position < 2 ^ net }
+    ensures { result ≡ source_of_request net stage position }
 {
-    let Ports { zero, one } = positions(net, index);
     let from = if stage == 0 { net.stages() } else { stage - 1 };
-    Ports {
-        zero: place_number(net, from, net.unshuffle(zero)),
-        one: place_number(net, from, net.unshuffle(one)),
-    }
+    place_number(net, from, net.unshuffle(position)) as u16
 }
 
 /// The unit to which a request goes from a memory-side position of a stage.
-pub(crate) fn request_target(net: Net, stage: u32, position: u32) -> usize
+pub(crate) fn request_target(net: Net, stage: u32, position: u32) -> u16
     requires stage { stage < net }
     requires position { position < 2 ^ net }
-    ensures value { result ≡ target_of_request net stage position }
-    ensures small { result < 320 }
+    ensures { result ≡ target_of_request net stage position }
 {
     let _even = net.size();
-    if stage == net.stages() - 1 {
+    let unit = if stage == net.stages() - 1 {
         module_number(net, position)
     } else {
         switch_number(net, stage + 1, net.shuffle(position) / 2)
-    }
+    };
+    unit as u16
 }

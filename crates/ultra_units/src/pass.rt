@@ -1,10 +1,63 @@
-//! One loop over units.
+//! Walks over the units of a set, and visits of them.
 
-ghost use Rattle.std.specs.Prelude.{◌≡◌, ℕ, ◌<◌, false};
-ghost use Rattle.ultra_units.specs.{Set.has_unit, Visits.after_units};
+ghost use Rattle.std.specs.Prelude.{◌≡◌, ℕ, ◌+◌, ◌*◌, ◌<◌, ◌≤◌, false, IfNone, IfSome};
+ghost use Rattle.ultra_units.specs.{Set.HasNoneFrom, Set.has_unit, Visits.after_units, Visits.HasCome, Visits.IsWalk, Visits.comes_to};
 
-use crate::unit_set::{UnitNumber, UnitSet};
-use crate::walk::Walk;
+use crate::unit_set::{UnitNumber, UnitSet, WORDS};
+
+/// A walk over the units of a set, by their numbers, while the set may lose units. It keeps the units behind the one to which it has come, in the same word, so the next is known before this one has been visited.
+#[derive(Clone, Copy, Drop)]
+pub(crate) struct Walk {
+    /// The unit.
+    pub(crate) unit: UnitNumber,
+    /// The units behind it in its word: bit i says it of the one whose number is greater by i + 1.
+    rest: u64,
+}
+
+impl Walk {
+    /// The same walk at its next unit, or `None` where there is none.
+    #[inline(always)]
+    pub(crate) fn go_on(self, set: &UnitSet) -> Option<Walk>
+        requires { IsWalk self }
+        ensures some { IfSome result (HasCome (comes_to self set.now) (self.unit + 1)) }
+        ensures none { IfNone result ((k : ℕ) → self.unit + 1 ≤ k → comes_to self set.now k ≡ false) }
+    {
+        let unit = self.unit.number();
+        if self.rest != 0 {
+            let distance = self.rest.trailing_zeros() as usize;
+            return Some(Walk {
+                unit: UnitNumber::of(unit + 1 + distance),
+                rest: self.rest >> distance >> 1,
+            });
+        }
+        let word = unit / 64;
+        if word == 0 && set.is_in_first_word() {
+            return None;
+        }
+        Walk::from_word(set, word + 1)
+    }
+
+    /// A walk at its first unit in the words from `first` on, or `None` where there is none.
+    #[inline(always)]
+    #[tactic(auto, using(crate::proofs::Set::word_steps))]
+    pub(crate) fn from_word(set: &UnitSet, first: usize) -> Option<Walk>
+        requires { first ≤ 5 }
+        ensures some { IfSome result (HasCome (has_unit set.now) (first * 64)) }
+        ensures none { IfNone result (HasNoneFrom set.now (first * 64)) }
+    {
+        for word in first..WORDS {
+            let bits = set.words[word];
+            if bits != 0 {
+                let bit = bits.trailing_zeros() as usize;
+                return Some(Walk {
+                    unit: UnitNumber::of(word * 64 + bit),
+                    rest: bits >> bit >> 1,
+                });
+            }
+        }
+        None
+    }
+}
 
 /// What is done to the units of something, one after another by their numbers.
 pub trait Visit<T> {
@@ -51,9 +104,9 @@ fn visit_some<T, V: Visit<T>>(visit: &V, target: &mut T)
     requires { (k : ℕ) → k < 320 → V.can_visit visit.now k target.old }
     ensures { target.new ≡ after_units (V.visited visit.now) 320 target.old }
 {
-    let mut next = Walk::start(visit.units(target));
+    let mut next = Walk::from_word(visit.units(target), 0);
     while let Some(walk) = next {
-        visit.visit(target, walk.unit());
+        visit.visit(target, walk.unit);
         next = walk.go_on(visit.units(target));
     }
 }

@@ -1,8 +1,9 @@
-//! Which unit has a number.
+//! Which unit has a number, and tables without units.
 
-ghost use Rattle.std.specs.Prelude.{◌≡◌, ◌+◌, ◌<◌, ◌≤◌, ◌^◌, IfNone, IfSome};
+ghost use Rattle.std.specs.Prelude.{◌≡◌, ◌+◌, ◌<◌, ◌≤◌, ◌^◌, IfNone, IfOk, IfSome, None, replicate};
 ghost use Rattle.ultra_units.specs.{Numbers.switch_count as count_of_switches, Units.IsSwitch};
 
+use std::alloc::{AllocError, Global};
 use ultra_route::Net;
 
 /// A unit of a machine.
@@ -21,8 +22,7 @@ pub enum Unit {
 /// The place of a number among the `size` numbers from `first` on, or `None` where it isn't one of those.
 #[inline(always)]
 pub(crate) fn place_from(number: usize, first: usize, size: usize) -> Option<u32>
-    requires small { first < 2 ^ 32 }
-    requires few { size < 2 ^ 32 }
+    requires { first + size < 2 ^ 32 }
     ensures some { IfSome result (λ place. (place < size) × (number ≡ first + place)) }
     ensures none { IfNone result ((first ≤ number) → first + size ≤ number) }
 {
@@ -44,4 +44,16 @@ pub(crate) fn place_of(net: Net, number: usize) -> (u32, u32)
     let _size = net.size();
     let high = net.stages() - 1;
     ((number >> high) as u32, (number % (1 << high)) as u32)
+}
+
+/// As many empty entries. An error says that memory was refused.
+pub fn no_entries<T: Drop>(alloc: Global, count: usize) -> Result<Vec<Option<T>>, AllocError>
+    ensures { IfOk result (λ v. v.items ≡ replicate count None) }
+{
+    let mut entries = Vec::with_capacity(alloc, count)?;
+    for entry in 0..count {
+        let _ = entry;
+        entries.push(None)?;
+    }
+    Ok(entries)
 }

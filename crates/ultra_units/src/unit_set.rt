@@ -1,27 +1,22 @@
 //! Sets of units.
 
-ghost use Rattle.std.specs.Prelude.{◌≡◌, ℕ, ◌+◌, ◌*◌, ◌<◌, ◌≤◌, ◌&&◌, ◌||◌, true, false, not, IfNone, IfSome, length};
+ghost use Rattle.std.specs.Prelude.{◌≡◌, ℕ, List, ◌+◌, ◌*◌, ◌<◌, ◌≤◌, ◌&&◌, ◌||◌, true, false, not, IfNone, IfSome};
 ghost use Rattle.ultra_units.specs.Set.{AreSameBut, HasNoneFrom, IsFirstFrom, has_unit};
 
-use crate::walk::Walk;
+use crate::pass::Walk;
 use std::marker::Model;
 
-/// How many units the largest machine has: 192 switches, 64 modules and 64 processing elements.
-pub(crate) const UNITS: usize = 320;
-
-/// How many words of 64 bits that takes.
+/// How many words of 64 bits a set takes: the largest machine has 320 units, which are 192 switches, 64 modules and 64 processing elements.
 pub(crate) const WORDS: usize = 5;
 
 /// A set of units, by their numbers, which are below 320: switches first, then modules, then processing elements.
 #[derive(Clone, Copy, Drop)]
 pub struct UnitSet {
     // bit k % 64 of word k / 64 says that unit k is in the set
-    words: [u64; WORDS],
+    pub(crate) words: [u64; WORDS],
 }
 
 impl Model for UnitSet {
-    ghost use Rattle.std.specs.Prelude.{List, ℕ, ◌<◌};
-
     ghost Value = { List ℕ };
 
     ghost view = { λ s. s.words };
@@ -65,9 +60,9 @@ impl UnitNumber {
     }
 }
 
+#[tactic(auto, using(crate::proofs::Set::set_steps))]
 impl UnitSet {
     /// The set without any unit.
-    #[tactic(auto, using(crate::proofs::Set::none_in_empty))]
     pub fn empty() -> UnitSet
         ensures { HasNoneFrom result 0 }
     {
@@ -76,7 +71,6 @@ impl UnitSet {
 
     /// Whether no unit is in the set.
     #[inline(always)]
-    #[tactic(auto, using(crate::proofs::Set::none_in_words))]
     pub fn is_empty(&self) -> bool
         ensures { result ≡ true → HasNoneFrom self.now 0 }
     {
@@ -85,7 +79,7 @@ impl UnitSet {
 
     /// Whether the unit of this number is in the set.
     #[inline(always)]
-    #[tactic(auto, using(crate::proofs::Set::read_bit))]
+    #[tactic(auto, using(std::proofs::lemmas::Nat::Bits::shr_and_one), unfolding(crate::specs::Set::has_unit))]
     pub fn has(&self, number: usize) -> bool
         requires { number < 320 }
         ensures { result ≡ has_unit self.now number }
@@ -95,7 +89,6 @@ impl UnitSet {
 
     /// Puts a unit into the set.
     #[inline(always)]
-    #[tactic(auto, using(crate::proofs::Set::inserted_there, crate::proofs::Set::inserted_others))]
     pub fn insert(&mut self, unit: UnitNumber)
         ensures others { AreSameBut unit self.old self.new }
         ensures there { has_unit self.new unit ≡ true }
@@ -125,7 +118,6 @@ impl UnitSet {
 
     /// Takes a unit out of the set, unless `is_in`. One that isn't there stays away.
     #[inline(always)]
-    #[tactic(auto, using(crate::proofs::Set::all_kept, crate::proofs::Set::removed_there, crate::proofs::Set::removed_others))]
     pub fn remove_unless(&mut self, unit: UnitNumber, is_in: bool)
         ensures others { AreSameBut unit self.old self.new }
         ensures there { has_unit self.new unit ≡ has_unit self.old unit && is_in }
@@ -140,7 +132,6 @@ impl UnitSet {
 
     /// Puts all units of another set into this one.
     #[inline(always)]
-    #[tactic(auto, using(crate::proofs::Set::union))]
     pub fn add_all(&mut self, other: &UnitSet)
         ensures { (k : ℕ) → has_unit self.new k ≡ has_unit self.old k || has_unit other.now k }
     {
@@ -156,11 +147,10 @@ impl UnitSet {
 
     /// The units of this set that aren't in the other.
     #[inline(always)]
-    #[tactic(auto, using(crate::proofs::Set::difference))]
     pub fn without(&self, other: &UnitSet) -> UnitSet
         ensures { (k : ℕ) → has_unit result k ≡ has_unit self.now k && not (has_unit other.now k) }
     {
-        let (a, b) = (self.words(), other.words());
+        let (a, b) = (&self.words, &other.words);
         UnitSet {
             words: [
                 a[0] & !b[0],
@@ -174,13 +164,12 @@ impl UnitSet {
 
     /// The first unit of the set whose number is at least `from`.
     #[inline(always)]
-    #[tactic(auto, using(crate::proofs::Set::next_steps))]
     pub fn next(&self, from: usize) -> Option<usize>
         ensures some { IfSome result (λ k. IsFirstFrom self.now from k) }
         ensures none { IfNone result (HasNoneFrom self.now from) }
     {
-        let words = self.words();
-        if UNITS <= from {
+        let words = &self.words;
+        if 64 * WORDS <= from {
             return None;
         }
         let rest = words[from / 64] >> (from % 64);
@@ -190,25 +179,14 @@ impl UnitSet {
         if from < 64 && self.is_in_first_word() {
             return None;
         }
-        Some(Walk::from_word(self, from / 64 + 1)?.unit().number())
+        Some(Walk::from_word(self, from / 64 + 1)?.unit.number())
     }
 
     /// Whether all units of the set are in its first word, as in a small machine.
     #[inline(always)]
-    #[tactic(auto, using(crate::proofs::Set::first_word_steps))]
     pub(crate) fn is_in_first_word(&self) -> bool
         ensures { result ≡ true → HasNoneFrom self.now 64 }
     {
-        let words = &self.words;
-        words[1] | words[2] | words[3] | words[4] == 0
-    }
-
-    /// The words of the set.
-    #[inline(always)]
-    pub(crate) fn words(&self) -> &[u64; WORDS]
-        ensures are { result.now ≡ self.now }
-        ensures count { length self.now ≡ 5 }
-    {
-        &self.words
+        self.words[1] | self.words[2] | self.words[3] | self.words[4] == 0
     }
 }

@@ -1,10 +1,10 @@
-//! What is beside each switch of a network.
+//! What is beside each unit of a network.
 
-ghost use Rattle.std.specs.Prelude.{◌≡◌, ◌-◌, ◌^◌, ◌<◌, IfOk, IfSome, None, Some};
-ghost use Rattle.ultra_units.specs.{Inlets.AreInlets, Inlets.LeadOn, Inlets.reply_inlets, Inlets.request_inlets, Marks.reply_links as links_of_replies, Marks.request_links as links_of_requests, Numbers.switch_count as count_of_switches, Units.IsElement, Units.IsModule, Units.IsUnit, Units.index_of, Units.of_unit, Units.stage_of, Units.unit_of, Ways.reply_targets as targets_of_replies, Ways.request_targets as targets_of_requests, Wiring.neighbours};
+ghost use Rattle.std.specs.Prelude.{◌≡◌, ℕ, ◌-◌, ◌^◌, ◌<◌, IfOk, IfSome, None, Some};
+ghost use Rattle.ultra_units.specs.{Inlets.AreInlets, Inlets.LeadOn, Inlets.reply_inlets as inlets_of_replies, Inlets.request_inlets as inlets_of_requests, Marks.reply_links as links_of_replies, Marks.request_links as links_of_requests, Numbers.switch_count as count_of_switches, Units.IsElement, Units.IsModule, Units.IsUnit, Units.index_of, Units.of_unit, Units.stage_of, Units.unit_of, Ways.reply_targets as targets_of_replies, Ways.request_targets as targets_of_requests, Wiring.IsWired, Wiring.neighbours};
 
 use crate::numbers::{
-    positions, reply_sources, reply_target, request_sources, request_target, switch_count,
+    by_port, place_number, reply_source, reply_target, request_source, request_target, switch_count,
 };
 use crate::unit::{Unit, place_from, place_of};
 use crate::unit_set::UnitNumber;
@@ -31,39 +31,20 @@ pub(crate) struct Neighbours {
 }
 
 impl Neighbours {
-    /// Those of a switch, by its stage and its index there.
-    fn of(net: Net, stage: u32, index: u32) -> Neighbours
-        requires stage { stage < net }
-        requires index { index < 2 ^ (net - 1) }
-        ensures { result ≡ neighbours net stage index }
+    /// Those of the switch with this number.
+    fn of(net: Net, number: usize) -> Neighbours
+        requires { number < count_of_switches net }
+        ensures { result ≡ neighbours net (stage_of net number) (index_of net number) }
     {
-        let Ports { zero, one } = positions(net, index);
+        let (stage, index) = place_of(net, number);
         Neighbours {
             stage: stage as u16,
             index: index as u16,
-            request_links: narrow(request_sources(net, stage, index)),
-            request_targets: narrow(Ports {
-                zero: request_target(net, stage, zero),
-                one: request_target(net, stage, one),
-            }),
-            reply_links: narrow(reply_sources(net, stage, index)),
-            reply_targets: narrow(Ports {
-                zero: reply_target(net, stage, zero),
-                one: reply_target(net, stage, one),
-            }),
+            request_links: by_port(net, index, |x| request_source(net, stage, x)),
+            request_targets: by_port(net, index, |x| request_target(net, stage, x)),
+            reply_links: by_port(net, index, |x| reply_source(net, stage, x)),
+            reply_targets: by_port(net, index, |x| reply_target(net, stage, x)),
         }
-    }
-}
-
-/// The numbers in little memory.
-fn narrow(numbers: Ports<usize>) -> Ports<u16>
-    requires zero { numbers.zero < 2 ^ 16 }
-    requires one { numbers.one < 2 ^ 16 }
-    ensures { result ≡ numbers }
-{
-    Ports {
-        zero: numbers.zero as u16,
-        one: numbers.one as u16,
     }
 }
 
@@ -76,6 +57,41 @@ fn widen(numbers: Ports<u16>) -> Ports<usize>
         zero: numbers.zero as usize,
         one: numbers.one as usize,
     }
+}
+
+/// The links by which replies come to a unit, by its number: a processing element has one, which stands at both ports. None come to a memory module.
+pub fn reply_inlets(net: Net, unit: usize) -> Option<Ports<usize>>
+    ensures { result ≡ inlets_of_replies net unit }
+{
+    let modules = switch_count(net);
+    if unit < modules {
+        let (stage, index) = place_of(net, unit);
+        return Some(widen(by_port(net, index, |x| reply_source(net, stage, x))));
+    }
+    let size = net.size() as usize;
+    let pe = place_from(unit, modules + size, size)?;
+    let link = place_number(net, 0, net.shuffle(pe));
+    Some(Ports {
+        zero: link,
+        one: link,
+    })
+}
+
+/// The links by which requests come to a unit, by its number: a memory module has one, which stands at both ports. None come to a processing element.
+pub fn request_inlets(net: Net, unit: usize) -> Option<Ports<usize>>
+    ensures { result ≡ inlets_of_requests net unit }
+{
+    let modules = switch_count(net);
+    if unit < modules {
+        let (stage, index) = place_of(net, unit);
+        return Some(widen(by_port(net, index, |x| request_source(net, stage, x))));
+    }
+    let number = place_from(unit, modules, net.size() as usize)?;
+    let link = place_number(net, net.stages() - 1, number);
+    Some(Ports {
+        zero: link,
+        one: link,
+    })
 }
 
 /// The wiring of a network: which unit has a number, and what is beside each switch.
@@ -93,9 +109,6 @@ pub struct Wiring {
 }
 
 impl Model for Wiring {
-    ghost use Rattle.std.specs.Prelude.{ℕ};
-    ghost use Rattle.ultra_units.specs.Wiring.{IsWired};
-
     ghost Value = { ℕ };
 
     ghost view = { λ w. w.net };
@@ -103,6 +116,7 @@ impl Model for Wiring {
     ghost invariant = { λ w. IsWired w.net w.modules w.elements w.size w.switches.items };
 }
 
+#[tactic(auto, using(crate::proofs::Readers::requests_at, crate::proofs::Readers::replies_at))]
 impl Wiring {
     /// That of a network. An error says that memory was refused.
     pub fn of(alloc: Global, net: Net) -> Result<Wiring, AllocError>
@@ -112,8 +126,7 @@ impl Wiring {
         let size = net.size() as usize;
         let mut switches = Vec::with_capacity(alloc, modules)?;
         for number in 0..modules {
-            let (stage, index) = place_of(net, number);
-            switches.push(Neighbours::of(net, stage, index))?;
+            switches.push(Neighbours::of(net, number))?;
         }
         Ok(Wiring {
             net,
@@ -180,7 +193,7 @@ impl Wiring {
     pub fn request_links(&self, unit: UnitNumber) -> Ports<usize>
         requires { unit < count_of_switches self.now }
         ensures value { result ≡ links_of_requests self.now (stage_of self.now unit) (index_of self.now unit) }
-        ensures inlets { AreInlets (request_inlets self.now) self.now unit result }
+        ensures inlets { AreInlets (inlets_of_requests self.now) self.now unit result }
     {
         let _stages = self.net.stages();
         widen(self.switches[unit.number()].request_links)
@@ -188,11 +201,10 @@ impl Wiring {
 
     /// The units to which requests go from a switch, by the memory-side port.
     #[inline(always)]
-    #[tactic(auto, using(crate::proofs::Readers::requests_lead))]
     pub fn request_targets(&self, unit: UnitNumber) -> Ports<usize>
         requires { unit < count_of_switches self.now }
         ensures value { result ≡ targets_of_requests self.now (stage_of self.now unit) (index_of self.now unit) }
-        ensures lead { LeadOn (request_inlets self.now) self.now unit result }
+        ensures lead { LeadOn (inlets_of_requests self.now) self.now unit result }
     {
         let _stages = self.net.stages();
         widen(self.switches[unit.number()].request_targets)
@@ -203,7 +215,7 @@ impl Wiring {
     pub fn reply_links(&self, unit: UnitNumber) -> Ports<usize>
         requires { unit < count_of_switches self.now }
         ensures value { result ≡ links_of_replies self.now (stage_of self.now unit) (index_of self.now unit) }
-        ensures inlets { AreInlets (reply_inlets self.now) self.now unit result }
+        ensures inlets { AreInlets (inlets_of_replies self.now) self.now unit result }
     {
         let _stages = self.net.stages();
         widen(self.switches[unit.number()].reply_links)
@@ -211,11 +223,10 @@ impl Wiring {
 
     /// The units to which replies go from a switch, by the PE-side port.
     #[inline(always)]
-    #[tactic(auto, using(crate::proofs::Readers::replies_lead))]
     pub fn reply_targets(&self, unit: UnitNumber) -> Ports<usize>
         requires { unit < count_of_switches self.now }
         ensures value { result ≡ targets_of_replies self.now (stage_of self.now unit) (index_of self.now unit) }
-        ensures lead { LeadOn (reply_inlets self.now) self.now unit result }
+        ensures lead { LeadOn (inlets_of_replies self.now) self.now unit result }
     {
         let _stages = self.net.stages();
         widen(self.switches[unit.number()].reply_targets)

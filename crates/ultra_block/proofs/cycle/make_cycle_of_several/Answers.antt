@@ -1,13 +1,12 @@
 use Rattle.std.proofs.Common.{arith}
 use Rattle.ultra_cut.specs.declared.kind.Kind.TheVariants.{Replies, Requests}
-use Rattle.ultra_cut.proofs.Whole.{can_execute, can_serve, can_take_replies, can_take_requests, left_cut, left_single, next, stages}
+use Rattle.ultra_cut.proofs.Whole.{Left, can_execute, can_serve, can_take_replies, can_take_requests, left_cut, next, stages}
 use Rattle.ultra_block.proofs.cycle.make_cycle_of_several.Goals as goal
 
-pub exchange-requires-clause-cut : goal.exchange-requires-clause-cut
-exchange-requires-clause-cut c = left_cut c.requires.whole.1 {kind = Replies} (search stages) c.net-net.ensures
-
-pub exchange-requires-clause-single : goal.exchange-requires-clause-single
-exchange-requires-clause-single c = left_single c.requires.whole.1 {kind = Replies} (search stages)
+pub exchange-requires : goal.exchange-requires
+exchange-requires c =
+    let left : Left c.requires.whole.1 Replies c.make.new.blocks = search stages in
+    record { cut = left_cut _ left c.net-net.ensures; single = left.single }
 
 pub make-requires-2 : goal.make-requires-2
 make-requires-2 c = (c.requires.whole.0, can_take_replies c.requires.whole.1 (search (arith, stages) fits 4000 depth 9))
@@ -15,11 +14,10 @@ make-requires-2 c = (c.requires.whole.0, can_take_replies c.requires.whole.1 (se
 pub make-requires-3 : goal.make-requires-3
 make-requires-3 c = (c.requires.whole.0, can_serve c.requires.whole.1 (search (arith, stages) fits 4000 depth 9))
 
-pub exchange-requires-2-clause-cut : goal.exchange-requires-2-clause-cut
-exchange-requires-2-clause-cut c = left_cut c.requires.whole.1 {kind = Requests} (search stages fits 4000 depth 7) c.net-net.ensures
-
-pub exchange-requires-2-clause-single : goal.exchange-requires-2-clause-single
-exchange-requires-2-clause-single c = left_single c.requires.whole.1 {kind = Requests} (search (arith, stages) fits 4000 depth 9)
+pub exchange-requires-2 : goal.exchange-requires-2
+exchange-requires-2 c =
+    let left : Left c.requires.whole.1 Requests c.make-4.new.blocks = search (arith, stages) fits 4000 depth 9 in
+    record { cut = left_cut _ left c.net-net.ensures; single = left.single }
 
 pub make-requires-5 : goal.make-requires-5
 make-requires-5 c = (c.requires.whole.0, can_take_requests c.requires.whole.1 (search (arith, stages) fits 4000 depth 9))

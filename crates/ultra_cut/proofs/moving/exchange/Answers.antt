@@ -1,9 +1,6 @@
 use Rattle.std.proofs.Common.{arith, below_more}
-use Rattle.ultra_cut.proofs.{Moved.both_moved, Moved.gone_until, Moved.nothing_moved, Moved.still_cut, Units.few_units}
+use Rattle.ultra_cut.proofs.{Moved.both_moved, Moved.gone_until, Moved.still_cut, Units.few_units}
 use Rattle.ultra_cut.proofs.moving.exchange.Goals as goal
-
-pub loop-from-init : goal.loop-from-init
-loop-from-init c = record { only = nothing_moved _ _ c.requires.single; there = λ k before. absurd (omega arith) }
 
 pub loop-unit-preserved : goal.loop-unit-preserved
 loop-unit-preserved c =
@@ -15,7 +12,7 @@ loop-unit-preserved c =
       within = omega (arith, next.within);
       only = both_moved _ _ _ _ known.only c.move_home.ensures.only;
       there = λ k before n small. kept k n (known.there k before n small);
-      gone = below_more _ _ (λ n before small. kept c.loop-from.from n (gone_until c.args.kind _ _ _ _ _ _ _ cut (omega (arith, known.only.count)) next.between known.gone n before small)) c.move_home.ensures.gone;
+      gone = below_more _ _ (λ n before small. kept c.loop-from.from n (gone_until c.args.kind _ _ _ _ _ _ _ cut (omega (arith, known.only.count)) next.between known.gone n before small)) (rw c.requires.cut.count at c.move_home.ensures.gone);
     }
 
 pub loop-from-preserved : goal.loop-from-preserved
@@ -29,6 +26,4 @@ loop-from-preserved c =
     }
 
 pub returns-clause-there : goal.returns-clause-there
-returns-clause-there c =
-    let count = c.loop-from.invariant.only.count in
-    λ k n within small. c.loop-from.invariant.there k (omega arith) n small
+returns-clause-there c = λ k n within small. c.loop-from.invariant.there k (omega (arith, c.loop-from.invariant.only.count)) n small

@@ -1,12 +1,14 @@
 use Rattle.std.proofs.Common.{arith}
-use Rattle.ultra_cut.proofs.Moved.{moved_step, nothing_moved}
+use Rattle.ultra_cut.proofs.Common.{common_steps}
+use Rattle.ultra_cut.proofs.Moved.{carried_moved}
 use Rattle.ultra_cut.proofs.moving.move_home.Goals as goal
 
-pub returns : goal.returns
-returns c =
-    let home = c.requires.cut.homes c.args.unit (omega (arith, c.requires.cut.count)) in
-    let step = moved_step c.args.kind c.args.net (omega arith) (omega arith) _ _ _ _ c.requires.single c.requires.from home c.move_messages.ensures.links _ c.move_messages.ensures.moved in
-    record { only = step.only; gone = λ _. step.gone; kept = step.kept }
+pub returns-in-Some : goal.returns-in-Some
+returns-in-Some c =
+    let moved = carried_moved c.args.kind c.args.net (omega arith) (omega arith) _ _ _ c.args.unit c.in-Some.inlets (rw c.in-Replies.is (grind arith)) c.requires.from (c.requires.home (omega arith)) c.if-home-from.false (rw c.in-Replies.is (grind (arith, common_steps))) c.requires.single _ (rw c.in-Replies.is (grind (arith, common_steps))) in
+    record { only = moved.0; gone = λ small. moved.1; kept = moved.2 }
 
-pub returns-then-unit-partition-clause-only : goal.returns-then-unit-partition-clause-only
-returns-then-unit-partition-clause-only c = nothing_moved _ _ c.requires.single
+pub returns-in-Some-request_inlets : goal.returns-in-Some-request_inlets
+returns-in-Some-request_inlets c =
+    let moved = carried_moved c.args.kind c.args.net (omega arith) (omega arith) _ _ _ c.args.unit c.in-Some-request_inlets.inlets (rw c.in-Requests.is (grind arith)) c.requires.from (c.requires.home (omega arith)) c.if-home-from.false (rw c.in-Requests.is (grind (arith, common_steps))) c.requires.single _ (rw c.in-Requests.is (grind (arith, common_steps))) in
+    record { only = moved.0; gone = λ small. moved.1; kept = moved.2 }

@@ -4,6 +4,5 @@ use Rattle.ultra_block.proofs.blocks.Blocks.cycle.Goals as goal
 
 pub invariant_of-self : goal.invariant_of-self
 invariant_of-self c =
-    let b = c.self.inside.parts in
-    let now = c.make_cycle.ensures b.program (rw (c.as_mut_slice.ensures.value, c.as_slice.ensures.value) c.self.invariant.whole) in
+    let now = c.make_cycle.ensures c.self.inside.parts.program (rw (c.as_mut_slice.ensures.value, c.as_slice.ensures.value) c.self.invariant.whole) in
     grind (arith, with_items_is)

@@ -1,6 +1,5 @@
 use Rattle.std.proofs.Common.{arith}
-use Rattle.ultra_section.proofs.Common.{faulted_stops, holds_as_before, issued_holds, issued_runs, went_on}
-use Rattle.ultra_section.proofs.Known.{element_renewed, same_facts}
+use Rattle.ultra_section.proofs.{Common.faulted_stops, Common.holds_as_before, Common.issued_holds, Common.issued_runs, Common.went_on, Known.element_renewed, Known.same_facts}
 use Rattle.ultra_section.proofs.block.Block.execute_element.Goals as goal
 
 pub invariant_of-self-in-AtRest : goal.invariant_of-self-in-AtRest

@@ -1,6 +1,5 @@
 use Rattle.std.proofs.Common.{arith}
-use Rattle.std.proofs.lemmas.Bool.Decides.{nat_tests}
-use Rattle.ultra_section.proofs.Known.{element_renewed}
+use Rattle.ultra_section.proofs.{Common.nat_tests, Known.element_renewed}
 use Rattle.ultra_section.proofs.block.Block.send_request_of_element.Goals as goal
 
 pub invariant_of-self-2 : goal.invariant_of-self-2

@@ -1,6 +1,5 @@
 use Rattle.std.proofs.Common.{arith}
-use Rattle.std.proofs.lemmas.Bool.Decides.{nat_tests}
-use Rattle.ultra_section.proofs.{Known.switch_renewed, Noted.shorter}
+use Rattle.ultra_section.proofs.{Common.nat_tests, Known.switch_renewed, Noted.shorter}
 use Rattle.ultra_section.proofs.block.Block.send_requests_of_switch.Goals as goal
 
 pub invariant_of-self-2 : goal.invariant_of-self-2

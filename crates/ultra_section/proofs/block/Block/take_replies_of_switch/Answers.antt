@@ -1,6 +1,5 @@
 use Rattle.std.proofs.Common.{arith, length-append}
-use Rattle.std.proofs.lemmas.Bool.Decides.{nat_tests}
-use Rattle.ultra_section.proofs.{Known.entry_there, Known.switch_renewed, Noted.none_left}
+use Rattle.ultra_section.proofs.{Common.nat_tests, Known.entry_there, Known.switch_renewed, Noted.none_left}
 use Rattle.ultra_section.proofs.block.Block.take_replies_of_switch.Goals as goal
 
 pub take_into_switch-requires-clause-room : goal.take_into_switch-requires-clause-room

@@ -1,8 +1,0 @@
-use Rattle.std.proofs.Common.{arith, take_all}
-use Rattle.ultra_cut.proofs.Questions.{rooms_are}
-use Rattle.ultra_cut.proofs.rooms.note_rooms.Goals as goal
-
-pub returns : goal.returns
-returns c = λ d partition are.
-    let all = take_all c.loop-block.block-index c.args.blocks.now (omega arith) in
-    rooms_are _ _ _ are _ (rw all at (c.loop-block.invariant d are.cut.stages))
