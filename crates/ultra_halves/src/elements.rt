@@ -64,6 +64,7 @@ impl ProcessingElement {
     }
 
     /// One step of the program. `pe` is the number of the processing element.
+    #[inline(always)]
     #[tactic(auto, unfolding(crate::specs::Elements::changes_nothing))]
     pub fn execute(&mut self, program: &Program, pe: Pe) -> Outcome
         requires { self.old.issued < 2 ^ 32 - 1 }

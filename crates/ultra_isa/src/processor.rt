@@ -1,6 +1,8 @@
 //! One processor and its step.
 
-ghost use Rattle.std.specs.Prelude.{◌≡◌, ℕ, ◌+◌, ◌*◌, ◌^◌, ◌<◌, ◌≤◌, length, slice_get, slice_set, slice_index, if◌then◌else◌, ◌-◌, ◌↔◌, IsSome, IfSome};
+ghost use Rattle.std.specs.Prelude.{◌≡◌, ℕ, ◌+◌, ◌*◌, ◌^◌, ◌<◌, ◌≤◌, [], ◌∷◌, false, Some, None, length, slice_get, slice_set, slice_index, if◌then◌else◌, ◌-◌, ◌↔◌, IsSome, IfSome};
+ghost use Rattle.std.specs.List.{list_any};
+ghost use Rattle.ultra_pni.specs.Interface.{is_awaited};
 ghost use Rattle.ultra_isa.specs.Instruction.{effect, goes_on_at, refers};
 ghost use Rattle.ultra_isa.specs.Meaning.{meaning, StaysWithin};
 ghost use Rattle.ultra_isa.specs.Step.{IsPlaced, fresh_core, has_stopped as stopped, names_awaited, does, runs, step_of};
@@ -50,32 +52,23 @@ impl Model for Processor {
     ghost invariant = { λ p. IsPlaced record { registers = p.registers; place = p.place; activity = p.activity } };
 }
 
-impl Instr {
-    /// Whether the instruction names an awaited register, to read or to write.
-    fn is_blocked(&self, interface: &Pni) -> bool
-        ensures { result ≡ names_awaited self.now interface.now.interface }
-    {
-        if interface.awaits_none() {
-            return false;
-        }
-        match *self {
-            Instr::Jump(_) | Instr::Fence | Instr::Halt => false,
-            Instr::Set(d, _) | Instr::Number(d) | Instr::Size(d) => interface.awaits(d),
-            Instr::JumpIfZero(a, _) | Instr::JumpIfNotZero(a, _) => interface.awaits(a),
-            Instr::AddWord(x, y, _)
-            | Instr::ShiftRight(x, y, _)
-            | Instr::Load(x, y)
-            | Instr::Store(x, y) => interface.awaits(x) || interface.awaits(y),
-            Instr::Add(d, a, b)
-            | Instr::Subtract(d, a, b)
-            | Instr::And(d, a, b)
-            | Instr::IsBelow(d, a, b)
-            | Instr::IsEqual(d, a, b)
-            | Instr::Faa(d, a, b)
-            | Instr::Swap(d, a, b) => {
-                interface.awaits(d) || interface.awaits(a) || interface.awaits(b)
-            }
-        }
+/// Whether one of the three registers is awaited. Where an instruction names fewer, one of them is given again.
+#[inline(always)]
+fn awaits_one(interface: &Pni, a: Register, b: Register, c: Register) -> bool
+    ensures { result ≡ list_any (λ r. is_awaited r interface.now.interface.opened) (a ∷ b ∷ c ∷ []) }
+{
+    !interface.awaits_none() && (interface.awaits(a) || interface.awaits(b) || interface.awaits(c))
+}
+
+/// The effect that sets the register `d` to the value, of an instruction that names `a` and `b` too, or `None` where one of the three is awaited.
+#[inline(always)]
+fn setting(interface: &Pni, d: Register, a: Register, b: Register, value: Word) -> Option<Effect>
+    ensures { result ≡ (if list_any (λ r. is_awaited r interface.now.interface.opened) (d ∷ a ∷ b ∷ []) then None else Some (Effect.Sets d value)) }
+{
+    if awaits_one(interface, d, a, b) {
+        None
+    } else {
+        Some(Effect::Sets(d, value))
     }
 }
 
@@ -99,6 +92,7 @@ impl Processor {
     }
 
     /// Does one step: the instruction at the place, or a stall, or nothing where the processing element has halted or faulted. A request that it issues stands last in its interface.
+    #[inline(always)]
     pub fn step(&mut self, program: &Program, interface: &mut Pni) -> Step
         ensures core { self.new ≡ record self.old { core = (step_of self.old.site interface.old.most_open program.now self.old.core interface.old.interface).core } }
         ensures interface { interface.new ≡ record interface.old { interface = (step_of self.old.site interface.old.most_open program.now self.old.core interface.old.interface).interface } }
@@ -153,6 +147,7 @@ impl Processor {
     }
 
     /// Does the instruction at the place, or stalls.
+    #[inline(always)]
     fn run(&mut self, program: &Program, interface: &mut Pni) -> Step
         ensures core { self.new ≡ record self.old { core = (runs self.old.site interface.old.most_open self.old.core interface.old.interface (slice_get program.now self.old.core.place)).core } }
         ensures interface { interface.new ≡ record interface.old { interface = (runs self.old.site interface.old.most_open self.old.core interface.old.interface (slice_get program.now self.old.core.place)).interface } }
@@ -165,6 +160,7 @@ impl Processor {
     }
 
     /// Does an instruction of a program, or stalls where it names an awaited register.
+    #[inline(always)]
     fn perform(&mut self, instruction: Instr, interface: &mut Pni) -> Step
         requires place { self.old.core.place < 4096 }
         requires within { StaysWithin (effect self.old.site self.old.core.registers self.old.core.place instruction) }
@@ -172,70 +168,79 @@ impl Processor {
         ensures interface { interface.new ≡ record interface.old { interface = (runs self.old.site interface.old.most_open self.old.core interface.old.interface (Some instruction)).interface } }
         ensures was { result ≡ (runs self.old.site interface.old.most_open self.old.core interface.old.interface (Some instruction)).was }
     {
-        if instruction.is_blocked(interface) {
+        let Some(effect) = self.effect_of(instruction, interface) else {
             return Step::Stalled;
-        }
-        let effect = self.effect_of(instruction);
+        };
         self.act(effect, interface)
     }
 
-    /// What an instruction does at the place, with these registers.
-    fn effect_of(&self, instruction: Instr) -> Effect
-        ensures { meaning result ≡ effect self.now.site self.now.core.registers self.now.core.place instruction }
+    /// What an instruction does at the place, with these registers, or `None` where it names an awaited register.
+    #[inline(always)]
+    fn effect_of(&self, instruction: Instr, interface: &Pni) -> Option<Effect>
+        ensures free { IsSome result ↔ (names_awaited instruction interface.now.interface ≡ false) }
+        ensures effect { IfSome result (λ e. meaning e ≡ effect self.now.site self.now.core.registers self.now.core.place instruction) }
     {
+        let word = |register: Register| self.register(register);
         match instruction {
-            Instr::Set(d, n) => Effect::Sets(d, n),
-            Instr::Add(d, a, b) => Effect::Sets(d, self.register(a).wrapping_add(self.register(b))),
-            Instr::AddWord(d, a, n) => Effect::Sets(d, self.register(a).wrapping_add(n)),
-            Instr::Subtract(d, a, b) => {
-                Effect::Sets(d, self.register(a).wrapping_sub(self.register(b)))
-            }
-            Instr::And(d, a, b) => Effect::Sets(d, self.register(a) & self.register(b)),
-            Instr::ShiftRight(d, a, n) => Effect::Sets(d, self.register(a) >> n.bits()),
-            Instr::IsBelow(d, a, b) => {
-                Effect::Sets(d, u32::from(self.register(a) < self.register(b)))
-            }
-            Instr::IsEqual(d, a, b) => {
-                Effect::Sets(d, u32::from(self.register(a) == self.register(b)))
-            }
-            Instr::JumpIfZero(a, target) => self.branch(self.register(a) == 0, target),
-            Instr::JumpIfNotZero(a, target) => self.branch(self.register(a) != 0, target),
-            Instr::Jump(target) => Effect::GoesOnAt(target as usize),
-            Instr::Number(d) => Effect::Sets(d, self.pe),
-            Instr::Size(d) => Effect::Sets(d, self.size),
-            Instr::Load(d, a) => Effect::Refers(self.register(a), Op::Load, Some(d)),
-            Instr::Store(a, b) => Effect::Refers(
-                self.register(a),
-                Op::Store(self.register(b)),
-                None,
-            ),
-            Instr::Faa(d, a, b) => Effect::Refers(
-                self.register(a),
-                Op::Faa(self.register(b)),
-                Some(d),
-            ),
-            Instr::Swap(d, a, b) => Effect::Refers(
-                self.register(a),
-                Op::Swap(self.register(b)),
-                Some(d),
-            ),
-            Instr::Fence => Effect::Waits,
-            Instr::Halt => Effect::Halts,
+            Instr::Set(d, n) => setting(interface, d, d, d, n),
+            Instr::Add(d, a, b) => setting(interface, d, a, b, word(a).wrapping_add(word(b))),
+            Instr::AddWord(d, a, n) => setting(interface, d, a, a, word(a).wrapping_add(n)),
+            Instr::Subtract(d, a, b) => setting(interface, d, a, b, word(a).wrapping_sub(word(b))),
+            Instr::And(d, a, b) => setting(interface, d, a, b, word(a) & word(b)),
+            Instr::ShiftRight(d, a, n) => setting(interface, d, a, a, word(a) >> n.bits()),
+            Instr::IsBelow(d, a, b) => setting(interface, d, a, b, u32::from(word(a) < word(b))),
+            Instr::IsEqual(d, a, b) => setting(interface, d, a, b, u32::from(word(a) == word(b))),
+            Instr::JumpIfZero(a, target) => self.branch(interface, a, word(a) == 0, target),
+            Instr::JumpIfNotZero(a, target) => self.branch(interface, a, word(a) != 0, target),
+            Instr::Jump(target) => Some(Effect::GoesOnAt(target as usize)),
+            Instr::Number(d) => setting(interface, d, d, d, self.pe),
+            Instr::Size(d) => setting(interface, d, d, d, self.size),
+            Instr::Load(d, a) => self.reference(interface, d, a, a, Op::Load, Some(d)),
+            Instr::Store(a, b) => self.reference(interface, a, a, b, Op::Store(word(b)), None),
+            Instr::Faa(d, a, b) => self.reference(interface, d, a, b, Op::Faa(word(b)), Some(d)),
+            Instr::Swap(d, a, b) => self.reference(interface, d, a, b, Op::Swap(word(b)), Some(d)),
+            Instr::Fence => Some(Effect::Waits),
+            Instr::Halt => Some(Effect::Halts),
         }
     }
 
-    /// A jump to the target, or to the next instruction where it isn't taken.
-    fn branch(&self, taken: bool, target: u16) -> Effect
-        ensures { meaning result ≡ goes_on_at (if taken then target else self.now.core.place + 1) }
+    /// A jump, by the word in the register `a`, to the target, or to the next instruction where it isn't taken; `None` where the register is awaited.
+    #[inline(always)]
+    fn branch(&self, interface: &Pni, a: Register, taken: bool, target: u16) -> Option<Effect>
+        ensures free { IsSome result ↔ (is_awaited a interface.now.interface.opened ≡ false) }
+        ensures effect { IfSome result (λ e. meaning e ≡ goes_on_at (if taken then target else self.now.core.place + 1)) }
     {
-        if taken {
-            Effect::GoesOnAt(target as usize)
+        if awaits_one(interface, a, a, a) {
+            None
+        } else if taken {
+            Some(Effect::GoesOnAt(target as usize))
         } else {
-            Effect::GoesOnAt(self.place + 1)
+            Some(Effect::GoesOnAt(self.place + 1))
+        }
+    }
+
+    /// The effect that refers to the cell whose address is in the register `a`, of an instruction that names `d` and `b` too, or `None` where one of the three is awaited.
+    #[inline(always)]
+    fn reference(
+        &self,
+        interface: &Pni,
+        d: Register,
+        a: Register,
+        b: Register,
+        op: Op,
+        target: Option<Register>,
+    ) -> Option<Effect>
+        ensures { result ≡ (if list_any (λ r. is_awaited r interface.now.interface.opened) (d ∷ a ∷ b ∷ []) then None else Some (Effect.Refers (slice_index self.now.core.registers a) op target)) }
+    {
+        if awaits_one(interface, d, a, b) {
+            None
+        } else {
+            Some(Effect::Refers(self.register(a), op, target))
         }
     }
 
     /// Lets an instruction have its effect.
+    #[inline(always)]
     fn act(&mut self, effect: Effect, interface: &mut Pni) -> Step
         requires place { self.old.core.place < 4096 }
         requires within { StaysWithin (meaning effect) }
@@ -270,6 +275,7 @@ impl Processor {
     }
 
     /// Refers to a cell: issues the request, or stalls, or faults where the memory doesn't have the cell.
+    #[inline(always)]
     fn refer(&mut self, cell: Cell, op: Op, target: Option<Register>, interface: &mut Pni) -> Step
         requires { self.old.core.place < 4096 }
         ensures core { self.new ≡ record self.old { core = (does self.old.site interface.old.most_open self.old.core interface.old.interface (refers cell op target)).core } }

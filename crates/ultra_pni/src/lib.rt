@@ -84,6 +84,7 @@ impl Pni {
     /// Takes a request, whose value is to go to the register `target`, if it is to go to one.
     ///
     /// `Sent` says that the request is now the last of the list and that its cell is open. `CellOpen` says that its cell was open already, and else `Full` that as many cells were open as may be; both leave the interface as it was.
+    #[inline(always)]
     pub fn issue(&mut self, request: Request, target: Option<Register>) -> Issue
         ensures answer { result ≡ issue_of self.old.most_open self.old.interface request }
         ensures interface { self.new ≡ record self.old { interface = after_issue self.old.interface request target result } }
