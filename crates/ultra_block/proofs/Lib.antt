@@ -1,3 +1,4 @@
+mod Stages
 pub mod Seen
 pub mod Built
 pub mod Dealt

@@ -1,14 +1,16 @@
 //! A cycle of all blocks.
 
-ghost use Rattle.std.specs.Prelude.{◌≡◌, ℕ, ◌-◌, ◌^◌, ◌<◌, ◌∷◌, [], List};
+ghost use Rattle.std.specs.Prelude.{◌≡◌, true, ℕ, ◌-◌, ◌^◌, ◌<◌, ◌∷◌, [], List};
 ghost use Rattle.ultra_isa.specs.declared.Instr.{Instr};
 ghost use Rattle.ultra_model.specs.Machine.{Settings};
+ghost use Rattle.ultra_units.specs.Numbers.{IsSmall};
 ghost use Rattle.ultra_cut.specs.{Halves.AllCanMake, Halves.all_made_own, Moments.AreWhole};
 ghost use Rattle.ultra_block.specs.State.{MakesCycle};
 
 use ultra_cut::{Kind, exchange, note_rooms};
 use ultra_model::Config;
 use ultra_section::{Block, Half, Rooms};
+use ultra_units::is_small;
 
 /// The blocks of a machine, which has made `done` cycles, make one more: replies, memory, requests, processors.
 pub(crate) fn make_cycle(blocks: &mut [Block], config: &Config, partition: &[u8], done: u32)
@@ -17,7 +19,13 @@ pub(crate) fn make_cycle(blocks: &mut [Block], config: &Config, partition: &[u8]
     ensures { MakesCycle config.now partition.now done blocks.old blocks.new }
 {
     match blocks {
-        [block] => make_cycle_of_one(block),
+        [block] => {
+            if is_small(config.net()) {
+                make_cycle_of_one::<true>(block);
+            } else {
+                make_cycle_of_one::<false>(block);
+            }
+        }
         _ => make_cycle_of_several(blocks, config, partition, done),
     }
 }
@@ -42,18 +50,19 @@ fn make_cycle_of_several(blocks: &mut [Block], config: &Config, partition: &[u8]
     make(blocks, Half::Execute, &rooms);
 }
 
-/// The one block in which a whole machine stands makes a cycle. It knows all rooms, and its messages lead to its own units.
+/// The one block in which a whole machine stands makes a cycle. It knows all rooms, and its messages lead to its own units. The code for a `SMALL` machine is compiled apart.
 #[inline(never)]
-fn make_cycle_of_one(block: &mut Block)
-    requires { (c : Settings) × (program : List Instr) × (partition : List ℕ) × (n : ℕ) × AreWhole c program partition n (block.old ∷ []) × (n < 2 ^ 32 - 1) }
+fn make_cycle_of_one<const SMALL: bool>(block: &mut Block)
+    requires small { SMALL ≡ true → IsSmall block.old.stages }
+    requires whole { (c : Settings) × (program : List Instr) × (partition : List ℕ) × (n : ℕ) × AreWhole c program partition n (block.old ∷ []) × (n < 2 ^ 32 - 1) }
     ensures { (c : Settings) (partition : List ℕ) (n : ℕ) → n < 2 ^ 32 - 1 → MakesCycle c partition n (block.old ∷ []) (block.new ∷ []) }
 {
-    block.send_replies_here();
-    block.take_replies();
-    block.serve();
-    block.send_requests_here();
-    block.take_requests();
-    block.execute();
+    block.send_replies_here::<SMALL>();
+    block.take_replies_here::<SMALL>();
+    block.serve_here::<SMALL>();
+    block.send_requests_here::<SMALL>();
+    block.take_requests_here::<SMALL>();
+    block.execute_here::<SMALL>();
 }
 
 /// Every block makes this half of a cycle, with the rooms that were noted before it. Each block has to meet the half's conditions.

@@ -1,6 +1,6 @@
 -- In each half a unit has at most two events, so there is memory for all events of a cycle.
-use Rattle.std.proofs.Common.{ℕ, zero, suc, ◌+◌, ◌*◌, ◌≤◌, List, Bool, Option, length, length-append, refl, subst, arith}
-use Rattle.ultra_section.proofs.Common.{Request, Switch, Ports, present, coming_to, first_of, in_order, lane_with, ports, second_of, combinations_of, all_in_order, BlockState, HasEventRoom, most_events}
+use Rattle.std.proofs.Common.{ℕ, zero, suc, ◌+◌, ◌*◌, ◌≤◌, List, Option, length, length-append, refl, subst, arith}
+use Rattle.ultra_section.proofs.Common.{Request, Switch, Ports, coming_to, first_of, lane_with, ports, second_of, combinations_of, all_in_order, BlockState, HasEventRoom, most_events}
 use Rattle.ultra_section.proofs.Once.{entries_before}
 
 pub few_entries : {T E : Type 0} (entries : ℕ → T → List E) (t : T) (most : ℕ) → ((n : ℕ) → length (entries n t) ≤ most) → (m : ℕ) → length (entries_before entries m t) ≤ m * most

@@ -1,5 +1,5 @@
 -- What a block knows of its units is kept when one of them is put anew and noted, and says which rooms are its own and what leads elsewhere.
-use Rattle.std.proofs.Common.{◌≡◌, ◌≢◌, ℕ, ◌^◌, ◌<◌, ◌≤◌, List, false, Option, Some, None, set, get_or, refl, sym, ◌∙◌, ap, arith, get_or-set_same, get_or-set_other, ◌&&◌, Bool, slice_index_or, IsTrue, not, IfSome, ◌||◌, replicate, length, vec_capacity}
+use Rattle.std.proofs.Common.{◌≡◌, ◌≢◌, ℕ, ◌^◌, ◌<◌, ◌≤◌, List, false, Option, Some, None, set, get_or, refl, sym, ◌∙◌, ap, arith, get_or-set_same, get_or-set_other, ◌&&◌, slice_index_or, IsTrue, not, IfSome, length, vec_capacity}
 use Rattle.ultra_section.proofs.Common.{cases_eq, ForSome, length-set, get_or_default, Switch, Bank, Instr, ProcessingElement, switch_count, has_unit, IsFirstFrom, is_at_rest, Ports, IsModule, IsElement, of_unit, unit_is, unit_of_element, unit_of_module, unit_of_switch, AreNoted, UnitFacts, facts_at, no_facts, switch_facts, module_facts, element_facts, AreOthersAtRest, IsKept, seen_of, element_at, AreTargets, IsNextAway, AreOwnRooms, Rooms}
 use Rattle.ultra_units.specs.Links.{LinksState}
 use Rattle.ultra_section.specs.{declared.block.Block.TheInside.Inside as Block, declared.sets.Sets.Sets}

@@ -1,8 +1,8 @@
 -- What is noted of a switch or a module once messages have come to it or left it: its queues are longer then, or shorter, and it keeps more records, or fewer.
 use Rattle.std.proofs.Common.{◌≡◌, ℕ, ◌≤◌, List, ◌++◌, true, Option, Some, length, length-append, arith, [], ◌∷◌, refl, Bool, false}
-use Rattle.ultra_section.proofs.Common.{nat_tests, Request, ReplyMessage, Switch, after_leaving, arrive_all, combination, combinations, records_left, has_none, after_both, combinations_of_both, switch_facts, common_steps, all_noted}
+use Rattle.ultra_section.proofs.Common.{nat_tests, Request, ReplyMessage, Switch, after_leaving, arrive_all, combinations, records_left, has_none, after_both, combinations_of_both, switch_facts, common_steps, all_noted}
 use Rattle.ultra_halves.proofs.Arrivals.{arrive_all_no_shorter}
-use Rattle.ultra_switch.specs.{declared.WaitRecord.WaitRecord, Arrive.Lane, Arrive.Combination, Arrive.after_arrival, Arrive.arrive, Arrive.combine_within}
+use Rattle.ultra_switch.specs.{declared.WaitRecord.WaitRecord, Arrive.Lane, Arrive.arrive}
 
 -- ---- records: none comes with replies
 pub none_left : (ws : List WaitRecord) (o : Option ReplyMessage) → has_none ws ≡ true → has_none (records_left ws o) ≡ true

@@ -1,7 +1,7 @@
 -- A visit of a unit that has nothing to do in a half changes nothing, and what a unit does, the later ones don't miss.
-use Rattle.std.proofs.Common.{◌≡◌, ℕ, List, Option, false, arith, ◌+◌, ◌<◌, ◌≤◌, Some, None, length, length-append, get_or-set_other, sym, ◌∙◌, zero, suc, refl, ap, get_or, set, is_some, IsTrue}
-use Rattle.ultra_section.proofs.Common.{common_steps, append-nil, set-get_or, Ports, has_unit, unit_is, holds_replies, holds_requests, holds_request, is_at_rest, if_here, would_serve, BlockState, switch_at, module_at, element_at, HasEventRoom, AreOthersAtRest, HasStopRoom, GetsNoReply, GetsNoRequest, HoldsNoReply, HoldsNoRequest, IsAsleep, ServesNothing, Unit as UnitName, AreEmpty, reply_links, request_links, IsElement, IsModule, IsUnit, Fewer, fewer_set, fewer_both, switch_takes_replies, reply_at_element, element_takes_reply, takes_replies, UnitCanTakeReplies, CanTakeRepliesAt, switch_takes_requests, request_at_module, module_takes_request, takes_requests, UnitCanTakeRequests, CanTakeRequestsAt, ForSome, Instr, left_at_rest, element_executes, executes, executes_own, CanExecuteAt}
-use Rattle.ultra_section.specs.{RepliesSent.switch_sends_replies, RepliesSent.module_sends_reply, RepliesSent.sends_replies, RequestsSent.switch_sends_requests, RequestsSent.element_sends_request, RequestsSent.sends_requests, Serving.module_serves, Serving.serves}
+use Rattle.std.proofs.Common.{◌≡◌, ℕ, List, Option, false, arith, ◌+◌, ◌<◌, ◌≤◌, None, length, length-append, get_or-set_other, sym, ◌∙◌, zero, suc, refl, ap, get_or, set, IsTrue}
+use Rattle.ultra_section.proofs.Common.{common_steps, append-nil, set-get_or, Ports, has_unit, unit_is, is_at_rest, BlockState, switch_at, module_at, element_at, HasEventRoom, AreOthersAtRest, HasStopRoom, GetsNoReply, GetsNoRequest, HoldsNoReply, HoldsNoRequest, IsAsleep, ServesNothing, Unit as UnitName, IsElement, IsModule, IsUnit, Fewer, fewer_set, fewer_both, switch_takes_replies, element_takes_reply, takes_replies, UnitCanTakeReplies, CanTakeRepliesAt, switch_takes_requests, module_takes_request, takes_requests, UnitCanTakeRequests, CanTakeRequestsAt, ForSome, Instr, left_at_rest, element_executes, executes, executes_own, CanExecuteAt}
+use Rattle.ultra_section.specs.{RepliesSent.sends_replies, RequestsSent.sends_requests, Serving.serves}
 use Rattle.ultra_units.specs.declared.unit.Unit.TheVariants as unit
 use Rattle.ultra_units.specs.Visits.{after_units}
 use Rattle.ultra_section.proofs.Once.{all_keep}

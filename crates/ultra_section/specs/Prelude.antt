@@ -7,4 +7,4 @@ pub use Rattle.ultra_mem.specs.Serve.{Bank, serve, served}
 pub use Rattle.ultra_model.specs.{Phases.delivery, Phases.issue_event, Phases.serving, Phases.stop_of, Phases.without_reply, Places.present}
 pub use Rattle.ultra_msg.specs.{declared.ReplyMessage.ReplyMessage, declared.Request.Request}
 pub use Rattle.ultra_switch.specs.{declared.Ports.Ports, declared.Switch.Switch}
-pub use Rattle.ultra_units.specs.{Inlets.AreEmpty, Inlets.AreInlets, Inlets.LeadOn, Inlets.LeadsTo, Inlets.link_count, Inlets.put_on_both, Inlets.reply_inlets, Inlets.request_inlets, Inlets.taken_by_turns, Links.put_on, Marks.delivery_link, Marks.memory_link, Marks.on_both, Marks.on_link, Marks.ports_in_turn, Marks.reply_links, Marks.request_links, Marks.without_both, Numbers.element_number, Numbers.module_number, Numbers.place_number, Numbers.request_target, Numbers.switch_count, Set.HasNoneFrom, Set.IsFirstFrom, Set.has_unit, Units.IsElement, Units.IsModule, Units.IsSwitch, Units.IsUnit, Units.index_of, Units.of_unit, Units.stage_of, Units.unit_of, Visits.after_units, Ways.places_of, Ways.request_targets, Ways.request_ways, declared.unit.Unit.Unit}
+pub use Rattle.ultra_units.specs.{Inlets.AreEmpty, Inlets.AreInlets, Inlets.LeadOn, Inlets.LeadsTo, Inlets.link_count, Inlets.put_on_both, Inlets.reply_inlets, Inlets.request_inlets, Inlets.taken_by_turns, Links.put_on, Marks.delivery_link, Marks.memory_link, Marks.on_both, Marks.on_link, Marks.ports_in_turn, Marks.reply_links, Marks.request_links, Marks.without_both, Numbers.IsSmall, Numbers.element_number, Numbers.module_number, Numbers.place_number, Numbers.request_target, Numbers.switch_count, Set.HasNoneFrom, Set.IsFirstFrom, Set.has_unit, Units.IsElement, Units.IsModule, Units.IsSwitch, Units.IsUnit, Units.index_of, Units.of_unit, Units.stage_of, Units.unit_of, Visits.after_units, Ways.places_of, Ways.request_targets, Ways.request_ways, declared.unit.Unit.Unit}

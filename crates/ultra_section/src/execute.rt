@@ -1,15 +1,15 @@
 //! The half of a cycle in which processing elements make a step of the program.
 
-ghost use Rattle.std.specs.Prelude.{◌≡◌, ℕ, ◌+◌, ◌-◌, ◌^◌, ◌<◌, length};
-ghost use Rattle.ultra_section.specs.{Prelude.after_units, Prelude.IsElement, BlockState.most_events, BlockState.most_stops, Execution.CanExecuteAt, Execution.ElementCanExecute, Execution.counted, Execution.element_executes, Execution.executes, Execution.executes_own, Holding.IsAsleep};
+ghost use Rattle.std.specs.Prelude.{◌≡◌, ℕ, true, ◌+◌, ◌-◌, ◌^◌, ◌<◌, length};
+ghost use Rattle.ultra_section.specs.{Prelude.IsSmall, Prelude.after_units, Prelude.IsElement, BlockState.most_events, BlockState.most_stops, Execution.CanExecuteAt, Execution.ElementCanExecute, Execution.counted, Execution.element_executes, Execution.executes, Execution.executes_own, Holding.IsAsleep};
 
 use crate::block::Block;
 use ultra_halves::{Outcome, append};
-use ultra_units::{UnitNumber, UnitSet, Visit, visit_all};
+use ultra_units::{UnitNumber, UnitSet, Visit, visit_all, visit_first_word};
 
 impl Block {
     /// A processing element makes a step of the program.
-    fn execute_element(&mut self, unit: UnitNumber, pe: u32)
+    fn execute_element<const SMALL: bool>(&mut self, unit: UnitNumber, pe: u32)
         requires is { IsElement self.old.stages unit pe }
         requires issued { ElementCanExecute pe self.old }
         requires event_room { length self.old.events < most_events }
@@ -41,10 +41,10 @@ impl Block {
 
 /// A visit in which a processing element makes a step of the program.
 #[derive(Clone, Copy, Drop)]
-struct Execute;
+struct Execute<const SMALL: bool>;
 
 #[tactic(auto, using(crate::proofs::Visited::executes_none, crate::proofs::Visited::sleeps))]
-impl Visit<Block> for Execute {
+impl<const SMALL: bool> Visit<Block> for Execute<SMALL> {
     ghost can_visit = { λ v n b. CanExecuteAt n b };
 
     ghost visited = { λ v n b. executes_own n b };
@@ -59,7 +59,7 @@ impl Visit<Block> for Execute {
     #[inline(always)]
     fn visit(&self, block: &mut Block, unit: UnitNumber) {
         if let Some(pe) = block.wiring.element(unit.number()) {
-            block.execute_element(unit, pe);
+            block.execute_element::<SMALL>(unit, pe);
         }
     }
 }
@@ -72,7 +72,23 @@ impl Block {
         requires few { self.old.done < 2 ^ 32 - 1 }
         ensures { self.new ≡ counted (after_units (executes self.old.program) 320 self.old) }
     {
-        visit_all(&Execute, self);
+        self.execute_here::<false>();
+    }
+
+    /// The last half of a cycle in a block in which all units stand. The cycles that are done are fewer than `2^32 - 1`.
+    #[inline(always)]
+    pub fn execute_here<const SMALL: bool>(&mut self)
+        requires small { SMALL ≡ true → IsSmall self.old.stages }
+        requires can { (k : ℕ) → k < 320 → CanExecuteAt k self.old }
+        requires few { self.old.done < 2 ^ 32 - 1 }
+        ensures { self.new ≡ counted (after_units (executes self.old.program) 320 self.old) }
+    {
+        let _stages = self.net.stages();
+        if SMALL {
+            visit_first_word(&Execute::<true>, self);
+        } else {
+            visit_all(&Execute::<false>, self);
+        }
         self.done += 1;
     }
 }

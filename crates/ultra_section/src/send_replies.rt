@@ -1,7 +1,7 @@
 //! The half of a cycle in which replies leave switches and modules.
 
-ghost use Rattle.std.specs.Prelude.{◌≡◌, ◌<◌};
-ghost use Rattle.ultra_section.specs.Prelude.{replies_leaving, without_replies, LeadOn, put_on_both, reply_inlets, places_of, after_units, IsModule, IsSwitch, index_of, stage_of};
+ghost use Rattle.std.specs.Prelude.{◌≡◌, ◌<◌, true};
+ghost use Rattle.ultra_section.specs.Prelude.{IsSmall, replies_leaving, without_replies, LeadOn, put_on_both, reply_inlets, places_of, after_units, IsModule, IsSwitch, index_of, stage_of};
 ghost use Rattle.ultra_section.specs.{Rooms.AreOwnRooms, declared.rooms.Rooms.Rooms, RepliesSent.begun, RepliesSent.module_sends_reply, RepliesSent.sends_replies, RepliesSent.switch_sends_replies, Holding.HoldsNoReply};
 
 use crate::block::Block;
@@ -11,8 +11,8 @@ use ultra_halves::replies::leave_where;
 use ultra_msg::ReplyPacket;
 use ultra_switch::{Ports, Switch};
 use ultra_units::{
-    Links, Unit, UnitNumber, UnitSet, Visit, find_reply_ways, leave_module, switch_number,
-    visit_all,
+    Links, Unit, UnitNumber, UnitSet, Visit, find_reply_ways, leave_module, narrow, switch_number,
+    visit_all, visit_first_word,
 };
 
 /// The first reply of each queue of the switch with a number goes onto its link, where there is a way. One port is done with before the other.
@@ -39,13 +39,21 @@ fn send_from_switch(
 
 impl Block {
     /// The first reply of each queue of a switch goes onto its link, where there is a way.
-    fn send_replies_of_switch(&mut self, closed: &UnitSet, unit: UnitNumber, stage: u32, index: u32)
+    #[tactic(auto, using(crate::proofs::Small::replies_zero, crate::proofs::Small::replies_one))]
+    fn send_replies_of_switch<const SMALL: bool>(
+        &mut self,
+        closed: &UnitSet,
+        unit: UnitNumber,
+        stage: u32,
+        index: u32,
+    )
+        requires small { SMALL ≡ true → IsSmall self.old.stages }
         requires is { IsSwitch self.old.stages unit stage index }
         ensures { self.new ≡ switch_sends_replies closed.now unit stage index self.old }
     {
         let net = self.net;
         let _stages = net.stages();
-        let targets = self.wiring.reply_targets(unit);
+        let targets = narrow::<SMALL>(self.wiring.reply_targets(unit));
         let number = unit.number();
         let Some(switch) = &mut self.switches[number] else {
             return;
@@ -56,7 +64,14 @@ impl Block {
     }
 
     /// The reply of a module goes onto its link, if there is a way.
-    fn send_reply_of_module(&mut self, closed: &UnitSet, unit: UnitNumber, module_number: u32)
+    #[tactic(auto, using(crate::proofs::Small::from_module))]
+    fn send_reply_of_module<const SMALL: bool>(
+        &mut self,
+        closed: &UnitSet,
+        unit: UnitNumber,
+        module_number: u32,
+    )
+        requires small { SMALL ≡ true → IsSmall self.old.stages }
         requires is { IsModule self.old.stages unit module_number }
         ensures { self.new ≡ module_sends_reply closed.now module_number self.old }
     {
@@ -65,22 +80,27 @@ impl Block {
         let Some(bank) = &mut self.modules[module_number as usize] else {
             return;
         };
-        let target = switch_number(net, net.stages() - 1, module_number / 2);
+        let switch = switch_number(net, net.stages() - 1, module_number / 2);
+        let target = narrow::<SMALL>(Ports {
+            zero: switch,
+            one: switch,
+        })
+        .zero;
         let out = modules::send_reply(bank, !closed.has(target));
         self.sets.note_reply_left(unit, bank);
-        leave_module(&mut self.replies, net, module_number, out);
+        leave_module(&mut self.replies, net, module_number, target, out);
     }
 }
 
 /// A visit in which replies leave a unit. `closed` are the switches without room for replies.
 #[derive(Clone, Copy, Drop)]
-struct SendReplies<'a> {
+struct SendReplies<'a, const SMALL: bool> {
     closed: &'a UnitSet,
 }
 
 #[tactic(auto, using(crate::proofs::Visited::sends_no_reply))]
-impl Visit<Block> for SendReplies<'_> {
-    ghost can_visit = { λ v n b. Unit {0} };
+impl<const SMALL: bool> Visit<Block> for SendReplies<'_, SMALL> {
+    ghost can_visit = { λ v n b. SMALL ≡ true → IsSmall b.stages };
 
     ghost visited = { λ v n b. sends_replies v.closed.now n b };
 
@@ -95,23 +115,31 @@ impl Visit<Block> for SendReplies<'_> {
     fn visit(&self, block: &mut Block, unit: UnitNumber) {
         match block.unit(unit.number()) {
             Unit::Switch { stage, index } => {
-                block.send_replies_of_switch(self.closed, unit, stage, index);
+                block.send_replies_of_switch::<SMALL>(self.closed, unit, stage, index);
             }
-            Unit::Module(number) => block.send_reply_of_module(self.closed, unit, number),
+            Unit::Module(number) => block.send_reply_of_module::<SMALL>(self.closed, unit, number),
             Unit::Element(_) | Unit::Nothing => {}
         }
     }
 }
 
 impl Block {
+    /// What had happened in the cycle before is forgotten.
+    #[inline(always)]
+    fn begin(&mut self)
+        ensures { self.new ≡ begun self.old }
+    {
+        self.events.clear();
+        self.stops.clear();
+    }
+
     /// Replies leave the switches and modules, past the switches in `closed`, which have no room for them.
     #[inline(always)]
     fn send_replies_past(&mut self, closed: &UnitSet)
         ensures { self.new ≡ after_units (sends_replies closed.now) 320 (begun self.old) }
     {
-        self.events.clear();
-        self.stops.clear();
-        visit_all(&SendReplies { closed }, self);
+        self.begin();
+        visit_all(&SendReplies::<false> { closed }, self);
     }
 
     /// The first half of a cycle: replies leave the switches and modules for where there is room, onto their links. What had happened in the cycle before is forgotten.
@@ -124,10 +152,17 @@ impl Block {
 
     /// The first half of a cycle in a block in which all units stand: it knows all rooms itself.
     #[inline(always)]
-    pub fn send_replies_here(&mut self)
+    pub fn send_replies_here<const SMALL: bool>(&mut self)
+        requires small { SMALL ≡ true → IsSmall self.old.stages }
         ensures { (rooms : Rooms) × AreOwnRooms self.old rooms × (self.new ≡ after_units (sends_replies rooms.no_reply_room) 320 (begun self.old)) }
     {
         let closed = self.sets.no_reply_room;
-        self.send_replies_past(&closed);
+        if SMALL {
+            let _stages = self.net.stages();
+            self.begin();
+            visit_first_word(&SendReplies::<true> { closed: &closed }, self);
+        } else {
+            self.send_replies_past(&closed);
+        }
     }
 }

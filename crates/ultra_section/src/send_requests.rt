@@ -1,7 +1,7 @@
 //! The half of a cycle in which requests leave switches and processing elements.
 
-ghost use Rattle.std.specs.Prelude.{◌≡◌, ℕ, ◌<◌};
-ghost use Rattle.ultra_section.specs.Prelude.{lane_without, request_heads, requests_leaving, without_requests, LeadOn, LeadsTo, put_on_both, request_inlets, put_on, request_target, places_of, request_targets, request_ways, after_units, IsElement, IsSwitch};
+ghost use Rattle.std.specs.Prelude.{◌≡◌, ℕ, ◌<◌, true};
+ghost use Rattle.ultra_section.specs.Prelude.{IsSmall, lane_without, request_heads, requests_leaving, without_requests, LeadOn, LeadsTo, put_on_both, request_inlets, put_on, request_target, places_of, request_targets, request_ways, after_units, IsElement, IsSwitch};
 ghost use Rattle.ultra_section.specs.{Rooms.AreOwnRooms, declared.rooms.Rooms.Rooms, RequestsSent.element_sends_request, RequestsSent.request_leaving, RequestsSent.sends_requests, RequestsSent.switch_sends_requests, Holding.HoldsNoRequest};
 
 use crate::block::Block;
@@ -12,7 +12,7 @@ use ultra_route::Net;
 use ultra_switch::{Ports, Switch, ToMm};
 use ultra_units::{
     Links, Unit, UnitNumber, UnitSet, Visit, has_request_way, has_way_from_element, leave_element,
-    visit_all,
+    narrow, switch_number, visit_all, visit_first_word,
 };
 
 /// The first request of a queue of a switch of this stage goes onto its link, if there is a way to the unit `target`, to which the link leads.
@@ -66,18 +66,20 @@ fn send_from_switch(
 
 impl Block {
     /// The first request of each queue of a switch goes onto its link, where there is a way.
-    fn send_requests_of_switch(
+    #[tactic(auto, using(crate::proofs::Small::requests_zero, crate::proofs::Small::requests_one))]
+    fn send_requests_of_switch<const SMALL: bool>(
         &mut self,
         closed: &Ports<UnitSet>,
         unit: UnitNumber,
         stage: u32,
         index: u32,
     )
+        requires small { SMALL ≡ true → IsSmall self.old.stages }
         requires is { IsSwitch self.old.stages unit stage index }
         ensures { self.new ≡ switch_sends_requests closed.now unit stage index self.old }
     {
         let net = self.net;
-        let targets = self.wiring.request_targets(unit);
+        let targets = narrow::<SMALL>(self.wiring.request_targets(unit));
         let number = unit.number();
         let Some(switch) = &mut self.switches[number] else {
             return;
@@ -88,7 +90,14 @@ impl Block {
     }
 
     /// The first request of a processing element goes onto its link, if there is a way.
-    fn send_request_of_element(&mut self, closed: &Ports<UnitSet>, unit: UnitNumber, pe: u32)
+    #[tactic(auto, using(crate::proofs::Small::from_element))]
+    fn send_request_of_element<const SMALL: bool>(
+        &mut self,
+        closed: &Ports<UnitSet>,
+        unit: UnitNumber,
+        pe: u32,
+    )
+        requires small { SMALL ≡ true → IsSmall self.old.stages }
         requires is { IsElement self.old.stages unit pe }
         ensures { self.new ≡ element_sends_request closed.now pe self.old }
     {
@@ -97,24 +106,30 @@ impl Block {
         let Some(element) = &mut self.elements[pe as usize] else {
             return;
         };
-        if !has_way_from_element(net, closed, pe, element.request_head()) {
+        let switch = switch_number(net, 0, net.shuffle(pe) / 2);
+        let target = narrow::<SMALL>(Ports {
+            zero: switch,
+            one: switch,
+        })
+        .zero;
+        if !has_way_from_element(net, closed, target, element.request_head()) {
             return;
         }
         let out = element.send_request();
         self.sets.note_request_left(unit, element);
-        leave_element(&mut self.requests, net, pe, out);
+        leave_element(&mut self.requests, net, pe, target, out);
     }
 }
 
 /// A visit in which requests leave a unit. `closed` are, by the memory-side port, the units without room for requests.
 #[derive(Clone, Copy, Drop)]
-struct SendRequests<'a> {
+struct SendRequests<'a, const SMALL: bool> {
     closed: &'a Ports<UnitSet>,
 }
 
 #[tactic(auto, using(crate::proofs::Visited::sends_no_request))]
-impl Visit<Block> for SendRequests<'_> {
-    ghost can_visit = { λ v n b. Unit {0} };
+impl<const SMALL: bool> Visit<Block> for SendRequests<'_, SMALL> {
+    ghost can_visit = { λ v n b. SMALL ≡ true → IsSmall b.stages };
 
     ghost visited = { λ v n b. sends_requests v.closed.now n b };
 
@@ -129,9 +144,9 @@ impl Visit<Block> for SendRequests<'_> {
     fn visit(&self, block: &mut Block, unit: UnitNumber) {
         match block.unit(unit.number()) {
             Unit::Switch { stage, index } => {
-                block.send_requests_of_switch(self.closed, unit, stage, index);
+                block.send_requests_of_switch::<SMALL>(self.closed, unit, stage, index);
             }
-            Unit::Element(pe) => block.send_request_of_element(self.closed, unit, pe),
+            Unit::Element(pe) => block.send_request_of_element::<SMALL>(self.closed, unit, pe),
             Unit::Module(_) | Unit::Nothing => {}
         }
     }
@@ -144,15 +159,21 @@ impl Block {
         ensures { self.new ≡ after_units (sends_requests rooms.now.no_request_room) 320 self.old }
     {
         let closed = &rooms.no_request_room;
-        visit_all(&SendRequests { closed }, self);
+        visit_all(&SendRequests::<false> { closed }, self);
     }
 
     /// The fourth half of a cycle in a block in which all units stand: it knows all rooms itself.
     #[inline(always)]
-    pub fn send_requests_here(&mut self)
+    pub fn send_requests_here<const SMALL: bool>(&mut self)
+        requires small { SMALL ≡ true → IsSmall self.old.stages }
         ensures { (rooms : Rooms) × AreOwnRooms self.old rooms × (self.new ≡ after_units (sends_requests rooms.no_request_room) 320 self.old) }
     {
         let closed = self.sets.no_request_room;
-        visit_all(&SendRequests { closed: &closed }, self);
+        if SMALL {
+            let _stages = self.net.stages();
+            visit_first_word(&SendRequests::<true> { closed: &closed }, self);
+        } else {
+            visit_all(&SendRequests::<false> { closed: &closed }, self);
+        }
     }
 }

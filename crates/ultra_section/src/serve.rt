@@ -1,16 +1,16 @@
 //! The half of a cycle in which modules serve.
 
-ghost use Rattle.std.specs.Prelude.{◌≡◌, ℕ, ◌<◌, length};
-ghost use Rattle.ultra_section.specs.{Prelude.after_units, Prelude.IsModule, BlockState.HasEventRoom, BlockState.most_events, Serving.module_serves, Serving.serves, Holding.ServesNothing};
+ghost use Rattle.std.specs.Prelude.{◌≡◌, ℕ, ◌<◌, true, length};
+ghost use Rattle.ultra_section.specs.{Prelude.IsSmall, Prelude.after_units, Prelude.IsModule, BlockState.HasEventRoom, BlockState.most_events, Serving.module_serves, Serving.serves, Holding.ServesNothing};
 
 use crate::block::Block;
 use ultra_halves::append;
 use ultra_msg::Event;
-use ultra_units::{UnitNumber, UnitSet, Visit, visit_all};
+use ultra_units::{UnitNumber, UnitSet, Visit, visit_all, visit_first_word};
 
 impl Block {
     /// A module serves the request that waits, if no reply is in its way.
-    fn serve_module(&mut self, unit: UnitNumber, module_number: u32)
+    fn serve_module<const SMALL: bool>(&mut self, unit: UnitNumber, module_number: u32)
         requires is { IsModule self.old.stages unit module_number }
         requires room { length self.old.events < most_events }
         ensures { self.new ≡ module_serves module_number self.old }
@@ -34,10 +34,10 @@ impl Block {
 
 /// A visit in which a module serves.
 #[derive(Clone, Copy, Drop)]
-struct Serve;
+struct Serve<const SMALL: bool>;
 
 #[tactic(auto, using(crate::proofs::Visited::serves_none))]
-impl Visit<Block> for Serve {
+impl<const SMALL: bool> Visit<Block> for Serve<SMALL> {
     ghost can_visit = { λ v n b. HasEventRoom n b };
 
     ghost visited = { λ v n b. serves n b };
@@ -52,7 +52,7 @@ impl Visit<Block> for Serve {
     #[inline(always)]
     fn visit(&self, block: &mut Block, unit: UnitNumber) {
         if let Some(number) = block.wiring.module(unit.number()) {
-            block.serve_module(unit, number);
+            block.serve_module::<SMALL>(unit, number);
         }
     }
 }
@@ -64,6 +64,22 @@ impl Block {
         requires { (k : ℕ) → k < 320 → HasEventRoom k self.old }
         ensures { self.new ≡ after_units serves 320 self.old }
     {
-        visit_all(&Serve, self);
+        visit_all(&Serve::<false>, self);
+    }
+
+    /// The third half of a cycle in a block in which all units stand.
+    #[inline(always)]
+    #[tactic(auto, using(crate::proofs::Small::serves_nothing))]
+    pub fn serve_here<const SMALL: bool>(&mut self)
+        requires small { SMALL ≡ true → IsSmall self.old.stages }
+        requires room { (k : ℕ) → k < 320 → HasEventRoom k self.old }
+        ensures { self.new ≡ after_units serves 320 self.old }
+    {
+        if SMALL {
+            let _stages = self.net.stages();
+            visit_first_word(&Serve::<true>, self);
+        } else {
+            self.serve();
+        }
     }
 }

@@ -1,7 +1,7 @@
 //! The half of a cycle in which replies come to switches and processing elements.
 
-ghost use Rattle.std.specs.Prelude.{◌≡◌, ℕ, ◌<◌, length};
-ghost use Rattle.ultra_section.specs.Prelude.{CanTakeReplies, after_replies, AreInlets, reply_inlets, on_both, without_both, switch_count, after_units, IsElement, IsSwitch};
+ghost use Rattle.std.specs.Prelude.{◌≡◌, ℕ, ◌<◌, true, length};
+ghost use Rattle.ultra_section.specs.Prelude.{IsSmall, CanTakeReplies, after_replies, AreInlets, reply_inlets, on_both, without_both, switch_count, after_units, IsElement, IsSwitch};
 ghost use Rattle.ultra_section.specs.{BlockState.most_events, RepliesTaken.CanTakeRepliesAt, RepliesTaken.ElementCanTakeReply, RepliesTaken.SwitchCanTakeReplies, RepliesTaken.element_takes_reply, RepliesTaken.switch_takes_replies, RepliesTaken.takes_replies, Holding.GetsNoReply};
 
 use crate::block::Block;
@@ -10,7 +10,9 @@ use ultra_halves::replies::take_reply;
 use ultra_msg::{Event, ReplyPacket};
 use ultra_route::Net;
 use ultra_switch::{Ports, Switch};
-use ultra_units::{Links, Unit, UnitNumber, UnitSet, Visit, take_at_element, visit_all};
+use ultra_units::{
+    Links, Unit, UnitNumber, UnitSet, Visit, take_at_element, visit_all, visit_first_word,
+};
 
 /// What comes to a switch by its links `inlets` goes through its wait buffers into its queues. One port is done with before the other.
 #[inline(always)]
@@ -41,7 +43,12 @@ fn take_into_switch(
 
 impl Block {
     /// What comes to a switch goes through its wait buffers into its queues.
-    fn take_replies_of_switch(&mut self, unit: UnitNumber, stage: u32, index: u32)
+    fn take_replies_of_switch<const SMALL: bool>(
+        &mut self,
+        unit: UnitNumber,
+        stage: u32,
+        index: u32,
+    )
         requires is { IsSwitch self.old.stages unit stage index }
         requires room { SwitchCanTakeReplies unit stage index self.old }
         ensures { self.new ≡ switch_takes_replies unit stage index self.old }
@@ -57,7 +64,7 @@ impl Block {
     }
 
     /// What comes to a processing element is delivered.
-    fn take_reply_of_element(&mut self, unit: UnitNumber, pe: u32)
+    fn take_reply_of_element<const SMALL: bool>(&mut self, unit: UnitNumber, pe: u32)
         requires is { IsElement self.old.stages unit pe }
         requires open { ElementCanTakeReply pe self.old }
         requires room { length self.old.events < most_events }
@@ -79,10 +86,10 @@ impl Block {
 
 /// A visit in which replies come to a unit.
 #[derive(Clone, Copy, Drop)]
-struct TakeReplies;
+struct TakeReplies<const SMALL: bool>;
 
 #[tactic(auto, using(crate::proofs::Visited::switch_took_replies, crate::proofs::Visited::takes_no_reply, crate::proofs::Visited::no_reply_left))]
-impl Visit<Block> for TakeReplies {
+impl<const SMALL: bool> Visit<Block> for TakeReplies<SMALL> {
     ghost can_visit = { λ v n b. CanTakeRepliesAt n b };
 
     ghost visited = { λ v n b. takes_replies n b };
@@ -97,8 +104,10 @@ impl Visit<Block> for TakeReplies {
     #[inline(always)]
     fn visit(&self, block: &mut Block, unit: UnitNumber) {
         match block.unit(unit.number()) {
-            Unit::Switch { stage, index } => block.take_replies_of_switch(unit, stage, index),
-            Unit::Element(pe) => block.take_reply_of_element(unit, pe),
+            Unit::Switch { stage, index } => block.take_replies_of_switch::<SMALL>(
+                unit, stage, index,
+            ),
+            Unit::Element(pe) => block.take_reply_of_element::<SMALL>(unit, pe),
             Unit::Module(_) | Unit::Nothing => {}
         }
     }
@@ -111,6 +120,22 @@ impl Block {
         requires { (k : ℕ) → k < 320 → CanTakeRepliesAt k self.old }
         ensures { self.new ≡ after_units takes_replies 320 self.old }
     {
-        visit_all(&TakeReplies, self);
+        visit_all(&TakeReplies::<false>, self);
+    }
+
+    /// The second half of a cycle in a block in which all units stand.
+    #[inline(always)]
+    #[tactic(auto, using(crate::proofs::Small::gets_no_reply))]
+    pub fn take_replies_here<const SMALL: bool>(&mut self)
+        requires small { SMALL ≡ true → IsSmall self.old.stages }
+        requires can { (k : ℕ) → k < 320 → CanTakeRepliesAt k self.old }
+        ensures { self.new ≡ after_units takes_replies 320 self.old }
+    {
+        if SMALL {
+            let _stages = self.net.stages();
+            visit_first_word(&TakeReplies::<true>, self);
+        } else {
+            self.take_replies();
+        }
     }
 }

@@ -1,7 +1,7 @@
 //! The half of a cycle in which requests come to switches and modules.
 
-ghost use Rattle.std.specs.Prelude.{◌≡◌, ℕ, ◌+◌, ◌<◌, ◌≤◌, ◌↔◌, ◌++◌, [], Bool, false, length, vec_capacity};
-ghost use Rattle.ultra_section.specs.Prelude.{ForSome, HasWay, after_both, combinations_of_both, AreInlets, request_inlets, on_link, ports_in_turn, request_links, without_both, after_units, IsModule, IsSwitch};
+ghost use Rattle.std.specs.Prelude.{◌≡◌, ℕ, ◌+◌, ◌<◌, ◌≤◌, ◌↔◌, ◌++◌, [], Bool, true, false, length, vec_capacity};
+ghost use Rattle.ultra_section.specs.Prelude.{IsSmall, ForSome, HasWay, after_both, combinations_of_both, AreInlets, request_inlets, on_link, ports_in_turn, request_links, without_both, after_units, IsModule, IsSwitch};
 ghost use Rattle.ultra_section.specs.{BlockState.most_events, RequestsTaken.CanTakeRequestsAt, RequestsTaken.ModuleCanTakeRequest, RequestsTaken.SwitchCanTakeRequests, RequestsTaken.module_takes_request, RequestsTaken.switch_takes_requests, RequestsTaken.takes_requests, Holding.GetsNoRequest};
 
 use crate::block::Block;
@@ -12,6 +12,7 @@ use ultra_route::Net;
 use ultra_switch::Switch;
 use ultra_units::{
     Links, Unit, UnitNumber, UnitSet, Visit, ports_in_turn, take_at_module, visit_all,
+    visit_first_word,
 };
 
 /// What comes to a switch by two links, one after the other, goes into its queues, where it may combine. One request is done with before the other. Combinations are appended to `events`: by position, and at one position in the order of the arrivals. Answers whether there are any.
@@ -54,7 +55,12 @@ fn take_into_switch(
 
 impl Block {
     /// What comes to a switch goes into its queues, where it may combine: port 0 goes first in even cycles, port 1 in odd ones.
-    fn take_requests_of_switch(&mut self, unit: UnitNumber, stage: u32, index: u32)
+    fn take_requests_of_switch<const SMALL: bool>(
+        &mut self,
+        unit: UnitNumber,
+        stage: u32,
+        index: u32,
+    )
         requires is { IsSwitch self.old.stages unit stage index }
         requires can { SwitchCanTakeRequests unit stage index self.old }
         requires room { length self.old.events + 2 ≤ most_events }
@@ -75,7 +81,7 @@ impl Block {
     }
 
     /// What comes to a module goes into its register.
-    fn take_request_of_module(&mut self, unit: UnitNumber, module_number: u32)
+    fn take_request_of_module<const SMALL: bool>(&mut self, unit: UnitNumber, module_number: u32)
         requires is { IsModule self.old.stages unit module_number }
         requires can { ModuleCanTakeRequest module_number self.old }
         ensures { self.new ≡ module_takes_request module_number self.old }
@@ -94,10 +100,10 @@ impl Block {
 
 /// A visit in which requests come to a unit.
 #[derive(Clone, Copy, Drop)]
-struct TakeRequests;
+struct TakeRequests<const SMALL: bool>;
 
 #[tactic(auto, using(crate::proofs::Visited::switch_took_requests, crate::proofs::Visited::module_took_request, crate::proofs::Visited::takes_no_request, crate::proofs::Visited::no_request_left))]
-impl Visit<Block> for TakeRequests {
+impl<const SMALL: bool> Visit<Block> for TakeRequests<SMALL> {
     ghost can_visit = { λ v n b. CanTakeRequestsAt n b };
 
     ghost visited = { λ v n b. takes_requests n b };
@@ -112,8 +118,10 @@ impl Visit<Block> for TakeRequests {
     #[inline(always)]
     fn visit(&self, block: &mut Block, unit: UnitNumber) {
         match block.unit(unit.number()) {
-            Unit::Switch { stage, index } => block.take_requests_of_switch(unit, stage, index),
-            Unit::Module(number) => block.take_request_of_module(unit, number),
+            Unit::Switch { stage, index } => block.take_requests_of_switch::<SMALL>(
+                unit, stage, index,
+            ),
+            Unit::Module(number) => block.take_request_of_module::<SMALL>(unit, number),
             Unit::Element(_) | Unit::Nothing => {}
         }
     }
@@ -126,6 +134,22 @@ impl Block {
         requires { (k : ℕ) → k < 320 → CanTakeRequestsAt k self.old }
         ensures { self.new ≡ after_units takes_requests 320 self.old }
     {
-        visit_all(&TakeRequests, self);
+        visit_all(&TakeRequests::<false>, self);
+    }
+
+    /// The fifth half of a cycle in a block in which all units stand.
+    #[inline(always)]
+    #[tactic(auto, using(crate::proofs::Small::gets_no_request))]
+    pub fn take_requests_here<const SMALL: bool>(&mut self)
+        requires small { SMALL ≡ true → IsSmall self.old.stages }
+        requires can { (k : ℕ) → k < 320 → CanTakeRequestsAt k self.old }
+        ensures { self.new ≡ after_units takes_requests 320 self.old }
+    {
+        if SMALL {
+            let _stages = self.net.stages();
+            visit_first_word(&TakeRequests::<true>, self);
+        } else {
+            self.take_requests();
+        }
     }
 }

@@ -1,6 +1,6 @@
 -- Units and the bits of their words, and walks over units.
 use Rattle.std.proofs.Common.{◌≡◌, ℕ, min, Bool, ◌&&◌, ◌+◌, ◌-◌, ◌*◌, ◌/◌, ◌%◌, ◌^◌, ◌<◌, ◌≤◌, true, false, List, [], ◌∷◌, zero, suc, refl, length, get_or, map, set, eqb, sym, ◌∙◌, ap, inl, inr, arith, eq-eqb, get_or-set_same, get_or-set_other, replicate, w64, bit_and, bit_or, not, ◌||◌, ◌≢◌, ◌==◌}
-use Rattle.ultra_units.proofs.Common.{cases_lt, eqb-true, get_or-replicate, get_or_past, length-replicate, nat_tests, AreBits, has_bit, comes_to, word_end, HasCome, AreSameBut, HasNoneFrom, HasNoneWithin, IsFirstOf, IsWalk, Walk}
+use Rattle.ultra_units.proofs.Common.{cases_lt, eqb-true, get_or-replicate, get_or_past, length-replicate, nat_tests, AreBits, has_bit, comes_to, is_in_first_word, word_end, HasCome, AreSameBut, HasNoneFrom, HasNoneWithin, IsFirstOf, IsWalk, Walk}
 use Rattle.std.proofs.lemmas.{List.FromFn.get_or-map-range_with_len, Nat.le_or_l, Nat.le_or_r, Nat.shr-shr, Nat.Bits.bit_at-lt, Nat.Bits.bit_at-zero, Nat.Bits.bit_at_above, Nat.Bits.bit_at_and, Nat.Bits.bit_at_not, Nat.Bits.bit_at_ones, Nat.Bits.bit_at_or, Nat.Bits.bit_at_set_same, Nat.Bits.bit_at_set_other, Nat.Bits.bit_at_clear_same, Nat.Bits.bit_at_clear_other, Nat.Bits.bit_at-trailing_zeros}
 use Rattle.std.specs.{Int.bit_not, Int.trailing_zeros, List.range_with_len}
 use Rattle.ultra_units.specs.Set.{has_unit}
@@ -128,10 +128,24 @@ come_in_word words word from small fits some order none =
     let here = come _ _ _ _ (bits_of_word words word fits) word refl (omega arith) small some fits in
     record { first = grind arith; rest = here.rest }
 
+pub come_first : (words : List ℕ) → get_or words 0 0 < 2 ^ 64 → 0 < get_or words 0 0
+    → HasCome (is_in_first_word words) 0 (record { unit = trailing_zeros w64 (get_or words 0 0); rest = get_or words 0 0 / 2 ^ trailing_zeros w64 (get_or words 0 0) / 2 })
+come_first words fits some =
+    let bits : AreBits (is_in_first_word words) 0 64 (get_or words 0 0) = (let here = bits_of_word words 0 fits in grind (arith, nat_tests)) in
+    let same : 0 + trailing_zeros w64 (get_or words 0 0) ≡ trailing_zeros w64 (get_or words 0 0) = omega arith in
+    rw same at (come _ _ _ _ bits 0 refl (omega arith) (omega arith) some fits)
+
 pub come_on : (w : Walk) → IsWalk w → 0 < w.rest → w.rest < 2 ^ 64 → (words : List ℕ) → HasCome (comes_to w words) (w.unit + 1) (walk_at (w.unit + 1) w.rest)
 come_on w is some fits words =
     let bits : AreBits (comes_to w words) (w.unit + 1) (word_end w.unit) w.rest = (let inside = is.within in grind (arith, nat_tests)) in
     come _ _ _ _ bits (w.unit / 64) refl (omega arith) (let small = is.small in omega arith) some fits
+
+-- a walk that has no words behind its own comes only to units of that
+pub in_word_alone : (w : Walk) (k : ℕ) → comes_to w [] k ≡ true → k < word_end w.unit
+in_word_alone w k comes = let none = past_words [] k (omega arith) in grind (arith, nat_tests)
+
+pub none_in_rest_word : (w : Walk) (k : ℕ) → w.rest ≡ 0 → comes_to w [] k ≡ false
+none_in_rest_word w k none = let past = past_words [] k (omega arith) in let clear = bit_at-zero (k - (w.unit + 1)) in grind (arith, nat_tests)
 
 pub ruleset word_steps = (come_in_word, none_in_word, past_words, bit_at-trailing_zeros)
 

@@ -1,5 +1,5 @@
 -- how the units of a machine of d stages are numbered, and the links between them
-use Rattle.std.specs.Prelude.{ℕ, ◌+◌, ◌-◌, ◌*◌, ◌/◌, ◌^◌, true, false, ◌==◌}
+use Rattle.std.specs.Prelude.{ℕ, ◌+◌, ◌-◌, ◌*◌, ◌/◌, ◌^◌, ◌≤◌, true, false, ◌==◌}
 use Rattle.ultra_route.specs.Route.{shuffled, unshuffled}
 
 -- units are numbered switches first, stage by stage, then modules, then processing elements
@@ -17,6 +17,10 @@ element_number d p = switch_count d + 2 ^ d + p
 
 abbrev pub unit_count : ℕ → ℕ
 unit_count d = switch_count d + 2 * 2 ^ d
+
+-- all units of a machine, at most 64, are in the first word of a set
+abbrev pub IsSmall : ℕ → Type 0
+IsSmall d = d ≤ 4
 
 -- a link has the number of the position from which a message leaves: that of position x of stage s,
 -- counted over all stages; behind them, as positions of stage d, come the modules, from which

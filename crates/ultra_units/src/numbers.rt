@@ -1,7 +1,7 @@
 //! The numbers of units and of the links between them.
 
-ghost use Rattle.std.specs.Prelude.{◌≡◌, ℕ, ◌+◌, ◌-◌, ◌*◌, ◌^◌, ◌<◌, ◌≤◌};
-ghost use Rattle.ultra_units.specs.{Numbers.element_number as number_of_element, Numbers.module_number as number_of_module, Numbers.place_number as number_of_place, Numbers.reply_source as source_of_reply, Numbers.reply_target as target_of_reply, Numbers.request_source as source_of_request, Numbers.request_target as target_of_request, Numbers.switch_count as count_of_switches, Numbers.switch_number as number_of_switch};
+ghost use Rattle.std.specs.Prelude.{◌≡◌, true, ℕ, ◌+◌, ◌-◌, ◌*◌, ◌^◌, ◌<◌, ◌≤◌};
+ghost use Rattle.ultra_units.specs.{Numbers.IsSmall, Numbers.element_number as number_of_element, Numbers.module_number as number_of_module, Numbers.place_number as number_of_place, Numbers.reply_source as source_of_reply, Numbers.reply_target as target_of_reply, Numbers.request_source as source_of_request, Numbers.request_target as target_of_request, Numbers.switch_count as count_of_switches, Numbers.switch_number as number_of_switch};
 
 use ultra_route::Net;
 use ultra_switch::Ports;
@@ -13,6 +13,31 @@ pub fn switch_count(net: Net) -> usize
     ensures small { result ≤ 192 }
 {
     (net.stages() * (net.size() / 2)) as usize
+}
+
+/// Whether all units of a machine, at most 64, are in the first word of a set: whether it has at most 4 stages.
+#[inline(always)]
+pub fn is_small(net: Net) -> bool
+    ensures small { result ≡ true → IsSmall net }
+    ensures large { IsSmall net → result ≡ true }
+{
+    net.stages() <= 4
+}
+
+/// The numbers of units again. In a `SMALL` machine the compiler then knows that they are below 64.
+#[inline(always)]
+pub fn narrow<const SMALL: bool>(units: Ports<usize>) -> Ports<usize>
+    requires zero { SMALL ≡ true → units.zero < 64 }
+    requires one { SMALL ≡ true → units.one < 64 }
+    ensures { result ≡ units }
+{
+    if !SMALL {
+        return units;
+    }
+    Ports {
+        zero: units.zero % 64,
+        one: units.one % 64,
+    }
 }
 
 /// The number of a switch of a stage, by its index there.

@@ -1,6 +1,6 @@
 //! Sets of units.
 
-ghost use Rattle.std.specs.Prelude.{◌≡◌, ℕ, List, ◌+◌, ◌*◌, ◌<◌, ◌≤◌, ◌&&◌, ◌||◌, true, false, not, IfNone, IfSome};
+ghost use Rattle.std.specs.Prelude.{◌≡◌, ℕ, List, ◌+◌, ◌*◌, ◌/◌, ◌<◌, ◌≤◌, ◌&&◌, ◌||◌, true, false, not, IfNone, IfSome};
 ghost use Rattle.ultra_units.specs.Set.{AreSameBut, HasNoneFrom, IsFirstFrom, has_unit};
 
 use crate::pass::Walk;
@@ -58,6 +58,14 @@ impl UnitNumber {
     {
         self.number
     }
+
+    /// The word that says whether it is in a set. Its number is taken modulo 8, so that the compiler knows it to be small.
+    #[inline(always)]
+    fn word(self) -> usize
+        ensures { result ≡ self / 64 }
+    {
+        self.number / 64 % 8
+    }
 }
 
 #[tactic(auto, using(crate::proofs::Set::set_steps))]
@@ -84,7 +92,7 @@ impl UnitSet {
         requires { number < 320 }
         ensures { result ≡ has_unit self.now number }
     {
-        self.words[number / 64] >> (number % 64) & 1 == 1
+        self.words[UnitNumber::of(number).word()] >> (number % 64) & 1 == 1
     }
 
     /// Puts a unit into the set.
@@ -93,7 +101,7 @@ impl UnitSet {
         ensures others { AreSameBut unit self.old self.new }
         ensures there { has_unit self.new unit ≡ true }
     {
-        self.words[unit.number / 64] |= 1u64 << (unit.number % 64);
+        self.words[unit.word()] |= 1u64 << (unit.number % 64);
     }
 
     /// Takes a unit out of the set, if it is there.
@@ -127,7 +135,7 @@ impl UnitSet {
         } else {
             !(1u64 << (unit.number % 64))
         };
-        self.words[unit.number / 64] &= kept;
+        self.words[unit.word()] &= kept;
     }
 
     /// Puts all units of another set into this one.

@@ -1,9 +1,9 @@
 //! Where messages go from a unit, and whether they may.
 
-ghost use Rattle.std.specs.Prelude.{◌≡◌, ℕ, ◌-◌, ◌^◌, ◌<◌};
-ghost use Rattle.ultra_units.specs.{Numbers.request_target as target_of_request, Ways.has_request_way as way_of_request, Ways.has_room_at as room_at, Ways.has_way_from_element as way_from_element, Ways.reply_targets as targets_of_replies, Ways.reply_ways};
+ghost use Rattle.std.specs.Prelude.{◌≡◌, ℕ, ◌-◌, ◌/◌, ◌<◌};
+ghost use Rattle.ultra_route.specs.Route.{shuffled};
+ghost use Rattle.ultra_units.specs.{Numbers.switch_number as number_of_switch, Numbers.request_target as target_of_request, Ways.has_request_way as way_of_request, Ways.has_room_at as room_at, Ways.has_way_from_element as way_from_element, Ways.reply_targets as targets_of_replies, Ways.reply_ways};
 
-use crate::numbers::switch_number;
 use crate::unit_set::UnitSet;
 use ultra_msg::RequestPacket;
 use ultra_route::Net;
@@ -65,22 +65,20 @@ pub fn has_request_way(
     }
 }
 
-/// Whether the first request of a processing element may go on.
+/// Whether the first request of a processing element may go on, to the switch `target`.
 #[inline(always)]
 pub fn has_way_from_element(
     net: Net,
     closed: &Ports<UnitSet>,
-    pe: u32,
+    target: usize,
     head: Option<RequestPacket>,
 ) -> bool
-    requires { pe < 2 ^ net }
-    ensures { result ≡ way_from_element closed.now net pe head }
+    requires { target < 320 }
+    ensures { (pe : ℕ) → target ≡ number_of_switch net 0 (shuffled net pe / 2) → result ≡ way_from_element closed.now net pe head }
 {
     let Some(request) = head else {
         return false;
     };
     let _stages = net.stages();
-    let _even = net.size();
-    let switch = switch_number(net, 0, net.shuffle(pe) / 2);
-    has_room_at(net, closed, 0, switch, &request)
+    has_room_at(net, closed, 0, target, &request)
 }

@@ -3,11 +3,11 @@ use Rattle.ultra_section.proofs.Visited.{later_asleep, later_element}
 use Rattle.ultra_section.proofs.execute.ExecuteVisitBlock.visit.Goals as goal
 
 pub returns-in-Some-clause-later : goal.returns-in-Some-clause-later
-returns-in-Some-clause-later c = λ k order can.
+returns-in-Some-clause-later g c = λ k order can.
     let later = later_element c.args.block.now c.args.unit k c.in-Some.pe order in
     grind (arith, later)
 
 pub returns-in-Some-clause-idle : goal.returns-in-Some-clause-idle
-returns-in-Some-clause-idle c = λ k order asleep.
+returns-in-Some-clause-idle g c = λ k order asleep.
     let later = later_asleep c.args.block.now c.args.unit k c.in-Some.pe order in
     grind (arith, later)
