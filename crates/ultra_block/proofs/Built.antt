@@ -1,20 +1,13 @@
 -- The units of a machine before its first cycle. A module is filled with the initial values, one after the other; and one block
 -- that holds all units is the machine at its start.
 use Rattle.std.proofs.Common.{◌≡◌, ◌≢◌, ℕ, ◌+◌, ◌*◌, ◌/◌, ◌%◌, ◌<◌, List, [], ◌∷◌, ◌++◌, true, false, None, length, set, take, get_or, refl, ap, arith, get_or-set_same, get_or-set_other, subst, sym, ◌≤◌, nat_lt, ◌^◌, Some, replicate, ◌==◌, Option}
-use Rattle.std.proofs.lemmas.{Bool.Decides.nat_tests, List.ext_get_or, List.get_or-replicate, List.length-replicate, List.length-set, List.take_all, List.take_more, List.get_or_past, List.Elements.All-get_or, Nat.div-mul-add, Nat.div_below, Nat.mod-mul-add}
-use Rattle.ultra_model.specs.{Machine.given_value, Machine.Settings, Machine.start, Places.places, Ranges.AreInRange}
-use Rattle.ultra_block.specs.{Fresh.filled, Fresh.first_bank, Fresh.first_element, State.MakeUp}
-use Rattle.ultra_isa.specs.declared.Instr.{Instr}
-use Rattle.ultra_units.specs.Numbers.{switch_count, unit_count}
-use Rattle.ultra_section.specs.{BlockState.BlockState, Building.empty_block}
-use Rattle.ultra_section.proofs.OfKind.{by_kind, switch_stands, module_stands}
-use Rattle.ultra_course.specs.{Frame.AreAlike, Whole.empty_switch, Whole.whole}
-use Rattle.ultra_course.proofs.AtFrame.{whole_alike}
-use Rattle.ultra_cut.specs.{Cut.frame_of, Cut.home, Moments.machine_in}
-use Rattle.std.proofs.{Math.Path.fun_ext}
-use Rattle.ultra_model.proofs.{Each.places_at, Each.length-places, Sound.sound-start}
+use Rattle.std.proofs.{Math.Path.fun_ext, lemmas.Bool.Decides.nat_tests, lemmas.List.ext_get_or, lemmas.List.get_or-replicate, lemmas.List.length-replicate, lemmas.List.length-set, lemmas.List.take_all, lemmas.List.take_more, lemmas.List.get_or_past, lemmas.List.Elements.All-get_or, lemmas.Nat.div-mul-add, lemmas.Nat.div_below, lemmas.Nat.mod-mul-add}
+use Rattle.ultra_model.{proofs.Each.places_at, proofs.Each.length-places, proofs.Sound.sound-start, specs.Machine.given_value, specs.Machine.Settings, specs.Machine.start, specs.Places.places, specs.Ranges.AreInRange}
 use Rattle.ultra_mem.specs.Serve.{new_bank}
-use Rattle.ultra_block.proofs.Seen.{one_lists}
+use Rattle.ultra_section.specs.Building.{empty_block}
+use Rattle.ultra_course.{proofs.AtFrame.whole_alike, specs.Whole.empty_switch, specs.Whole.whole}
+use Rattle.ultra_cut.proofs.Common.{AreAlike, BlockState, Instr, by_kind, frame_of, home, machine_in, module_stands, switch_count, switch_stands, unit_count}
+use Rattle.ultra_block.{proofs.Seen.one_lists, specs.Fresh.filled, specs.Fresh.first_bank, specs.Fresh.first_element, specs.State.MakeUp}
 
 given_more : (values : List (ℕ × ℕ)) (x : ℕ × ℕ) (a v : ℕ) → given_value (values ++ x ∷ []) a v ≡ elim (x.0 == a) [ true ↦ x.1 | false ↦ given_value values a v ]
 given_more [] x a v = refl
@@ -22,9 +15,7 @@ given_more (y ∷ values) x a v = given_more values x a _
 
 module _ (size m n : ℕ) where
   pub none_filled : new_bank n ≡ filled size m n []
-  none_filled =
-      let cells = ext_get_or 0 (new_bank n).cells (filled size m n []).cells (grind (arith, length-places, length-replicate)) (λ o inside. grind (arith, places_at, get_or-replicate, length-replicate)) in
-      grind arith
+  none_filled = ap (λ cells. record { cells = cells; inp = None; out = None }) (ext_get_or 0 _ _ (grind (arith, length-places, length-replicate)) (λ o inside. grind (arith, places_at, get_or-replicate, length-replicate)))
 
   -- the next address is of this module and sets its cell, or it is of another and leaves them
   module _ (values : List (ℕ × ℕ)) (i : ℕ) (inside : i < length values) (small : m < size) where
@@ -32,10 +23,8 @@ module _ (size m n : ℕ) where
     x = get_or values i (0, 0)
 
     pub filled_here : x.0 % size ≡ m → x.0 < size * n → filled size m n (take (i + 1) values) ≡ record (filled size m n (take i values)) { cells = set (filled size m n (take i values)).cells (x.0 / size) x.1 }
-    filled_here here within =
-        let cells = ext_get_or 0 (filled size m n (take i values ++ x ∷ [])).cells (set (filled size m n (take i values)).cells (x.0 / size) x.1) (grind (arith, length-places, length-set))
-        (λ o inside. grind (arith, places_at, given_more, nat_tests, div_below, length-places, length-set, get_or-set_same, get_or-set_other, div-mul-add, mod-mul-add)) in
-        rw (take_more values i (0, 0) inside) (grind arith)
+    filled_here here within = rw (take_more values i (0, 0) inside) (ap (λ cells. record { cells = cells; inp = None; out = None }) (ext_get_or 0 _ _ (grind (arith, length-places, length-set))
+        (λ o inside. grind (arith, places_at, given_more, nat_tests, div_below, length-places, length-set, get_or-set_same, get_or-set_other, div-mul-add, mod-mul-add))))
 
     pub filled_past : x.0 % size ≢ m → filled size m n (take (i + 1) values) ≡ filled size m n (take i values)
     filled_past past = rw (take_more values i (0, 0) inside) (ap (λ cell. record { cells = places n cell; inp = None; out = None }) (fun_ext (λ o. grind (arith, given_more, nat_tests, mod-mul-add))))
@@ -61,20 +50,14 @@ module _ (c : Settings) (program : List Instr) where
 
 module _ (c : Settings) (program : List Instr) (range : AreInRange c) (b : BlockState) (all : AreIn c program (switch_count c.stages) (2 ^ c.stages) (2 ^ c.stages) b) where
   -- all stand in block 0
-  abbrev one : List ℕ
-  one = replicate (unit_count c.stages) 0
+  alike : AreAlike c.stages (frame_of c.stages (replicate (unit_count c.stages) 0) (b ∷ [])) (record { switch = λ n. empty_switch c; bank = first_bank c; element = first_element c; replies = λ l. None; requests = λ l. None })
+  alike = grind (arith, get_or-replicate, get_or_past, length-replicate)
 
-  home_is_zero : (n : ℕ) → home one n ≡ 0
-  home_is_zero n = grind (arith, get_or-replicate, get_or_past, length-replicate)
-
-  alike : AreAlike c.stages (frame_of c.stages one (b ∷ [])) (record { switch = λ n. empty_switch c; bank = first_bank c; element = first_element c; replies = λ l. None; requests = λ l. None })
-  alike = grind (arith, get_or-replicate, home_is_zero)
-
-  at_start : machine_in c one 0 (b ∷ []) ≡ start c
+  at_start : machine_in c (replicate (unit_count c.stages) 0) 0 (b ∷ []) ≡ start c
   unfolding start whole
   at_start = grind (arith, whole_alike c range _ _ alike 0 [] [], one_lists c.stages (b ∷ []) refl)
 
-  pub is_fresh : MakeUp c program one 0 (start c) (b ∷ [])
-  is_fresh = (grind (arith, at_start, length-replicate, home_is_zero, by_kind, switch_stands, module_stands, alike, length-places, sound-start c range), at_start)
+  pub is_fresh : MakeUp c program (replicate (unit_count c.stages) 0) 0 (start c) (b ∷ [])
+  is_fresh = (grind (arith, at_start, length-replicate, get_or-replicate, get_or_past, by_kind, switch_stands, module_stands, alike, length-places, sound-start c range), at_start)
 
 pub ruleset row_steps = (length-replicate, length-set, get_or-set_same, get_or-set_other)

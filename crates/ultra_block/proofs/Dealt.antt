@@ -1,18 +1,12 @@
 -- A machine that stands in one block is dealt to the blocks that a partition names: it stays the same machine.
 use Rattle.std.proofs.Common.{◌≡◌, ℕ, ◌+◌, ◌<◌, ◌≤◌, List, [], ◌∷◌, None, length, map, set, arith, get_or-set_same, get_or-set_other, ◌==◌, ◌&&◌, nat_lt, cond, refl, true, All}
-use Rattle.std.proofs.lemmas.{Bool.eq-eqb, Bool.Decides.nat_tests, List.get_or-replicate, List.get_or_past, List.length-replicate, List.length-set, List.append-nil, List.Elements.All-from_get_or, List.Elements.All-set}
-use Rattle.ultra_isa.specs.declared.Instr.{Instr}
-use Rattle.ultra_model.specs.Machine.{Settings}
-use Rattle.ultra_units.specs.Numbers.{unit_count}
-use Rattle.ultra_section.specs.{Away.stands, BlockState.BlockState, Building.empty_block, Building.with_unit, Building.without_unit, Shape.IsShaped}
-use Rattle.ultra_section.proofs.OfKind.{by_kind}
-use Rattle.ultra_course.specs.Frame.{AreAlike}
-use Rattle.ultra_course.proofs.AtFrame.{whole_alike}
-use Rattle.ultra_cut.specs.{Cut.block_at, Cut.frame_of, Cut.given, Cut.home, Cut.is_partition, Cut.no_block, Events.IsInOrder, Events.event_rank, Events.stop_rank, Events.events_of, Events.stops_of, Halves.OfEach, Moments.AreWhole, Moments.machine_in, Moments.AreMachine}
-use Rattle.ultra_block.specs.{Dealt.IsLastNamed, State.MakeUp}
-use Rattle.ultra_units.proofs.{Marks.length-put_on, Put.put_apart, Put.put_there}
+use Rattle.std.proofs.lemmas.{Bool.eq-eqb, Bool.Decides.nat_tests, List.get_or-replicate, List.get_or_past, List.length-replicate, List.length-set, List.append-nil}
 use Rattle.ultra_merge.specs.Merging.{merged}
-use Rattle.ultra_cut.proofs.{Columns.column_empty, Happenings.joined_home, Units.Sort, Units.switches, Units.modules, Units.elements}
+use Rattle.ultra_units.proofs.Marks.{length-put_on}
+use Rattle.ultra_section.specs.Building.{empty_block, with_unit, without_unit}
+use Rattle.ultra_course.proofs.AtFrame.{whole_alike}
+use Rattle.ultra_cut.{proofs.Columns.column_empty, proofs.Common.AreAlike, proofs.Common.AreWhole, proofs.Common.BlockState, proofs.Common.Instr, proofs.Common.IsShaped, proofs.Common.OfEach, proofs.Common.Settings, proofs.Common.block_at, proofs.Common.by_kind, proofs.Common.event_rank, proofs.Common.frame_of, proofs.Common.given, proofs.Common.home, proofs.Common.machine_in, proofs.Common.no_block, proofs.Common.put_apart, proofs.Common.put_there, proofs.Common.stands, proofs.Common.stop_rank, proofs.Common.unit_count, proofs.Happenings.joined_home, proofs.Units.Sort, proofs.Units.elements, proofs.Units.modules, proofs.Units.switches, specs.Cut.is_partition, specs.Events.events_of, specs.Events.stops_of}
+use Rattle.ultra_block.specs.{Dealt.IsLastNamed, State.MakeUp}
 
 ruleset moving = (nat_tests, put_there, put_apart, length-set, get_or-set_same, get_or-set_other)
 
@@ -40,45 +34,37 @@ module _ (d : ℕ) (partition : List ℕ) (b : BlockState) where
   -- no unit yet
   pub none_carried : (count : ℕ) (e x left : BlockState) (bs : List BlockState) → b.stages ≡ d → All (λ (k : ℕ). k < 64) partition → IsLastNamed partition count → All (λ (k : ℕ). k < count) partition → (length bs ≡ count) × All (λ (y : BlockState). y ≡ e) bs → e ≡ record (empty_block b.stages b.program) { done = b.done }
       → x ≡ record (block_at bs 0) { events = b.events; stops = b.stops } → left ≡ record b { events = left.events; stops = left.stops } → AreCarried 0 left (set bs 0 x)
-  none_carried count e x left bs stages few last named are empty is rest =
-      grind (arith, last.1, moving, get_or-replicate, get_or_past, length-replicate)
+  none_carried count e x left bs stages few last named are empty is rest = grind (arith, last.1, moving, get_or-replicate, get_or_past, length-replicate)
 
   -- one unit more
   module _ (n : ℕ) (left : BlockState) (now : List BlockState) (was : AreCarried n left now) (small : n < length partition) where
-    abbrev y : BlockState
-    y = with_unit n left (block_at now (home partition n))
-
     abbrev next : List BlockState
-    next = set now (home partition n) y
+    next = set now (home partition n) (with_unit n left (block_at now (home partition n)))
 
     pub unit_carried : AreCarried (n + 1) (without_unit n left) next
     unit_carried =
         let within = was.named n 0 small in
-        let here : IsShaped d y = grind (arith, was.shaped, length-put_on) in
-        let shaped = All-set (IsShaped d) now (home partition n) y here (All-from_get_or (IsShaped d) now no_block was.shaped) in
+        let here : IsShaped d (with_unit n left (block_at now (home partition n))) = grind (arith, was.shaped, length-put_on) in
         let switches : SortIsCarried switches (n + 1) (without_unit n left) next = grind (arith, moving) in
         let modules : SortIsCarried modules (n + 1) (without_unit n left) next = grind (arith, moving) in
         let elements : SortIsCarried elements (n + 1) (without_unit n left) next = grind (arith, moving) in
-        grind (arith, moving)
+        grind (arith, moving, was.shaped)
 
 -- ---- all units
 module _ (c : Settings) (program : List Instr) (was : List ℕ) (n : ℕ) (b : BlockState) (whole : AreWhole c program was n (b ∷ [])) (partition : List ℕ) (left : BlockState) (now : List BlockState)
     (carried : AreCarried c.stages partition b (unit_count c.stages) left now) (count : length partition ≡ unit_count c.stages) where
-  abbrev d : ℕ
-  d = c.stages
-
-  module _ {X : Type 0} (sort : Sort X) (there : SortIsCarried d partition b sort (unit_count d) left now) where
-    sort_stands : (k : ℕ) → k < length now → (i : ℕ) → i < sort.count d → sort.number d i < unit_count d → stands (sort.number d i) (block_at now k) ≡ (home partition (sort.number d i) == k)
+  module _ {X : Type 0} (sort : Sort X) (there : SortIsCarried c.stages partition b sort (unit_count c.stages) left now) where
+    sort_stands : (k : ℕ) → k < length now → (i : ℕ) → i < sort.count c.stages → sort.number c.stages i < unit_count c.stages → stands (sort.number c.stages i) (block_at now k) ≡ (home partition (sort.number c.stages i) == k)
     sort_stands k h i is small =
-        grind (arith, nat_tests, whole.machine.blocks.cut.homes, whole.machine.blocks.cut.stand 0, sort.stand d b (whole.machine.blocks.cut.stages 0 (omega arith)), sort.stand d (block_at now k) (carried.shaped k h).stages)
+        grind (arith, nat_tests, whole.machine.blocks.cut.homes, whole.machine.blocks.cut.stand 0, sort.stand c.stages b (whole.machine.blocks.cut.stages 0 (omega arith)), sort.stand c.stages (block_at now k) (carried.shaped k h).stages)
 
-    alike_at : (i : ℕ) → i < sort.count d → given sort.nothing (sort.at (block_at now (home partition (sort.number d i))) i) ≡ given sort.nothing (sort.at (block_at (b ∷ []) (home was (sort.number d i))) i)
+    alike_at : (i : ℕ) → i < sort.count c.stages → given sort.nothing (sort.at (block_at now (home partition (sort.number c.stages i))) i) ≡ given sort.nothing (sort.at (block_at (b ∷ []) (home was (sort.number c.stages i))) i)
     alike_at i small = grind (arith, nat_tests, eq-eqb, whole.machine.blocks.cut.homes, carried.named, sort.small)
 
-  stand_now : (k : ℕ) → k < length now → (u : ℕ) → u < unit_count d → stands u (block_at now k) ≡ (home partition u == k)
-  stand_now k h = by_kind d _ (sort_stands switches carried.switches k h) (sort_stands modules carried.modules k h) (sort_stands elements carried.elements k h) (λ u past small. absurd (omega arith))
+  stand_now : (k : ℕ) → k < length now → (u : ℕ) → u < unit_count c.stages → stands u (block_at now k) ≡ (home partition u == k)
+  stand_now k h = by_kind c.stages _ (sort_stands switches carried.switches k h) (sort_stands modules carried.modules k h) (sort_stands elements carried.elements k h) (λ u past small. absurd (omega arith))
 
-  alike : AreAlike d (frame_of d partition now) (frame_of d was (b ∷ []))
+  alike : AreAlike c.stages (frame_of c.stages partition now) (frame_of c.stages was (b ∷ []))
   alike = grind (arith, get_or-replicate, column_empty, alike_at switches carried.switches, alike_at modules carried.modules, alike_at elements carried.elements)
 
   same_merged : {X : Type 0} (list : BlockState → List X) (rank : X → ℕ) (count : ℕ) → list no_block ≡ [] → ((k : ℕ) → k < length now → list (block_at now k) ≡ list (block_at (b ∷ []) k))
@@ -89,13 +75,10 @@ module _ (c : Settings) (program : List Instr) (was : List ℕ) (n : ℕ) (b : B
   same_machine : machine_in c partition n now ≡ machine_in c was n (b ∷ [])
   unfolding events_of stops_of
   same_machine =
-      grind (arith, same_merged (λ x. x.events) (event_rank d) 1280 refl, same_merged (λ x. x.stops) stop_rank 64 refl, whole_alike c whole.machine.machine.range (frame_of d partition now) (frame_of d was (b ∷ [])) alike)
+      grind (arith, same_merged (λ x. x.events) (event_rank c.stages) 1280 refl, same_merged (λ x. x.stops) stop_rank 64 refl, whole_alike c whole.machine.machine.range (frame_of c.stages partition now) (frame_of c.stages was (b ∷ [])) alike)
 
   pub dealt : MakeUp c program partition n (machine_in c was n (b ∷ [])) now
-  dealt =
-      let in_order : OfEach (IsInOrder d) now = grind (arith, whole.in_order 0) in
-      let machine : AreMachine c program partition n (events_of d now) (stops_of d now) (machine_in c partition n now) now = record { blocks = grind (arith, stand_now); runs = grind arith; done = grind arith; machine = grind (arith, same_machine, alike) } in
-      grind (arith, alike, same_machine)
+  dealt = grind (arith, whole.in_order 0, stand_now, alike, same_machine)
 
 pub same_cut : {c : Settings} {program : List Instr} {was : List ℕ} {n : ℕ} {bs : List BlockState} {partition : List ℕ} {b left : BlockState} {now : List BlockState} {d u : ℕ} → AreWhole c program was n bs → bs ≡ b ∷ [] → AreCarried d partition b u left now → d ≡ c.stages → u ≡ length partition → is_partition c partition ≡ true
     → MakeUp c program partition n (machine_in c was n bs) now

@@ -1,4 +1,3 @@
-mod Stages
 pub mod Seen
 pub mod Built
 pub mod Dealt

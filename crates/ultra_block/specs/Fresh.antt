@@ -14,14 +14,13 @@ filled size m cells initial = record {
   out = None;
 }
 
-module _ (c : Settings) where
-  -- module m before the first cycle, and processing element p
-  abbrev pub first_bank : ℕ → Bank
-  first_bank m = filled (size c) m c.cells c.initial
+-- module m before the first cycle, and processing element p
+abbrev pub first_bank : Settings → ℕ → Bank
+first_bank c m = filled (size c) m c.cells c.initial
 
-  abbrev pub first_element : ℕ → ProcessingElement
-  first_element p = record {
-    processor = record { site = site c p; core = fresh_core };
-    interface = record { interface = empty_interface; most_open = c.most_open };
-    issued = 0;
-  }
+abbrev pub first_element : Settings → ℕ → ProcessingElement
+first_element c p = record {
+  processor = record { site = site c p; core = fresh_core };
+  interface = record { interface = empty_interface; most_open = c.most_open };
+  issued = 0;
+}

@@ -2,8 +2,7 @@
 use Rattle.std.specs.Prelude.{◌≡◌, ℕ, ◌+◌, ◌≤◌, List, length}
 use Rattle.ultra_isa.specs.declared.Instr.{Instr}
 use Rattle.ultra_model.specs.{Machine.Settings, Machine.Machine, Phases.cycle, declared.Stop.Stop}
-use Rattle.ultra_section.specs.BlockState.{BlockState}
-use Rattle.ultra_cut.specs.{Events.event_rank, Moments.AreWhole, Moments.machine_in}
+use Rattle.ultra_cut.specs.{Cut.BlockState, Events.event_rank, Moments.AreWhole, Moments.machine_in}
 use Rattle.ultra_msg.specs.declared.Event.{Event}
 use Rattle.ultra_merge.specs.Merging.{Remainder, merged}
 use Rattle.ultra_block.specs.{declared.blocks.Parts.Parts, declared.ranks.ByElement.ByElement, declared.ranks.ByRules.ByRules}

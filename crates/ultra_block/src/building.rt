@@ -3,7 +3,6 @@
 ghost use Rattle.std.specs.Prelude.{◌≡◌, ◌^◌, ◌<◌, ◌∷◌, [], IfOk, All, length, replicate};
 ghost use Rattle.ultra_units.specs.Numbers.{unit_count};
 ghost use Rattle.ultra_section.specs.Building.{empty_block};
-ghost use Rattle.ultra_course.specs.Whole.{empty_switch};
 ghost use Rattle.ultra_model.specs.Machine.{start};
 ghost use Rattle.ultra_block.specs.{Fresh.first_bank, Fresh.first_element, State.MakeUp};
 
@@ -17,19 +16,6 @@ use ultra_pni::Pni;
 use ultra_section::Block;
 use ultra_switch::Switch;
 use ultra_units::switch_count;
-
-/// A switch with empty queues. An error says that memory was refused.
-fn new_switch(alloc: Global, config: &Config) -> Result<Switch, AllocError>
-    ensures { IfOk result (λ w. w ≡ empty_switch config.now) }
-{
-    Switch::new(
-        alloc,
-        config.request_places() as usize,
-        config.reply_places() as usize,
-        config.wait_places() as usize,
-    )
-    .map_err(|_| AllocError)
-}
 
 /// A memory module with its initial values. An error says that memory was refused.
 #[tactic(auto, using(crate::proofs::Built::fill_steps))]
@@ -72,7 +58,14 @@ pub(crate) fn fresh_block(
     let net = config.net();
     let mut block = Block::empty(alloc, net, program)?;
     for number in 0..switch_count(net) {
-        block.put_switch(number, new_switch(alloc, config)?);
+        let switch = Switch::new(
+            alloc,
+            config.request_places() as usize,
+            config.reply_places() as usize,
+            config.wait_places() as usize,
+        )
+        .map_err(|_| AllocError)?;
+        block.put_switch(number, switch);
     }
     for number in 0..net.size() {
         block.put_module(number, new_module(alloc, config, number)?);

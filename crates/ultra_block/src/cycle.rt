@@ -19,13 +19,8 @@ pub(crate) fn make_cycle(blocks: &mut [Block], config: &Config, partition: &[u8]
     ensures { MakesCycle config.now partition.now done blocks.old blocks.new }
 {
     match blocks {
-        [block] => {
-            if is_small(config.net()) {
-                make_cycle_of_one::<true>(block);
-            } else {
-                make_cycle_of_one::<false>(block);
-            }
-        }
+        [block] if is_small(config.net()) => make_cycle_of_one::<true>(block),
+        [block] => make_cycle_of_one::<false>(block),
         _ => make_cycle_of_several(blocks, config, partition, done),
     }
 }

@@ -1,11 +1,9 @@
 -- the numbers of switches, the machine that the units of a frame make up, place by place, and lists joined by the switches
-use Rattle.std.proofs.Common.{◌≡◌, ℕ, zero, suc, ◌+◌, ◌*◌, ◌-◌, ◌/◌, ◌%◌, ◌^◌, ◌<◌, List, [], refl, arith, ap, ◌∷◌, ◌++◌, sym, append_assoc, append-nil}
-use Rattle.ultra_course.proofs.Common.{sizes, places, table, joined, size, lane_at, replies_at, bank_at, element_at, switch_number, switch_count, element_of, Frame, AreAlike, at_port, Switch, at_switch, Event, Stop, sized_lane, sized_replies, Settings, Lane, ReplyMessage, Element, div-mul-add, mod-mul-add, mul-add-lt}
-use Rattle.std.proofs.lemmas.Grind.{common_steps}
-use Rattle.std.proofs.lemmas.List.{ext_get_or}
-use Rattle.ultra_model.specs.Ranges.{AreInRange}
+use Rattle.std.proofs.Common.{◌≡◌, ℕ, zero, suc, ◌+◌, ◌*◌, ◌-◌, ◌/◌, ◌%◌, ◌^◌, ◌<◌, ◌≤◌, List, [], refl, arith, ap, ◌∷◌, ◌++◌, append_assoc, append-nil}
+use Rattle.ultra_course.proofs.Common.{sizes, places, table, joined, size, lane_at, replies_at, bank_at, element_at, switch_number, switch_count, element_of, Frame, AreAlike, at_port, Switch, at_switch, Event, Stop, sized_lane, sized_replies, AreInRange, Bank, Settings, Lane, ReplyMessage, Element, div-mul-add, mod-mul-add, mul-add-lt}
+use Rattle.std.proofs.lemmas.{Grind.common_steps, List.ext_get_or}
+use Rattle.ultra_course.specs.Whole.{whole}
 use Rattle.ultra_model.proofs.Each.{length-places, places_at, places_more, places_none, table_at}
-use Rattle.ultra_course.specs.{Whole.whole, Frame.Bank}
 
 -- ---- numbers of switches
 pub at_number : {X : Type 0} (d : ℕ) (g : ℕ → ℕ → X) (s k : ℕ) → k < 2 ^ (d - 1) → at_switch d g (switch_number d s k) ≡ g s k
@@ -66,24 +64,17 @@ joined_none g = ap joined (places_none g)
 pub joined_next : {X : Type 0} (g : ℕ → List X) (i n : ℕ) → i ≡ n + 1 → joined (places i g) ≡ joined (places n g) ++ g n
 joined_next g i n e = grind (arith, places_more, joined-append, append-nil)
 
--- n lists, and then k more
-pub joined_split : {X : Type 0} (n k : ℕ) (g : ℕ → List X) → joined (places (n + k) g) ≡ joined (places n g) ++ joined (places k (λ i. g (n + i)))
-joined_split n zero g = grind (arith, append-nil, joined_none)
-joined_split n (suc k) g =
-    grind (arith, append_assoc, joined_split n k g, joined_next g (n + suc k) (n + k) (omega arith), joined_next (λ i. g (n + i)) (suc k) k (omega arith))
-
--- two by two
-in_pairs : {X : Type 0} (g : ℕ → List X) (n : ℕ) → joined (places (2 * n) g) ≡ joined (places n (λ k. g (2 * k) ++ g (2 * k + 1)))
-in_pairs g zero = grind (arith, joined_none)
-in_pairs g (suc n) =
-    grind (arith, append_assoc, in_pairs g n, joined_next g (2 * n + 1) (2 * n) refl, joined_next g (2 * suc n) (2 * n + 1) (omega arith), joined_next (λ k. g (2 * k) ++ g (2 * k + 1)) (suc n) n (omega arith))
-
 module _ {X : Type 0} (d : ℕ) (two : 2 * 2 ^ (d - 1) ≡ 2 ^ d) (g : ℕ → ℕ → List X) where
   abbrev numbered : ℕ → List X
   numbered = at_switch d (λ s k. g s (2 * k) ++ g s (2 * k + 1))
 
+  -- the first n switches of stage r
+  of_stage : (r n : ℕ) → n ≤ 2 ^ (d - 1) → joined (places (r * 2 ^ (d - 1) + n) numbered) ≡ joined (places (r * 2 ^ (d - 1)) numbered) ++ joined (places (2 * n) (g r))
+  of_stage r zero h = grind (arith, append-nil, joined_none)
+  of_stage r (suc n) h =
+      let q = r * 2 ^ (d - 1) + n in
+      grind (arith, append_assoc, of_stage r n, at_number d (λ s k. g s (2 * k) ++ g s (2 * k + 1)) r n, joined_next numbered (suc q) q, joined_next (g r) (2 * n + 1) (2 * n), joined_next (g r) (2 * suc n) (2 * n + 1))
+
   pub regroup : (m : ℕ) → joined (joined (table m (2 ^ d) g)) ≡ joined (places (m * 2 ^ (d - 1)) numbered)
   regroup zero = let none = joined_none numbered in rw (joined_none (λ s. places (2 ^ d) (λ x. g s x))) (grind arith)
-  regroup (suc r) =
-      let here = same_places _ _ _ (λ k hk. sym (at_number d (λ s k. g s (2 * k) ++ g s (2 * k + 1)) r k hk)) in
-      grind (arith, joined-append, regroup r, rw two at (in_pairs (g r) (2 ^ (d - 1))), joined_next (λ s. places (2 ^ d) (g s)) (suc r) r (omega arith), joined_split (r * 2 ^ (d - 1)) (2 ^ (d - 1)) numbered)
+  regroup (suc r) = grind (arith, joined-append, regroup r, rw two at (of_stage r (2 ^ (d - 1)) (omega arith)), joined_next (λ s. places (2 ^ d) (g s)) (suc r) r)

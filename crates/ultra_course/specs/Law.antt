@@ -23,8 +23,7 @@ module _ (d : ℕ) (f : Frame) where
   -- where requests come to a switch there is room; one that comes to a module is for one of its
   -- cells, and finds its register empty
   pub record CanTakeRequests : Type 0 where
-    pub switches :
-        (n : ℕ) → n < switch_count d
+    pub switches : (n : ℕ) → n < switch_count d
         → switch.CanTakeRequests d (n / 2 ^ (d - 1)) (f.switch n) (half.requests_to d f n)
     pub banks : (m : ℕ) → m < 2 ^ d
         → ForSome (half.request_to d f m) (λ r.

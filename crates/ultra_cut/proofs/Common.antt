@@ -1,45 +1,20 @@
 -- The words and lemmas of the crates below and of this one that proofs here use. Those of std's `Common` come from there.
-pub use Rattle.std.proofs.lemmas.Bool.{cases_lt}
-pub use Rattle.std.proofs.lemmas.Bool.Decides.{nat_tests}
-pub use Rattle.std.proofs.lemmas.Grind.{common_steps}
-pub use Rattle.std.proofs.lemmas.List.{append-nil, ext_get_or, get_or-append_right, get_or-map, get_or_append_left, get_or_default, get_or_past, length-map, length-set, set-get_or}
-pub use Rattle.std.proofs.lemmas.List.Elements.{All-from_get_or, All-from_recursion, filter-append}
+pub use Rattle.std.proofs.lemmas.{Bool.Decides.nat_tests, Bool.cases_lt, Grind.common_steps, List.Elements.All-from_get_or, List.Elements.All-from_recursion, List.Elements.filter-append, List.Folds.list_any_at, List.Folds.list_any_more, List.Folds.list_any_none, List.Sums.AllPass-from_list_all, List.Sums.list_all-from_AllPass, List.append-nil, List.ext_get_or, List.get_or-append_right, List.get_or-map, List.get_or_append_left, List.get_or_default, List.get_or_past, List.length-map, List.length-set}
 pub use Rattle.std.specs.List.{AllByRecursion, list_all, list_any, range_with_len}
 pub use Rattle.ultra_course.proofs.AtFrame.{at_number, bank_is, element_is, joined_next, joined_none, lane_is, number_small, replies_is, same_places}
-pub use Rattle.ultra_course.specs.Course.{Event, Instr, Stop, on_links, pending_head}
-pub use Rattle.ultra_course.specs.Frame.{AreAlike, Bank, Frame, IsClear, Ports, ProcessingElement, ReplyMessage, Request, Switch}
-pub use Rattle.ultra_course.specs.Whole.{IsFrameOf, Machine, Settings}
-pub use Rattle.ultra_halves.specs.Elements.{delivered_to, element_of, element_without, executed, quiet_element, step_at}
-pub use Rattle.ultra_halves.specs.Halves.{has_none, ports, where_room}
-pub use Rattle.ultra_halves.specs.Modules.{bank_with, quiet_bank}
-pub use Rattle.ultra_halves.specs.Switches.{after_replies, after_requests, combinations_of, has_reply_room, has_request_room, quiet_switch, replies_leaving, request_heads, requests_leaving, without_replies, without_requests}
+pub use Rattle.ultra_course.specs.{Law.CanTakeReplies, Law.CanTakeRequests, Course.Event, Course.Instr, Course.Stop, Course.on_links, Course.pending_head, Frame.AreAlike, Frame.Bank, Frame.Frame, Frame.IsClear, Frame.Ports, Frame.ProcessingElement, Frame.ReplyMessage, Frame.Request, Frame.Switch, Whole.IsFrameOf, Whole.Machine, Whole.Settings, Whole.sized_lane, Whole.sized_replies}
+pub use Rattle.ultra_halves.specs.{Elements.delivered_to, Elements.element_of, Elements.element_without, Elements.executed, Elements.quiet_element, Elements.step_at, Halves.ports, Halves.where_room, Modules.bank_with, Modules.quiet_bank, Switches.after_replies, Switches.after_requests, Switches.combinations_of, Switches.has_reply_room, Switches.has_request_room, Switches.quiet_switch, Switches.replies_leaving, Switches.request_heads, Switches.requests_leaving, Switches.without_replies, Switches.without_requests}
+pub use Rattle.ultra_isa.specs.Step.{has_stopped}
 pub use Rattle.ultra_mem.specs.Serve.{empty_bank, serve, served}
-pub use Rattle.ultra_model.proofs.Each.{each-append, length-places, places_at}
-pub use Rattle.ultra_model.proofs.Neighbours.{itself, other}
-pub use Rattle.ultra_model.specs.Machine.{Element, bank_at, element_at, is_empty, is_quiet, lane_at, replies_at, size}
-pub use Rattle.ultra_model.specs.Phases.{combinations, delivery, issue_event, serving, stop_of, without_reply}
-pub use Rattle.ultra_model.specs.Places.{present}
-pub use Rattle.ultra_route.proofs.Table.{sizes}
-pub use Rattle.ultra_section.proofs.OfKind.{by_kind, element_stands, module_stands, switch_stands, unit_of_none}
-pub use Rattle.ultra_section.proofs.Put.{has_places, places_of, places_twice, put_apart, put_or, put_there}
-pub use Rattle.ultra_section.proofs.Readers.{AreRead, are_read, each_network, replies_read, replies_to_switch, reply_reader, reply_to_element, request_reader, request_to_module, requests_read, requests_to_switch}
-pub use Rattle.ultra_section.proofs.Standing.{is_switch, unit_is, unit_of_element, unit_of_module, unit_of_switch}
-pub use Rattle.ultra_section.specs.Away.{AllStayWithin, AreEmpty, reply_inlets, request_inlets, stands}
-pub use Rattle.ultra_section.specs.BlockState.{module_at, switch_at}
-pub use Rattle.ultra_section.specs.Holding.{element_holds, holds_at, module_holds, switch_holds}
-pub use Rattle.ultra_section.specs.Marks.{delivery_link, memory_link, on_both, on_link, reply_links, request_links}
-pub use Rattle.ultra_section.specs.Rooms.{AreOwnRooms, HasNoted, all_open}
-pub use Rattle.ultra_section.specs.Sets.{if_here}
-pub use Rattle.ultra_section.specs.Shape.{IsShaped}
-pub use Rattle.ultra_section.specs.Units.{IsUnit, index_of, stage_of, unit_of}
-pub use Rattle.ultra_section.specs.declared.held.Held.{Held}
-pub use Rattle.ultra_section.specs.declared.rooms.Rooms.{Rooms}
+pub use Rattle.ultra_merge.proofs.Merged.{merged_alone, of_rank_none}
+pub use Rattle.ultra_merge.specs.Merging.{of_rank}
+pub use Rattle.ultra_model.proofs.{Each.each-append, Each.length-places, Each.places_at, Neighbours.itself, Neighbours.other, Routes.delivered_well}
+pub use Rattle.ultra_model.specs.{Machine.Element, Machine.bank_at, Machine.element_at, Machine.is_empty, Machine.is_quiet, Machine.lane_at, Machine.replies_at, Machine.size, Phases.combinations, Phases.delivery, Phases.issue_event, Phases.memory_phase, Phases.processor_phase, Phases.reply_phase, Phases.request_phase, Phases.serving, Phases.stop_of, Phases.without_reply, Places.joined, Places.present}
+pub use Rattle.ultra_route.proofs.Table.{all_below_at, sizes}
+pub use Rattle.ultra_section.proofs.{Acts.Act, Acts.Acts, Acts.AllActed, Acts.AreFair, Acts.Seen, Acts.act, Acts.after_act, Acts.all_acted, Acts.end_puts, Acts.event_entries, Acts.list_of, Acts.on_links_after, Acts.on_one, Acts.on_two, Acts.stop_entries, Acts.switch_puts, Few.two_combine, Holding.at_switch, Marks.emptied, Marks.emptied_first, Marks.length-put_on, OfKind.by_kind, OfKind.element_stands, OfKind.module_stands, OfKind.switch_stands, OfKind.unit_of_none, Once.same_visits, OwnProgram.made_by_own, Put.has_places, Put.places_of, Put.places_twice, Put.put_apart, Put.put_or, Put.put_there, Readers.AreRead, Readers.are_read, Readers.each_network, Readers.replies_read, Readers.replies_to_switch, Readers.reply_reader, Readers.reply_to_element, Readers.request_reader, Readers.request_to_module, Readers.requests_read, Readers.requests_to_switch, Standing.is_switch, Standing.unit_is, Standing.unit_of_element, Standing.unit_of_module, Standing.unit_of_switch, Visited.same_entry}
+pub use Rattle.ultra_section.specs.{Away.AllStayWithin, Away.AreEmpty, Away.reply_inlets, Away.request_inlets, Away.stands, BlockState.module_at, BlockState.switch_at, Execution.counted, Execution.executes, Holding.element_holds, Holding.holds_at, Holding.module_holds, Holding.switch_holds, Making.made, Making.own_made, Marks.delivery_link, Marks.memory_link, Marks.on_both, Marks.on_link, Marks.reply_links, Marks.request_links, Quiet.or_elsewhere, Quiet.quiet_block, RepliesSent.begun, RepliesSent.has_way_from_module, RepliesSent.reply_ways, RepliesSent.sends_replies, RepliesTaken.UnitCanTakeReplies, RepliesTaken.takes_replies, RequestsSent.has_way_from_element, RequestsSent.request_ways, RequestsSent.sends_requests, RequestsTaken.UnitCanTakeRequests, RequestsTaken.takes_requests, Rooms.AreOwnRooms, Rooms.HasNoted, Rooms.all_open, Serving.serves, Sets.if_here, Shape.IsShaped, Units.IsUnit, Units.index_of, Units.stage_of, declared.held.Held.Held, declared.rooms.Rooms.Rooms}
 pub use Rattle.ultra_switch.specs.Arrive.{Lane, arrive}
-pub use Rattle.ultra_units.specs.Numbers.{element_number, module_number, place_number, switch_count, switch_number, unit_count}
-pub use Rattle.ultra_units.specs.Set.{has_unit}
-pub use Rattle.ultra_cut.specs.Cut.{BlockState, IsCut, block_at, first, frame_of, given, home, no_block, no_element, no_switch}
-pub use Rattle.ultra_cut.specs.Events.{event_rank, events_of, stop_rank, stops_of}
-pub use Rattle.ultra_cut.specs.Exchange.{AreSingle, AreThere, HasNoneFor, Kind, MessageOf, OnlyMove, Replies, Requests, carried, inlets, message_on, on_each, table, with_table}
-pub use Rattle.ultra_cut.specs.Halves.{AllCanMake, AreBlocks, AreBlocksAfter, AreMerged, AreNamed, AreReady, AreRooms, CanMakeLaw, CanMakeTogether, Execute, Half, HalfLaw, HasHalfRoom, HaveMade, HaveLeft, HaveStopped, InRanks, MergedLaw, OfEach, SendReplies, SendRequests, Serve, TakeReplies, TakeRequests, all_made, all_made_own, cycles_made, events_in, first_rank, frame_after, listed_before, rank_after}
-pub use Rattle.ultra_cut.specs.Holding.{IsSetOfAll, holds, stage_holds}
-pub use Rattle.ultra_cut.specs.Moments.{AreMachine, AreRoomsOfAll, AreWhole, machine_in}
+pub use Rattle.ultra_units.proofs.Set.{none_there}
+pub use Rattle.ultra_units.specs.{Inlets.at_both, Numbers.element_number, Numbers.module_number, Numbers.place_number, Numbers.switch_count, Numbers.switch_number, Numbers.unit_count, Set.has_unit, declared.unit.Unit.Unit}
+pub use Rattle.ultra_cut.specs.{Cut.BlockState, Cut.IsCut, Cut.block_at, Cut.first, Cut.frame_of, Cut.given, Cut.home, Cut.no_block, Cut.no_element, Cut.no_switch, Events.event_rank, Events.stop_rank, Exchange.AreSingle, Exchange.AreThere, Exchange.HasNoneFor, Exchange.Kind, Exchange.MessageOf, Exchange.OnlyMove, Exchange.Replies, Exchange.Requests, Exchange.carried, Exchange.inlets, Exchange.message_on, Exchange.on_each, Exchange.table, Exchange.with_table, Halves.AllCanMake, Halves.AreBlocks, Halves.AreBlocksAfter, Halves.AreMerged, Halves.AreNamed, Halves.AreReady, Halves.AreRooms, Halves.CanMakeLaw, Halves.CanMakeTogether, Halves.Execute, Halves.Half, Halves.HalfLaw, Halves.HasHalfRoom, Halves.HaveLeft, Halves.HaveMade, Halves.HaveStopped, Halves.InRanks, Halves.MergedLaw, Halves.OfEach, Halves.SendReplies, Halves.SendRequests, Halves.Serve, Halves.TakeReplies, Halves.TakeRequests, Halves.all_made, Halves.all_made_own, Halves.cycles_made, Halves.events_in, Halves.first_rank, Halves.frame_after, Halves.listed_before, Halves.rank_after, Holding.IsSetOfAll, Holding.holds, Holding.stage_holds, Moments.AreMachine, Moments.AreRoomsOfAll, Moments.AreWhole, Moments.machine_in}
+unfoldable pub use Rattle.{ultra_course.specs.Whole.whole, ultra_merge.specs.Merging.merged, ultra_model.specs.Phases.cycle, ultra_model.specs.Places.places, ultra_route.proofs.Table.all_below, ultra_section.proofs.Once.entries_before, ultra_cut.specs.Events.events_of, ultra_cut.specs.Events.stops_of}

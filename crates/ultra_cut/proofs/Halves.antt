@@ -3,14 +3,10 @@
 -- taken by switches and the units at its end; else each unit works by itself. What the blocks list is what happens to the
 -- machine. And each block may make a half where the whole machine may, and it has memory for the events.
 use Rattle.std.proofs.Common.{nat_lt, true, false, ◌≡◌, ◌≢◌, ℕ, ◌+◌, ◌<◌, ◌≤◌, List, ◌++◌, map, Option, Some, None, length, arith, ◌-◌, ◌*◌, ◌/◌, ◌^◌, inl, inr, ◌∙◌, [], refl, sym, ap, ◌∷◌, get_or-set_other}
-use Rattle.ultra_cut.proofs.Common.{sizes, unit_of_element, unit_of_module, unit_of_switch, AreNamed, HalfLaw, HaveStopped, AreMerged, events_in, event_rank, stop_rank, length-map, get_or_past, append-nil, cases_lt, switch_count, place_number, unit_count, ports, where_room, IsShaped, stage_of, index_of, unit_of, IsUnit, AreEmpty, is_switch, unit_is, has_places, places_of, places_twice, put_or, on_links, Event, Instr, Stop, pending_head, block_at, frame_of, given, home, first, BlockState, AreBlocks, AreBlocksAfter, cycles_made, listed_before, first_rank, rank_after, Half, all_made, AllCanMake, CanMakeLaw, AreAlike, all_made_own, AreReady, CanMakeTogether, HaveLeft, OfEach, HasHalfRoom, frame_after, Frame, SendReplies, TakeReplies, Serve, SendRequests, TakeRequests, Execute, AreSingle, MessageOf, inlets, message_on, on_each, table, with_table, AreThere, Kind, Replies, Requests, Switch, Ports, serve, served, present, without_reply, delivery, serving, issue_event, stop_of, after_replies, after_requests, replies_leaving, request_heads, requests_leaving, without_replies, without_requests, combinations_of, bank_with, delivered_to, element_without, executed, element_of, step_at, Rooms as BlockRooms, replies_to_switch, reply_reader, reply_to_element, request_reader, request_to_module, requests_to_switch}
-use Rattle.ultra_section.proofs.{Few.two_combine, Few.room_for_half, Once.entries_before, Once.same_visits, OwnProgram.made_by_own, Acts.Act, Acts.Acts, Acts.AllActed, Acts.AreFair, Acts.Seen, Acts.act, Acts.after_act, Acts.all_acted, Acts.end_puts, Acts.event_entries, Acts.on_one, Acts.on_two, Acts.stop_entries, Acts.switch_puts, Acts.on_links_after, Visited.same_entry}
+use Rattle.ultra_cut.proofs.Common.{CanTakeReplies, CanTakeRequests, sizes, unit_of_element, unit_of_module, unit_of_switch, AreNamed, HalfLaw, HaveStopped, AreMerged, events_in, event_rank, stop_rank, length-map, get_or_past, append-nil, cases_lt, switch_count, place_number, unit_count, ports, where_room, IsShaped, stage_of, index_of, IsUnit, AreEmpty, is_switch, unit_is, has_places, places_of, places_twice, put_or, on_links, Event, Instr, Stop, pending_head, block_at, frame_of, given, home, first, BlockState, AreBlocks, AreBlocksAfter, cycles_made, listed_before, first_rank, rank_after, Half, all_made, AllCanMake, CanMakeLaw, AreAlike, all_made_own, AreReady, CanMakeTogether, HaveLeft, OfEach, HasHalfRoom, frame_after, Frame, SendReplies, TakeReplies, Serve, SendRequests, TakeRequests, Execute, AreSingle, MessageOf, inlets, message_on, on_each, table, with_table, AreThere, Kind, Replies, Requests, Switch, Ports, serve, served, present, without_reply, delivery, serving, issue_event, stop_of, after_replies, after_requests, replies_leaving, request_heads, requests_leaving, without_replies, without_requests, combinations_of, bank_with, delivered_to, element_without, executed, element_of, step_at, Rooms as BlockRooms, replies_to_switch, reply_reader, reply_to_element, request_reader, request_to_module, requests_to_switch, two_combine, entries_before, same_visits, made_by_own, Act, Acts, AllActed, AreFair, Seen, act, after_act, all_acted, end_puts, event_entries, on_one, on_two, stop_entries, switch_puts, on_links_after, same_entry, Unit as UnitName, has_way_from_element, request_ways, sends_requests, begun, has_way_from_module, reply_ways, sends_replies, counted, executes, made, own_made, UnitCanTakeReplies, takes_replies, UnitCanTakeRequests, takes_requests, serves, all_open, at_both}
 use Rattle.ultra_cut.proofs.{Columns.changed_at, Columns.column_first, Columns.column_none, Columns.column_empty, Columns.same_entries, Units.few_units, Units.Sort, Units.at_home, Units.away, Units.elements, Units.home_small, Units.modules, Units.switches, Units.here, Moved.by_inlets, Moved.end_link, Moved.end_number, Moved.leads_to, Moved.links, Moved.links_of, Moved.none_among, Moved.none_past, Moved.reader, Moved.end_there, Moved.switch_there, Happenings.combinations_ranked, Happenings.joined_present, Happenings.listed_behind, Happenings.nothing_listed, Happenings.part, Happenings.same_listed, Happenings.units_list_nothing}
 use Rattle.ultra_course.specs.Course as course
-use Rattle.ultra_units.specs.declared.unit.Unit.{Unit as UnitName}
-use Rattle.ultra_section.specs.{RequestsSent.has_way_from_element, RequestsSent.request_ways, RequestsSent.sends_requests, RepliesSent.begun, RepliesSent.has_way_from_module, RepliesSent.reply_ways, RepliesSent.sends_replies, Execution.counted, Execution.executes, Making.made, Making.own_made, RepliesTaken.UnitCanTakeReplies, RepliesTaken.takes_replies, RequestsTaken.UnitCanTakeRequests, RequestsTaken.takes_requests, Serving.serves, Rooms.all_open}
 use Rattle.ultra_units.specs.declared.unit.Unit.TheVariants as unit
-use Rattle.ultra_units.specs.{Inlets.at_both}
 
 -- ---- what units do, and list
 -- its links don't matter
@@ -69,7 +65,6 @@ module _ (d : ℕ) (partition : List ℕ) (bs : List BlockState) (blocks : AreBl
     own = given sort.nothing (sort.at (block_at bs at) i)
 
     pub record ActsAtHome : Type 0 where
-      pub home : at < length bs
       pub unit : given sort.nothing (sort.at (block_at changed at) i) ≡ a.unit i own (on kind a read i (block_at bs at))
       pub links : on kind a read i (change (block_at bs at)) ≡ on_links_after (a.at i) (on kind a read i (block_at bs at)) (a.links i own (on kind a read i (block_at bs at)))
       pub away : (k : ℕ) → k < length bs → k ≢ at → on kind a read i (change (block_at bs k)) ≡ on kind a read i (block_at bs k)
@@ -82,9 +77,6 @@ module _ (d : ℕ) (partition : List ℕ) (bs : List BlockState) (blocks : AreBl
       (without : Switch → Ports (Option (MessageOf kind)) → Switch) (start_without : X → Option (MessageOf kind) → X)
       (switches_act : (i : ℕ) → i < switch_count d → ActsAtHome switches (switch_sends d outs without) on_two i) (starts_act : (i : ℕ) → i < starts.count d → ActsAtHome starts (start_sends d out start_without) on_one i)
       (clear : (l : ℕ) → l < (d + 1) * 2 ^ d → first (on_each kind bs l) ≡ None) where
-    nothing : (k l : ℕ) → k < length bs → l < (d + 1) * 2 ^ d → message_on kind l (block_at bs k) ≡ None
-    nothing k l within small = column_none (message_on kind l) bs (clear l small) k within
-
     abbrev sent_on : ℕ → Option (MessageOf kind)
     sent_on = on_links d (λ i. outs i ((frame_of d partition bs).switch i)) (λ i. out i (given starts.nothing (starts.at (block_at bs (home partition (starts.number d i))) i)))
 
@@ -97,24 +89,13 @@ module _ (d : ℕ) (partition : List ℕ) (bs : List BlockState) (blocks : AreBl
     alone l small_link = elim (cases_lt l (d * 2 ^ d)) [
       | inl h ↦
           let small : l / 2 < switch_count d = omega (arith, places_twice d blocks.some_stages blocks.few_stages) in
-          let it = switches_act (l / 2) small in
-          let place = has_places d (l / 2) _ _ blocks.some_stages blocks.few_stages (is_switch d (l / 2) small) in
-          grind (arith, nothing, changed_at, length-map)
+          grind (arith, home_small switches _ _ _ blocks.cut, has_places d (l / 2) _ _ blocks.some_stages blocks.few_stages (is_switch d (l / 2) small), switches_act (l / 2) small, column_none (message_on kind l) bs (clear l small_link), changed_at, length-map)
       | inr past ↦
-          let small : l - d * 2 ^ d < starts.count d = grind arith in
-          let it = starts_act (l - d * 2 ^ d) small in grind (arith, nothing, changed_at, length-map)
+          grind (arith, home_small starts _ _ _ blocks.cut, starts_act (l - d * 2 ^ d), column_none (message_on kind l) bs (clear l small_link), changed_at, length-map)
     ]
 
     sent : ((l : ℕ) → l < (d + 1) * 2 ^ d → first (on_each kind changed l) ≡ sent_on l) × AreSingle kind changed
-    sent = (
-      λ l h. let it = alone l h in column_first (message_on kind l) changed _ it.within it.away ∙ it.here,
-      record {
-        alone = λ l i j other there. elim (cases_lt l ((d + 1) * 2 ^ d)) [
-          | inl within ↦ let it = alone l within in grind (arith, none_past)
-          | inr past ↦ grind (arith, none_past, get_or_past, links_of)
-        ];
-      },
-    )
+    sent = (λ l h. let it = alone l h in column_first (message_on kind l) changed _ it.within it.away ∙ it.here, record { alone = λ l i j other there. grind (arith, alone l, none_past, get_or_past, links_of) })
 
   -- ---- they are taken
   module _ (there : AreThere kind d partition bs) {X : Type 0} (ends : Sort X) (all : ends.count d ≡ 2 ^ d) (numbers : (i : ℕ) → ends.number d i ≡ end_number kind d i)
@@ -129,8 +110,7 @@ module _ (d : ℕ) (partition : List ℕ) (bs : List BlockState) (blocks : AreBl
     taken : (l : ℕ) → l < (d + 1) * 2 ^ d → first (on_each kind changed l) ≡ None
     taken l h =
         let it = leads_to kind d blocks.some_stages blocks.few_stages l h in
-        let none = λ (k : ℕ) (within : k < length bs). none_among (table kind (change (block_at bs k))) l _ it.among (emptied (reader kind d l) k within (there k (reader kind d l) within it.small)) in
-        column_empty (message_on kind l) changed (grind (arith, changed_at, length-map))
+        column_empty (message_on kind l) changed (grind (arith, changed_at, length-map, (λ (k : ℕ) (within : k < length bs). none_among (table kind (change (block_at bs k))) l _ it.among (emptied (reader kind d l) k within (there k (reader kind d l) within it.small)))))
 
 -- ---- the halves
 -- the messages that a half sends or takes; where it does neither, those of either kind would do
@@ -167,12 +147,6 @@ seen_first half b = seen (kind_of half) b
 abbrev pub after_visits : Half → BlockState → BlockState
 after_visits Execute b = counted b
 after_visits half b = b
-
--- what a unit needs
-abbrev UnitCan : Half → ℕ → BlockState → UnitName → Type 0
-UnitCan TakeReplies i b u = UnitCanTakeReplies i b u
-UnitCan TakeRequests i b u = UnitCanTakeRequests i b u
-UnitCan half i b u = Unit {0}
 
 module _ (d n : ℕ) (rooms : BlockRooms) (program : List Instr) where
   -- what the units do, in cycle n
@@ -238,8 +212,8 @@ module _ (d n : ℕ) (rooms : BlockRooms) (program : List Instr) where
       each half in_cycle i v = rw (shape.stages) (grind (arith, get_or-set_other, same_entry, append-nil))
 
       acted : (half : Half) (after : Seen (MessageOf (kind_of half))) → AllActed d (acts half) (fair half) (seen_first half b) after → AllAct half b (after_visits half (with_seen b half after))
-      acted SendReplies after it = let none = units_list_nothing (event_entries d (acts SendReplies)) 320 (seen Replies (begun b)) (λ i. grind arith) in grind arith
-      acted SendRequests after it = let none = units_list_nothing (event_entries d (acts SendRequests)) 320 (seen Requests b) (λ i. grind arith) in grind (arith, append-nil)
+      acted SendReplies after it = grind (arith, units_list_nothing (event_entries d (acts SendReplies)) 320)
+      acted SendRequests after it = grind (arith, append-nil, units_list_nothing (event_entries d (acts SendRequests)) 320)
       acted half after it = grind arith
 
       half_act : (half : Half) → (half ≡ TakeRequests → b.done ≡ n) → AllAct half b (made half rooms program b)
@@ -262,7 +236,6 @@ module _ (d n : ℕ) (rooms : BlockRooms) (program : List Instr) where
 
       pub record AllActAtHome : Type 0 where
         pub all : AreBlocksAfter d partition half bs after
-        pub links : (k : ℕ) → k < length bs → LinksStay half (block_at bs k) (block_at after k)
         pub switches : AtHome switches (acts half).switch on_two
         pub banks : AtHome modules (acts half).bank on_one
         pub elements : AtHome elements (acts half).element on_one
@@ -274,7 +247,6 @@ module _ (d n : ℕ) (rooms : BlockRooms) (program : List Instr) where
         all_act_at_home : AllActAtHome
         all_act_at_home = record {
           all = grind (arith, length-map, changed_at, each_acts);
-          links = grind (arith, changed_at, each_acts);
           switches = λ i. acts_at_home _ _ _ blocks _ _ switches (acts half).switch _ i (λ k h. (each_acts k h).switches);
           banks = λ i. acts_at_home _ _ _ blocks _ _ modules (acts half).bank _ i (λ k h. (each_acts k h).modules);
           elements = λ i. acts_at_home _ _ _ blocks _ _ elements (acts half).element _ i (λ k h. (each_acts k h).elements);
@@ -284,42 +256,33 @@ module _ (d n : ℕ) (rooms : BlockRooms) (program : List Instr) where
     becomes : (half : Half) → AreReady d partition n program bs half → AreBlocksAfter d partition half bs (after half) × AreAlike d (frame_of d partition (after half)) (frame_after d n rooms program f half) × HaveLeft d partition n program bs (after half) half
     becomes SendReplies clear =
         let it = all_act_at_home SendReplies clear in
-        let links = sent _ _ _ blocks Replies _ it.all.blocks modules refl _ _ without_replies without_reply it.switches it.banks clear in
-        grind (arith, changed_at, same_entries, length-map)
+        grind (arith, changed_at, same_entries, length-map, each_acts SendReplies clear, sent _ _ _ blocks Replies _ it.all.blocks modules refl _ _ without_replies without_reply it.switches it.banks clear)
     becomes TakeReplies there =
         let it = all_act_at_home TakeReplies there in
-        let links = taken _ _ _ blocks Replies _ there elements refl (λ i. refl) _ _ _ _ it.switches it.elements in
-        grind (arith, changed_at, same_entries, length-map, switch_there Replies _ _ _ blocks.cut there, end_there Replies _ _ _ blocks.cut there)
+        grind (arith, changed_at, same_entries, length-map, each_acts TakeReplies there, taken _ _ _ blocks Replies _ there elements refl (λ i. refl) _ _ _ _ it.switches it.elements, switch_there Replies _ _ _ blocks.cut there, end_there Replies _ _ _ blocks.cut there)
     becomes SendRequests clear =
         let it = all_act_at_home SendRequests clear in
-        let links = sent _ _ _ blocks Requests _ it.all.blocks elements refl _ _ without_requests element_without it.switches it.elements clear in
-        grind (arith, changed_at, same_entries, length-map)
+        grind (arith, changed_at, same_entries, length-map, each_acts SendRequests clear, sent _ _ _ blocks Requests _ it.all.blocks elements refl _ _ without_requests element_without it.switches it.elements clear)
     becomes TakeRequests (there, same) =
         let it = all_act_at_home TakeRequests (there, same) in
-        let links = taken _ _ _ blocks Requests _ there modules refl (λ i. refl) _ _ _ _ it.switches it.banks in
-        grind (arith, changed_at, same_entries, length-map, switch_there Requests _ _ _ blocks.cut there, end_there Requests _ _ _ blocks.cut there)
-    becomes half ready =
-        let it = all_act_at_home half ready in grind (arith, changed_at, same_entries, length-map)
+        grind (arith, changed_at, same_entries, length-map, each_acts TakeRequests (there, same), taken _ _ _ blocks Requests _ there modules refl (λ i. refl) _ _ _ _ it.switches it.banks, switch_there Requests _ _ _ blocks.cut there, end_there Requests _ _ _ blocks.cut there)
+    becomes half ready = grind (arith, all_act_at_home half ready, each_acts half ready, changed_at, same_entries, length-map)
 
     -- a unit can make it: it is that of the machine, and what comes to it is there
-    unit_can : (half : Half) → AreReady d partition n program bs half → CanMakeTogether d partition n program bs half → (k : ℕ) → k < length bs → (block_at bs k).stages ≡ d → (i : ℕ) (u : UnitName) → IsUnit d i u → UnitCan half i (block_at bs k) u
-    unit_can TakeReplies there can k within stages i (unit.Switch s x) is = λ w at.
-        let it = here switches _ _ _ blocks.cut i is.within k within w at in grind (arith, switch_there Replies _ _ _ blocks.cut there i is.within, can.switches i is.within)
-    unit_can TakeReplies there can k within stages i (unit.Element p) is = λ e at r on.
-        let it = here elements _ _ _ blocks.cut p is.small k within e at in grind (arith, end_there Replies _ _ _ blocks.cut there p is.small, can.elements p is.small)
-    unit_can TakeRequests (there, same) can k within stages i (unit.Switch s x) is = λ w at.
-        let it = here switches _ _ _ blocks.cut i is.within k within w at in grind (arith, switch_there Requests _ _ _ blocks.cut there i is.within, can.switches i is.within)
-    unit_can TakeRequests (there, same) can k within stages i (unit.Module m) is = λ x at r on.
-        let it = here modules _ _ _ blocks.cut m is.small k within x at in grind (arith, end_there Requests _ _ _ blocks.cut there m is.small, can.banks m is.small r)
-    unit_can half ready can k within stages i u is = tt
+    takes_replies_there : AreThere Replies d partition bs → CanTakeReplies d f → (k : ℕ) → k < length bs → (block_at bs k).stages ≡ d → (i : ℕ) (u : UnitName) → IsUnit d i u → UnitCanTakeReplies i (block_at bs k) u
+    takes_replies_there there can k within stages i (unit.Switch s x) is = λ w at. grind (arith, here switches _ _ _ blocks.cut i is.within k within w at, switch_there Replies _ _ _ blocks.cut there i is.within, can.switches i is.within)
+    takes_replies_there there can k within stages i (unit.Element p) is = λ e at r on. grind (arith, here elements _ _ _ blocks.cut p is.small k within e at, end_there Replies _ _ _ blocks.cut there p is.small, can.elements p is.small)
+    takes_replies_there there can k within stages i u is = tt
+
+    takes_requests_there : AreThere Requests d partition bs → CanTakeRequests d f → (k : ℕ) → k < length bs → (block_at bs k).stages ≡ d → (i : ℕ) (u : UnitName) → IsUnit d i u → UnitCanTakeRequests i (block_at bs k) u
+    takes_requests_there there can k within stages i (unit.Switch s x) is = λ w at. grind (arith, here switches _ _ _ blocks.cut i is.within k within w at, switch_there Requests _ _ _ blocks.cut there i is.within, can.switches i is.within)
+    takes_requests_there there can k within stages i (unit.Module m) is = λ x at r on. grind (arith, here modules _ _ _ blocks.cut m is.small k within x at, end_there Requests _ _ _ blocks.cut there m is.small, can.banks m is.small r)
+    takes_requests_there there can k within stages i u is = tt
 
     can_make : (half : Half) → AreReady d partition n program bs half → CanMakeTogether d partition n program bs half → OfEach HasHalfRoom bs → AllCanMake program half bs
-    can_make SendReplies ready can room = λ k within. tt
-    can_make SendRequests ready can room = λ k within. tt
-    can_make Serve ready can room = λ k within i before. room_for_half (block_at bs k) (room k within) i
-    can_make Execute ready can room = grind (arith, unit_is, here elements _ _ _ blocks.cut, blocks.cut.stages, room)
-    can_make half ready can room = λ k within i before.
-        let stages = blocks.cut.stages k within in let unit = unit_can half ready can k within stages i (unit_of d i) (unit_is d i) in grind (arith, room)
+    can_make TakeReplies there can room = grind (arith, unit_is, takes_replies_there there can, blocks.cut.stages, room)
+    can_make TakeRequests (there, same) can room = grind (arith, unit_is, takes_requests_there there can, blocks.cut.stages, room)
+    can_make half ready can room = grind (arith, unit_is, here elements _ _ _ blocks.cut, blocks.cut.stages, room)
 
     -- ---- what the blocks list in it
     few : unit_count d < 321
@@ -349,8 +312,7 @@ module _ (d n : ℕ) (rooms : BlockRooms) (program : List Instr) where
     events_after : (half : Half) → AreReady d partition n program bs half → AreNamed d partition n program bs half → (so_far : List Event) → AreMerged (event_rank d) 0 (first_rank half) (λ b. listed_before half b.events) bs so_far
         → AreMerged (event_rank d) 0 (rank_after half) (λ b. b.events) (after half) (so_far ++ events_in d n rooms program f half)
     events_after half ready named so_far was =
-        listed_behind _ _ _ _ (omega arith) (grind arith) _ _ (length-map _ _) _ _ _
-        (λ k h. let acts = each_acts half ready k h in grind (arith, changed_at)) _ _ was (listed half ready named)
+        listed_behind _ _ _ _ (omega arith) (grind arith) _ _ (length-map _ _) _ _ _ (grind (arith, changed_at, each_acts half ready)) _ _ was (listed half ready named)
 
     stops_after : (half : Half) → AreReady d partition n program bs half → OfEach (λ b. listed_before half b.stops ≡ []) bs → HaveStopped d partition n program bs (after half) half
     unfolding course.stops
@@ -358,13 +320,11 @@ module _ (d n : ℕ) (rooms : BlockRooms) (program : List Instr) where
         same_listed _ _ _ _ _ (stops_by Execute) _ _ (length-map _ _) (λ k h. let acts = each_acts Execute ready k h in grind (arith, changed_at, none))
         (rw (← joined_present) (part _ _ _ blocks stop_rank 0 0 (omega arith) elements (on Replies (acts Execute).element on_one) (acts Execute).element.stops _ 64 (let narrow = (sizes d blocks.some_stages blocks.few_stages).1 in omega arith)
         (λ p small. (refl, grind arith)) (grind (arith, few, unit_of_element))))
-    stops_after half ready none =
-        let no_more = λ (k : ℕ). units_list_nothing (stop_entries d (acts half)) 320 (seen_first half (block_at bs k)) (λ i. grind arith) in grind (arith, each_acts half ready, changed_at, no_more, none, length-map)
+    stops_after half ready none = grind (arith, each_acts half ready, changed_at, units_list_nothing (stop_entries d (acts half)) 320, none, length-map)
 
 pub half_law : HalfLaw
 half_law d n partition half rooms program bs blocks ready =
-    let it = becomes d n rooms program partition bs blocks half ready in
-    record { blocks = it.0; frame = it.1; left = it.2; events = events_after d n rooms program partition bs blocks half ready; stops = stops_after d n rooms program partition bs blocks half ready }
+    grind (arith, becomes d n rooms program partition bs blocks half ready, events_after d n rooms program partition bs blocks half ready, stops_after d n rooms program partition bs blocks half ready)
 
 pub can_make_law : CanMakeLaw
 can_make_law d n partition half program bs blocks = can_make d n all_open program partition bs blocks half

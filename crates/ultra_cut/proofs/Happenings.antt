@@ -1,13 +1,8 @@
 -- What blocks list, merged by rank. First, lists joined, one for each place, and what several blocks list. Then, what the units
 -- of a sort list in all blocks is what they list in the whole machine, and each block lists it in the order of the ranks.
 use Rattle.std.proofs.Common.{◌≡◌, ◌≢◌, ℕ, zero, suc, ◌+◌, ◌<◌, List, [], ◌∷◌, ◌++◌, map, Option, length, length-append, refl, sym, ◌∙◌, ap, inl, inr, arith, ◌≤◌, ◌-◌, ◌/◌, min, append-nil}
-use Rattle.ultra_cut.proofs.Common.{cases_lt, get_or-append_right, get_or_append_left, All-from_recursion, filter-append, AllByRecursion, range_with_len, present, each-append, same_places, joined_next, joined_none, block_at, BlockState, given, home, AreMerged, InRanks, AreBlocks, MergedLaw, Lane, arrive, combinations, switch_number, combinations_of, Request, Ports, Switch, event_rank, stop_rank}
-use Rattle.ultra_model.specs.Places.{places, joined}
-use Rattle.ultra_merge.specs.Merging.{merged, of_rank}
-use Rattle.ultra_merge.proofs.Merged.{merged_alone, of_rank_none}
-use Rattle.ultra_cut.specs.{Events.events_of, Events.stops_of}
+use Rattle.ultra_cut.proofs.Common.{cases_lt, get_or-append_right, get_or_append_left, All-from_recursion, filter-append, AllByRecursion, range_with_len, present, each-append, same_places, joined_next, joined_none, block_at, BlockState, given, home, AreMerged, InRanks, AreBlocks, MergedLaw, Lane, arrive, combinations, switch_number, combinations_of, Request, Ports, Switch, event_rank, stop_rank, places, joined, merged, of_rank, merged_alone, of_rank_none, events_of, stops_of, list_of, entries_before}
 use Rattle.ultra_cut.proofs.{Columns.same_entries, Units.Sort, Units.at_home, Units.away, Units.home_small}
-use Rattle.ultra_section.proofs.{Acts.list_of, Once.entries_before}
 
 -- what units list, one after another, where only n of them behind others list anything
 listed_by_sort : {T E : Type 0} (listed : ℕ → T → List E) (t : T) (before n : ℕ) (g : ℕ → List E) → ((i : ℕ) → i < before → listed i t ≡ []) → ((i : ℕ) → before + n ≤ i → listed i t ≡ [])
@@ -37,10 +32,8 @@ none_listed f (b ∷ bs) none = let rest = none_listed f bs (λ k h. none (suc k
 -- block h alone lists something
 pub joined_home : {X : Type 0} (f : BlockState → List X) (bs : List BlockState) (h : ℕ) → h < length bs → ((k : ℕ) → k < length bs → k ≢ h → f (block_at bs k) ≡ []) → joined (map f bs) ≡ f (block_at bs h)
 joined_home f [] h within away = absurd (omega arith)
-joined_home f (b ∷ bs) zero within away = let rest = none_listed f bs (λ k l. away (suc k) (omega arith) (λ e. absurd (omega arith))) in grind (arith, append-nil)
-joined_home f (b ∷ bs) (suc h) within away =
-    let here = away zero (omega arith) (λ e. absurd (omega arith)) in
-    let rest = joined_home f bs h (omega arith) (λ k l other. away (suc k) (omega arith) (λ e. other (omega arith))) in grind arith
+joined_home f (b ∷ bs) zero within away = grind (arith, append-nil, none_listed f bs, λ (k : ℕ). away (suc k))
+joined_home f (b ∷ bs) (suc h) within away = grind (arith, away zero, joined_home f bs h (omega arith) (λ k l other. away (suc k) (omega arith) (λ e. other (omega arith))))
 
 -- ---- lists by rank
 module _ {X : Type 0} (rank : X → ℕ) where
@@ -83,8 +76,7 @@ module _ {X : Type 0} (rank : X → ℕ) where
   pub same_listed : (low high : ℕ) (old now : List BlockState) (f h : BlockState → List X) (all : List X) → length now ≡ length old → ((k : ℕ) → k < length old → h (block_at now k) ≡ f (block_at old k))
       → AreMerged rank low high f old all → AreMerged rank low high h now all
   same_listed low high old now f h all count same was =
-      let lists = same_entries f h old now count same in
-      record { each = λ k within. rw (same k (omega arith)) (was.each k (omega arith)); whole = was.whole; same = rw lists was.same }
+      record { each = λ k within. rw (same k (omega arith)) (was.each k (omega arith)); whole = was.whole; same = rw (same_entries f h old now count same) was.same }
 
   -- none lists anything
   pub nothing_listed : (low high : ℕ) (f : BlockState → List X) (bs : List BlockState) → ((k : ℕ) → k < length bs → f (block_at bs k) ≡ []) → AreMerged rank low high f bs []
@@ -134,11 +126,9 @@ module _ (d : ℕ) (partition : List ℕ) (bs : List BlockState) (blocks : AreBl
     first_listed are (suc m) high h to =
         let small : m < sort.count d = omega arith in
         let is = are m small in
-        let here : of_unit m (block_at bs (at m)) ≡ g m = ap (λ o. list_of list m (o, on m (block_at bs (at m)))) (at_home sort _ _ _ blocks.cut m small) ∙ is.0 in
-        let elsewhere = λ (k : ℕ) (within : k < length bs) (other : k ≢ at m). ap (λ o. list_of list m (o, on m (block_at bs k))) (away sort _ _ _ blocks.cut m small k within other) in
-        let ranked = All-from_recursion (λ x. rank x ≡ base + m) (g m) is.1 in
+        let elsewhere : (k : ℕ) → k < length bs → k ≢ at m → of_unit m (block_at bs k) ≡ [] = grind (arith, away sort _ _ _ blocks.cut m small) in
         let alone = joined_home (of_unit m) bs (at m) (home_small sort _ _ _ blocks.cut m small) elsewhere in
-        let last : AreMerged rank (base + m) high (of_unit m) bs (g m) = grind arith in
+        let last : AreMerged rank (base + m) high (of_unit m) bs (g m) = grind (arith, at_home sort _ _ _ blocks.cut m small, All-from_recursion (λ x. rank x ≡ base + m) (g m) is.1) in
         rw (joined_next g (suc m) m (omega arith))
         (listed_behind _ _ _ _ (omega arith) (omega arith) _ _ refl _ _ _
         (λ k l. joined_next _ (suc m) m (omega arith)) _ _ (first_listed are m (base + m) (omega arith) (omega arith)) last)

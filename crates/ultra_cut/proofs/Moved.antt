@@ -2,10 +2,8 @@
 -- messages of each kind. Where each message is in the block to which it leads, what comes to a unit is what its block has
 -- for it. Messages that lead from one block to a unit in another go there, and nothing else changes.
 use Rattle.std.proofs.Common.{◌≡◌, ◌≢◌, ℕ, ◌+◌, ◌-◌, ◌*◌, ◌^◌, ◌<◌, ◌≤◌, Bool, true, false, List, Option, Some, None, length, refl, sym, ap, subst, arith, map, ◌∙◌, get_or-set_same, get_or-set_other, ◌&&◌, ◌||◌, ◌==◌, nat_lt, ◌⊎◌, get_or}
-use Rattle.ultra_cut.proofs.Common.{nat_tests, get_or_default, get_or_past, length-set, switch_count, unit_count, module_number, element_number, ports, stage_of, index_of, delivery_link, memory_link, reply_links, request_links, on_both, on_link, AllStayWithin, AreEmpty, reply_inlets, request_inlets, IsShaped, AreRead, are_read, each_network, replies_read, reply_reader, request_reader, requests_read, unit_is, put_apart, put_or, put_there, AreAlike, Frame, Ports, IsCut, block_at, no_block, first, home, frame_of, BlockState, AreThere, MessageOf, inlets, message_on, on_each, table, with_table, AreSingle, HasNoneFor, OnlyMove, carried, Kind, Replies, Requests, AreBlocks, other}
-use Rattle.ultra_route.proofs.Table.{all_below, all_below_at}
-use Rattle.ultra_section.proofs.Marks.{emptied, emptied_first, length-put_on}
-use Rattle.ultra_cut.proofs.Columns.{column_first, same_entries}
+use Rattle.ultra_cut.proofs.Common.{nat_tests, get_or_default, get_or_past, length-set, switch_count, unit_count, module_number, element_number, ports, stage_of, index_of, delivery_link, memory_link, reply_links, request_links, on_both, on_link, AllStayWithin, AreEmpty, reply_inlets, request_inlets, IsShaped, AreRead, are_read, each_network, replies_read, reply_reader, request_reader, requests_read, unit_is, put_apart, put_or, put_there, AreAlike, Frame, Ports, IsCut, block_at, no_block, first, home, frame_of, BlockState, AreThere, MessageOf, inlets, message_on, on_each, table, with_table, AreSingle, HasNoneFor, OnlyMove, carried, Kind, Replies, Requests, AreBlocks, other, all_below, all_below_at, emptied, emptied_first, length-put_on}
+use Rattle.ultra_cut.proofs.{Columns.column_first, Columns.same_entries}
 
 -- ---- a block with something else on its links
 pub table_with : (kind : Kind) (t : List (Option (MessageOf kind))) (b : BlockState) → table kind (with_table kind t b) ≡ t
@@ -62,9 +60,7 @@ all_lead Replies = refl
 all_lead Requests = refl
 
 pub leads_to : (kind : Kind) (d : ℕ) → 1 ≤ d → d ≤ 6 → (l : ℕ) → l < (d + 1) * 2 ^ d → record { small : reader kind d l < unit_count d; among : is_among l (inlets kind d (reader kind d l)) ≡ true }
-leads_to kind d low high l h =
-    let it = all_below_at (leads kind d) _ (each_network (λ d. all_below (leads kind d) ((d + 1) * 2 ^ d)) (all_lead kind) d low high) l h in
-    grind (arith, nat_tests)
+leads_to kind d low high l h = grind (arith, nat_tests, all_below_at (leads kind d) _ (each_network (λ d. all_below (leads kind d) ((d + 1) * 2 ^ d)) (all_lead kind) d low high) l h)
 
 -- where nothing is on the inlets of a unit, nothing is on this one
 pub none_among : {M : Type 0} (t : List (Option M)) (l : ℕ) (o : Option (Ports ℕ)) → is_among l o ≡ true → AreEmpty t o → on_link t l ≡ None
@@ -81,9 +77,7 @@ module _ (kind : Kind) (d : ℕ) (partition : List ℕ) (bs : List BlockState) (
   -- what comes to unit n is in its block
   module _ (n : ℕ) (h : n < unit_count d) (p : Ports ℕ) (is : inlets kind d n ≡ Some p) where
     come : ports (first (on_each kind bs p.zero)) (first (on_each kind bs p.one)) ≡ on_both (table kind (block_at bs (home partition n))) p
-    come =
-        let none = λ (k : ℕ) (within : k < length bs) (other : home partition n ≢ k). subst (λ o. AreEmpty (table kind (block_at bs k)) o) is (there k n within h other) in
-        grind (arith, column_first)
+    come = grind (arith, column_first, (λ (k : ℕ) (within : k < length bs) (other : home partition n ≢ k). subst (λ o. AreEmpty (table kind (block_at bs k)) o) is (there k n within h other)))
 
   pub switch_there : (n : ℕ) → n < switch_count d → ports (first (on_each kind bs (links kind d n).zero)) (first (on_each kind bs (links kind d n).one)) ≡ on_both (table kind (block_at bs (home partition n))) (links kind d n)
   switch_there n h = come n (omega arith) (links kind d n) (grind arith)
@@ -143,32 +137,20 @@ module _ (kind : Kind) where
     kept_at : (j m : ℕ) (o : Option (Ports ℕ)) → inlets kind d m ≡ o → home partition m ≢ j → AreEmpty (table kind (block_at bs j)) o → AreEmpty (table kind (block_at after j)) o
     kept_at j m None leads elsewhere none = tt
     kept_at j m (Some q) leads elsewhere none =
-        let own = lead_here kind d low high n p is in
-        let other = lead_here kind d low high m q leads in
-        let still = λ (l : ℕ) (to : reader kind d l ≡ m) (empty : message_on kind l (block_at bs j) ≡ None). none_after (message_on kind l) k h bs after (leaving l) (goes l) j empty (λ here. grind (arith, nat_tests)) in
-        grind arith
+        let still = λ (l : ℕ) (to : reader kind d l ≡ m) (empty : message_on kind l (block_at bs j) ≡ None). none_after (message_on kind l) k h bs after (leaving l) (goes l) j empty (λ here. grind (arith, nat_tests, lead_here kind d low high n p is)) in
+        grind (arith, lead_here kind d low high m q leads)
 
     pub carried_moved : AreSingle kind bs → (now : List BlockState) → now ≡ after
-        → OnlyMove kind bs now × HasNoneFor kind d partition now k n × ((j m : ℕ) → HasNoneFor kind d partition bs j m → HasNoneFor kind d partition now j m)
+        → record { only : OnlyMove kind bs now; gone : n < length partition → HasNoneFor kind d partition now k n; kept : (j m : ℕ) → HasNoneFor kind d partition bs j m → HasNoneFor kind d partition now j m }
     carried_moved single now same =
         let count : length after ≡ length bs = grind (arith, length-set) in
-        rw same (
-          record {
-            count = count;
-            rest = grind (arith, table_with, with_own, length-set, get_or-set_same, get_or-set_other);
-            lengths = grind (arith, table_with, length-put_on, length-set, get_or-set_same, get_or-set_other);
-            links = λ l. first_after _ _ _ _ _ count apart k_within h_within (single.alone l) _ (goes l);
-            single = record { alone = λ l. single_after _ _ _ _ _ count apart k_within h_within (single.alone l) _ (goes l) };
-          },
-          (let zero = goes p.zero in let one = goes p.one in grind (arith, nat_tests)),
-          grind (arith, kept_at),
-        )
-
--- what a block has for units elsewhere is gone up to a number, if nothing leaves it from where it was gone
-pub gone_until : (kind : Kind) (d : ℕ) (partition : List ℕ) (bs : List BlockState) (k from to : ℕ) (x : BlockState) → IsCut d partition bs → k < length bs → (let b = get_or bs k x in AllStayWithin (table kind b) (inlets kind b.stages) b from to)
-    → ((n : ℕ) → n < from → n < unit_count d → HasNoneFor kind d partition bs k n) → (n : ℕ) → n < to → n < unit_count d → HasNoneFor kind d partition bs k n
-gone_until kind d partition bs k from to x cut within none gone n before unit elsewhere =
-    let same = get_or_default bs k x no_block within in grind (arith, other)
+        let first_stays = λ (l : ℕ). first_after _ _ _ _ _ count apart k_within h_within (single.alone l) _ (goes l) in
+        let stays_single = λ (l : ℕ). single_after _ _ _ _ _ count apart k_within h_within (single.alone l) _ (goes l) in
+        rw same record {
+          only = grind (arith, table_with, with_own, length-put_on, length-set, get_or-set_same, get_or-set_other);
+          gone = λ small. grind (arith, nat_tests, goes p.zero, goes p.one);
+          kept = grind (arith, kept_at);
+        }
 
 -- ---- what an exchange leaves as it was
 module _ (d : ℕ) (partition : List ℕ) (bs now : List BlockState) where
@@ -185,3 +167,10 @@ module _ (d : ℕ) (partition : List ℕ) (bs now : List BlockState) where
       let links : (l : ℕ) → (frame_of d partition now).replies l ≡ (frame_of d partition bs).replies l = only.links in grind (arith, same_entries)
   alike Requests g only was =
       let links : (l : ℕ) → (frame_of d partition now).requests l ≡ (frame_of d partition bs).requests l = only.links in grind (arith, same_entries)
+
+-- what a block has for units elsewhere is gone up to a number, if nothing leaves it from where it was gone
+pub gone_until : (kind : Kind) (d : ℕ) (partition : List ℕ) (old bs : List BlockState) (k from to : ℕ) (x : BlockState) → OnlyMove kind old bs → IsCut d partition old → k < length old
+    → (let b = get_or bs k x in AllStayWithin (table kind b) (inlets kind b.stages) b from to) → ((n : ℕ) → n < from → n < unit_count d → HasNoneFor kind d partition bs k n)
+    → (n : ℕ) → n < to → n < unit_count d → HasNoneFor kind d partition bs k n
+gone_until kind d partition old bs k from to x only cut within none gone n before unit elsewhere =
+    let now_cut = still_cut d partition old bs kind only cut in grind (arith, other, get_or_default bs k x no_block)

@@ -1,8 +1,7 @@
 -- What is empty where a unit of a machine holds nothing, for those who skip it.
 use Rattle.std.proofs.Common.{◌≡◌, ℕ, ◌+◌, ◌*◌, ◌-◌, ◌^◌, ◌<◌, [], false, None, ◌∙◌, arith}
-use Rattle.ultra_cut.proofs.Common.{common_steps, lane_at, replies_at, bank_at, element_at, switch_number, module_number, element_number, Held, at_number, number_small, holds, stage_holds, Machine}
+use Rattle.ultra_cut.proofs.Common.{common_steps, lane_at, replies_at, bank_at, element_at, switch_number, module_number, element_number, Held, at_number, number_small, holds, stage_holds, Machine, at_switch}
 use Rattle.ultra_section.specs.declared.held.Held.TheVariants.{Reply, Request, Record}
-use Rattle.ultra_section.proofs.Holding.{at_switch}
 
 module _ (d : ℕ) (m : Machine) where
   -- ---- switch k of stage s

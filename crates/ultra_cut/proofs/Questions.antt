@@ -1,24 +1,17 @@
 -- What is asked of all blocks: where there is no room, which units hold something, and whether anything is left to do. What
 -- they answer is true of the whole machine that they make up.
 use Rattle.std.proofs.Common.{◌≡◌, ℕ, ◌+◌, ◌^◌, ◌<◌, List, Bool, length, arith, [], ◌∷◌, refl, ◌*◌, ◌/◌, ◌≤◌, true, false, get_or, None, take, ap, ◌∙◌, ◌&&◌, is_some, not, ◌==◌, take_all}
-use Rattle.ultra_cut.proofs.Common.{list_all, list_any, All-from_get_or, get_or_default, itself, sizes, Lane, Element, size, is_empty, is_quiet, places_at, length-places, has_unit, switch_count, module_number, has_reply_room, has_request_room, quiet_switch, quiet_bank, element_of, quiet_element, if_here, switch_at, module_at, HasNoted, AreOwnRooms, Rooms, Held, holds_at, switch_holds, module_holds, element_holds, is_switch, unit_of_module, unit_of_element, by_kind, unit_of_none, index_of, stage_of, Frame, ReplyMessage, Settings, number_small, lane_is, replies_is, bank_is, element_is, block_at, frame_of, home, no_block, BlockState, AreRooms, AreBlocks, OfEach, AreRoomsOfAll, holds, IsSetOfAll, Event, Stop}
-use Rattle.std.proofs.lemmas.List.{Folds.list_any_more, Folds.list_any_at, Folds.list_any_none, Sums.AllPass-from_list_all, Sums.list_all-from_AllPass}
-use Rattle.ultra_isa.specs.Step.{has_stopped}
-use Rattle.ultra_model.specs.Places.{table, places}
-use Rattle.ultra_units.proofs.Set.{none_there}
-use Rattle.ultra_section.specs.Quiet.{or_elsewhere, quiet_block}
-use Rattle.ultra_course.specs.Whole.{whole, sized_lane, sized_replies}
-use Rattle.ultra_cut.proofs.Units.{home_small, if_home, modules, switches, elements, Sort, at_home, here, unit}
+use Rattle.ultra_cut.proofs.Common.{list_all, list_any, All-from_get_or, get_or_default, itself, sizes, Lane, Element, size, is_empty, is_quiet, places_at, length-places, has_unit, switch_count, module_number, has_reply_room, has_request_room, quiet_switch, quiet_bank, element_of, quiet_element, if_here, switch_at, module_at, HasNoted, AreOwnRooms, Rooms, Held, holds_at, switch_holds, module_holds, element_holds, is_switch, unit_of_module, unit_of_element, by_kind, unit_of_none, index_of, stage_of, Frame, ReplyMessage, Settings, number_small, lane_is, replies_is, bank_is, element_is, block_at, frame_of, home, no_block, BlockState, AreRooms, AreBlocks, OfEach, AreRoomsOfAll, holds, IsSetOfAll, Event, Stop, list_any_more, list_any_at, list_any_none, AllPass-from_list_all, list_all-from_AllPass, has_stopped, places, none_there, or_elsewhere, quiet_block, whole, sized_lane, sized_replies}
+use Rattle.ultra_model.specs.Places.{table}
+use Rattle.ultra_cut.proofs.{Units.home_small, Units.if_home, Units.modules, Units.switches, Units.elements, Units.Sort, Units.at_home, Units.here, Units.unit}
 
 -- ---- of one block after another
-
 -- one block alone may pass a test, and it does if q is true
 any_home : (p : BlockState → Bool) (q : Bool) (h : ℕ) (bs : List BlockState) → ((k : ℕ) → k < length bs → p (block_at bs k) ≡ ((h == k) && q)) → (q ≡ true → h < length bs) → list_any p bs ≡ q
 any_home p false h bs is within = list_any_none p bs (All-from_get_or (λ b. p b ≡ false) bs no_block (grind arith))
 any_home p true h bs is within = list_any_at p bs h no_block (within refl) (grind (arith, itself, within))
 
 -- ---- rooms: a unit is noted by the block in which it stands
-
 -- what some blocks of a machine of d stages have noted
 pub record HaveNoted (d : ℕ) (bs : List BlockState) (rooms : Rooms) : Type 0 where
   pub replies : (n : ℕ) → n < switch_count d → has_unit rooms.no_reply_room n ≡ list_any (λ b. if_here (λ w. not (has_reply_room w)) (switch_at b.switches n)) bs
@@ -29,10 +22,7 @@ pub record HaveNoted (d : ℕ) (bs : List BlockState) (rooms : Rooms) : Type 0 w
 -- one block more
 pub next_noted : (d : ℕ) (bs : List BlockState) (i : ℕ) (b : BlockState) (old now : Rooms) → OfEach (λ b. b.stages ≡ d) bs → i < length bs → b ≡ get_or bs i b → HasNoted b old now → HaveNoted d (take i bs) old → HaveNoted d (take (i + 1) bs) now
 next_noted d bs i b old now stages within is noted before =
-    let same = get_or_default bs i b no_block within in
-    let here = stages i within in
-    let more = λ (p : BlockState → Bool). list_any_more p bs i b within in
-    grind arith
+    let more = λ (p : BlockState → Bool). list_any_more p bs i b within in grind (arith, get_or_default bs i b no_block within, stages i within)
 
 module _ (d : ℕ) (partition : List ℕ) (bs : List BlockState) (are : AreBlocks d partition bs) where
   -- a unit of the machine passes a test where its block notes it
@@ -41,18 +31,13 @@ module _ (d : ℕ) (partition : List ℕ) (bs : List BlockState) (are : AreBlock
 
   pub rooms_are : (rooms : Rooms) → HaveNoted d bs rooms → AreRooms d (frame_of d partition bs) rooms
   rooms_are rooms have =
-      let replies = any_passes switches (λ w. not (has_reply_room w)) in
-      let zero_port = any_passes switches (λ w. not (has_request_room w).zero) in
-      let one_port = any_passes switches (λ w. not (has_request_room w).one) in
-      let banks = any_passes modules (λ bank. is_some bank.inp) in
-      grind arith
+      let switches_pass = any_passes switches in grind (arith, switches_pass (λ w. not (has_reply_room w)), switches_pass (λ w. not (has_request_room w).zero), switches_pass (λ w. not (has_request_room w).one), any_passes modules (λ bank. is_some bank.inp))
 
 -- in a machine that stands in one block its own rooms are all there are
 pub own_are_all : (b : BlockState) (rooms : Rooms) → AreOwnRooms b rooms → AreRoomsOfAll (b ∷ []) rooms
 own_are_all b rooms own = λ d partition are. rooms_are d partition (b ∷ []) are rooms (let nowhere = none_there 5 in let stages = are.cut.stages 0 in grind arith)
 
 -- ---- which units hold something, as blocks say it one after another
-
 module _ (c : Settings) (partition : List ℕ) (bs : List BlockState) (are : AreBlocks c.stages partition bs) (n : ℕ) (events : List Event) (stops : List Stop) (held : Held) where
   abbrev whole_holds : ℕ → Bool
   whole_holds u = holds c.stages (whole c (frame_of c.stages partition bs) n events stops) held u
@@ -60,12 +45,11 @@ module _ (c : Settings) (partition : List ℕ) (bs : List BlockState) (are : Are
   -- block i holds what its own units do
   holds_here : (u i : ℕ) → i < length bs → holds_at (block_at bs i) held u ≡ ((home partition u == i) && whole_holds u)
   holds_here u i within =
-      let stages = are.cut.stages i within in
       by_kind c.stages (λ u. holds_at (block_at bs i) held u ≡ ((home partition u == i) && whole_holds u))
-      (λ u h. let mine = if_home switches _ _ _ are.cut u h (switch_holds held) i within in let two = sizes c.stages are.some_stages are.few_stages in grind (arith, is_switch, replies_is, lane_is))
-      (λ j h. let mine = if_home modules _ _ _ are.cut j h (module_holds held) i within in grind (arith, unit_of_module, bank_is))
-      (λ p h. let mine = if_home elements _ _ _ are.cut p h (element_holds held) i within in grind (arith, unit_of_element, element_is))
-      (grind (arith, unit_of_none)) u
+      (λ u h. grind (arith, if_home switches _ _ _ are.cut u h (switch_holds held) i within, are.cut.stages i within, sizes c.stages are.some_stages are.few_stages, is_switch, replies_is, lane_is))
+      (λ j h. grind (arith, if_home modules _ _ _ are.cut j h (module_holds held) i within, are.cut.stages i within, unit_of_module, bank_is))
+      (λ p h. grind (arith, if_home elements _ _ _ are.cut p h (element_holds held) i within, are.cut.stages i within, unit_of_element, element_is))
+      (grind (arith, are.cut.stages i within, unit_of_none)) u
 
 pub held_by_all : (bs : List BlockState) (held : Held) (set : List ℕ) (i : ℕ) → length bs ≤ i → ((u : ℕ) → has_unit set u ≡ list_any (λ b. holds_at b held u) (take i bs)) → IsSetOfAll bs held set
 held_by_all bs held set i all are c partition n events stops blocks u =
@@ -73,8 +57,7 @@ held_by_all bs held set i all are c partition n events stops blocks u =
     ∙ any_home _ _ _ bs (holds_here c partition bs blocks n events stops held u) (λ h. grind (arith, unit_of_none, blocks.cut.homes))
 
 -- ---- a machine is quiet where each of its units is, and so where each of its blocks is
-
--- ---- of each element of a list
+-- what is true of each element of a list
 all_if : {X : Type 0} (t : X → Bool) (d : X) (xs : List X) → ((i : ℕ) → i < length xs → t (get_or xs i d) ≡ true) → list_all t xs ≡ true
 all_if t d xs h = list_all-from_AllPass t xs (All-from_get_or (λ x. t x ≡ true) xs d h)
 
@@ -104,32 +87,24 @@ module _ (c : Settings) (low : 1 ≤ c.stages) (high : c.stages ≤ 6) (f : Fram
   pub quiet_units : is_quiet (whole c f n events stops) ≡ true → AreQuiet c.stages f
   unfolding whole
   quiet_units q =
-      let two = (sizes c.stages low high).0 in
       let lane = at_table (λ (l : Lane). is_empty l.queue && is_empty l.records) c.stages (size c) (λ s x. (sized_lane c f s x).lane) (grind arith) in
       let queue = at_table (λ (q : List ReplyMessage). is_empty q) c.stages (size c) (λ s y. (sized_replies c f s y).replies) (grind arith) in
       record {
         switches = λ n h.
-            let is = is_switch c.stages n h in
-            let lanes = lane (stage_of c.stages n) in
-            let queues = queue (stage_of c.stages n) in
             let even = 2 * index_of c.stages n in
-            grind (arith, lanes even, lanes (even + 1), queues even, queues (even + 1));
+            grind (arith, is_switch c.stages n h, sizes c.stages low high, lane (stage_of c.stages n) even, lane (stage_of c.stages n) (even + 1), queue (stage_of c.stages n) even, queue (stage_of c.stages n) (even + 1));
         banks = at_place quiet_bank (size c) (λ k. f.bank k) (grind arith);
         elements = λ p hp. let it = at_place (λ (v : Element). has_stopped v.core.activity && is_empty v.interface.opened && is_empty v.interface.pending) (size c) (λ p. element_of (f.element p)) (grind arith) p hp in grind arith;
       }
 
 -- ---- all blocks
 module _ (d : ℕ) (partition : List ℕ) (bs : List BlockState) (are : AreBlocks d partition bs) where
-  sort_quiet : {X : Type 0} (sort : Sort X) (p : X → Bool) → ((i : ℕ) (h : i < sort.count d) → p (unit sort d partition bs are.cut i h) ≡ true)
-      → (k : ℕ) → k < length bs → (i : ℕ) → i < sort.count d → or_elsewhere p (sort.at (block_at bs k) i) ≡ true
-  sort_quiet sort p quiet k within i h = let it = quiet i h in grind (arith, here)
-
   pub blocks_quiet : AreQuiet d (frame_of d partition bs) → list_all quiet_block bs ≡ true
   blocks_quiet q = all_if quiet_block no_block bs (λ k within.
       let shape = are.shaped k within in
-      let switch = all_if (or_elsewhere quiet_switch) None (block_at bs k).switches (λ n small. sort_quiet switches quiet_switch q.switches k within n (omega arith)) in
-      let bank = all_if (or_elsewhere quiet_bank) None (block_at bs k).modules (λ m small. sort_quiet modules quiet_bank q.banks k within m (omega arith)) in
-      let element = all_if (or_elsewhere quiet_element) None (block_at bs k).elements (λ p small. sort_quiet elements quiet_element q.elements k within p (omega arith)) in
+      let switch = all_if (or_elsewhere quiet_switch) None (block_at bs k).switches (grind (arith, here switches _ _ _ are.cut, q.switches)) in
+      let bank = all_if (or_elsewhere quiet_bank) None (block_at bs k).modules (grind (arith, here modules _ _ _ are.cut, q.banks)) in
+      let element = all_if (or_elsewhere quiet_element) None (block_at bs k).elements (grind (arith, here elements _ _ _ are.cut, q.elements)) in
       grind arith)
 
   pub units_quiet : list_all quiet_block bs ≡ true → AreQuiet d (frame_of d partition bs)

@@ -1,8 +1,6 @@
 -- The units of a machine in its blocks: each stands at home, in the block that the partition names, and in no other.
 use Rattle.std.proofs.Common.{◌≡◌, ◌≢◌, ℕ, ◌^◌, ◌<◌, ◌≤◌, nat_lt, refl, List, Bool, Option, Some, None, length, sym, ◌∙◌, arith, ◌==◌, ◌&&◌, is_some}
-use Rattle.ultra_cut.proofs.Common.{nat_tests, empty_bank, switch_count, unit_count, module_number, element_number, switch_at, module_at, stands, if_here, switch_stands, module_stands, element_stands, IsCut, block_at, given, home, no_element, no_switch, BlockState, other as other_number, Switch, Bank, ProcessingElement}
-use Rattle.ultra_route.proofs.Table.{all_below}
-use Rattle.ultra_units.proofs.Readers.{each_network}
+use Rattle.ultra_cut.proofs.Common.{nat_tests, empty_bank, switch_count, unit_count, module_number, element_number, switch_at, module_at, stands, if_here, switch_stands, module_stands, element_stands, IsCut, block_at, given, home, no_element, no_switch, BlockState, other as other_number, Switch, Bank, ProcessingElement, all_below, each_network}
 use Rattle.ultra_section.specs.BlockState.{element_at}
 
 -- a machine has at most 320 units

@@ -1,9 +1,7 @@
 -- A cycle of blocks that are a whole machine, half by half. What is known of the blocks before a half meets its conditions,
 -- and gives what is known of them after it. After the last half they are the machine after one cycle of the definition.
 use Rattle.std.proofs.Common.{◌≡◌, ℕ, ◌+◌, ◌*◌, ◌<◌, ◌≤◌, List, [], ◌∷◌, refl, ◌++◌, ◌∙◌, length, arith, ◌^◌, ap, ◌-◌}
-use Rattle.ultra_cut.proofs.Common.{Rooms, all_open, AreAlike, Frame, IsClear, Event, Instr, Stop, IsFrameOf, Settings, Machine, IsCut, frame_of, BlockState, OnlyMove, AreThere, AreSingle, Kind, Replies, Requests, all_made, all_made_own, AllCanMake, AreBlocks, AreMerged, AreNamed, AreReady, AreRooms, append-nil, cycles_made, frame_after, listed_before, rank_after, first_rank, HaveMade, HaveStopped, events_in, OfEach, Half, SendReplies, TakeReplies, Serve, SendRequests, TakeRequests, Execute, event_rank, events_of, stops_of, AreMachine, AreRoomsOfAll, AreWhole, machine_in}
-use Rattle.ultra_model.specs.Phases.{cycle, memory_phase, processor_phase, reply_phase, request_phase}
-use Rattle.ultra_model.proofs.Routes.{delivered_well}
+use Rattle.ultra_cut.proofs.Common.{Rooms, all_open, AreAlike, Frame, IsClear, Event, Instr, Stop, IsFrameOf, Settings, Machine, IsCut, frame_of, BlockState, OnlyMove, AreThere, AreSingle, Kind, Replies, Requests, all_made, all_made_own, AllCanMake, AreBlocks, AreMerged, AreNamed, AreReady, AreRooms, append-nil, cycles_made, frame_after, listed_before, rank_after, first_rank, HaveMade, HaveStopped, events_in, OfEach, Half, SendReplies, TakeReplies, Serve, SendRequests, TakeRequests, Execute, event_rank, events_of, stops_of, AreMachine, AreRoomsOfAll, AreWhole, machine_in, cycle, memory_phase, processor_phase, reply_phase, request_phase, delivered_well}
 use Rattle.ultra_course.proofs.Phases as step
 use Rattle.ultra_cut.proofs.{Halves.all_by_own, Halves.can_make_law, Halves.half_law, Moved.alike, Moved.nothing_moved, Moved.still_blocks, Happenings.merged_law, Happenings.nothing_listed, Happenings.same_listed}
 
@@ -80,10 +78,7 @@ module _ {c : Settings} {partition : List ℕ} {n : ℕ} {program : List Instr} 
 
   -- messages go to other blocks
   at_moved : {top : ℕ} {so_far : List Event} {bs : List BlockState} (kind : Kind) (now : List BlockState) → At top so_far bs → OnlyMove kind bs now → At top so_far now
-  at_moved Replies now at only =
-      let listed = same_listed _ _ _ _ now _ (λ b. b.events) _ only.count (λ k h. grind arith) at.listed in grind (arith, still_blocks, at.runs, at.done, at.few, at.no_stops)
-  at_moved Requests now at only =
-      let listed = same_listed _ _ _ _ now _ (λ b. b.events) _ only.count (λ k h. grind arith) at.listed in grind (arith, still_blocks, at.runs, at.done, at.few, at.no_stops)
+  at_moved kind now at only = grind (arith, still_blocks, same_listed _ _ _ _ now _ (λ b. b.events) _ only.count (λ k h. grind arith) at.listed, at.runs, at.done, at.few, at.no_stops)
 
   -- ---- all blocks make a half
   module _ (half : Half) (rooms : Rooms) {so_far : List Event} {bs now : List BlockState} (at : Before half so_far bs) (makes : now ≡ all_made half rooms program bs) (ready : AreReady d partition n program bs half) where
@@ -94,10 +89,7 @@ module _ {c : Settings} {partition : List ℕ} {n : ℕ} {program : List Instr} 
     module _ (within : cycles_made half ≡ 0) (no_stops : HaveStopped d partition n program bs now half → OfEach (λ b. b.stops ≡ []) now) (named : AreNamed d partition n program bs half) where
       at_made : At (rank_after half) (so_far ++ events_in d n rooms program (f bs) half) now
       at_made =
-          let made = half_made in
-          let stopped = no_stops (made.stops at.no_stops) in
-          let listed = made.events named so_far at.listed in
-          let up : first_rank half ≤ rank_after half = grind arith in grind (arith, at.runs, at.done, at.few)
+          grind (arith, at.runs, at.done, at.few, half_made, no_stops (half_made.stops at.no_stops), half_made.events named so_far at.listed)
 
       phase_made : {m : Machine} → (AreAlike d (f now) (frame_after d n rooms program (f bs) half) → IsClearFrame m (so_far ++ events_in d n rooms program (f bs) half) (f now)) → Made (rank_after half) m now
       phase_made frame = record { events = _; at = at_made; frame = frame half_made.frame }
@@ -105,16 +97,15 @@ module _ {c : Settings} {partition : List ℕ} {n : ℕ} {program : List Instr} 
   -- ---- messages leave
   pub replies_left : (rooms : Rooms) {now : List BlockState} → AreRoomsOfAll start rooms → now ≡ all_made_own SendReplies rooms start → Left Replies now
   replies_left rooms {now = now} all made =
-      let none = nothing_listed (event_rank d) 0 0 (λ b. []) start (λ k h. refl) in
-      let before : Before SendReplies [] start = grind (arith, whole.machine.runs, whole.machine.done) in
+      let before : Before SendReplies [] start = grind (arith, whole.machine.runs, whole.machine.done, nothing_listed (event_rank d) 0 0 (λ b. []) start (λ k h. refl)) in
       let at : At 0 [] now = at_made SendReplies rooms before made whole.clear.replies refl (λ none. none) tt in
       let was : IsClearFrame first (events_of d start) (f start) = record { faults = stops_of d start; machine = whole.machine.machine; clear = whole.clear } in
-      let sent = half_made SendReplies rooms before made whole.clear.replies in search
+      search (half_made SendReplies rooms before made whole.clear.replies)
 
   pub requests_left : (rooms : Rooms) {bs now : List BlockState} → AreRoomsOfAll bs rooms → now ≡ all_made_own SendRequests rooms bs → Made 640 middle bs → Left Requests now
   requests_left rooms {bs = bs} {now = now} all made x =
       let at : At 640 x.events now = rw append-nil at (at_made SendRequests rooms x.at made x.frame.clear.requests refl (λ none. none) tt) in
-      let sent = half_made SendRequests rooms x.at made x.frame.clear.requests in search
+      search (half_made SendRequests rooms x.at made x.frame.clear.requests)
 
   pub left_cut : {kind : Kind} {bs : List BlockState} {e : ℕ} → Left kind bs → e ≡ d → IsCut e partition bs
   left_cut x net = rw net x.at.blocks.cut
@@ -144,10 +135,7 @@ module _ {c : Settings} {partition : List ℕ} {n : ℕ} {program : List Instr} 
         (step.can_take_replies c n _ _ _ _ x.left.was.machine _ x.left.all.replies _ (as_sent x)) (λ k h. omega (arith, (at_come x).few k h))
 
     names : AreNamed d partition n program bs TakeReplies
-    names p hp r is =
-        let well = delivered_well c x.left.was.machine.range first x.left.was.machine.sound.routes p hp in
-        let came = step.comes_home c n _ _ _ _ x.left.was.machine _ x.left.all.replies _ (as_sent x) p hp in
-        grind arith
+    names = grind (arith, delivered_well c x.left.was.machine.range first x.left.was.machine.sound.routes, step.comes_home c n _ _ _ _ x.left.was.machine _ x.left.all.replies _ (as_sent x))
 
     pub replies_taken : {now : List BlockState} → now ≡ all_made_own TakeReplies all_open bs → Made 320 (reply_phase c first) now
     replies_taken made =

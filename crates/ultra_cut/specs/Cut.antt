@@ -1,11 +1,7 @@
 -- a machine cut into blocks by a partition, which names the block of each unit
 use Rattle.std.specs.Prelude.{◌≡◌, ℕ, ◌<◌, ◌==◌, ◌&&◌, Bool, nat_lt, List, [], ◌∷◌, Option, Some, None, length, map, slice_index, slice_index_or}
-use Rattle.ultra_cut.specs.Prelude.{list_all, empty_bank, unit_count, module_number, element_number, ports, switch_at, module_at, element_at, on_link, stands, Frame, Switch, ProcessingElement, Settings}
-use Rattle.ultra_switch.specs.Queues.{empty_requests, empty_replies}
-use Rattle.ultra_isa.specs.Step.{fresh_core}
-use Rattle.ultra_pni.specs.Interface.{empty_interface}
+use Rattle.ultra_cut.specs.Prelude.{list_all, empty_bank, unit_count, module_number, element_number, ports, switch_at, module_at, element_at, on_link, stands, Frame, Switch, ProcessingElement, Settings, empty_requests, empty_replies, fresh_core, empty_interface, empty_block}
 pub use Rattle.ultra_section.specs.BlockState.{BlockState}
-use Rattle.ultra_section.specs.Building.{empty_block}
 
 -- a partition names a block, 0 to 63, for each unit: switches first, then modules, then processing
 -- elements. That many blocks are this project's profile

@@ -1,7 +1,6 @@
 -- what blocks list in a cycle, in the order of the rules
 use Rattle.std.specs.Prelude.{ℕ, ◌+◌, ◌/◌, List, map}
-use Rattle.ultra_cut.specs.Prelude.{switch_number, module_number, element_number, IsRanked, merged, Event, Stop}
-use Rattle.ultra_msg.specs.declared.Event.TheVariants.{Delivered, Served, Combined, Issued}
+use Rattle.ultra_cut.specs.Prelude.{switch_number, module_number, element_number, IsRanked, merged, Event, Stop, Delivered, Served, Combined, Issued}
 use Rattle.ultra_cut.specs.Cut.{BlockState}
 
 -- the order in which the rules list what happens in a cycle of a machine of d stages: deliveries by

@@ -2,9 +2,8 @@
 -- is said of a kind
 use Rattle.std.specs.Prelude.{◌≡◌, ◌≢◌, ℕ, ◌<◌, List, Option, None, length, map, slice_set}
 use Rattle.ultra_cut.specs.Prelude.{unit_count, on_link, without_both, AreEmpty, put_on_both, reply_inlets, request_inlets, taken_by_turns, Request, ReplyMessage, Ports}
-pub use Rattle.ultra_cut.specs.declared.kind.Kind.{Kind}
-pub use Rattle.ultra_cut.specs.declared.kind.Kind.TheVariants.{Replies, Requests}
 use Rattle.ultra_cut.specs.Cut.{block_at, home, first, BlockState}
+pub use Rattle.ultra_cut.specs.declared.kind.Kind.{Kind, TheVariants.Replies, TheVariants.Requests}
 
 abbrev pub MessageOf : Kind → Type 0
 MessageOf Replies = ReplyMessage

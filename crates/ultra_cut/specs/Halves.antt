@@ -1,15 +1,9 @@
 -- what each half of a cycle does to a machine cut into blocks, what it asks, and what blocks list
 -- in it
 use Rattle.std.specs.Prelude.{◌≡◌, ℕ, ◌+◌, ◌<◌, ◌≤◌, List, length, map, ◌-◌, ◌*◌, ◌^◌, [], None, ◌++◌, All}
-use Rattle.ultra_cut.specs.Prelude.{Rooms as BlockRooms, most_events, Frame, AreClosedToReplies, AreClosedToRequests, AreAlike, ReplyMessage, executes, sends_replies, sends_requests, serves, takes_replies, takes_requests, reply_to, deliveries, servings, combinations, issues, stops, Event, Instr, Stop, IsRanked, of_rank}
-use Rattle.std.specs.Option.{ForSome}
-use Rattle.ultra_model.specs.Places.{joined}
-pub use Rattle.ultra_section.specs.declared.half.Half.{Half}
-use Rattle.ultra_section.specs.Shape.{IsShaped}
-use Rattle.ultra_section.specs.Making.{CanMake, made, own_made}
-pub use Rattle.ultra_section.specs.declared.half.Half.TheVariants.{SendReplies, TakeReplies, Serve, SendRequests, TakeRequests, Execute}
-use Rattle.ultra_course.specs.Law.{CanExecute, CanTakeReplies, CanTakeRequests}
+use Rattle.ultra_cut.specs.Prelude.{Rooms as BlockRooms, most_events, Frame, AreClosedToReplies, AreClosedToRequests, AreAlike, ReplyMessage, executes, sends_replies, sends_requests, serves, takes_replies, takes_requests, reply_to, deliveries, servings, combinations, issues, stops, Event, Instr, Stop, IsRanked, of_rank, ForSome, joined, IsShaped, CanMake, made, own_made, CanExecute, CanTakeReplies, CanTakeRequests}
 use Rattle.ultra_cut.specs.{Cut.IsCut, Cut.block_at, Cut.frame_of, Cut.first, Cut.BlockState, Exchange.AreThere, Exchange.AreSingle, Exchange.on_each, Exchange.Kind, Exchange.Replies, Exchange.Requests, Events.IsInOrder, Events.event_rank, Events.events_of, Events.stop_rank, Events.stops_of}
+pub use Rattle.ultra_section.specs.declared.half.Half.{Half, TheVariants.SendReplies, TheVariants.TakeReplies, TheVariants.Serve, TheVariants.SendRequests, TheVariants.TakeRequests, TheVariants.Execute}
 
 -- these are the rooms of a frame of a machine of d stages, as its blocks have noted them
 pub record AreRooms (d : ℕ) (f : Frame) (rooms : BlockRooms) : Type 0 where

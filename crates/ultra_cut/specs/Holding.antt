@@ -1,10 +1,8 @@
 -- which units of a whole machine of d stages hold something
 use Rattle.std.specs.Prelude.{ℕ, ◌+◌, ◌*◌, List, Bool, false, not, ◌&&◌}
-use Rattle.ultra_cut.specs.Prelude.{Element, lane_at, replies_at, bank_at, has_none, of_unit, whole, Settings, Machine, Event, Stop}
+use Rattle.ultra_cut.specs.Prelude.{Element, lane_at, replies_at, bank_at, has_none, of_unit, whole, Settings, Machine, Event, Stop, Held, IsSetOf, module_holds}
 use Rattle.ultra_model.specs.Machine.{element_at}
-use Rattle.ultra_section.specs.declared.held.Held.{Held}
 use Rattle.ultra_section.specs.declared.held.Held.TheVariants.{Reply, Request, Record}
-use Rattle.ultra_section.specs.Holding.{IsSetOf, module_holds}
 use Rattle.ultra_cut.specs.{Cut.frame_of, Cut.BlockState, Halves.AreBlocks}
 
 -- switch k of stage s: in the queues or wait buffers of its two positions

@@ -1,14 +1,8 @@
 -- the combinations of two requests that come to a switch, in the order of the positions
-use Rattle.std.proofs.Common.{◌≡◌, ℕ, ◌+◌, ◌-◌, List, [], ◌∷◌, ◌++◌, true, false, get_or, length, length-append, set, refl, arith, ◌&&◌, ◌||◌, ◌↔◌, is_some, not, Option}
-use Rattle.ultra_halves.proofs.Common.{common_steps, Request, Event, SizedLane, lane_with, leaves_by, coming_to, combination_by, is_turned, in_order}
+use Rattle.std.proofs.Common.{◌≡◌, ℕ, ◌-◌, List, [], ◌∷◌, ◌++◌, true, false, get_or, length, length-append, set, refl, arith, ◌&&◌, ◌||◌, ◌↔◌, is_some, Option}
+use Rattle.ultra_halves.proofs.Common.{common_steps, Ports, Switch, Request, Event, SizedLane, present, lane_with, coming_to, combination_by, is_turned, in_order}
 use Rattle.std.proofs.lemmas.List.{append-nil, set-append_right, get_or_at, get_or-append-add}
-use Rattle.ultra_switch.specs.{declared.Ports.Ports, declared.Switch.Switch}
-use Rattle.ultra_model.specs.Places.{present}
 use Rattle.ultra_halves.specs.Switches.{combinations_of_both}
-
--- a request leaves a stage by port 1 where it doesn't by port 0
-pub other_port : (d s : ℕ) (r : Request) → leaves_by d s 1 r ≡ not (leaves_by d s 0 r)
-other_port d s r = grind arith
 
 -- ---- the last two entries of a list change places
 pub last_turned : {X : Type 0} (items front : List X) (a b x y : X) (n : ℕ) → items ≡ front ++ a ∷ b ∷ [] → n ≡ length items
@@ -25,7 +19,7 @@ module _ (d s k : ℕ) (w : Switch) (first second : Option Request) (lanes : Por
   second_combination = combination_by d s k lanes second
 
   pub all_in_order : present (in_order (is_turned d s first second) first_combination second_combination) ≡ combinations_of_both d s k w first second
-  all_in_order = rw (zero, one) (grind (arith, other_port, append-nil))
+  all_in_order = rw (zero, one) (grind (arith, append-nil))
 
   pub combined_alone : (old items : List Event) → items ≡ (old ++ present (first_combination ∷ [])) ++ present (second_combination ∷ []) → is_some first_combination && is_some second_combination ≡ false → items ≡ old ++ combinations_of_both d s k w first second
   combined_alone old items are e = grind (arith, common_steps, all_in_order)

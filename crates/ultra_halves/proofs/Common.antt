@@ -1,8 +1,5 @@
 -- The words and lemmas of the crates below and of this one that proofs here use. Those of std's `Common` come from there.
 pub use Rattle.std.proofs.lemmas.Grind.{common_steps}
-pub use Rattle.ultra_model.specs.Phases.{arrive_all, issue_event, replies_made, stop_of}
-pub use Rattle.ultra_msg.specs.declared.Event.{Event}
-pub use Rattle.ultra_msg.specs.declared.Request.{Request}
-pub use Rattle.ultra_switch.specs.Queues.{SizedLane, SizedReplies}
+pub use Rattle.ultra_halves.specs.Prelude.{Combined, Event, Instr, Ports, ReplyMessage, Request, Stop, Switch, SizedLane, SizedReplies, arrive_all, has_stopped, is_fixed, issue_event, present, replies_made, stop_of}
 pub use Rattle.ultra_switch.specs.declared.WaitRecord.{WaitRecord}
-pub use Rattle.ultra_halves.specs.Halves.{combination_by, combination_event, coming_to, going_by, has_room_for, in_order, is_turned, lane_with, leaves_by, with_replies}
+pub use Rattle.ultra_halves.specs.Halves.{combination_by, combination_in, coming_to, going_by, in_order, is_turned, lane_with, leaves_by, with_replies}

@@ -1,8 +1,6 @@
 -- a processing element that can make no step is left as it is by one, and still can make none when a request has left it
 use Rattle.std.proofs.Common.{◌≡◌, ◌≢◌, ℕ, List, length-append, true, false, arith, Some, None}
-use Rattle.ultra_halves.proofs.Common.{Event, issue_event, stop_of}
-use Rattle.ultra_isa.specs.{declared.Instr.Instr, Step.has_stopped}
-use Rattle.ultra_model.specs.declared.Stop.{Stop}
+use Rattle.ultra_halves.proofs.Common.{Event, Instr, Stop, has_stopped, issue_event, stop_of}
 use Rattle.ultra_halves.specs.{Elements.element_of, Elements.step_at, Elements.executed, Elements.is_at_rest, Elements.changes_nothing, Elements.holds_request, declared.elements.ProcessingElement.ProcessingElement}
 
 module _ (program : List Instr) (e : ProcessingElement) where

@@ -1,7 +1,6 @@
 -- a processing element after each half of a cycle
 use Rattle.std.specs.Prelude.{List, [], Bool, true, false, not, ◌&&◌, Option, Some, None}
-use Rattle.ultra_halves.specs.Prelude.{ReplyMessage, Event, Instr, Stepped, has_stopped, step_of, after_leaving, Element, deliver, stepped}
-use Rattle.ultra_model.specs.declared.Stop.{Stop}
+use Rattle.ultra_halves.specs.Prelude.{ReplyMessage, Event, Stop, Instr, Stepped, has_stopped, step_of, after_leaving, Element, deliver, stepped}
 use Rattle.ultra_isa.specs.{declared.Step.Step, declared.Step.TheVariants.Stalled, declared.Step.TheVariants.Halted}
 use Rattle.ultra_halves.specs.{Halves.has_none, declared.elements.ProcessingElement.ProcessingElement, declared.elements.Outcome.Outcome, declared.elements.Outcome.TheVariants.Issued, declared.elements.Outcome.TheVariants.Faulted}
 

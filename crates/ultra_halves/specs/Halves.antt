@@ -1,8 +1,7 @@
 -- what the halves of a cycle do at one port of a switch of a machine of d stages
-use Rattle.std.specs.Prelude.{ℕ, ◌+◌, ◌-◌, ◌*◌, ◌%◌, ◌^◌, List, [], ◌∷◌, ◌++◌, Bool, true, false, ◌==◌, ◌&&◌, nat_le, length, Option, Some, None}
-use Rattle.ultra_halves.specs.Prelude.{filter, Request, ReplyMessage, Event, Combined, bit_of, Ports, SizedLane, SizedReplies, after_leaving, records_left, arrive_all}
-use Rattle.ultra_msg.specs.Pair.{pair_of}
-use Rattle.ultra_switch.specs.Arrive.{Combination, combine_within}
+use Rattle.std.specs.Prelude.{ℕ, ◌+◌, ◌-◌, ◌*◌, ◌%◌, ◌^◌, List, [], ◌∷◌, ◌++◌, Bool, true, false, ◌==◌, ◌&&◌, length, Option, Some, None, option_map}
+use Rattle.ultra_halves.specs.Prelude.{filter, Request, ReplyMessage, Event, Combined, pair_of, bit_of, Ports, SizedLane, SizedReplies, after_leaving, records_left, arrive_all}
+use Rattle.ultra_switch.specs.Arrive.{combine_within}
 
 abbrev pub ports : {X : Type 0} → X → X → Ports X
 ports x y = record { zero = x; one = y }
@@ -38,10 +37,6 @@ with_replies q rs = record q { replies = q.replies ++ rs }
 abbrev pub replies_without : {X : Type 0} → SizedReplies → Option X → SizedReplies
 replies_without q o = record q { replies = after_leaving o q.replies }
 
--- whether it has free places for n more
-abbrev pub has_room_for : ℕ → SizedReplies → Bool
-has_room_for n q = nat_le (length q.replies + n) q.places
-
 -- the replies of a list that leave stage s by port j
 abbrev pub going_by : ℕ → ℕ → ℕ → List ReplyMessage → List ReplyMessage
 going_by d s j rs = filter (λ (r : ReplyMessage). bit_of (d - 1 - s) r.pe == j) rs
@@ -57,10 +52,6 @@ lane_without l o = record l { lane = record l.lane { queue = after_leaving o l.l
 
 abbrev pub lane_with : SizedLane → List Request → SizedLane
 lane_with l rs = record l { lane = arrive_all l.wait_places l.lane rs }
-
--- whether it has free places for n more
-abbrev pub has_place_for : ℕ → SizedLane → Bool
-has_place_for n l = nat_le (length l.lane.queue + n) l.request_places
 
 -- whether a request leaves stage s by port j
 abbrev pub leaves_by : ℕ → ℕ → ℕ → Request → Bool
@@ -82,15 +73,11 @@ second_of n o = elim (n % 2 == 0) [ true ↦ o.one | false ↦ o.zero ]
 abbrev pub both_coming : ℕ → ℕ → ℕ → Option Request → Option Request → List Request
 both_coming d s j first second = coming_to d s j first ++ coming_to d s j second
 
--- a combination, where there was one
-abbrev pub combination_event : ℕ → ℕ → Request → Option Combination → Option Event
-combination_event s x r None = None
-combination_event s x r (Some c) =
-    Some (Combined s x r.cell c.old.request.pe r.pe (pair_of c.old.request.op r.op).old_first)
-
 -- the combination that a request makes in a queue at position x of stage s
 abbrev pub combination_in : ℕ → ℕ → SizedLane → Request → Option Event
-combination_in s x l r = combination_event s x r (combine_within l.wait_places l.lane r)
+combination_in s x l r = option_map
+    (λ c. Combined s x r.cell c.old.request.pe r.pe (pair_of c.old.request.op r.op).old_first)
+    (combine_within l.wait_places l.lane r)
 
 -- the combination of what came to a port of switch k of stage s, in the queue by which it leaves
 abbrev pub combination_by : ℕ → ℕ → ℕ → Ports SizedLane → Option Request → Option Event

@@ -1,8 +1,7 @@
 -- a switch after each half of a cycle, at stage s of a machine of d stages
-use Rattle.std.specs.Prelude.{ℕ, ◌+◌, ◌*◌, List, ◌++◌, Bool, ◌&&◌, not, IsTrue, Option, slice_get}
-use Rattle.ultra_halves.specs.Prelude.{ForSome, Request, ReplyMessage, Event, Ports, SizedLane, request_of, combinations, replies_made}
-use Rattle.ultra_switch.specs.declared.Switch.{Switch}
-use Rattle.ultra_halves.specs.Halves.{map_ports, zip_ports, ports_by, of_both, where_room, has_none, with_replies, going_by, replies_without, has_room_for, lane_after_reply, lane_without, lane_with, has_place_for, leaves_by, both_coming, first_of, second_of}
+use Rattle.std.specs.Prelude.{ℕ, ◌+◌, ◌*◌, List, ◌++◌, Bool, ◌&&◌, not, length, nat_le, IsTrue, Option, slice_get}
+use Rattle.ultra_halves.specs.Prelude.{ForSome, Request, ReplyMessage, Event, Ports, Switch, SizedLane, request_of, combinations, replies_made}
+use Rattle.ultra_halves.specs.Halves.{map_ports, zip_ports, ports_by, of_both, where_room, has_none, with_replies, going_by, replies_without, lane_after_reply, lane_without, lane_with, leaves_by, both_coming, first_of, second_of}
 
 -- ---- replies
 -- the replies that leave: the first of each queue, where it goes on
@@ -15,7 +14,7 @@ without_replies w out = record w { to_pe = zip_ports replies_without w.to_pe out
 
 -- both queues toward the processing elements have room for all that may come
 abbrev pub has_reply_room : Switch → Bool
-has_reply_room w = of_both (has_room_for 4) w.to_pe
+has_reply_room w = of_both (λ q. nat_le (length q.replies + 4) q.places) w.to_pe
 
 -- where a reply has come there is room
 pub record CanTakeReplies (w : Switch) (came : Ports (Option ReplyMessage)) : Type 0 where
@@ -49,11 +48,11 @@ without_requests w out = record w { to_mm = zip_ports lane_without w.to_mm out }
 
 -- which queues toward memory have room for all that may come
 abbrev pub has_request_room : Switch → Ports Bool
-has_request_room w = map_ports (has_place_for 2) w.to_mm
+has_request_room w = map_ports (λ l. nat_le (length l.lane.queue + 2) l.request_places) w.to_mm
 
 -- a request that has come finds room for two where it goes
 abbrev pub HasWay : ℕ → ℕ → Switch → Request → Type 0
-HasWay d s w r = (IsTrue (leaves_by d s 0 r) → IsTrue (has_place_for 2 w.to_mm.zero)) × (IsTrue (leaves_by d s 1 r) → IsTrue (has_place_for 2 w.to_mm.one))
+HasWay d s w r = (IsTrue (leaves_by d s 0 r) → IsTrue (has_request_room w).zero) × (IsTrue (leaves_by d s 1 r) → IsTrue (has_request_room w).one)
 
 pub record CanTakeRequests (d s : ℕ) (w : Switch) (came : Ports (Option Request)) : Type 0 where
   pub zero : ForSome came.zero (HasWay d s w)

@@ -19,8 +19,8 @@ pub fn leave_where(has_room: bool, queue: &mut ToMm) -> Option<RequestPacket>
     if has_room { queue.send() } else { None }
 }
 
-/// Appends the combination of a request with one of the processing element `old`, which left `wait_record`. Few requests combine, so this code stands apart from that of a visit.
-#[inline(never)]
+/// Appends the combination of a request with one of the processing element `old`, which left `wait_record`.
+#[inline(always)]
 fn append_combination(
     events: &mut Vec<Event>,
     stage: u32,

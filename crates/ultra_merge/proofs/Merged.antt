@@ -1,7 +1,7 @@
 -- Entries by rank, in one list and in several, the search for the list whose first entry comes next, and what a merge gives, entry by entry.
-use Rattle.std.proofs.Common.{◌≡◌, ◌≢◌, ℕ, zero, suc, ◌<◌, ◌≤◌, List, [], ◌∷◌, map, length, get_or, set, refl, arith, ◌+◌, ◌++◌, All, cond, nat_le, nat_lt, ◌&&◌, None, drop, Option, Some, sym, ◌∙◌, ap, subst, Bor, length-set, leb-true, slice_get, MatchOption}
-use Rattle.std.proofs.lemmas.{Bool.Decides.nat_tests, Bool.cases_eq, List.Elements.All-set, List.Elements.All-tail, List.Elements.filter-append, List.append-nil, List.drop_all, List.get_or-map, List.length-map, List.map-set, List.take_all}
-use Rattle.std.specs.{List.Sorted.IsNonDecreasingBy, List.range_with_len, List.refill}
+use Rattle.std.proofs.Common.{◌≡◌, ◌≢◌, ℕ, zero, suc, ◌<◌, List, [], ◌∷◌, map, length, get_or, set, refl, arith, ◌+◌, ◌++◌, All, cond, nat_le, nat_lt, ◌&&◌, None, drop, Option, Some, sym, ◌∙◌, ap, subst, Bor, length-set, leb-true, slice_get, MatchOption}
+use Rattle.std.proofs.lemmas.{Bool.Decides.nat_tests, Bool.cases_eq, List.Elements.All-set, List.Elements.All-tail, List.Elements.filter-append, List.append-nil, List.drop_all, List.get_or-map, List.length-map, List.map-set, List.nil_from_length, List.take_all, Option.slice_get_cases}
+use Rattle.std.specs.{List.range_with_len, List.refill}
 use Rattle.ultra_model.specs.Places.{joined, places}
 use Rattle.ultra_merge.specs.{Merging.IsFront, Merging.IsNextPlace, Merging.IsRanked, Merging.merged, Merging.of_rank, declared.Front.Front}
 
@@ -26,10 +26,6 @@ module _ {T : Type 0} (rank : T → ℕ) where
       grind (arith, filter-append, nat_tests, λ (same : rank x ≡ i). of_rank_none i xs (before same zero (omega arith)), entry_gone i k lists x rest is (λ same j h. before same (suc j) (omega arith)))
 
   -- ---- lists in the order of the ranks
-  -- none has a smaller rank than the first
-  pub first_is_least : (x : T) (xs : List T) → IsNonDecreasingBy rank (x ∷ xs) → All (λ e. rank x ≤ rank e) (x ∷ xs)
-  first_is_least x xs ascends k d within = ascends zero k d (omega arith) within
-
   pub ranked_rest : (count : ℕ) (x : T) (xs : List T) → IsRanked rank count (x ∷ xs) → IsRanked rank count xs
   ranked_rest count x xs ranked = grind (arith, λ (i j : ℕ). ranked.ascends (suc i) (suc j), All-tail (λ e. rank e < count) x xs ranked.within)
 
@@ -43,10 +39,10 @@ module _ {X : Type 0} where
   none_joined f a (suc n) none = grind (arith, none_joined f (a + 1) n none)
 
   -- the first element stands at place r, and goes
-  module _ (f g : ℕ → List X) (x : X) (r : ℕ) (others : (i : ℕ) → i ≢ r → f i ≡ g i) (here : f r ≡ x ∷ g r) (none : (i : ℕ) → i < r → f i ≡ []) where
-    first_joined : (a n : ℕ) → joined_from a n f ≡ cond (nat_le a r && nat_lt r (a + n)) (x ∷ joined_from a n g) (joined_from a n g)
-    first_joined a zero = grind (arith, nat_tests)
-    first_joined a (suc n) = grind (arith, nat_tests, cases_eq a r, first_joined (a + 1) n, none a, others a)
+  first_joined : (f g : ℕ → List X) (x : X) (r a n : ℕ) → ((i : ℕ) → i ≢ r → f i ≡ g i) → f r ≡ x ∷ g r → ((i : ℕ) → i < r → f i ≡ [])
+      → joined_from a n f ≡ cond (nat_le a r && nat_lt r (a + n)) (x ∷ joined_from a n g) (joined_from a n g)
+  first_joined f g x r a zero others here none = grind (arith, nat_tests)
+  first_joined f g x r a (suc n) others here none = grind (arith, nat_tests, cases_eq a r, first_joined f g x r (a + 1) n, none a, others a)
 
 module _ {T : Type 0} (rank : T → ℕ) (count : ℕ) where
   -- ---- entry by entry
@@ -58,20 +54,15 @@ module _ {T : Type 0} (rank : T → ℕ) (count : ℕ) where
       → merged rank count lists ≡ next.entry ∷ merged rank count (set lists k next.rest)
   unfolding merged places
   merged_next lists k r within next =
-      grind (arith, nat_tests, λ (i : ℕ). entry_gone rank i k lists next.entry next.rest next.is, λ (i : ℕ). none_in_lists rank i lists, first_joined (λ i. of_rank rank i (joined lists)) (λ i. of_rank rank i (joined (set lists k next.rest))) next.entry r)
+      grind (arith, nat_tests, λ (i : ℕ). entry_gone rank i k lists next.entry next.rest next.is, λ (i : ℕ). none_in_lists rank i lists, first_joined (λ i. of_rank rank i (joined lists)) (λ i. of_rank rank i (joined (set lists k next.rest))) next.entry r 0 count)
 
   -- ---- merges of what was merged
   -- one list is its own merge
   pub merged_alone : (xs : List T) → IsRanked rank count xs → merged rank count (xs ∷ []) ≡ xs
   merged_alone [] ranked = merged_none ([] ∷ []) (λ i h. grind arith)
   merged_alone (x ∷ xs) ranked =
-      let first : IsNextPlace rank ((x ∷ xs) ∷ []) 1 0 (rank x) = record { within = omega arith; entry = x; rest = xs; is = refl; ranked = refl; before = λ i h. absurd (omega arith); behind = grind (arith, first_is_least rank x xs ranked.ascends) } in
+      let first : IsNextPlace rank ((x ∷ xs) ∷ []) 1 0 (rank x) = record { within = omega arith; entry = x; rest = xs; is = refl; ranked = refl; before = λ i h. absurd (omega arith); behind = grind (arith, λ (k : ℕ). ranked.ascends 0 k) } in
       grind (arith, merged_next ((x ∷ xs) ∷ []) 0 (rank x) (ranked.within 0 x (omega arith)) first, merged_alone xs (ranked_rest rank count x xs ranked))
-
--- a list without a first element
-empty_list : {T : Type 0} (xs : List T) → None ≡ slice_get xs 0 → xs ≡ []
-empty_list [] none = refl
-empty_list (x ∷ xs) none = cc
 
 -- ---- the list at place n, behind a reference
 module _ {T : Type 0} (rank : T → ℕ) (count : ℕ) (items : List (Bor (List T))) (n : ℕ) (list : Bor (List T)) (within : n < length items) (is : list ≡ get_or items n list) where
@@ -82,28 +73,25 @@ module _ {T : Type 0} (rank : T → ℕ) (count : ℕ) (items : List (Bor (List 
   here = get_or-map (λ l. l.now) items n list [] within ∙ ap (λ l. l.now) (sym is)
 
   pub past_empty : (front : Option Front) → IsFront rank lists n front → None ≡ slice_get list.now 0 → IsFront rank lists (n + 1) front
-  past_empty front before none = grind (arith, here, empty_list)
+  past_empty front before none = grind (arith, here, nil_from_length list.now, slice_get_cases list.now 0)
 
   module _ (all : All (λ l. IsRanked rank count l.now) items) (x : T) (first : Some x ≡ slice_get list.now 0) where
     starts : list.now ≡ x ∷ drop 1 list.now
     starts = grind arith
 
     ranked : IsRanked rank count (x ∷ drop 1 list.now)
-    ranked = rw starts at (subst (λ l. IsRanked rank count l.now) (sym is) (all n list within))
+    ranked = rw (← starts, is) (all n list within)
 
     pub entry_within : rank x < count
     entry_within = ranked.within 0 x (omega arith)
 
-    least_here : All (λ e. rank x ≤ rank e) (get_or lists n [])
-    least_here = rw (here, starts) (first_is_least rank x (drop 1 list.now) ranked.ascends)
-
     -- the search goes on from the one that comes first
     new_front : ((i : ℕ) → i < n → All (λ e. rank x < rank e) (get_or lists i [])) → IsNextPlace rank lists (n + 1) n (rank x)
-    new_front later = let is = here ∙ starts in grind (arith, least_here)
+    new_front later = let is = here ∙ starts in grind (arith, λ (k : ℕ). ranked.ascends 0 k)
 
     pub goes_on : (front : Option Front) → IsFront rank lists n front → (now : Front) → (let next : Front = record { place = n; rank = rank x } in MatchOption front (now ≡ next) (λ f. now ≡ cond (nat_le f.rank (rank x)) f next))
         → IsNextPlace rank lists (n + 1) now.place now.rank
-    goes_on front before now sooner = let is = here ∙ starts in grind (arith, leb-true, new_front, least_here)
+    goes_on front before now sooner = let is = here ∙ starts in grind (arith, leb-true, new_front, λ (k : ℕ). ranked.ascends 0 k)
 
 -- ---- the lists, after the one at a place has given its first entry
 module _ {T : Type 0} (rank : T → ℕ) (count : ℕ) (items : List (Bor (List T))) (all : All (λ l. IsRanked rank count l.now) items)
@@ -123,6 +111,4 @@ module _ {T : Type 0} (rank : T → ℕ) (count : ℕ) (items : List (Bor (List 
 
   pub left_merged : merged rank count (map (λ l. l.now) items) ≡ x ∷ merged rank count (map (λ l. l.now) left)
   left_merged =
-      let merged_is = merged_next rank count (map (λ l. l.now) items) place r in
-      let there : get_or (map (λ l. l.now) items) place [] ≡ x ∷ new.now = grind (arith, get_or-map, length-map) in
-      grind (arith, left_is, map-set, was_ranked.within 0 x)
+      grind (arith, merged_next rank count (map (λ l. l.now) items) place r, get_or-map (λ l. l.now) items place old [], length-map, left_is, map-set, was_ranked.within 0 x)

@@ -35,11 +35,16 @@ impl RequestPacket {
     pub fn of(request: Request) -> RequestPacket
         ensures { result ≡ request }
     {
-        let (kind, word) = match request.op {
-            Op::Load => (0, 0),
-            Op::Store(word) => (1, word),
-            Op::Faa(word) => (2, word),
-            Op::Swap(word) => (3, word),
+        // two matches, each without a jump: both together would be compiled to a table of jumps
+        let kind = match request.op {
+            Op::Load => 0,
+            Op::Store(_) => 1,
+            Op::Faa(_) => 2,
+            Op::Swap(_) => 3,
+        };
+        let word = match request.op {
+            Op::Load => 0,
+            Op::Store(word) | Op::Faa(word) | Op::Swap(word) => word,
         };
         RequestPacket {
             pe: request.pe,

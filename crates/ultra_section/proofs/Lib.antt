@@ -10,6 +10,5 @@ pub mod Once
 pub mod Acts
 pub mod Few
 pub mod Visited
-mod Small
 pub mod Holding
 pub mod OwnProgram

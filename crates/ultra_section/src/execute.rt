@@ -5,7 +5,7 @@ ghost use Rattle.ultra_section.specs.{Prelude.IsSmall, Prelude.after_units, Prel
 
 use crate::block::Block;
 use ultra_halves::{Outcome, append};
-use ultra_units::{UnitNumber, UnitSet, Visit, visit_all, visit_first_word};
+use ultra_units::{UnitNumber, UnitSet, Visit, visit_all};
 
 impl Block {
     /// A processing element makes a step of the program.
@@ -77,6 +77,7 @@ impl Block {
 
     /// The last half of a cycle in a block in which all units stand. The cycles that are done are fewer than `2^32 - 1`.
     #[inline(always)]
+    #[tactic(auto, using(ultra_units::proofs::Readers::few_units, std::proofs::lemmas::Bool::Decides::nat_tests))]
     pub fn execute_here<const SMALL: bool>(&mut self)
         requires small { SMALL ≡ true → IsSmall self.old.stages }
         requires can { (k : ℕ) → k < 320 → CanExecuteAt k self.old }
@@ -84,11 +85,7 @@ impl Block {
         ensures { self.new ≡ counted (after_units (executes self.old.program) 320 self.old) }
     {
         let _stages = self.net.stages();
-        if SMALL {
-            visit_first_word(&Execute::<true>, self);
-        } else {
-            visit_all(&Execute::<false>, self);
-        }
+        visit_all::<SMALL, Block, Execute<SMALL>>(&Execute, self);
         self.done += 1;
     }
 }

@@ -1,34 +1,42 @@
 //! The half of a cycle in which replies leave switches and modules.
 
 ghost use Rattle.std.specs.Prelude.{◌≡◌, ◌<◌, true};
-ghost use Rattle.ultra_section.specs.Prelude.{IsSmall, replies_leaving, without_replies, LeadOn, put_on_both, reply_inlets, places_of, after_units, IsModule, IsSwitch, index_of, stage_of};
-ghost use Rattle.ultra_section.specs.{Rooms.AreOwnRooms, declared.rooms.Rooms.Rooms, RepliesSent.begun, RepliesSent.module_sends_reply, RepliesSent.sends_replies, RepliesSent.switch_sends_replies, Holding.HoldsNoReply};
+ghost use Rattle.ultra_section.specs.Prelude.{IsSmall, replies_leaving, without_replies, LeadOn, put_on_both, reply_inlets, places_of, after_units, IsModule, IsSwitch};
+ghost use Rattle.ultra_section.specs.{Rooms.AreOwnRooms, declared.rooms.Rooms.Rooms, RepliesSent.begun, RepliesSent.module_sends_reply, RepliesSent.reply_targets, RepliesSent.reply_ways, RepliesSent.sends_replies, RepliesSent.switch_sends_replies, Holding.HoldsNoReply};
 
 use crate::block::Block;
 use crate::rooms::Rooms;
 use ultra_halves::modules;
 use ultra_halves::replies::leave_where;
 use ultra_msg::ReplyPacket;
+use ultra_route::Net;
 use ultra_switch::{Ports, Switch};
 use ultra_units::{
-    Links, Unit, UnitNumber, UnitSet, Visit, find_reply_ways, leave_module, narrow, switch_number,
-    visit_all, visit_first_word,
+    Links, Unit, UnitNumber, UnitSet, Visit, find_reply_ways, leave_module, module_target,
+    visit_all,
 };
 
-/// The first reply of each queue of the switch with a number goes onto its link, where there is a way. One port is done with before the other.
+/// The first reply of each queue of a switch goes onto its link, where there is a way to the unit in `targets`. One port is done with before the other.
 #[inline(always)]
 fn send_from_switch(
     switch: &mut Switch,
     links: &mut Links<ReplyPacket>,
+    net: Net,
+    closed: &UnitSet,
     number: usize,
-    targets: Ports<usize>,
-    ways: Ports<bool>,
+    stage: u32,
+    index: u32,
+    targets: Ports<UnitNumber>,
 )
+    requires is { IsSwitch net number stage index }
     requires small { number < 320 }
-    requires lead { LeadOn (reply_inlets links.old.stages) links.old.stages number targets }
-    ensures switch { switch.new ≡ without_replies switch.old (replies_leaving ways switch.old) }
-    ensures links { links.new ≡ record links.old { table = put_on_both links.old.table (places_of links.old.stages (stage_of links.old.stages number) (index_of links.old.stages number)) (replies_leaving ways switch.old); targets = links.new.targets } }
+    requires targets { targets ≡ reply_targets net stage index }
+    requires lead { LeadOn (reply_inlets net) net number targets }
+    requires stages { links.old.stages ≡ net }
+    ensures switch { switch.new ≡ without_replies switch.old (replies_leaving (reply_ways closed.now net stage index) switch.old) }
+    ensures links { links.new ≡ record links.old { table = put_on_both links.old.table (places_of net stage index) (replies_leaving (reply_ways closed.now net stage index) switch.old); targets = links.new.targets } }
 {
+    let ways = find_reply_ways(closed, stage, &targets);
     let link = 2 * number;
     let to_pe = &mut switch.to_pe;
     let zero = leave_where(ways.zero, &mut to_pe.zero);
@@ -39,7 +47,6 @@ fn send_from_switch(
 
 impl Block {
     /// The first reply of each queue of a switch goes onto its link, where there is a way.
-    #[tactic(auto, using(crate::proofs::Small::replies_zero, crate::proofs::Small::replies_one))]
     fn send_replies_of_switch<const SMALL: bool>(
         &mut self,
         closed: &UnitSet,
@@ -53,18 +60,17 @@ impl Block {
     {
         let net = self.net;
         let _stages = net.stages();
-        let targets = narrow::<SMALL>(self.wiring.reply_targets(unit));
+        let targets = self.wiring.reply_targets::<SMALL>(unit);
         let number = unit.number();
         let Some(switch) = &mut self.switches[number] else {
             return;
         };
-        let ways = find_reply_ways(closed, stage, targets);
-        send_from_switch(switch, &mut self.replies, number, targets, ways);
+        let links = &mut self.replies;
+        send_from_switch(switch, links, net, closed, number, stage, index, targets);
         self.sets.note_replies_sent(unit, switch);
     }
 
     /// The reply of a module goes onto its link, if there is a way.
-    #[tactic(auto, using(crate::proofs::Small::from_module))]
     fn send_reply_of_module<const SMALL: bool>(
         &mut self,
         closed: &UnitSet,
@@ -80,15 +86,10 @@ impl Block {
         let Some(bank) = &mut self.modules[module_number as usize] else {
             return;
         };
-        let switch = switch_number(net, net.stages() - 1, module_number / 2);
-        let target = narrow::<SMALL>(Ports {
-            zero: switch,
-            one: switch,
-        })
-        .zero;
+        let target = module_target::<SMALL>(net, module_number);
         let out = modules::send_reply(bank, !closed.has(target));
-        self.sets.note_reply_left(unit, bank);
         leave_module(&mut self.replies, net, module_number, target, out);
+        self.sets.note_reply_left(unit, bank);
     }
 }
 
@@ -135,11 +136,14 @@ impl Block {
 
     /// Replies leave the switches and modules, past the switches in `closed`, which have no room for them.
     #[inline(always)]
-    fn send_replies_past(&mut self, closed: &UnitSet)
+    #[tactic(auto, using(ultra_units::proofs::Readers::few_units, std::proofs::lemmas::Bool::Decides::nat_tests))]
+    fn send_replies_past<const SMALL: bool>(&mut self, closed: &UnitSet)
+        requires { SMALL ≡ true → IsSmall self.old.stages }
         ensures { self.new ≡ after_units (sends_replies closed.now) 320 (begun self.old) }
     {
+        let _stages = self.net.stages();
         self.begin();
-        visit_all(&SendReplies::<false> { closed }, self);
+        visit_all::<SMALL, Block, SendReplies<SMALL>>(&SendReplies { closed }, self);
     }
 
     /// The first half of a cycle: replies leave the switches and modules for where there is room, onto their links. What had happened in the cycle before is forgotten.
@@ -147,7 +151,7 @@ impl Block {
     pub fn send_replies(&mut self, rooms: &Rooms)
         ensures { self.new ≡ after_units (sends_replies rooms.now.no_reply_room) 320 (begun self.old) }
     {
-        self.send_replies_past(&rooms.no_reply_room);
+        self.send_replies_past::<false>(&rooms.no_reply_room);
     }
 
     /// The first half of a cycle in a block in which all units stand: it knows all rooms itself.
@@ -157,12 +161,6 @@ impl Block {
         ensures { (rooms : Rooms) × AreOwnRooms self.old rooms × (self.new ≡ after_units (sends_replies rooms.no_reply_room) 320 (begun self.old)) }
     {
         let closed = self.sets.no_reply_room;
-        if SMALL {
-            let _stages = self.net.stages();
-            self.begin();
-            visit_first_word(&SendReplies::<true> { closed: &closed }, self);
-        } else {
-            self.send_replies_past(&closed);
-        }
+        self.send_replies_past::<SMALL>(&closed);
     }
 }

@@ -11,8 +11,8 @@ use ultra_msg::RequestPacket;
 use ultra_route::Net;
 use ultra_switch::{Ports, Switch, ToMm};
 use ultra_units::{
-    Links, Unit, UnitNumber, UnitSet, Visit, has_request_way, has_way_from_element, leave_element,
-    narrow, switch_number, visit_all, visit_first_word,
+    Links, Unit, UnitNumber, UnitSet, Visit, element_target, has_request_way, has_way_from_element,
+    leave_element, visit_all,
 };
 
 /// The first request of a queue of a switch of this stage goes onto its link, if there is a way to the unit `target`, to which the link leads.
@@ -24,11 +24,10 @@ fn send_from_queue(
     closed: &Ports<UnitSet>,
     stage: u32,
     link: usize,
-    target: usize,
+    target: UnitNumber,
 )
     requires stage { stage < net }
     requires leads { LeadsTo (request_inlets links.old.stages) links.old.stages link target }
-    requires small { target < 320 }
     ensures queue { (x : ℕ) → target ≡ request_target net stage x → queue.new ≡ lane_without queue.old (request_leaving closed.now net stage x queue.old) }
     ensures links { (x : ℕ) → target ≡ request_target net stage x → links.new ≡ record links.old { table = put_on links.old.table link (request_leaving closed.now net stage x queue.old); targets = links.new.targets } }
 {
@@ -47,7 +46,7 @@ fn send_from_switch(
     number: usize,
     stage: u32,
     index: u32,
-    targets: Ports<usize>,
+    targets: Ports<UnitNumber>,
 )
     requires is { IsSwitch net number stage index }
     requires small { number < 320 }
@@ -66,7 +65,6 @@ fn send_from_switch(
 
 impl Block {
     /// The first request of each queue of a switch goes onto its link, where there is a way.
-    #[tactic(auto, using(crate::proofs::Small::requests_zero, crate::proofs::Small::requests_one))]
     fn send_requests_of_switch<const SMALL: bool>(
         &mut self,
         closed: &Ports<UnitSet>,
@@ -79,7 +77,7 @@ impl Block {
         ensures { self.new ≡ switch_sends_requests closed.now unit stage index self.old }
     {
         let net = self.net;
-        let targets = narrow::<SMALL>(self.wiring.request_targets(unit));
+        let targets = self.wiring.request_targets::<SMALL>(unit);
         let number = unit.number();
         let Some(switch) = &mut self.switches[number] else {
             return;
@@ -90,7 +88,6 @@ impl Block {
     }
 
     /// The first request of a processing element goes onto its link, if there is a way.
-    #[tactic(auto, using(crate::proofs::Small::from_element))]
     fn send_request_of_element<const SMALL: bool>(
         &mut self,
         closed: &Ports<UnitSet>,
@@ -106,18 +103,13 @@ impl Block {
         let Some(element) = &mut self.elements[pe as usize] else {
             return;
         };
-        let switch = switch_number(net, 0, net.shuffle(pe) / 2);
-        let target = narrow::<SMALL>(Ports {
-            zero: switch,
-            one: switch,
-        })
-        .zero;
+        let target = element_target::<SMALL>(net, pe);
         if !has_way_from_element(net, closed, target, element.request_head()) {
             return;
         }
         let out = element.send_request();
-        self.sets.note_request_left(unit, element);
         leave_element(&mut self.requests, net, pe, target, out);
+        self.sets.note_request_left(unit, element);
     }
 }
 
@@ -153,13 +145,23 @@ impl<const SMALL: bool> Visit<Block> for SendRequests<'_, SMALL> {
 }
 
 impl Block {
+    /// Requests leave the switches and processing elements, past what has no room for them by the memory-side port.
+    #[inline(always)]
+    #[tactic(auto, using(ultra_units::proofs::Readers::few_units, std::proofs::lemmas::Bool::Decides::nat_tests))]
+    fn send_requests_past<const SMALL: bool>(&mut self, closed: &Ports<UnitSet>)
+        requires { SMALL ≡ true → IsSmall self.old.stages }
+        ensures { self.new ≡ after_units (sends_requests closed.now) 320 self.old }
+    {
+        let _stages = self.net.stages();
+        visit_all::<SMALL, Block, SendRequests<SMALL>>(&SendRequests { closed }, self);
+    }
+
     /// The fourth half of a cycle: requests leave the switches and processing elements for where there is room, onto their links.
     #[inline(always)]
     pub fn send_requests(&mut self, rooms: &Rooms)
         ensures { self.new ≡ after_units (sends_requests rooms.now.no_request_room) 320 self.old }
     {
-        let closed = &rooms.no_request_room;
-        visit_all(&SendRequests::<false> { closed }, self);
+        self.send_requests_past::<false>(&rooms.no_request_room);
     }
 
     /// The fourth half of a cycle in a block in which all units stand: it knows all rooms itself.
@@ -169,11 +171,6 @@ impl Block {
         ensures { (rooms : Rooms) × AreOwnRooms self.old rooms × (self.new ≡ after_units (sends_requests rooms.no_request_room) 320 self.old) }
     {
         let closed = self.sets.no_request_room;
-        if SMALL {
-            let _stages = self.net.stages();
-            visit_first_word(&SendRequests::<true> { closed: &closed }, self);
-        } else {
-            visit_all(&SendRequests::<false> { closed: &closed }, self);
-        }
+        self.send_requests_past::<SMALL>(&closed);
     }
 }

@@ -6,7 +6,7 @@ ghost use Rattle.ultra_section.specs.{Prelude.IsSmall, Prelude.after_units, Prel
 use crate::block::Block;
 use ultra_halves::append;
 use ultra_msg::Event;
-use ultra_units::{UnitNumber, UnitSet, Visit, visit_all, visit_first_word};
+use ultra_units::{UnitNumber, UnitSet, Visit, visit_all};
 
 impl Block {
     /// A module serves the request that waits, if no reply is in its way.
@@ -64,22 +64,18 @@ impl Block {
         requires { (k : ℕ) → k < 320 → HasEventRoom k self.old }
         ensures { self.new ≡ after_units serves 320 self.old }
     {
-        visit_all(&Serve::<false>, self);
+        self.serve_here::<false>();
     }
 
     /// The third half of a cycle in a block in which all units stand.
     #[inline(always)]
-    #[tactic(auto, using(crate::proofs::Small::serves_nothing))]
+    #[tactic(auto, using(ultra_units::proofs::Readers::few_units, std::proofs::lemmas::Bool::Decides::nat_tests))]
     pub fn serve_here<const SMALL: bool>(&mut self)
         requires small { SMALL ≡ true → IsSmall self.old.stages }
         requires room { (k : ℕ) → k < 320 → HasEventRoom k self.old }
         ensures { self.new ≡ after_units serves 320 self.old }
     {
-        if SMALL {
-            let _stages = self.net.stages();
-            visit_first_word(&Serve::<true>, self);
-        } else {
-            self.serve();
-        }
+        let _stages = self.net.stages();
+        visit_all::<SMALL, Block, Serve<SMALL>>(&Serve, self);
     }
 }

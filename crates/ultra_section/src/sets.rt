@@ -134,7 +134,7 @@ impl Sets {
         self.holds_replies
             .insert_if(unit, switches::holds_replies(switch));
         self.no_reply_room.insert_if(unit, is_full);
-        if self.keeps_records.has(unit.number()) {
+        if self.keeps_records.has(unit) {
             self.keeps_records
                 .remove_unless(unit, switches::keeps_records(switch));
         }

@@ -10,9 +10,7 @@ use ultra_halves::replies::take_reply;
 use ultra_msg::{Event, ReplyPacket};
 use ultra_route::Net;
 use ultra_switch::{Ports, Switch};
-use ultra_units::{
-    Links, Unit, UnitNumber, UnitSet, Visit, take_at_element, visit_all, visit_first_word,
-};
+use ultra_units::{Links, Unit, UnitNumber, UnitSet, Visit, take_at_element, visit_all};
 
 /// What comes to a switch by its links `inlets` goes through its wait buffers into its queues. One port is done with before the other.
 #[inline(always)]
@@ -120,22 +118,18 @@ impl Block {
         requires { (k : ℕ) → k < 320 → CanTakeRepliesAt k self.old }
         ensures { self.new ≡ after_units takes_replies 320 self.old }
     {
-        visit_all(&TakeReplies::<false>, self);
+        self.take_replies_here::<false>();
     }
 
     /// The second half of a cycle in a block in which all units stand.
     #[inline(always)]
-    #[tactic(auto, using(crate::proofs::Small::gets_no_reply))]
+    #[tactic(auto, using(ultra_units::proofs::Readers::few_units, std::proofs::lemmas::Bool::Decides::nat_tests))]
     pub fn take_replies_here<const SMALL: bool>(&mut self)
         requires small { SMALL ≡ true → IsSmall self.old.stages }
         requires can { (k : ℕ) → k < 320 → CanTakeRepliesAt k self.old }
         ensures { self.new ≡ after_units takes_replies 320 self.old }
     {
-        if SMALL {
-            let _stages = self.net.stages();
-            visit_first_word(&TakeReplies::<true>, self);
-        } else {
-            self.take_replies();
-        }
+        let _stages = self.net.stages();
+        visit_all::<SMALL, Block, TakeReplies<SMALL>>(&TakeReplies, self);
     }
 }

@@ -12,7 +12,6 @@ use ultra_route::Net;
 use ultra_switch::Switch;
 use ultra_units::{
     Links, Unit, UnitNumber, UnitSet, Visit, ports_in_turn, take_at_module, visit_all,
-    visit_first_word,
 };
 
 /// What comes to a switch by two links, one after the other, goes into its queues, where it may combine. One request is done with before the other. Combinations are appended to `events`: by position, and at one position in the order of the arrivals. Answers whether there are any.
@@ -134,22 +133,18 @@ impl Block {
         requires { (k : ℕ) → k < 320 → CanTakeRequestsAt k self.old }
         ensures { self.new ≡ after_units takes_requests 320 self.old }
     {
-        visit_all(&TakeRequests::<false>, self);
+        self.take_requests_here::<false>();
     }
 
     /// The fifth half of a cycle in a block in which all units stand.
     #[inline(always)]
-    #[tactic(auto, using(crate::proofs::Small::gets_no_request))]
+    #[tactic(auto, using(ultra_units::proofs::Readers::few_units, std::proofs::lemmas::Bool::Decides::nat_tests))]
     pub fn take_requests_here<const SMALL: bool>(&mut self)
         requires small { SMALL ≡ true → IsSmall self.old.stages }
         requires can { (k : ℕ) → k < 320 → CanTakeRequestsAt k self.old }
         ensures { self.new ≡ after_units takes_requests 320 self.old }
     {
-        if SMALL {
-            let _stages = self.net.stages();
-            visit_first_word(&TakeRequests::<true>, self);
-        } else {
-            self.take_requests();
-        }
+        let _stages = self.net.stages();
+        visit_all::<SMALL, Block, TakeRequests<SMALL>>(&TakeRequests, self);
     }
 }

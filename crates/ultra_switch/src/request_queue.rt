@@ -157,10 +157,10 @@ impl ToMm {
             self.queue.push(*packet);
             return Arrived::Appended;
         };
-        let (old, request) = (self.queue.entry(place), packet.request());
-        let sent = sent_for(old.request, request);
+        let old = self.queue.entry(place);
+        let (sent, record) = combine(old, packet.request());
         self.queue.replace(place, RequestPacket::of(sent));
-        self.records.push(wait_record(old, request));
+        self.records.push(record);
         Arrived::CombinedWith(old.request.pe)
     }
 
@@ -199,29 +199,26 @@ impl ToMm {
     }
 }
 
-/// The request that stands for both after one has combined with an old one.
-fn sent_for(old: Request, request: Request) -> Request
-    ensures { result ≡ sent_for old request }
+/// A request combines with the request of an old entry: the request that stands for both, and what is kept of the two.
+fn combine(old: Entry, request: Request) -> (Request, WaitRecord)
+    ensures sent { result.0 ≡ sent_for old.request request }
+    ensures kept { result.1 ≡ wait_record old request }
 {
-    Request {
-        pe: old.pe,
-        cell: old.cell,
-        op: pair(old.op, request.op).sent,
-    }
-}
-
-/// What is kept of the two.
-fn wait_record(old: Entry, request: Request) -> WaitRecord
-    ensures { result ≡ wait_record old request }
-{
-    let paired = pair(old.request.op, request.op);
-    WaitRecord {
-        pe: old.request.pe,
-        cell: old.request.cell,
+    let Request { pe, cell, op } = old.request;
+    let paired = pair(op, request.op);
+    let sent = Request {
+        pe,
+        cell,
+        op: paired.sent,
+    };
+    let kept = WaitRecord {
+        pe,
+        cell,
         give_old: paired.give_old,
         partner: request.pe,
         give_new: paired.give_new,
-    }
+    };
+    (sent, kept)
 }
 
 /// Whether the record has the identity of the reply.

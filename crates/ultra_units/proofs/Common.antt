@@ -10,5 +10,5 @@ pub use Rattle.ultra_units.specs.Marks.{delivery_link, memory_link, on_link, por
 pub use Rattle.ultra_units.specs.Numbers.{element_number, module_number, place_number, reply_target, request_target, switch_count, switch_number, unit_count}
 pub use Rattle.ultra_units.specs.Set.{AreSameBut, HasNoneFrom, HasNoneWithin, IsFirstOf, has_bit, has_unit}
 pub use Rattle.ultra_units.specs.Units.{IsElement, IsModule, IsSwitch, IsUnit, index_of, stage_of, unit_of}
-pub use Rattle.ultra_units.specs.Visits.{AreBits, HasCome, IsWalk, comes_to, is_in_first_word, word_end}
+pub use Rattle.ultra_units.specs.Visits.{AreBits, HasCome, IsWalk, comes_to, word_end}
 pub use Rattle.ultra_units.specs.declared.pass.Walk.{Walk}

@@ -4,13 +4,17 @@ use Rattle.ultra_units.proofs.Common.{nat_tests, Ports, all_below_at, AreInlets,
 use Rattle.ultra_route.specs.Route.{shuffled}
 use Rattle.ultra_route.proofs.Table.{all_below}
 use Rattle.ultra_units.proofs.{Put.has_places, Standing.is_switch}
-use Rattle.ultra_units.specs.Ways.{reply_targets, request_targets}
+use Rattle.ultra_units.specs.{Numbers.IsSmall, Ways.reply_targets, Ways.request_targets}
 
 -- what is computed of every network
 pub each_network : (test : ℕ → Bool) → all_below (λ k. test (k + 1)) 6 ≡ true → (d : ℕ) → 1 ≤ d → d ≤ 6 → test d ≡ true
 each_network test all d low high =
     let e : (d - 1) + 1 ≡ d = omega arith in
     subst (λ x. test x ≡ true) e (all_below_at (λ k. test (k + 1)) 6 all (d - 1) (omega arith))
+
+pub few_units : (d : ℕ) → 1 ≤ d → d ≤ 6 → IsSmall d → unit_count d ≤ 64
+unfolding all_below
+few_units d low high small = let it = each_network (λ d. nat_lt 4 d || nat_lt (unit_count d) 65) refl d low high in grind (arith, nat_tests)
 
 each_network_at : (test : ℕ → ℕ → Bool) (count : ℕ → ℕ) → all_below (λ k. all_below (test (k + 1)) (count (k + 1))) 6 ≡ true → (d : ℕ) → 1 ≤ d → d ≤ 6 → (n : ℕ) → n < count d → test d n ≡ true
 each_network_at test count all d low high = all_below_at (test d) (count d) (each_network (λ d. all_below (test d) (count d)) all d low high)
@@ -49,7 +53,7 @@ module _ (inlets : ℕ → ℕ → Option (Ports ℕ)) (reader : ℕ → ℕ →
 
   -- these are the units to which messages go from switch n
   abbrev next_read : ℕ → ℕ → Ports ℕ → Bool
-  next_read d n p = (reader d (2 * n) == p.zero) && (reader d (2 * n + 1) == p.one) && nat_lt p.zero 320 && nat_lt p.one 320
+  next_read d n p = (reader d (2 * n) == p.zero) && (reader d (2 * n + 1) == p.one) && nat_lt p.zero 320 && nat_lt p.one 320 && (nat_lt 4 d || nat_lt p.zero 64 && nat_lt p.one 64)
 
   module _ (read : ReadInlets) (d : ℕ) (low : 1 ≤ d) (high : d ≤ 6) where
     pub are_read : (n : ℕ) (p : Ports ℕ) → inlets d n ≡ Some p → AreRead d (reader d) n p

@@ -1,9 +1,10 @@
 -- Units and the bits of their words, and walks over units.
-use Rattle.std.proofs.Common.{◌≡◌, ℕ, min, Bool, ◌&&◌, ◌+◌, ◌-◌, ◌*◌, ◌/◌, ◌%◌, ◌^◌, ◌<◌, ◌≤◌, true, false, List, [], ◌∷◌, zero, suc, refl, length, get_or, map, set, eqb, sym, ◌∙◌, ap, inl, inr, arith, eq-eqb, get_or-set_same, get_or-set_other, replicate, w64, bit_and, bit_or, not, ◌||◌, ◌≢◌, ◌==◌}
-use Rattle.ultra_units.proofs.Common.{cases_lt, eqb-true, get_or-replicate, get_or_past, length-replicate, nat_tests, AreBits, has_bit, comes_to, is_in_first_word, word_end, HasCome, AreSameBut, HasNoneFrom, HasNoneWithin, IsFirstOf, IsWalk, Walk}
-use Rattle.std.proofs.lemmas.{List.FromFn.get_or-map-range_with_len, Nat.le_or_l, Nat.le_or_r, Nat.shr-shr, Nat.Bits.bit_at-lt, Nat.Bits.bit_at-zero, Nat.Bits.bit_at_above, Nat.Bits.bit_at_and, Nat.Bits.bit_at_not, Nat.Bits.bit_at_ones, Nat.Bits.bit_at_or, Nat.Bits.bit_at_set_same, Nat.Bits.bit_at_set_other, Nat.Bits.bit_at_clear_same, Nat.Bits.bit_at_clear_other, Nat.Bits.bit_at-trailing_zeros}
-use Rattle.std.specs.{Int.bit_not, Int.trailing_zeros, List.range_with_len}
-use Rattle.ultra_units.specs.Set.{has_unit}
+use Rattle.std.proofs.Common.{◌≡◌, ℕ, min, Bool, ◌&&◌, ◌+◌, ◌-◌, ◌*◌, ◌/◌, ◌%◌, ◌^◌, ◌<◌, ◌≤◌, true, false, List, [], ◌∷◌, zero, suc, refl, length, get_or, map, set, eqb, sym, ◌∙◌, ap, inl, inr, arith, eq-eqb, get_or-set_same, get_or-set_other, replicate, w64, bit_and, bit_or, nat_lt, not, ◌||◌, ◌≢◌, ◌==◌}
+use Rattle.ultra_units.proofs.Common.{cases_lt, eqb-true, get_or-replicate, get_or_past, length-replicate, nat_tests, AreBits, has_bit, comes_to, word_end, HasCome, AreSameBut, HasNoneFrom, HasNoneWithin, IsFirstOf, IsWalk, Walk}
+use Rattle.std.proofs.lemmas.{List.FromFn.get_or-map-range_with_len, Nat.le_or_l, Nat.le_or_r, Nat.and_le_l, Nat.pow_below, Nat.shr-shr, Nat.Bits.bit_at-lt, Nat.Bits.bit_at-suc, Nat.Bits.bit_at-zero, Nat.Bits.bit_at_lowest, Nat.Bits.bit_at_above, Nat.Bits.bit_at_and, Nat.Bits.bit_at_not, Nat.Bits.bit_at_ones, Nat.Bits.bit_at_or, Nat.Bits.bit_at_set_same, Nat.Bits.bit_at_set_other, Nat.Bits.bit_at_clear_same, Nat.Bits.bit_at_clear_other, Nat.Bits.bit_at-trailing_zeros}
+use Rattle.std.proofs.Math.Nat.{pow-suc}
+use Rattle.std.specs.{Int.bit_at, Int.Bits.and_self, Int.Bits.and_step, Int.bit_not, Int.trailing_zeros, List.range_with_len}
+use Rattle.ultra_units.specs.Set.{IsUnitBit, bit_of, has_unit}
 
 -- ---- one unit
 pub none_there : (n k : ℕ) → has_unit (replicate n 0) k ≡ false
@@ -24,17 +25,17 @@ module _ (words : List ℕ) (number : ℕ) (within : number < 64 * length words)
   word = get_or words (number / 64) 0
 
   abbrev bit : ℕ
-  bit = 1 * 2 ^ (number % 64) % 2 ^ 64
+  bit = bit_of number
 
   abbrev with_word : ℕ → List ℕ
   with_word v = set words (number / 64) v
 
   pub inserted : (k : ℕ) → has_unit (with_word (bit_or word bit)) k ≡ (k == number || has_unit words k)
-  unfolding has_unit
+  unfolding has_unit bit_of
   inserted k = grind (arith, nat_tests, get_or-set_same, get_or-set_other, bit_at_set_same w64 word (number % 64) (omega arith), bit_at_set_other w64 word (number % 64) (omega arith) (k % 64))
 
   pub removed : (k : ℕ) → has_unit (with_word (bit_and word (bit_not w64 bit))) k ≡ (not (k == number) && has_unit words k)
-  unfolding has_unit
+  unfolding has_unit bit_of
   removed k = grind (arith, nat_tests, get_or-set_same, get_or-set_other, bit_at_clear_same w64 word (number % 64) (omega arith), bit_at_clear_other w64 word (number % 64) (omega arith) (k % 64) (omega arith))
 
   -- a mask of ones keeps every unit
@@ -96,6 +97,46 @@ module _ (words : List ℕ) (from : ℕ) (fits : get_or words (from / 64) 0 < 2 
   pub first_past_rest : (k : ℕ) → rest ≡ 0 → IsFirstOf (has_unit words) ((from / 64 + 1) * 64) k → IsFirstOf (has_unit words) from k
   first_past_rest k none first = let clear = none_in_rest none in grind arith
 
+-- ---- the lowest bit
+-- a number less what it has in common with one less is its lowest bit
+lowest_left : (t n : ℕ) → bit_at n t ≡ 1 → ((j : ℕ) → j < t → bit_at n j ≡ 0) → n - bit_and n (n - 1) ≡ 2 ^ t
+lowest_left zero n one none =
+    let half : (n - 1) / 2 ≡ n / 2 = omega (arith, one, bit_at_lowest n) in
+    let step = and_step n (n - 1) in
+    let same = and_self (n / 2) in
+    grind (arith, bit_at_lowest n)
+lowest_left (suc t) n one none =
+    let even = none 0 (omega arith) in
+    let half : (n - 1) / 2 ≡ n / 2 - 1 = omega (arith, even, bit_at_lowest n) in
+    let step = and_step n (n - 1) in
+    let below = lowest_left t (n / 2) (sym (bit_at-suc n t) ∙ one) (λ j before. sym (bit_at-suc n j) ∙ none (suc j) (omega arith)) in
+    grind (arith, bit_at_lowest n, pow-suc 2 t)
+
+module _ (bits : ℕ) (some : 0 < bits) (fits : bits < 2 ^ 64) where
+  pub lowest_bit : IsUnitBit (trailing_zeros w64 bits) (bits - bit_and bits (bits - 1))
+  unfolding bit_of
+  lowest_bit =
+      let lowest = bit_at-trailing_zeros w64 bits some fits in
+      let small = pow_below (trailing_zeros w64 bits) 64 lowest.0 in
+      let place : trailing_zeros w64 bits % 64 ≡ trailing_zeros w64 bits = omega (arith, lowest.0) in
+      record { in_range = omega (arith, lowest.0); is = rw place (lowest_left _ bits lowest.1 lowest.2 ∙ omega (arith, small)) }
+
+  -- the bits without the lowest
+  module _ (first bit : ℕ) (at : first ≡ trailing_zeros w64 bits) (is : bit ≡ bit_of first) where
+    pub bits_behind : (i : ℕ) → has_bit (bit_and bits (bit_not w64 bit)) i ≡ (nat_lt first i && has_bit bits i)
+    unfolding bit_of
+    bits_behind i =
+        let lowest = bit_at-trailing_zeros w64 bits some fits in
+        let place : first % 64 ≡ first = omega (arith, lowest.0) in
+        let same : bit ≡ 1 * 2 ^ first % 2 ^ 64 = rw place at is in
+        elim (cases_lt i 64) [
+          | inl within ↦ grind (arith, nat_tests, bit_at_clear_same w64 bits first (omega (arith, lowest.0)), bit_at_clear_other w64 bits first (omega (arith, lowest.0)) i within)
+          | inr past ↦ grind (arith, nat_tests, bit_at_above bits 64 i, bit_at_and bits (bit_not w64 bit) i)
+        ]
+
+    pub fewer_behind : bit_and bits (bit_not w64 bit) < bits
+    fewer_behind = let lowest = bit_at-trailing_zeros w64 bits some fits in let gone = bits_behind first in let no_more = and_le_l bits (bit_not w64 bit) in grind (arith, nat_tests)
+
 -- ---- uniting and taking away
 
 module _ (a b : List ℕ) (five_a : length a ≡ 5) (five_b : length b ≡ 5) where
@@ -128,24 +169,10 @@ come_in_word words word from small fits some order none =
     let here = come _ _ _ _ (bits_of_word words word fits) word refl (omega arith) small some fits in
     record { first = grind arith; rest = here.rest }
 
-pub come_first : (words : List ℕ) → get_or words 0 0 < 2 ^ 64 → 0 < get_or words 0 0
-    → HasCome (is_in_first_word words) 0 (record { unit = trailing_zeros w64 (get_or words 0 0); rest = get_or words 0 0 / 2 ^ trailing_zeros w64 (get_or words 0 0) / 2 })
-come_first words fits some =
-    let bits : AreBits (is_in_first_word words) 0 64 (get_or words 0 0) = (let here = bits_of_word words 0 fits in grind (arith, nat_tests)) in
-    let same : 0 + trailing_zeros w64 (get_or words 0 0) ≡ trailing_zeros w64 (get_or words 0 0) = omega arith in
-    rw same at (come _ _ _ _ bits 0 refl (omega arith) (omega arith) some fits)
-
 pub come_on : (w : Walk) → IsWalk w → 0 < w.rest → w.rest < 2 ^ 64 → (words : List ℕ) → HasCome (comes_to w words) (w.unit + 1) (walk_at (w.unit + 1) w.rest)
 come_on w is some fits words =
     let bits : AreBits (comes_to w words) (w.unit + 1) (word_end w.unit) w.rest = (let inside = is.within in grind (arith, nat_tests)) in
     come _ _ _ _ bits (w.unit / 64) refl (omega arith) (let small = is.small in omega arith) some fits
-
--- a walk that has no words behind its own comes only to units of that
-pub in_word_alone : (w : Walk) (k : ℕ) → comes_to w [] k ≡ true → k < word_end w.unit
-in_word_alone w k comes = let none = past_words [] k (omega arith) in grind (arith, nat_tests)
-
-pub none_in_rest_word : (w : Walk) (k : ℕ) → w.rest ≡ 0 → comes_to w [] k ≡ false
-none_in_rest_word w k none = let past = past_words [] k (omega arith) in let clear = bit_at-zero (k - (w.unit + 1)) in grind (arith, nat_tests)
 
 pub ruleset word_steps = (come_in_word, none_in_word, past_words, bit_at-trailing_zeros)
 

@@ -2,7 +2,7 @@
 -- another
 use Rattle.std.specs.Prelude.{◌≡◌, ◌≢◌, ℕ, ◌+◌, ◌*◌, ◌^◌, ◌<◌, ◌⊎◌, false, length, List, Option, Some, None, slice_set}
 use Rattle.ultra_switch.specs.declared.Ports.{Ports}
-use Rattle.ultra_units.specs.{Numbers.switch_count, Set.has_unit, Units.index_of, Units.stage_of, Units.of_unit, Links.put_on, Ways.places_of, Marks.on_link, Marks.reply_links, Marks.delivery_link, Marks.request_links, Marks.memory_link}
+use Rattle.ultra_units.specs.{Numbers.IsSmall, Numbers.switch_count, Set.has_unit, Units.index_of, Units.stage_of, Units.of_unit, Links.put_on, Ways.places_of, Marks.on_link, Marks.reply_links, Marks.delivery_link, Marks.request_links, Marks.memory_link}
 
 -- one link, which stands at both ports
 abbrev pub at_both : ℕ → Ports ℕ
@@ -61,6 +61,7 @@ module _ (inlets : ℕ → Option (Ports ℕ)) (d : ℕ) where
     pub one : LeadsTo (2 * n + 1) targets.one
     pub zero_small : targets.zero < 320
     pub one_small : targets.one < 320
+    pub near : IsSmall d → (targets.zero < 64) × (targets.one < 64)
     pub places : places_of d (stage_of d n) (index_of d n) ≡ record { zero = 2 * n; one = 2 * n + 1 }
 
   -- messages lead to these units alone

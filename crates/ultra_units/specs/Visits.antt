@@ -24,10 +24,6 @@ comes_to w words k = elim (nat_lt k (word_end w.unit)) [
   | false ↦ has_unit words k
 ]
 
--- whether a unit is in the first word of a set
-abbrev pub is_in_first_word : List ℕ → ℕ → Bool
-is_in_first_word words k = nat_lt k 64 && has_unit words k
-
 -- the bits say which of the numbers from `from` on, below `to`, are those of these units
 pub record AreBits (are : ℕ → Bool) (from to bits : ℕ) : Type 0 where
   pub each : (i : ℕ) → has_bit bits i ≡ (nat_lt (from + i) to && are (from + i))

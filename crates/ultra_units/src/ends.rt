@@ -16,12 +16,11 @@ pub fn leave_module(
     links: &mut Links<ReplyPacket>,
     net: Net,
     number: u32,
-    target: usize,
+    target: UnitNumber,
     reply: Option<ReplyPacket>,
 )
     requires number { number < 2 ^ net }
     requires target { target ≡ number_of_switch net (net - 1) (number / 2) }
-    requires small { target < 320 }
     requires stages { links.old.stages ≡ net }
     ensures { links.new ≡ record links.old { table = put_on links.old.table (number_of_place net net number) reply; targets = links.new.targets } }
 {
@@ -55,12 +54,11 @@ pub fn leave_element(
     links: &mut Links<RequestPacket>,
     net: Net,
     pe: u32,
-    target: usize,
+    target: UnitNumber,
     request: Option<RequestPacket>,
 )
     requires pe { pe < 2 ^ net }
     requires target { target ≡ number_of_switch net 0 (shuffled net pe / 2) }
-    requires small { target < 320 }
     requires stages { links.old.stages ≡ net }
     ensures { links.new ≡ record links.old { table = put_on links.old.table (number_of_place net net pe) request; targets = links.new.targets } }
 {

@@ -14,9 +14,11 @@ mod wiring;
 
 pub use ends::{leave_element, leave_module, take_at_element, take_at_module};
 pub use links::{Links, Message, ports_in_turn};
-pub use numbers::{element_number, is_small, module_number, narrow, switch_count, switch_number};
-pub use pass::{Visit, visit_all, visit_first_word};
+pub use numbers::{element_number, is_small, module_number, switch_count, switch_number};
+pub use pass::{Visit, visit_all};
 pub use unit::{Unit, no_entries};
 pub use unit_set::{UnitNumber, UnitSet};
-pub use ways::{find_reply_ways, has_request_way, has_way_from_element};
+pub use ways::{
+    element_target, find_reply_ways, has_request_way, has_way_from_element, module_target,
+};
 pub use wiring::{Wiring, reply_inlets, request_inlets};

@@ -86,8 +86,7 @@ impl<M: Message> Links<M> {
 
     /// Puts a message, if there is one, on a link, which leads to the unit `target`.
     #[inline(always)]
-    pub fn put(&mut self, link: usize, target: usize, message: Option<M>)
-        requires small { target < 320 }
+    pub fn put(&mut self, link: usize, target: UnitNumber, message: Option<M>)
         requires leads { LeadsTo (M.inlets self.old.stages) self.old.stages link target }
         ensures table { self.new ≡ record self.old { table = put_on self.old.table link message; targets = self.new.targets } }
         ensures there { is_some message ≡ true → has_unit self.new.targets target ≡ true }
@@ -98,7 +97,7 @@ impl<M: Message> Links<M> {
             return;
         };
         self.table[link].fill(message);
-        self.targets.insert(UnitNumber::of(target));
+        self.targets.insert(target);
     }
 
     /// Takes what is on a link.
@@ -147,7 +146,8 @@ impl<M: Message> Links<M> {
         ensures count { length self.old.table ≡ link_count self.old.stages }
     {
         let _count = &self.table;
-        self.put(inlets.zero, unit, messages.zero);
-        self.put(inlets.one, unit, messages.one);
+        let target = UnitNumber::of(unit);
+        self.put(inlets.zero, target, messages.zero);
+        self.put(inlets.one, target, messages.one);
     }
 }

@@ -24,28 +24,13 @@ pub fn is_small(net: Net) -> bool
     net.stages() <= 4
 }
 
-/// The numbers of units again. In a `SMALL` machine the compiler then knows that they are below 64.
-#[inline(always)]
-pub fn narrow<const SMALL: bool>(units: Ports<usize>) -> Ports<usize>
-    requires zero { SMALL ≡ true → units.zero < 64 }
-    requires one { SMALL ≡ true → units.one < 64 }
-    ensures { result ≡ units }
-{
-    if !SMALL {
-        return units;
-    }
-    Ports {
-        zero: units.zero % 64,
-        one: units.one % 64,
-    }
-}
-
 /// The number of a switch of a stage, by its index there.
 #[inline(always)]
 pub fn switch_number(net: Net, stage: u32, index: u32) -> usize
     requires stage { stage < net }
     requires index { index < 2 ^ (net - 1) }
     ensures value { result ≡ number_of_switch net stage index }
+    ensures within { result < count_of_switches net }
     ensures small { result < 192 }
 {
     let _stages = net.stages();

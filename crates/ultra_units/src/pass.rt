@@ -1,7 +1,7 @@
 //! Walks over the units of a set, and visits of them.
 
-ghost use Rattle.std.specs.Prelude.{◌≡◌, ℕ, ◌+◌, ◌*◌, ◌<◌, ◌≤◌, List, false, IfNone, IfSome};
-ghost use Rattle.ultra_units.specs.{Set.HasNoneFrom, Set.has_unit, Visits.after_units, Visits.HasCome, Visits.IsWalk, Visits.comes_to, Visits.is_in_first_word};
+ghost use Rattle.std.specs.Prelude.{◌≡◌, ℕ, ◌+◌, ◌*◌, ◌<◌, ◌≤◌, true, false, IfNone, IfSome};
+ghost use Rattle.ultra_units.specs.{Set.HasNoneFrom, Set.has_unit, Visits.after_units, Visits.HasCome, Visits.IsWalk, Visits.comes_to};
 
 use crate::unit_set::{UnitNumber, UnitSet, WORDS};
 
@@ -15,23 +15,6 @@ pub(crate) struct Walk {
 }
 
 impl Walk {
-    /// The same walk at its next unit in the same word, or `None` where there is none.
-    #[inline(always)]
-    fn go_on_in_word(self) -> Option<Walk>
-        requires { IsWalk self }
-        ensures some { (words : List ℕ) → IfSome result (HasCome (comes_to self words) (self.unit + 1)) }
-        ensures none { IfNone result (self.rest ≡ 0) }
-    {
-        if self.rest == 0 {
-            return None;
-        }
-        let distance = self.rest.trailing_zeros() as usize;
-        Some(Walk {
-            unit: UnitNumber::of(self.unit.number() + 1 + distance),
-            rest: self.rest >> distance >> 1,
-        })
-    }
-
     /// The same walk at its next unit, or `None` where there is none.
     #[inline(always)]
     pub(crate) fn go_on(self, set: &UnitSet) -> Option<Walk>
@@ -39,31 +22,19 @@ impl Walk {
         ensures some { IfSome result (HasCome (comes_to self set.now) (self.unit + 1)) }
         ensures none { IfNone result ((k : ℕ) → self.unit + 1 ≤ k → comes_to self set.now k ≡ false) }
     {
+        let unit = self.unit.number();
         if self.rest != 0 {
-            return self.go_on_in_word();
+            let distance = self.rest.trailing_zeros() as usize;
+            return Some(Walk {
+                unit: UnitNumber::of(unit + 1 + distance),
+                rest: self.rest >> distance >> 1,
+            });
         }
-        let word = self.unit.number() / 64;
+        let word = unit / 64;
         if word == 0 && set.is_in_first_word() {
             return None;
         }
         Walk::from_word(set, word + 1)
-    }
-
-    /// A walk at the first unit of a set in its first word, or `None` where there is none.
-    #[inline(always)]
-    fn in_first_word(set: &UnitSet) -> Option<Walk>
-        ensures some { IfSome result (HasCome (is_in_first_word set.now) 0) }
-        ensures none { IfNone result ((k : ℕ) → is_in_first_word set.now k ≡ false) }
-    {
-        let bits = set.words[0];
-        if bits == 0 {
-            return None;
-        }
-        let bit = bits.trailing_zeros() as usize;
-        Some(Walk {
-            unit: UnitNumber::of(bit),
-            rest: bits >> bit >> 1,
-        })
     }
 
     /// A walk at its first unit in the words from `first` on, or `None` where there is none.
@@ -113,31 +84,35 @@ pub trait Visit<T> {
         ensures still { (k : ℕ) → is_idle self.now k target.new → visited self.now k target.new ≡ target.new };
 }
 
-/// Visits all units, by their numbers. It skips those that have nothing to do.
+/// Visits all units, by their numbers. It skips those that have nothing to do. In a `SMALL` machine these are all that are past the first word, and the loop is compiled in place.
 ///
-/// Where none has, it takes no more than one look at the set.
+/// Where none has anything to do, it takes no more than one look at the set.
 #[inline(always)]
 #[tactic(auto, using(crate::proofs::Visits::none_to_do))]
-pub fn visit_all<T, V: Visit<T>>(visit: &V, target: &mut T)
-    requires { (k : ℕ) → k < 320 → V.can_visit visit.now k target.old }
+pub fn visit_all<const SMALL: bool, T, V: Visit<T>>(visit: &V, target: &mut T)
+    requires can { (k : ℕ) → k < 320 → V.can_visit visit.now k target.old }
+    requires others { SMALL ≡ true → (k : ℕ) → 64 ≤ k → V.is_idle visit.now k target.old }
     ensures { target.new ≡ after_units (V.visited visit.now) 320 target.old }
 {
-    if !visit.units(target).is_empty() {
+    if SMALL {
+        visit_first_word(visit, target);
+    } else if !visit.units(target).is_empty() {
         visit_some(visit, target);
     }
 }
 
-/// Visits the units below 64, by their numbers, where no others have anything to do. It skips those that have nothing to do.
+/// Visits the units below 64, where no others have anything to do.
 #[inline(always)]
-pub fn visit_first_word<T, V: Visit<T>>(visit: &V, target: &mut T)
+fn visit_first_word<T, V: Visit<T>>(visit: &V, target: &mut T)
     requires can { (k : ℕ) → k < 320 → V.can_visit visit.now k target.old }
     requires others { (k : ℕ) → 64 ≤ k → V.is_idle visit.now k target.old }
     ensures { target.new ≡ after_units (V.visited visit.now) 320 target.old }
 {
-    let mut next = Walk::in_first_word(visit.units(target));
-    while let Some(walk) = next {
-        visit.visit(target, UnitNumber::of(walk.unit.number() % 64));
-        next = walk.go_on_in_word();
+    let mut units = visit.units(target).words[0];
+    while units != 0 {
+        let first = UnitNumber::first_of(units);
+        units &= !first.bit;
+        visit.visit(target, first);
     }
 }
 

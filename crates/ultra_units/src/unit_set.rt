@@ -1,5 +1,6 @@
 //! Sets of units.
 
+ghost use Rattle.std.specs.Int.{trailing_zeros, w64};
 ghost use Rattle.std.specs.Prelude.{◌≡◌, ℕ, List, ◌+◌, ◌*◌, ◌/◌, ◌<◌, ◌≤◌, ◌&&◌, ◌||◌, true, false, not, IfNone, IfSome};
 ghost use Rattle.ultra_units.specs.Set.{AreSameBut, HasNoneFrom, IsFirstFrom, has_unit};
 
@@ -28,26 +29,47 @@ impl Model for UnitSet {
 #[derive(Clone, Copy, Drop)]
 pub struct UnitNumber {
     number: usize,
+    /// Its bit in its word of a set. The lowest bit of a word takes no shift.
+    pub(crate) bit: u64,
 }
 
 impl Model for UnitNumber {
+    ghost use Rattle.std.specs.Prelude.{ℕ};
+    ghost use Rattle.ultra_units.specs.Set.{IsUnitBit, bit_of};
+
     ghost Value = { ℕ };
 
     ghost view = { λ u. u.number };
 
-    ghost invariant = { λ u. u.number < 320 };
+    ghost invariant = { λ u. IsUnitBit u.number u.bit };
 
-    ghost inverse = { λ n. record { number = n } };
+    ghost inverse = { λ n. record { number = n; bit = bit_of n } };
 }
 
 impl UnitNumber {
     /// The unit of this number.
     #[inline(always)]
+    #[tactic(auto, unfolding(crate::specs::Set::bit_of))]
     pub fn of(number: usize) -> UnitNumber
         requires { number < 320 }
         ensures { result ≡ number }
     {
-        UnitNumber { number }
+        UnitNumber {
+            number,
+            bit: 1 << (number % 64),
+        }
+    }
+
+    /// The unit of the lowest bit of the first word of a set.
+    #[inline(always)]
+    pub(crate) fn first_of(word: u64) -> UnitNumber
+        requires { 0 < word }
+        ensures { result ≡ trailing_zeros w64 word }
+    {
+        UnitNumber {
+            number: word.trailing_zeros() as usize,
+            bit: word - (word & (word - 1)),
+        }
     }
 
     /// The unit's number.
@@ -57,6 +79,22 @@ impl UnitNumber {
         ensures small { result < 320 }
     {
         self.number
+    }
+
+    /// The unit again. In a `SMALL` machine the compiler then knows that its number is below 64.
+    #[inline(always)]
+    pub(crate) fn narrow<const SMALL: bool>(self) -> UnitNumber
+        requires { SMALL ≡ true → self < 64 }
+        ensures { result ≡ self }
+    {
+        if SMALL {
+            UnitNumber {
+                number: self.number % 64,
+                bit: self.bit,
+            }
+        } else {
+            self
+        }
     }
 
     /// The word that says whether it is in a set. Its number is taken modulo 8, so that the compiler knows it to be small.
@@ -85,14 +123,13 @@ impl UnitSet {
         self.words[0] == 0 && self.is_in_first_word()
     }
 
-    /// Whether the unit of this number is in the set.
+    /// Whether a unit is in the set.
     #[inline(always)]
     #[tactic(auto, using(std::proofs::lemmas::Nat::Bits::shr_and_one), unfolding(crate::specs::Set::has_unit))]
-    pub fn has(&self, number: usize) -> bool
-        requires { number < 320 }
-        ensures { result ≡ has_unit self.now number }
+    pub fn has(&self, unit: UnitNumber) -> bool
+        ensures { result ≡ has_unit self.now unit }
     {
-        self.words[UnitNumber::of(number).word()] >> (number % 64) & 1 == 1
+        self.words[unit.word()] >> (unit.number % 64) & 1 == 1
     }
 
     /// Puts a unit into the set.
@@ -101,7 +138,7 @@ impl UnitSet {
         ensures others { AreSameBut unit self.old self.new }
         ensures there { has_unit self.new unit ≡ true }
     {
-        self.words[unit.word()] |= 1u64 << (unit.number % 64);
+        self.words[unit.word()] |= unit.bit;
     }
 
     /// Takes a unit out of the set, if it is there.
@@ -130,11 +167,7 @@ impl UnitSet {
         ensures others { AreSameBut unit self.old self.new }
         ensures there { has_unit self.new unit ≡ has_unit self.old unit && is_in }
     {
-        let kept = if is_in {
-            u64::MAX
-        } else {
-            !(1u64 << (unit.number % 64))
-        };
+        let kept = if is_in { u64::MAX } else { !unit.bit };
         self.words[unit.word()] &= kept;
     }
 

@@ -1,20 +1,45 @@
 //! Where messages go from a unit, and whether they may.
 
-ghost use Rattle.std.specs.Prelude.{◌≡◌, ℕ, ◌-◌, ◌/◌, ◌<◌};
+ghost use Rattle.std.specs.Prelude.{◌≡◌, ℕ, ◌-◌, ◌/◌, ◌^◌, ◌<◌, true};
 ghost use Rattle.ultra_route.specs.Route.{shuffled};
-ghost use Rattle.ultra_units.specs.{Numbers.switch_number as number_of_switch, Numbers.request_target as target_of_request, Ways.has_request_way as way_of_request, Ways.has_room_at as room_at, Ways.has_way_from_element as way_from_element, Ways.reply_targets as targets_of_replies, Ways.reply_ways};
+ghost use Rattle.ultra_units.specs.{Numbers.IsSmall, Numbers.switch_number as number_of_switch, Numbers.request_target as target_of_request, Ways.has_request_way as way_of_request, Ways.has_room_at as room_at, Ways.has_way_from_element as way_from_element, Ways.reply_targets as targets_of_replies, Ways.reply_ways};
 
-use crate::unit_set::UnitSet;
+use crate::numbers::switch_number;
+use crate::unit_set::{UnitNumber, UnitSet};
 use ultra_msg::RequestPacket;
 use ultra_route::Net;
 use ultra_switch::Ports;
 
+/// The switch to which replies go from a memory module.
+#[inline(always)]
+#[tactic(auto, using(crate::proofs::Readers::few_units))]
+pub fn module_target<const SMALL: bool>(net: Net, module_number: u32) -> UnitNumber
+    requires small { SMALL ≡ true → IsSmall net }
+    requires number { module_number < 2 ^ net }
+    ensures { result ≡ number_of_switch net (net - 1) (module_number / 2) }
+{
+    let _even = net.size();
+    let switch = switch_number(net, net.stages() - 1, module_number / 2);
+    UnitNumber::of(switch).narrow::<SMALL>()
+}
+
+/// The switch to which requests go from a processing element.
+#[inline(always)]
+#[tactic(auto, using(crate::proofs::Readers::few_units))]
+pub fn element_target<const SMALL: bool>(net: Net, pe: u32) -> UnitNumber
+    requires small { SMALL ≡ true → IsSmall net }
+    requires number { pe < 2 ^ net }
+    ensures { result ≡ number_of_switch net 0 (shuffled net pe / 2) }
+{
+    let _even = net.size();
+    let switch = switch_number(net, 0, net.shuffle(pe) / 2);
+    UnitNumber::of(switch).narrow::<SMALL>()
+}
+
 /// Whether replies may go on from a switch, by the PE-side port, to the units `targets`. `closed` are the switches without room for replies.
 #[inline(always)]
-pub fn find_reply_ways(closed: &UnitSet, stage: u32, targets: Ports<usize>) -> Ports<bool>
-    requires zero { targets.zero < 320 }
-    requires one { targets.one < 320 }
-    ensures { (net index : ℕ) → targets ≡ targets_of_replies net stage index → result ≡ reply_ways closed.now net stage index }
+pub fn find_reply_ways(closed: &UnitSet, stage: u32, targets: &Ports<UnitNumber>) -> Ports<bool>
+    ensures { (net index : ℕ) → targets.now ≡ targets_of_replies net stage index → result ≡ reply_ways closed.now net stage index }
 {
     Ports {
         zero: stage == 0 || !closed.has(targets.zero),
@@ -22,17 +47,16 @@ pub fn find_reply_ways(closed: &UnitSet, stage: u32, targets: Ports<usize>) -> P
     }
 }
 
-/// Whether the queue that a request goes to has room, at the switch of a stage with this number. `closed` are, by the memory-side port, the switches whose queue there has no room for requests.
+/// Whether the queue that a request goes to has room, at this switch of a stage. `closed` are, by the memory-side port, the switches whose queue there has no room for requests.
 #[inline(always)]
 fn has_room_at(
     net: Net,
     closed: &Ports<UnitSet>,
     stage: u32,
-    switch: usize,
+    switch: UnitNumber,
     request: &RequestPacket,
 ) -> bool
-    requires stage { stage < net }
-    requires switch { switch < 320 }
+    requires { stage < net }
     ensures { result ≡ room_at closed.now net stage switch request.now }
 {
     if net.request_port(stage, request.cell()) == 0 {
@@ -48,11 +72,10 @@ pub fn has_request_way(
     net: Net,
     closed: &Ports<UnitSet>,
     stage: u32,
-    target: usize,
+    target: UnitNumber,
     head: Option<RequestPacket>,
 ) -> bool
-    requires stage { stage < net }
-    requires target { target < 320 }
+    requires { stage < net }
     ensures { (position : ℕ) → target ≡ target_of_request net stage position → result ≡ way_of_request closed.now net stage position head }
 {
     let Some(request) = head else {
@@ -70,10 +93,9 @@ pub fn has_request_way(
 pub fn has_way_from_element(
     net: Net,
     closed: &Ports<UnitSet>,
-    target: usize,
+    target: UnitNumber,
     head: Option<RequestPacket>,
 ) -> bool
-    requires { target < 320 }
     ensures { (pe : ℕ) → target ≡ number_of_switch net 0 (shuffled net pe / 2) → result ≡ way_from_element closed.now net pe head }
 {
     let Some(request) = head else {

@@ -1,7 +1,7 @@
 //! What is beside each unit of a network.
 
-ghost use Rattle.std.specs.Prelude.{◌≡◌, ℕ, ◌-◌, ◌^◌, ◌<◌, IfOk, IfSome, None, Some};
-ghost use Rattle.ultra_units.specs.{Inlets.AreInlets, Inlets.LeadOn, Inlets.reply_inlets as inlets_of_replies, Inlets.request_inlets as inlets_of_requests, Marks.reply_links as links_of_replies, Marks.request_links as links_of_requests, Numbers.switch_count as count_of_switches, Units.IsElement, Units.IsModule, Units.IsUnit, Units.index_of, Units.of_unit, Units.stage_of, Units.unit_of, Ways.reply_targets as targets_of_replies, Ways.request_targets as targets_of_requests, Wiring.IsWired, Wiring.neighbours};
+ghost use Rattle.std.specs.Prelude.{◌≡◌, true, ℕ, ◌-◌, ◌^◌, ◌<◌, IfOk, IfSome, None, Some};
+ghost use Rattle.ultra_units.specs.{Inlets.AreInlets, Inlets.LeadOn, Inlets.reply_inlets as inlets_of_replies, Inlets.request_inlets as inlets_of_requests, Marks.reply_links as links_of_replies, Marks.request_links as links_of_requests, Numbers.IsSmall, Numbers.switch_count as count_of_switches, Units.IsElement, Units.IsModule, Units.IsUnit, Units.index_of, Units.of_unit, Units.stage_of, Units.unit_of, Ways.reply_targets as targets_of_replies, Ways.request_targets as targets_of_requests, Wiring.IsWired, Wiring.neighbours};
 
 use crate::numbers::{
     by_port, place_number, reply_source, reply_target, request_source, request_target, switch_count,
@@ -56,6 +56,20 @@ fn widen(numbers: Ports<u16>) -> Ports<usize>
     Ports {
         zero: numbers.zero as usize,
         one: numbers.one as usize,
+    }
+}
+
+/// The numbers as those of units. Of a `SMALL` machine they are known to be below 64.
+#[inline(always)]
+fn as_units<const SMALL: bool>(numbers: Ports<u16>) -> Ports<UnitNumber>
+    requires zero { numbers.zero < 320 }
+    requires one { numbers.one < 320 }
+    requires small { SMALL ≡ true → (numbers.zero < 64) × (numbers.one < 64) }
+    ensures { result ≡ numbers }
+{
+    Ports {
+        zero: UnitNumber::of(numbers.zero as usize).narrow::<SMALL>(),
+        one: UnitNumber::of(numbers.one as usize).narrow::<SMALL>(),
     }
 }
 
@@ -201,13 +215,14 @@ impl Wiring {
 
     /// The units to which requests go from a switch, by the memory-side port.
     #[inline(always)]
-    pub fn request_targets(&self, unit: UnitNumber) -> Ports<usize>
-        requires { unit < count_of_switches self.now }
+    pub fn request_targets<const SMALL: bool>(&self, unit: UnitNumber) -> Ports<UnitNumber>
+        requires switch { unit < count_of_switches self.now }
+        requires small { SMALL ≡ true → IsSmall self.now }
         ensures value { result ≡ targets_of_requests self.now (stage_of self.now unit) (index_of self.now unit) }
         ensures lead { LeadOn (inlets_of_requests self.now) self.now unit result }
     {
         let _stages = self.net.stages();
-        widen(self.switches[unit.number()].request_targets)
+        as_units::<SMALL>(self.switches[unit.number()].request_targets)
     }
 
     /// The links by which replies come to a switch, by the memory-side port.
@@ -223,12 +238,13 @@ impl Wiring {
 
     /// The units to which replies go from a switch, by the PE-side port.
     #[inline(always)]
-    pub fn reply_targets(&self, unit: UnitNumber) -> Ports<usize>
-        requires { unit < count_of_switches self.now }
+    pub fn reply_targets<const SMALL: bool>(&self, unit: UnitNumber) -> Ports<UnitNumber>
+        requires switch { unit < count_of_switches self.now }
+        requires small { SMALL ≡ true → IsSmall self.now }
         ensures value { result ≡ targets_of_replies self.now (stage_of self.now unit) (index_of self.now unit) }
         ensures lead { LeadOn (inlets_of_replies self.now) self.now unit result }
     {
         let _stages = self.net.stages();
-        widen(self.switches[unit.number()].reply_targets)
+        as_units::<SMALL>(self.switches[unit.number()].reply_targets)
     }
 }

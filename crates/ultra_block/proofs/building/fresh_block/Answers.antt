@@ -1,4 +1,5 @@
-use Rattle.std.proofs.Common.{arith}
+use Rattle.std.proofs.Common.{◌≡◌, arith}
+use Rattle.ultra_course.specs.Whole.{empty_switch}
 use Rattle.ultra_block.proofs.Built.{is_fresh, row_put}
 use Rattle.ultra_block.proofs.building.fresh_block.Goals as goal
 
@@ -7,5 +8,6 @@ returns c = is_fresh _ _ c.initial-initial.ensures.valid.range _ (grind arith)
 
 pub loop-number-preserved : goal.loop-number-preserved
 loop-number-preserved c =
-    let row = row_put _ _ _ _ _ c.loop-number.invariant.switches (grind arith) c.in_ok-new_switch.ensures in
+    let empty : c.in_ok-switch.switch ≡ empty_switch c.args.config.now = grind arith in
+    let row = row_put _ _ _ _ _ c.loop-number.invariant.switches (grind arith) empty in
     grind arith

@@ -1,60 +1,57 @@
-use Rattle.std.proofs.Common.{ℕ, List, [], ◌∷◌, ap, arith}
-use Rattle.ultra_isa.specs.declared.Instr.{Instr}
-use Rattle.ultra_model.specs.Machine.{Settings}
-use Rattle.ultra_section.specs.BlockState.{BlockState}
-use Rattle.ultra_cut.specs.{Moments.AreWhole, declared.kind.Kind.TheVariants.Replies, declared.kind.Kind.TheVariants.Requests}
-use Rattle.ultra_cut.proofs.{Questions.own_are_all, Whole.Come, Whole.can_execute, Whole.can_serve, Whole.can_take_replies, Whole.can_take_requests, Whole.come_to_one, Whole.next, Whole.replies_left, Whole.replies_taken, Whole.requests_left, Whole.requests_taken, Whole.served}
-use Rattle.ultra_block.proofs.Stages.{stages_kept}
-use Rattle.ultra_block.proofs.cycle.make_cycle_of_one.Given.{Over}
-use Rattle.ultra_block.proofs.cycle.make_cycle_of_one.Goals.{After-send_replies_here, After-send_requests_here}
+use Rattle.std.proofs.Common.{◌≡◌, ℕ, List, [], ◌∷◌, ap, arith}
+use Rattle.ultra_model.specs.Phases.{reply_phase, request_phase}
+use Rattle.ultra_section.specs.Making.{own_made}
+use Rattle.ultra_cut.{proofs.Common.AreOwnRooms, proofs.Common.AreWhole, proofs.Common.BlockState, proofs.Common.Instr, proofs.Common.Rooms, proofs.Common.SendReplies, proofs.Common.SendRequests, proofs.Common.Serve, proofs.Common.Settings, proofs.Common.TakeReplies, proofs.Common.TakeRequests, proofs.Common.all_open, proofs.Questions.own_are_all, proofs.Whole.Left, proofs.Whole.Made, proofs.Whole.can_execute, proofs.Whole.can_serve, proofs.Whole.can_take_replies, proofs.Whole.can_take_requests, proofs.Whole.come_to_one, proofs.Whole.first, proofs.Whole.middle, proofs.Whole.next, proofs.Whole.replies_left, proofs.Whole.replies_taken, proofs.Whole.requests_left, proofs.Whole.requests_taken, proofs.Whole.served, specs.declared.kind.Kind.TheVariants.Replies, specs.declared.kind.Kind.TheVariants.Requests}
 use Rattle.ultra_block.proofs.cycle.make_cycle_of_one.Goals as goal
 
 abbrev one : BlockState → List BlockState
 one b = b ∷ []
 
-came : {g : Over} (c : After-send_replies_here g) {s : Settings} {program : List Instr} {partition : List ℕ} {n : ℕ} (whole : AreWhole s program partition n (one c.args.block.now)) → Come whole Replies (one c.send_replies_here.new.self)
-came c whole = come_to_one whole (replies_left whole _ (own_are_all _ _ c.send_replies_here.ensures.1) (ap one c.send_replies_here.ensures.2))
+-- the one block, half by half
+module _ {s : Settings} {program : List Instr} {partition : List ℕ} {n : ℕ} {b x : BlockState} (whole : AreWhole s program partition n (one b)) (sent : (rooms : Rooms) × AreOwnRooms b rooms × (x ≡ own_made SendReplies rooms b)) where
+  left : Left whole Replies (one x)
+  left = replies_left whole _ (own_are_all _ _ sent.1) (ap one sent.2)
 
-came_on : {g : Over} (c : After-send_requests_here g) {s : Settings} {program : List Instr} {partition : List ℕ} {n : ℕ} (whole : AreWhole s program partition n (one c.args.block.now)) → Come whole Requests (one c.send_requests_here.new.self)
-came_on c whole =
-    let came = come_to_one whole (replies_left whole _ (own_are_all _ _ c.send_replies_here.ensures.1) (ap one c.send_replies_here.ensures.2)) in
-    let taken = replies_taken whole came (ap one c.take_replies_here.ensures) in
-    come_to_one whole (requests_left whole _ (own_are_all _ _ c.send_requests_here.ensures.1) (ap one c.send_requests_here.ensures.2) (served whole taken (ap one c.serve_here.ensures)))
+  module _ {y : BlockState} (takes : y ≡ own_made TakeReplies all_open x) where
+    taken : Made whole 320 (reply_phase s (first whole)) (one y)
+    taken = replies_taken whole (come_to_one whole left) (ap one takes)
 
-pub take_replies_here-requires-clause-can : goal.take_replies_here-requires-clause-can
-take_replies_here-requires-clause-can g c = can_take_replies c.requires.whole.4 (came (goal.at.take_replies_here-requires-clause-can g c).After-send_replies_here c.requires.whole.4) 0 (omega arith)
+    module _ {z : BlockState} (serves : z ≡ own_made Serve all_open y) where
+      made : Made whole 640 (middle whole) (one z)
+      made = served whole taken (ap one serves)
 
-pub serve_here-requires-clause-room : goal.serve_here-requires-clause-room
-serve_here-requires-clause-room g c = can_serve c.requires.whole.4 (replies_taken c.requires.whole.4 (came (goal.at.serve_here-requires-clause-room g c).After-send_replies_here c.requires.whole.4) (ap one c.take_replies_here.ensures)) 0 (omega arith)
+      module _ {u : BlockState} (sent_on : (rooms : Rooms) × AreOwnRooms z rooms × (u ≡ own_made SendRequests rooms z)) where
+        left_on : Left whole Requests (one u)
+        left_on = requests_left whole _ (own_are_all _ _ sent_on.1) (ap one sent_on.2) made
 
-pub take_requests_here-requires-clause-can : goal.take_requests_here-requires-clause-can
-take_requests_here-requires-clause-can g c = can_take_requests c.requires.whole.4 (came_on (goal.at.take_requests_here-requires-clause-can g c).After-send_requests_here c.requires.whole.4) 0 (omega arith)
+        asked : {v : BlockState} → v ≡ own_made TakeRequests all_open u → Made whole 960 (request_phase s (middle whole)) (one v)
+        asked takes_on = requests_taken whole (come_to_one whole left_on) (ap one takes_on)
 
-pub execute_here-requires-clause-can : goal.execute_here-requires-clause-can
-execute_here-requires-clause-can g c =
-    let came = came_on (goal.at.execute_here-requires-clause-can g c).After-send_requests_here c.requires.whole.4 in
-    (can_execute c.requires.whole.4 (requests_taken c.requires.whole.4 came (ap one c.take_requests_here.ensures)) c.requires.whole.5 0 (omega arith)).units
+pub take_replies_here-requires : goal.take_replies_here-requires
+take_replies_here-requires g c =
+    let x = left c.requires.whole.4 c.send_replies_here.ensures in
+    grind (arith, x.at.blocks.cut.stages 0, c.requires.whole.4.machine.blocks.cut.stages 0, can_take_replies _ (come_to_one _ x) 0)
 
-pub execute_here-requires-clause-few : goal.execute_here-requires-clause-few
-execute_here-requires-clause-few g c =
-    let came = came_on (goal.at.execute_here-requires-clause-few g c).After-send_requests_here c.requires.whole.4 in
-    (can_execute c.requires.whole.4 (requests_taken c.requires.whole.4 came (ap one c.take_requests_here.ensures)) c.requires.whole.5 0 (omega arith)).few
-
-pub take_replies_here-requires-clause-small : goal.take_replies_here-requires-clause-small
-take_replies_here-requires-clause-small g c = grind (arith, stages_kept)
-
-pub serve_here-requires-clause-small : goal.serve_here-requires-clause-small
-serve_here-requires-clause-small g c = grind (arith, stages_kept)
+pub serve_here-requires : goal.serve_here-requires
+serve_here-requires g c =
+    let x = taken c.requires.whole.4 c.send_replies_here.ensures c.take_replies_here.ensures in
+    grind (arith, x.at.blocks.cut.stages 0, c.requires.whole.4.machine.blocks.cut.stages 0, can_serve _ x 0)
 
 pub send_requests_here-requires : goal.send_requests_here-requires
-send_requests_here-requires g c = grind (arith, stages_kept)
+send_requests_here-requires g c =
+    grind (arith, (made c.requires.whole.4 c.send_replies_here.ensures c.take_replies_here.ensures c.serve_here.ensures).at.blocks.cut.stages 0, c.requires.whole.4.machine.blocks.cut.stages 0)
 
-pub take_requests_here-requires-clause-small : goal.take_requests_here-requires-clause-small
-take_requests_here-requires-clause-small g c = grind (arith, stages_kept)
+pub take_requests_here-requires : goal.take_requests_here-requires
+take_requests_here-requires g c =
+    let x = left_on c.requires.whole.4 c.send_replies_here.ensures c.take_replies_here.ensures c.serve_here.ensures c.send_requests_here.ensures in
+    grind (arith, x.at.blocks.cut.stages 0, c.requires.whole.4.machine.blocks.cut.stages 0, can_take_requests _ (come_to_one _ x) 0)
 
-pub execute_here-requires-clause-small : goal.execute_here-requires-clause-small
-execute_here-requires-clause-small g c = grind (arith, stages_kept)
+pub execute_here-requires : goal.execute_here-requires
+execute_here-requires g c =
+    let x = asked c.requires.whole.4 c.send_replies_here.ensures c.take_replies_here.ensures c.serve_here.ensures c.send_requests_here.ensures c.take_requests_here.ensures in
+    let can = can_execute _ x c.requires.whole.5 0 (omega arith) in
+    record { small = grind (arith, x.at.blocks.cut.stages 0, c.requires.whole.4.machine.blocks.cut.stages 0); can = can.units; few = can.few }
 
 pub returns : goal.returns
 returns g c = λ s partition n early program whole.
-    next whole (requests_taken whole (came_on (goal.at.returns g c).After-send_requests_here whole) (ap one c.take_requests_here.ensures)) early (ap one c.execute_here.ensures)
+    next whole (asked whole c.send_replies_here.ensures c.take_replies_here.ensures c.serve_here.ensures c.send_requests_here.ensures c.take_requests_here.ensures) early (ap one c.execute_here.ensures)

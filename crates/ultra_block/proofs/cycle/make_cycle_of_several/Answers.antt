@@ -1,12 +1,9 @@
 use Rattle.std.proofs.Common.{arith}
-use Rattle.ultra_cut.specs.declared.kind.Kind.TheVariants.{Replies, Requests}
-use Rattle.ultra_cut.proofs.Whole.{Left, can_execute, can_serve, can_take_replies, can_take_requests, left_cut, next, stages}
+use Rattle.ultra_cut.{proofs.Whole.can_execute, proofs.Whole.can_serve, proofs.Whole.can_take_replies, proofs.Whole.can_take_requests, proofs.Whole.left_cut, proofs.Whole.left_single, proofs.Whole.next, proofs.Whole.stages, specs.declared.kind.Kind.TheVariants.Replies, specs.declared.kind.Kind.TheVariants.Requests}
 use Rattle.ultra_block.proofs.cycle.make_cycle_of_several.Goals as goal
 
 pub exchange-requires : goal.exchange-requires
-exchange-requires c =
-    let left : Left c.requires.whole.1 Replies c.make.new.blocks = search stages in
-    record { cut = left_cut _ left c.net-net.ensures; single = left.single }
+exchange-requires c = record { cut = left_cut c.requires.whole.1 {kind = Replies} (search stages) c.net-net.ensures; single = left_single c.requires.whole.1 {kind = Replies} (search stages) }
 
 pub make-requires-2 : goal.make-requires-2
 make-requires-2 c = (c.requires.whole.0, can_take_replies c.requires.whole.1 (search (arith, stages) fits 4000 depth 9))
@@ -15,9 +12,7 @@ pub make-requires-3 : goal.make-requires-3
 make-requires-3 c = (c.requires.whole.0, can_serve c.requires.whole.1 (search (arith, stages) fits 4000 depth 9))
 
 pub exchange-requires-2 : goal.exchange-requires-2
-exchange-requires-2 c =
-    let left : Left c.requires.whole.1 Requests c.make-4.new.blocks = search (arith, stages) fits 4000 depth 9 in
-    record { cut = left_cut _ left c.net-net.ensures; single = left.single }
+exchange-requires-2 c = record { cut = left_cut c.requires.whole.1 {kind = Requests} (search (arith, stages) fits 4000 depth 9) c.net-net.ensures; single = left_single c.requires.whole.1 {kind = Requests} (search (arith, stages) fits 4000 depth 9) }
 
 pub make-requires-5 : goal.make-requires-5
 make-requires-5 c = (c.requires.whole.0, can_take_requests c.requires.whole.1 (search (arith, stages) fits 4000 depth 9))

@@ -1,6 +1,5 @@
 use Rattle.std.proofs.Common.{arith}
-use Rattle.ultra_cut.proofs.Common.{common_steps}
-use Rattle.ultra_cut.proofs.Questions.{held_by_all}
+use Rattle.ultra_cut.proofs.{Common.common_steps, Questions.held_by_all}
 use Rattle.ultra_cut.proofs.answers.holders.Goals as goal
 
 pub returns-then-blocks-eq1 : goal.returns-then-blocks-eq1

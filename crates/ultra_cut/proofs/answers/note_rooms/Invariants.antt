@@ -1,6 +1,5 @@
 use Rattle.std.proofs.Common.{◌≡◌, ℕ, take}
-use Rattle.ultra_cut.proofs.Common.{OfEach}
-use Rattle.ultra_cut.proofs.Questions.{HaveNoted}
+use Rattle.ultra_cut.proofs.{Common.OfEach, Questions.HaveNoted}
 use Rattle.ultra_cut.proofs.answers.note_rooms.Given as goal
 
 abbrev pub invariant-loop-block : goal.invariant-loop-block

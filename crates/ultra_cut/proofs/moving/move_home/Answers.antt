@@ -1,14 +1,11 @@
 use Rattle.std.proofs.Common.{arith}
-use Rattle.ultra_cut.proofs.Common.{common_steps}
-use Rattle.ultra_cut.proofs.Moved.{carried_moved}
+use Rattle.ultra_cut.proofs.{Common.common_steps, Moved.carried_moved}
 use Rattle.ultra_cut.proofs.moving.move_home.Goals as goal
 
 pub returns-in-Some : goal.returns-in-Some
 returns-in-Some c =
-    let moved = carried_moved c.args.kind c.args.net (omega arith) (omega arith) _ _ _ c.args.unit c.in-Some.inlets (rw c.in-Replies.is (grind arith)) c.requires.from (c.requires.home (omega arith)) c.if-home-from.false (rw c.in-Replies.is (grind (arith, common_steps))) c.requires.single _ (rw c.in-Replies.is (grind (arith, common_steps))) in
-    record { only = moved.0; gone = λ small. moved.1; kept = moved.2 }
+    carried_moved c.args.kind c.args.net (omega arith) (omega arith) _ _ _ c.args.unit c.in-Some.inlets (rw c.in-Replies.is (grind arith)) c.requires.from (c.requires.home (omega arith)) c.if-home-from.false (rw c.in-Replies.is (grind (arith, common_steps))) c.requires.single _ (rw c.in-Replies.is (grind (arith, common_steps)))
 
 pub returns-in-Some-request_inlets : goal.returns-in-Some-request_inlets
 returns-in-Some-request_inlets c =
-    let moved = carried_moved c.args.kind c.args.net (omega arith) (omega arith) _ _ _ c.args.unit c.in-Some-request_inlets.inlets (rw c.in-Requests.is (grind arith)) c.requires.from (c.requires.home (omega arith)) c.if-home-from.false (rw c.in-Requests.is (grind (arith, common_steps))) c.requires.single _ (rw c.in-Requests.is (grind (arith, common_steps))) in
-    record { only = moved.0; gone = λ small. moved.1; kept = moved.2 }
+    carried_moved c.args.kind c.args.net (omega arith) (omega arith) _ _ _ c.args.unit c.in-Some-request_inlets.inlets (rw c.in-Requests.is (grind arith)) c.requires.from (c.requires.home (omega arith)) c.if-home-from.false (rw c.in-Requests.is (grind (arith, common_steps))) c.requires.single _ (rw c.in-Requests.is (grind (arith, common_steps)))

@@ -1,41 +1,29 @@
-use Rattle.std.proofs.Common.{◌≡◌, ◌+◌, [], arith, refl}
-use Rattle.ultra_units.proofs.Common.{nat_tests, comes_to, is_in_first_word}
-use Rattle.ultra_units.proofs.Set.{in_word_alone, none_in_rest_word}
-use Rattle.ultra_units.proofs.Visits.{passed_to}
-use Rattle.ultra_units.specs.Visits.{after_units}
+use Rattle.std.proofs.Common.{◌∙◌, ap, arith}
+use Rattle.ultra_units.proofs.{Set.fewer_behind, Visits.all_visited, Visits.begun, Visits.first_is, Visits.stepped}
+use Rattle.ultra_units.specs.Set.{bit_of}
 use Rattle.ultra_units.proofs.pass.visit_first_word.Goals as goal
 
-pub loop-next-init : goal.loop-next-init
-unfolding after_units
-loop-next-init g c =
-    let idle = c.units.ensures.idle in
-    let others = c.requires.others in (
-      passed_to _ _ _ _ _ c.units.ensures.still (is_in_first_word c.units.result.now) 0 (omega arith) refl (grind (arith, nat_tests)) (λ k _. c.requires.can k)
-          c.in_first_word-next.result c.in_first_word-next.ensures.some (grind arith),
-      grind (arith, nat_tests, c.in_first_word-next.ensures.some),
-      others,
-    )
+pub loop-units-init : goal.loop-units-init
+loop-units-init g c =
+    let idle = rw (← c.units-2.view_is) at c.units.ensures.idle in
+    (0, omega arith, begun _ _ _ _ c.units-2.inside.words (omega arith) c.requires.can c.units.ensures.still idle c.requires.others)
 
-pub of-requires : goal.of-requires
-of-requires g c = omega arith
+pub visit-requires : goal.visit-requires
+visit-requires g c =
+    let so_far = c.loop-units.invariant.2 in
+    let at = first_is _ _ _ _ _ _ _ so_far (grind arith) (omega arith) _ _ c.first_of-first.ensures (c.first.invariant.is ∙ ap bit_of c.first.view_is) in
+    record { can = so_far.can _ at.0 (omega (arith, at.1)) }
 
-pub loop-next-preserved : goal.loop-next-preserved
-unfolding after_units
-loop-next-preserved g c =
-    let walk = c.in-Some.walk in
-    let passed = rw (c.in-Some.is) at c.loop-next.invariant.0 in
-    let small = rw (c.in-Some.is) at c.loop-next.invariant.1 in
-    let others = c.loop-next.invariant.2 in
-    let is : c.of.result ≡ walk.unit = omega (arith, c.of.ensures, c.number.ensures.value, small) in
-    let made = rw is at c.visit.ensures in (
-      passed_to _ _ _ _ _ made.still (comes_to walk []) (walk.unit + 1) (omega (arith, small))
-          (grind (arith, passed.visited, made.visited))
-          (grind (arith, nat_tests, others, passed.idle, made.idle))
-          (grind (arith, passed.can, made.later))
-          c.go_on_in_word-next.result (c.go_on_in_word-next.ensures.some []) (grind (arith, nat_tests, none_in_rest_word, c.go_on_in_word-next.ensures.none)),
-      grind (arith, nat_tests, in_word_alone, c.go_on_in_word-next.ensures.some []),
-      grind (arith, others, made.idle),
-    )
+pub loop-units-smaller : goal.loop-units-smaller
+loop-units-smaller g c = fewer_behind _ (grind arith) (omega arith) _ _ c.first_of-first.ensures (c.first.invariant.is ∙ ap bit_of c.first.view_is)
 
-pub loop-next-smaller : goal.loop-next-smaller
-loop-next-smaller g c = let come = c.go_on_in_word-next.ensures.some [] in grind (arith, come)
+pub loop-units-preserved : goal.loop-units-preserved
+loop-units-preserved g c =
+    let so_far = c.loop-units.invariant.2 in
+    let is_bit = c.first.invariant.is ∙ ap bit_of c.first.view_is in
+    let at = first_is _ _ _ _ _ _ _ so_far (grind arith) (omega arith) _ _ c.first_of-first.ensures is_bit in
+    let made = c.visit.ensures in
+    (_, omega (arith, at.1), stepped _ _ _ _ _ _ _ so_far (grind arith) (omega arith) _ _ c.first_of-first.ensures is_bit _ made.visited made.later made.idle made.still)
+
+pub returns : goal.returns
+returns g c = all_visited _ _ _ _ _ _ _ c.loop-units.invariant.2 c.loop-units.invariant.1 (grind arith)

@@ -1,11 +1,9 @@
-use Rattle.std.proofs.Common.{ℕ, ◌-◌, ◌<◌, ◌≤◌, IfSome}
-use Rattle.ultra_units.proofs.Visits.{HasPassed, place}
+use Rattle.std.proofs.Common.{ℕ, ◌≤◌}
+use Rattle.ultra_units.proofs.Visits.{HasVisited}
 use Rattle.ultra_units.proofs.pass.visit_first_word.Given as goal
 
-abbrev pub decreases-loop-next : goal.decreases-loop-next
-decreases-loop-next g l = 320 - place l.next
+abbrev pub decreases-loop-units : goal.decreases-loop-units
+decreases-loop-units g l = l.units
 
-abbrev pub invariant-loop-next : goal.invariant-loop-next
-invariant-loop-next g l =
-    HasPassed (g.V.Visit.visited l.visit) (g.V.Visit.can_visit l.visit) (g.V.Visit.is_idle l.visit) l.initial.target l.target l.next
-    × IfSome l.next (λ w. w.unit < 64) × ((k : ℕ) → 64 ≤ k → g.V.Visit.is_idle l.visit k l.target)
+abbrev pub invariant-loop-units : goal.invariant-loop-units
+invariant-loop-units g l = (n : ℕ) × (n ≤ 320) × HasVisited (g.V.Visit.visited l.visit) (g.V.Visit.can_visit l.visit) (g.V.Visit.is_idle l.visit) l.initial.target l.target l.units n

@@ -1,9 +1,6 @@
-use Rattle.std.proofs.Common.{arith, refl}
-use Rattle.std.proofs.lemmas.Grind.{common_steps}
-use Rattle.std.proofs.lemmas.List.{get_or_default}
+use Rattle.std.proofs.{Common.arith, Common.refl, lemmas.Grind.common_steps, lemmas.List.get_or_default}
 use Rattle.ultra_cut.specs.Moments.{machine_in}
-use Rattle.ultra_block.specs.State.{MakeUp}
-use Rattle.ultra_block.proofs.Dealt.{same_cut, none_carried, unit_carried}
+use Rattle.ultra_block.{proofs.Dealt.none_carried, proofs.Dealt.same_cut, proofs.Dealt.unit_carried, specs.State.MakeUp}
 use Rattle.ultra_block.proofs.blocks.Blocks.recut.Goals as goal
 
 pub loop-unit-init : goal.loop-unit-init
@@ -14,14 +11,11 @@ pub move_unit-requires : goal.move_unit-requires
 move_unit-requires c = grind (arith, get_or_default, c.loop-unit.invariant.named c.loop-unit.unit 0)
 
 pub loop-unit-preserved : goal.loop-unit-preserved
-loop-unit-preserved c =
-    let carried = unit_carried _ _ _ _ _ _ c.loop-unit.invariant (omega arith) in
-    grind (arith, get_or_default)
+loop-unit-preserved c = grind (arith, get_or_default, unit_carried _ _ _ _ _ _ c.loop-unit.invariant (omega arith))
 
 same : (c : goal.After-drop-parts-2) → let p = c.self.inside.parts in
     MakeUp p.config p.program c.args.partition.now p.done (machine_in p.config p.partition.items p.done p.blocks.items) c.loop-unit.blocks.items
-same c =
-    same_cut c.self.invariant.whole (grind (arith, common_steps, get_or_default)) c.loop-unit.invariant (grind arith) (omega arith) (grind arith)
+same c = same_cut c.self.invariant.whole (grind (arith, common_steps, get_or_default)) c.loop-unit.invariant (grind arith) (omega arith) (grind arith)
 
 pub invariant_of-result : goal.invariant_of-result
 invariant_of-result c = grind (arith, same c)

@@ -1,9 +1,6 @@
 use Rattle.std.proofs.Common.{arith}
-use Rattle.ultra_section.proofs.{Small.none_beyond, Visited.done_kept, Visited.own_steps}
+use Rattle.ultra_section.proofs.Visited.{done_kept, own_steps}
 use Rattle.ultra_section.proofs.block.Block.execute_here.Goals as goal
-
-pub visit_first_word-requires-clause-others : goal.visit_first_word-requires-clause-others
-visit_first_word-requires-clause-others g c = λ k past. none_beyond c.args.self.now k (grind arith) (grind arith) (grind arith) past
 
 pub overflow_add-self : goal.overflow_add-self
 overflow_add-self g c =
