@@ -1,11 +1,9 @@
 -- What units do in a half of a cycle, each by what it is and by what is on its links. No other unit changes either, so after visits of all
 -- each has acted once, by what there was at the start; and what they list stands in the order of their numbers.
-use Rattle.std.proofs.Common.{[], ◌≡◌, ◌≢◌, ℕ, ◌+◌, ◌*◌, ◌^◌, ◌<◌, ◌≤◌, List, ◌++◌, Option, Some, None, length, length-append, set, get_or-set_same, get_or-set_other, refl, sym, ◌∙◌, arith, slice_index_or}
-use Rattle.ultra_section.proofs.Common.{length-set, append-nil, Event, Switch, Ports, Bank, switch_count, place_number, module_number, element_number, unit_count, of_unit, unit_of, stage_of, index_of, on_link, on_both, is_switch, unit_is, unit_of_switch, unit_of_module, unit_of_element, AreRead, at_both, ports, ProcessingElement}
-use Rattle.ultra_model.specs.declared.Stop.{Stop}
-use Rattle.ultra_units.specs.Visits.{after_units}
+use Rattle.std.proofs.Common.{[], ◌≡◌, ◌≢◌, ℕ, ◌+◌, ◌*◌, ◌^◌, ◌<◌, ◌≤◌, List, ◌++◌, Option, Some, None, length, length-append, set, get_or-set_same, get_or-set_other, arith, slice_index_or}
+use Rattle.ultra_section.proofs.Common.{length-set, append-nil, Event, Stop, Switch, Ports, Bank, switch_count, place_number, module_number, element_number, unit_count, of_unit, unit_of, stage_of, index_of, on_link, on_both, is_switch, unit_is, unit_of_switch, unit_of_module, unit_of_element, AreRead, at_both, ports, ProcessingElement}
 use Rattle.ultra_units.specs.declared.unit.Unit.TheVariants as unit
-use Rattle.ultra_units.proofs.Put.{places_of, has_places, writer, written as written_by, written_behind}
+use Rattle.ultra_units.{proofs.Put.has_places, proofs.Put.places_of, proofs.Put.writer, proofs.Put.written, proofs.Put.written_behind, specs.Visits.after_units}
 use Rattle.ultra_section.proofs.{Few.few_entries, Once.all_keep, Once.changed_once, Once.entries_before, Once.all_entries}
 
 -- the units of a block, what is on its links of one kind, and what it lists
@@ -62,25 +60,6 @@ list_of list i (Some x, l) = list i x l
 abbrev pub AreOwn : ℕ → (ℕ → ℕ) → ℕ → Option (Ports ℕ) → Type 0
 AreOwn d owner n None = Unit {0}
 AreOwn d owner n (Some p) = AreRead d owner n p
-
-module _ {M : Type 0} (d : ℕ) (owner : ℕ → ℕ) (n : ℕ) (t : List (Option M)) where
-  -- what is on another link stays there
-  two_apart : (q : Option (Ports ℕ)) → AreOwn d owner n q → (o : Ports (Option M)) (l : ℕ) → owner l ≢ n → on_link (with_two t q o) l ≡ on_link t l
-  two_apart q own o l other = grind (arith, get_or-set_other)
-
-  one_apart : (q : Option (Ports ℕ)) → AreOwn d owner n q → (o : Option M) (l : ℕ) → owner l ≢ n → on_link (with_one t q o) l ≡ on_link t l
-  one_apart q own o l other = grind (arith, get_or-set_other)
-
-  two_there : (q : Option (Ports ℕ)) → AreOwn d owner n q → length t ≡ (d + 1) * 2 ^ d → n < switch_count d → (o : Ports (Option M)) → on_two (with_two t q o) q ≡ on_links_after q (on_two t q) o
-  two_there q own long h o = grind (arith, get_or-set_same, get_or-set_other, length-set)
-
-  one_there : (q : Option (Ports ℕ)) → AreOwn d owner n q → length t ≡ (d + 1) * 2 ^ d → (o : Option M) → on_one (with_one t q o) q ≡ on_links_after q (on_one t q) o
-  one_there q own long o = grind (arith, get_or-set_same)
-
-  -- what is the same on its links is read the same
-  same_on : (q : Option (Ports ℕ)) → AreOwn d owner n q → (now : List (Option M)) → ((l : ℕ) → owner l ≡ n → on_link now l ≡ on_link t l) → (on_two now q ≡ on_two t q) × (on_one now q ≡ on_one t q)
-  same_on None own now same = (refl, refl)
-  same_on (Some p) own now same = let zero = same p.zero own.zero_reader in let one = same p.one own.one_reader in grind arith
 
 -- what the units of a machine of d stages do in a half
 pub record Acts (M : Type 0) : Type 0 where
@@ -146,32 +125,27 @@ module _ {M : Type 0} (d : ℕ) (a : Acts M) where
   kept n v whole = grind (arith, length-set)
 
   module _ (own : AreFair) where
+    -- what is on another link stays there
     link_stays : (l j : ℕ) (v : Seen M) → own.owner l ≢ j → on_link (act j v).table l ≡ on_link v.table l
-    link_stays l j v other =
-        let switch = λ (h : j < switch_count d) (o : Ports (Option M)). two_apart d own.owner j v.table (a.switch.at j) (own.switches j h) o l other in
-        let bank = λ (m : ℕ) (h : m < 2 ^ d). one_apart d own.owner (module_number d m) v.table (a.bank.at m) (own.modules m h) in
-        let element = λ (p : ℕ) (h : p < 2 ^ d). one_apart d own.owner (element_number d p) v.table (a.element.at p) (own.elements p h) in grind (arith, unit_is)
+    link_stays l j v other = grind (arith, unit_is, get_or-set_other, own.switches, own.modules, own.elements)
 
     switch_stays : (n : ℕ) → n < switch_count d → (j : ℕ) (v : Seen M) → IsWhole v → j ≢ n → at_switch n (act j v) ≡ at_switch n v
-    switch_stays n h j v whole other =
-        let on = same_on d own.owner n v.table (a.switch.at n) (own.switches n h) (act j v).table (λ l is. link_stays l j v (λ same. other (sym same ∙ is))) in grind (arith, get_or-set_other)
+    switch_stays n h j v whole other = grind (arith, get_or-set_other, link_stays, own.switches)
 
     module_stays : (m : ℕ) → m < 2 ^ d → (j : ℕ) (v : Seen M) → IsWhole v → j ≢ module_number d m → at_module m (act j v) ≡ at_module m v
-    module_stays m h j v whole other =
-        let on = same_on d own.owner _ v.table (a.bank.at m) (own.modules m h) (act j v).table (λ l is. link_stays l j v (λ same. other (sym same ∙ is))) in grind (arith, get_or-set_other)
+    module_stays m h j v whole other = grind (arith, get_or-set_other, link_stays, own.modules)
 
     element_stays : (p : ℕ) → p < 2 ^ d → (j : ℕ) (v : Seen M) → IsWhole v → j ≢ element_number d p → at_element p (act j v) ≡ at_element p v
-    element_stays p h j v whole other =
-        let on = same_on d own.owner _ v.table (a.element.at p) (own.elements p h) (act j v).table (λ l is. link_stays l j v (λ same. other (sym same ∙ is))) in grind (arith, get_or-set_other)
+    element_stays p h j v whole other = grind (arith, get_or-set_other, link_stays, own.elements)
 
     switch_acts : (n : ℕ) → n < switch_count d → (v : Seen M) → IsWhole v → at_switch n (act n v) ≡ after_act a.switch n (at_switch n v)
-    switch_acts n h v whole = let there = two_there d own.owner n v.table (a.switch.at n) (own.switches n h) whole.table h in grind (arith, unit_of_switch, get_or-set_same)
+    switch_acts n h v whole = grind (arith, unit_of_switch, get_or-set_same, get_or-set_other, length-set, own.switches)
 
     module_acts : (m : ℕ) → m < 2 ^ d → (v : Seen M) → IsWhole v → at_module m (act (module_number d m) v) ≡ after_act a.bank m (at_module m v)
-    module_acts m h v whole = let there = one_there d own.owner _ v.table (a.bank.at m) (own.modules m h) whole.table in grind (arith, unit_of_module, get_or-set_same)
+    module_acts m h v whole = grind (arith, unit_of_module, get_or-set_same, own.modules)
 
     element_acts : (p : ℕ) → p < 2 ^ d → (v : Seen M) → IsWhole v → at_element p (act (element_number d p) v) ≡ after_act a.element p (at_element p v)
-    element_acts p h v whole = let there = one_there d own.owner _ v.table (a.element.at p) (own.elements p h) whole.table in grind (arith, unit_of_element, get_or-set_same)
+    element_acts p h v whole = grind (arith, unit_of_element, get_or-set_same, own.elements)
 
     pub record AllActed (old now : Seen M) : Type 0 where
       pub whole : IsWhole now
@@ -185,22 +159,20 @@ module _ {M : Type 0} (d : ℕ) (a : Acts M) where
     pub all_acted : unit_count d < 321 → (v : Seen M) → IsWhole v → AllActed v (after_units act 320 v)
     all_acted small v whole =
         let events = all_entries act IsWhole kept (λ v. v.events) event_entries (λ n v whole. grind (arith, append-nil, unit_is)) (λ n j v whole other. grind (arith, switch_stays, module_stays, element_stays, unit_is)) 320 v whole in
-        let most = few_entries event_entries v 2 (λ n. own.few n v) 320 in
         record {
           whole = all_keep act IsWhole kept 320 v whole;
           switches = λ n h. changed_once act IsWhole kept (at_switch n) n (switch_stays n h) (after_act a.switch n) (switch_acts n h) 320 v whole (omega arith);
           modules = λ m h. changed_once act IsWhole kept (at_module m) (module_number d m) (module_stays m h) (after_act a.bank m) (module_acts m h) 320 v whole (omega arith);
           elements = λ p h. changed_once act IsWhole kept (at_element p) (element_number d p) (element_stays p h) (after_act a.element p) (element_acts p h) 320 v whole (omega arith);
           events = events;
-          few = grind (arith, length-append);
+          few = grind (arith, length-append, few_entries event_entries v 2 (λ n. own.few n v) 320);
           stops = all_entries act IsWhole kept (λ v. v.stops) stop_entries (λ n v whole. grind (arith, append-nil, unit_is)) (λ n j v whole other. grind (arith, switch_stays, module_stays, element_stays, unit_is)) 320 v whole;
         }
 
 -- ---- the links on which units put what they send
 pub switch_puts : (d behind : ℕ) → 1 ≤ d → d ≤ 6 → (n : ℕ) → n < switch_count d → AreRead d (writer d behind) n (places_of d (stage_of d n) (index_of d n))
 switch_puts d behind low high n h =
-    let there = has_places d n _ _ low high (is_switch d n h) in
-    let by = written_by d behind low high n _ _ (is_switch d n h) in grind arith
+    let by = written d behind low high n _ _ (is_switch d n h) in grind (arith, has_places, is_switch)
 
 pub end_puts : (d behind : ℕ) → 1 ≤ d → d ≤ 6 → switch_count d ≤ behind → (i : ℕ) → i < 2 ^ d → AreRead d (writer d behind) (behind + i) (at_both (place_number d d i))
-end_puts d behind low high past i h = let by = written_behind d behind low high i in grind arith
+end_puts d behind low high past i h = grind (arith, written_behind)

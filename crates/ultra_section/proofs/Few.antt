@@ -1,6 +1,6 @@
 -- In each half a unit has at most two events, so there is memory for all events of a cycle.
-use Rattle.std.proofs.Common.{ℕ, zero, suc, ◌+◌, ◌*◌, ◌≤◌, List, Option, length, length-append, refl, subst, arith}
-use Rattle.ultra_section.proofs.Common.{Request, Switch, Ports, coming_to, first_of, lane_with, ports, second_of, combinations_of, all_in_order, BlockState, HasEventRoom, most_events}
+use Rattle.std.proofs.Common.{ℕ, zero, suc, ◌*◌, ◌≤◌, List, Option, length, length-append, refl, subst, arith}
+use Rattle.ultra_section.proofs.Common.{Request, Switch, Ports, coming_to, first_of, lane_with, ports, second_of, combinations_of, all_in_order}
 use Rattle.ultra_section.proofs.Once.{entries_before}
 
 pub few_entries : {T E : Type 0} (entries : ℕ → T → List E) (t : T) (most : ℕ) → ((n : ℕ) → length (entries n t) ≤ most) → (m : ℕ) → length (entries_before entries m t) ≤ m * most
@@ -13,7 +13,3 @@ pub two_combine : (d s k n : ℕ) (w : Switch) (came : Ports (Option Request)) �
 two_combine d s k n w came =
     let lanes = ports (lane_with w.to_mm.zero (coming_to d s 0 (first_of n came))) (lane_with w.to_mm.one (coming_to d s 1 (first_of n came))) in
     subst (λ es. length es ≤ 2) (all_in_order d s k w (first_of n came) (second_of n came) lanes refl refl) (grind arith)
-
--- where at most n events have happened, there is room for those of one half
-pub room_for_half : (b : BlockState) → length b.events + 640 ≤ most_events → (n : ℕ) → HasEventRoom n b
-room_for_half b h n = omega arith

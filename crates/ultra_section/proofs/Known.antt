@@ -1,9 +1,8 @@
 -- What a block knows of its units is kept when one of them is put anew and noted, and says which rooms are its own and what leads elsewhere.
-use Rattle.std.proofs.Common.{◌≡◌, ◌≢◌, ℕ, ◌^◌, ◌<◌, ◌≤◌, List, false, Option, Some, None, set, get_or, refl, sym, ◌∙◌, ap, arith, get_or-set_same, get_or-set_other, ◌&&◌, slice_index_or, IsTrue, not, IfSome, length, vec_capacity}
-use Rattle.ultra_section.proofs.Common.{cases_eq, ForSome, length-set, get_or_default, Switch, Bank, Instr, ProcessingElement, switch_count, has_unit, IsFirstFrom, is_at_rest, Ports, IsModule, IsElement, of_unit, unit_is, unit_of_element, unit_of_module, unit_of_switch, AreNoted, UnitFacts, facts_at, no_facts, switch_facts, module_facts, element_facts, AreOthersAtRest, IsKept, seen_of, element_at, AreTargets, IsNextAway, AreOwnRooms, Rooms}
-use Rattle.ultra_units.specs.Links.{LinksState}
+use Rattle.std.proofs.Common.{◌≡◌, ◌≢◌, ℕ, ◌^◌, ◌<◌, ◌≤◌, List, false, Option, None, set, refl, ◌∙◌, ap, arith, get_or-set_same, get_or-set_other, ◌&&◌, slice_index_or, IsTrue, not, IfSome, length, vec_capacity}
+use Rattle.ultra_section.proofs.Common.{cases_eq, ForSome, length-set, Switch, Bank, Instr, ProcessingElement, switch_count, has_unit, IsFirstFrom, is_at_rest, Ports, IsModule, IsElement, of_unit, unit_is, unit_of_element, unit_of_module, unit_of_switch, AreNoted, UnitFacts, facts_at, no_facts, switch_facts, module_facts, element_facts, AreOthersAtRest, IsKept, seen_of, switch_at, module_at, element_at, AreTargets, IsNextAway, AreOwnRooms, Rooms}
+use Rattle.ultra_units.{proofs.Set.none_there, specs.Links.LinksState}
 use Rattle.ultra_section.specs.{declared.block.Block.TheInside.Inside as Block, declared.sets.Sets.Sets}
-use Rattle.ultra_units.proofs.Set.{none_there}
 
 -- ---- facts of units, where `fs`, `fb` and `fe` give those of a switch, of a module and of a processing element
 module _ (d : ℕ) {S B E F : Type 0} (fs : Option S → F) (fb : Option B → F) (fe : Option E → F) (none : F) where
@@ -19,10 +18,6 @@ module _ (d : ℕ) {S B E F : Type 0} (fs : Option S → F) (fb : Option B → F
 
     element_anew : (p : ℕ) (o : Option E) → IsElement d n p → p < length es → now n ≡ fe o → (k : ℕ) → now k ≡ all_facts ws bs (set es p o) k
     element_anew p o own within is k = grind (arith, unit_is, unit_of_element, get_or-set_same, get_or-set_other)
-
--- ---- what a read of an entry gives
-pub entry_there : {X : Type 0} (xs : List (Option X)) (n : ℕ) {o : Option X} {x : X} → n < length xs → o ≡ get_or xs n o → o ≡ Some x → slice_index_or xs n None ≡ Some x
-entry_there xs n {o} {x} within read is = get_or_default xs n None o within ∙ sym read ∙ is
 
 -- block `a` has these units, these of them are awake, and it is else as `b` but for its other sets, for what is on its links and for what it lists
 pub record IsAfter (b : Block) (ws : List (Option Switch)) (bs : List (Option Bank)) (es : List (Option ProcessingElement)) (woken : List ℕ) (a : Block) : Type 0 where
@@ -49,8 +44,7 @@ IsResting program o = ForSome o (λ e. IsTrue (is_at_rest program e))
 still_at_rest : {d : ℕ} (program : List Instr) (awake : List ℕ) (es : List (Option ProcessingElement)) → AreOthersAtRest d program awake es → length es ≡ 2 ^ d → {n p : ℕ} → IsElement d n p
     → {o : Option ProcessingElement} (now : List ℕ) → ((k : ℕ) → k ≢ n → has_unit now k ≡ has_unit awake k) → (has_unit now n ≡ false → IsResting program o) → AreOthersAtRest d program now (set es p o)
 still_at_rest program awake es rests long {n} {p} own {o} now agree rest k small asleep =
-    let others = rests k small in
-    grind (arith, cases_eq, get_or-set_same, get_or-set_other)
+    grind (arith, cases_eq, get_or-set_same, get_or-set_other, rests)
 
 -- the set may differ at unit n alone, and `o` is at rest outside it where `was` is
 abbrev RestsStill : List Instr → ℕ → List ℕ → List ℕ → Option ProcessingElement → Option ProcessingElement → Type 0
@@ -58,44 +52,28 @@ RestsStill program n awake now was o = ((k : ℕ) → k ≢ n → has_unit now k
 
 -- ---- unit n of block `b` is put anew, and `g` gives what is said of it then by what was said before; the block is `a` afterwards
 module _ {b a : Block} (known : IsKept b) {n : ℕ} {g : UnitFacts → UnitFacts} (noted : AreNoted n g b.sets a.sets) where
-  -- a unit is put there, or taken away
-  pub switch_kept : (o : Option Switch) → g (facts_at b.sets n) ≡ switch_facts o → (n < switch_count b.net) × IsAfter b (set b.switches.items n o) b.modules.items b.elements.items b.awake a → IsKept a
-  switch_kept o is (own, after) =
-      let facts = switch_anew _ switch_facts module_facts element_facts no_facts _ _ _ (facts_at b.sets) (facts_at a.sets) known.facts n noted.others o own (omega (arith, known.switches)) (noted.there ∙ is) in
+  -- what stood there was `was`, and `o` does now
+  pub switch_kept : (was o : Option Switch) → switch_at b.switches.items n ≡ was → g (switch_facts was) ≡ switch_facts o
+      → (n < switch_count b.net) × IsAfter b (set b.switches.items n o) b.modules.items b.elements.items b.awake a → IsKept a
+  switch_kept was o there is (own, after) =
+      let said = known.facts n ∙ rw (of_unit, unit_of_switch b.net n own) (ap switch_facts there) in
+      let facts = switch_anew _ switch_facts module_facts element_facts no_facts _ _ _ (facts_at b.sets) (facts_at a.sets) known.facts n noted.others o own (omega (arith, known.switches)) (noted.there ∙ ap g said ∙ is) in
       grind (arith, length-set)
 
-  pub module_kept : (m : ℕ) (o : Option Bank) → g (facts_at b.sets n) ≡ module_facts o → IsModule b.net n m × IsAfter b b.switches.items (set b.modules.items m o) b.elements.items b.awake a → IsKept a
-  module_kept m o is (own, after) =
-      let facts = module_anew _ switch_facts module_facts element_facts no_facts _ _ _ (facts_at b.sets) (facts_at a.sets) known.facts n noted.others m o own (omega (arith, known.modules, own.small)) (noted.there ∙ is) in
+  pub module_kept : (m : ℕ) (was o : Option Bank) → module_at b.modules.items m ≡ was → g (module_facts was) ≡ module_facts o
+      → IsModule b.net n m × IsAfter b b.switches.items (set b.modules.items m o) b.elements.items b.awake a → IsKept a
+  module_kept m was o there is (own, after) =
+      let said : facts_at b.sets n ≡ module_facts was = grind (arith, known.facts, unit_of_module, own.number, own.small) in
+      let facts = module_anew _ switch_facts module_facts element_facts no_facts _ _ _ (facts_at b.sets) (facts_at a.sets) known.facts n noted.others m o own (omega (arith, known.modules, own.small)) (noted.there ∙ ap g said ∙ is) in
       grind (arith, length-set)
 
-  pub element_kept : (p : ℕ) (o : Option ProcessingElement) → g (facts_at b.sets n) ≡ element_facts o
-      → IsElement b.net n p × RestsStill b.program n b.awake a.awake (element_at b.elements.items p) o × IsAfter b b.switches.items b.modules.items (set b.elements.items p o) a.awake a → IsKept a
-  element_kept p o is (own, (agree, rest), after) =
-      let facts = element_anew _ switch_facts module_facts element_facts no_facts _ _ _ (facts_at b.sets) (facts_at a.sets) known.facts n noted.others p o own (omega (arith, known.elements, own.small)) (noted.there ∙ is) in
-      let still = still_at_rest b.program _ _ known.rests known.elements own a.awake agree (rest (λ asleep. known.rests p own.small (rw (own.number) at asleep))) in
+  pub element_kept : (p : ℕ) (was o : Option ProcessingElement) → element_at b.elements.items p ≡ was → g (element_facts was) ≡ element_facts o
+      → IsElement b.net n p × RestsStill b.program n b.awake a.awake was o × IsAfter b b.switches.items b.modules.items (set b.elements.items p o) a.awake a → IsKept a
+  element_kept p was o there is (own, (agree, rest), after) =
+      let said : facts_at b.sets n ≡ element_facts was = grind (arith, known.facts, unit_of_element, own.number, own.small) in
+      let facts = element_anew _ switch_facts module_facts element_facts no_facts _ _ _ (facts_at b.sets) (facts_at a.sets) known.facts n noted.others p o own (omega (arith, known.elements, own.small)) (noted.there ∙ ap g said ∙ is) in
+      let still = still_at_rest b.program _ _ known.rests known.elements own a.awake agree (rest (λ asleep. rw (← there) (known.rests p own.small (rw (own.number) at asleep)))) in
       grind (arith, length-set)
-
-  -- a unit that stands there is another now
-  pub switch_renewed : {o : Option Switch} {w : Switch} (v : Switch) → o ≡ get_or b.switches.items n o → o ≡ Some w → g (switch_facts (Some w)) ≡ switch_facts (Some v)
-      → (n < switch_count b.net) × IsAfter b (set b.switches.items n (Some v)) b.modules.items b.elements.items b.awake a → IsKept a
-  switch_renewed {o} {w} v read is right (own, after) =
-      let there = entry_there b.switches.items n (omega (arith, known.switches)) read is in
-      switch_kept (Some v) (ap g (known.facts n ∙ rw (of_unit, unit_of_switch b.net n own) (ap switch_facts there)) ∙ right) (own, after)
-
-  pub module_renewed : {m : ℕ} {o : Option Bank} {w : Bank} (v : Bank) → o ≡ get_or b.modules.items m o → o ≡ Some w → g (module_facts (Some w)) ≡ module_facts (Some v)
-      → IsModule b.net n m × IsAfter b b.switches.items (set b.modules.items m (Some v)) b.elements.items b.awake a → IsKept a
-  module_renewed {m} {o} {w} v read is right (own, after) =
-      let there = entry_there b.modules.items m (omega (arith, known.modules, own.small)) read is in
-      let was : facts_at b.sets n ≡ module_facts (Some w) = grind (arith, known.facts, unit_of_module, own.number, own.small) in
-      module_kept m (Some v) (ap g was ∙ right) (own, after)
-
-  pub element_renewed : {p : ℕ} {o : Option ProcessingElement} {w : ProcessingElement} (v : ProcessingElement) → o ≡ get_or b.elements.items p o → o ≡ Some w → g (element_facts (Some w)) ≡ element_facts (Some v)
-      → IsElement b.net n p × RestsStill b.program n b.awake a.awake (Some w) (Some v) × IsAfter b b.switches.items b.modules.items (set b.elements.items p (Some v)) a.awake a → IsKept a
-  element_renewed {p} {o} {w} v read is right (own, rests, after) =
-      let there = entry_there b.elements.items p (omega (arith, known.elements, own.small)) read is in
-      let was : facts_at b.sets n ≡ element_facts (Some w) = grind (arith, known.facts, unit_of_element, own.number, own.small) in
-      element_kept p (Some v) (ap g was ∙ right) (own, rw there rests, after)
 
 -- ---- rooms: those that a block notes that is the first to do so
 abbrev pub own_rooms : Sets → Rooms

@@ -1,8 +1,6 @@
 -- What is noted of a switch or a module once messages have come to it or left it: its queues are longer then, or shorter, and it keeps more records, or fewer.
 use Rattle.std.proofs.Common.{◌≡◌, ℕ, ◌≤◌, List, ◌++◌, true, Option, Some, length, length-append, arith, [], ◌∷◌, refl, Bool, false}
-use Rattle.ultra_section.proofs.Common.{nat_tests, Request, ReplyMessage, Switch, after_leaving, arrive_all, combinations, records_left, has_none, after_both, combinations_of_both, switch_facts, common_steps, all_noted}
-use Rattle.ultra_halves.proofs.Arrivals.{arrive_all_no_shorter}
-use Rattle.ultra_switch.specs.{declared.WaitRecord.WaitRecord, Arrive.Lane, Arrive.arrive}
+use Rattle.ultra_section.proofs.Common.{nat_tests, Request, ReplyMessage, Switch, after_leaving, arrive_all, combinations, records_left, has_none, after_both, combinations_of_both, switch_facts, common_steps, all_noted, arrive_all_no_shorter, Lane, arrive, WaitRecord}
 
 -- ---- records: none comes with replies
 pub none_left : (ws : List WaitRecord) (o : Option ReplyMessage) → has_none ws ≡ true → has_none (records_left ws o) ≡ true
@@ -28,9 +26,7 @@ shorter o xs = grind arith
 
 -- ---- what is noted once requests came is true of the switch: its queues are no shorter, and records came only with combinations
 module _ (w : Switch) (d s k : ℕ) (first second : Option Request) where
-  abbrev came : Switch
-  came = after_both d s w first second
-
-  pub requests_came : (may_differ : Bool) → (may_differ ≡ false → combinations_of_both d s k w first second ≡ []) → all_noted may_differ came (switch_facts (Some w)) ≡ switch_facts (Some came)
+  pub requests_came : (may_differ : Bool) → (may_differ ≡ false → combinations_of_both d s k w first second ≡ [])
+      → all_noted may_differ (after_both d s w first second) (switch_facts (Some w)) ≡ switch_facts (Some (after_both d s w first second))
   requests_came true none = grind (arith, nat_tests, arrive_all_no_shorter, no_fewer)
   requests_came false none = let none_made = none refl in grind (arith, nat_tests, arrive_all_no_shorter, both_empty, none_combined)

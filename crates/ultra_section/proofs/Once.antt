@@ -41,7 +41,5 @@ module _ {T : Type 0} (f : ℕ → T → T) (P : T → Type 0) (keeps : (j : ℕ
     unfolding after_units entries_before
     all_entries zero t p = sym (append-nil (events t))
     all_entries (suc n) t p =
-        adds n (after_units f n t) (all_keep n t p)
-        ∙ ap (λ es. es ++ entries n (after_units f n t)) (all_entries n t p)
-        ∙ ap (λ es. (events t ++ entries_before entries n t) ++ es) (not_yet_changed (entries n) n (others n) n t p (omega arith))
-        ∙ append_assoc (events t) (entries_before entries n t) (entries n t)
+        let before = not_yet_changed (entries n) n (others n) n t p (omega arith) in
+        grind (arith, all_keep, adds, all_entries n t p, append_assoc)

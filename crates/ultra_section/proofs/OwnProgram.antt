@@ -1,7 +1,6 @@
 -- A block that runs a program makes a half by it.
 use Rattle.std.proofs.Common.{◌≡◌, List, arith}
-use Rattle.ultra_section.proofs.Common.{Instr, Rooms, BlockState}
-use Rattle.ultra_section.specs.{declared.half.Half.Half, Making.CanMake, Making.made, Making.own_made}
+use Rattle.ultra_section.proofs.Common.{Instr, Rooms, BlockState, Half, CanMake, made, own_made}
 
 module _ (program : List Instr) (b : BlockState) where
   pub can_by_own : (half : Half) → CanMake program half b → CanMake b.program half b

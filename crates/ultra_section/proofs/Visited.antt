@@ -1,7 +1,6 @@
 -- A visit of a unit that has nothing to do in a half changes nothing, and what a unit does, the later ones don't miss.
-use Rattle.std.proofs.Common.{◌≡◌, ℕ, List, Option, false, arith, ◌+◌, ◌<◌, ◌≤◌, None, length, length-append, get_or-set_other, sym, ◌∙◌, zero, suc, refl, ap, get_or, set, IsTrue}
-use Rattle.ultra_section.proofs.Common.{common_steps, append-nil, set-get_or, Ports, has_unit, unit_is, is_at_rest, BlockState, switch_at, module_at, element_at, HasEventRoom, AreOthersAtRest, HasStopRoom, GetsNoReply, GetsNoRequest, HoldsNoReply, HoldsNoRequest, IsAsleep, ServesNothing, Unit as UnitName, IsElement, IsModule, IsUnit, Fewer, fewer_set, fewer_both, switch_takes_replies, element_takes_reply, takes_replies, UnitCanTakeReplies, CanTakeRepliesAt, switch_takes_requests, module_takes_request, takes_requests, UnitCanTakeRequests, CanTakeRequestsAt, ForSome, Instr, left_at_rest, element_executes, executes, executes_own, CanExecuteAt}
-use Rattle.ultra_section.specs.{RepliesSent.sends_replies, RequestsSent.sends_requests, Serving.serves}
+use Rattle.std.proofs.Common.{◌≡◌, ℕ, List, Option, false, arith, ◌+◌, ◌<◌, ◌≤◌, None, length, length-append, get_or-set_other, sym, ◌∙◌, zero, suc, refl, ap, get_or, set}
+use Rattle.ultra_section.proofs.Common.{common_steps, append-nil, set-get_or, Ports, has_unit, unit_is, BlockState, switch_at, module_at, element_at, HasEventRoom, AreOthersAtRest, HasStopRoom, GetsNoReply, GetsNoRequest, HoldsNoReply, HoldsNoRequest, IsAsleep, ServesNothing, Unit as UnitName, IsElement, IsModule, IsUnit, Fewer, fewer_set, fewer_both, switch_takes_replies, element_takes_reply, takes_replies, UnitCanTakeReplies, CanTakeRepliesAt, switch_takes_requests, module_takes_request, takes_requests, UnitCanTakeRequests, CanTakeRequestsAt, left_at_rest, element_executes, executes, executes_own, CanExecuteAt, sends_replies, sends_requests, serves}
 use Rattle.ultra_units.specs.declared.unit.Unit.TheVariants as unit
 use Rattle.ultra_units.specs.Visits.{after_units}
 use Rattle.ultra_section.proofs.Once.{all_keep}
@@ -59,30 +58,18 @@ module _ (b : BlockState) (k : ℕ) where
 
 -- ---- where processing elements make a step
 module _ (b : BlockState) where
-  element_rests : (p : ℕ) → ForSome (element_at b.elements p) (λ e. IsTrue (is_at_rest b.program e)) → element_executes b.program p b ≡ b
-  element_rests p h = grind (arith, left_at_rest, same_entry, append-nil)
-
   pub executes_none : (n : ℕ) → IsAsleep n b → executes_own n b ≡ b
-  executes_none n asleep = let rests = λ (p : ℕ) (is : IsElement b.stages n p). element_rests p (asleep p is) in grind (arith, rests, unit_is)
+  executes_none n asleep = grind (arith, left_at_rest, same_entry, append-nil, unit_is)
 
   pub sleeps : (awake : List ℕ) → AreOthersAtRest b.stages b.program awake b.elements → (n : ℕ) → has_unit awake n ≡ false → IsAsleep n b
   sleeps awake rests n none = λ p is. rests p is.small (rw (is.number) at none)
 
-  module _ (n k p : ℕ) (order : n < k) (is : IsElement b.stages n p) where
-    pub later_asleep : IsAsleep k b → IsAsleep k (element_executes b.program p b)
-    later_asleep asleep = λ q at. let was = λ (own : IsElement b.stages k q). asleep q own in grind (arith, was, get_or-set_other)
+  pub later_element : (n k p : ℕ) → n < k → IsElement b.stages n p → HasEventRoom n b → HasStopRoom n b → CanExecuteAt k b → CanExecuteAt k (element_executes b.program p b)
+  later_element n k p order is events stops can = grind (arith, get_or-set_other, unit_is, length-append)
 
-    pub later_element : HasEventRoom n b → HasStopRoom n b → CanExecuteAt k b → CanExecuteAt k (element_executes b.program p b)
-    later_element events stops can = grind (arith, get_or-set_other, unit_is, length-append)
-
--- ---- what no step changes stays as it is until the half is over
-pub done_kept : (program : List Instr) (n : ℕ) (b : BlockState) → BlockState.done (after_units (executes program) n b) ≡ b.done
-done_kept program n b = all_keep (executes program) (λ t. t.done ≡ b.done) (λ j t same. grind arith) n b refl
-
--- so each step is one of the program that the block has at the start
-pub own_steps : (n : ℕ) (b : BlockState) → after_units executes_own n b ≡ after_units (executes b.program) n b
+-- ---- no step changes how many cycles are done, and each is one of the program that the block has at the start
+pub own_steps : (n : ℕ) (b : BlockState) → (after_units executes_own n b ≡ after_units (executes b.program) n b) × (BlockState.done (after_units executes_own n b) ≡ b.done)
 unfolding after_units
-own_steps zero b = refl
+own_steps zero b = (refl, refl)
 own_steps (suc n) b =
-    ap (executes_own n) (own_steps n b)
-    ∙ ap (λ program. executes program n (after_units (executes b.program) n b)) (all_keep (executes b.program) (λ t. t.program ≡ b.program) (λ j t same. grind arith) n b refl)
+    let kept = all_keep (executes b.program) (λ t. t.program ≡ b.program) (λ j t same. grind arith) n b refl in grind (arith, own_steps n b)

@@ -1,10 +1,9 @@
 -- Units and the bits of their words, and walks over units.
 use Rattle.std.proofs.Common.{◌≡◌, ℕ, min, Bool, ◌&&◌, ◌+◌, ◌-◌, ◌*◌, ◌/◌, ◌%◌, ◌^◌, ◌<◌, ◌≤◌, true, false, List, [], ◌∷◌, zero, suc, refl, length, get_or, map, set, eqb, sym, ◌∙◌, ap, inl, inr, arith, eq-eqb, get_or-set_same, get_or-set_other, replicate, w64, bit_and, bit_or, nat_lt, not, ◌||◌, ◌≢◌, ◌==◌}
 use Rattle.ultra_units.proofs.Common.{cases_lt, eqb-true, get_or-replicate, get_or_past, length-replicate, nat_tests, AreBits, has_bit, comes_to, word_end, HasCome, AreSameBut, HasNoneFrom, HasNoneWithin, IsFirstOf, IsWalk, Walk}
-use Rattle.std.proofs.lemmas.{List.FromFn.get_or-map-range_with_len, Nat.le_or_l, Nat.le_or_r, Nat.and_le_l, Nat.pow_below, Nat.shr-shr, Nat.Bits.bit_at-lt, Nat.Bits.bit_at-suc, Nat.Bits.bit_at-zero, Nat.Bits.bit_at_lowest, Nat.Bits.bit_at_above, Nat.Bits.bit_at_and, Nat.Bits.bit_at_not, Nat.Bits.bit_at_ones, Nat.Bits.bit_at_or, Nat.Bits.bit_at_set_same, Nat.Bits.bit_at_set_other, Nat.Bits.bit_at_clear_same, Nat.Bits.bit_at_clear_other, Nat.Bits.bit_at-trailing_zeros}
-use Rattle.std.proofs.Math.Nat.{pow-suc}
-use Rattle.std.specs.{Int.bit_at, Int.Bits.and_self, Int.Bits.and_step, Int.bit_not, Int.trailing_zeros, List.range_with_len}
-use Rattle.ultra_units.specs.Set.{IsUnitBit, bit_of, has_unit}
+use Rattle.std.proofs.lemmas.{List.FromFn.get_or-map-range_with_len, Nat.le_or_l, Nat.le_or_r, Nat.and_le_r, Nat.shr-shr, Nat.Bits.bit_at-lt, Nat.Bits.bit_at-suc, Nat.Bits.bit_at-zero, Nat.Bits.bit_at_lowest, Nat.Bits.bit_at_above, Nat.Bits.bit_at_and, Nat.Bits.bit_at_not, Nat.Bits.bit_at_ones, Nat.Bits.bit_at_or, Nat.Bits.bit_at_set_same, Nat.Bits.bit_at_set_other, Nat.Bits.bit_at_clear_same, Nat.Bits.bit_at_clear_other, Nat.Bits.bit_at-trailing_zeros}
+use Rattle.std.specs.{Int.bit_at, Int.bit_not, Int.trailing_zeros, List.range_with_len}
+use Rattle.ultra_units.specs.Set.{has_unit}
 
 -- ---- one unit
 pub none_there : (n k : ℕ) → has_unit (replicate n 0) k ≡ false
@@ -25,17 +24,17 @@ module _ (words : List ℕ) (number : ℕ) (within : number < 64 * length words)
   word = get_or words (number / 64) 0
 
   abbrev bit : ℕ
-  bit = bit_of number
+  bit = 1 * 2 ^ (number % 64) % 2 ^ 64
 
   abbrev with_word : ℕ → List ℕ
   with_word v = set words (number / 64) v
 
   pub inserted : (k : ℕ) → has_unit (with_word (bit_or word bit)) k ≡ (k == number || has_unit words k)
-  unfolding has_unit bit_of
+  unfolding has_unit
   inserted k = grind (arith, nat_tests, get_or-set_same, get_or-set_other, bit_at_set_same w64 word (number % 64) (omega arith), bit_at_set_other w64 word (number % 64) (omega arith) (k % 64))
 
   pub removed : (k : ℕ) → has_unit (with_word (bit_and word (bit_not w64 bit))) k ≡ (not (k == number) && has_unit words k)
-  unfolding has_unit bit_of
+  unfolding has_unit
   removed k = grind (arith, nat_tests, get_or-set_same, get_or-set_other, bit_at_clear_same w64 word (number % 64) (omega arith), bit_at_clear_other w64 word (number % 64) (omega arith) (k % 64) (omega arith))
 
   -- a mask of ones keeps every unit
@@ -98,44 +97,40 @@ module _ (words : List ℕ) (from : ℕ) (fits : get_or words (from / 64) 0 < 2 
   first_past_rest k none first = let clear = none_in_rest none in grind arith
 
 -- ---- the lowest bit
--- a number less what it has in common with one less is its lowest bit
-lowest_left : (t n : ℕ) → bit_at n t ≡ 1 → ((j : ℕ) → j < t → bit_at n j ≡ 0) → n - bit_and n (n - 1) ≡ 2 ^ t
-lowest_left zero n one none =
+-- one less than a number has its bits above the lowest, and not that one
+one_less_above : (t n i : ℕ) → t < i → bit_at n t ≡ 1 → ((j : ℕ) → j < t → bit_at n j ≡ 0) → bit_at (n - 1) i ≡ bit_at n i
+one_less_above t n zero order one none = absurd (omega arith)
+one_less_above zero n (suc i) order one none =
     let half : (n - 1) / 2 ≡ n / 2 = omega (arith, one, bit_at_lowest n) in
-    let step = and_step n (n - 1) in
-    let same = and_self (n / 2) in
-    grind (arith, bit_at_lowest n)
-lowest_left (suc t) n one none =
-    let even = none 0 (omega arith) in
-    let half : (n - 1) / 2 ≡ n / 2 - 1 = omega (arith, even, bit_at_lowest n) in
-    let step = and_step n (n - 1) in
-    let below = lowest_left t (n / 2) (sym (bit_at-suc n t) ∙ one) (λ j before. sym (bit_at-suc n j) ∙ none (suc j) (omega arith)) in
-    grind (arith, bit_at_lowest n, pow-suc 2 t)
+    bit_at-suc (n - 1) i ∙ ap (λ x. bit_at x i) half ∙ sym (bit_at-suc n i)
+one_less_above (suc t) n (suc i) order one none =
+    let half : (n - 1) / 2 ≡ n / 2 - 1 = omega (arith, none 0 (omega arith), bit_at_lowest n) in
+    bit_at-suc (n - 1) i ∙ ap (λ x. bit_at x i) half
+    ∙ one_less_above t (n / 2) i (omega arith) (sym (bit_at-suc n t) ∙ one) (λ j before. sym (bit_at-suc n j) ∙ none (suc j) (omega arith)) ∙ sym (bit_at-suc n i)
+
+one_less_at : (t n : ℕ) → bit_at n t ≡ 1 → ((j : ℕ) → j < t → bit_at n j ≡ 0) → bit_at (n - 1) t ≡ 0
+one_less_at zero n one none = omega (arith, one, bit_at_lowest n, bit_at_lowest (n - 1))
+one_less_at (suc t) n one none =
+    let half : (n - 1) / 2 ≡ n / 2 - 1 = omega (arith, none 0 (omega arith), bit_at_lowest n) in
+    bit_at-suc (n - 1) t ∙ ap (λ x. bit_at x t) half ∙ one_less_at t (n / 2) (sym (bit_at-suc n t) ∙ one) (λ j before. sym (bit_at-suc n j) ∙ none (suc j) (omega arith))
+
+-- the first of some bits, and the bits without it
+abbrev pub first : ℕ → ℕ
+first bits = trailing_zeros w64 bits
+
+abbrev pub behind : ℕ → ℕ
+behind bits = bit_and bits (bits - 1)
 
 module _ (bits : ℕ) (some : 0 < bits) (fits : bits < 2 ^ 64) where
-  pub lowest_bit : IsUnitBit (trailing_zeros w64 bits) (bits - bit_and bits (bits - 1))
-  unfolding bit_of
-  lowest_bit =
+  pub bits_behind : (i : ℕ) → has_bit (behind bits) i ≡ (nat_lt (first bits) i && has_bit bits i)
+  bits_behind i =
       let lowest = bit_at-trailing_zeros w64 bits some fits in
-      let small = pow_below (trailing_zeros w64 bits) 64 lowest.0 in
-      let place : trailing_zeros w64 bits % 64 ≡ trailing_zeros w64 bits = omega (arith, lowest.0) in
-      record { in_range = omega (arith, lowest.0); is = rw place (lowest_left _ bits lowest.1 lowest.2 ∙ omega (arith, small)) }
+      let below = one_less_at (first bits) bits lowest.1 lowest.2 in
+      let above = λ (order : first bits < i). one_less_above (first bits) bits i order lowest.1 lowest.2 in
+      grind (arith, nat_tests, bit_at-lt, bit_at_and bits (bits - 1) i)
 
-  -- the bits without the lowest
-  module _ (first bit : ℕ) (at : first ≡ trailing_zeros w64 bits) (is : bit ≡ bit_of first) where
-    pub bits_behind : (i : ℕ) → has_bit (bit_and bits (bit_not w64 bit)) i ≡ (nat_lt first i && has_bit bits i)
-    unfolding bit_of
-    bits_behind i =
-        let lowest = bit_at-trailing_zeros w64 bits some fits in
-        let place : first % 64 ≡ first = omega (arith, lowest.0) in
-        let same : bit ≡ 1 * 2 ^ first % 2 ^ 64 = rw place at is in
-        elim (cases_lt i 64) [
-          | inl within ↦ grind (arith, nat_tests, bit_at_clear_same w64 bits first (omega (arith, lowest.0)), bit_at_clear_other w64 bits first (omega (arith, lowest.0)) i within)
-          | inr past ↦ grind (arith, nat_tests, bit_at_above bits 64 i, bit_at_and bits (bit_not w64 bit) i)
-        ]
-
-    pub fewer_behind : bit_and bits (bit_not w64 bit) < bits
-    fewer_behind = let lowest = bit_at-trailing_zeros w64 bits some fits in let gone = bits_behind first in let no_more = and_le_l bits (bit_not w64 bit) in grind (arith, nat_tests)
+  pub fewer_behind : behind bits < bits
+  fewer_behind = let fewer = and_le_r bits (bits - 1) in omega (arith, fewer)
 
 -- ---- uniting and taking away
 

@@ -1,10 +1,9 @@
 -- Visits that change nothing may be left out.
-use Rattle.std.proofs.Common.{◌≡◌, ℕ, zero, suc, ◌+◌, ◌-◌, ◌^◌, ◌≤◌, ◌<◌, Bool, List, Option, Some, None, true, false, get_or, refl, sym, ◌∙◌, ap, inl, inr, arith, w64, bit_and, IfNone, IfSome}
+use Rattle.std.proofs.Common.{◌≡◌, ℕ, zero, suc, ◌+◌, ◌-◌, ◌^◌, ◌≤◌, ◌<◌, Bool, List, Option, Some, None, true, false, get_or, refl, sym, ◌∙◌, ap, inl, inr, arith, w64, IfNone, IfSome}
 use Rattle.std.proofs.lemmas.Nat.Bits.{bit_at-trailing_zeros, bit_at-zero, bit_at_above}
 use Rattle.ultra_units.proofs.Common.{cases_lt, has_bit, nat_tests, word_end, HasCome, IsWalk, Walk}
-use Rattle.ultra_units.proofs.Set.{bit_of_number, bits_behind, is_walk}
-use Rattle.std.specs.Int.{bit_not, trailing_zeros}
-use Rattle.ultra_units.specs.{Set.bit_of, Set.has_unit, Visits.after_units}
+use Rattle.ultra_units.proofs.Set.{behind, bit_of_number, bits_behind, first, is_walk}
+use Rattle.ultra_units.specs.{Set.has_unit, Visits.after_units}
 
 -- after the visits below `from`, those of the units up to another number change nothing
 skipped : {T : Type 0} (f : ℕ → T → T) (old now : T) (from to : ℕ) → from ≤ to → now ≡ after_units f from old → ((k : ℕ) → from ≤ k → k < to → f k now ≡ now)
@@ -50,13 +49,9 @@ pub begun : {T : Type 0} (f : ℕ → T → T) (can_visit is_idle : ℕ → T �
     → ((k : ℕ) → k < 320 → can_visit k now) → ((k : ℕ) → is_idle k now → f k now ≡ now) → ((k : ℕ) → has_unit words k ≡ false → is_idle k now) → ((k : ℕ) → 64 ≤ k → is_idle k now)
     → HasVisited f can_visit is_idle now now (get_or words 0 0) 0
 unfolding after_units has_unit
-begun f can_visit is_idle now words fits can still idle others = record {
-  visited = refl;
-  can = λ k _. can k;
-  still = still;
-  later = λ k there. (let past = bit_at_above (get_or words 0 0) 64 k fits in grind (arith, nat_tests));
-  idle = λ k _ none. elim (cases_lt k 64) [ inl within ↦ idle k (grind arith) | inr past ↦ others k past ];
-}
+begun f can_visit is_idle now words fits can still idle others =
+    let past = bit_at_above (get_or words 0 0) 64 in
+    grind (arith, nat_tests)
 
 module _ {T : Type 0} (f : ℕ → T → T) (can_visit is_idle : ℕ → T → Type 0) (old now : T) (units n : ℕ) (so_far : HasVisited f can_visit is_idle old now units n) where
   reached : (to : ℕ) → n ≤ to → ((k : ℕ) → has_bit units k ≡ true → to ≤ k) → now ≡ after_units f to old
@@ -65,22 +60,16 @@ module _ {T : Type 0} (f : ℕ → T → T) (can_visit is_idle : ℕ → T → T
   pub all_visited : n ≤ 320 → units ≡ 0 → now ≡ after_units f 320 old
   all_visited small none = reached 320 small (λ k there. let clear = bit_at-zero k in grind (arith, nat_tests))
 
-  module _ (some : 0 < units) (fits : units < 2 ^ 64) (first bit : ℕ) (at : first ≡ trailing_zeros w64 units) (is_bit : bit ≡ bit_of first) where
-    pub first_is : (n ≤ first) × (first < 64)
-    first_is = let lowest = bit_at-trailing_zeros w64 units some fits in let later = so_far.later first in grind (arith, nat_tests)
+  module _ (some : 0 < units) (fits : units < 2 ^ 64) where
+    pub first_is : (n ≤ first units) × (first units < 64)
+    first_is = let lowest = bit_at-trailing_zeros w64 units some fits in let later = so_far.later (first units) in grind (arith, nat_tests)
 
-    pub stepped : (new : T) → new ≡ f first now → ((k : ℕ) → first < k → can_visit k now → can_visit k new) → ((k : ℕ) → first < k → is_idle k now → is_idle k new)
-        → ((k : ℕ) → is_idle k new → f k new ≡ new) → HasVisited f can_visit is_idle old new (bit_and units (bit_not w64 bit)) (first + 1)
+    pub stepped : (new : T) → new ≡ f (first units) now → ((k : ℕ) → first units < k → can_visit k now → can_visit k new) → ((k : ℕ) → first units < k → is_idle k now → is_idle k new)
+        → ((k : ℕ) → is_idle k new → f k new ≡ new) → HasVisited f can_visit is_idle old new (behind units) (first units + 1)
     unfolding after_units
     stepped new is can idle still =
-        let here = first_is in
+        let at = first_is in
         let lowest = bit_at-trailing_zeros w64 units some fits in
-        let before = reached first here.0 (λ k there. grind (arith, nat_tests, lowest.2)) in
-        let bits = bits_behind units some fits first bit at is_bit in
-        record {
-          visited = grind (arith, is, before);
-          can = λ k after small. can k (omega arith) (so_far.can k (omega arith) small);
-          still = still;
-          later = λ k there. (let later = so_far.later k in grind (arith, nat_tests));
-          idle = λ k after none. idle k (omega arith) (so_far.idle k (omega arith) (grind (arith, nat_tests)));
-        }
+        let before = reached (first units) at.0 (λ k there. grind (arith, nat_tests, lowest.2)) in
+        let bits = bits_behind units some fits in
+        grind (arith, nat_tests, is, before, so_far.can, so_far.later, so_far.idle)

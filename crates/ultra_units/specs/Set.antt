@@ -1,18 +1,10 @@
 -- a set of units as words of 64 bits
-use Rattle.std.specs.Prelude.{◌≡◌, ◌≢◌, ℕ, ◌*◌, ◌/◌, ◌%◌, ◌^◌, ◌<◌, ◌≤◌, Bool, true, false, List, ◌==◌, slice_index}
+use Rattle.std.specs.Prelude.{◌≡◌, ◌≢◌, ℕ, ◌/◌, ◌%◌, ◌<◌, ◌≤◌, Bool, true, false, List, ◌==◌, slice_index}
 use Rattle.std.specs.Int.{bit_at}
 
 -- bit i of the word is set
 abbrev pub has_bit : ℕ → ℕ → Bool
 has_bit word i = bit_at word i == 1
-
--- the bit of unit n in its word
-unfoldable pub bit_of : ℕ → ℕ
-bit_of n = 1 * 2 ^ (n % 64) % 2 ^ 64
-
-pub record IsUnitBit (n bit : ℕ) : Type 0 where
-  pub in_range : n < 320
-  pub is : bit ≡ bit_of n
 
 -- unit k is in the set: bit k % 64 of word k / 64 is set
 unfoldable pub has_unit : List ℕ → ℕ → Bool

@@ -110,9 +110,9 @@ fn visit_first_word<T, V: Visit<T>>(visit: &V, target: &mut T)
 {
     let mut units = visit.units(target).words[0];
     while units != 0 {
-        let first = UnitNumber::first_of(units);
-        units &= !first.bit;
-        visit.visit(target, first);
+        let first = units.trailing_zeros() as usize;
+        units &= units - 1;
+        visit.visit(target, UnitNumber::of(first));
     }
 }
 

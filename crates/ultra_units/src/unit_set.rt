@@ -1,6 +1,5 @@
 //! Sets of units.
 
-ghost use Rattle.std.specs.Int.{trailing_zeros, w64};
 ghost use Rattle.std.specs.Prelude.{◌≡◌, ℕ, List, ◌+◌, ◌*◌, ◌/◌, ◌<◌, ◌≤◌, ◌&&◌, ◌||◌, true, false, not, IfNone, IfSome};
 ghost use Rattle.ultra_units.specs.Set.{AreSameBut, HasNoneFrom, IsFirstFrom, has_unit};
 
@@ -29,47 +28,26 @@ impl Model for UnitSet {
 #[derive(Clone, Copy, Drop)]
 pub struct UnitNumber {
     number: usize,
-    /// Its bit in its word of a set. The lowest bit of a word takes no shift.
-    pub(crate) bit: u64,
 }
 
 impl Model for UnitNumber {
-    ghost use Rattle.std.specs.Prelude.{ℕ};
-    ghost use Rattle.ultra_units.specs.Set.{IsUnitBit, bit_of};
-
     ghost Value = { ℕ };
 
     ghost view = { λ u. u.number };
 
-    ghost invariant = { λ u. IsUnitBit u.number u.bit };
+    ghost invariant = { λ u. u.number < 320 };
 
-    ghost inverse = { λ n. record { number = n; bit = bit_of n } };
+    ghost inverse = { λ n. record { number = n } };
 }
 
 impl UnitNumber {
     /// The unit of this number.
     #[inline(always)]
-    #[tactic(auto, unfolding(crate::specs::Set::bit_of))]
     pub fn of(number: usize) -> UnitNumber
         requires { number < 320 }
         ensures { result ≡ number }
     {
-        UnitNumber {
-            number,
-            bit: 1 << (number % 64),
-        }
-    }
-
-    /// The unit of the lowest bit of the first word of a set.
-    #[inline(always)]
-    pub(crate) fn first_of(word: u64) -> UnitNumber
-        requires { 0 < word }
-        ensures { result ≡ trailing_zeros w64 word }
-    {
-        UnitNumber {
-            number: word.trailing_zeros() as usize,
-            bit: word - (word & (word - 1)),
-        }
+        UnitNumber { number }
     }
 
     /// The unit's number.
@@ -88,10 +66,7 @@ impl UnitNumber {
         ensures { result ≡ self }
     {
         if SMALL {
-            UnitNumber {
-                number: self.number % 64,
-                bit: self.bit,
-            }
+            UnitNumber::of(self.number % 64)
         } else {
             self
         }
@@ -138,7 +113,7 @@ impl UnitSet {
         ensures others { AreSameBut unit self.old self.new }
         ensures there { has_unit self.new unit ≡ true }
     {
-        self.words[unit.word()] |= unit.bit;
+        self.words[unit.word()] |= 1u64 << (unit.number % 64);
     }
 
     /// Takes a unit out of the set, if it is there.
@@ -167,7 +142,11 @@ impl UnitSet {
         ensures others { AreSameBut unit self.old self.new }
         ensures there { has_unit self.new unit ≡ has_unit self.old unit && is_in }
     {
-        let kept = if is_in { u64::MAX } else { !unit.bit };
+        let kept = if is_in {
+            u64::MAX
+        } else {
+            !(1u64 << (unit.number % 64))
+        };
         self.words[unit.word()] &= kept;
     }
 

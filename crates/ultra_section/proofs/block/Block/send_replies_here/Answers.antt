@@ -1,4 +1,3 @@
-use Rattle.std.proofs.Common.{arith}
 use Rattle.ultra_section.proofs.Known.{are_own, own_rooms}
 use Rattle.ultra_section.proofs.block.Block.send_replies_here.Goals as goal
 

@@ -1,7 +1,7 @@
-use Rattle.std.proofs.Common.{arith}
-use Rattle.ultra_section.proofs.Known.{module_renewed}
+use Rattle.std.proofs.Common.{Some, arith}
+use Rattle.ultra_section.proofs.{Common.get_or_default, Known.module_kept}
 use Rattle.ultra_section.proofs.block.Block.send_reply_of_module.Goals as goal
 
 pub invariant_of-self-2 : goal.invariant_of-self-2
 invariant_of-self-2 g c =
-    module_renewed c.self.invariant c.note_reply_left.ensures c.send_reply-out.new.bank c.index_mut.ensures.value c.in-Some.is (grind arith) (grind arith)
+    module_kept c.self.invariant c.note_reply_left.ensures c.args.module_number (Some c.in-Some.bank) (Some c.send_reply-out.new.bank) (grind (arith, get_or_default)) (grind arith) (grind arith)

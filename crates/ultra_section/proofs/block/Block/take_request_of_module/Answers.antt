@@ -1,14 +1,13 @@
-use Rattle.std.proofs.Common.{sym, ◌∙◌, arith}
-use Rattle.ultra_section.proofs.Known.{entry_there, module_renewed}
+use Rattle.std.proofs.Common.{Some, sym, ◌∙◌, arith}
+use Rattle.ultra_section.proofs.{Common.get_or_default, Known.module_kept}
 use Rattle.ultra_section.proofs.block.Block.take_request_of_module.Goals as goal
 
 pub take_request-requires : goal.take_request-requires
 take_request-requires g c =
-    let there = entry_there c.self.inside.modules.items c.args.module_number (grind arith) c.index_mut.ensures.value c.in-Some.is in
     let can = rw (← c.self.view_is) at c.requires.can in
-    let (within, empty) = can c.in-Some.bank there c.in-Some-came.request (sym c.take_at_module-came.ensures.came ∙ c.in-Some-came.is) in
-    record { within = within; empty = empty }
+    let asked = can c.in-Some.bank (grind (arith, get_or_default)) c.in-Some-came.request (sym c.take_at_module-came.ensures.came ∙ c.in-Some-came.is) in
+    grind (arith, asked)
 
 pub invariant_of-self-2 : goal.invariant_of-self-2
 invariant_of-self-2 g c =
-    module_renewed c.self.invariant c.note_request_came.ensures c.match-came.bank c.index_mut.ensures.value c.in-Some.is (grind arith) (grind arith)
+    module_kept c.self.invariant c.note_request_came.ensures c.args.module_number (Some c.in-Some.bank) (Some c.match-came.bank) (grind (arith, get_or_default)) (grind arith) (grind arith)

@@ -1,5 +1,5 @@
-use Rattle.std.proofs.Common.{arith}
-use Rattle.ultra_section.proofs.Visited.{later_asleep, later_element}
+use Rattle.std.proofs.Common.{arith, get_or-set_other}
+use Rattle.ultra_section.proofs.Visited.{later_element}
 use Rattle.ultra_section.proofs.execute.ExecuteVisitBlock.visit.Goals as goal
 
 pub returns-in-Some-clause-later : goal.returns-in-Some-clause-later
@@ -8,6 +8,4 @@ returns-in-Some-clause-later g c = λ k order can.
     grind (arith, later)
 
 pub returns-in-Some-clause-idle : goal.returns-in-Some-clause-idle
-returns-in-Some-clause-idle g c = λ k order asleep.
-    let later = later_asleep c.args.block.now c.args.unit k c.in-Some.pe order in
-    grind (arith, later)
+returns-in-Some-clause-idle g c = λ k order asleep q at. let was = asleep q in grind (arith, was, get_or-set_other)
