@@ -1,6 +1,6 @@
 //! The half of a cycle in which requests leave switches and processing elements.
 
-ghost use Rattle.std.specs.Prelude.{◌≡◌, ℕ, ◌<◌, true};
+ghost use Rattle.std.specs.Prelude.{◌≡◌, ℕ, ◌<◌, true, false, None};
 ghost use Rattle.ultra_section.specs.Prelude.{IsSmall, lane_without, request_heads, requests_leaving, without_requests, LeadOn, LeadsTo, put_on_both, request_inlets, put_on, request_target, places_of, request_targets, request_ways, after_units, IsElement, IsSwitch};
 ghost use Rattle.ultra_section.specs.{Rooms.AreOwnRooms, declared.rooms.Rooms.Rooms, RequestsSent.element_sends_request, RequestsSent.request_leaving, RequestsSent.sends_requests, RequestsSent.switch_sends_requests, Holding.HoldsNoRequest};
 
@@ -15,7 +15,7 @@ use ultra_units::{
     leave_element, visit_all,
 };
 
-/// The first request of a queue of a switch of this stage goes onto its link, if there is a way to the unit `target`, to which the link leads.
+/// The first request of a queue of a switch of this stage goes onto its link, if there is a way to the unit `target`, to which the link leads. Answers whether there is one.
 #[inline(always)]
 fn send_from_queue(
     queue: &mut ToMm,
@@ -25,18 +25,19 @@ fn send_from_queue(
     stage: u32,
     link: usize,
     target: UnitNumber,
-)
+) -> bool
     requires stage { stage < net }
     requires leads { LeadsTo (request_inlets links.old.stages) links.old.stages link target }
     ensures queue { (x : ℕ) → target ≡ request_target net stage x → queue.new ≡ lane_without queue.old (request_leaving closed.now net stage x queue.old) }
     ensures links { (x : ℕ) → target ≡ request_target net stage x → links.new ≡ record links.old { table = put_on links.old.table link (request_leaving closed.now net stage x queue.old); targets = links.new.targets } }
+    ensures stays { (x : ℕ) → target ≡ request_target net stage x → result ≡ false → request_leaving closed.now net stage x queue.old ≡ None }
 {
     let goes = has_request_way(net, closed, stage, target, queue.front());
-    let out = leave_where(goes, queue);
-    links.put(link, target, out);
+    links.put(link, target, leave_where(goes, queue));
+    goes
 }
 
-/// The first request of each queue of a switch goes onto its link, where there is a way to the unit in `targets`. One port is done with before the other.
+/// The first request of each queue of a switch goes onto its link, where there is a way to the unit in `targets`. One port is done with before the other. Answers whether any goes.
 #[inline(always)]
 fn send_from_switch(
     switch: &mut Switch,
@@ -47,7 +48,7 @@ fn send_from_switch(
     stage: u32,
     index: u32,
     targets: Ports<UnitNumber>,
-)
+) -> bool
     requires is { IsSwitch net number stage index }
     requires small { number < 320 }
     requires targets { targets ≡ request_targets net stage index }
@@ -55,12 +56,14 @@ fn send_from_switch(
     requires stages { links.old.stages ≡ net }
     ensures switch { switch.new ≡ without_requests switch.old (requests_leaving (request_ways closed.now net stage index (request_heads switch.old)) switch.old) }
     ensures links { links.new ≡ record links.old { table = put_on_both links.old.table (places_of net stage index) (requests_leaving (request_ways closed.now net stage index (request_heads switch.old)) switch.old); targets = links.new.targets } }
+    ensures stay { result ≡ false → requests_leaving (request_ways closed.now net stage index (request_heads switch.old)) switch.old ≡ record { zero = None; one = None } }
 {
     let _stages = net.stages();
     let Ports { zero, one } = &mut switch.to_mm;
     let link = 2 * number;
-    send_from_queue(zero, links, net, closed, stage, link, targets.zero);
-    send_from_queue(one, links, net, closed, stage, link + 1, targets.one);
+    let zero_goes = send_from_queue(zero, links, net, closed, stage, link, targets.zero);
+    let one_goes = send_from_queue(one, links, net, closed, stage, link + 1, targets.one);
+    zero_goes | one_goes
 }
 
 impl Block {
@@ -83,8 +86,9 @@ impl Block {
             return;
         };
         let links = &mut self.requests;
-        send_from_switch(switch, links, net, closed, number, stage, index, targets);
-        self.sets.note_requests_sent(unit, switch);
+        if send_from_switch(switch, links, net, closed, number, stage, index, targets) {
+            self.sets.note_requests_sent(unit, switch);
+        }
     }
 
     /// The first request of a processing element goes onto its link, if there is a way.

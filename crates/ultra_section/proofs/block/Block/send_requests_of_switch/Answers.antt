@@ -1,7 +1,11 @@
 use Rattle.std.proofs.Common.{Some, arith}
-use Rattle.ultra_section.proofs.{Common.get_or_default, Common.nat_tests, Known.switch_kept, Noted.shorter}
+use Rattle.ultra_section.proofs.{Common.get_or_default, Common.nat_tests, Known.same_facts, Known.switch_kept, Noted.shorter}
 use Rattle.ultra_section.proofs.block.Block.send_requests_of_switch.Goals as goal
 
-pub invariant_of-self-2 : goal.invariant_of-self-2
-invariant_of-self-2 g c =
+pub invariant_of-self-then-send_from_switch : goal.invariant_of-self-then-send_from_switch
+invariant_of-self-then-send_from_switch g c =
     switch_kept c.self.invariant c.note_requests_sent.ensures (Some c.in-Some.switch) (Some c.send_from_switch.new.switch) (grind (arith, get_or_default)) (grind (arith, nat_tests, shorter)) (grind arith)
+
+pub invariant_of-self-else-send_from_switch : goal.invariant_of-self-else-send_from_switch
+invariant_of-self-else-send_from_switch g c =
+    switch_kept c.self.invariant (same_facts c.self.inside.sets c.args.unit) (Some c.in-Some.switch) (Some c.send_from_switch.new.switch) (grind (arith, get_or_default)) (grind arith) (grind arith)
