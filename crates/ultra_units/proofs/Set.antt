@@ -164,6 +164,13 @@ come_in_word words word from small fits some order none =
     let here = come _ _ _ _ (bits_of_word words word fits) word refl (omega arith) small some fits in
     record { first = grind arith; rest = here.rest }
 
+-- where no unit of a word and behind it is in a set, the word is zero
+pub zero_where_none : (words : List ℕ) (w from : ℕ) → HasNoneFrom words from → from ≤ w * 64 → w < 5 → get_or words w 0 < 2 ^ 64 → get_or words w 0 ≡ 0
+zero_where_none words w from none after small fits = elim (cases_lt 0 (get_or words w 0)) [
+  | inl some ↦ (let here = (come_in_word words w (w * 64) small fits some (omega arith) (λ k low high. absurd (omega arith))).first in grind arith)
+  | inr least ↦ omega arith
+]
+
 pub come_on : (w : Walk) → IsWalk w → 0 < w.rest → w.rest < 2 ^ 64 → (words : List ℕ) → HasCome (comes_to w words) (w.unit + 1) (walk_at (w.unit + 1) w.rest)
 come_on w is some fits words =
     let bits : AreBits (comes_to w words) (w.unit + 1) (word_end w.unit) w.rest = (let inside = is.within in grind (arith, nat_tests)) in

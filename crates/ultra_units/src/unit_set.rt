@@ -1,6 +1,6 @@
 //! Sets of units.
 
-ghost use Rattle.std.specs.Prelude.{◌≡◌, ℕ, List, ◌+◌, ◌*◌, ◌/◌, ◌<◌, ◌≤◌, ◌&&◌, ◌||◌, true, false, not, IfNone, IfSome};
+ghost use Rattle.std.specs.Prelude.{◌≡◌, ℕ, List, ◌+◌, ◌*◌, ◌/◌, ◌<◌, ◌≤◌, ◌&&◌, ◌||◌, ◌↔◌, true, false, not, IfNone, IfSome};
 ghost use Rattle.ultra_units.specs.Set.{AreSameBut, HasNoneFrom, IsFirstFrom, has_unit};
 
 use crate::pass::Walk;
@@ -92,8 +92,9 @@ impl UnitSet {
 
     /// Whether no unit is in the set.
     #[inline(always)]
+    #[tactic(auto, using(crate::proofs::Set::set_steps, crate::proofs::Set::zero_where_none))]
     pub fn is_empty(&self) -> bool
-        ensures { result ≡ true → HasNoneFrom self.now 0 }
+        ensures { (result ≡ true) ↔ HasNoneFrom self.now 0 }
     {
         self.words[0] == 0 && self.is_in_first_word()
     }
@@ -205,7 +206,7 @@ impl UnitSet {
     /// Whether all units of the set are in its first word, as in a small machine.
     #[inline(always)]
     pub(crate) fn is_in_first_word(&self) -> bool
-        ensures { result ≡ true → HasNoneFrom self.now 64 }
+        ensures { (result ≡ true) ↔ HasNoneFrom self.now 64 }
     {
         self.words[1] | self.words[2] | self.words[3] | self.words[4] == 0
     }
