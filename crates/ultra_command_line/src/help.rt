@@ -34,7 +34,7 @@ The trace is the same for every H. One worker is the fastest, and
 starts no thread: in each half of a cycle each worker is handed its
 part of the machine and gives it back, which costs more than it gains
 on machines of up to six stages. Measured at six stages, 2 workers
-took some 5 times as long as 1, and 8 workers some 80 times
+took some 7 times as long as 1, and 8 workers more than 100 times
 (bench/README.md).";
 
 /// The short help of the workers of a sweep.
@@ -45,9 +45,9 @@ pub const JOB_WORKERS_IN_FULL: &str = "\
 How many threads do the jobs, 1 to 64
 
 Each job is run by one thread, so a sweep gains by threads. Measured
-on four processors, jobs of a second were done 2 times as fast by 2
-threads as by 1, and 3.3 times by 4; jobs of some milliseconds 1.6 and
-2.2 times (bench/README.md).";
+on four processors, jobs of a tenth of a second were done 1.6 to 1.8
+times as fast by 2 threads as by 1, and 2.2 to 2.7 times by 4; jobs of
+some milliseconds gained little (bench/README.md).";
 
 /// The help of the bound on jobs that run at once.
 pub const AT_ONCE: &str = "How many jobs may run at once, 1 to 64";

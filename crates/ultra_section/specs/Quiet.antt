@@ -1,6 +1,6 @@
 -- a block in which nothing is left to do
-use Rattle.std.specs.Prelude.{Bool, true, ◌&&◌, Option, Some, None}
-use Rattle.ultra_section.specs.{Prelude.list_all, Prelude.quiet_switch, Prelude.quiet_bank, Prelude.quiet_element, BlockState.BlockState}
+use Rattle.std.specs.Prelude.{Bool, true, not, ◌&&◌, Option, Some, None}
+use Rattle.ultra_section.specs.{Prelude.ProcessingElement, Prelude.has_stopped, Prelude.list_all, Prelude.quiet_switch, Prelude.quiet_bank, Prelude.quiet_element, BlockState.BlockState}
 
 -- a test is true of a unit, or the unit stands elsewhere
 abbrev pub or_elsewhere : {X : Type 0} → (X → Bool) → Option X → Bool
@@ -13,3 +13,7 @@ quiet_block b =
     list_all (or_elsewhere quiet_switch) b.switches
     && (list_all (or_elsewhere quiet_bank) b.modules
     && list_all (or_elsewhere quiet_element) b.elements)
+
+-- a processing element has yet to stop
+abbrev pub is_running : ProcessingElement → Bool
+is_running e = not (has_stopped e.processor.core.activity)

@@ -1,7 +1,7 @@
 //! Whether anything is left to do in a block.
 
 ghost use Rattle.std.specs.Prelude.{◌≡◌, true, false};
-ghost use Rattle.ultra_section.specs.{Prelude.list_all, Prelude.quiet_element, Prelude.quiet_bank, Prelude.quiet_switch, Quiet.or_elsewhere, Quiet.quiet_block};
+ghost use Rattle.ultra_section.specs.{Prelude.list_all, Prelude.list_any, Prelude.quiet_element, Prelude.quiet_bank, Prelude.quiet_switch, Quiet.is_running, Quiet.or_elsewhere, Quiet.quiet_block, Sets.if_here};
 
 use crate::block::Block;
 use ultra_halves::{ProcessingElement, modules, switches};
@@ -43,7 +43,8 @@ impl Block {
     /// Whether one of its processing elements has yet to stop. Then the block isn't quiet. This first look reads only a few words.
     #[inline(always)]
     pub fn is_stepping(&self) -> bool
-        ensures { result ≡ true → quiet_block self.now ≡ false }
+        ensures value { result ≡ list_any (if_here is_running) self.now.elements }
+        ensures busy { result ≡ true → quiet_block self.now ≡ false }
     {
         match self.sets.running.next(0) {
             Some(number) => matches!(self.unit(number), Unit::Element(_)),
