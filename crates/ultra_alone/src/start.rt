@@ -25,6 +25,10 @@ pub fn new_blocks(
     ensures range { AreInRange config.now }
 {
     let _valid = config.initial();
+    // one worker has all units, which are in one block from the start
+    if workers == 1 {
+        return Blocks::in_one_block(alloc, config, program);
+    }
     let partition = dealt_out(alloc, config, workers)?;
     match Blocks::new(alloc, config, program, partition.as_slice()) {
         Ok(blocks) => Ok(blocks),

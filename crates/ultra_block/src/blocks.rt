@@ -181,6 +181,7 @@ impl Blocks {
     }
 
     /// Whether every processing element has halted or faulted, and nothing is on its way or open. It looks no further than the first unit that isn't at rest.
+    #[inline(always)]
     pub fn is_quiet(&self) -> bool
         ensures { result ≡ is_quiet self.now.machine }
     {
@@ -221,6 +222,15 @@ impl Blocks {
         ensures { IsSetOf (holds self.now.config.stages self.now.machine held) result }
     {
         holders(self.parts.blocks.as_slice(), held)
+    }
+
+    /// The units of a machine in one block that hold what is asked for, numbered as by `holding`.
+    #[inline(always)]
+    pub fn holding_of_one(&self, held: Held) -> &UnitSet
+        requires { self.now.count ≡ 1 }
+        ensures { IsSetOf (holds self.now.config.stages self.now.machine held) result.now }
+    {
+        self.parts.blocks[0].holding(held)
     }
 
     /// What happened in the last cycle, in the order of the rules: deliveries by processing element, servings by module, combinations by stage, position and arrival, issues by processing element.

@@ -26,9 +26,6 @@ pub fn note_rooms(blocks: &[Block]) -> Rooms
 pub fn holders(blocks: &[Block], held: Held) -> UnitSet
     ensures { IsSetOfAll blocks.now held result }
 {
-    if blocks.len() == 1 {
-        return *blocks[0].holding(held);
-    }
     let mut all = UnitSet::empty();
     for block in blocks {
         all.add_all(block.holding(held));
@@ -37,6 +34,8 @@ pub fn holders(blocks: &[Block], held: Held) -> UnitSet
 }
 
 /// Whether each block is quiet.
+#[cold]
+#[inline(never)]
 fn is_each_quiet(blocks: &[Block]) -> bool
     ensures { result ≡ list_all quiet_block blocks.now }
 {
@@ -44,6 +43,7 @@ fn is_each_quiet(blocks: &[Block]) -> bool
 }
 
 /// Whether nothing is left to do in the whole machine, however it is cut. By a first look, some processing element has often yet to stop.
+#[inline(always)]
 #[tactic(auto, using(crate::proofs::Questions::quiet_is, std::proofs::lemmas::List::Folds::list_all_at))]
 pub fn are_quiet(blocks: &[Block]) -> bool
     ensures { IsQuietOfAll blocks.now result }

@@ -105,13 +105,14 @@ impl Sheet {
         requires room { at + length (decimal number) ≤ PAGE_BYTES }
         ensures { IsWritten (decimal number) at self.old.bytes self.new.bytes result }
     {
-        // most of them have three or four, which take no call
-        if number < 10000 {
-            let behind = self.write_one_or_two(at, (number / 100) as u8);
-            self.write_pair(behind, (number % 100) as u8)
+        // most of them have at most six, which take no call
+        let front = number / 100;
+        let behind = if front < 10000 {
+            self.write_up_to_four(at, front)
         } else {
-            self.write_digits(at, number as usize)
-        }
+            self.write_digits(at, front as usize)
+        };
+        self.write_pair(behind, (number % 100) as u8)
     }
 
     /// Writes decimal digits, two at a time, and answers the place behind them.
@@ -130,6 +131,21 @@ impl Sheet {
             self.write_digits(at, front)
         };
         self.write_pair(behind, (number % 100) as u8)
+    }
+
+    /// Writes the digits of a number below 10,000, at most four, and answers the place behind them.
+    #[inline(always)]
+    fn write_up_to_four(&mut self, at: usize, number: u32) -> usize
+        requires number { number < 10000 }
+        requires room { at + length (decimal number) ≤ PAGE_BYTES }
+        ensures { IsWritten (decimal number) at self.old.bytes self.new.bytes result }
+    {
+        if number < 100 {
+            self.write_one_or_two(at, number as u8)
+        } else {
+            let behind = self.write_one_or_two(at, (number / 100) as u8);
+            self.write_pair(behind, (number % 100) as u8)
+        }
     }
 
     /// Writes the digits of a number below 100, one or two, and answers the place behind them.

@@ -5,4 +5,5 @@ pub mod Skipped
 pub mod Rows
 pub mod Empty
 pub mod Walked
+pub mod Bits
 pub mod WorkedTraces

@@ -1,10 +1,9 @@
 -- numbers that pass a test, and lines of the others, which are empty
 use Rattle.std.proofs.lemmas.Grind.{common_steps}
-use Rattle.std.proofs.Common.{ℕ, zero, suc, ◌≡◌, ◌+◌, ◌-◌, ◌*◌, ◌<◌, ◌≤◌, List, [], ◌∷◌, ◌++◌, length, Bool, true, false, refl, subst, arith, append_assoc}
+use Rattle.std.proofs.Common.{ℕ, zero, suc, ◌≡◌, ◌+◌, ◌*◌, ◌<◌, ◌≤◌, List, [], ◌∷◌, ◌++◌, length, Bool, true, false, refl, arith, append_assoc}
 use Rattle.std.specs.Prelude.{All}
 use Rattle.std.specs.List.{filter, range_with_len, flat_map}
 use Rattle.std.proofs.lemmas.List.Elements.{All-filter}
-use Rattle.ultra_units.specs.Set.{HasNoneFrom, IsFirstFrom, has_unit}
 
 module _ (p : ℕ → Bool) where
   -- ---- of the n numbers from a on, those that pass
@@ -57,24 +56,3 @@ two_by_two line a (suc n) b (suc (suc m)) from count =
 
 pub by_twos : (line : ℕ → List ℕ) (n m : ℕ) → m ≡ 2 * n → flat_map (two_lines line) (range_with_len 0 n) ≡ flat_map line (range_with_len 0 m)
 by_twos line n m count = two_by_two line 0 n 0 m (omega arith) count
-
--- ---- what is left of the units of one kind, whose first has number base among all
-module _ (units : List ℕ) (base from end : ℕ) where
-  abbrev left : ℕ → List ℕ
-  left a = filter (λ k. has_unit units (base + k)) (range_with_len a (end - a))
-
-  pub left_none : HasNoneFrom units (base + from) → left from ≡ []
-  left_none none = none_passes (λ k. has_unit units (base + k)) from (end - from) (λ k after to. none (base + k) (omega arith))
-
-  module _ (unit : ℕ) (first : IsFirstFrom units (base + from) unit) where
-    pub left_beyond : end ≤ unit - base → left from ≡ []
-    left_beyond beyond =
-        let after = first.after in
-        none_passes _ from (end - from) (λ k since to. first.between (base + k) (omega arith) (omega arith))
-
-    pub left_first : unit - base < end → left from ≡ (unit - base) ∷ left (unit - base + 1)
-    left_first within =
-        let after = first.after in
-        let back : unit ≡ base + (unit - base) = omega arith in
-        first_passes (λ k. has_unit units (base + k)) from (end - from) (unit - base) (end - (unit - base + 1)) (omega arith) (omega arith)
-        (subst (λ n. has_unit units n ≡ true) back first.there) (λ j since to. first.between (base + j) (omega arith) (omega arith))

@@ -1,6 +1,6 @@
 //! The lines of what happened in a cycle.
 
-ghost use Rattle.std.specs.List.{flat_map};
+ghost use Rattle.std.specs.Prelude.{◌≡◌};
 ghost use Rattle.ultra_io.specs.Page.{Writes};
 ghost use Rattle.ultra_model.specs.Trace.{got_line, act_line, fault_line, events_text};
 
@@ -13,60 +13,53 @@ use ultra_model::Stop;
 use ultra_msg::{Event, Sink};
 
 /// Writes the lines of what happened in the last cycle: first what was delivered, then what was served, then who faulted.
+#[inline(always)]
 pub(crate) fn put_events<S: Sink>(page: &mut Page<'_, S>, blocks: &Blocks)
     ensures { Writes S.taken S.failures (events_text blocks.now.machine.events blocks.now.machine.stops) page.old page.new }
 {
-    put_deliveries(page, blocks);
-    put_servings(page, blocks);
-    put_stops(page, blocks);
-}
-
-/// Writes the lines of what was delivered, by processing element.
-fn put_deliveries<S: Sink>(page: &mut Page<'_, S>, blocks: &Blocks)
-    ensures { Writes S.taken S.failures (flat_map got_line blocks.now.machine.events) page.old page.new }
-{
     if blocks.is_in_one_block() {
-        for event in blocks.events_of_one() {
-            put_got(page, event);
-        }
+        put_events_of_one(page, blocks);
     } else {
-        for event in blocks.events() {
-            put_got(page, &event);
-        }
+        put_events_of_several(page, blocks);
     }
 }
 
-/// Writes the lines of what was served, by module.
-fn put_servings<S: Sink>(page: &mut Page<'_, S>, blocks: &Blocks)
-    ensures { Writes S.taken S.failures (flat_map act_line blocks.now.machine.events) page.old page.new }
+/// Writes the lines of what happened in a machine in one block.
+#[inline(always)]
+fn put_events_of_one<S: Sink>(page: &mut Page<'_, S>, blocks: &Blocks)
+    requires { blocks.now.count ≡ 1 }
+    ensures { Writes S.taken S.failures (events_text blocks.now.machine.events blocks.now.machine.stops) page.old page.new }
 {
-    if blocks.is_in_one_block() {
-        for event in blocks.events_of_one() {
-            put_act(page, event);
-        }
-    } else {
-        for event in blocks.events() {
-            put_act(page, &event);
-        }
+    'deliveries: for event in blocks.events_of_one() {
+        put_got(page, event);
+    }
+    'servings: for event in blocks.events_of_one() {
+        put_act(page, event);
+    }
+    for stop in blocks.stops_of_one() {
+        put_stop(page, *stop);
     }
 }
 
-/// Writes the lines of who faulted, by processing element.
-fn put_stops<S: Sink>(page: &mut Page<'_, S>, blocks: &Blocks)
-    ensures { Writes S.taken S.failures (flat_map fault_line blocks.now.machine.stops) page.old page.new }
+/// Writes the lines of what happened in a machine in several blocks, whose events are merged.
+#[cold]
+#[inline(never)]
+fn put_events_of_several<S: Sink>(page: &mut Page<'_, S>, blocks: &Blocks)
+    ensures { Writes S.taken S.failures (events_text blocks.now.machine.events blocks.now.machine.stops) page.old page.new }
 {
-    if blocks.is_in_one_block() {
-        for stop in blocks.stops_of_one() {
-            put_stop(page, *stop);
-        }
-    } else {
-        for stop in blocks.stops() {
-            put_stop(page, stop);
-        }
+    'deliveries: for event in blocks.events() {
+        put_got(page, &event);
+    }
+    'servings: for event in blocks.events() {
+        put_act(page, &event);
+    }
+    for stop in blocks.stops() {
+        put_stop(page, stop);
     }
 }
 
 /// Writes the line of a delivery, as `got 0@5 = 1`; other events have none.
+#[inline(always)]
 fn put_got<S: Sink>(page: &mut Page<'_, S>, event: &Event)
     ensures { Writes S.taken S.failures (got_line event.now) page.old page.new }
 {
@@ -79,6 +72,7 @@ fn put_got<S: Sink>(page: &mut Page<'_, S>, event: &Event)
 }
 
 /// Writes the line of a serving, as `act 0 1@0 faa 2 = 0 now 2`; other events have none.
+#[inline(always)]
 fn put_act<S: Sink>(page: &mut Page<'_, S>, event: &Event)
     ensures { Writes S.taken S.failures (act_line event.now) page.old page.new }
 {

@@ -1,10 +1,10 @@
 //! The lines of what stands where after a cycle.
 
-ghost use Rattle.std.specs.Prelude.{◌≡◌, ◌+◌, ◌*◌, ◌-◌, ◌/◌, ◌%◌, ◌^◌, ◌<◌, ◌≤◌};
+ghost use Rattle.std.specs.Prelude.{◌≡◌, ◌+◌, ◌*◌, ◌-◌, ◌/◌, ◌%◌, ◌^◌, ◌<◌, ◌≤◌, true};
 ghost use Rattle.ultra_model.specs.Machine.{size};
-ghost use Rattle.ultra_units.specs.Numbers.{switch_count};
+ghost use Rattle.ultra_units.specs.Numbers.{IsSmall, switch_count};
 ghost use Rattle.ultra_io.specs.Page.{Writes};
-ghost use Rattle.ultra_block.specs.Held.TheVariants.{Reply, Request};
+ghost use Rattle.ultra_block.specs.Held.TheVariants.{Record, Reply, Request};
 ghost use Rattle.ultra_lines.specs.Holders.{AreHolders};
 ghost use Rattle.ultra_lines.specs.Ports.{port_line};
 ghost use Rattle.ultra_model.specs.Trace.{by_number, by_stage, pni_of, inp_of, out_of, state_text};
@@ -14,42 +14,107 @@ use crate::places::{put_inp, put_out, put_pni, put_rep, put_req, put_wait};
 use ultra_block::{Blocks, Held};
 use ultra_io::Page;
 use ultra_msg::Sink;
-use ultra_units::UnitSet;
+use ultra_route::Net;
+use ultra_units::{UnitSet, is_small};
 
 /// Writes what stands where after the last cycle.
+#[inline(always)]
 pub(crate) fn put_state<S: Sink>(page: &mut Page<'_, S>, blocks: &Blocks)
+    ensures { Writes S.taken S.failures (state_text blocks.now.config blocks.now.machine) page.old page.new }
+{
+    if !blocks.is_in_one_block() {
+        put_state_of_several(page, blocks);
+    } else if is_small(blocks.config().net()) {
+        put_state_of_one::<true, S>(page, blocks);
+    } else {
+        put_state_of_one::<false, S>(page, blocks);
+    }
+}
+
+/// Writes what stands where in a machine in one block. The code for a `SMALL` machine is compiled apart.
+#[inline(always)]
+fn put_state_of_one<const SMALL: bool, S: Sink>(page: &mut Page<'_, S>, blocks: &Blocks)
+    requires one { blocks.now.count ≡ 1 }
+    requires small { SMALL ≡ true → IsSmall blocks.now.config.stages }
+    ensures { Writes S.taken S.failures (state_text blocks.now.config blocks.now.machine) page.old page.new }
+{
+    let requests = blocks.holding_of_one(Held::Request);
+    let records = blocks.holding_of_one(Held::Record);
+    let replies = blocks.holding_of_one(Held::Reply);
+    put_all_held::<SMALL, S>(page, blocks, requests, records, replies);
+}
+
+/// Writes what stands where in a machine in several blocks.
+#[cold]
+#[inline(never)]
+fn put_state_of_several<S: Sink>(page: &mut Page<'_, S>, blocks: &Blocks)
     ensures { Writes S.taken S.failures (state_text blocks.now.config blocks.now.machine) page.old page.new }
 {
     let requests = blocks.holding(Held::Request);
     let records = blocks.holding(Held::Record);
     let replies = blocks.holding(Held::Reply);
-    put_interfaces(page, blocks, &requests);
-    put_switches(page, blocks, Held::Request, &requests);
-    put_switches(page, blocks, Held::Record, &records);
-    put_requests_to_serve(page, blocks, &requests);
-    put_replies_to_leave(page, blocks, &replies);
-    put_switches(page, blocks, Held::Reply, &replies);
+    put_all_held::<false, S>(page, blocks, &requests, &records, &replies);
+}
+
+/// Writes what stands where, given the units that hold requests, records and replies.
+#[inline(always)]
+fn put_all_held<const SMALL: bool, S: Sink>(
+    page: &mut Page<'_, S>,
+    blocks: &Blocks,
+    requests: &UnitSet,
+    records: &UnitSet,
+    replies: &UnitSet,
+)
+    requires small { SMALL ≡ true → IsSmall blocks.now.config.stages }
+    requires requests { AreHolders blocks.now Request requests.now }
+    requires records { AreHolders blocks.now Record records.now }
+    requires replies { AreHolders blocks.now Reply replies.now }
+    ensures { Writes S.taken S.failures (state_text blocks.now.config blocks.now.machine) page.old page.new }
+{
+    let net = blocks.config().net();
+    put_interfaces::<SMALL, S>(page, blocks, net, requests);
+    put_switches::<SMALL, S>(page, blocks, net, Held::Request, requests);
+    put_switches::<SMALL, S>(page, blocks, net, Held::Record, records);
+    put_requests_to_serve::<SMALL, S>(page, blocks, net, requests);
+    put_replies_to_leave::<SMALL, S>(page, blocks, net, replies);
+    put_switches::<SMALL, S>(page, blocks, net, Held::Reply, replies);
 }
 
 /// Writes the lines of the requests that are not yet in the network, by processing element. `holders` are the units that hold requests.
-fn put_interfaces<S: Sink>(page: &mut Page<'_, S>, blocks: &Blocks, holders: &UnitSet)
-    requires { AreHolders blocks.now Request holders.now }
+#[inline(always)]
+fn put_interfaces<const SMALL: bool, S: Sink>(
+    page: &mut Page<'_, S>,
+    blocks: &Blocks,
+    net: Net,
+    holders: &UnitSet,
+)
+    requires net { net ≡ blocks.now.config.stages }
+    requires small { SMALL ≡ true → IsSmall net }
+    requires holders { AreHolders blocks.now Request holders.now }
     ensures { Writes S.taken S.failures (by_number (size blocks.now.config) (pni_of blocks.now.machine)) page.old page.new }
 {
-    for pe in elements_in(blocks, holders) {
+    for pe in elements_in::<SMALL>(net, holders) {
         put_pni(page, pe, &blocks.element(pe).interface);
     }
 }
 
 /// Writes the lines of what switches hold of one kind, by stage, then position: the queues of requests or of replies, or the wait buffers. `holders` are the units that hold it.
 #[inline(always)]
-fn put_switches<S: Sink>(page: &mut Page<'_, S>, blocks: &Blocks, held: Held, holders: &UnitSet)
-    requires { AreHolders blocks.now held holders.now }
+fn put_switches<const SMALL: bool, S: Sink>(
+    page: &mut Page<'_, S>,
+    blocks: &Blocks,
+    net: Net,
+    held: Held,
+    holders: &UnitSet,
+)
+    requires net { net ≡ blocks.now.config.stages }
+    requires small { SMALL ≡ true → IsSmall net }
+    requires holders { AreHolders blocks.now held holders.now }
     ensures { Writes S.taken S.failures (by_stage blocks.now.config (port_line held blocks.now.machine)) page.old page.new }
 {
-    let _even = positions(blocks);
-    for switch in switches_in(blocks, holders) {
-        let (stage, first) = place_of(blocks, switch);
+    let _even = net.size();
+    for switch in switches_in::<SMALL>(net, holders) {
+        let (stage, first) = place_of(net, switch);
         put_port(page, blocks, held, stage, first);
         put_port(page, blocks, held, stage, first + 1);
     }
@@ -70,35 +135,51 @@ fn put_port<S: Sink>(page: &mut Page<'_, S>, blocks: &Blocks, held: Held, stage:
 }
 
 /// Writes the lines of the requests that wait for their modules, by module. `holders` are the units that hold requests.
-fn put_requests_to_serve<S: Sink>(page: &mut Page<'_, S>, blocks: &Blocks, holders: &UnitSet)
-    requires { AreHolders blocks.now Request holders.now }
+#[inline(always)]
+fn put_requests_to_serve<const SMALL: bool, S: Sink>(
+    page: &mut Page<'_, S>,
+    blocks: &Blocks,
+    net: Net,
+    holders: &UnitSet,
+)
+    requires net { net ≡ blocks.now.config.stages }
+    requires small { SMALL ≡ true → IsSmall net }
+    requires holders { AreHolders blocks.now Request holders.now }
     ensures { Writes S.taken S.failures (by_number (size blocks.now.config) (inp_of blocks.now.machine)) page.old page.new }
 {
-    for number in modules_in(blocks, holders) {
+    for number in modules_in::<SMALL>(net, holders) {
         put_inp(page, number, blocks.bank(number));
     }
 }
 
 /// Writes the lines of the replies that wait to leave their modules, by module. `holders` are the units that hold replies.
-fn put_replies_to_leave<S: Sink>(page: &mut Page<'_, S>, blocks: &Blocks, holders: &UnitSet)
-    requires { AreHolders blocks.now Reply holders.now }
+#[inline(always)]
+fn put_replies_to_leave<const SMALL: bool, S: Sink>(
+    page: &mut Page<'_, S>,
+    blocks: &Blocks,
+    net: Net,
+    holders: &UnitSet,
+)
+    requires net { net ≡ blocks.now.config.stages }
+    requires small { SMALL ≡ true → IsSmall net }
+    requires holders { AreHolders blocks.now Reply holders.now }
     ensures { Writes S.taken S.failures (by_number (size blocks.now.config) (out_of blocks.now.machine)) page.old page.new }
 {
-    for number in modules_in(blocks, holders) {
+    for number in modules_in::<SMALL>(net, holders) {
         put_out(page, number, blocks.bank(number));
     }
 }
 
 /// The stage of a switch, and the first of its two positions there.
 #[inline(always)]
-fn place_of(blocks: &Blocks, switch: u32) -> (u32, u32)
-    requires { switch < switch_count blocks.now.config.stages }
-    ensures stage { result.0 ≡ switch / 2 ^ (blocks.now.config.stages - 1) }
-    ensures first { result.1 ≡ 2 * (switch % 2 ^ (blocks.now.config.stages - 1)) }
-    ensures stage_small { result.0 < blocks.now.config.stages }
-    ensures first_small { result.1 + 1 < 2 ^ blocks.now.config.stages }
+fn place_of(net: Net, switch: u32) -> (u32, u32)
+    requires { switch < switch_count net }
+    ensures stage { result.0 ≡ switch / 2 ^ (net - 1) }
+    ensures first { result.1 ≡ 2 * (switch % 2 ^ (net - 1)) }
+    ensures stage_small { result.0 < net }
+    ensures first_small { result.1 + 1 < 2 ^ net }
 {
-    let half = positions(blocks) / 2;
+    let half = net.size() / 2;
     (switch / half, 2 * (switch % half))
 }
 

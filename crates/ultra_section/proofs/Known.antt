@@ -1,10 +1,10 @@
 -- What a block knows of its units is kept when one of them is put anew and noted, and says which rooms are its own and what leads elsewhere.
-use Rattle.std.proofs.Common.{◌≡◌, ◌≢◌, ℕ, ◌^◌, ◌<◌, ◌≤◌, List, false, Option, None, set, refl, ◌∙◌, ap, arith, get_or-set_same, get_or-set_other, ◌&&◌, slice_index_or, IsTrue, not, IfSome, length, vec_capacity}
+use Rattle.std.proofs.Common.{◌≡◌, ◌≢◌, ℕ, ◌-◌, ◌^◌, ◌<◌, ◌≤◌, List, [], ◌∷◌, Bool, true, false, ◌↔◌, Option, None, Some, set, refl, sym, ◌∙◌, ap, arith, get_or-set_same, get_or-set_other, ◌&&◌, slice_index_or, IsTrue, not, IfSome, length, vec_capacity}
 use Rattle.ultra_section.proofs.Common.{cases_eq, ForSome, length-set, Switch, Bank, Instr, ProcessingElement, switch_count, has_unit, IsFirstFrom, is_at_rest, Ports, IsModule, IsElement, of_unit, unit_is, unit_of_element, unit_of_module, unit_of_switch, AreNoted, UnitFacts, facts_at, no_facts, switch_facts, module_facts, element_facts, AreOthersAtRest, IsKept, seen_of, switch_at, module_at, element_at, AreTargets, IsNextAway, AreOwnRooms, Rooms}
-use Rattle.std.proofs.lemmas.List.{Elements.All-from_get_or, Folds.list_any_none}
-use Rattle.std.specs.List.{list_any}
+use Rattle.std.proofs.lemmas.List.{Elements.All-from_get_or, Folds.list_any_at, Folds.list_any_none}
+use Rattle.std.specs.List.{list_all, list_any}
 use Rattle.ultra_units.{proofs.Set.none_there, specs.Links.LinksState, specs.Numbers.element_number, specs.Set.HasNoneFrom}
-use Rattle.ultra_section.specs.{declared.block.Block.TheInside.Inside as Block, declared.sets.Sets.Sets, Quiet.is_running, Sets.if_here}
+use Rattle.ultra_section.specs.{declared.block.Block.TheInside.Inside as Block, declared.sets.Sets.Sets, Prelude.quiet_element, Quiet.is_running, Quiet.or_elsewhere, Quiet.quiet_block, Sets.if_here}
 
 -- ---- facts of units, where `fs`, `fb` and `fe` give those of a switch, of a module and of a processing element
 module _ (d : ℕ) {S B E F : Type 0} (fs : Option S → F) (fb : Option B → F) (fe : Option E → F) (none : F) where
@@ -77,13 +77,33 @@ module _ {b a : Block} (known : IsKept b) {n : ℕ} {g : UnitFacts → UnitFacts
       let still = still_at_rest b.program _ _ known.rests known.elements own a.awake agree (rest (λ asleep. rw (← there) (known.rests p own.small (rw (own.number) at asleep)))) in
       grind (arith, length-set)
 
--- ---- where no processing element is in the set of those that have yet to stop, none that stands here has
-pub none_running : (b : Block) → IsKept b → HasNoneFrom b.sets.running 0 → list_any (if_here is_running) b.elements.items ≡ false
-none_running b known none =
-    list_any_none (if_here is_running) b.elements.items (All-from_get_or (λ o. if_here is_running o ≡ false) b.elements.items None (λ p within.
-    let said = known.facts (element_number b.net p) in
-    let here = unit_of_element b.net p (omega (arith, known.elements)) in
-    grind (arith, none (element_number b.net p))))
+-- ---- the set of those that have yet to stop is empty where no processing element that stands here has, and only there
+any_not_all : {X : Type 0} (p q : X → Bool) → ((x : X) → p x ≡ true → q x ≡ false) → (xs : List X) → list_any p xs ≡ true → list_all q xs ≡ false
+any_not_all p q apart [] some = absurd cc
+any_not_all p q apart (x ∷ xs) some = let rest = any_not_all p q apart xs in grind (arith, apart x)
+
+running_not_quiet : (o : Option ProcessingElement) → if_here is_running o ≡ true → or_elsewhere quiet_element o ≡ false
+running_not_quiet None running = absurd cc
+running_not_quiet (Some e) running = grind arith
+
+module _ (b : Block) (known : IsKept b) where
+  none_running : HasNoneFrom b.sets.running 0 → list_any (if_here is_running) b.elements.items ≡ false
+  none_running none =
+      list_any_none (if_here is_running) b.elements.items (All-from_get_or (λ o. if_here is_running o ≡ false) b.elements.items None (λ p within.
+      let said = known.facts (element_number b.net p) in
+      let here = unit_of_element b.net p (omega (arith, known.elements)) in
+      grind (arith, none (element_number b.net p))))
+
+  none_in_running : list_any (if_here is_running) b.elements.items ≡ false → HasNoneFrom b.sets.running 0
+  none_in_running none k _ =
+      let said = known.facts k in
+      let unit = unit_is b.net k in
+      grind (arith, known.elements, list_any_at (if_here is_running) b.elements.items (k - element_number b.net 0) None)
+
+  pub stepping_is : (empty : Bool) → ((empty ≡ true) ↔ HasNoneFrom b.sets.running 0) → (not empty ≡ list_any (if_here is_running) b.elements.items) × (not empty ≡ true → quiet_block (seen_of b) ≡ false)
+  stepping_is empty is =
+      let value : not empty ≡ list_any (if_here is_running) b.elements.items = grind (arith, none_running, none_in_running, is.0, is.1) in
+      (value, λ busy. let some = any_not_all (if_here is_running) (or_elsewhere quiet_element) running_not_quiet b.elements.items (sym value ∙ busy) in grind arith)
 
 -- ---- rooms: those that a block notes that is the first to do so
 abbrev pub own_rooms : Sets → Rooms

@@ -1,7 +1,7 @@
 -- what a block knows of its units
 use Rattle.std.specs.Prelude.{◌≡◌, ◌≢◌, ℕ, ◌^◌, ◌≤◌, Bool, false, not, ◌&&◌, ◌||◌, length, Option, Some, None, is_some, vec_capacity}
-use Rattle.ultra_section.specs.Prelude.{Switch, Bank, has_stopped, has_unit, has_reply_room, has_request_room, holds_replies, holds_requests, keeps_records, holds_request, ProcessingElement, switch_count, of_unit}
-use Rattle.ultra_section.specs.{declared.sets.Sets.Sets, declared.block.Block.TheInside.Inside as Block, BlockState.AreOthersAtRest, BlockState.BlockState, BlockState.switch_at, BlockState.module_at, BlockState.element_at, BlockState.most_events, BlockState.most_stops}
+use Rattle.ultra_section.specs.Prelude.{Switch, Bank, has_unit, has_reply_room, has_request_room, holds_replies, holds_requests, keeps_records, holds_request, ProcessingElement, switch_count, of_unit}
+use Rattle.ultra_section.specs.{declared.sets.Sets.Sets, declared.block.Block.TheInside.Inside as Block, BlockState.AreOthersAtRest, BlockState.BlockState, BlockState.switch_at, BlockState.module_at, BlockState.element_at, BlockState.most_events, BlockState.most_stops, Quiet.is_running}
 
 -- what the sets of a block say of one unit
 pub record UnitFacts : Type 0 where
@@ -79,7 +79,7 @@ abbrev pub element_facts : Option ProcessingElement → UnitFacts
 element_facts o = record no_facts {
   here = is_some o;
   holds_requests = if_here holds_request o;
-  running = if_here (λ e. not (has_stopped e.processor.core.activity)) o;
+  running = if_here is_running o;
 }
 
 -- ---- what is said of a unit once some of it is noted anew, where what was said before counts too:

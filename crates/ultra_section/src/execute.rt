@@ -8,6 +8,30 @@ use ultra_halves::{Outcome, append};
 use ultra_units::{UnitNumber, UnitSet, Visit, visit_all};
 
 impl Block {
+    /// The last half of a cycle: each processing element makes one step of the program. The cycles that are done are fewer than `2^32 - 1`.
+    #[inline(always)]
+    pub fn execute(&mut self)
+        requires can { (k : ℕ) → k < 320 → CanExecuteAt k self.old }
+        requires few { self.old.done < 2 ^ 32 - 1 }
+        ensures { self.new ≡ counted (after_units (executes self.old.program) 320 self.old) }
+    {
+        self.execute_here::<false>();
+    }
+
+    /// The last half of a cycle in a block in which all units stand. The cycles that are done are fewer than `2^32 - 1`.
+    #[inline(always)]
+    #[tactic(auto, using(ultra_units::proofs::Readers::few_units, std::proofs::lemmas::Bool::Decides::nat_tests))]
+    pub fn execute_here<const SMALL: bool>(&mut self)
+        requires small { SMALL ≡ true → IsSmall self.old.stages }
+        requires can { (k : ℕ) → k < 320 → CanExecuteAt k self.old }
+        requires few { self.old.done < 2 ^ 32 - 1 }
+        ensures { self.new ≡ counted (after_units (executes self.old.program) 320 self.old) }
+    {
+        let _stages = self.net.stages();
+        visit_all::<SMALL, Block, Execute<SMALL>>(&Execute, self);
+        self.done += 1;
+    }
+
     /// A processing element makes a step of the program.
     fn execute_element<const SMALL: bool>(&mut self, unit: UnitNumber, pe: u32)
         requires is { IsElement self.old.stages unit pe }
@@ -61,31 +85,5 @@ impl<const SMALL: bool> Visit<Block> for Execute<SMALL> {
         if let Some(pe) = block.wiring.element(unit.number()) {
             block.execute_element::<SMALL>(unit, pe);
         }
-    }
-}
-
-impl Block {
-    /// The last half of a cycle: each processing element makes one step of the program. The cycles that are done are fewer than `2^32 - 1`.
-    #[inline(always)]
-    pub fn execute(&mut self)
-        requires can { (k : ℕ) → k < 320 → CanExecuteAt k self.old }
-        requires few { self.old.done < 2 ^ 32 - 1 }
-        ensures { self.new ≡ counted (after_units (executes self.old.program) 320 self.old) }
-    {
-        self.execute_here::<false>();
-    }
-
-    /// The last half of a cycle in a block in which all units stand. The cycles that are done are fewer than `2^32 - 1`.
-    #[inline(always)]
-    #[tactic(auto, using(ultra_units::proofs::Readers::few_units, std::proofs::lemmas::Bool::Decides::nat_tests))]
-    pub fn execute_here<const SMALL: bool>(&mut self)
-        requires small { SMALL ≡ true → IsSmall self.old.stages }
-        requires can { (k : ℕ) → k < 320 → CanExecuteAt k self.old }
-        requires few { self.old.done < 2 ^ 32 - 1 }
-        ensures { self.new ≡ counted (after_units (executes self.old.program) 320 self.old) }
-    {
-        let _stages = self.net.stages();
-        visit_all::<SMALL, Block, Execute<SMALL>>(&Execute, self);
-        self.done += 1;
     }
 }

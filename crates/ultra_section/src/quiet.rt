@@ -7,7 +7,6 @@ use crate::block::Block;
 use ultra_halves::{ProcessingElement, modules, switches};
 use ultra_mem::Module;
 use ultra_switch::Switch;
-use ultra_units::Unit;
 
 /// Whether each switch that stands here is quiet.
 fn are_switches_quiet(entries: &[Option<Switch>]) -> bool
@@ -46,10 +45,7 @@ impl Block {
         ensures value { result ≡ list_any (if_here is_running) self.now.elements }
         ensures busy { result ≡ true → quiet_block self.now ≡ false }
     {
-        match self.sets.running.next(0) {
-            Some(number) => matches!(self.unit(number), Unit::Element(_)),
-            None => false,
-        }
+        !self.sets.running.is_empty()
     }
 
     /// Whether each of its units is quiet: nothing is in its switches and modules, and its processing elements have stopped and wait for nothing. It looks no further than the first that isn't.

@@ -12,8 +12,7 @@ use ultra_msg::ReplyPacket;
 use ultra_route::Net;
 use ultra_switch::{Ports, Switch};
 use ultra_units::{
-    Links, Unit, UnitNumber, UnitSet, Visit, find_reply_ways, leave_module, module_target,
-    visit_all,
+    Links, Unit, UnitNumber, UnitSet, Visit, find_reply_ways, leave_end, module_target, visit_all,
 };
 
 /// The first reply of each queue of a switch goes onto its link, where there is a way to the unit in `targets`. One port is done with before the other.
@@ -43,85 +42,6 @@ fn send_from_switch(
     links.put(link, targets.zero, zero);
     let one = leave_where(ways.one, &mut to_pe.one);
     links.put(link + 1, targets.one, one);
-}
-
-impl Block {
-    /// The first reply of each queue of a switch goes onto its link, where there is a way.
-    fn send_replies_of_switch<const SMALL: bool>(
-        &mut self,
-        closed: &UnitSet,
-        unit: UnitNumber,
-        stage: u32,
-        index: u32,
-    )
-        requires small { SMALL ≡ true → IsSmall self.old.stages }
-        requires is { IsSwitch self.old.stages unit stage index }
-        ensures { self.new ≡ switch_sends_replies closed.now unit stage index self.old }
-    {
-        let net = self.net;
-        let _stages = net.stages();
-        let targets = self.wiring.reply_targets::<SMALL>(unit);
-        let number = unit.number();
-        let Some(switch) = &mut self.switches[number] else {
-            return;
-        };
-        let links = &mut self.replies;
-        send_from_switch(switch, links, net, closed, number, stage, index, targets);
-        self.sets.note_replies_sent(unit, switch);
-    }
-
-    /// The reply of a module goes onto its link, if there is a way.
-    fn send_reply_of_module<const SMALL: bool>(
-        &mut self,
-        closed: &UnitSet,
-        unit: UnitNumber,
-        module_number: u32,
-    )
-        requires small { SMALL ≡ true → IsSmall self.old.stages }
-        requires is { IsModule self.old.stages unit module_number }
-        ensures { self.new ≡ module_sends_reply closed.now module_number self.old }
-    {
-        let net = self.net;
-        let _even = net.size();
-        let Some(bank) = &mut self.modules[module_number as usize] else {
-            return;
-        };
-        let target = module_target::<SMALL>(net, module_number);
-        let out = modules::send_reply(bank, !closed.has(target));
-        leave_module(&mut self.replies, net, module_number, target, out);
-        self.sets.note_reply_left(unit, bank);
-    }
-}
-
-/// A visit in which replies leave a unit. `closed` are the switches without room for replies.
-#[derive(Clone, Copy, Drop)]
-struct SendReplies<'a, const SMALL: bool> {
-    closed: &'a UnitSet,
-}
-
-#[tactic(auto, using(crate::proofs::Visited::sends_no_reply))]
-impl<const SMALL: bool> Visit<Block> for SendReplies<'_, SMALL> {
-    ghost can_visit = { λ v n b. SMALL ≡ true → IsSmall b.stages };
-
-    ghost visited = { λ v n b. sends_replies v.closed.now n b };
-
-    ghost is_idle = { λ v n b. HoldsNoReply n b };
-
-    #[inline(always)]
-    fn units<'t>(&self, block: &'t Block) -> &'t UnitSet {
-        &block.sets.holds_replies
-    }
-
-    #[inline(always)]
-    fn visit(&self, block: &mut Block, unit: UnitNumber) {
-        match block.unit(unit.number()) {
-            Unit::Switch { stage, index } => {
-                block.send_replies_of_switch::<SMALL>(self.closed, unit, stage, index);
-            }
-            Unit::Module(number) => block.send_reply_of_module::<SMALL>(self.closed, unit, number),
-            Unit::Element(_) | Unit::Nothing => {}
-        }
-    }
 }
 
 impl Block {
@@ -162,5 +82,82 @@ impl Block {
     {
         let closed = self.sets.no_reply_room;
         self.send_replies_past::<SMALL>(&closed);
+    }
+
+    /// The first reply of each queue of a switch goes onto its link, where there is a way.
+    fn send_replies_of_switch<const SMALL: bool>(
+        &mut self,
+        closed: &UnitSet,
+        unit: UnitNumber,
+        stage: u32,
+        index: u32,
+    )
+        requires small { SMALL ≡ true → IsSmall self.old.stages }
+        requires is { IsSwitch self.old.stages unit stage index }
+        ensures { self.new ≡ switch_sends_replies closed.now unit stage index self.old }
+    {
+        let net = self.net;
+        let _stages = net.stages();
+        let targets = self.wiring.reply_targets::<SMALL>(unit);
+        let number = unit.number();
+        let Some(switch) = &mut self.switches[number] else {
+            return;
+        };
+        let links = &mut self.replies;
+        send_from_switch(switch, links, net, closed, number, stage, index, targets);
+        self.sets.note_replies_sent(unit, switch);
+    }
+
+    /// The reply of a module goes onto its link, if there is a way.
+    fn send_reply_of_module<const SMALL: bool>(
+        &mut self,
+        closed: &UnitSet,
+        unit: UnitNumber,
+        module_number: u32,
+    )
+        requires small { SMALL ≡ true → IsSmall self.old.stages }
+        requires is { IsModule self.old.stages unit module_number }
+        ensures { self.new ≡ module_sends_reply closed.now module_number self.old }
+    {
+        let net = self.net;
+        let _stages = net.stages();
+        let Some(bank) = &mut self.modules[module_number as usize] else {
+            return;
+        };
+        let target = module_target::<SMALL>(net, module_number);
+        let out = modules::send_reply(bank, !closed.has(target));
+        leave_end(&mut self.replies, net, module_number, target, out);
+        self.sets.note_reply_left(unit, bank);
+    }
+}
+
+/// A visit in which replies leave a unit. `closed` are the switches without room for replies.
+#[derive(Clone, Copy, Drop)]
+struct SendReplies<'a, const SMALL: bool> {
+    closed: &'a UnitSet,
+}
+
+#[tactic(auto, using(crate::proofs::Visited::sends_no_reply))]
+impl<const SMALL: bool> Visit<Block> for SendReplies<'_, SMALL> {
+    ghost can_visit = { λ v n b. SMALL ≡ true → IsSmall b.stages };
+
+    ghost visited = { λ v n b. sends_replies v.closed.now n b };
+
+    ghost is_idle = { λ v n b. HoldsNoReply n b };
+
+    #[inline(always)]
+    fn units<'t>(&self, block: &'t Block) -> &'t UnitSet {
+        &block.sets.holds_replies
+    }
+
+    #[inline(always)]
+    fn visit(&self, block: &mut Block, unit: UnitNumber) {
+        match block.unit(unit.number()) {
+            Unit::Switch { stage, index } => {
+                block.send_replies_of_switch::<SMALL>(self.closed, unit, stage, index);
+            }
+            Unit::Module(number) => block.send_reply_of_module::<SMALL>(self.closed, unit, number),
+            Unit::Element(_) | Unit::Nothing => {}
+        }
     }
 }

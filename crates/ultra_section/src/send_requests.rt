@@ -1,6 +1,6 @@
 //! The half of a cycle in which requests leave switches and processing elements.
 
-ghost use Rattle.std.specs.Prelude.{◌≡◌, ℕ, ◌<◌, true, false, None};
+ghost use Rattle.std.specs.Prelude.{◌≡◌, ℕ, ◌<◌, ◌||◌, true, is_some};
 ghost use Rattle.ultra_section.specs.Prelude.{IsSmall, lane_without, request_heads, requests_leaving, without_requests, LeadOn, LeadsTo, put_on_both, request_inlets, put_on, request_target, places_of, request_targets, request_ways, after_units, IsElement, IsSwitch};
 ghost use Rattle.ultra_section.specs.{Rooms.AreOwnRooms, declared.rooms.Rooms.Rooms, RequestsSent.element_sends_request, RequestsSent.request_leaving, RequestsSent.sends_requests, RequestsSent.switch_sends_requests, Holding.HoldsNoRequest};
 
@@ -12,10 +12,10 @@ use ultra_route::Net;
 use ultra_switch::{Ports, Switch, ToMm};
 use ultra_units::{
     Links, Unit, UnitNumber, UnitSet, Visit, element_target, has_request_way, has_way_from_element,
-    leave_element, visit_all,
+    leave_end, visit_all,
 };
 
-/// The first request of a queue of a switch of this stage goes onto its link, if there is a way to the unit `target`, to which the link leads. Answers whether there is one.
+/// The first request of a queue of a switch of this stage goes onto its link, if there is a way to the unit `target`, to which the link leads. Answers whether it goes.
 #[inline(always)]
 fn send_from_queue(
     queue: &mut ToMm,
@@ -30,7 +30,7 @@ fn send_from_queue(
     requires leads { LeadsTo (request_inlets links.old.stages) links.old.stages link target }
     ensures queue { (x : ℕ) → target ≡ request_target net stage x → queue.new ≡ lane_without queue.old (request_leaving closed.now net stage x queue.old) }
     ensures links { (x : ℕ) → target ≡ request_target net stage x → links.new ≡ record links.old { table = put_on links.old.table link (request_leaving closed.now net stage x queue.old); targets = links.new.targets } }
-    ensures stays { (x : ℕ) → target ≡ request_target net stage x → result ≡ false → request_leaving closed.now net stage x queue.old ≡ None }
+    ensures goes { (x : ℕ) → target ≡ request_target net stage x → result ≡ is_some (request_leaving closed.now net stage x queue.old) }
 {
     let goes = has_request_way(net, closed, stage, target, queue.front());
     links.put(link, target, leave_where(goes, queue));
@@ -56,7 +56,7 @@ fn send_from_switch(
     requires stages { links.old.stages ≡ net }
     ensures switch { switch.new ≡ without_requests switch.old (requests_leaving (request_ways closed.now net stage index (request_heads switch.old)) switch.old) }
     ensures links { links.new ≡ record links.old { table = put_on_both links.old.table (places_of net stage index) (requests_leaving (request_ways closed.now net stage index (request_heads switch.old)) switch.old); targets = links.new.targets } }
-    ensures stay { result ≡ false → requests_leaving (request_ways closed.now net stage index (request_heads switch.old)) switch.old ≡ record { zero = None; one = None } }
+    ensures go { let leaving = requests_leaving (request_ways closed.now net stage index (request_heads switch.old)) switch.old in result ≡ is_some leaving.zero || is_some leaving.one }
 {
     let _stages = net.stages();
     let Ports { zero, one } = &mut switch.to_mm;
@@ -67,6 +67,35 @@ fn send_from_switch(
 }
 
 impl Block {
+    /// Requests leave the switches and processing elements, past what has no room for them by the memory-side port.
+    #[inline(always)]
+    #[tactic(auto, using(ultra_units::proofs::Readers::few_units, std::proofs::lemmas::Bool::Decides::nat_tests))]
+    fn send_requests_past<const SMALL: bool>(&mut self, closed: &Ports<UnitSet>)
+        requires { SMALL ≡ true → IsSmall self.old.stages }
+        ensures { self.new ≡ after_units (sends_requests closed.now) 320 self.old }
+    {
+        let _stages = self.net.stages();
+        visit_all::<SMALL, Block, SendRequests<SMALL>>(&SendRequests { closed }, self);
+    }
+
+    /// The fourth half of a cycle: requests leave the switches and processing elements for where there is room, onto their links.
+    #[inline(always)]
+    pub fn send_requests(&mut self, rooms: &Rooms)
+        ensures { self.new ≡ after_units (sends_requests rooms.now.no_request_room) 320 self.old }
+    {
+        self.send_requests_past::<false>(&rooms.no_request_room);
+    }
+
+    /// The fourth half of a cycle in a block in which all units stand: it knows all rooms itself.
+    #[inline(always)]
+    pub fn send_requests_here<const SMALL: bool>(&mut self)
+        requires small { SMALL ≡ true → IsSmall self.old.stages }
+        ensures { (rooms : Rooms) × AreOwnRooms self.old rooms × (self.new ≡ after_units (sends_requests rooms.no_request_room) 320 self.old) }
+    {
+        let closed = self.sets.no_request_room;
+        self.send_requests_past::<SMALL>(&closed);
+    }
+
     /// The first request of each queue of a switch goes onto its link, where there is a way.
     fn send_requests_of_switch<const SMALL: bool>(
         &mut self,
@@ -103,7 +132,7 @@ impl Block {
         ensures { self.new ≡ element_sends_request closed.now pe self.old }
     {
         let net = self.net;
-        let _even = net.size();
+        let _stages = net.stages();
         let Some(element) = &mut self.elements[pe as usize] else {
             return;
         };
@@ -112,7 +141,7 @@ impl Block {
             return;
         }
         let out = element.send_request();
-        leave_element(&mut self.requests, net, pe, target, out);
+        leave_end(&mut self.requests, net, pe, target, out);
         self.sets.note_request_left(unit, element);
     }
 }
@@ -145,36 +174,5 @@ impl<const SMALL: bool> Visit<Block> for SendRequests<'_, SMALL> {
             Unit::Element(pe) => block.send_request_of_element::<SMALL>(self.closed, unit, pe),
             Unit::Module(_) | Unit::Nothing => {}
         }
-    }
-}
-
-impl Block {
-    /// Requests leave the switches and processing elements, past what has no room for them by the memory-side port.
-    #[inline(always)]
-    #[tactic(auto, using(ultra_units::proofs::Readers::few_units, std::proofs::lemmas::Bool::Decides::nat_tests))]
-    fn send_requests_past<const SMALL: bool>(&mut self, closed: &Ports<UnitSet>)
-        requires { SMALL ≡ true → IsSmall self.old.stages }
-        ensures { self.new ≡ after_units (sends_requests closed.now) 320 self.old }
-    {
-        let _stages = self.net.stages();
-        visit_all::<SMALL, Block, SendRequests<SMALL>>(&SendRequests { closed }, self);
-    }
-
-    /// The fourth half of a cycle: requests leave the switches and processing elements for where there is room, onto their links.
-    #[inline(always)]
-    pub fn send_requests(&mut self, rooms: &Rooms)
-        ensures { self.new ≡ after_units (sends_requests rooms.now.no_request_room) 320 self.old }
-    {
-        self.send_requests_past::<false>(&rooms.no_request_room);
-    }
-
-    /// The fourth half of a cycle in a block in which all units stand: it knows all rooms itself.
-    #[inline(always)]
-    pub fn send_requests_here<const SMALL: bool>(&mut self)
-        requires small { SMALL ≡ true → IsSmall self.old.stages }
-        ensures { (rooms : Rooms) × AreOwnRooms self.old rooms × (self.new ≡ after_units (sends_requests rooms.no_request_room) 320 self.old) }
-    {
-        let closed = self.sets.no_request_room;
-        self.send_requests_past::<SMALL>(&closed);
     }
 }

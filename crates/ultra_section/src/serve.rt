@@ -9,6 +9,27 @@ use ultra_msg::Event;
 use ultra_units::{UnitNumber, UnitSet, Visit, visit_all};
 
 impl Block {
+    /// The third half of a cycle: each module serves the request that waits, if no reply is in its way.
+    #[inline(always)]
+    pub fn serve(&mut self)
+        requires { (k : ℕ) → k < 320 → HasEventRoom k self.old }
+        ensures { self.new ≡ after_units serves 320 self.old }
+    {
+        self.serve_here::<false>();
+    }
+
+    /// The third half of a cycle in a block in which all units stand.
+    #[inline(always)]
+    #[tactic(auto, using(ultra_units::proofs::Readers::few_units, std::proofs::lemmas::Bool::Decides::nat_tests))]
+    pub fn serve_here<const SMALL: bool>(&mut self)
+        requires small { SMALL ≡ true → IsSmall self.old.stages }
+        requires room { (k : ℕ) → k < 320 → HasEventRoom k self.old }
+        ensures { self.new ≡ after_units serves 320 self.old }
+    {
+        let _stages = self.net.stages();
+        visit_all::<SMALL, Block, Serve<SMALL>>(&Serve, self);
+    }
+
     /// A module serves the request that waits, if no reply is in its way.
     fn serve_module<const SMALL: bool>(&mut self, unit: UnitNumber, module_number: u32)
         requires is { IsModule self.old.stages unit module_number }
@@ -54,28 +75,5 @@ impl<const SMALL: bool> Visit<Block> for Serve<SMALL> {
         if let Some(number) = block.wiring.module(unit.number()) {
             block.serve_module::<SMALL>(unit, number);
         }
-    }
-}
-
-impl Block {
-    /// The third half of a cycle: each module serves the request that waits, if no reply is in its way.
-    #[inline(always)]
-    pub fn serve(&mut self)
-        requires { (k : ℕ) → k < 320 → HasEventRoom k self.old }
-        ensures { self.new ≡ after_units serves 320 self.old }
-    {
-        self.serve_here::<false>();
-    }
-
-    /// The third half of a cycle in a block in which all units stand.
-    #[inline(always)]
-    #[tactic(auto, using(ultra_units::proofs::Readers::few_units, std::proofs::lemmas::Bool::Decides::nat_tests))]
-    pub fn serve_here<const SMALL: bool>(&mut self)
-        requires small { SMALL ≡ true → IsSmall self.old.stages }
-        requires room { (k : ℕ) → k < 320 → HasEventRoom k self.old }
-        ensures { self.new ≡ after_units serves 320 self.old }
-    {
-        let _stages = self.net.stages();
-        visit_all::<SMALL, Block, Serve<SMALL>>(&Serve, self);
     }
 }

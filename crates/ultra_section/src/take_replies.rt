@@ -40,6 +40,27 @@ fn take_into_switch(
 }
 
 impl Block {
+    /// The second half of a cycle: the replies on links that lead to units here are split and go on in switches, and are delivered to processing elements.
+    #[inline(always)]
+    pub fn take_replies(&mut self)
+        requires { (k : ℕ) → k < 320 → CanTakeRepliesAt k self.old }
+        ensures { self.new ≡ after_units takes_replies 320 self.old }
+    {
+        self.take_replies_here::<false>();
+    }
+
+    /// The second half of a cycle in a block in which all units stand.
+    #[inline(always)]
+    #[tactic(auto, using(ultra_units::proofs::Readers::few_units, std::proofs::lemmas::Bool::Decides::nat_tests))]
+    pub fn take_replies_here<const SMALL: bool>(&mut self)
+        requires small { SMALL ≡ true → IsSmall self.old.stages }
+        requires can { (k : ℕ) → k < 320 → CanTakeRepliesAt k self.old }
+        ensures { self.new ≡ after_units takes_replies 320 self.old }
+    {
+        let _stages = self.net.stages();
+        visit_all::<SMALL, Block, TakeReplies<SMALL>>(&TakeReplies, self);
+    }
+
     /// What comes to a switch goes through its wait buffers into its queues.
     fn take_replies_of_switch<const SMALL: bool>(
         &mut self,
@@ -108,28 +129,5 @@ impl<const SMALL: bool> Visit<Block> for TakeReplies<SMALL> {
             Unit::Element(pe) => block.take_reply_of_element::<SMALL>(unit, pe),
             Unit::Module(_) | Unit::Nothing => {}
         }
-    }
-}
-
-impl Block {
-    /// The second half of a cycle: the replies on links that lead to units here are split and go on in switches, and are delivered to processing elements.
-    #[inline(always)]
-    pub fn take_replies(&mut self)
-        requires { (k : ℕ) → k < 320 → CanTakeRepliesAt k self.old }
-        ensures { self.new ≡ after_units takes_replies 320 self.old }
-    {
-        self.take_replies_here::<false>();
-    }
-
-    /// The second half of a cycle in a block in which all units stand.
-    #[inline(always)]
-    #[tactic(auto, using(ultra_units::proofs::Readers::few_units, std::proofs::lemmas::Bool::Decides::nat_tests))]
-    pub fn take_replies_here<const SMALL: bool>(&mut self)
-        requires small { SMALL ≡ true → IsSmall self.old.stages }
-        requires can { (k : ℕ) → k < 320 → CanTakeRepliesAt k self.old }
-        ensures { self.new ≡ after_units takes_replies 320 self.old }
-    {
-        let _stages = self.net.stages();
-        visit_all::<SMALL, Block, TakeReplies<SMALL>>(&TakeReplies, self);
     }
 }

@@ -53,6 +53,27 @@ fn take_into_switch(
 }
 
 impl Block {
+    /// The fifth half of a cycle: the requests on links that lead to units here go into the queues of switches, where they may combine, and into the registers of modules.
+    #[inline(always)]
+    pub fn take_requests(&mut self)
+        requires { (k : ℕ) → k < 320 → CanTakeRequestsAt k self.old }
+        ensures { self.new ≡ after_units takes_requests 320 self.old }
+    {
+        self.take_requests_here::<false>();
+    }
+
+    /// The fifth half of a cycle in a block in which all units stand.
+    #[inline(always)]
+    #[tactic(auto, using(ultra_units::proofs::Readers::few_units, std::proofs::lemmas::Bool::Decides::nat_tests))]
+    pub fn take_requests_here<const SMALL: bool>(&mut self)
+        requires small { SMALL ≡ true → IsSmall self.old.stages }
+        requires can { (k : ℕ) → k < 320 → CanTakeRequestsAt k self.old }
+        ensures { self.new ≡ after_units takes_requests 320 self.old }
+    {
+        let _stages = self.net.stages();
+        visit_all::<SMALL, Block, TakeRequests<SMALL>>(&TakeRequests, self);
+    }
+
     /// What comes to a switch goes into its queues, where it may combine: port 0 goes first in even cycles, port 1 in odd ones.
     fn take_requests_of_switch<const SMALL: bool>(
         &mut self,
@@ -123,28 +144,5 @@ impl<const SMALL: bool> Visit<Block> for TakeRequests<SMALL> {
             Unit::Module(number) => block.take_request_of_module::<SMALL>(unit, number),
             Unit::Element(_) | Unit::Nothing => {}
         }
-    }
-}
-
-impl Block {
-    /// The fifth half of a cycle: the requests on links that lead to units here go into the queues of switches, where they may combine, and into the registers of modules.
-    #[inline(always)]
-    pub fn take_requests(&mut self)
-        requires { (k : ℕ) → k < 320 → CanTakeRequestsAt k self.old }
-        ensures { self.new ≡ after_units takes_requests 320 self.old }
-    {
-        self.take_requests_here::<false>();
-    }
-
-    /// The fifth half of a cycle in a block in which all units stand.
-    #[inline(always)]
-    #[tactic(auto, using(ultra_units::proofs::Readers::few_units, std::proofs::lemmas::Bool::Decides::nat_tests))]
-    pub fn take_requests_here<const SMALL: bool>(&mut self)
-        requires small { SMALL ≡ true → IsSmall self.old.stages }
-        requires can { (k : ℕ) → k < 320 → CanTakeRequestsAt k self.old }
-        ensures { self.new ≡ after_units takes_requests 320 self.old }
-    {
-        let _stages = self.net.stages();
-        visit_all::<SMALL, Block, TakeRequests<SMALL>>(&TakeRequests, self);
     }
 }

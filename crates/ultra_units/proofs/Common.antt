@@ -8,7 +8,7 @@ pub use Rattle.ultra_units.specs.Inlets.{AreInlets, AreTargets, LeadOn, LeadsTo,
 pub use Rattle.ultra_units.specs.Links.{put_on}
 pub use Rattle.ultra_units.specs.Marks.{delivery_link, memory_link, on_link, ports_in_turn, reply_links, request_links, without_both}
 pub use Rattle.ultra_units.specs.Numbers.{element_number, module_number, place_number, reply_target, request_target, switch_count, switch_number, unit_count}
-pub use Rattle.ultra_units.specs.Set.{AreSameBut, HasNoneFrom, HasNoneWithin, IsFirstOf, has_bit, has_unit}
+pub use Rattle.ultra_units.specs.Set.{AreBits, AreSameBut, HasNoneFrom, HasNoneWithin, IsFirstOf, has_bit, has_unit, word_end}
 pub use Rattle.ultra_units.specs.Units.{IsElement, IsModule, IsSwitch, IsUnit, index_of, stage_of, unit_of}
-pub use Rattle.ultra_units.specs.Visits.{AreBits, HasCome, IsWalk, comes_to, word_end}
+pub use Rattle.ultra_units.specs.Visits.{HasCome, IsWalk, comes_to}
 pub use Rattle.ultra_units.specs.declared.pass.Walk.{Walk}

@@ -1,6 +1,6 @@
 -- The unit to which each link leads, computed over every network of at most six stages.
 use Rattle.std.proofs.Common.{◌≡◌, ◌≢◌, ℕ, ◌+◌, ◌-◌, ◌*◌, ◌/◌, ◌%◌, ◌^◌, ◌<◌, ◌≤◌, Bool, true, false, ◌&&◌, Option, Some, None, refl, subst, arith, ◌==◌, ◌||◌, nat_le, nat_lt, not}
-use Rattle.ultra_units.proofs.Common.{nat_tests, Ports, all_below_at, AreInlets, LeadOn, LeadsTo, at_both, link_count, reply_inlets, request_inlets, delivery_link, memory_link, reply_links, request_links, switch_count, switch_number, unit_count, reply_target, request_target, IsElement, IsModule, IsSwitch, index_of, stage_of}
+use Rattle.ultra_units.proofs.Common.{nat_tests, Ports, all_below_at, AreInlets, LeadOn, LeadsTo, at_both, link_count, reply_inlets, request_inlets, delivery_link, memory_link, place_number, reply_links, request_links, switch_count, switch_number, unit_count, reply_target, request_target, IsElement, IsModule, IsSwitch, index_of, stage_of}
 use Rattle.ultra_route.specs.Route.{shuffled}
 use Rattle.ultra_route.proofs.Table.{all_below}
 use Rattle.ultra_units.proofs.{Put.has_places, Standing.is_switch}
@@ -105,3 +105,10 @@ module _ (d : ℕ) (low : 1 ≤ d) (high : d ≤ 6) where
   pub requests_at : (n : ℕ) → n < switch_count d → LeadOn (request_inlets d) d n (request_targets d (stage_of d n) (index_of d n)) × AreInlets (request_inlets d) d n (request_links d (stage_of d n) (index_of d n))
   unfolding all_below
   requests_at n within = (lead_on _ _ requests_read d low high request_targets refl n within, are_inlets _ _ requests_read d low high n _ (grind arith))
+
+-- the links by which messages leave module m and processing element p lead to their switches
+pub module_leads : (d m target : ℕ) → 1 ≤ d → d ≤ 6 → m < 2 ^ d → target ≡ switch_number d (d - 1) (m / 2) → LeadsTo (reply_inlets d) d (place_number d d m) target
+module_leads d m target low high small is = leads _ _ replies_read d low high _ _ (grind arith) (grind arith)
+
+pub element_leads : (d p target : ℕ) → 1 ≤ d → d ≤ 6 → p < 2 ^ d → target ≡ switch_number d 0 (shuffled d p / 2) → LeadsTo (request_inlets d) d (place_number d d p) target
+element_leads d p target low high small is = leads _ _ requests_read d low high _ _ (grind arith) (grind arith)

@@ -80,20 +80,17 @@ module _ (are : ℕ → Bool) (from to bits : ℕ) (is : AreBits are from to bit
       record { first = grind arith; rest = rw same (shifted (trailing_zeros w64 bits + 1) _ _ (omega arith) (shr-shr bits _ 1)) }
 
 -- the units of a word from a number on
-module _ (words : List ℕ) (from : ℕ) (fits : get_or words (from / 64) 0 < 2 ^ 64) where
-  abbrev pub rest : ℕ
-  rest = get_or words (from / 64) 0 / 2 ^ (from % 64)
+pub bits_from : (words : List ℕ) (from : ℕ) → get_or words (from / 64) 0 < 2 ^ 64 → AreBits (has_unit words) from (word_end from) (get_or words (from / 64) 0 / 2 ^ (from % 64))
+bits_from words from fits = shifted _ _ _ _ (bits_of_word words (from / 64) fits) (from % 64) from _ (omega arith) refl
 
-  bits_from : AreBits (has_unit words) from ((from / 64 + 1) * 64) rest
-  bits_from = shifted _ _ _ _ (bits_of_word words (from / 64) fits) (from % 64) from _ (omega arith) refl
+module _ (words : List ℕ) (from rest : ℕ) (is : AreBits (has_unit words) from (word_end from) rest) where
+  pub none_in_rest : rest ≡ 0 → HasNoneWithin (has_unit words) from (word_end from)
+  none_in_rest none k after before = let there = bit_of_number _ _ _ _ is k after before in grind (arith, bit_at-zero)
 
-  pub none_in_rest : rest ≡ 0 → HasNoneWithin (has_unit words) from ((from / 64 + 1) * 64)
-  none_in_rest none k after before = let there = bit_of_number _ _ _ _ bits_from k after before in grind (arith, bit_at-zero)
+  pub first_in_rest : from < 320 → 0 < rest → rest < 2 ^ 64 → IsFirstOf (has_unit words) from (from + trailing_zeros w64 rest)
+  first_in_rest small some fits = (come _ _ _ _ is (from / 64) refl (omega arith) (omega arith) some fits).first
 
-  pub first_in_rest : from < 320 → 0 < rest → IsFirstOf (has_unit words) from (from + trailing_zeros w64 rest)
-  first_in_rest small some = (come _ _ _ _ bits_from (from / 64) refl (omega arith) (omega arith) some (omega arith)).first
-
-  pub first_past_rest : (k : ℕ) → rest ≡ 0 → IsFirstOf (has_unit words) ((from / 64 + 1) * 64) k → IsFirstOf (has_unit words) from k
+  pub first_past_rest : (k : ℕ) → rest ≡ 0 → IsFirstOf (has_unit words) (word_end from) k → IsFirstOf (has_unit words) from k
   first_past_rest k none first = let clear = none_in_rest none in grind arith
 
 -- ---- the lowest bit
@@ -178,4 +175,6 @@ come_on w is some fits words =
 
 pub ruleset word_steps = (come_in_word, none_in_word, past_words, bit_at-trailing_zeros)
 
-pub ruleset set_steps = (none_in_empty, inserted, removed, all_kept, none_in_word, past_words, none_in_rest, first_in_rest, first_past_rest, union, difference, le_or_l, le_or_r, eqb-true)
+pub ruleset rest_steps = (past_words, none_in_rest, first_in_rest, first_past_rest)
+
+pub ruleset set_steps = (none_in_empty, inserted, removed, all_kept, none_in_word, past_words, union, difference, le_or_l, le_or_r, eqb-true)

@@ -1,10 +1,18 @@
 -- a set of units as words of 64 bits
-use Rattle.std.specs.Prelude.{◌≡◌, ◌≢◌, ℕ, ◌/◌, ◌%◌, ◌<◌, ◌≤◌, Bool, true, false, List, ◌==◌, slice_index}
+use Rattle.std.specs.Prelude.{◌≡◌, ◌≢◌, ℕ, ◌+◌, ◌*◌, ◌/◌, ◌%◌, ◌<◌, ◌≤◌, Bool, true, false, ◌&&◌, List, ◌==◌, nat_lt, slice_index}
 use Rattle.std.specs.Int.{bit_at}
 
 -- bit i of the word is set
 abbrev pub has_bit : ℕ → ℕ → Bool
 has_bit word i = bit_at word i == 1
+
+-- the bits say which of the numbers from `from` on, below `to`, are those of these units
+pub record AreBits (are : ℕ → Bool) (from to bits : ℕ) : Type 0 where
+  pub each : (i : ℕ) → has_bit bits i ≡ (nat_lt (from + i) to && are (from + i))
+
+-- the end of the word of unit n
+abbrev pub word_end : ℕ → ℕ
+word_end n = (n / 64 + 1) * 64
 
 -- unit k is in the set: bit k % 64 of word k / 64 is set
 unfoldable pub has_unit : List ℕ → ℕ → Bool

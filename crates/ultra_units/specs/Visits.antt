@@ -1,7 +1,7 @@
 -- visits of units, one after another by their numbers, and walks over a set that loses some
-use Rattle.std.specs.Prelude.{◌≡◌, ℕ, zero, suc, ◌+◌, ◌-◌, ◌*◌, ◌/◌, ◌<◌, Bool, true, false, ◌&&◌, List, nat_lt}
+use Rattle.std.specs.Prelude.{◌≡◌, ℕ, zero, suc, ◌+◌, ◌-◌, ◌<◌, Bool, true, false, List, nat_lt}
 use Rattle.std.specs.Int.{bit_at}
-use Rattle.ultra_units.specs.{Set.has_bit, Set.has_unit, Set.IsFirstOf, declared.pass.Walk.Walk}
+use Rattle.ultra_units.specs.{Set.AreBits, Set.has_bit, Set.has_unit, Set.IsFirstOf, Set.word_end, declared.pass.Walk.Walk}
 
 -- what is left after visits of the units below a number
 unfoldable pub after_units : {T : Type 0} → (ℕ → T → T) → ℕ → T → T
@@ -9,10 +9,6 @@ after_units f zero t = t
 after_units f (suc n) t = f n (after_units f n t)
 
 -- ---- a walk
--- the end of the word of unit n
-abbrev pub word_end : ℕ → ℕ
-word_end n = (n / 64 + 1) * 64
-
 pub record IsWalk (w : Walk) : Type 0 where
   pub small : w.unit < 320
   pub within : (i : ℕ) → bit_at w.rest i ≡ 1 → w.unit + 1 + i < word_end w.unit
@@ -23,10 +19,6 @@ comes_to w words k = elim (nat_lt k (word_end w.unit)) [
   | true ↦ has_bit w.rest (k - (w.unit + 1))
   | false ↦ has_unit words k
 ]
-
--- the bits say which of the numbers from `from` on, below `to`, are those of these units
-pub record AreBits (are : ℕ → Bool) (from to bits : ℕ) : Type 0 where
-  pub each : (i : ℕ) → has_bit bits i ≡ (nat_lt (from + i) to && are (from + i))
 
 -- it has come to the first of these units from number `from` on, and keeps those behind
 pub record HasCome (are : ℕ → Bool) (from : ℕ) (w : Walk) : Type 0 where

@@ -1,32 +1,30 @@
 //! Messages at the ends of the network: they leave memory modules and processing elements, and come to them.
 
-ghost use Rattle.std.specs.Prelude.{◌≡◌, ◌-◌, ◌/◌, ◌^◌, ◌<◌, None, slice_set};
-ghost use Rattle.ultra_route.specs.Route.{shuffled};
-ghost use Rattle.ultra_units.specs.{Numbers.place_number as number_of_place, Numbers.switch_number as number_of_switch, Links.put_on, Marks.delivery_link, Marks.memory_link, Marks.on_link, Units.IsElement, Units.IsModule};
+ghost use Rattle.std.specs.Prelude.{◌≡◌, ◌^◌, ◌<◌, None, slice_set};
+ghost use Rattle.ultra_units.specs.{Inlets.LeadsTo, Numbers.place_number as number_of_place, Links.put_on, Marks.delivery_link, Marks.memory_link, Marks.on_link, Units.IsElement, Units.IsModule};
 
-use crate::links::Links;
+use crate::links::{Links, Message};
 use crate::numbers::place_number;
 use crate::unit_set::UnitNumber;
 use ultra_msg::{ReplyPacket, RequestPacket};
 use ultra_route::Net;
 
-/// A reply, if there is one, leaves a memory module for the switch `target`.
+/// A message, if there is one, leaves a memory module or a processing element for the switch `target`.
 #[inline(always)]
-pub fn leave_module(
-    links: &mut Links<ReplyPacket>,
+pub fn leave_end<M: Message>(
+    links: &mut Links<M>,
     net: Net,
     number: u32,
     target: UnitNumber,
-    reply: Option<ReplyPacket>,
+    message: Option<M>,
 )
     requires number { number < 2 ^ net }
-    requires target { target ≡ number_of_switch net (net - 1) (number / 2) }
+    requires leads { LeadsTo (M.inlets net) net (number_of_place net net number) target }
     requires stages { links.old.stages ≡ net }
-    ensures { links.new ≡ record links.old { table = put_on links.old.table (number_of_place net net number) reply; targets = links.new.targets } }
+    ensures { links.new ≡ record links.old { table = put_on links.old.table (number_of_place net net number) message; targets = links.new.targets } }
 {
     let _even = net.size();
-    let link = place_number(net, net.stages(), number);
-    links.put(link, target, reply);
+    links.put(place_number(net, net.stages(), number), target, message);
 }
 
 /// Takes what comes to a processing element.
@@ -46,25 +44,6 @@ pub fn take_at_element(
     let reply = links.take(place_number(net, 0, net.shuffle(pe)));
     links.clear(unit);
     reply
-}
-
-/// A request, if there is one, leaves a processing element for the switch `target`.
-#[inline(always)]
-pub fn leave_element(
-    links: &mut Links<RequestPacket>,
-    net: Net,
-    pe: u32,
-    target: UnitNumber,
-    request: Option<RequestPacket>,
-)
-    requires pe { pe < 2 ^ net }
-    requires target { target ≡ number_of_switch net 0 (shuffled net pe / 2) }
-    requires stages { links.old.stages ≡ net }
-    ensures { links.new ≡ record links.old { table = put_on links.old.table (number_of_place net net pe) request; targets = links.new.targets } }
-{
-    let _even = net.size();
-    let link = place_number(net, net.stages(), pe);
-    links.put(link, target, request);
 }
 
 /// Takes what comes to a memory module.

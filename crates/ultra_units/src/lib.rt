@@ -12,7 +12,7 @@ mod unit_set;
 mod ways;
 mod wiring;
 
-pub use ends::{leave_element, leave_module, take_at_element, take_at_module};
+pub use ends::{leave_end, take_at_element, take_at_module};
 pub use links::{Links, Message, ports_in_turn};
 pub use numbers::{element_number, is_small, module_number, switch_count, switch_number};
 pub use pass::{Visit, visit_all};

@@ -1,7 +1,7 @@
 //! Sets of units.
 
 ghost use Rattle.std.specs.Prelude.{◌≡◌, ℕ, List, ◌+◌, ◌*◌, ◌/◌, ◌<◌, ◌≤◌, ◌&&◌, ◌||◌, ◌↔◌, true, false, not, IfNone, IfSome};
-ghost use Rattle.ultra_units.specs.Set.{AreSameBut, HasNoneFrom, IsFirstFrom, has_unit};
+ghost use Rattle.ultra_units.specs.Set.{AreBits, AreSameBut, HasNoneFrom, IsFirstFrom, has_unit, word_end};
 
 use crate::pass::Walk;
 use std::marker::Model;
@@ -185,15 +185,16 @@ impl UnitSet {
 
     /// The first unit of the set whose number is at least `from`.
     #[inline(always)]
+    #[tactic(auto, using(crate::proofs::Set::rest_steps))]
     pub fn next(&self, from: usize) -> Option<usize>
         ensures some { IfSome result (λ k. IsFirstFrom self.now from k) }
         ensures none { IfNone result (HasNoneFrom self.now from) }
     {
         let words = &self.words;
-        if 64 * WORDS <= from {
+        if 64 * words.len() <= from {
             return None;
         }
-        let rest = words[from / 64] >> (from % 64);
+        let rest = self.rest_of_word(from);
         if rest != 0 {
             return Some(from + rest.trailing_zeros() as usize);
         }
@@ -201,6 +202,16 @@ impl UnitSet {
             return None;
         }
         Some(Walk::from_word(self, from / 64 + 1)?.unit.number())
+    }
+
+    /// The units of the set from one number on that are in the same word: bit i says it of the unit whose number is greater by i. The number has to be below 320.
+    #[inline(always)]
+    #[tactic(auto, using(crate::proofs::Set::bits_from))]
+    pub fn rest_of_word(&self, from: usize) -> u64
+        requires { from < 320 }
+        ensures { AreBits (has_unit self.now) from (word_end from) result }
+    {
+        self.words[from / 64] >> (from % 64)
     }
 
     /// Whether all units of the set are in its first word, as in a small machine.

@@ -7,5 +7,5 @@ use Rattle.ultra_lines.proofs.state.put_interfaces.Given as goal
 
 abbrev pub invariant-loop-pe : goal.invariant-loop-pe
 invariant-loop-pe g l =
-    let all = numbers_in l.holders (element_number l.blocks.config.stages 0) (2 ^ l.blocks.config.stages) in
+    let all = numbers_in l.holders (element_number l.fn.net 0) (2 ^ l.fn.net) in
     AreWritten g.S.Sink.taken g.S.Sink.failures (pni_of l.blocks.machine) all l.yielded (holders_left l.pe-iterator) l.initial.page l.page

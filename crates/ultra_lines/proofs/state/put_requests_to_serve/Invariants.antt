@@ -7,5 +7,5 @@ use Rattle.ultra_lines.proofs.state.put_requests_to_serve.Given as goal
 
 abbrev pub invariant-loop-number : goal.invariant-loop-number
 invariant-loop-number g l =
-    let all = numbers_in l.holders (module_number l.blocks.config.stages 0) (2 ^ l.blocks.config.stages) in
+    let all = numbers_in l.holders (module_number l.fn.net 0) (2 ^ l.fn.net) in
     AreWritten g.S.Sink.taken g.S.Sink.failures (inp_of l.blocks.machine) all l.yielded (holders_left l.number-iterator) l.initial.page l.page

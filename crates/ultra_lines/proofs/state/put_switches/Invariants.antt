@@ -8,5 +8,5 @@ use Rattle.ultra_lines.proofs.state.put_switches.Given as goal
 
 abbrev pub invariant-loop-switch : goal.invariant-loop-switch
 invariant-loop-switch g l =
-    let line = lines_at (2 ^ (l.blocks.config.stages - 1)) (port_line l.held l.blocks.machine) in
-    AreWritten g.S.Sink.taken g.S.Sink.failures line (numbers_in l.holders 0 (switch_count l.blocks.config.stages)) l.yielded (holders_left l.switch-iterator) l.initial.page l.page
+    let line = lines_at (2 ^ (l.fn.net - 1)) (port_line l.held l.blocks.machine) in
+    AreWritten g.S.Sink.taken g.S.Sink.failures line (numbers_in l.holders 0 (switch_count l.fn.net)) l.yielded (holders_left l.switch-iterator) l.initial.page l.page

@@ -1,23 +1,15 @@
-use Rattle.std.proofs.Common.{length, ap, arith}
-use Rattle.ultra_lines.proofs.Skipped.{left_none, left_beyond, left_first}
+use Rattle.std.proofs.Common.{◌≡◌, length, refl, sym, ◌∙◌, ap, arith}
+use Rattle.ultra_lines.specs.Holders.{holders_left}
 use Rattle.ultra_lines.proofs.holders.HoldersIterator.next.Goals as goal
-
-pub returns-in_err-unit-clause-steps : goal.returns-in_err-unit-clause-steps
-returns-in_err-unit-clause-steps c =
-    let now = c.args.self.now in
-    let empty = left_none now.units.now now.base now.from now.end c.in_err-unit.ensures.none in
-    rw c.from_residual.ensures (empty, empty)
-
-pub returns-then-number-self-clause-steps : goal.returns-then-number-self-clause-steps
-returns-then-number-self-clause-steps c =
-    let now = c.args.self.now in
-    let empty = left_beyond now.units.now now.base now.from now.end c.in_ok-unit.unit c.in_ok-unit.ensures.some c.if-number-self.true in
-    (empty, empty)
+use Rattle.ultra_lines.proofs.holders.HoldersIterator.next.Goals.{else-self-eq0-via-then-self-eq0+else-not-go_on, else-self-eq0-via-else-self-eq0}
 
 pub returns-clause-steps : goal.returns-clause-steps
 returns-clause-steps c =
-    let now = c.args.self.now in
-    left_first now.units.now now.base now.from now.end c.in_ok-unit.unit c.in_ok-unit.ensures.some c.if-number-self.false
+    let same : holders_left c.args.self.now ≡ holders_left c.else-self-eq0.self = elim c.else-self-eq0.branch [
+      | else-self-eq0-via-then-self-eq0+else-not-go_on w ↦ rw w.self-is (sym (w.go_on.ensures.same w.if-not-go_on.false))
+      | else-self-eq0-via-else-self-eq0 w ↦ rw w.self-is refl
+    ] in
+    same ∙ c.take_first.ensures
 
 pub returns-clause-goes : goal.returns-clause-goes
 returns-clause-goes c =

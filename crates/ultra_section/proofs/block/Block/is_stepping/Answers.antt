@@ -1,6 +1,5 @@
-use Rattle.std.proofs.Common.{sym}
-use Rattle.ultra_section.proofs.Known.{none_running}
+use Rattle.ultra_section.proofs.Known.{stepping_is}
 use Rattle.ultra_section.proofs.block.Block.is_stepping.Goals as goal
 
-pub returns-in-None-clause-value : goal.returns-in-None-clause-value
-returns-in-None-clause-value c = rw (← c.self.view_is) (sym (none_running c.self.inside c.self.invariant c.in-None.ensures.none))
+pub returns : goal.returns
+returns c = rw (← c.self.view_is) (let is = stepping_is c.self.inside c.self.invariant _ c.is_empty.ensures in record { value = is.0; busy = is.1 })

@@ -1,5 +1,5 @@
 use Rattle.ultra_io.proofs.Writing.{◌then◌}
-use Rattle.ultra_lines.proofs.state.put_state.Goals as goal
+use Rattle.ultra_lines.proofs.state.put_all_held.Goals as goal
 
 pub returns : goal.returns
 returns g c =
