@@ -27,7 +27,7 @@ module _ (p : ℕ → Bool) (a n m l : ℕ) (whole : n + m ≡ l) where
   others_pass : ((k : ℕ) → a ≤ k → k < a + n → p k ≡ false) → filter p (range_with_len a l) ≡ filter p (range_with_len (a + n) m)
   others_pass none = parts_pass ∙ ap (λ xs. xs ++ filter p (range_with_len (a + n) m)) (none_passes p a n none)
 
--- ---- the bits of a word, of which bit 0 is that of number a
+-- ---- the bits of a word; bit 0 is that of number a
 pub no_numbers : (a : ℕ) → numbers_of_bits 0 a ≡ []
 no_numbers a = none_passes (λ k. has_bit 0 (k - a)) a 64 (λ k from to. let clear = bit_at-zero (k - a) in grind arith)
 

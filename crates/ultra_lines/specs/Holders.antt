@@ -21,7 +21,7 @@ numbers_from units base a n = filter (λ k. has_unit units (base + k)) (range_wi
 abbrev pub numbers_in : List ℕ → ℕ → ℕ → List ℕ
 numbers_in units base n = numbers_from units base 0 n
 
--- the numbers whose bits are set in a word, of which bit 0 is that of number a
+-- the numbers whose bits are set in a word; bit 0 is that of number a
 abbrev pub numbers_of_bits : ℕ → ℕ → List ℕ
 numbers_of_bits bits a = filter (λ k. has_bit bits (k - a)) (range_with_len a 64)
 
