@@ -19,7 +19,7 @@ pub(crate) fn of_machine(
     let modules = machine.config().net().size();
     for module in 0..modules {
         for offset in 0..machine.config().cells() {
-            let word = machine.bank(module).peek(offset).unwrap_or(0);
+            let word = machine.memory_module(module).peek(offset).unwrap_or(0);
             cells.push((address(module, offset, modules), word))?;
         }
     }
@@ -32,7 +32,7 @@ pub(crate) fn of_blocks(alloc: Global, blocks: &Blocks) -> Result<Vec<(Cell, Wor
     let modules = blocks.config().net().size();
     for module in 0..modules {
         for offset in 0..blocks.config().cells() {
-            let word = blocks.bank(module).peek(offset).unwrap_or(0);
+            let word = blocks.memory_module(module).peek(offset).unwrap_or(0);
             cells.push((address(module, offset, modules), word))?;
         }
     }

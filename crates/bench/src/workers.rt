@@ -14,6 +14,7 @@ use std::alloc::Global;
 use std::rt::Files;
 use std::sync::Wait;
 use std::thread::Threads;
+use ultra_block::count_units;
 use ultra_crew::{Blocks, Crew, CrewFault, Gate, Half, MOST_WORKERS};
 
 /// A gate that holds nobody up.
@@ -27,10 +28,9 @@ impl Gate for Open {
 fn dealt_out(alloc: Global, setup: &Setup, workers: u8) -> anyhow::Result<Blocks>
     requires { 1 ≤ workers }
 {
-    let net = setup.config.net();
     let mut partition = Vec::new(alloc);
-    for unit in 0..net.stages() * (net.size() / 2) + 2 * net.size() {
-        partition.push((unit % u32::from(workers)) as u8)?;
+    for unit in 0..count_units(&setup.config) {
+        partition.push((unit % usize::from(workers)) as u8)?;
     }
     let partition = partition.as_slice();
     Ok(Blocks::new(alloc, &setup.config, &setup.program, partition)?)

@@ -6,10 +6,10 @@ mod cases;
 #[cfg(test)]
 mod listings;
 #[cfg(test)]
+mod memory_sink;
+#[cfg(test)]
 mod runs;
 #[cfg(test)]
 mod texts;
-#[cfg(test)]
-mod trays;
 #[cfg(test)]
 mod wrong_programs;

@@ -1,7 +1,7 @@
 //! The listings of the coordination programs at the ends of the ranges of their parameters.
 
 use crate::cases::{Case, OUT_OF_RANGE, check_refused};
-use crate::trays::Tray;
+use crate::memory_sink::MemorySink;
 use std::process::Abort;
 use std::test::Fail;
 use ultra_asm::listing;
@@ -9,9 +9,9 @@ use ultra_asm::listing;
 /// Asserts that a program has this listing.
 fn check_listing<R: AllocGlobal + Abort>(rt: &R, case: Case, wanted: &str) -> Result<(), Fail> {
     let program = case.program(rt.alloc())?;
-    let mut tray = Tray::in_threes(rt);
-    listing(&program, &mut tray)?;
-    assert_eq!(rt; tray.text(), wanted);
+    let mut sink = MemorySink::in_threes(rt);
+    listing(&program, &mut sink)?;
+    assert_eq!(rt; sink.text(), wanted);
     Ok(())
 }
 

@@ -1,6 +1,6 @@
 //! Texts of programs, with their listings and their faults.
 
-use crate::trays::Tray;
+use crate::memory_sink::MemorySink;
 use std::alloc::{AllocError, Global};
 use std::process::Abort;
 use std::test::Fail;
@@ -9,9 +9,9 @@ use ultra_msg::SinkFault;
 
 /// Asserts that the text is assembled to a program with this listing.
 fn lists_as<R: AllocGlobal + Abort>(rt: &R, text: &str, wanted: &str) -> Result<(), Fail> {
-    let mut tray = Tray::in_threes(rt);
-    listing(&assemble(rt.alloc(), text)?, &mut tray)?;
-    assert_eq!(rt; tray.text(), wanted, "of {text}");
+    let mut sink = MemorySink::in_threes(rt);
+    listing(&assemble(rt.alloc(), text)?, &mut sink)?;
+    assert_eq!(rt; sink.text(), wanted, "of {text}");
     Ok(())
 }
 
@@ -148,11 +148,11 @@ fn a_program_has_at_most_4096_instructions(rt: HostRuntime) -> Result<(), Fail> 
 #[test]
 fn a_fault_of_the_sink_is_reported(rt: HostRuntime) -> Result<(), Fail> {
     let program = assemble(rt.alloc(), "x: jmp x")?;
-    let mut tray = Tray::in_threes(&rt);
-    tray.sound_writes = 3;
-    assert_eq!(rt; listing(&program, &mut tray), Err(SinkFault));
-    assert_eq!(rt; tray.text(), "L0:\njmp L");
-    assert_eq!(rt; tray.failures, 1);
+    let mut sink = MemorySink::in_threes(&rt);
+    sink.sound_writes = 3;
+    assert_eq!(rt; listing(&program, &mut sink), Err(SinkFault));
+    assert_eq!(rt; sink.text(), "L0:\njmp L");
+    assert_eq!(rt; sink.failures, 1);
     Ok(())
 }
 

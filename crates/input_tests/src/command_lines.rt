@@ -3,7 +3,7 @@
 use std::alloc::Global;
 use std::process::Abort;
 use std::test::Fail;
-use ultra_command_line::{Command, Parsed, parse};
+use ultra_args::{Invocation, Parsed, parse};
 
 /// What the words ask for. Where memory was refused, that is the error here.
 fn parsed<'w>(alloc: Global, words: &'w [&'w str]) -> Result<Parsed<'w>, Fail> {
@@ -14,9 +14,9 @@ fn parsed<'w>(alloc: Global, words: &'w [&'w str]) -> Result<Parsed<'w>, Fail> {
 }
 
 /// The command that the words ask for.
-fn command_of<'w>(alloc: Global, words: &'w [&'w str]) -> Result<Command<'w>, Fail> {
+fn command_of<'w>(alloc: Global, words: &'w [&'w str]) -> Result<Invocation<'w>, Fail> {
     match parsed(alloc, words)? {
-        Parsed::Command(command) => Ok(command),
+        Parsed::Invocation(command) => Ok(command),
         _ => Err("no command".into()),
     }
 }
@@ -63,7 +63,7 @@ static RUNS: [(&[&str], usize); 5] = [
 #[test]
 fn a_run_is_asked_for(rt: HostRuntime) -> Result<(), Fail> {
     for (words, count) in &RUNS {
-        let Command::Run {
+        let Invocation::Run {
             settings,
             program,
             workers,
@@ -80,7 +80,7 @@ fn a_run_is_asked_for(rt: HostRuntime) -> Result<(), Fail> {
 #[test]
 fn an_order_is_asked_for(rt: HostRuntime) -> Result<(), Fail> {
     let words = ["ultra", "order", "c.toml", "p.s"];
-    let Command::Order { settings, program } = command_of(rt.alloc(), &words)? else {
+    let Invocation::Order { settings, program } = command_of(rt.alloc(), &words)? else {
         return Err("no order".into());
     };
     check_files(&rt, &words, settings, program);
@@ -100,7 +100,7 @@ static EXPLANATIONS: [(&[&str], usize); 3] = [
 #[test]
 fn an_explanation_is_asked_for(rt: HostRuntime) -> Result<(), Fail> {
     for (words, bytes) in &EXPLANATIONS {
-        let Command::Explain {
+        let Invocation::Explain {
             settings,
             program,
             heap,

@@ -1,7 +1,7 @@
 //! Machines cut into blocks: some cycles of them, and what happened in the last one.
 
 use std::process::Abort;
-use tests_base::answered;
+use test_support::answered_event;
 use ultra_machine::{Blocks, ProcessingElement};
 use ultra_mem::Module;
 use ultra_msg::{Event, Pe, Word};
@@ -49,9 +49,9 @@ pub(crate) fn replies<'b>(
 }
 
 /// A memory module.
-pub(crate) fn bank<'b>(rt: &impl Abort, blocks: &'b Blocks, number: u32) -> &'b Module {
+pub(crate) fn memory_module<'b>(rt: &impl Abort, blocks: &'b Blocks, number: u32) -> &'b Module {
     assert!(rt; number < blocks.config().net().size());
-    blocks.bank(number)
+    blocks.memory_module(number)
 }
 
 /// A processing element.
@@ -62,16 +62,16 @@ pub(crate) fn element<'b>(rt: &impl Abort, blocks: &'b Blocks, pe: Pe) -> &'b Pr
 
 /// The value of cell 0.
 pub(crate) fn first_cell_is(rt: &impl Abort, blocks: &Blocks, word: Word) {
-    assert_eq!(rt; bank(rt, blocks, 0).peek(0), Some(word));
+    assert_eq!(rt; memory_module(rt, blocks, 0).peek(0), Some(word));
 }
 
 /// In the last cycle of the worked tree of two levels every processing element gets its own value, and nothing is left to do.
 pub(crate) fn tree_is_answered(rt: &impl Abort, blocks: &Blocks) {
     let answers = [
-        answered(0, 3),
-        answered(1, 8),
-        answered(2, 0),
-        answered(3, 4),
+        answered_event(0, 3),
+        answered_event(1, 8),
+        answered_event(2, 0),
+        answered_event(3, 4),
     ];
     events_are(rt, blocks, &answers);
     first_cell_is(rt, blocks, 10);

@@ -1,13 +1,13 @@
 //! Machines whose cycles are made by several workers.
 
-use crate::blocks::{bank, element, event_is, lane, replies, tree_is_answered};
+use crate::blocks::{element, event_is, lane, memory_module, replies, tree_is_answered};
 use std::alloc::Global;
 use std::process::Abort;
 use std::sync::Wait;
 use std::sync::atomic::Ordering;
 use std::test::Fail;
 use std::thread::Threads;
-use tests_base::{Counter, Holdup, Meeting, add_number, config, register};
+use test_support::{Counter, Holdup, Meeting, add_number, config, register};
 use ultra_crew::{Crew, CrewFault, Gate, cycle_alone};
 use ultra_isa::{Activity, MachineFault, Processor};
 use ultra_machine::{Blocks, ProcessingElement};
@@ -130,7 +130,7 @@ fn same_registers(rt: &impl Abort, a: &Processor, b: &Processor) {
 /// Where a processing element is in its program, and what it is doing.
 fn doing(element: &ProcessingElement) -> (usize, Activity) {
     let processor = &element.processor;
-    (processor.place(), processor.activity())
+    (processor.pc(), processor.activity())
 }
 
 /// How many cells a processing element has open, and which of its requests is sent next.
@@ -180,7 +180,11 @@ fn same_queues(rt: &impl Abort, a: &Blocks, b: &Blocks, stage: u32, position: u3
 
 /// Two machines hold the same in the memory module and the processing element of a number.
 fn same_ends(rt: &impl Abort, a: &Blocks, b: &Blocks, number: u32) {
-    same_module(rt, bank(rt, a, number), bank(rt, b, number));
+    same_module(
+        rt,
+        memory_module(rt, a, number),
+        memory_module(rt, b, number),
+    );
     same_element(rt, element(rt, a, number), element(rt, b, number));
 }
 

@@ -4,7 +4,7 @@ use crate::blocks::{run_blocks, tree_is_answered};
 use crate::machines::{ends_with, four_become_one, machine, one_becomes_four, run_to};
 use std::process::Abort;
 use std::test::Fail;
-use tests_base::{add_number, combined, defaults};
+use test_support::{add_number, combined_event, defaults};
 use ultra_machine::{Blocks, Machine, PartitionFault};
 
 /// The machine before its sixth cycle, with the four requests on their way as one.
@@ -33,7 +33,7 @@ fn given_back(
 /// The machine goes on where it stood.
 fn goes_on(rt: &impl Abort, machine: &mut Machine) {
     assert!(rt; machine.done() == 5);
-    run_to(rt, machine, 0, &[combined(1, 0, 2, 3)]);
+    run_to(rt, machine, 0, &[combined_event(1, 0, 2, 3)]);
     one_becomes_four(rt, machine);
     ends_with(rt, machine, 10);
 }

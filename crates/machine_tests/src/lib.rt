@@ -9,8 +9,8 @@ mod crews;
 #[cfg(test)]
 mod cuts;
 #[cfg(test)]
+mod hot_spots;
+#[cfg(test)]
 mod machines;
 #[cfg(test)]
 mod partitions;
-#[cfg(test)]
-mod waves;

@@ -3,14 +3,14 @@
 use std::alloc::Global;
 use std::process::Abort;
 use std::test::Fail;
-use tests_base::{
-    add_number, add_one, answer, answered, combined, defaults, issued, kept, program, register,
-    served,
+use test_support::{
+    add_number, add_one, answer, answered_event, combined_event, defaults, issued_event, program,
+    record_of_pair, register, served_event,
 };
 use ultra_isa::{Instr, Program};
 use ultra_machine::{Config, Machine, RawSettings};
 use ultra_msg::{Event, Give, Op, Pe, Request, Word};
-use ultra_switch::{Entry, ToMm, WaitRecord};
+use ultra_switch::{QueueEntry, ToMm, WaitRecord};
 
 /// The machine before its first cycle.
 pub(crate) fn machine(
@@ -49,7 +49,7 @@ pub(crate) fn queue_is(rt: &impl Abort, lane: &ToMm, wanted: &[(Pe, u32, Op, boo
     for (index, &(pe, cell, op, combined)) in wanted.iter().enumerate() {
         assert!(rt; index < lane.len());
         let request = Request { pe, cell, op };
-        assert_eq!(rt; lane.entry(index), Entry { request, combined });
+        assert_eq!(rt; lane.entry(index), QueueEntry { request, combined });
     }
 }
 
@@ -72,7 +72,7 @@ fn reply_is(rt: &impl Abort, machine: &Machine, stage: u32, position: u32, wante
 pub(crate) fn ends_with(rt: &impl Abort, machine: &Machine, word: Word) {
     assert!(rt; machine.is_quiet());
     assert!(rt; machine.config().net().size() > 0);
-    assert_eq!(rt; machine.bank(0).peek(0), Some(word));
+    assert_eq!(rt; machine.memory_module(0).peek(0), Some(word));
 }
 
 #[test]
@@ -86,23 +86,28 @@ fn two_level_tree(rt: HostRuntime) -> Result<(), Fail> {
 }
 
 pub(crate) fn four_become_one(rt: &impl Abort, machine: &mut Machine) {
-    let requests = [issued(0, 1), issued(1, 2), issued(2, 3), issued(3, 4)];
+    let requests = [
+        issued_event(0, 1),
+        issued_event(1, 2),
+        issued_event(2, 3),
+        issued_event(3, 4),
+    ];
     run_to(rt, machine, 3, &requests);
     run_to(
         rt,
         machine,
         1,
-        &[combined(0, 0, 2, 0), combined(0, 2, 3, 1)],
+        &[combined_event(0, 0, 2, 0), combined_event(0, 2, 3, 1)],
     );
-    run_to(rt, machine, 1, &[combined(1, 0, 2, 3)]);
+    run_to(rt, machine, 1, &[combined_event(1, 0, 2, 3)]);
     queue_is(rt, lane(rt, machine, 1, 0), &[(2, 0, Op::Faa(10), true)]);
-    record_is(rt, lane(rt, machine, 0, 0), kept(2, 0, 3));
-    record_is(rt, lane(rt, machine, 0, 2), kept(3, 1, 4));
-    record_is(rt, lane(rt, machine, 1, 0), kept(2, 3, 4));
+    record_is(rt, lane(rt, machine, 0, 0), record_of_pair(2, 0, 3));
+    record_is(rt, lane(rt, machine, 0, 2), record_of_pair(3, 1, 4));
+    record_is(rt, lane(rt, machine, 1, 0), record_of_pair(2, 3, 4));
 }
 
 pub(crate) fn one_becomes_four(rt: &impl Abort, machine: &mut Machine) {
-    run_to(rt, machine, 2, &[served(2, 10, 0, 10)]);
+    run_to(rt, machine, 2, &[served_event(2, 10, 0, 10)]);
     run(rt, machine, 1);
     reply_is(rt, machine, 1, 0, (2, 0));
     reply_is(rt, machine, 1, 1, (3, 4));
@@ -116,10 +121,10 @@ pub(crate) fn one_becomes_four(rt: &impl Abort, machine: &mut Machine) {
         machine,
         1,
         &[
-            answered(0, 3),
-            answered(1, 8),
-            answered(2, 0),
-            answered(3, 4),
+            answered_event(0, 3),
+            answered_event(1, 8),
+            answered_event(2, 0),
+            answered_event(3, 4),
         ],
     );
 }
@@ -134,12 +139,22 @@ fn narrow_request_queues(rt: HostRuntime) -> Result<(), Fail> {
     };
     let program = add_one(rt.alloc())?;
     let mut machine = machine(rt.alloc(), &raw, &program)?;
-    run_to(&rt, &mut machine, 7, &[served(2, 1, 0, 1)]);
-    run_to(&rt, &mut machine, 1, &[served(3, 1, 1, 2)]);
-    run_to(&rt, &mut machine, 2, &[answered(2, 0), served(1, 1, 2, 3)]);
-    run_to(&rt, &mut machine, 1, &[answered(3, 1), served(0, 1, 3, 4)]);
-    run_to(&rt, &mut machine, 2, &[answered(1, 2)]);
-    run_to(&rt, &mut machine, 1, &[answered(0, 3)]);
+    run_to(&rt, &mut machine, 7, &[served_event(2, 1, 0, 1)]);
+    run_to(&rt, &mut machine, 1, &[served_event(3, 1, 1, 2)]);
+    run_to(
+        &rt,
+        &mut machine,
+        2,
+        &[answered_event(2, 0), served_event(1, 1, 2, 3)],
+    );
+    run_to(
+        &rt,
+        &mut machine,
+        1,
+        &[answered_event(3, 1), served_event(0, 1, 3, 4)],
+    );
+    run_to(&rt, &mut machine, 2, &[answered_event(1, 2)]);
+    run_to(&rt, &mut machine, 1, &[answered_event(0, 3)]);
     ends_with(&rt, &machine, 4);
     Ok(())
 }
@@ -168,14 +183,18 @@ fn marked_once(rt: HostRuntime) -> Result<(), Fail> {
         lane(&rt, &machine, 1, 0),
         &[(0, 0, Op::Faa(4), true), (3, 0, Op::Faa(6), false)],
     );
-    run_to(&rt, &mut machine, 2, &[served(0, 4, 0, 4)]);
-    run_to(&rt, &mut machine, 1, &[served(3, 6, 4, 10)]);
-    run_to(&rt, &mut machine, 2, &[answered(0, 0)]);
+    run_to(&rt, &mut machine, 2, &[served_event(0, 4, 0, 4)]);
+    run_to(&rt, &mut machine, 1, &[served_event(3, 6, 4, 10)]);
+    run_to(&rt, &mut machine, 2, &[answered_event(0, 0)]);
     run_to(
         &rt,
         &mut machine,
         1,
-        &[answered(1, 8), answered(2, 1), answered(3, 4)],
+        &[
+            answered_event(1, 8),
+            answered_event(2, 1),
+            answered_event(3, 4),
+        ],
     );
     Ok(())
 }

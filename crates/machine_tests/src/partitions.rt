@@ -4,16 +4,16 @@ use crate::blocks::{events_are, first_cell_is, lane, run_blocks};
 use crate::machines::{queue_is, record_is};
 use std::process::Abort;
 use std::test::Fail;
-use tests_base::{add_one, answered, config, kept};
+use test_support::{add_one, answered_event, config, record_of_pair};
 use ultra_machine::{Blocks, PartitionFault};
 use ultra_msg::Op;
 
 /// After cycle 4 the four requests have combined into one.
 fn four_are_one(rt: &impl Abort, blocks: &Blocks) {
     queue_is(rt, lane(rt, blocks, 1, 0), &[(2, 0, Op::Faa(4), true)]);
-    record_is(rt, lane(rt, blocks, 1, 0), kept(2, 3, 2));
-    record_is(rt, lane(rt, blocks, 0, 0), kept(2, 0, 1));
-    record_is(rt, lane(rt, blocks, 0, 2), kept(3, 1, 1));
+    record_is(rt, lane(rt, blocks, 1, 0), record_of_pair(2, 3, 2));
+    record_is(rt, lane(rt, blocks, 0, 0), record_of_pair(2, 0, 1));
+    record_is(rt, lane(rt, blocks, 0, 2), record_of_pair(3, 1, 1));
 }
 
 /// All ten cycles of the run.
@@ -22,10 +22,10 @@ fn runs(rt: &impl Abort, blocks: &mut Blocks) {
     four_are_one(rt, blocks);
     run_blocks(rt, blocks, 5);
     let answers = [
-        answered(0, 1),
-        answered(1, 3),
-        answered(2, 0),
-        answered(3, 2),
+        answered_event(0, 1),
+        answered_event(1, 3),
+        answered_event(2, 0),
+        answered_event(3, 2),
     ];
     events_are(rt, blocks, &answers);
     first_cell_is(rt, blocks, 4);

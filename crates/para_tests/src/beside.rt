@@ -126,7 +126,7 @@ fn is_schedule(schedule: &[Pe], size: u32) -> bool
 fn cell_looks_like(rt: &impl Abort, machine: &Machine, para: &Para, cell: Cell) {
     let size = machine.config().net().size();
     assert!(rt; size > 0);
-    let word = machine.bank(cell % size).peek(cell / size);
+    let word = machine.memory_module(cell % size).peek(cell / size);
     assert_eq!(rt; para.peek(cell), word, "in cell {cell}");
 }
 

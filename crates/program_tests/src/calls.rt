@@ -1,11 +1,11 @@
 //! Calls of the program over files and streams in memory.
 
 use crate::host::Host;
-use crate::shelf::Shelf;
-use crate::tray::{Limits, Tray};
+use crate::memory_files::MemoryFiles;
+use crate::memory_sink::{Limits, MemorySink};
 use std::process::Abort;
 use std::test::Fail;
-use ultra_cli::main_with;
+use ultra_commands::main_with;
 use ultra_io::{Account, Source};
 
 /// What a call of the program did: its status, and what it wrote to standard output and to standard
@@ -19,7 +19,7 @@ pub(crate) struct Ended {
 
 impl Ended {
     /// What a call did that answered this status and wrote to these streams.
-    fn new(status: u8, out: Tray, err: Tray) -> Result<Ended, Fail> {
+    fn new(status: u8, out: MemorySink, err: MemorySink) -> Result<Ended, Fail> {
         let err = err.into_text()?;
         let out = out.into_text()?;
         Ok(Ended { status, out, err })
@@ -55,8 +55,8 @@ fn status_of<'w, R: Host, F: Source>(
     rt: &R,
     words: &'w [&'w str],
     source: &mut F,
-    out: &mut Tray,
-    err: &mut Tray,
+    out: &mut MemorySink,
+    err: &mut MemorySink,
 ) -> u8 {
     main_with(rt, words, source, out, err)
 }
@@ -69,8 +69,8 @@ pub(crate) fn call_over<'w, R: Host, F: Source>(
     out: Limits,
     err: Limits,
 ) -> Result<Ended, Fail> {
-    let mut out = Tray::new(rt.alloc(), out)?;
-    let mut err = Tray::new(rt.alloc(), err)?;
+    let mut out = MemorySink::new(rt.alloc(), out)?;
+    let mut err = MemorySink::new(rt.alloc(), err)?;
     let status = status_of(rt, words, source, &mut out, &mut err);
     Ended::new(status, out, err)
 }
@@ -83,11 +83,11 @@ pub(crate) fn call_within<'t, R: Host>(
     out: Limits,
     err: Limits,
 ) -> Result<Ended, Fail> {
-    let mut shelf = Shelf {
+    let mut files = MemoryFiles {
         files,
         account: Account::Opened,
     };
-    call_over(rt, words, &mut shelf, out, err)
+    call_over(rt, words, &mut files, out, err)
 }
 
 /// Calls the program over files in memory. Where memory or a thread was refused, that is the error

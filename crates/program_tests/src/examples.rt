@@ -26,7 +26,7 @@ pub(crate) static ONE_STAGE: [Example; 9] = [
     Example {
         settings: "stages = 1",
         program: ADDS_ONE,
-        trace: tests_base::COMBINED_PAIR,
+        trace: test_support::COMBINED_PAIR,
         order: orders::COMBINED_PAIR,
         explanation: explanations::COMBINED_PAIR,
     },
@@ -153,7 +153,7 @@ pub(crate) static TWO_STAGES: [Example; 6] = [
     Example {
         settings: "stages = 2",
         program: ADDS_NUMBER,
-        trace: tests_base::TWO_LEVEL_TREE,
+        trace: test_support::TWO_LEVEL_TREE,
         order: orders::TWO_LEVEL_TREE,
         explanation: explanations::TWO_LEVEL_TREE,
     },

@@ -3,7 +3,7 @@
 use crate::calls::{call_within, check_command, check_usage_fault, unless_refused};
 use crate::examples::ADDS_ONE;
 use crate::host::Host;
-use crate::tray::Limits;
+use crate::memory_sink::Limits;
 use std::test::Fail;
 
 pub(crate) const COMBINED_PAIR: &str = "cycle 5 module 0 cell 0 [s0x0 1.0 < 0.0]\n";

@@ -5,8 +5,8 @@ ghost use Rattle.ultra_io.specs.Account.{files_in, failures_in};
 use crate::calls::{Ended, call_over, call_within};
 use crate::examples::ADDS_ONE;
 use crate::host::Host;
-use crate::shelf::Shelf;
-use crate::tray::Limits;
+use crate::memory_files::MemoryFiles;
+use crate::memory_sink::Limits;
 use std::alloc::Global;
 use std::process::Abort;
 use std::test::Fail;
@@ -14,16 +14,16 @@ use ultra_io::{Account, Source, SourceFault};
 
 /// Files in memory, where one read fails: the one after `sound_reads` reads.
 #[derive(Drop)]
-struct FaultyShelf<'f> {
-    shelf: Shelf<'f>,
+struct FaultyFiles<'f> {
+    files: MemoryFiles<'f>,
     sound_reads: usize,
     wants_memory: bool,
 }
 
-impl Source for FaultyShelf<'_> {
-    ghost files = { λ s. files_in s.shelf.account };
+impl Source for FaultyFiles<'_> {
+    ghost files = { λ s. files_in s.files.account };
 
-    ghost failures = { λ s. failures_in s.shelf.account };
+    ghost failures = { λ s. failures_in s.files.account };
 
     fn read(&mut self, alloc: Global, path: &str) -> Result<Vec<u8>, SourceFault> {
         if self.sound_reads == 0 {
@@ -31,11 +31,11 @@ impl Source for FaultyShelf<'_> {
             if self.wants_memory {
                 return Err(SourceFault::NoMemory);
             }
-            self.shelf.account.note_failure();
+            self.files.account.note_failure();
             return Err(SourceFault::NotRead);
         }
         self.sound_reads -= 1;
-        self.shelf.read(alloc, path)
+        self.files.read(alloc, path)
     }
 }
 
@@ -240,8 +240,8 @@ fn call_faulty<'w, R: Host>(
     sound_reads: usize,
     wants_memory: bool,
 ) -> Result<Ended, Fail> {
-    let mut source = FaultyShelf {
-        shelf: Shelf {
+    let mut source = FaultyFiles {
+        files: MemoryFiles {
             files: &FILES,
             account: Account::Opened,
         },

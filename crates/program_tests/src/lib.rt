@@ -15,16 +15,16 @@ mod host;
 #[cfg(test)]
 mod lib_programs;
 #[cfg(test)]
+mod memory_files;
+#[cfg(test)]
+mod memory_sink;
+#[cfg(test)]
 mod orders;
 #[cfg(test)]
 mod programs;
 #[cfg(test)]
-mod shelf;
-#[cfg(test)]
 mod sweeps;
 #[cfg(test)]
 mod traces;
-#[cfg(test)]
-mod tray;
 #[cfg(test)]
 mod two_stage_traces;

@@ -2,7 +2,7 @@
 
 use crate::calls::{call, call_into};
 use crate::host::Host;
-use crate::tray::Limits;
+use crate::memory_sink::Limits;
 use std::test::Fail;
 
 /// What `ultra lib barrier 1` writes.

@@ -3,11 +3,11 @@
 use crate::calls::{call, call_into, check_command, check_usage_fault};
 use crate::examples::{self, ADDS_NUMBER, ADDS_ONE, Example};
 use crate::host::Host;
-use crate::tray::Limits;
+use crate::memory_sink::Limits;
 use std::alloc::{AllocError, Global};
 use std::str;
 use std::test::Fail;
-use tests_base::TWO_LEVEL_TREE;
+use test_support::TWO_LEVEL_TREE;
 
 static RUN: [&str; 4] = ["ultra", "run", "c.toml", "p.s"];
 

@@ -3,11 +3,11 @@
 use crate::calls::{Ended, call_within, check_usage_fault};
 use crate::examples::ADDS_ONE;
 use crate::host::Host;
+use crate::memory_sink::Limits;
 use crate::traces::HALT;
-use crate::tray::Limits;
 use std::alloc::{AllocError, Global};
 use std::test::Fail;
-use tests_base::COMBINED_PAIR;
+use test_support::COMBINED_PAIR;
 
 /// A job that halts at once, and one in which two processing elements add 1 each to cell 0.
 const TWO_JOBS: &str = "\

@@ -1,4 +1,4 @@
-//! The traces of the examples with machines of one stage. That of `combined_pair` is in `tests_base`.
+//! The traces of the examples with machines of one stage. That of `combined_pair` is in `test_support`.
 
 pub(crate) const UNCOMBINED_PAIR: &str = "\
 ultra trace 2

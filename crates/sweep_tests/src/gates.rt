@@ -4,9 +4,9 @@ use std::alloc::Global;
 use std::sync::Wait;
 use std::sync::atomic::{AtomicU64, Ordering};
 use std::thread;
-use sweep_command::RunAlone;
 use ultra_board::Seat;
 use ultra_sweep::{Job, JobGate, JobResult};
+use ultra_sweep_command::RunAlone;
 
 /// A gate at which the runs of jobs 0 and 1 meet: each raises a flag and waits for the other's,
 /// 10,000,000 turns at most.

@@ -5,7 +5,7 @@ use crate::sweeps::sweep_alone;
 use std::alloc::Global;
 use std::process::Abort;
 use std::test::Fail;
-use ultra_sweep::{GatherFault, JobResult, Outcome, gather};
+use ultra_sweep::{GatherFault, JobOutcome, JobResult, gather};
 
 /// Asserts that the results of `count` jobs are refused with this fault.
 fn check_refused<R: Abort + AllocGlobal>(
@@ -43,8 +43,8 @@ fn result(alloc: Global, number: u64, has_trace: bool) -> JobResult {
     JobResult {
         number,
         outcome: match has_trace {
-            true => Outcome::Trace(Vec::new(alloc)),
-            false => Outcome::NoMemory,
+            true => JobOutcome::Trace(Vec::new(alloc)),
+            false => JobOutcome::NoMemory,
         },
     }
 }

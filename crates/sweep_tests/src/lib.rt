@@ -13,6 +13,6 @@ mod gathers;
 #[cfg(test)]
 mod jobs;
 #[cfg(test)]
-mod sweeps;
+mod memory_sink;
 #[cfg(test)]
-mod trays;
+mod sweeps;

@@ -5,15 +5,15 @@ ghost use Rattle.std.specs.Prelude.{◌≡◌};
 use crate::boards::split;
 use crate::gates::{Counter, Meeting};
 use crate::jobs::two_jobs;
-use crate::trays::Tray;
+use crate::memory_sink::MemorySink;
 use std::process::Abort;
 use std::sync::Wait;
 use std::sync::atomic::Ordering;
 use std::test::Fail;
 use std::thread::{self, Threads};
-use sweep_command::RunAlone;
 use ultra_board::Board;
 use ultra_sweep::{Job, JobGate, JobResult, WorkFault, gather, report, work};
+use ultra_sweep_command::RunAlone;
 
 /// The report of a job that halts at once, and of one in which two processing elements add 1 each
 /// to cell 0.
@@ -95,7 +95,7 @@ fn together(
 /// Asserts that the results of the two jobs make their report.
 fn check_report<R: Abort + AllocGlobal>(rt: &R, results: Vec<JobResult>) -> Result<(), Fail> {
     let gathered = gather(rt.alloc(), 2, results)?;
-    let mut out = Tray::failing_after(rt, usize::MAX);
+    let mut out = MemorySink::failing_after(rt, usize::MAX);
     report(&gathered, &mut out)?;
     assert_eq!(rt; out.text()?, REPORT);
     Ok(())
@@ -139,7 +139,7 @@ fn report_into_a_failing_sink(rt: HostRuntime) -> Result<(), Fail> {
     let jobs = two_jobs(rt.alloc())?;
     let gathered = gather(rt.alloc(), 2, sweep_alone(&rt, jobs.as_slice())?)?;
     for count in 0..20 {
-        let mut out = Tray::failing_after(&rt, count);
+        let mut out = MemorySink::failing_after(&rt, count);
         assert!(rt; report(&gathered, &mut out).is_err(), "after {count}");
         assert!(rt; REPORT.starts_with(out.text()?), "after {count}");
     }

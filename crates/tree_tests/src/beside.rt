@@ -2,15 +2,15 @@
 
 use crate::events::{explainer, settings};
 use crate::heaps::bytes_after;
-use crate::trays::Tray;
+use crate::memory_sink::MemorySink;
 use linked_list_allocator::LocalHeap;
 use std::alloc::Allocator;
 use std::process::Abort;
 use std::test::Fail;
 use ultra_block::Blocks;
 use ultra_isa::{Instr, Program};
-use ultra_lines::write_cycle;
 use ultra_msg::{Event, Register};
+use ultra_trace_text::write_cycle;
 use ultra_tree::{ExplainFault, Explainer};
 
 /// The cycles in which each of four processing elements adds its number and 1 to cell 0.
@@ -118,7 +118,11 @@ fn has_refused<A: Allocator + Clone>(
 }
 
 /// Makes a cycle, and writes its lines.
-fn make_cycle<R: Abort>(rt: &R, blocks: &mut Blocks, out: &mut Tray<'_, R>) -> Result<(), Fail> {
+fn make_cycle<R: Abort>(
+    rt: &R,
+    blocks: &mut Blocks,
+    out: &mut MemorySink<'_, R>,
+) -> Result<(), Fail> {
     assert!(rt; blocks.done() < 10);
     blocks.cycle();
     assert!(rt; blocks.done() > 0);
@@ -130,7 +134,7 @@ fn run_beside<R: Abort, A: Allocator + Clone>(
     rt: &R,
     blocks: &mut Blocks,
     explainer: &mut Explainer<A>,
-    out: &mut Tray<'_, R>,
+    out: &mut MemorySink<'_, R>,
 ) -> Result<(), Fail> {
     for cycle in 0..10 {
         make_cycle(rt, blocks, out)?;
@@ -149,7 +153,7 @@ fn explainer_without_memory(rt: HostRuntime) -> Result<(), Fail> {
     let mut blocks = machine(&rt)?;
     let heap = LocalHeap::new(rt.alloc(), bytes_after(&rt, 0))?;
     let mut explainer = explainer(&rt, &heap);
-    let mut out = Tray::new(&rt, usize::MAX);
+    let mut out = MemorySink::new(&rt, usize::MAX);
     run_beside(&rt, &mut blocks, &mut explainer, &mut out)?;
     assert_eq!(&rt; out.bytes(), TWO_LEVEL_TREE.as_bytes());
     Ok(())

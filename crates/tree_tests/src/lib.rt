@@ -10,6 +10,6 @@ mod heaps;
 #[cfg(test)]
 mod high;
 #[cfg(test)]
-mod trays;
+mod memory_sink;
 #[cfg(test)]
 mod trees;

@@ -1,7 +1,7 @@
 //! The tree of a worked run, and which events an explainer accepts.
 
 use crate::events::{absorb, absorb_all, all_combined, explainer, issue, meeting, serve, serving};
-use crate::trays::Tray;
+use crate::memory_sink::MemorySink;
 use linked_list_allocator::LocalHeap;
 use std::alloc::Allocator;
 use std::process::Abort;
@@ -44,9 +44,9 @@ fn check_leaves<R: Abort + AllocGlobal, A: Allocator>(
 
 /// Asserts that a tree is written as this text, into a sink that takes all.
 fn check_text<R: Abort + AllocGlobal, A: Allocator>(rt: &R, tree: &Tree<A>, wanted: &[u8]) {
-    let mut tray = Tray::new(rt, usize::MAX);
-    assert!(rt; write_tree(tree, &mut tray).is_ok());
-    assert_eq!(rt; tray.bytes(), wanted);
+    let mut sink = MemorySink::new(rt, usize::MAX);
+    assert!(rt; write_tree(tree, &mut sink).is_ok());
+    assert_eq!(rt; sink.bytes(), wanted);
 }
 
 /// Asserts that of a tree this beginning is written into a sink that fails after this many writes.
@@ -56,10 +56,10 @@ fn check_beginning<R: Abort + AllocGlobal, A: Allocator>(
     sound_writes: usize,
     wanted: &[u8],
 ) {
-    let mut tray = Tray::new(rt, sound_writes);
-    assert_eq!(rt; write_tree(tree, &mut tray), Err(SinkFault));
-    assert_eq!(rt; tray.bytes(), wanted);
-    assert_eq!(rt; tray.failures, 1);
+    let mut sink = MemorySink::new(rt, sound_writes);
+    assert_eq!(rt; write_tree(tree, &mut sink), Err(SinkFault));
+    assert_eq!(rt; sink.bytes(), wanted);
+    assert_eq!(rt; sink.failures, 1);
 }
 
 /// The tree is held under its first request alone, and its act gives it away with its memory.

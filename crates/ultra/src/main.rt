@@ -2,17 +2,17 @@
 #![tactic(auto)]
 
 ghost use Rattle.std.specs.Prelude.{◌≡◌, ◌≢◌, ◌+◌, IfOk, OnErr};
-ghost use Rattle.ultra_command_line.specs.declared.Parsed.{Parsed};
+ghost use Rattle.ultra_args.specs.declared.Parsed.{Parsed};
 ghost use Rattle.ultra_inputs.specs.Traffic.{traffic};
 ghost use Rattle.ultra_inputs.specs.Shown.{stream};
-ghost use Rattle.ultra_cli.specs.Outcome.{status_failures, IsRefusal, IsStatus, Obeyed, Failed};
+ghost use Rattle.ultra_commands.specs.Outcome.{status_failures, IsRefusal, IsStatus, Obeyed, Failed};
 
 use std::env::Env;
 use std::process::ExitCode;
 use std::sync::Wait;
 use std::thread::Threads;
 use std::{env, io};
-use ultra_cli::main_with;
+use ultra_commands::main_with;
 use ultra_inputs::{give_up, no_words};
 use ultra_io::{FileSource, Source, Stream};
 use ultra_msg::Sink;

@@ -13,59 +13,59 @@ use Rattle.ultra_asm.specs.declared.labels.Definition.{Definition}
 use Rattle.ultra_asm.specs.declared.instruction.Operand.{Operand}
 use Rattle.ultra_asm.specs.declared.instruction.Operand.TheVariants as operand
 use Rattle.ultra_asm.specs.Words.{before_colon, is_name}
-use Rattle.ultra_asm.specs.Labels.{statement, definition_of, near_definition_of, place_of, is_defined_before, near_place}
+use Rattle.ultra_asm.specs.Labels.{statement, definition_of, near_definition_of, label_pc, is_defined_before, near_pc}
 use Rattle.ultra_asm.specs.Instruction.{operands_of}
 use Rattle.ultra_asm.specs.ProgramText.{IsOperand, AreOperands, IsInstruction, AreInstructions, has_words, statements, line_at, IsNewLabel, IsLabelled, AreLinesOf, fault_if, or_else, statement_fault, label_fault, first_word_fault, line_fault, IsFirstFault}
-use Rattle.ultra_asm.specs.Reading.{Places, read_line}
+use Rattle.ultra_asm.specs.Reading.{LabelPcs, read_line}
 use Rattle.ultra_asm.proofs.Operands.{fault_in}
-use Rattle.ultra_asm.proofs.Definitions.{Lines, statements-append, place_within, near_twice, near_is}
+use Rattle.ultra_asm.proofs.Definitions.{Lines, statements-append, pc_within, near_twice, near_is}
 use Rattle.ultra_asm.proofs.Lines.{line_is, line_fault_is, line_has_room, no_fault, instruction_same}
 
 -- ---- the instructions of statements, one after another
-module _ (places : Places) where
-  pub instructions_append : (ss ts : Lines) (is js : List Instr) → AreInstructions places ss is → AreInstructions places ts js → AreInstructions places (ss ++ ts) (is ++ js)
+module _ (pcs : LabelPcs) where
+  pub instructions_append : (ss ts : Lines) (is js : List Instr) → AreInstructions pcs ss is → AreInstructions pcs ts js → AreInstructions pcs (ss ++ ts) (is ++ js)
   instructions_append [] ts [] js h k = k
   instructions_append [] ts (i ∷ is) js h k = absurd h
   instructions_append (s ∷ ss) ts [] js h k = absurd h
   instructions_append (s ∷ ss) ts (i ∷ is) js h k = (h.0, instructions_append ss ts is js h.1 k)
 
-  pub instructions_length : (ss : Lines) (is : List Instr) → AreInstructions places ss is → length ss ≡ length is
+  pub instructions_length : (ss : Lines) (is : List Instr) → AreInstructions pcs ss is → length ss ≡ length is
   instructions_length [] [] h = refl
   instructions_length [] (i ∷ is) h = absurd h
   instructions_length (s ∷ ss) [] h = absurd h
   instructions_length (s ∷ ss) (i ∷ is) h = ap suc (instructions_length ss is h.1)
 
   -- they are the only ones
-  pub instructions_same : (ss : Lines) (is js : List Instr) → AreInstructions places ss is → AreInstructions places ss js → is ≡ js
+  pub instructions_same : (ss : Lines) (is js : List Instr) → AreInstructions pcs ss is → AreInstructions pcs ss js → is ≡ js
   instructions_same [] [] [] h k = refl
   instructions_same [] [] (j ∷ js) h k = absurd k
   instructions_same [] (i ∷ is) js h k = absurd h
   instructions_same (s ∷ ss) [] js h k = absurd h
   instructions_same (s ∷ ss) (i ∷ is) [] h k = absurd k
   instructions_same (s ∷ ss) (i ∷ is) (j ∷ js) h k =
-      let first = instruction_same places s i j h.0 k.0 in
+      let first = instruction_same pcs s i j h.0 k.0 in
       let rest = instructions_same ss is js h.1 k.1 in
       cc
 
-  pub instructions_rest : (ss ts : Lines) (is : List Instr) → AreInstructions places (ss ++ ts) is → AreInstructions places ts (drop (length ss) is)
+  pub instructions_rest : (ss ts : Lines) (is : List Instr) → AreInstructions pcs (ss ++ ts) is → AreInstructions pcs ts (drop (length ss) is)
   instructions_rest [] ts is h = h
   instructions_rest (s ∷ ss) ts [] h = absurd h
   instructions_rest (s ∷ ss) ts (i ∷ is) h = instructions_rest ss ts is h.1
 
   -- ---- where their jumps go
-  label_within : (n k : ℕ) (ws : List (List ℕ)) → ((w : List ℕ) (j : ℕ) → places w ≡ Some j → j ≤ n) → AreOperands places (operand.Label k ∷ []) ws → k ≤ n
+  label_within : (n k : ℕ) (ws : List (List ℕ)) → ((w : List ℕ) (j : ℕ) → pcs w ≡ Some j → j ≤ n) → AreOperands pcs (operand.Label k ∷ []) ws → k ≤ n
   label_within n k [] all h = absurd h
   label_within n k (w ∷ ws) all h = all w k h.0
 
-  behind_first : (o : Operand) (os : List Operand) (ws : List (List ℕ)) → AreOperands places (o ∷ os) ws → (vs : List (List ℕ)) × AreOperands places os vs
+  behind_first : (o : Operand) (os : List Operand) (ws : List (List ℕ)) → AreOperands pcs (o ∷ os) ws → (vs : List (List ℕ)) × AreOperands pcs os vs
   behind_first o os [] h = absurd h
   behind_first o os (w ∷ ws) h = (ws, h.1)
 
-  module _ (n : ℕ) (all : (w : List ℕ) (j : ℕ) → places w ≡ Some j → j ≤ n) where
-    second_within : (a k : ℕ) (ws : List (List ℕ)) → AreOperands places (operand.Register a ∷ operand.Label k ∷ []) ws → k ≤ n
+  module _ (n : ℕ) (all : (w : List ℕ) (j : ℕ) → pcs w ≡ Some j → j ≤ n) where
+    second_within : (a k : ℕ) (ws : List (List ℕ)) → AreOperands pcs (operand.Register a ∷ operand.Label k ∷ []) ws → k ≤ n
     second_within a k ws h = let (vs, r) = behind_first (operand.Register a) (operand.Label k ∷ []) ws h in label_within n k vs all r
 
-    operands_within : (ws : List (List ℕ)) (i : Instr) → AreOperands places (operands_of i) ws → IsTrue (jumps_within n i)
+    operands_within : (ws : List (List ℕ)) (i : Instr) → AreOperands pcs (operands_of i) ws → IsTrue (jumps_within n i)
     operands_within ws (instr.Set d m) h = refl
     operands_within ws (instr.Add d a b) h = refl
     operands_within ws (instr.AddWord d a m) h = refl
@@ -86,18 +86,18 @@ module _ (places : Places) where
     operands_within ws instr.Fence h = refl
     operands_within ws instr.Halt h = refl
 
-    instruction_within : (s : List (List ℕ)) (i : Instr) → IsInstruction places s i → IsTrue (jumps_within n i)
+    instruction_within : (s : List (List ℕ)) (i : Instr) → IsInstruction pcs s i → IsTrue (jumps_within n i)
     instruction_within [] i h = absurd h
     instruction_within (w ∷ ws) i h = operands_within ws i h.1
 
-    pub instructions_within : (ss : Lines) (is : List Instr) → AreInstructions places ss is → IsTrue (all_jump_within n is)
+    pub instructions_within : (ss : Lines) (is : List Instr) → AreInstructions pcs ss is → IsTrue (all_jump_within n is)
     instructions_within [] [] h = refl
     instructions_within [] (i ∷ is) h = absurd h
     instructions_within (s ∷ ss) [] h = absurd h
     instructions_within (s ∷ ss) (i ∷ is) h = and_from _ _ (instruction_within s i h.0) (instructions_within ss is h.1)
 
--- the places of labels may be said in another way
-module _ (p q : Places) (same : (w : List ℕ) → p w ≡ q w) where
+-- the program counters of labels may be said in another way
+module _ (p q : LabelPcs) (same : (w : List ℕ) → p w ≡ q w) where
   operand_at : (o : Operand) (w : List ℕ) → IsOperand p o w → IsOperand q o w
   operand_at (operand.Register r) w h = h
   operand_at (operand.Number n) w h = h
@@ -160,19 +160,19 @@ module _ (ls : Lines) (is : List Instr) (m : AreLinesOf ls is) where
   line_split k lt =
       ap statements (sym (take-append-drop k ls)) ∙ (statements-append (take k ls) (drop k ls) ∙ ap (λ (ms : Lines). statements (take k ls) ++ statements ms) (drop_more ls k [] lt) ∙ ap (λ (ms : Lines). statements (take k ls) ++ ms) (statements-append (line_at ls k ∷ []) (drop (k + 1) ls)))
 
-  statement_good : (n : ℕ) (s : List (List ℕ)) (ts : Lines) (js : List Instr) → n + length js ≤ 4096 → AreInstructions (place_of ls) (filter has_words (s ∷ []) ++ ts) js → statement_fault (place_of ls) n s ≡ None
+  statement_good : (n : ℕ) (s : List (List ℕ)) (ts : Lines) (js : List Instr) → n + length js ≤ 4096 → AreInstructions (label_pc ls) (filter has_words (s ∷ []) ++ ts) js → statement_fault (label_pc ls) n s ≡ None
   statement_good n [] ts js few h = refl
   statement_good n (w ∷ ws) ts [] few h = absurd h
-  statement_good n (w ∷ ws) ts (j ∷ js) few h = no_fault (place_of ls) n (w ∷ ws) j (omega arith) h.0
+  statement_good n (w ∷ ws) ts (j ∷ js) few h = no_fault (label_pc ls) n (w ∷ ws) j (omega arith) h.0
 
   -- none of its lines has a fault
   pub faultless : (k : ℕ) → k < length ls → line_fault ls k ≡ None
   faultless k lt =
       let n = length (statements (take k ls)) in
       let after = filter has_words (statement (line_at ls k) ∷ []) ++ statements (drop (k + 1) ls) in
-      let all : AreInstructions (place_of ls) (statements (take k ls) ++ after) is = rw (line_split k lt) at m.instructions in
-      let rest = instructions_rest (place_of ls) (statements (take k ls)) after is all in
-      let count = instructions_length (place_of ls) (statements (take k ls) ++ after) is all in
+      let all : AreInstructions (label_pc ls) (statements (take k ls) ++ after) is = rw (line_split k lt) at m.instructions in
+      let rest = instructions_rest (label_pc ls) (statements (take k ls)) after is all in
+      let count = instructions_length (label_pc ls) (statements (take k ls) ++ after) is all in
       let short = m.short in
       let few : n + length (drop n is) ≤ 4096 = omega (arith, length-append (statements (take k ls)) after, length-drop n is) in
       rw (labelled_back ls k (line_at ls k) (m.labels k lt), statement_good n (statement (line_at ls k)) (statements (drop (k + 1) ls)) (drop n is) few rest) refl
@@ -186,12 +186,12 @@ module _ (ls : Lines) (is : List Instr) (m : AreLinesOf ls is) where
 
   -- it is the text of no other program
   pub only : (js : List Instr) → AreLinesOf ls js → js ≡ is
-  only js n = instructions_same (place_of ls) (statements ls) js is n.instructions m.instructions
+  only js n = instructions_same (label_pc ls) (statements ls) js is n.instructions m.instructions
 
 -- ---- the instructions of the first k lines, where these have no fault
 module _ (ls : Lines) (defined : List ℕ → Option Definition) where
-  abbrev pub near : Places
-  near w = option_map near_place (defined w)
+  abbrev pub near : LabelPcs
+  near w = option_map near_pc (defined w)
 
   pub record IsSoFar (k : ℕ) (is : List Instr) : Type 0 where
     pub instructions : AreInstructions near (statements (take k ls)) is
@@ -249,20 +249,20 @@ module _ (ls : Lines) (defined : List ℕ → Option Definition) where
     few : length (statements ls) ≤ 4096
     few = let s = m.short in omega (arith, instructions_length near (statements ls) is all)
 
-    true_places : (w : List ℕ) → near w ≡ place_of ls w
-    true_places w = ap (option_map near_place) (table w) ∙ near_twice (definition_of ls w) ∙ near_is ls w few
+    true_pcs : (w : List ℕ) → near w ≡ label_pc ls w
+    true_pcs w = ap (option_map near_pc) (table w) ∙ near_twice (definition_of ls w) ∙ near_is ls w few
 
-    at_places : AreInstructions (place_of ls) (statements ls) is
-    at_places = instructions_at near (place_of ls) true_places (statements ls) is all
+    at_pcs : AreInstructions (label_pc ls) (statements ls) is
+    at_pcs = instructions_at near (label_pc ls) true_pcs (statements ls) is all
 
     pub so_far_all : AreLinesOf ls is
     so_far_all = record {
       labels = λ j lt. labelled ls j (line_at ls j) (none_first _ _ (m.faultless_lines j (omega arith)));
-      instructions = at_places;
+      instructions = at_pcs;
       short = m.short;
     }
 
     pub so_far_program : IsTrue (is_program is)
     so_far_program =
-        let count = instructions_length (place_of ls) (statements ls) is at_places in
-        and_from _ _ (le-leb _ _ m.short) (instructions_within (place_of ls) (length is) (λ w j h. omega (arith, place_within ls w j h)) (statements ls) is at_places)
+        let count = instructions_length (label_pc ls) (statements ls) is at_pcs in
+        and_from _ _ (le-leb _ _ m.short) (instructions_within (label_pc ls) (length is) (λ w j h. omega (arith, pc_within ls w j h)) (statements ls) is at_pcs)

@@ -8,11 +8,11 @@ use Rattle.std.proofs.lemmas.List.{take_all}
 use Rattle.std.proofs.lemmas.List.Elements.{All-nil, All-push, All-weaker}
 use Rattle.ultra_asm.specs.declared.labels.Definition.{Definition}
 use Rattle.ultra_asm.specs.declared.labels.Label.{Label}
-use Rattle.ultra_asm.specs.Label.{has_name, place_at, AreInOrder}
+use Rattle.ultra_asm.specs.Label.{has_name, pc_at, AreInOrder}
 use Rattle.ultra_asm.specs.Labels.{line_label, definition_of, near_definition, near_definition_of}
 use Rattle.ultra_asm.proofs.Definitions.{Lines, first_of, definition_at, definition_next, first_none}
 use Rattle.ultra_asm.proofs.InOrder.{AreInTurn, turns_push, turns_in_order, same_first}
-use Rattle.ultra_asm.proofs.InstructionLines.{AreInstructionLines, count, definition_placed, place_is}
+use Rattle.ultra_asm.proofs.InstructionLines.{AreInstructionLines, count, definition_placed, pc_is}
 
 -- the line of the first label of a name
 abbrev pub found : List ℕ → List Label → Option ℕ
@@ -32,9 +32,9 @@ found_push q (l ∷ xs) m = elim (cases_Bool (has_name q l)) [
   | inr n ↦ rw n (found_push q xs m)
 ]
 
-line_at : (line place : ℕ) (b : Bool) → cond b (Some line) None ≡ line_of (cond b (Some (record { line = line; place = place })) None)
-line_at line place true = refl
-line_at line place false = refl
+line_at : (line pc : ℕ) (b : Bool) → cond b (Some line) None ≡ line_of (cond b (Some (record { line = line; pc = pc })) None)
+line_at line pc true = refl
+line_at line pc false = refl
 
 line_first : (d e : Option Definition) → option_or (line_of d) (line_of e) ≡ line_of (first_of d e)
 line_first None e = refl
@@ -81,7 +81,7 @@ module _ (ls : Lines) (k : ℕ) (xs : List Label) (lt : k < length ls) (are : Ar
 -- ---- all lines, and the labels in order
 -- the definition on a line, where these are the lines of instructions
 abbrev pub on_line : List ℕ → ℕ → Definition
-on_line is n = record { line = n; place = place_at is n }
+on_line is n = record { line = n; pc = pc_at is n }
 
 on_its_line : (is : List ℕ) (o : Option Label) → option_map (λ l. on_line is l.line) o ≡ option_map (on_line is) (option_map (λ l. l.line) o)
 on_its_line is None = refl
@@ -94,10 +94,10 @@ module _ (ls : Lines) (k : ℕ) (is : List ℕ) (all : length ls ≤ k) (lines :
       let p = definition_placed 0 0 ls q d e in
       let within = p.within in
       let on : p.on ≡ d.line = let l = p.lines in omega arith in
-      let before : d.place ≡ count ls d.line = (let n = p.places in let zero_more : 0 + count ls p.on ≡ count ls p.on = omega arith in n ∙ zero_more) ∙ ap (count ls) on in
-      let place : place_at is d.line ≡ min d.place 4096 = place_is ls k is all lines d.line (omega arith) ∙ ap (λ n. min n 4096) (sym before) in
-      let there : ℕ → Option Definition = λ n. Some (record { line = d.line; place = n }) in
-      ap there place
+      let before : d.pc ≡ count ls d.line = (let n = p.pcs in let zero_more : 0 + count ls p.on ≡ count ls p.on = omega arith in n ∙ zero_more) ∙ ap (count ls) on in
+      let pc : pc_at is d.line ≡ min d.pc 4096 = pc_is ls k is all lines d.line (omega arith) ∙ ap (λ n. min n 4096) (sym before) in
+      let there : ℕ → Option Definition = λ n. Some (record { line = d.line; pc = n }) in
+      ap there pc
 
   pub in_order_found : (xs ys : List Label) → AreOfLines ls k xs → IsPermutation xs ys → AreInOrder ys → option_map (λ l. on_line is l.line) (find (has_name q) ys) ≡ near_definition_of ls q
   in_order_found xs ys are moved up =

@@ -5,7 +5,7 @@ use Rattle.std.proofs.lemmas.List.Elements.{filter-append}
 use Rattle.std.proofs.lemmas.Bool.{cases_Bool, lt-ltb, le-ltb}
 use Rattle.std.proofs.lemmas.List.{take-append-drop, length-take-le, take_more, map-append, length-append}
 use Rattle.ultra_asm.specs.declared.labels.Definition.{Definition}
-use Rattle.ultra_asm.specs.Labels.{statement, line_label, is_named, one_or_none, instructions_on, defines, definition_from, definition_of, place_of, is_defined_before, near_place, near_place_of, near_definition}
+use Rattle.ultra_asm.specs.Labels.{statement, line_label, is_label_named, one_or_none, instructions_on, defines, definition_from, definition_of, label_pc, is_defined_before, near_pc, near_pc_of, near_definition}
 use Rattle.ultra_asm.specs.ProgramText.{statements, has_words}
 
 abbrev pub Lines : Type 0
@@ -24,43 +24,43 @@ kept_one (w ∷ ws) ss = omega arith
 pub count_cons : (ws : List (List ℕ)) (ls : Lines) → length (statements (ws ∷ ls)) ≡ instructions_on ws + length (statements ls)
 count_cons ws ls = kept_one (statement ws) (statements ls)
 
-pub definition_append : (line place : ℕ) (ls ms : Lines) (name : List ℕ) → definition_from line place (ls ++ ms) name ≡ first_of (definition_from line place ls name) (definition_from (line + length ls) (place + length (statements ls)) ms name)
-definition_append line place [] ms name =
+pub definition_append : (line pc : ℕ) (ls ms : Lines) (name : List ℕ) → definition_from line pc (ls ++ ms) name ≡ first_of (definition_from line pc ls name) (definition_from (line + length ls) (pc + length (statements ls)) ms name)
+definition_append line pc [] ms name =
     let l : line + 0 ≡ line = omega arith in
-    let p : place + 0 ≡ place = omega arith in
+    let p : pc + 0 ≡ pc = omega arith in
     rw (l, p) refl
-definition_append line place (ws ∷ ls) ms name = elim (cases_Bool (defines ws name)) [
+definition_append line pc (ws ∷ ls) ms name = elim (cases_Bool (defines ws name)) [
   | inl t ↦ rw t refl
   | inr f ↦
       let l : line + 1 + length ls ≡ line + length (ws ∷ ls) = omega arith in
-      let p : place + instructions_on ws + length (statements ls) ≡ place + length (statements (ws ∷ ls)) = omega (arith, count_cons ws ls) in
-      rw f (definition_append (line + 1) (place + instructions_on ws) ls ms name ∙ ap (λ e. first_of (definition_from (line + 1) (place + instructions_on ws) ls name) e) (ap (λ k. definition_from k (place + instructions_on ws + length (statements ls)) ms name) l ∙ ap (λ k. definition_from (line + length (ws ∷ ls)) k ms name) p))
+      let p : pc + instructions_on ws + length (statements ls) ≡ pc + length (statements (ws ∷ ls)) = omega (arith, count_cons ws ls) in
+      rw f (definition_append (line + 1) (pc + instructions_on ws) ls ms name ∙ ap (λ e. first_of (definition_from (line + 1) (pc + instructions_on ws) ls name) e) (ap (λ k. definition_from k (pc + instructions_on ws + length (statements ls)) ms name) l ∙ ap (λ k. definition_from (line + length (ws ∷ ls)) k ms name) p))
 ]
 
 -- where a definition can be
-pub record IsWithin (line place : ℕ) (ls : Lines) (d : Definition) : Type 0 where
+pub record IsWithin (line pc : ℕ) (ls : Lines) (d : Definition) : Type 0 where
   pub from : line ≤ d.line
   pub to : d.line < line + length ls
-  pub by : d.place ≤ place + length (statements ls)
+  pub by : d.pc ≤ pc + length (statements ls)
 
-within_next : (line place : ℕ) (ws : List (List ℕ)) (ls : Lines) (d : Definition) → IsWithin (line + 1) (place + instructions_on ws) ls d → IsWithin line place (ws ∷ ls) d
-within_next line place ws ls d w =
+within_next : (line pc : ℕ) (ws : List (List ℕ)) (ls : Lines) (d : Definition) → IsWithin (line + 1) (pc + instructions_on ws) ls d → IsWithin line pc (ws ∷ ls) d
+within_next line pc ws ls d w =
     let from = w.from in
     let to = w.to in
     let at = w.by in
     record { from = omega arith; to = omega arith; by = omega (arith, count_cons ws ls) }
 
-within_here : (line place : ℕ) (ws : List (List ℕ)) (ls : Lines) (d : Definition) → Some (record { line = line; place = place }) ≡ Some d → IsWithin line place (ws ∷ ls) d
-within_here line place ws ls d h =
+within_here : (line pc : ℕ) (ws : List (List ℕ)) (ls : Lines) (d : Definition) → Some (record { line = line; pc = pc }) ≡ Some d → IsWithin line pc (ws ∷ ls) d
+within_here line pc ws ls d h =
     let at : d.line ≡ line = cc in
-    let near : d.place ≡ place = cc in
+    let near : d.pc ≡ pc = cc in
     record { from = omega arith; to = omega arith; by = omega arith }
 
-pub definition_within : (line place : ℕ) (ls : Lines) (name : List ℕ) (d : Definition) → definition_from line place ls name ≡ Some d → IsWithin line place ls d
-definition_within line place [] name d h = absurd cc
-definition_within line place (ws ∷ ls) name d h = elim (cases_Bool (defines ws name)) [
-  | inl t ↦ within_here line place ws ls d (rw t at h)
-  | inr f ↦ within_next line place ws ls d (definition_within (line + 1) (place + instructions_on ws) ls name d (rw f at h))
+pub definition_within : (line pc : ℕ) (ls : Lines) (name : List ℕ) (d : Definition) → definition_from line pc ls name ≡ Some d → IsWithin line pc ls d
+definition_within line pc [] name d h = absurd cc
+definition_within line pc (ws ∷ ls) name d h = elim (cases_Bool (defines ws name)) [
+  | inl t ↦ within_here line pc ws ls d (rw t at h)
+  | inr f ↦ within_next line pc ws ls d (definition_within (line + 1) (pc + instructions_on ws) ls name d (rw f at h))
 ]
 
 -- the definitions of a text, by those of its first lines
@@ -76,41 +76,41 @@ abbrev pub is_before : ℕ → Option Definition → Bool
 is_before k None = false
 is_before k (Some d) = nat_lt d.line k
 
-before_later : (k place : ℕ) (ls : Lines) (name : List ℕ) (e : Option Definition) → definition_from k place ls name ≡ e → is_before k e ≡ false
-before_later k place ls name None h = refl
-before_later k place ls name (Some d) h = le-ltb _ _ (definition_within k place ls name d h).from
+before_later : (k pc : ℕ) (ls : Lines) (name : List ℕ) (e : Option Definition) → definition_from k pc ls name ≡ e → is_before k e ≡ false
+before_later k pc ls name None h = refl
+before_later k pc ls name (Some d) h = le-ltb _ _ (definition_within k pc ls name d h).from
 
-before_either : (k : ℕ) (ls ms : Lines) (place : ℕ) (name : List ℕ) (d : Option Definition) → length ls ≡ k → definition_of ls name ≡ d → is_before k (first_of d (definition_from k place ms name)) ≡ is_some d
-before_either k ls ms place name None n h = before_later k place ms name (definition_from k place ms name) refl
-before_either k ls ms place name (Some d) n h = lt-ltb _ _ (let to = (definition_within 0 0 ls name d h).to in omega arith)
+before_either : (k : ℕ) (ls ms : Lines) (pc : ℕ) (name : List ℕ) (d : Option Definition) → length ls ≡ k → definition_of ls name ≡ d → is_before k (first_of d (definition_from k pc ms name)) ≡ is_some d
+before_either k ls ms pc name None n h = before_later k pc ms name (definition_from k pc ms name) refl
+before_either k ls ms pc name (Some d) n h = lt-ltb _ _ (let to = (definition_within 0 0 ls name d h).to in omega arith)
 
 pub before_is : (ls : Lines) (k : ℕ) (name : List ℕ) → k ≤ length ls → is_before k (definition_of ls name) ≡ is_defined_before ls k name
 before_is ls k name h =
     ap (is_before k) (first_lines ls k name h) ∙ before_either k (take k ls) (drop k ls) (length (statements (take k ls))) name (definition_of (take k ls) name) (length-take-le k ls h) refl
 
--- ---- places
-place_in : (ls : Lines) (name : List ℕ) (k : ℕ) (d : Option Definition) → definition_of ls name ≡ d → option_map (λ e. e.place) d ≡ Some k → k ≤ length (statements ls)
-place_in ls name k None h e = absurd cc
-place_in ls name k (Some d) h e = let same : d.place ≡ k = cc in omega (arith, (definition_within 0 0 ls name d h).by)
+-- ---- program counters
+pc_in : (ls : Lines) (name : List ℕ) (k : ℕ) (d : Option Definition) → definition_of ls name ≡ d → option_map (λ e. e.pc) d ≡ Some k → k ≤ length (statements ls)
+pc_in ls name k None h e = absurd cc
+pc_in ls name k (Some d) h e = let same : d.pc ≡ k = cc in omega (arith, (definition_within 0 0 ls name d h).by)
 
-pub place_within : (ls : Lines) (name : List ℕ) (k : ℕ) → place_of ls name ≡ Some k → k ≤ length (statements ls)
-place_within ls name k e = place_in ls name k (definition_of ls name) refl e
+pub pc_within : (ls : Lines) (name : List ℕ) (k : ℕ) → label_pc ls name ≡ Some k → k ≤ length (statements ls)
+pc_within ls name k e = pc_in ls name k (definition_of ls name) refl e
 
-near_in : (ls : Lines) (name : List ℕ) (d : Option Definition) → length (statements ls) ≤ 4096 → definition_of ls name ≡ d → option_map near_place d ≡ option_map (λ e. e.place) d
+near_in : (ls : Lines) (name : List ℕ) (d : Option Definition) → length (statements ls) ≤ 4096 → definition_of ls name ≡ d → option_map near_pc d ≡ option_map (λ e. e.pc) d
 near_in ls name None short h = refl
 near_in ls name (Some d) short h =
     let at = (definition_within 0 0 ls name d h).by in
-    let same : min d.place 4096 ≡ d.place = omega arith in
+    let same : min d.pc 4096 ≡ d.pc = omega arith in
     ap Some same
 
--- in a text that isn't too long all places are near
-pub near_is : (ls : Lines) (name : List ℕ) → length (statements ls) ≤ 4096 → near_place_of ls name ≡ place_of ls name
+-- in a text that isn't too long all program counters are near
+pub near_is : (ls : Lines) (name : List ℕ) → length (statements ls) ≤ 4096 → near_pc_of ls name ≡ label_pc ls name
 near_is ls name short = near_in ls name (definition_of ls name) short refl
 
--- near places are near already
-pub near_twice : (d : Option Definition) → option_map near_place (option_map near_definition d) ≡ option_map near_place d
+-- near program counters are near already
+pub near_twice : (d : Option Definition) → option_map near_pc (option_map near_definition d) ≡ option_map near_pc d
 near_twice None = refl
-near_twice (Some d) = let same : min (min d.place 4096) 4096 ≡ min d.place 4096 = omega arith in ap Some same
+near_twice (Some d) = let same : min (min d.pc 4096) 4096 ≡ min d.pc 4096 = omega arith in ap Some same
 
 -- ---- one more line
 pub statements-append : (ls ms : Lines) → statements (ls ++ ms) ≡ statements ls ++ statements ms
@@ -125,7 +125,7 @@ count_next ls k h =
 
 -- the definition on one line
 abbrev pub definition_at : ℕ → ℕ → Option (List ℕ) → List ℕ → Option Definition
-definition_at line place label name = cond (is_named label name) (Some (record { line = line; place = place })) None
+definition_at line pc label name = cond (is_label_named label name) (Some (record { line = line; pc = pc })) None
 
 pub definition_next : (ls : Lines) (k : ℕ) (name : List ℕ) → k < length ls → definition_of (take (k + 1) ls) name ≡ first_of (definition_of (take k ls) name) (definition_at k (length (statements (take k ls))) (line_label (get_or ls k [])) name)
 definition_next ls k name h =

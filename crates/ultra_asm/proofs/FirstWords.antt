@@ -5,9 +5,9 @@ use Rattle.ultra_asm.specs.declared.labels.Definition.{Definition}
 use Rattle.ultra_asm.specs.declared.instruction.Mnemonic.{Mnemonic}
 use Rattle.ultra_asm.specs.declared.instruction.Mnemonic.TheVariants.{Set, Add, AddWord, Subtract, And, ShiftRight, IsBelow, IsEqual, JumpIfZero, JumpIfNotZero, Jump, Number, Size, Load, Store, Faa, Swap, Fence, Halt}
 use Rattle.std.specs.Option.{option_map}
-use Rattle.ultra_asm.specs.Labels.{line_label, after_label, instructions_on, one_or_none, near_place, word_label}
+use Rattle.ultra_asm.specs.Labels.{line_label, after_label, instructions_on, one_or_none, near_pc, word_label}
 use Rattle.ultra_asm.specs.Instruction.{mnemonic_named}
-use Rattle.ultra_asm.specs.Reading.{Places, read_register, read_number, read_shift, read_label, none_in, one_in, two_in, three_in, made, read_instruction, next_instruction, read_statement, check_label, and_then, read_line}
+use Rattle.ultra_asm.specs.Reading.{LabelPcs, read_register, read_number, read_shift, read_label, none_in, one_in, two_in, three_in, map_ok, read_instruction, next_instruction, read_statement, check_label, and_then, read_line}
 
 -- ---- four operands or more are too many, whatever they are
 module _ (n : ℕ) where
@@ -36,46 +36,46 @@ module _ (n : ℕ) where
   three_few f g h (a ∷ b ∷ c ∷ []) = refl
   three_few f g h (a ∷ b ∷ c ∷ d ∷ ws) = refl
 
-  module _ (places : Places) where
-    instruction_few : (m : Mnemonic) (ws : List (List ℕ)) → read_instruction places m (few ws) ≡ read_instruction places m ws
-    instruction_few Set ws = ap (made _) (two_few (read_register places) (read_number places) ws)
-    instruction_few Add ws = ap (made _) (three_few (read_register places) (read_register places) (read_register places) ws)
-    instruction_few AddWord ws = ap (made _) (three_few (read_register places) (read_register places) (read_number places) ws)
-    instruction_few Subtract ws = ap (made _) (three_few (read_register places) (read_register places) (read_register places) ws)
-    instruction_few And ws = ap (made _) (three_few (read_register places) (read_register places) (read_register places) ws)
-    instruction_few ShiftRight ws = ap (made _) (three_few (read_register places) (read_register places) (read_shift places) ws)
-    instruction_few IsBelow ws = ap (made _) (three_few (read_register places) (read_register places) (read_register places) ws)
-    instruction_few IsEqual ws = ap (made _) (three_few (read_register places) (read_register places) (read_register places) ws)
-    instruction_few JumpIfZero ws = ap (made _) (two_few (read_register places) (read_label places) ws)
-    instruction_few JumpIfNotZero ws = ap (made _) (two_few (read_register places) (read_label places) ws)
-    instruction_few Jump ws = ap (made _) (one_few (read_label places) ws)
-    instruction_few Number ws = ap (made _) (one_few (read_register places) ws)
-    instruction_few Size ws = ap (made _) (one_few (read_register places) ws)
-    instruction_few Load ws = ap (made _) (two_few (read_register places) (read_register places) ws)
-    instruction_few Store ws = ap (made _) (two_few (read_register places) (read_register places) ws)
-    instruction_few Faa ws = ap (made _) (three_few (read_register places) (read_register places) (read_register places) ws)
-    instruction_few Swap ws = ap (made _) (three_few (read_register places) (read_register places) (read_register places) ws)
-    instruction_few Fence ws = ap (made _) (none_few ws)
-    instruction_few Halt ws = ap (made _) (none_few ws)
+  module _ (pcs : LabelPcs) where
+    instruction_few : (m : Mnemonic) (ws : List (List ℕ)) → read_instruction pcs m (few ws) ≡ read_instruction pcs m ws
+    instruction_few Set ws = ap (map_ok _) (two_few (read_register pcs) (read_number pcs) ws)
+    instruction_few Add ws = ap (map_ok _) (three_few (read_register pcs) (read_register pcs) (read_register pcs) ws)
+    instruction_few AddWord ws = ap (map_ok _) (three_few (read_register pcs) (read_register pcs) (read_number pcs) ws)
+    instruction_few Subtract ws = ap (map_ok _) (three_few (read_register pcs) (read_register pcs) (read_register pcs) ws)
+    instruction_few And ws = ap (map_ok _) (three_few (read_register pcs) (read_register pcs) (read_register pcs) ws)
+    instruction_few ShiftRight ws = ap (map_ok _) (three_few (read_register pcs) (read_register pcs) (read_shift pcs) ws)
+    instruction_few IsBelow ws = ap (map_ok _) (three_few (read_register pcs) (read_register pcs) (read_register pcs) ws)
+    instruction_few IsEqual ws = ap (map_ok _) (three_few (read_register pcs) (read_register pcs) (read_register pcs) ws)
+    instruction_few JumpIfZero ws = ap (map_ok _) (two_few (read_register pcs) (read_label pcs) ws)
+    instruction_few JumpIfNotZero ws = ap (map_ok _) (two_few (read_register pcs) (read_label pcs) ws)
+    instruction_few Jump ws = ap (map_ok _) (one_few (read_label pcs) ws)
+    instruction_few Number ws = ap (map_ok _) (one_few (read_register pcs) ws)
+    instruction_few Size ws = ap (map_ok _) (one_few (read_register pcs) ws)
+    instruction_few Load ws = ap (map_ok _) (two_few (read_register pcs) (read_register pcs) ws)
+    instruction_few Store ws = ap (map_ok _) (two_few (read_register pcs) (read_register pcs) ws)
+    instruction_few Faa ws = ap (map_ok _) (three_few (read_register pcs) (read_register pcs) (read_register pcs) ws)
+    instruction_few Swap ws = ap (map_ok _) (three_few (read_register pcs) (read_register pcs) (read_register pcs) ws)
+    instruction_few Fence ws = ap (map_ok _) (none_few ws)
+    instruction_few Halt ws = ap (map_ok _) (none_few ws)
 
-    next_few : (room : Bool) (o : Option Mnemonic) (ws : List (List ℕ)) → next_instruction places room o (few ws) ≡ next_instruction places room o ws
+    next_few : (room : Bool) (o : Option Mnemonic) (ws : List (List ℕ)) → next_instruction pcs room o (few ws) ≡ next_instruction pcs room o ws
     next_few room None ws = refl
     next_few false (Some m) ws = refl
     next_few true (Some m) ws = instruction_few m ws
 
-    statement_few : (room : Bool) (ws : List (List ℕ)) → read_statement places room (take (suc (suc (suc (suc (suc n))))) ws) ≡ read_statement places room ws
+    statement_few : (room : Bool) (ws : List (List ℕ)) → read_statement pcs room (take (suc (suc (suc (suc (suc n))))) ws) ≡ read_statement pcs room ws
     statement_few room [] = refl
-    statement_few room (w ∷ ws) = ap (made _) (next_few room (mnemonic_named w) ws)
+    statement_few room (w ∷ ws) = ap (map_ok _) (next_few room (mnemonic_named w) ws)
 
 -- ---- a line
-module _ (places : Places) (room : Bool) where
-  behind_few : (label : Option (List ℕ)) (w : List ℕ) (ws : List (List ℕ)) → read_statement places room (after_label label (take 6 (w ∷ ws))) ≡ read_statement places room (after_label label (w ∷ ws))
-  behind_few None w ws = statement_few 1 places room (w ∷ ws)
-  behind_few (Some name) w ws = statement_few 0 places room ws
+module _ (pcs : LabelPcs) (room : Bool) where
+  behind_few : (label : Option (List ℕ)) (w : List ℕ) (ws : List (List ℕ)) → read_statement pcs room (after_label label (take 6 (w ∷ ws))) ≡ read_statement pcs room (after_label label (w ∷ ws))
+  behind_few None w ws = statement_few 1 pcs room (w ∷ ws)
+  behind_few (Some name) w ws = statement_few 0 pcs room ws
 
 pub line_few : (defined : List ℕ → Option Definition) (k : ℕ) (room : Bool) (ws : List (List ℕ)) → read_line defined k room (take 6 ws) ≡ read_line defined k room ws
 line_few defined k room [] = refl
-line_few defined k room (w ∷ ws) = ap (and_then (check_label defined k (w ∷ ws))) (behind_few (λ name. option_map near_place (defined name)) room (word_label w) w ws)
+line_few defined k room (w ∷ ws) = ap (and_then (check_label defined k (w ∷ ws))) (behind_few (λ name. option_map near_pc (defined name)) room (word_label w) w ws)
 
 pub label_few : (ws : List (List ℕ)) → line_label (take 6 ws) ≡ line_label ws
 label_few [] = refl

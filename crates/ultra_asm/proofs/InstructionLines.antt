@@ -1,4 +1,4 @@
--- the lines of a text's instructions: the place of a line is how many of them stand before it
+-- the lines of a text's instructions: the program counter of a line is how many of them stand before it
 use Rattle.std.proofs.Common.{◌≡◌, ℕ, zero, suc, ◌+◌, ◌-◌, ◌<◌, ◌≤◌, ◌⊎◌, true, false, List, [], ◌∷◌, ◌++◌, length, get_or, take, nat_lt, min, Some, refl, ◌∙◌, ap, inl, inr, arith}
 use Rattle.std.specs.List.Sorted.{IsNonDecreasing}
 use Rattle.std.proofs.lemmas.Bool.{cases_Bool, cases_lt, lt-ltb, le-ltb}
@@ -6,7 +6,7 @@ use Rattle.std.proofs.lemmas.List.{get_or_append_left, get_or_push, get_or_defau
 use Rattle.std.proofs.lemmas.List.Sorted.{IsNonDecreasingBy-push, IsNonDecreasingBy-short}
 use Rattle.std.proofs.lemmas.List.Sums.{prefix_len_is}
 use Rattle.ultra_asm.specs.declared.labels.Definition.{Definition}
-use Rattle.ultra_asm.specs.Label.{place_at}
+use Rattle.ultra_asm.specs.Label.{pc_at}
 use Rattle.ultra_asm.specs.Labels.{instructions_on, defines, definition_from}
 use Rattle.ultra_asm.specs.ProgramText.{statements}
 use Rattle.ultra_asm.proofs.Definitions.{Lines, count_cons, count_next}
@@ -25,31 +25,31 @@ count_rises (ws ∷ ls) zero b h = omega arith
 count_rises (ws ∷ ls) (suc a) zero h = absurd (omega arith)
 count_rises (ws ∷ ls) (suc a) (suc b) h = omega (arith, count_cons ws (take a ls), count_cons ws (take b ls), count_rises ls a b (omega arith))
 
--- ---- the place of a definition
-pub record IsPlaced (line place : ℕ) (ls : Lines) (d : Definition) : Type 0 where
+-- ---- the program counter of a definition
+pub record IsPlaced (line pc : ℕ) (ls : Lines) (d : Definition) : Type 0 where
   pub on : ℕ
   pub within : on < length ls
   pub lines : d.line ≡ line + on
-  pub places : d.place ≡ place + count ls on
+  pub pcs : d.pc ≡ pc + count ls on
 
-placed_here : (line place : ℕ) (ws : List (List ℕ)) (ls : Lines) (d : Definition) → Some (record { line = line; place = place }) ≡ Some d → IsPlaced line place (ws ∷ ls) d
-placed_here line place ws ls d h =
+placed_here : (line pc : ℕ) (ws : List (List ℕ)) (ls : Lines) (d : Definition) → Some (record { line = line; pc = pc }) ≡ Some d → IsPlaced line pc (ws ∷ ls) d
+placed_here line pc ws ls d h =
     let at : d.line ≡ line = cc in
-    let near : d.place ≡ place = cc in
-    record { on = 0; within = omega arith; lines = omega arith; places = omega arith }
+    let near : d.pc ≡ pc = cc in
+    record { on = 0; within = omega arith; lines = omega arith; pcs = omega arith }
 
-placed_next : (line place : ℕ) (ws : List (List ℕ)) (ls : Lines) (d : Definition) → IsPlaced (line + 1) (place + instructions_on ws) ls d → IsPlaced line place (ws ∷ ls) d
-placed_next line place ws ls d p =
+placed_next : (line pc : ℕ) (ws : List (List ℕ)) (ls : Lines) (d : Definition) → IsPlaced (line + 1) (pc + instructions_on ws) ls d → IsPlaced line pc (ws ∷ ls) d
+placed_next line pc ws ls d p =
     let within = p.within in
     let lines = p.lines in
-    let places = p.places in
-    record { on = suc p.on; within = omega arith; lines = omega arith; places = omega (arith, count_cons ws (take p.on ls)) }
+    let pcs = p.pcs in
+    record { on = suc p.on; within = omega arith; lines = omega arith; pcs = omega (arith, count_cons ws (take p.on ls)) }
 
-pub definition_placed : (line place : ℕ) (ls : Lines) (name : List ℕ) (d : Definition) → definition_from line place ls name ≡ Some d → IsPlaced line place ls d
-definition_placed line place [] name d h = absurd cc
-definition_placed line place (ws ∷ ls) name d h = elim (cases_Bool (defines ws name)) [
-  | inl t ↦ placed_here line place ws ls d (rw t at h)
-  | inr f ↦ placed_next line place ws ls d (definition_placed (line + 1) (place + instructions_on ws) ls name d (rw f at h))
+pub definition_placed : (line pc : ℕ) (ls : Lines) (name : List ℕ) (d : Definition) → definition_from line pc ls name ≡ Some d → IsPlaced line pc ls d
+definition_placed line pc [] name d h = absurd cc
+definition_placed line pc (ws ∷ ls) name d h = elim (cases_Bool (defines ws name)) [
+  | inl t ↦ placed_here line pc ws ls d (rw t at h)
+  | inr f ↦ placed_next line pc ws ls d (definition_placed (line + 1) (pc + instructions_on ws) ls name d (rw f at h))
 ]
 
 -- ---- the lines of the first instructions, up to line k
@@ -128,5 +128,5 @@ module _ (ls : Lines) (k : ℕ) (is : List ℕ) (all : length ls ≤ k) (are : A
         | inr l ↦ le-ltb _ _ l
       ]
 
-  pub place_is : place_at is line ≡ min (count ls line) 4096
-  place_is = prefix_len_is (λ n. nat_lt n line) is (min (count ls line) 4096) 0 (let number = are.number in omega (arith, count_rises ls line k within)) below above
+  pub pc_is : pc_at is line ≡ min (count ls line) 4096
+  pc_is = prefix_len_is (λ n. nat_lt n line) is (min (count ls line) 4096) 0 (let number = are.number in omega (arith, count_rises ls line k within)) below above

@@ -9,7 +9,7 @@ pub mod Collecting
 pub mod FirstWords
 pub mod Lines
 pub mod Numerals
-pub mod OnPage
+pub mod InBuffer
 pub mod Operands
 pub mod Places
 pub mod RoundTrip

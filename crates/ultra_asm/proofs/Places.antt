@@ -9,7 +9,7 @@ use Rattle.ultra_isa.specs.declared.Instr.TheVariants as instr
 use Rattle.ultra_isa.specs.Program.{jumps_within}
 use Rattle.ultra_asm.specs.declared.instruction.Operand.{Operand}
 use Rattle.ultra_asm.specs.Instruction.{operands_of}
-use Rattle.ultra_asm.specs.Listing.{operand_text, operands_text, label_if, instruction_line, listing_from, target_of, is_at, is_target, AreWritable, IsListable}
+use Rattle.ultra_asm.specs.Listing.{operand_text, operands_text, label_if, instruction_line, listing_from, jump_target, is_at, is_target, AreWritable, IsListable}
 
 -- ---- operands
 pub next_operand : (os : List Operand) (k : ℕ) (o : Operand) → k < length os → o ≡ get_or os k o → operands_text (drop k os) ≡ (codes " " ++ operand_text o) ++ operands_text (drop (k + 1) os)
@@ -35,7 +35,7 @@ pub last_line : (is : List Instr) (k : ℕ) → length is ≤ k → listing_from
 last_line is k end = ap (listing_from is k) (drop_all k is end)
 
 -- ---- targets
-pub target_within : (n : ℕ) (i : Instr) (target : ℕ) → IsTrue (jumps_within n i) → Some target ≡ target_of i → target ≤ n
+pub target_within : (n : ℕ) (i : Instr) (target : ℕ) → IsTrue (jumps_within n i) → Some target ≡ jump_target i → target ≤ n
 target_within n (instr.JumpIfZero a to) target h e = let same : target ≡ to = cc in omega (arith, leb-true to n h)
 target_within n (instr.JumpIfNotZero a to) target h e = let same : target ≡ to = cc in omega (arith, leb-true to n h)
 target_within n (instr.Jump to) target h e = let same : target ≡ to = cc in omega (arith, leb-true to n h)
@@ -65,10 +65,10 @@ any_push p [] x = or-false (p x)
 any_push p (y ∷ ys) x = ap (λ b. p y || b) (any_push p ys x) ∙ sym (or_assoc (p y) (list_any p ys) (p x))
 
 -- the targets of one more instruction
-pub more_targets : (is : List Instr) (n : ℕ) (i : Instr) (k : ℕ) → Some i ≡ slice_get is n → is_target (take (n + 1) is) k ≡ (is_target (take n is) k || is_at k (target_of i))
+pub more_targets : (is : List Instr) (n : ℕ) (i : Instr) (k : ℕ) → Some i ≡ slice_get is n → is_target (take (n + 1) is) k ≡ (is_target (take n is) k || is_at k (jump_target i))
 more_targets is n i k e =
     let (lt, at) = get_at is n i e in
-    ap (λ js. is_target js k) (take_more is n i lt) ∙ (any_push (λ j. is_at k (target_of j)) (take n is) (get_or is n i) ∙ ap (λ j. is_target (take n is) k || is_at k (target_of j)) (sym at))
+    ap (λ js. is_target js k) (take_more is n i lt) ∙ (any_push (λ j. is_at k (jump_target j)) (take n is) (get_or is n i) ∙ ap (λ j. is_target (take n is) k || is_at k (jump_target j)) (sym at))
 
 pub marks_none : (b : Bool) (k : ℕ) (o : Option ℕ) → None ≡ o → b ≡ (b || is_at k o)
 marks_none b k o e = rw (← e) (sym (or-false b))

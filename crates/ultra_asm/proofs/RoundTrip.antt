@@ -9,10 +9,10 @@ use Rattle.ultra_isa.specs.declared.Instr.{Instr}
 use Rattle.ultra_isa.specs.declared.Instr.TheVariants as instr
 use Rattle.ultra_isa.specs.Program.{jumps_within, all_jump_within, is_program}
 use Rattle.ultra_asm.specs.Words.{text_words, before_colon, is_name}
-use Rattle.ultra_asm.specs.Labels.{if_name, line_label, after_label, statement, one_or_none, instructions_on, defines, definition_from, definition_of, place_of}
-use Rattle.ultra_asm.specs.Instruction.{word_of, mnemonic_of, operands_of}
+use Rattle.ultra_asm.specs.Labels.{if_name, line_label, after_label, statement, one_or_none, instructions_on, defines, definition_from, definition_of, label_pc}
+use Rattle.ultra_asm.specs.Instruction.{mnemonic_word, mnemonic_of, operands_of}
 use Rattle.ultra_asm.specs.ProgramText.{IsInstruction, AreInstructions, has_words, statements, IsLabelled, AreLinesOf, IsProgramText}
-use Rattle.ultra_asm.specs.Listing.{newline, label_text, operand_text, operands_text, instruction_line, target_of, is_at, is_target, label_if, listing_from, listing_text, AreWritable, IsListable}
+use Rattle.ultra_asm.specs.Listing.{newline, label_text, operand_text, operands_text, instruction_line, jump_target, is_at, is_target, label_if, listing_from, listing_text, AreWritable, IsListable}
 use Rattle.ultra_asm.proofs.Definitions.{Lines, definition_append}
 use Rattle.ultra_asm.proofs.Places.{target_within}
 use Rattle.ultra_asm.proofs.Cutting.{text_next}
@@ -20,7 +20,7 @@ use Rattle.ultra_asm.proofs.Spelled.{label_name, label_apart, colon_back, label_
 
 -- ---- the words of the canonical lines
 abbrev pub instruction_words : Instr → List (List ℕ)
-instruction_words i = word_of (mnemonic_of i) ∷ map operand_text (operands_of i)
+instruction_words i = mnemonic_word (mnemonic_of i) ∷ map operand_text (operands_of i)
 
 abbrev pub label_words : ℕ → List (List ℕ)
 label_words k = (label_text k ++ codes ":") ∷ []
@@ -29,7 +29,7 @@ abbrev pub label_lines : Bool → ℕ → Lines
 label_lines true k = label_words k ∷ []
 label_lines false k = []
 
--- those from place k on; the text ends with an empty line
+-- those from program counter k on; the text ends with an empty line
 abbrev pub lines_from : List Instr → ℕ → List Instr → Lines
 lines_from all k [] = label_lines (is_target all k) k ++ [] ∷ []
 lines_from all k (i ∷ is) = label_lines (is_target all k) k ++ (instruction_words i ∷ lines_from all (k + 1) is)
@@ -49,7 +49,7 @@ label_cut true k rest small =
 
 instruction_cut : (i : Instr) (rest : List ℕ) → AreWritable (operands_of i) → text_words (instruction_line i ++ rest) ≡ instruction_words i ∷ text_words rest
 instruction_cut i rest w =
-    ap text_words (regroup_words (word_of (mnemonic_of i)) (operands_text (operands_of i)) rest) ∙ text_next (word_of (mnemonic_of i)) rest (operands_of i) (word_plain (mnemonic_of i)) (operands_plain (operands_of i) w)
+    ap text_words (regroup_words (mnemonic_word (mnemonic_of i)) (operands_text (operands_of i)) rest) ∙ text_next (mnemonic_word (mnemonic_of i)) rest (operands_of i) (word_plain (mnemonic_of i)) (operands_plain (operands_of i) w)
 
 text_is : (all : List Instr) (k : ℕ) (is : List Instr) → k + length is < 2 ^ 16 → IsListable is → text_words (listing_from all k is) ≡ lines_from all k is
 text_is all k [] small h = ap text_words (sym (append-nil (label_if (is_target all k) k))) ∙ label_cut (is_target all k) k [] (omega arith)
@@ -96,14 +96,14 @@ instruction_defines i name = rw (instruction_label i) refl
 label_defines : (k : ℕ) (name : List ℕ) → k < 2 ^ 16 → defines (label_words k) name ≡ bytes_eq (label_text k) name
 label_defines k name small = rw (label_label k small) refl
 
-abbrev place_from : ℕ → ℕ → Lines → List ℕ → Option ℕ
-place_from line place ls name = option_map (λ d. d.place) (definition_from line place ls name)
+abbrev pc_from : ℕ → ℕ → Lines → List ℕ → Option ℕ
+pc_from line pc ls name = option_map (λ d. d.pc) (definition_from line pc ls name)
 
-skip : (line place : ℕ) (ws : List (List ℕ)) (ls : Lines) (name : List ℕ) → defines ws name ≡ false → place_from line place (ws ∷ ls) name ≡ place_from (line + 1) (place + instructions_on ws) ls name
-skip line place ws ls name h = rw h refl
+skip : (line pc : ℕ) (ws : List (List ℕ)) (ls : Lines) (name : List ℕ) → defines ws name ≡ false → pc_from line pc (ws ∷ ls) name ≡ pc_from (line + 1) (pc + instructions_on ws) ls name
+skip line pc ws ls name h = rw h refl
 
-hit : (line place : ℕ) (ws : List (List ℕ)) (ls : Lines) (name : List ℕ) → defines ws name ≡ true → place_from line place (ws ∷ ls) name ≡ Some place
-hit line place ws ls name h = rw h refl
+hit : (line pc : ℕ) (ws : List (List ℕ)) (ls : Lines) (name : List ℕ) → defines ws name ≡ true → pc_from line pc (ws ∷ ls) name ≡ Some pc
+hit line pc ws ls name h = rw h refl
 
 label_count : (k : ℕ) → k < 2 ^ 16 → instructions_on (label_words k) ≡ 0
 label_count k small = ap one_or_none (label_statement k small)
@@ -111,25 +111,25 @@ label_count k small = ap one_or_none (label_statement k small)
 instruction_count : (i : Instr) → instructions_on (instruction_words i) ≡ 1
 instruction_count i = ap one_or_none (instruction_statement i)
 
--- the label of another place doesn't matter
-past_label : (b : Bool) (line k t : ℕ) (ls : Lines) → k < 2 ^ 16 → t < 2 ^ 16 → (k ≡ t → ⊥) → ((l : ℕ) → place_from l k ls (label_text t) ≡ Some t) → place_from line k (label_lines b k ++ ls) (label_text t) ≡ Some t
+-- the label of another program counter doesn't matter
+past_label : (b : Bool) (line k t : ℕ) (ls : Lines) → k < 2 ^ 16 → t < 2 ^ 16 → (k ≡ t → ⊥) → ((l : ℕ) → pc_from l k ls (label_text t) ≡ Some t) → pc_from line k (label_lines b k ++ ls) (label_text t) ≡ Some t
 past_label false line k t ls low small apart h = h line
 past_label true line k t ls low small apart h =
     let here : k + instructions_on (label_words k) ≡ k = omega (arith, label_count k low) in
-    skip line k (label_words k) ls (label_text t) (label_defines k (label_text t) low ∙ name_other k t low small apart) ∙ (ap (λ p. place_from (line + 1) p ls (label_text t)) here ∙ h (line + 1))
+    skip line k (label_words k) ls (label_text t) (label_defines k (label_text t) low ∙ name_other k t low small apart) ∙ (ap (λ p. pc_from (line + 1) p ls (label_text t)) here ∙ h (line + 1))
 
-past_instruction : (line k t : ℕ) (i : Instr) (ls : Lines) → ((l : ℕ) → place_from l (k + 1) ls (label_text t) ≡ Some t) → place_from line k (instruction_words i ∷ ls) (label_text t) ≡ Some t
+past_instruction : (line k t : ℕ) (i : Instr) (ls : Lines) → ((l : ℕ) → pc_from l (k + 1) ls (label_text t) ≡ Some t) → pc_from line k (instruction_words i ∷ ls) (label_text t) ≡ Some t
 past_instruction line k t i ls h =
     let here : k + instructions_on (instruction_words i) ≡ k + 1 = omega (arith, instruction_count i) in
-    skip line k (instruction_words i) ls (label_text t) (instruction_defines i (label_text t)) ∙ (ap (λ p. place_from (line + 1) p ls (label_text t)) here ∙ h (line + 1))
+    skip line k (instruction_words i) ls (label_text t) (instruction_defines i (label_text t)) ∙ (ap (λ p. pc_from (line + 1) p ls (label_text t)) here ∙ h (line + 1))
 
-at_label : (all : List Instr) (t : ℕ) → is_target all t ≡ true → t < 2 ^ 16 → (line k : ℕ) (ls : Lines) → k ≡ t → place_from line k (label_lines (is_target all k) k ++ ls) (label_text t) ≡ Some t
+at_label : (all : List Instr) (t : ℕ) → is_target all t ≡ true → t < 2 ^ 16 → (line k : ℕ) (ls : Lines) → k ≡ t → pc_from line k (label_lines (is_target all k) k ++ ls) (label_text t) ≡ Some t
 at_label all t target low line k ls same =
     let here : is_target all k ≡ true = ap (is_target all) same ∙ target in
-    ap (λ b. place_from line k (label_lines b k ++ ls) (label_text t)) here ∙ (hit line k (label_words k) ls (label_text t) (label_defines k (label_text t) (omega arith) ∙ (ap (λ j. bytes_eq (label_text j) (label_text t)) same ∙ name_same (label_text t))) ∙ ap Some same)
+    ap (λ b. pc_from line k (label_lines b k ++ ls) (label_text t)) here ∙ (hit line k (label_words k) ls (label_text t) (label_defines k (label_text t) (omega arith) ∙ (ap (λ j. bytes_eq (label_text j) (label_text t)) same ∙ name_same (label_text t))) ∙ ap Some same)
 
--- the label of a target is at its place
-label_at : (all : List Instr) (t : ℕ) → is_target all t ≡ true → t < 2 ^ 16 → (line k : ℕ) (is : List Instr) → k ≤ t → t ≤ k + length is → k + length is < 2 ^ 16 → place_from line k (lines_from all k is) (label_text t) ≡ Some t
+-- the label of a target is at its program counter
+label_at : (all : List Instr) (t : ℕ) → is_target all t ≡ true → t < 2 ^ 16 → (line k : ℕ) (is : List Instr) → k ≤ t → t ≤ k + length is → k + length is < 2 ^ 16 → pc_from line k (lines_from all k is) (label_text t) ≡ Some t
 label_at all t target low line k [] from to small = at_label all t target low line k ([] ∷ []) (omega arith)
 label_at all t target low line k (i ∷ is) from to small = elim (cases_eq k t) [
   | inl same ↦ at_label all t target low line k (instruction_words i ∷ lines_from all (k + 1) is) same
@@ -157,7 +157,7 @@ labelled_is : (ls : Lines) (j : ℕ) (ws : List (List ℕ)) → IsLabelledAfter 
 labelled_is ls j [] h = tt
 labelled_is ls j (w ∷ ws) h = h
 
--- these lines define the labels of no place from k on
+-- these lines define the labels of no program counter from k on
 abbrev AreUnseen : Lines → ℕ → Type 0
 AreUnseen before k = (t : ℕ) → k ≤ t → t < 2 ^ 16 → definition_of before (label_text t) ≡ None
 
@@ -194,42 +194,42 @@ or_yes true = refl
 or_yes false = refl
 
 abbrev TargetsIn : List Instr → Instr → Type 0
-TargetsIn all i = (t : ℕ) → target_of i ≡ Some t → is_target all t ≡ true
+TargetsIn all i = (t : ℕ) → jump_target i ≡ Some t → is_target all t ≡ true
 
 targets_in : (is : List Instr) → AllByRecursion (TargetsIn is) is
 targets_in [] = tt
 targets_in (i ∷ is) = (
   λ t e. rw (e, eq-eqb t t refl) refl,
-  all_map (TargetsIn is) (TargetsIn (i ∷ is)) is (λ j h t e. ap (λ b. is_at t (target_of i) || b) (h t e) ∙ or_yes (is_at t (target_of i))) (targets_in is),
+  all_map (TargetsIn is) (TargetsIn (i ∷ is)) is (λ j h t e. ap (λ b. is_at t (jump_target i) || b) (h t e) ∙ or_yes (is_at t (jump_target i))) (targets_in is),
 )
 
-placed : (places : List ℕ → Option ℕ) (i : Instr) → ((t : ℕ) → target_of i ≡ Some t → places (label_text t) ≡ Some t) → ArePlaced places (operands_of i)
-placed places (instr.Set d n) h = (tt, (tt, tt))
-placed places (instr.Add d a b) h = (tt, (tt, (tt, tt)))
-placed places (instr.AddWord d a n) h = (tt, (tt, (tt, tt)))
-placed places (instr.Subtract d a b) h = (tt, (tt, (tt, tt)))
-placed places (instr.And d a b) h = (tt, (tt, (tt, tt)))
-placed places (instr.ShiftRight d a n) h = (tt, (tt, (tt, tt)))
-placed places (instr.IsBelow d a b) h = (tt, (tt, (tt, tt)))
-placed places (instr.IsEqual d a b) h = (tt, (tt, (tt, tt)))
-placed places (instr.JumpIfZero a target) h = (tt, (h target refl, tt))
-placed places (instr.JumpIfNotZero a target) h = (tt, (h target refl, tt))
-placed places (instr.Jump target) h = (h target refl, tt)
-placed places (instr.Number d) h = (tt, tt)
-placed places (instr.Size d) h = (tt, tt)
-placed places (instr.Load d a) h = (tt, (tt, tt))
-placed places (instr.Store a b) h = (tt, (tt, tt))
-placed places (instr.Faa d a b) h = (tt, (tt, (tt, tt)))
-placed places (instr.Swap d a b) h = (tt, (tt, (tt, tt)))
-placed places instr.Fence h = tt
-placed places instr.Halt h = tt
+placed : (pcs : List ℕ → Option ℕ) (i : Instr) → ((t : ℕ) → jump_target i ≡ Some t → pcs (label_text t) ≡ Some t) → ArePlaced pcs (operands_of i)
+placed pcs (instr.Set d n) h = (tt, (tt, tt))
+placed pcs (instr.Add d a b) h = (tt, (tt, (tt, tt)))
+placed pcs (instr.AddWord d a n) h = (tt, (tt, (tt, tt)))
+placed pcs (instr.Subtract d a b) h = (tt, (tt, (tt, tt)))
+placed pcs (instr.And d a b) h = (tt, (tt, (tt, tt)))
+placed pcs (instr.ShiftRight d a n) h = (tt, (tt, (tt, tt)))
+placed pcs (instr.IsBelow d a b) h = (tt, (tt, (tt, tt)))
+placed pcs (instr.IsEqual d a b) h = (tt, (tt, (tt, tt)))
+placed pcs (instr.JumpIfZero a target) h = (tt, (h target refl, tt))
+placed pcs (instr.JumpIfNotZero a target) h = (tt, (h target refl, tt))
+placed pcs (instr.Jump target) h = (h target refl, tt)
+placed pcs (instr.Number d) h = (tt, tt)
+placed pcs (instr.Size d) h = (tt, tt)
+placed pcs (instr.Load d a) h = (tt, (tt, tt))
+placed pcs (instr.Store a b) h = (tt, (tt, tt))
+placed pcs (instr.Faa d a b) h = (tt, (tt, (tt, tt)))
+placed pcs (instr.Swap d a b) h = (tt, (tt, (tt, tt)))
+placed pcs instr.Fence h = tt
+placed pcs instr.Halt h = tt
 
 -- ---- the instructions
-module _ (places : List ℕ → Option ℕ) (n : ℕ) (all : List Instr) (at : (t : ℕ) → is_target all t ≡ true → t ≤ n → places (label_text t) ≡ Some t) where
-  instruction_back : (i : Instr) → AreWritable (operands_of i) → TargetsIn all i → IsTrue (jumps_within n i) → IsInstruction places (instruction_words i) i
-  instruction_back i w t j = (refl, operands_back places (operands_of i) w (placed places i (λ k e. at k (t k e) (target_within n i k j (sym e)))))
+module _ (pcs : List ℕ → Option ℕ) (n : ℕ) (all : List Instr) (at : (t : ℕ) → is_target all t ≡ true → t ≤ n → pcs (label_text t) ≡ Some t) where
+  instruction_back : (i : Instr) → AreWritable (operands_of i) → TargetsIn all i → IsTrue (jumps_within n i) → IsInstruction pcs (instruction_words i) i
+  instruction_back i w t j = (refl, operands_back pcs (operands_of i) w (placed pcs i (λ k e. at k (t k e) (target_within n i k j (sym e)))))
 
-  instructions_back : (is : List Instr) → IsListable is → AllByRecursion (TargetsIn all) is → IsTrue (all_jump_within n is) → AreInstructions places (map instruction_words is) is
+  instructions_back : (is : List Instr) → IsListable is → AllByRecursion (TargetsIn all) is → IsTrue (all_jump_within n is) → AreInstructions pcs (map instruction_words is) is
   instructions_back [] w t j = tt
   instructions_back (i ∷ is) w t j = let p = and_parts (jumps_within n i) (all_jump_within n is) j in (instruction_back i w.0 t.0 p.0, instructions_back is w.1 t.1 p.1)
 
@@ -239,10 +239,10 @@ lines_back is valid listable =
     let (short, jumps) = and_parts _ _ valid in
     let few : length is ≤ 4096 = leb-true (length is) 4096 short in
     let small : 0 + length is < 2 ^ 16 = omega arith in
-    let at : (t : ℕ) → is_target is t ≡ true → t ≤ length is → place_of ls (label_text t) ≡ Some t = λ t target low. label_at is t target (omega arith) 0 0 is (omega arith) (omega arith) small in
+    let at : (t : ℕ) → is_target is t ≡ true → t ≤ length is → label_pc ls (label_text t) ≡ Some t = λ t target low. label_at is t target (omega arith) 0 0 is (omega arith) (omega arith) small in
     record {
       labels = λ j lt. labelled_is ls j (get_or ls j []) (labelled_at [] ls (are_labelled is 0 is [] small (λ t from low. refl)) j lt);
-      instructions = rw (statements_are is 0 is small) (instructions_back (place_of ls) (length is) is at is listable (targets_in is) jumps);
+      instructions = rw (statements_are is 0 is small) (instructions_back (label_pc ls) (length is) is at is listable (targets_in is) jumps);
       short = few;
     }
 

@@ -12,8 +12,8 @@ use Rattle.ultra_asm.specs.declared.instruction.Mnemonic.{Mnemonic}
 use Rattle.ultra_asm.specs.declared.instruction.Mnemonic.TheVariants.{Set, Add, AddWord, Subtract, And, ShiftRight, IsBelow, IsEqual, JumpIfZero, JumpIfNotZero, Jump, Number, Size, Load, Store, Faa, Swap, Fence, Halt}
 use Rattle.ultra_asm.specs.declared.instruction.Operand.{Operand}
 use Rattle.ultra_asm.specs.declared.instruction.Operand.TheVariants as operand
-use Rattle.ultra_asm.specs.Words.{is_letter, is_name_byte, is_name, before_colon, is_number, number_of, has_leading_zero, is_register, register_of, shift_of}
-use Rattle.ultra_asm.specs.Instruction.{word_of}
+use Rattle.ultra_asm.specs.Words.{is_letter, is_name_byte, is_name, before_colon, is_number, decimal_value, has_leading_zero, is_register, register_of, shift_of}
+use Rattle.ultra_asm.specs.Instruction.{mnemonic_word}
 use Rattle.ultra_asm.specs.ProgramText.{IsOperand, AreOperands}
 use Rattle.ultra_asm.specs.Listing.{label_text, operand_text, IsWritable, AreWritable}
 use Rattle.ultra_asm.proofs.Numerals.{number_is}
@@ -24,7 +24,7 @@ found : (b : Bool) (m n : ℕ) → cond b (Some m) None ≡ Some n → b ≡ tru
 found true m n h = refl
 found false m n h = absurd cc
 
-number_back : (n : ℕ) → n < 2 ^ 32 → number_of (decimal n) ≡ Some n
+number_back : (n : ℕ) → n < 2 ^ 32 → decimal_value (decimal n) ≡ Some n
 number_back n small =
     let (numeral, value) = decimal_is_IsNumeral n (omega arith) in
     number_is (decimal n) numeral.0 numeral.1 (omega arith) ∙ ap Some value
@@ -103,7 +103,7 @@ append_plain w v p h = let some = p.some in record { bytes = list_all-append is_
 pub label_plain : (k : ℕ) → k < 2 ^ 16 → IsPlain (label_text k ++ codes ":")
 label_plain k small = append_plain (label_text k) (codes ":") (operand_plain (operand.Label k) small) refl
 
-pub word_plain : (m : Mnemonic) → IsPlain (word_of m)
+pub word_plain : (m : Mnemonic) → IsPlain (mnemonic_word m)
 word_plain Set = record { bytes = refl; some = omega arith }
 word_plain Add = record { bytes = refl; some = omega arith }
 word_plain AddWord = record { bytes = refl; some = omega arith }
@@ -125,7 +125,7 @@ word_plain Fence = record { bytes = refl; some = omega arith }
 word_plain Halt = record { bytes = refl; some = omega arith }
 
 -- no mnemonic ends with a colon
-pub word_no_colon : (m : Mnemonic) → before_colon (word_of m) ≡ None
+pub word_no_colon : (m : Mnemonic) → before_colon (mnemonic_word m) ≡ None
 word_no_colon Set = refl
 word_no_colon Add = refl
 word_no_colon AddWord = refl
@@ -147,23 +147,23 @@ word_no_colon Fence = refl
 word_no_colon Halt = refl
 
 -- ---- operands, where a jump's label is at its target
-module _ (places : List ℕ → Option ℕ) where
+module _ (pcs : List ℕ → Option ℕ) where
   abbrev pub IsPlaced : Operand → Type 0
   IsPlaced (operand.Register r) = Unit {0}
   IsPlaced (operand.Number n) = Unit {0}
   IsPlaced (operand.Bits n) = Unit {0}
-  IsPlaced (operand.Label k) = places (label_text k) ≡ Some k
+  IsPlaced (operand.Label k) = pcs (label_text k) ≡ Some k
 
   abbrev pub ArePlaced : List Operand → Type 0
   ArePlaced [] = Unit {0}
   ArePlaced (o ∷ os) = IsPlaced o × ArePlaced os
 
-  operand_back : (o : Operand) → IsWritable o → IsPlaced o → IsOperand places o (operand_text o)
+  operand_back : (o : Operand) → IsWritable o → IsPlaced o → IsOperand pcs o (operand_text o)
   operand_back (operand.Register r) h p = register_back r h
   operand_back (operand.Number n) h p = number_back n h
   operand_back (operand.Bits n) h p = shift_back n h
   operand_back (operand.Label k) h p = p
 
-  pub operands_back : (os : List Operand) → AreWritable os → ArePlaced os → AreOperands places os (map operand_text os)
+  pub operands_back : (os : List Operand) → AreWritable os → ArePlaced os → AreOperands pcs os (map operand_text os)
   operands_back [] h p = tt
   operands_back (o ∷ os) h p = (operand_back o h.0 p.0, operands_back os h.1 p.1)

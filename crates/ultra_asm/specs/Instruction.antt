@@ -9,33 +9,35 @@ use Rattle.ultra_asm.specs.declared.instruction.Operand.{Operand}
 use Rattle.ultra_asm.specs.declared.instruction.Operand.TheVariants as operand
 
 abbrev pub mnemonics : List Mnemonic
-mnemonics = Set ∷ Add ∷ AddWord ∷ Subtract ∷ And ∷ ShiftRight ∷ IsBelow ∷ IsEqual ∷ JumpIfZero ∷ JumpIfNotZero ∷ Jump ∷ Number ∷ Size ∷ Load ∷ Store ∷ Faa ∷ Swap ∷ Fence ∷ Halt ∷ []
+mnemonics =
+    Set ∷ Add ∷ AddWord ∷ Subtract ∷ And ∷ ShiftRight ∷ IsBelow ∷ IsEqual ∷ JumpIfZero
+    ∷ JumpIfNotZero ∷ Jump ∷ Number ∷ Size ∷ Load ∷ Store ∷ Faa ∷ Swap ∷ Fence ∷ Halt ∷ []
 
 -- the word that each instruction begins with
-abbrev pub word_of : Mnemonic → List ℕ
-word_of Set = codes "li"
-word_of Add = codes "add"
-word_of AddWord = codes "addi"
-word_of Subtract = codes "sub"
-word_of And = codes "and"
-word_of ShiftRight = codes "shr"
-word_of IsBelow = codes "slt"
-word_of IsEqual = codes "seq"
-word_of JumpIfZero = codes "jz"
-word_of JumpIfNotZero = codes "jnz"
-word_of Jump = codes "jmp"
-word_of Number = codes "pid"
-word_of Size = codes "np"
-word_of Load = codes "ld"
-word_of Store = codes "st"
-word_of Faa = codes "faa"
-word_of Swap = codes "swap"
-word_of Fence = codes "fence"
-word_of Halt = codes "halt"
+abbrev pub mnemonic_word : Mnemonic → List ℕ
+mnemonic_word Set = codes "li"
+mnemonic_word Add = codes "add"
+mnemonic_word AddWord = codes "addi"
+mnemonic_word Subtract = codes "sub"
+mnemonic_word And = codes "and"
+mnemonic_word ShiftRight = codes "shr"
+mnemonic_word IsBelow = codes "slt"
+mnemonic_word IsEqual = codes "seq"
+mnemonic_word JumpIfZero = codes "jz"
+mnemonic_word JumpIfNotZero = codes "jnz"
+mnemonic_word Jump = codes "jmp"
+mnemonic_word Number = codes "pid"
+mnemonic_word Size = codes "np"
+mnemonic_word Load = codes "ld"
+mnemonic_word Store = codes "st"
+mnemonic_word Faa = codes "faa"
+mnemonic_word Swap = codes "swap"
+mnemonic_word Fence = codes "fence"
+mnemonic_word Halt = codes "halt"
 
 -- the mnemonic of a word
 abbrev pub mnemonic_named : List ℕ → Option Mnemonic
-mnemonic_named w = find (λ m. bytes_eq (word_of m) w) mnemonics
+mnemonic_named w = find (λ m. bytes_eq (mnemonic_word m) w) mnemonics
 
 abbrev pub mnemonic_of : Instr → Mnemonic
 mnemonic_of (instr.Set d n) = Set
@@ -83,7 +85,7 @@ operands_of (instr.Swap d a b) = operand.Register d ∷ operand.Register a ∷ o
 operands_of instr.Fence = []
 operands_of instr.Halt = []
 
--- what stands at an operand's place: a register, a number, by how many bits to shift, or a label
+-- what an operand is: a register, a number, by how many bits to shift, or a label
 pub data Sort : Type 0 where
   a_register : Sort
   a_number : Sort

@@ -19,5 +19,5 @@ abbrev pub AreInOrder : List Label → Type 0
 AreInOrder ls = IsSortedBy (λ a b. is_lt (label_cmp a b)) ls
 
 -- how many instructions stand before a line, where these are the lines of instructions
-abbrev pub place_at : List ℕ → ℕ → ℕ
-place_at lines line = prefix_len (λ n. nat_lt n line) lines
+abbrev pub pc_at : List ℕ → ℕ → ℕ
+pc_at lines line = prefix_len (λ n. nat_lt n line) lines

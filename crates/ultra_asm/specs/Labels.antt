@@ -3,6 +3,7 @@ use Rattle.std.specs.Prelude.{ℕ, ◌+◌, Bool, false, List, [], ◌∷◌, dr
 use Rattle.std.specs.Option.{option_map}
 use Rattle.ultra_asm.specs.Words.{before_colon, is_name}
 use Rattle.ultra_asm.specs.declared.labels.Definition.{Definition}
+use Rattle.ultra_isa.specs.declared.TheConstants.{MOST_INSTRUCTIONS}
 
 -- a label's word is a name followed directly by `:`
 abbrev pub if_name : Option (List ℕ) → Option (List ℕ)
@@ -34,40 +35,42 @@ abbrev pub instructions_on : List (List ℕ) → ℕ
 instructions_on ws = one_or_none (statement ws)
 
 -- whether a line's label is this name
-abbrev pub is_named : Option (List ℕ) → List ℕ → Bool
-is_named None name = false
-is_named (Some n) name = bytes_eq n name
+abbrev pub is_label_named : Option (List ℕ) → List ℕ → Bool
+is_label_named None name = false
+is_label_named (Some n) name = bytes_eq n name
 
 abbrev pub defines : List (List ℕ) → List ℕ → Bool
-defines ws name = is_named (line_label ws) name
+defines ws name = is_label_named (line_label ws) name
 
--- the first line that defines a name, and the place of the next instruction, counted from these
--- numbers
+-- the first line that defines a name, and the program counter of the next instruction, counted from
+-- these numbers
 abbrev pub definition_from : ℕ → ℕ → List (List (List ℕ)) → List ℕ → Option Definition
-definition_from line place [] name = None
-definition_from line place (ws ∷ ls) name = if defines ws name then Some (record { line = line; place = place }) else definition_from (line + 1) (place + instructions_on ws) ls name
+definition_from line pc [] name = None
+definition_from line pc (ws ∷ ls) name =
+    if defines ws name then Some (record { line = line; pc = pc })
+    else definition_from (line + 1) (pc + instructions_on ws) ls name
 
 abbrev pub definition_of : List (List (List ℕ)) → List ℕ → Option Definition
 definition_of ls name = definition_from 0 0 ls name
 
--- the place that a label names
-abbrev pub place_of : List (List (List ℕ)) → List ℕ → Option ℕ
-place_of ls name = option_map (λ d. d.place) (definition_of ls name)
+-- the program counter that a label names
+abbrev pub label_pc : List (List (List ℕ)) → List ℕ → Option ℕ
+label_pc ls name = option_map (λ d. d.pc) (definition_of ls name)
 
 -- whether a line before line k defines the name
 abbrev pub is_defined_before : List (List (List ℕ)) → ℕ → List ℕ → Bool
 is_defined_before ls k name = is_some (definition_of (take k ls) name)
 
--- the same places, where one above 4096 counts as 4096: a program that has it is too long
-abbrev pub near_place : Definition → ℕ
-near_place d = min d.place 4096
+-- the same program counters, where one above 4096 counts as 4096: a program that has it is too long
+abbrev pub near_pc : Definition → ℕ
+near_pc d = min d.pc MOST_INSTRUCTIONS
 
-abbrev pub near_place_of : List (List (List ℕ)) → List ℕ → Option ℕ
-near_place_of ls name = option_map near_place (definition_of ls name)
+abbrev pub near_pc_of : List (List (List ℕ)) → List ℕ → Option ℕ
+near_pc_of ls name = option_map near_pc (definition_of ls name)
 
--- the same definitions, with these places
+-- the same definitions, with these program counters
 abbrev pub near_definition : Definition → Definition
-near_definition d = record { line = d.line; place = near_place d }
+near_definition d = record { line = d.line; pc = near_pc d }
 
 abbrev pub near_definition_of : List (List (List ℕ)) → List ℕ → Option Definition
 near_definition_of ls name = option_map near_definition (definition_of ls name)

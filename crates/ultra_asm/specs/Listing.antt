@@ -8,21 +8,19 @@ use Rattle.ultra_asm.specs.declared.instruction.Operand.{Operand}
 use Rattle.ultra_asm.specs.declared.instruction.Operand.TheVariants as operand
 use Rattle.ultra_asm.specs.declared.canonical.Operands.{Operands}
 use Rattle.ultra_asm.specs.declared.canonical.Operands.TheVariants as operands
-use Rattle.ultra_asm.specs.Instruction.{word_of, mnemonic_of, operands_of}
+use Rattle.ultra_asm.specs.Instruction.{mnemonic_word, mnemonic_of, operands_of}
+pub use Rattle.ultra_msg.specs.Bytes.{newline}
 
-abbrev pub newline : List ℕ
-newline = 10 ∷ []
-
--- the label of a place
+-- the label of a program counter
 abbrev pub label_text : ℕ → List ℕ
 label_text k = codes "L" ++ decimal k
 
 -- the operands as a list
-abbrev pub listed : Operands → List Operand
-listed operands.None = []
-listed (operands.One one) = one
-listed (operands.Two two) = two
-listed (operands.Three three) = three
+abbrev pub operand_list : Operands → List Operand
+operand_list operands.None = []
+operand_list (operands.One one) = one
+operand_list (operands.Two two) = two
+operand_list (operands.Three three) = three
 
 abbrev pub operand_text : Operand → List ℕ
 operand_text (operand.Register r) = codes "r" ++ decimal r
@@ -36,7 +34,7 @@ operands_text os = flat_map (λ o. codes " " ++ operand_text o) os
 
 -- the line of an instruction, and that of a label
 abbrev pub line_text : Mnemonic → List Operand → List ℕ
-line_text m os = word_of m ++ (operands_text os ++ newline)
+line_text m os = mnemonic_word m ++ (operands_text os ++ newline)
 
 abbrev pub instruction_line : Instr → List ℕ
 instruction_line i = line_text (mnemonic_of i) (operands_of i)
@@ -45,41 +43,41 @@ abbrev pub label_line : ℕ → List ℕ
 label_line k = label_text k ++ (codes ":" ++ newline)
 
 -- where an instruction can jump to
-abbrev pub target_of : Instr → Option ℕ
-target_of (JumpIfZero a target) = Some target
-target_of (JumpIfNotZero a target) = Some target
-target_of (Jump target) = Some target
-target_of (Set d n) = None
-target_of (Add d a b) = None
-target_of (AddWord d a n) = None
-target_of (Subtract d a b) = None
-target_of (And d a b) = None
-target_of (ShiftRight d a n) = None
-target_of (IsBelow d a b) = None
-target_of (IsEqual d a b) = None
-target_of (Number d) = None
-target_of (Size d) = None
-target_of (Load d a) = None
-target_of (Store a b) = None
-target_of (Faa d a b) = None
-target_of (Swap d a b) = None
-target_of Fence = None
-target_of Halt = None
+abbrev pub jump_target : Instr → Option ℕ
+jump_target (JumpIfZero a target) = Some target
+jump_target (JumpIfNotZero a target) = Some target
+jump_target (Jump target) = Some target
+jump_target (Set d n) = None
+jump_target (Add d a b) = None
+jump_target (AddWord d a n) = None
+jump_target (Subtract d a b) = None
+jump_target (And d a b) = None
+jump_target (ShiftRight d a n) = None
+jump_target (IsBelow d a b) = None
+jump_target (IsEqual d a b) = None
+jump_target (Number d) = None
+jump_target (Size d) = None
+jump_target (Load d a) = None
+jump_target (Store a b) = None
+jump_target (Faa d a b) = None
+jump_target (Swap d a b) = None
+jump_target Fence = None
+jump_target Halt = None
 
 abbrev pub is_at : ℕ → Option ℕ → Bool
 is_at k None = false
 is_at k (Some target) = target == k
 
--- whether some instruction can jump to the place
+-- whether some instruction can jump to the program counter
 abbrev pub is_target : List Instr → ℕ → Bool
-is_target is k = list_any (λ i. is_at k (target_of i)) is
+is_target is k = list_any (λ i. is_at k (jump_target i)) is
 
 -- the line of a label stands only where some instruction jumps to
 abbrev pub label_if : Bool → ℕ → List ℕ
 label_if true k = label_line k
 label_if false k = []
 
--- the lines from place k on, of a program that has these instructions left
+-- the lines from program counter k on, of a program that has these instructions left
 abbrev pub listing_from : List Instr → ℕ → List Instr → List ℕ
 listing_from all k [] = label_if (is_target all k) k
 listing_from all k (i ∷ is) =

@@ -8,18 +8,19 @@ use Rattle.ultra_asm.specs.declared.instruction.Mnemonic.{Mnemonic}
 use Rattle.ultra_asm.specs.declared.instruction.Operand.{Operand}
 use Rattle.ultra_asm.specs.declared.instruction.Operand.TheVariants as operand
 use Rattle.ultra_asm.specs.AsmFault.{no_memory}
-use Rattle.ultra_asm.specs.Words.{text_words, before_colon, is_name, number_of, register_of, shift_of}
-use Rattle.ultra_asm.specs.Labels.{statement, place_of, is_defined_before}
-use Rattle.ultra_asm.specs.Instruction.{word_of, mnemonic_named, mnemonic_of, operands_of, Sort, a_register, a_number, a_shift, a_label, sorts_of}
+use Rattle.ultra_asm.specs.Words.{text_words, before_colon, is_name, decimal_value, register_of, shift_of}
+use Rattle.ultra_asm.specs.Labels.{statement, label_pc, is_defined_before}
+use Rattle.ultra_asm.specs.Instruction.{mnemonic_word, mnemonic_named, mnemonic_of, operands_of, Sort, a_register, a_number, a_shift, a_label, sorts_of}
+use Rattle.ultra_isa.specs.declared.TheConstants.{MOST_INSTRUCTIONS}
 
--- ---- the grammar of an instruction, in a text whose labels are at these places
-module _ (places : List ℕ → Option ℕ) where
+-- ---- the grammar of an instruction, in a text whose labels are at these program counters
+module _ (pcs : List ℕ → Option ℕ) where
   -- the word is written for the operand
   abbrev pub IsOperand : Operand → List ℕ → Type 0
   IsOperand (operand.Register r) w = register_of w ≡ Some r
-  IsOperand (operand.Number n) w = number_of w ≡ Some n
+  IsOperand (operand.Number n) w = decimal_value w ≡ Some n
   IsOperand (operand.Bits n) w = shift_of w ≡ Some n
-  IsOperand (operand.Label k) w = places w ≡ Some k
+  IsOperand (operand.Label k) w = pcs w ≡ Some k
 
   abbrev pub AreOperands : List Operand → List (List ℕ) → Type 0
   AreOperands [] [] = Unit {0}
@@ -30,7 +31,7 @@ module _ (places : List ℕ → Option ℕ) where
   -- the words are the instruction: its mnemonic, then its operands
   abbrev pub IsInstruction : List (List ℕ) → Instr → Type 0
   IsInstruction [] i = ⊥
-  IsInstruction (w ∷ ws) i = (w ≡ word_of (mnemonic_of i)) × AreOperands (operands_of i) ws
+  IsInstruction (w ∷ ws) i = (w ≡ mnemonic_word (mnemonic_of i)) × AreOperands (operands_of i) ws
 
   abbrev pub AreInstructions : List (List (List ℕ)) → List Instr → Type 0
   AreInstructions [] [] = Unit {0}
@@ -62,8 +63,8 @@ line_at ls k = slice_index_or ls k []
 -- these are the instructions of a text whose lines have these words
 pub record AreLinesOf (ls : List (List (List ℕ))) (is : List Instr) : Type 0 where
   pub labels : (k : ℕ) → k < length ls → IsLabelled ls k (line_at ls k)
-  pub instructions : AreInstructions (place_of ls) (statements ls) is
-  pub short : length is ≤ 4096
+  pub instructions : AreInstructions (label_pc ls) (statements ls) is
+  pub short : length is ≤ MOST_INSTRUCTIONS
 
 -- the text is written for the program
 abbrev pub IsProgramText : List ℕ → List Instr → Type 0
@@ -85,12 +86,12 @@ abbrev pub or_else : Option AsmFaultKind → Option AsmFaultKind → Option AsmF
 or_else None b = b
 or_else (Some e) b = Some e
 
-module _ (places : List ℕ → Option ℕ) where
+module _ (pcs : List ℕ → Option ℕ) where
   abbrev pub operand_fault : Sort → List ℕ → Option AsmFaultKind
   operand_fault a_register w = fault_unless (register_of w) BadRegister
-  operand_fault a_number w = fault_unless (number_of w) BadNumber
+  operand_fault a_number w = fault_unless (decimal_value w) BadNumber
   operand_fault a_shift w = fault_unless (shift_of w) BadNumber
-  operand_fault a_label w = fault_unless (places w) UnknownLabel
+  operand_fault a_label w = fault_unless (pcs w) UnknownLabel
 
   -- that of the first operand that has one
   abbrev pub operands_fault : List Sort → List (List ℕ) → Option AsmFaultKind
@@ -107,7 +108,8 @@ module _ (places : List ℕ → Option ℕ) where
   abbrev pub instruction_fault : ℕ → Option Mnemonic → List (List ℕ) → Option AsmFaultKind
   instruction_fault before None ws = Some UnknownWord
   instruction_fault before (Some m) ws =
-      or_else (fault_if (nat_le 4096 before) TooLong) (fault_of_operands (sorts_of m) ws)
+      or_else (fault_if (nat_le MOST_INSTRUCTIONS before) TooLong)
+      (fault_of_operands (sorts_of m) ws)
 
   abbrev pub statement_fault : ℕ → List (List ℕ) → Option AsmFaultKind
   statement_fault before [] = None
@@ -117,7 +119,9 @@ module _ (places : List ℕ → Option ℕ) where
 module _ (ls : List (List (List ℕ))) (k : ℕ) where
   abbrev pub label_fault : Option (List ℕ) → Option AsmFaultKind
   label_fault None = None
-  label_fault (Some name) = or_else (fault_if (not (is_name name)) UnknownWord) (fault_if (is_defined_before ls k name) DoubleLabel)
+  label_fault (Some name) =
+      or_else (fault_if (not (is_name name)) UnknownWord)
+      (fault_if (is_defined_before ls k name) DoubleLabel)
 
   abbrev pub first_word_fault : List (List ℕ) → Option AsmFaultKind
   first_word_fault [] = None
@@ -125,7 +129,9 @@ module _ (ls : List (List (List ℕ))) (k : ℕ) where
 
   -- of line k
   abbrev pub line_fault : Option AsmFaultKind
-  line_fault = or_else (first_word_fault (line_at ls k)) (statement_fault (place_of ls) (length (statements (take k ls))) (statement (line_at ls k)))
+  line_fault =
+      or_else (first_word_fault (line_at ls k))
+      (statement_fault (label_pc ls) (length (statements (take k ls))) (statement (line_at ls k)))
 
 -- the first line that has a fault, and its fault
 pub record IsFirstFault (ls : List (List (List ℕ))) (f : AsmFault) : Type 0 where
@@ -134,8 +140,8 @@ pub record IsFirstFault (ls : List (List (List ℕ))) (f : AsmFault) : Type 0 wh
   pub first : (k : ℕ) → k + 1 < f.line → line_fault ls k ≡ None
 
 -- why a text is refused
-abbrev pub ExplainsFault : List ℕ → AsmFault → Type 0
-ExplainsFault text f = (f ≡ no_memory) ⊎ IsFirstFault (text_words text) f
+abbrev pub ExplainsAsmFault : List ℕ → AsmFault → Type 0
+ExplainsAsmFault text f = (f ≡ no_memory) ⊎ IsFirstFault (text_words text) f
 
 -- the result is the program, unless memory was refused
 abbrev pub IsGivenBack : List Instr → Result (List Instr) AsmFault → Type 0

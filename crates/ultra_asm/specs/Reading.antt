@@ -7,41 +7,41 @@ use Rattle.ultra_asm.specs.declared.AsmFaultKind.{AsmFaultKind}
 use Rattle.ultra_asm.specs.declared.AsmFaultKind.TheVariants.{UnknownWord, BadRegister, BadNumber, UnknownLabel, DoubleLabel, TooLong, WrongOperands}
 use Rattle.ultra_asm.specs.declared.instruction.Mnemonic.{Mnemonic}
 use Rattle.ultra_asm.specs.declared.instruction.Mnemonic.TheVariants.{Set, Add, AddWord, Subtract, And, ShiftRight, IsBelow, IsEqual, JumpIfZero, JumpIfNotZero, Jump, Number, Size, Load, Store, Faa, Swap, Fence, Halt}
-use Rattle.ultra_asm.specs.Words.{number_of, register_of, shift_of, before_colon, is_name}
-use Rattle.ultra_asm.specs.Labels.{statement, near_place}
+use Rattle.ultra_asm.specs.Words.{decimal_value, register_of, shift_of, before_colon, is_name}
+use Rattle.ultra_asm.specs.Labels.{statement, near_pc}
 use Rattle.ultra_asm.specs.declared.labels.Definition.{Definition}
 use Rattle.ultra_asm.specs.Instruction.{mnemonic_named}
 
--- the place of each label
-abbrev pub Places : Type 0
-Places = List ℕ → Option ℕ
+-- the program counter of each label
+abbrev pub LabelPcs : Type 0
+LabelPcs = List ℕ → Option ℕ
 
 -- one operand
-abbrev pub read_register : Places → List ℕ → Result ℕ AsmFaultKind
-read_register places w = ok_or (register_of w) BadRegister
+abbrev pub read_register : LabelPcs → List ℕ → Result ℕ AsmFaultKind
+read_register pcs w = ok_or (register_of w) BadRegister
 
-abbrev pub read_number : Places → List ℕ → Result ℕ AsmFaultKind
-read_number places w = ok_or (number_of w) BadNumber
+abbrev pub read_number : LabelPcs → List ℕ → Result ℕ AsmFaultKind
+read_number pcs w = ok_or (decimal_value w) BadNumber
 
-abbrev pub read_shift : Places → List ℕ → Result ℕ AsmFaultKind
-read_shift places w = ok_or (shift_of w) BadNumber
+abbrev pub read_shift : LabelPcs → List ℕ → Result ℕ AsmFaultKind
+read_shift pcs w = ok_or (shift_of w) BadNumber
 
-abbrev pub read_label : Places → List ℕ → Result ℕ AsmFaultKind
-read_label places w = ok_or (places w) UnknownLabel
+abbrev pub read_label : LabelPcs → List ℕ → Result ℕ AsmFaultKind
+read_label pcs w = ok_or (pcs w) UnknownLabel
 
 -- one, two or three operands: their number comes first, then the first that is wrong
-abbrev pub pair_of : {A B : Type 0} → Result A AsmFaultKind → Result B AsmFaultKind
+abbrev pub both_operands : {A B : Type 0} → Result A AsmFaultKind → Result B AsmFaultKind
     → Result (A × B) AsmFaultKind
-pair_of (Err e) b = Err e
-pair_of (Ok a) (Err e) = Err e
-pair_of (Ok a) (Ok b) = Ok (a, b)
+both_operands (Err e) b = Err e
+both_operands (Ok a) (Err e) = Err e
+both_operands (Ok a) (Ok b) = Ok (a, b)
 
-abbrev pub triple_of : {A B C : Type 0} → Result A AsmFaultKind → Result B AsmFaultKind
+abbrev pub all_three_operands : {A B C : Type 0} → Result A AsmFaultKind → Result B AsmFaultKind
     → Result C AsmFaultKind → Result (A × B × C) AsmFaultKind
-triple_of (Err e) b c = Err e
-triple_of (Ok a) (Err e) c = Err e
-triple_of (Ok a) (Ok b) (Err e) = Err e
-triple_of (Ok a) (Ok b) (Ok c) = Ok (a, b, c)
+all_three_operands (Err e) b c = Err e
+all_three_operands (Ok a) (Err e) c = Err e
+all_three_operands (Ok a) (Ok b) (Err e) = Err e
+all_three_operands (Ok a) (Ok b) (Ok c) = Ok (a, b, c)
 
 abbrev pub none_in : List (List ℕ) → Result (Unit {0}) AsmFaultKind
 none_in [] = Ok tt
@@ -57,7 +57,7 @@ abbrev pub two_in : {A B : Type 0} → (List ℕ → Result A AsmFaultKind)
     → (List ℕ → Result B AsmFaultKind) → List (List ℕ) → Result (A × B) AsmFaultKind
 two_in f g [] = Err WrongOperands
 two_in f g (a ∷ []) = Err WrongOperands
-two_in f g (a ∷ b ∷ []) = pair_of (f a) (g b)
+two_in f g (a ∷ b ∷ []) = both_operands (f a) (g b)
 two_in f g (a ∷ b ∷ c ∷ ws) = Err WrongOperands
 
 abbrev pub three_in : {A B C : Type 0} → (List ℕ → Result A AsmFaultKind)
@@ -66,46 +66,55 @@ abbrev pub three_in : {A B C : Type 0} → (List ℕ → Result A AsmFaultKind)
 three_in f g h [] = Err WrongOperands
 three_in f g h (a ∷ []) = Err WrongOperands
 three_in f g h (a ∷ b ∷ []) = Err WrongOperands
-three_in f g h (a ∷ b ∷ c ∷ []) = triple_of (f a) (g b) (h c)
+three_in f g h (a ∷ b ∷ c ∷ []) = all_three_operands (f a) (g b) (h c)
 three_in f g h (a ∷ b ∷ c ∷ d ∷ ws) = Err WrongOperands
 
 -- what is made of what is read
-abbrev pub made : {A B : Type 0} → (A → B) → Result A AsmFaultKind → Result B AsmFaultKind
-made f (Err e) = Err e
-made f (Ok a) = Ok (f a)
+abbrev pub map_ok : {A B : Type 0} → (A → B) → Result A AsmFaultKind → Result B AsmFaultKind
+map_ok f (Err e) = Err e
+map_ok f (Ok a) = Ok (f a)
 
-module _ (places : Places) where
+module _ (pcs : LabelPcs) where
   abbrev pub three_registers : List (List ℕ) → Result (ℕ × ℕ × ℕ) AsmFaultKind
   three_registers ws =
-      three_in (read_register places) (read_register places) (read_register places) ws
+      three_in (read_register pcs) (read_register pcs) (read_register pcs) ws
 
   abbrev pub two_registers : List (List ℕ) → Result (ℕ × ℕ) AsmFaultKind
-  two_registers ws = two_in (read_register places) (read_register places) ws
+  two_registers ws = two_in (read_register pcs) (read_register pcs) ws
 
   -- an instruction of this mnemonic
   abbrev pub read_instruction : Mnemonic → List (List ℕ) → Result Instr AsmFaultKind
-  read_instruction Set ws = made (λ (t : ℕ × ℕ). instr.Set t.0 t.1) (two_in (read_register places) (read_number places) ws)
-  read_instruction Add ws = made (λ (t : ℕ × ℕ × ℕ). instr.Add t.0 t.1 t.2) (three_registers ws)
-  read_instruction AddWord ws = made (λ (t : ℕ × ℕ × ℕ). instr.AddWord t.0 t.1 t.2) (three_in (read_register places) (read_register places) (read_number places) ws)
+  read_instruction Set ws =
+      map_ok (λ (t : ℕ × ℕ). instr.Set t.0 t.1) (two_in (read_register pcs) (read_number pcs) ws)
+  read_instruction Add ws = map_ok (λ (t : ℕ × ℕ × ℕ). instr.Add t.0 t.1 t.2) (three_registers ws)
+  read_instruction AddWord ws =
+      map_ok (λ (t : ℕ × ℕ × ℕ). instr.AddWord t.0 t.1 t.2)
+      (three_in (read_register pcs) (read_register pcs) (read_number pcs) ws)
   read_instruction Subtract ws =
-      made (λ (t : ℕ × ℕ × ℕ). instr.Subtract t.0 t.1 t.2) (three_registers ws)
-  read_instruction And ws = made (λ (t : ℕ × ℕ × ℕ). instr.And t.0 t.1 t.2) (three_registers ws)
-  read_instruction ShiftRight ws = made (λ (t : ℕ × ℕ × ℕ). instr.ShiftRight t.0 t.1 t.2) (three_in (read_register places) (read_register places) (read_shift places) ws)
+      map_ok (λ (t : ℕ × ℕ × ℕ). instr.Subtract t.0 t.1 t.2) (three_registers ws)
+  read_instruction And ws = map_ok (λ (t : ℕ × ℕ × ℕ). instr.And t.0 t.1 t.2) (three_registers ws)
+  read_instruction ShiftRight ws =
+      map_ok (λ (t : ℕ × ℕ × ℕ). instr.ShiftRight t.0 t.1 t.2)
+      (three_in (read_register pcs) (read_register pcs) (read_shift pcs) ws)
   read_instruction IsBelow ws =
-      made (λ (t : ℕ × ℕ × ℕ). instr.IsBelow t.0 t.1 t.2) (three_registers ws)
+      map_ok (λ (t : ℕ × ℕ × ℕ). instr.IsBelow t.0 t.1 t.2) (three_registers ws)
   read_instruction IsEqual ws =
-      made (λ (t : ℕ × ℕ × ℕ). instr.IsEqual t.0 t.1 t.2) (three_registers ws)
-  read_instruction JumpIfZero ws = made (λ (t : ℕ × ℕ). instr.JumpIfZero t.0 t.1) (two_in (read_register places) (read_label places) ws)
-  read_instruction JumpIfNotZero ws = made (λ (t : ℕ × ℕ). instr.JumpIfNotZero t.0 t.1) (two_in (read_register places) (read_label places) ws)
-  read_instruction Jump ws = made (λ (t : ℕ). instr.Jump t) (one_in (read_label places) ws)
-  read_instruction Number ws = made (λ (t : ℕ). instr.Number t) (one_in (read_register places) ws)
-  read_instruction Size ws = made (λ (t : ℕ). instr.Size t) (one_in (read_register places) ws)
-  read_instruction Load ws = made (λ (t : ℕ × ℕ). instr.Load t.0 t.1) (two_registers ws)
-  read_instruction Store ws = made (λ (t : ℕ × ℕ). instr.Store t.0 t.1) (two_registers ws)
-  read_instruction Faa ws = made (λ (t : ℕ × ℕ × ℕ). instr.Faa t.0 t.1 t.2) (three_registers ws)
-  read_instruction Swap ws = made (λ (t : ℕ × ℕ × ℕ). instr.Swap t.0 t.1 t.2) (three_registers ws)
-  read_instruction Fence ws = made (λ t. instr.Fence) (none_in ws)
-  read_instruction Halt ws = made (λ t. instr.Halt) (none_in ws)
+      map_ok (λ (t : ℕ × ℕ × ℕ). instr.IsEqual t.0 t.1 t.2) (three_registers ws)
+  read_instruction JumpIfZero ws =
+      map_ok (λ (t : ℕ × ℕ). instr.JumpIfZero t.0 t.1)
+      (two_in (read_register pcs) (read_label pcs) ws)
+  read_instruction JumpIfNotZero ws =
+      map_ok (λ (t : ℕ × ℕ). instr.JumpIfNotZero t.0 t.1)
+      (two_in (read_register pcs) (read_label pcs) ws)
+  read_instruction Jump ws = map_ok (λ (t : ℕ). instr.Jump t) (one_in (read_label pcs) ws)
+  read_instruction Number ws = map_ok (λ (t : ℕ). instr.Number t) (one_in (read_register pcs) ws)
+  read_instruction Size ws = map_ok (λ (t : ℕ). instr.Size t) (one_in (read_register pcs) ws)
+  read_instruction Load ws = map_ok (λ (t : ℕ × ℕ). instr.Load t.0 t.1) (two_registers ws)
+  read_instruction Store ws = map_ok (λ (t : ℕ × ℕ). instr.Store t.0 t.1) (two_registers ws)
+  read_instruction Faa ws = map_ok (λ (t : ℕ × ℕ × ℕ). instr.Faa t.0 t.1 t.2) (three_registers ws)
+  read_instruction Swap ws = map_ok (λ (t : ℕ × ℕ × ℕ). instr.Swap t.0 t.1 t.2) (three_registers ws)
+  read_instruction Fence ws = map_ok (λ t. instr.Fence) (none_in ws)
+  read_instruction Halt ws = map_ok (λ t. instr.Halt) (none_in ws)
 
   -- where the mnemonic must be known and the program must have room for one more instruction
   abbrev pub next_instruction : Bool → Option Mnemonic → List (List ℕ) → Result Instr AsmFaultKind
@@ -117,7 +126,7 @@ module _ (places : Places) where
   abbrev pub read_statement : Bool → List (List ℕ) → Result (Option Instr) AsmFaultKind
   read_statement has_room [] = Ok None
   read_statement has_room (w ∷ ws) =
-      made (λ i. Some i) (next_instruction has_room (mnemonic_named w) ws)
+      map_ok (λ i. Some i) (next_instruction has_room (mnemonic_named w) ws)
 
 -- ---- a line, where these names are defined
 -- a label must not be defined by a line before this one
@@ -147,4 +156,6 @@ and_then (Ok t) r = r
 -- the instruction of line k, if it has one
 abbrev pub read_line : (List ℕ → Option Definition) → ℕ → Bool → List (List ℕ)
     → Result (Option Instr) AsmFaultKind
-read_line defined k has_room ws = and_then (check_label defined k ws) (read_statement (λ n. option_map near_place (defined n)) has_room (statement ws))
+read_line defined k has_room ws =
+    and_then (check_label defined k ws)
+    (read_statement (λ n. option_map near_pc (defined n)) has_room (statement ws))

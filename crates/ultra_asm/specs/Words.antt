@@ -38,18 +38,22 @@ is_name_byte b = is_letter b || (nat_le 48 b && nat_le b 57)
 
 -- a name has 1 to 32 bytes, first a letter, then letters or digits
 abbrev pub is_name : List ℕ → Bool
-is_name w = nat_lt 0 (length w) && nat_le (length w) 32 && is_letter (slice_index w 0) && list_all is_name_byte w
+is_name w =
+    nat_lt 0 (length w) && nat_le (length w) 32 && is_letter (slice_index w 0)
+    && list_all is_name_byte w
 
 -- what stands before the `:` at a word's end, if there is one
 abbrev pub before_colon : List ℕ → Option (List ℕ)
-before_colon w = if nat_lt 0 (length w) && (slice_index w (length w - 1) == 58) then Some (take (length w - 1) w) else None
+before_colon w =
+    if nat_lt 0 (length w) && (slice_index w (length w - 1) == 58)
+    then Some (take (length w - 1) w) else None
 
 -- a number is written as one decimal digit or more, and is below 2^32
 abbrev pub is_number : List ℕ → Bool
 is_number w = nat_lt 0 (length w) && all_ascii_digits w && nat_lt (digits_value 10 w) (2 ^ 32)
 
-abbrev pub number_of : List ℕ → Option ℕ
-number_of w = if is_number w then Some (digits_value 10 w) else None
+abbrev pub decimal_value : List ℕ → Option ℕ
+decimal_value w = if is_number w then Some (digits_value 10 w) else None
 
 -- a zero with more digits behind it
 abbrev pub has_leading_zero : List ℕ → Bool
@@ -57,7 +61,9 @@ has_leading_zero w = nat_lt 1 (length w) && (slice_index w 0 == 48)
 
 -- a register is written as `r` and its number, from 0 to 15, without leading zero
 abbrev pub is_register : List ℕ → Bool
-is_register w = (slice_index w 0 == 114) && not (has_leading_zero (drop 1 w)) && is_number (drop 1 w) && nat_lt (digits_value 10 (drop 1 w)) 16
+is_register w =
+    (slice_index w 0 == 114) && not (has_leading_zero (drop 1 w)) && is_number (drop 1 w)
+    && nat_lt (digits_value 10 (drop 1 w)) 16
 
 abbrev pub register_of : List ℕ → Option ℕ
 register_of w = if is_register w then Some (digits_value 10 (drop 1 w)) else None

@@ -3,33 +3,34 @@
 ghost use Rattle.std.specs.Prelude.{◌≡◌, ℕ, ◌+◌, ◌++◌, ◌≤◌, slice_index_or, [], ◌∷◌, false, codes, decimal, OnOk, OnErr};
 ghost use Rattle.ultra_asm.specs.Instruction.{mnemonic_of, operands_of};
 ghost use Rattle.ultra_asm.specs.ProgramText.{IsProgramText};
-ghost use Rattle.ultra_asm.specs.Listing.{label_text, label_line, label_if, listed, operand_text, operands_text, line_text, instruction_line, target_of, is_target, listing_text, AreWritable, IsListable};
+ghost use Rattle.ultra_asm.specs.Listing.{label_text, label_line, label_if, operand_list, operand_text, operands_text, line_text, instruction_line, jump_target, is_target, listing_text, AreWritable, IsListable};
 ghost use Rattle.ultra_msg.specs.Bytes.{TakesPrefix};
-ghost use Rattle.ultra_io.specs.Page.{Writes};
+ghost use Rattle.ultra_io.specs.TextBuffer.{Writes};
+ghost use Rattle.ultra_isa.specs.declared.TheConstants.{MOST_INSTRUCTIONS};
 
 use crate::instruction::{Mnemonic, Operand};
-use ultra_io::Page;
+use ultra_io::TextBuffer;
 use ultra_isa::{Instr, MOST_INSTRUCTIONS, Program};
 use ultra_msg::{Sink, SinkFault};
 
-/// How many places a jump can go to.
-const PLACES: usize = MOST_INSTRUCTIONS + 1;
+/// How many program counters a jump can go to.
+const TARGETS: usize = MOST_INSTRUCTIONS + 1;
 
-/// The places of a program that some instruction jumps to.
+/// The program counters of a program that some instruction jumps to.
 #[derive(Drop)]
 struct Targets {
-    marked: [bool; PLACES],
+    marked: [bool; TARGETS],
 }
 
 impl Targets {
     /// The targets of a program.
     fn of(program: &Program) -> Targets
-        ensures marked { (k : ℕ) → k ≤ 4096 → slice_index_or result.marked k false ≡ is_target program.now k }
+        ensures marked { (k : ℕ) → k ≤ MOST_INSTRUCTIONS → slice_index_or result.marked k false ≡ is_target program.now k }
         ensures listable { IsListable program.now }
     {
-        let mut marked = [false; PLACES];
-        for place in 0..program.len() {
-            if let Some(instruction) = program.instruction(place) {
+        let mut marked = [false; TARGETS];
+        for pc in 0..program.len() {
+            if let Some(instruction) = program.instruction(pc) {
                 if let Some(target) = target(instruction) {
                     marked[usize::from(target)] = true;
                 }
@@ -41,7 +42,7 @@ impl Targets {
 
 /// Where the instruction jumps to, if it is a jump.
 fn target(instruction: Instr) -> Option<u16>
-    ensures value { result ≡ target_of instruction }
+    ensures value { result ≡ jump_target instruction }
     ensures writable { AreWritable (operands_of instruction) }
 {
     match instruction {
@@ -50,7 +51,7 @@ fn target(instruction: Instr) -> Option<u16>
     }
 }
 
-/// Writes the canonical text of a program: each instruction on a line of its own, and the line `Lk:` before the one at place `k`, or at the end, where some jump goes there.
+/// Writes the canonical text of a program: each instruction on a line of its own, and the line `Lk:` before the one at program counter `k`, or at the end, where some jump goes there.
 ///
 /// It takes no memory, and fails only where the sink does. After a fault the sink has taken a prefix of the text.
 pub fn listing<S: Sink>(program: &Program, sink: &mut S) -> Result<(), SinkFault>
@@ -60,52 +61,57 @@ pub fn listing<S: Sink>(program: &Program, sink: &mut S) -> Result<(), SinkFault
     ensures counted { OnErr result (S.failures sink.new ≡ S.failures sink.old + 1) }
     ensures reads_back { IsProgramText (listing_text program.now) program.now }
 {
-    let mut page = Page::new(sink);
-    write_program(&mut page, program);
-    page.finish()
+    let mut buffer = TextBuffer::new(sink);
+    write_program(&mut buffer, program);
+    buffer.finish()
 }
 
 /// Writes the canonical text of a program.
-fn write_program<S: Sink>(page: &mut Page<'_, S>, program: &Program)
-    ensures text { Writes S.taken S.failures (listing_text program.now) page.old page.new }
+fn write_program<S: Sink>(buffer: &mut TextBuffer<'_, S>, program: &Program)
+    ensures text { Writes S.taken S.failures (listing_text program.now) buffer.old buffer.new }
     ensures reads_back { IsProgramText (listing_text program.now) program.now }
 {
     let targets = Targets::of(program);
-    for place in 0..program.len() {
-        if let Some(instruction) = program.instruction(place) {
-            write_place(page, &targets, place, instruction);
+    for pc in 0..program.len() {
+        if let Some(instruction) = program.instruction(pc) {
+            write_pc(buffer, &targets, pc, instruction);
         }
     }
-    write_label_line(page, &targets, program.len());
+    write_label_line(buffer, &targets, program.len());
 }
 
-/// Writes the instruction at a place, behind the label of the place if some jump goes there.
-fn write_place<S: Sink>(page: &mut Page<'_, S>, targets: &Targets, place: usize, instruction: Instr)
-    requires { place ≤ 4096 }
-    ensures { Writes S.taken S.failures (label_if (slice_index_or targets.now.marked place false) place ++ instruction_line instruction) page.old page.new }
+/// Writes the instruction at a program counter, behind the label of the program counter if some jump goes there.
+fn write_pc<S: Sink>(
+    buffer: &mut TextBuffer<'_, S>,
+    targets: &Targets,
+    pc: usize,
+    instruction: Instr,
+)
+    requires { pc ≤ MOST_INSTRUCTIONS }
+    ensures { Writes S.taken S.failures (label_if (slice_index_or targets.now.marked pc false) pc ++ instruction_line instruction) buffer.old buffer.new }
 {
-    write_label_line(page, targets, place);
-    write_instruction(page, instruction);
+    write_label_line(buffer, targets, pc);
+    write_instruction(buffer, instruction);
 }
 
-/// Writes the label of a place on a line of its own, if some jump goes there.
-fn write_label_line<S: Sink>(page: &mut Page<'_, S>, targets: &Targets, place: usize)
-    requires { place ≤ 4096 }
-    ensures { Writes S.taken S.failures (label_if (slice_index_or targets.now.marked place false) place) page.old page.new }
+/// Writes the label of a program counter on a line of its own, if some jump goes there.
+fn write_label_line<S: Sink>(buffer: &mut TextBuffer<'_, S>, targets: &Targets, pc: usize)
+    requires { pc ≤ MOST_INSTRUCTIONS }
+    ensures { Writes S.taken S.failures (label_if (slice_index_or targets.now.marked pc false) pc) buffer.old buffer.new }
 {
-    if targets.marked[place] {
-        write_label(page, place);
-        page.put(b":\n");
+    if targets.marked[pc] {
+        write_label(buffer, pc);
+        buffer.put(b":\n");
     }
 }
 
 /// Writes an instruction on a line of its own.
-fn write_instruction<S: Sink>(page: &mut Page<'_, S>, instruction: Instr)
-    ensures { Writes S.taken S.failures (instruction_line instruction) page.old page.new }
+fn write_instruction<S: Sink>(buffer: &mut TextBuffer<'_, S>, instruction: Instr)
+    ensures { Writes S.taken S.failures (instruction_line instruction) buffer.old buffer.new }
 {
     let mnemonic = mnemonic_of(&instruction);
     let operands = operands_of(instruction);
-    write_line(page, mnemonic, operands.as_slice());
+    write_line(buffer, mnemonic, operands.as_slice());
 }
 
 /// The operands of an instruction, in the order in which they are written.
@@ -120,7 +126,7 @@ enum Operands {
 impl Operands {
     /// The operands as a list.
     fn as_slice(&self) -> &[Operand]
-        ensures { result.now ≡ listed self.now }
+        ensures { result.now ≡ operand_list self.now }
     {
         match self {
             Operands::None => &[],
@@ -160,7 +166,7 @@ fn mnemonic_of(instruction: &Instr) -> Mnemonic
 
 /// The operands of an instruction.
 fn operands_of(instruction: Instr) -> Operands
-    ensures { listed result ≡ operands_of instruction }
+    ensures { operand_list result ≡ operands_of instruction }
 {
     use Operand::{Bits, Label, Number, Register};
     use Operands::{None, One, Three, Two};
@@ -185,54 +191,54 @@ fn operands_of(instruction: Instr) -> Operands
 }
 
 /// Writes the line of an instruction with these operands.
-fn write_line<S: Sink>(page: &mut Page<'_, S>, mnemonic: Mnemonic, operands: &[Operand])
-    ensures { Writes S.taken S.failures (line_text mnemonic operands.now) page.old page.new }
+fn write_line<S: Sink>(buffer: &mut TextBuffer<'_, S>, mnemonic: Mnemonic, operands: &[Operand])
+    ensures { Writes S.taken S.failures (line_text mnemonic operands.now) buffer.old buffer.new }
 {
-    page.put(mnemonic.word());
-    write_operands(page, operands);
-    page.put(b"\n");
+    buffer.put(mnemonic.word());
+    write_operands(buffer, operands);
+    buffer.put(b"\n");
 }
 
 /// Writes operands, each behind a blank.
-fn write_operands<S: Sink>(page: &mut Page<'_, S>, operands: &[Operand])
-    ensures { Writes S.taken S.failures (operands_text operands.now) page.old page.new }
+fn write_operands<S: Sink>(buffer: &mut TextBuffer<'_, S>, operands: &[Operand])
+    ensures { Writes S.taken S.failures (operands_text operands.now) buffer.old buffer.new }
 {
     for operand in operands {
-        write_next(page, *operand);
+        write_next(buffer, *operand);
     }
 }
 
 /// Writes an operand behind a blank.
-fn write_next<S: Sink>(page: &mut Page<'_, S>, operand: Operand)
-    ensures { Writes S.taken S.failures (codes " " ++ operand_text operand) page.old page.new }
+fn write_next<S: Sink>(buffer: &mut TextBuffer<'_, S>, operand: Operand)
+    ensures { Writes S.taken S.failures (codes " " ++ operand_text operand) buffer.old buffer.new }
 {
-    page.put(b" ");
-    write_operand(page, operand);
+    buffer.put(b" ");
+    write_operand(buffer, operand);
 }
 
 /// Writes an operand.
-fn write_operand<S: Sink>(page: &mut Page<'_, S>, operand: Operand)
-    ensures { Writes S.taken S.failures (operand_text operand) page.old page.new }
+fn write_operand<S: Sink>(buffer: &mut TextBuffer<'_, S>, operand: Operand)
+    ensures { Writes S.taken S.failures (operand_text operand) buffer.old buffer.new }
 {
     match operand {
-        Operand::Register(register) => write_numbered(page, b"r", register.index()),
-        Operand::Number(number) => page.put_number(number),
-        Operand::Bits(shift) => page.put_number(shift.bits()),
-        Operand::Label(place) => write_label(page, usize::from(place)),
+        Operand::Register(register) => write_numbered(buffer, b"r", register.index()),
+        Operand::Number(number) => buffer.put_number(number),
+        Operand::Bits(shift) => buffer.put_number(shift.bits()),
+        Operand::Label(pc) => write_label(buffer, usize::from(pc)),
     }
 }
 
-/// Writes the label of a place, as `L7`.
-fn write_label<S: Sink>(page: &mut Page<'_, S>, place: usize)
-    ensures { Writes S.taken S.failures (label_text place) page.old page.new }
+/// Writes the label of a program counter, as `L7`.
+fn write_label<S: Sink>(buffer: &mut TextBuffer<'_, S>, pc: usize)
+    ensures { Writes S.taken S.failures (label_text pc) buffer.old buffer.new }
 {
-    write_numbered(page, b"L", place);
+    write_numbered(buffer, b"L", pc);
 }
 
 /// Writes a letter, and a number behind it in decimal digits.
-fn write_numbered<S: Sink>(page: &mut Page<'_, S>, letter: &[u8], number: usize)
-    ensures { Writes S.taken S.failures (letter.now ++ decimal number) page.old page.new }
+fn write_numbered<S: Sink>(buffer: &mut TextBuffer<'_, S>, letter: &[u8], number: usize)
+    ensures { Writes S.taken S.failures (letter.now ++ decimal number) buffer.old buffer.new }
 {
-    page.put(letter);
-    page.put_count(number);
+    buffer.put(letter);
+    buffer.put_count(number);
 }

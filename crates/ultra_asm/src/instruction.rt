@@ -2,7 +2,7 @@
 
 ghost use Rattle.std.specs.Prelude.{◌≡◌, bytes_eq};
 ghost use Rattle.std.specs.List.{find};
-ghost use Rattle.ultra_asm.specs.Instruction.{word_of, mnemonic_named};
+ghost use Rattle.ultra_asm.specs.Instruction.{mnemonic_word, mnemonic_named};
 
 use ultra_msg::{Register, Shift, Word};
 
@@ -58,7 +58,7 @@ pub enum Operand {
     Number(Word),
     /// By how many bits a word is shifted.
     Bits(Shift),
-    /// The place that a label names.
+    /// The program counter that a label names.
     Label(u16),
 }
 
@@ -95,7 +95,7 @@ impl Mnemonic {
 
     /// The first of some mnemonics that the word is.
     fn first_named(list: &[Mnemonic], word: &[u8]) -> Option<Mnemonic>
-        ensures { result ≡ find (λ m. bytes_eq (word_of m) word.now) list.now }
+        ensures { result ≡ find (λ m. bytes_eq (mnemonic_word m) word.now) list.now }
     {
         list.iter()
             .find(|mnemonic| mnemonic.word() == word)
@@ -104,7 +104,7 @@ impl Mnemonic {
 
     /// The word with which the instruction begins.
     pub fn word(self) -> &'static [u8]
-        ensures { result.now ≡ word_of self }
+        ensures { result.now ≡ mnemonic_word self }
     {
         match self {
             Mnemonic::Set => b"li",

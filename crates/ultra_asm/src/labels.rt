@@ -4,7 +4,7 @@ ghost use Rattle.std.specs.Prelude.{◌≡◌, ℕ, List, map, IfOk};
 ghost use Rattle.std.specs.List.Sorted.{IsNonDecreasing};
 ghost use Rattle.std.specs.Option.{option_copied};
 ghost use Rattle.ultra_asm.specs.Words.{text_words};
-ghost use Rattle.ultra_asm.specs.Label.{place_at, AreInOrder};
+ghost use Rattle.ultra_asm.specs.Label.{pc_at, AreInOrder};
 ghost use Rattle.ultra_asm.specs.Labels.{line_label, statement, near_definition_of};
 
 use crate::words::{before_colon, first_words, is_name};
@@ -16,8 +16,8 @@ use ultra_isa::MOST_INSTRUCTIONS;
 pub struct Definition {
     /// The line, by its index from 0.
     pub line: usize,
-    /// The place of the next instruction, from 0. It is 4096 also where that is above 4096.
-    pub place: usize,
+    /// The program counter of the next instruction, from 0. It is 4096 also where that is above 4096.
+    pub pc: usize,
 }
 
 /// A label, on one of the lines that define it.
@@ -41,7 +41,7 @@ pub struct Labels<'t> {
 }
 
 impl<'t> Labels<'t> {
-    ghost use Rattle.ultra_asm.specs.Found.{definition_in, places_in};
+    ghost use Rattle.ultra_asm.specs.Found.{definition_in, pcs_in};
 
     /// The labels of a text.
     pub fn of(alloc: Global, text: &'t [u8]) -> Result<Labels<'t>, AllocError>
@@ -71,26 +71,26 @@ impl<'t> Labels<'t> {
         let label = labels.get(index)?;
         if label.name == name {
             let line = label.line;
-            let place = place_at(self.instructions.as_slice(), line);
-            Some(Definition { line, place })
+            let pc = pc_at(self.instructions.as_slice(), line);
+            Some(Definition { line, pc })
         } else {
             None
         }
     }
 
-    /// The place that the name stands for, if it is defined. Places above 4096 count as 4096.
-    pub fn place(&self, name: &[u8]) -> Option<u16>
-        ensures { result ≡ places_in self.now name.now }
+    /// The program counter that the name stands for, if it is defined. Program counters above 4096 count as 4096.
+    pub fn pc(&self, name: &[u8]) -> Option<u16>
+        ensures { result ≡ pcs_in self.now name.now }
     {
         let definition = self.definition(name)?;
-        Some(definition.place.min(MOST_INSTRUCTIONS) as u16)
+        Some(definition.pc.min(MOST_INSTRUCTIONS) as u16)
     }
 }
 
 /// How many of these lines, which rise, stand before a line.
-fn place_at(lines: &[usize], line: usize) -> usize
+fn pc_at(lines: &[usize], line: usize) -> usize
     requires { IsNonDecreasing lines.now }
-    ensures { result ≡ place_at lines.now line }
+    ensures { result ≡ pc_at lines.now line }
 {
     lines.partition_point(|at| *at < line)
 }

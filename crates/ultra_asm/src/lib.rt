@@ -3,7 +3,7 @@
 
 ghost use Rattle.std.specs.Prelude.{◌≡◌, List, IfOk, IfErr};
 ghost use Rattle.ultra_isa.specs.declared.Instr.{Instr};
-ghost use Rattle.ultra_asm.specs.ProgramText.{IsProgramText, ExplainsFault, IsGivenBack};
+ghost use Rattle.ultra_asm.specs.ProgramText.{IsProgramText, ExplainsAsmFault, IsGivenBack};
 
 mod canonical;
 mod instruction;
@@ -90,7 +90,7 @@ impl<T: Drop> From<AllocFailed<T>> for AsmFault {
 /// Else the fault names the first line that has one; or it is `NoMemory`, with line 0, where memory for the labels, the instructions or the words of a line was refused. No other memory is asked for. The time is at most proportional to the text's length times the logarithm of the number of labels.
 pub fn assemble(alloc: Global, text: &str) -> Result<Program, AsmFault>
     ensures ok { IfOk result (IsProgramText text.now) }
-    ensures refused { IfErr result (ExplainsFault text.now) }
+    ensures refused { IfErr result (ExplainsAsmFault text.now) }
     ensures given_back { (p : List Instr) → IsProgramText text.now p → IsGivenBack p result }
 {
     let text = text.as_bytes();

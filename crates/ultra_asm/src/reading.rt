@@ -1,7 +1,7 @@
 //! From the words of an instruction to the instruction.
 
 ghost use Rattle.std.specs.Prelude.{◌≡◌, map};
-ghost use Rattle.ultra_asm.specs.Found.{definition_in, places_in};
+ghost use Rattle.ultra_asm.specs.Found.{definition_in, pcs_in};
 ghost use Rattle.ultra_asm.specs.Reading.{none_in, one_in, two_in, three_in, read_instruction, read_statement, check_name, check_label, read_line};
 
 use crate::AsmFaultKind;
@@ -15,20 +15,20 @@ use ultra_msg::{Register, Shift, Word};
 pub trait Readable: Sized {
     ghost use Rattle.std.specs.Prelude.{ℕ, List, Result};
     ghost use Rattle.ultra_asm.specs.declared.AsmFaultKind.{AsmFaultKind};
-    ghost use Rattle.ultra_asm.specs.Reading.{Places};
+    ghost use Rattle.ultra_asm.specs.Reading.{LabelPcs};
 
-    /// What a word is read as, given the place of each label.
-    ghost reading: { Places → List ℕ → Result Self AsmFaultKind };
+    /// What a word is read as, given the program counter of each label.
+    ghost reading: { LabelPcs → List ℕ → Result Self AsmFaultKind };
 
     /// Reads a word.
     fn read(word: &[u8], labels: &Labels) -> Result<Self, AsmFaultKind>
-        ensures { result ≡ reading (places_in labels.now) word.now };
+        ensures { result ≡ reading (pcs_in labels.now) word.now };
 }
 
 impl Readable for Register {
     ghost use Rattle.ultra_asm.specs.Reading.{read_register};
 
-    ghost reading = { λ places w. read_register places w };
+    ghost reading = { λ pcs w. read_register pcs w };
 
     fn read(word: &[u8], _labels: &Labels) -> Result<Register, AsmFaultKind> {
         register_named(word).ok_or(AsmFaultKind::BadRegister)
@@ -38,7 +38,7 @@ impl Readable for Register {
 impl Readable for Word {
     ghost use Rattle.ultra_asm.specs.Reading.{read_number};
 
-    ghost reading = { λ places w. read_number places w };
+    ghost reading = { λ pcs w. read_number pcs w };
 
     fn read(word: &[u8], _labels: &Labels) -> Result<Word, AsmFaultKind> {
         number_written(word).ok_or(AsmFaultKind::BadNumber)
@@ -48,7 +48,7 @@ impl Readable for Word {
 impl Readable for Shift {
     ghost use Rattle.ultra_asm.specs.Reading.{read_shift};
 
-    ghost reading = { λ places w. read_shift places w };
+    ghost reading = { λ pcs w. read_shift pcs w };
 
     fn read(word: &[u8], _labels: &Labels) -> Result<Shift, AsmFaultKind> {
         shift_written(word).ok_or(AsmFaultKind::BadNumber)
@@ -58,11 +58,11 @@ impl Readable for Shift {
 impl Readable for u16 {
     ghost use Rattle.ultra_asm.specs.Reading.{read_label};
 
-    ghost reading = { λ places w. read_label places w };
+    ghost reading = { λ pcs w. read_label pcs w };
 
-    /// The place that a label names.
+    /// The program counter that a label names.
     fn read(word: &[u8], labels: &Labels) -> Result<u16, AsmFaultKind> {
-        labels.place(word).ok_or(AsmFaultKind::UnknownLabel)
+        labels.pc(word).ok_or(AsmFaultKind::UnknownLabel)
     }
 }
 
@@ -78,7 +78,7 @@ fn none(operands: &[&[u8]]) -> Result<(), AsmFaultKind>
 
 /// One operand.
 fn one<A: Readable + Drop>(operands: &[&[u8]], labels: &Labels) -> Result<A, AsmFaultKind>
-    ensures { result ≡ one_in (A.reading (places_in labels.now)) (map (λ w. w.now) operands.now) }
+    ensures { result ≡ one_in (A.reading (pcs_in labels.now)) (map (λ w. w.now) operands.now) }
 {
     match operands {
         [first] => A::read(first, labels),
@@ -91,7 +91,7 @@ fn two<A: Readable + Drop, B: Readable + Drop>(
     operands: &[&[u8]],
     labels: &Labels,
 ) -> Result<(A, B), AsmFaultKind>
-    ensures { result ≡ two_in (A.reading (places_in labels.now)) (B.reading (places_in labels.now)) (map (λ w. w.now) operands.now) }
+    ensures { result ≡ two_in (A.reading (pcs_in labels.now)) (B.reading (pcs_in labels.now)) (map (λ w. w.now) operands.now) }
 {
     match operands {
         [first, second] => Ok((A::read(first, labels)?, B::read(second, labels)?)),
@@ -104,7 +104,7 @@ fn three<A: Readable + Drop, B: Readable + Drop, C: Readable + Drop>(
     operands: &[&[u8]],
     labels: &Labels,
 ) -> Result<(A, B, C), AsmFaultKind>
-    ensures { result ≡ three_in (A.reading (places_in labels.now)) (B.reading (places_in labels.now)) (C.reading (places_in labels.now)) (map (λ w. w.now) operands.now) }
+    ensures { result ≡ three_in (A.reading (pcs_in labels.now)) (B.reading (pcs_in labels.now)) (C.reading (pcs_in labels.now)) (map (λ w. w.now) operands.now) }
 {
     match operands {
         [first, second, third] => Ok((
@@ -122,7 +122,7 @@ fn instruction(
     operands: &[&[u8]],
     labels: &Labels,
 ) -> Result<Instr, AsmFaultKind>
-    ensures { result ≡ read_instruction (places_in labels.now) mnemonic (map (λ w. w.now) operands.now) }
+    ensures { result ≡ read_instruction (pcs_in labels.now) mnemonic (map (λ w. w.now) operands.now) }
 {
     match mnemonic {
         Mnemonic::Set => two(operands, labels).map(|(d, n)| Instr::Set(d, n)),
@@ -153,7 +153,7 @@ fn statement_instruction(
     has_room: bool,
     labels: &Labels,
 ) -> Result<Option<Instr>, AsmFaultKind>
-    ensures { result ≡ read_statement (places_in labels.now) has_room (map (λ w. w.now) words.now) }
+    ensures { result ≡ read_statement (pcs_in labels.now) has_room (map (λ w. w.now) words.now) }
 {
     let Some((word, operands)) = words.split_first() else {
         return Ok(None);

@@ -4,7 +4,7 @@ ghost use Rattle.std.specs.Prelude.{◌≡◌, ◌-◌, map, take, position, IfO
 ghost use Rattle.std.specs.List.{before_first, list_all};
 ghost use Rattle.std.specs.Int.{IsInRange};
 ghost use Rattle.std.specs.Option.{option_copied};
-ghost use Rattle.ultra_asm.specs.Words.{is_separator, begins_comment, line_words, is_letter, is_name_byte, is_name, before_colon, number_of, register_of, shift_of};
+ghost use Rattle.ultra_asm.specs.Words.{is_separator, begins_comment, line_words, is_letter, is_name_byte, is_name, before_colon, decimal_value, register_of, shift_of};
 
 use std::alloc::{AllocError, Global};
 use ultra_msg::{Register, Shift, Word};
@@ -120,7 +120,7 @@ pub fn shift_written(word: &[u8]) -> Option<Shift>
 
 /// The number that one decimal digit or more write, if it is below `2^32`.
 pub fn number_written(word: &[u8]) -> Option<Word>
-    ensures { result ≡ number_of word.now }
+    ensures { result ≡ decimal_value word.now }
 {
     if word.is_empty() {
         return None;

@@ -1,20 +1,20 @@
--- The units of a machine before its first cycle. A module is filled with the initial values, one after the other; and one block
+-- The units of a machine before its first cycle. A module has the initial values; and one block
 -- that holds all units is the machine at its start.
 use Rattle.std.proofs.Common.{◌≡◌, ◌≢◌, ℕ, ◌+◌, ◌*◌, ◌/◌, ◌%◌, ◌<◌, List, [], ◌∷◌, ◌++◌, true, false, None, length, set, take, get_or, refl, ap, arith, get_or-set_same, get_or-set_other, subst, sym, ◌≤◌, nat_lt, ◌^◌, Some, replicate, ◌==◌, Option}
 use Rattle.std.proofs.{Math.Path.fun_ext, lemmas.Bool.Decides.nat_tests, lemmas.List.ext_get_or, lemmas.List.get_or-replicate, lemmas.List.length-replicate, lemmas.List.length-set, lemmas.List.take_all, lemmas.List.take_more, lemmas.List.get_or_past, lemmas.List.Elements.All-get_or, lemmas.Nat.div-mul-add, lemmas.Nat.div_below, lemmas.Nat.mod-mul-add}
 use Rattle.ultra_model.{proofs.Each.places_at, proofs.Each.length-places, proofs.Sound.sound-start, specs.Machine.given_value, specs.Machine.Settings, specs.Machine.start, specs.Places.places, specs.Ranges.AreInRange}
-use Rattle.ultra_mem.specs.Serve.{new_bank}
-use Rattle.ultra_section.specs.Building.{empty_block}
-use Rattle.ultra_course.{proofs.AtFrame.whole_alike, specs.Whole.empty_switch, specs.Whole.whole}
-use Rattle.ultra_cut.proofs.Common.{AreAlike, BlockState, Instr, by_kind, frame_of, home, machine_in, module_stands, switch_count, switch_stands, unit_count}
-use Rattle.ultra_block.{proofs.Seen.one_lists, specs.Fresh.filled, specs.Fresh.first_bank, specs.Fresh.first_element, specs.State.MakeUp}
+use Rattle.ultra_mem.specs.Serve.{fresh_module}
+use Rattle.ultra_block_core.specs.Building.{empty_block}
+use Rattle.ultra_cycle_law.{proofs.AtFrame.whole_alike, specs.Whole.empty_switch, specs.Whole.whole}
+use Rattle.ultra_partition.proofs.Common.{AreAlike, BlockState, Instr, by_kind, frame_of, home, machine_in, module_stands, switch_count, switch_stands, unit_count}
+use Rattle.ultra_block.{proofs.Seen.one_lists, specs.Fresh.initial_module, specs.Fresh.first_module, specs.Fresh.first_element, specs.State.MakeUp}
 
 given_more : (values : List (ℕ × ℕ)) (x : ℕ × ℕ) (a v : ℕ) → given_value (values ++ x ∷ []) a v ≡ elim (x.0 == a) [ true ↦ x.1 | false ↦ given_value values a v ]
 given_more [] x a v = refl
 given_more (y ∷ values) x a v = given_more values x a _
 
 module _ (size m n : ℕ) where
-  pub none_filled : new_bank n ≡ filled size m n []
+  pub none_filled : fresh_module n ≡ initial_module size m n []
   none_filled = ap (λ cells. record { cells = cells; inp = None; out = None }) (ext_get_or 0 _ _ (grind (arith, length-places, length-replicate)) (λ o inside. grind (arith, places_at, get_or-replicate, length-replicate)))
 
   -- the next address is of this module and sets its cell, or it is of another and leaves them
@@ -22,11 +22,11 @@ module _ (size m n : ℕ) where
     abbrev x : ℕ × ℕ
     x = get_or values i (0, 0)
 
-    pub filled_here : x.0 % size ≡ m → x.0 < size * n → filled size m n (take (i + 1) values) ≡ record (filled size m n (take i values)) { cells = set (filled size m n (take i values)).cells (x.0 / size) x.1 }
+    pub filled_here : x.0 % size ≡ m → x.0 < size * n → initial_module size m n (take (i + 1) values) ≡ record (initial_module size m n (take i values)) { cells = set (initial_module size m n (take i values)).cells (x.0 / size) x.1 }
     filled_here here within = rw (take_more values i (0, 0) inside) (ap (λ cells. record { cells = cells; inp = None; out = None }) (ext_get_or 0 _ _ (grind (arith, length-places, length-set))
         (λ o inside. grind (arith, places_at, given_more, nat_tests, div_below, length-places, length-set, get_or-set_same, get_or-set_other, div-mul-add, mod-mul-add))))
 
-    pub filled_past : x.0 % size ≢ m → filled size m n (take (i + 1) values) ≡ filled size m n (take i values)
+    pub filled_past : x.0 % size ≢ m → initial_module size m n (take (i + 1) values) ≡ initial_module size m n (take i values)
     filled_past past = rw (take_more values i (0, 0) inside) (ap (λ cell. record { cells = places n cell; inp = None; out = None }) (fun_ext (λ o. grind (arith, given_more, nat_tests, mod-mul-add))))
 
 pub ruleset fill_steps = (none_filled, filled_here, filled_past, take_all, length-places, div_below, All-get_or)
@@ -45,12 +45,12 @@ module _ (c : Settings) (program : List Instr) where
   pub record AreIn (w m p : ℕ) (b : BlockState) : Type 0 where
     pub rest : b ≡ record (empty_block c.stages program) { switches = b.switches; modules = b.modules; elements = b.elements }
     pub switches : IsRow (switch_count c.stages) w (λ k. empty_switch c) b.switches
-    pub modules : IsRow (2 ^ c.stages) m (first_bank c) b.modules
+    pub modules : IsRow (2 ^ c.stages) m (first_module c) b.modules
     pub elements : IsRow (2 ^ c.stages) p (first_element c) b.elements
 
 module _ (c : Settings) (program : List Instr) (range : AreInRange c) (b : BlockState) (all : AreIn c program (switch_count c.stages) (2 ^ c.stages) (2 ^ c.stages) b) where
   -- all stand in block 0
-  alike : AreAlike c.stages (frame_of c.stages (replicate (unit_count c.stages) 0) (b ∷ [])) (record { switch = λ n. empty_switch c; bank = first_bank c; element = first_element c; replies = λ l. None; requests = λ l. None })
+  alike : AreAlike c.stages (frame_of c.stages (replicate (unit_count c.stages) 0) (b ∷ [])) (record { switch = λ n. empty_switch c; memory_module = first_module c; element = first_element c; replies = λ l. None; requests = λ l. None })
   alike = grind (arith, get_or-replicate, get_or_past, length-replicate)
 
   at_start : machine_in c (replicate (unit_count c.stages) 0) 0 (b ∷ []) ≡ start c

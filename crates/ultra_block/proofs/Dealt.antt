@@ -1,11 +1,11 @@
--- A machine that stands in one block is dealt to the blocks that a partition names: it stays the same machine.
+-- A machine that is in one block is dealt to the blocks that a partition names: it stays the same machine.
 use Rattle.std.proofs.Common.{◌≡◌, ℕ, ◌+◌, ◌<◌, ◌≤◌, List, [], ◌∷◌, None, length, map, set, arith, get_or-set_same, get_or-set_other, ◌==◌, ◌&&◌, nat_lt, cond, refl, true, All}
 use Rattle.std.proofs.lemmas.{Bool.eq-eqb, Bool.Decides.nat_tests, List.get_or-replicate, List.get_or_past, List.length-replicate, List.length-set, List.append-nil}
-use Rattle.ultra_merge.specs.Merging.{merged}
-use Rattle.ultra_units.proofs.Marks.{length-put_on}
-use Rattle.ultra_section.specs.Building.{empty_block, with_unit, without_unit}
-use Rattle.ultra_course.proofs.AtFrame.{whole_alike}
-use Rattle.ultra_cut.{proofs.Columns.column_empty, proofs.Common.AreAlike, proofs.Common.AreWhole, proofs.Common.BlockState, proofs.Common.Instr, proofs.Common.IsShaped, proofs.Common.OfEach, proofs.Common.Settings, proofs.Common.block_at, proofs.Common.by_kind, proofs.Common.event_rank, proofs.Common.frame_of, proofs.Common.given, proofs.Common.home, proofs.Common.machine_in, proofs.Common.no_block, proofs.Common.put_apart, proofs.Common.put_there, proofs.Common.stands, proofs.Common.stop_rank, proofs.Common.unit_count, proofs.Happenings.joined_home, proofs.Units.Sort, proofs.Units.elements, proofs.Units.modules, proofs.Units.switches, specs.Cut.is_partition, specs.Events.events_of, specs.Events.stops_of}
+use Rattle.ultra_partition.specs.Merging.{merged}
+use Rattle.ultra_topology.proofs.Marks.{length-put_on}
+use Rattle.ultra_block_core.specs.Building.{empty_block, with_unit, without_unit}
+use Rattle.ultra_cycle_law.proofs.AtFrame.{whole_alike}
+use Rattle.ultra_partition.{proofs.Columns.column_empty, proofs.Common.AreAlike, proofs.Common.AreWhole, proofs.Common.BlockState, proofs.Common.Instr, proofs.Common.IsShaped, proofs.Common.OfEach, proofs.Common.Settings, proofs.Common.block_at, proofs.Common.by_kind, proofs.Common.event_rank, proofs.Common.frame_of, proofs.Common.value_or, proofs.Common.home, proofs.Common.machine_in, proofs.Common.no_block, proofs.Common.put_apart, proofs.Common.put_there, proofs.Common.is_in_block, proofs.Common.stop_rank, proofs.Common.unit_count, proofs.Happenings.joined_home, proofs.Units.Sort, proofs.Units.elements, proofs.Units.modules, proofs.Units.switches, specs.Cut.is_partition, specs.Events.events_of, specs.Events.stops_of}
 use Rattle.ultra_block.specs.{Dealt.IsLastNamed, State.MakeUp}
 
 ruleset moving = (nat_tests, put_there, put_apart, length-set, get_or-set_same, get_or-set_other)
@@ -54,14 +54,14 @@ module _ (d : ℕ) (partition : List ℕ) (b : BlockState) where
 module _ (c : Settings) (program : List Instr) (was : List ℕ) (n : ℕ) (b : BlockState) (whole : AreWhole c program was n (b ∷ [])) (partition : List ℕ) (left : BlockState) (now : List BlockState)
     (carried : AreCarried c.stages partition b (unit_count c.stages) left now) (count : length partition ≡ unit_count c.stages) where
   module _ {X : Type 0} (sort : Sort X) (there : SortIsCarried c.stages partition b sort (unit_count c.stages) left now) where
-    sort_stands : (k : ℕ) → k < length now → (i : ℕ) → i < sort.count c.stages → sort.number c.stages i < unit_count c.stages → stands (sort.number c.stages i) (block_at now k) ≡ (home partition (sort.number c.stages i) == k)
+    sort_stands : (k : ℕ) → k < length now → (i : ℕ) → i < sort.count c.stages → sort.number c.stages i < unit_count c.stages → is_in_block (sort.number c.stages i) (block_at now k) ≡ (home partition (sort.number c.stages i) == k)
     sort_stands k h i is small =
         grind (arith, nat_tests, whole.machine.blocks.cut.homes, whole.machine.blocks.cut.stand 0, sort.stand c.stages b (whole.machine.blocks.cut.stages 0 (omega arith)), sort.stand c.stages (block_at now k) (carried.shaped k h).stages)
 
-    alike_at : (i : ℕ) → i < sort.count c.stages → given sort.nothing (sort.at (block_at now (home partition (sort.number c.stages i))) i) ≡ given sort.nothing (sort.at (block_at (b ∷ []) (home was (sort.number c.stages i))) i)
+    alike_at : (i : ℕ) → i < sort.count c.stages → value_or sort.nothing (sort.at (block_at now (home partition (sort.number c.stages i))) i) ≡ value_or sort.nothing (sort.at (block_at (b ∷ []) (home was (sort.number c.stages i))) i)
     alike_at i small = grind (arith, nat_tests, eq-eqb, whole.machine.blocks.cut.homes, carried.named, sort.small)
 
-  stand_now : (k : ℕ) → k < length now → (u : ℕ) → u < unit_count c.stages → stands u (block_at now k) ≡ (home partition u == k)
+  stand_now : (k : ℕ) → k < length now → (u : ℕ) → u < unit_count c.stages → is_in_block u (block_at now k) ≡ (home partition u == k)
   stand_now k h = by_kind c.stages _ (sort_stands switches carried.switches k h) (sort_stands modules carried.modules k h) (sort_stands elements carried.elements k h) (λ u past small. absurd (omega arith))
 
   alike : AreAlike c.stages (frame_of c.stages partition now) (frame_of c.stages was (b ∷ []))

@@ -1,4 +1,4 @@
 pub mod Seen
 pub mod Built
 pub mod Dealt
-pub use Rattle.ultra_cut.proofs.NothingHeld
+pub use Rattle.ultra_partition.proofs.NothingHeld

@@ -1,9 +1,9 @@
 -- A machine in blocks as contracts see it.
 use Rattle.std.proofs.Common.{◌≡◌, ℕ, List, length, refl, arith}
 use Rattle.std.proofs.lemmas.{Grind.common_steps, List.get_or_default}
-use Rattle.ultra_merge.proofs.Merged.{merged_alone}
-use Rattle.ultra_course.{proofs.AtFrame.bank_is, proofs.AtFrame.element_is, proofs.AtFrame.lane_is, proofs.AtFrame.replies_is, proofs.AtFrame.size_is, specs.Whole.Settings, specs.Whole.whole}
-use Rattle.ultra_cut.specs.{Cut.BlockState, Cut.block_at, Events.IsInOrder, Events.events_of, Events.stops_of, Halves.OfEach, Moments.machine_in}
+use Rattle.ultra_partition.proofs.Merged.{merged_alone}
+use Rattle.ultra_cycle_law.{proofs.AtFrame.memory_module_is, proofs.AtFrame.element_is, proofs.AtFrame.lane_is, proofs.AtFrame.replies_is, proofs.AtFrame.size_is, specs.Whole.Settings, specs.Whole.whole}
+use Rattle.ultra_partition.specs.{Cut.BlockState, Cut.block_at, Events.IsInOrder, Events.events_of, Events.stops_of, Halves.OfEach, Moments.machine_in}
 
 pub cycles_are : (c : Settings) (partition : List ℕ) (n : ℕ) (bs : List BlockState) → (machine_in c partition n bs).cycles ≡ n
 unfolding whole
@@ -16,4 +16,4 @@ one_lists d bs one order = grind (arith, common_steps, merged_alone, order 0)
 
 pub ruleset one_steps = (one_lists, get_or_default)
 
-pub ruleset parts_are = (cycles_are, lane_is, replies_is, bank_is, element_is, size_is)
+pub ruleset parts_are = (cycles_are, lane_is, replies_is, memory_module_is, element_is, size_is)

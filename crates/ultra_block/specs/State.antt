@@ -2,9 +2,9 @@
 use Rattle.std.specs.Prelude.{◌≡◌, ℕ, ◌+◌, ◌≤◌, List, length}
 use Rattle.ultra_isa.specs.declared.Instr.{Instr}
 use Rattle.ultra_model.specs.{Machine.Settings, Machine.Machine, Phases.cycle, declared.Stop.Stop}
-use Rattle.ultra_cut.specs.{Cut.BlockState, Events.event_rank, Moments.AreWhole, Moments.machine_in}
+use Rattle.ultra_partition.specs.{Cut.BlockState, Events.event_rank, Events.event_rank_count, Moments.AreWhole, Moments.machine_in}
 use Rattle.ultra_msg.specs.declared.Event.{Event}
-use Rattle.ultra_merge.specs.Merging.{Remainder, merged}
+use Rattle.ultra_partition.specs.Merging.{Remainder, merged}
 use Rattle.ultra_block.specs.{declared.blocks.Parts.Parts, declared.ranks.ByElement.ByElement, declared.ranks.ByRules.ByRules}
 
 -- its settings, its program, the block of each unit, how many blocks there are, and the machine of
@@ -38,7 +38,7 @@ MakeUp c program partition n m bs =
 
 -- the events and the faults that are still to come
 abbrev pub events_left : Remainder ByRules Event → List Event
-events_left m = merged (event_rank m.ranking.net) 1280 m.lists
+events_left m = merged (event_rank m.ranking.net) event_rank_count m.lists
 
 abbrev pub stops_left : Remainder ByElement Stop → List Stop
 stops_left m = merged (λ (s : Stop). s.pe) 64 m.lists

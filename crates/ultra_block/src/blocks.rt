@@ -1,13 +1,13 @@
 //! The whole machine, cut into blocks.
 
 ghost use Rattle.std.specs.Prelude.{◌≡◌, ◌-◌, ◌^◌, ◌<◌, ◌↔◌, ◌==◌, false, length, replicate, true, IfErr, IfOk, IsErrOf, OnOk};
-ghost use Rattle.ultra_model.specs.{Machine.bank_at, Machine.element_at, Machine.is_quiet, Machine.lane_at, Machine.replies_at, Machine.site, Machine.start, Phases.cycle as next_cycle};
-ghost use Rattle.ultra_units.specs.Numbers.{unit_count};
-ghost use Rattle.ultra_cut.specs.{Cut.block_at, Cut.home, Cut.is_partition, Holding.holds};
-ghost use Rattle.ultra_course.specs.Frame.{at_port};
+ghost use Rattle.ultra_model.specs.{Machine.module_at, Machine.element_at, Machine.is_quiet, Machine.lane_at, Machine.replies_at, Machine.site, Machine.start, Phases.cycle as next_cycle};
+ghost use Rattle.ultra_topology.specs.Numbers.{unit_count};
+ghost use Rattle.ultra_partition.specs.{Cut.block_at, Cut.home, Cut.is_partition, Holding.holds};
+ghost use Rattle.ultra_cycle_law.specs.Frame.{at_port};
 ghost use Rattle.ultra_block.specs.{Dealt.IsLastNamed, State.AreParts, State.BlocksState, State.events_left, State.put_together, State.stops_left};
-ghost use Rattle.ultra_section.specs.Holding.{IsSetOf};
-ghost use Rattle.ultra_halves.specs.Elements.{element_of};
+ghost use Rattle.ultra_block_core.specs.Holding.{IsSetOf};
+ghost use Rattle.ultra_unit_steps.specs.Elements.{element_of};
 
 use crate::building::{empty_blocks, fresh_block};
 use crate::cycle::make_cycle;
@@ -15,16 +15,15 @@ use crate::partition::{PartitionFault, count_blocks, count_units, names_all_unit
 use crate::ranks::{ByElement, ByRules};
 use std::alloc::{AllocError, Global};
 use std::marker::Model;
-use ultra_cut::{are_quiet, holders};
-use ultra_halves::ProcessingElement;
+use ultra_block_core::{Block, Held};
 use ultra_isa::Program;
 use ultra_mem::Module;
-use ultra_merge::Merge;
 use ultra_model::{Config, Stop};
 use ultra_msg::{Event, Pe};
-use ultra_section::{Block, Held};
+use ultra_partition::{Merge, are_quiet, holders};
 use ultra_switch::{Ports, ToMm, ToPe};
-use ultra_units::{UnitSet, element_number, module_number, switch_number};
+use ultra_topology::{UnitSet, element_number, module_number, switch_number};
+use ultra_unit_steps::ProcessingElement;
 
 /// The parts of a machine in blocks, for those who make the halves of a cycle themselves.
 #[derive(Drop)]
@@ -137,7 +136,7 @@ impl Blocks {
         let mut parts = self.parts;
         let block = &mut parts.blocks[0];
         // Block 0 gets the events and faults of the cycle.
-        blocks[0].take_story(block);
+        blocks[0].swap_events_with(block);
         for unit in 0..partition.len() {
             let home = partition[unit] as usize;
             block.move_unit(unit, &mut blocks[home]);
@@ -234,7 +233,7 @@ impl Blocks {
     }
 
     /// What happened in the last cycle, in the order of the rules: deliveries by processing element, servings by module, combinations by stage, position and arrival, issues by processing element.
-    #[tactic(auto, using(std::proofs::lemmas::Grind::common_steps), unfolding(ultra_course::specs::Whole::whole, ultra_cut::specs::Events::events_of))]
+    #[tactic(auto, using(std::proofs::lemmas::Grind::common_steps), unfolding(ultra_cycle_law::specs::Whole::whole, ultra_partition::specs::Events::events_of))]
     pub fn events(&self) -> Merge<'_, Event, ByRules>
         ensures { events_left result ≡ self.now.machine.events }
     {
@@ -248,7 +247,7 @@ impl Blocks {
     }
 
     /// The faults of the last cycle, by processing element.
-    #[tactic(auto, using(std::proofs::lemmas::Grind::common_steps), unfolding(ultra_course::specs::Whole::whole, ultra_cut::specs::Events::stops_of))]
+    #[tactic(auto, using(std::proofs::lemmas::Grind::common_steps), unfolding(ultra_cycle_law::specs::Whole::whole, ultra_partition::specs::Events::stops_of))]
     pub fn stops(&self) -> Merge<'_, Stop, ByElement>
         ensures { stops_left result ≡ self.now.machine.stops }
     {
@@ -267,7 +266,7 @@ impl Blocks {
     }
 
     /// What happened in the last cycle of a machine in one block, in the order of the rules.
-    #[tactic(auto, using(crate::proofs::Seen::one_steps), unfolding(ultra_course::specs::Whole::whole))]
+    #[tactic(auto, using(crate::proofs::Seen::one_steps), unfolding(ultra_cycle_law::specs::Whole::whole))]
     pub fn events_of_one(&self) -> &[Event]
         requires { self.now.count ≡ 1 }
         ensures { result.now ≡ self.now.machine.events }
@@ -276,7 +275,7 @@ impl Blocks {
     }
 
     /// The faults of the last cycle of a machine in one block, by processing element.
-    #[tactic(auto, using(crate::proofs::Seen::one_steps), unfolding(ultra_course::specs::Whole::whole))]
+    #[tactic(auto, using(crate::proofs::Seen::one_steps), unfolding(ultra_cycle_law::specs::Whole::whole))]
     pub fn stops_of_one(&self) -> &[Stop]
         requires { self.now.count ≡ 1 }
         ensures { result.now ≡ self.now.machine.stops }
@@ -310,9 +309,9 @@ impl Blocks {
     }
 
     /// A memory module, by its number.
-    pub fn bank(&self, number: u32) -> &Module
+    pub fn memory_module(&self, number: u32) -> &Module
         requires number { number < 2 ^ self.now.config.stages }
-        ensures state { result.now ≡ bank_at self.now.machine number }
+        ensures state { result.now ≡ module_at self.now.machine number }
         ensures cells { length result.now.cells ≡ self.now.config.cells }
     {
         let unit = module_number(self.parts.config.net(), number);

@@ -1,36 +1,36 @@
 //! The units of a machine before its first cycle, and blocks without units.
 
 ghost use Rattle.std.specs.Prelude.{◌≡◌, ◌^◌, ◌<◌, ◌∷◌, [], IfOk, All, length, replicate};
-ghost use Rattle.ultra_units.specs.Numbers.{unit_count};
-ghost use Rattle.ultra_section.specs.Building.{empty_block};
+ghost use Rattle.ultra_topology.specs.Numbers.{unit_count};
+ghost use Rattle.ultra_block_core.specs.Building.{empty_block};
 ghost use Rattle.ultra_model.specs.Machine.{start};
-ghost use Rattle.ultra_block.specs.{Fresh.first_bank, Fresh.first_element, State.MakeUp};
+ghost use Rattle.ultra_block.specs.{Fresh.first_module, Fresh.first_element, State.MakeUp};
 
 use std::alloc::{AllocError, Global};
-use ultra_halves::ProcessingElement;
+use ultra_block_core::Block;
 use ultra_isa::{Processor, Program};
 use ultra_mem::Module;
 use ultra_model::Config;
 use ultra_msg::Pe;
 use ultra_pni::Pni;
-use ultra_section::Block;
 use ultra_switch::Switch;
-use ultra_units::switch_count;
+use ultra_topology::switch_count;
+use ultra_unit_steps::ProcessingElement;
 
 /// A memory module with its initial values. An error says that memory was refused.
 #[tactic(auto, using(crate::proofs::Built::fill_steps))]
 fn new_module(alloc: Global, config: &Config, number: u32) -> Result<Module, AllocError>
     requires { number < 2 ^ config.now.stages }
-    ensures { IfOk result (λ b. b ≡ first_bank config.now number) }
+    ensures { IfOk result (λ b. b ≡ first_module config.now number) }
 {
-    let mut bank = Module::new(alloc, config.cells()).map_err(|_| AllocError)?;
+    let mut memory_module = Module::new(alloc, config.cells()).map_err(|_| AllocError)?;
     let size = config.net().size();
     for &(cell, word) in config.initial() {
         if cell % size == number {
-            bank.set(cell / size, word);
+            memory_module.set(cell / size, word);
         }
     }
-    Ok(bank)
+    Ok(memory_module)
 }
 
 /// A processing element before its first step.
@@ -54,6 +54,7 @@ pub(crate) fn fresh_block(
 ) -> Result<Block, AllocError>
     ensures { IfOk result (λ b. MakeUp config.now program.now (replicate (unit_count config.now.stages) 0) 0 (start config.now) (b ∷ [])) }
 {
+    // for the prover: the settings are in their ranges
     let _initial = config.initial();
     let net = config.net();
     let mut block = Block::empty(alloc, net, program)?;

@@ -3,14 +3,14 @@
 ghost use Rattle.std.specs.Prelude.{◌≡◌, true, ℕ, ◌-◌, ◌^◌, ◌<◌, ◌∷◌, [], List};
 ghost use Rattle.ultra_isa.specs.declared.Instr.{Instr};
 ghost use Rattle.ultra_model.specs.Machine.{Settings};
-ghost use Rattle.ultra_units.specs.Numbers.{IsSmall};
-ghost use Rattle.ultra_cut.specs.{Halves.AllCanMake, Halves.all_made_own, Moments.AreWhole};
+ghost use Rattle.ultra_topology.specs.Numbers.{IsSmall};
+ghost use Rattle.ultra_partition.specs.{Halves.AllCanMake, Halves.all_after_own_half, Moments.AreWhole};
 ghost use Rattle.ultra_block.specs.State.{MakesCycle};
 
-use ultra_cut::{Kind, exchange, note_rooms};
+use ultra_block_core::{Block, Half, Rooms};
 use ultra_model::Config;
-use ultra_section::{Block, Half, Rooms};
-use ultra_units::is_small;
+use ultra_partition::{MessageKind, exchange, note_rooms};
+use ultra_topology::is_small;
 
 /// The blocks of a machine, which has made `done` cycles, make one more: replies, memory, requests, processors.
 pub(crate) fn make_cycle(blocks: &mut [Block], config: &Config, partition: &[u8], done: u32)
@@ -35,12 +35,12 @@ fn make_cycle_of_several(blocks: &mut [Block], config: &Config, partition: &[u8]
     let net = config.net();
     let rooms = note_rooms(blocks);
     make(blocks, Half::SendReplies, &rooms);
-    exchange(blocks, partition, Kind::Replies, net);
+    exchange(blocks, partition, MessageKind::Replies, net);
     make(blocks, Half::TakeReplies, &rooms);
     make(blocks, Half::Serve, &rooms);
     let rooms = note_rooms(blocks);
     make(blocks, Half::SendRequests, &rooms);
-    exchange(blocks, partition, Kind::Requests, net);
+    exchange(blocks, partition, MessageKind::Requests, net);
     make(blocks, Half::TakeRequests, &rooms);
     make(blocks, Half::Execute, &rooms);
 }
@@ -52,20 +52,20 @@ fn make_cycle_of_one<const SMALL: bool>(block: &mut Block)
     requires whole { (c : Settings) × (program : List Instr) × (partition : List ℕ) × (n : ℕ) × AreWhole c program partition n (block.old ∷ []) × (n < 2 ^ 32 - 1) }
     ensures { (c : Settings) (partition : List ℕ) (n : ℕ) → n < 2 ^ 32 - 1 → MakesCycle c partition n (block.old ∷ []) (block.new ∷ []) }
 {
-    block.send_replies_here::<SMALL>();
-    block.take_replies_here::<SMALL>();
-    block.serve_here::<SMALL>();
-    block.send_requests_here::<SMALL>();
-    block.take_requests_here::<SMALL>();
-    block.execute_here::<SMALL>();
+    block.send_replies_by_own_rooms::<SMALL>();
+    block.take_replies_sized::<SMALL>();
+    block.serve_sized::<SMALL>();
+    block.send_requests_by_own_rooms::<SMALL>();
+    block.take_requests_sized::<SMALL>();
+    block.execute_sized::<SMALL>();
 }
 
 /// Every block makes this half of a cycle, with the rooms that were noted before it. Each block has to meet the half's conditions.
 #[inline(always)]
-#[tactic(auto, using(ultra_section::proofs::OwnProgram::can_by_own, std::proofs::lemmas::List::get_or_default, std::proofs::lemmas::Grind::common_steps))]
+#[tactic(auto, using(ultra_block_core::proofs::OwnProgram::can_by_own, std::proofs::lemmas::List::get_or_default, std::proofs::lemmas::Grind::common_steps))]
 fn make(blocks: &mut [Block], half: Half, rooms: &Rooms)
     requires { (program : List Instr) × AllCanMake program half blocks.old }
-    ensures { blocks.new ≡ all_made_own half rooms.now blocks.old }
+    ensures { blocks.new ≡ all_after_own_half half rooms.now blocks.old }
 {
     for block in blocks.iter_mut() {
         block.make(half, rooms);

@@ -10,5 +10,5 @@ mod ranks;
 pub use blocks::{Blocks, Parts};
 pub use partition::{MOST_BLOCKS, PartitionFault, count_units};
 pub use ranks::{ByElement, ByRules};
-pub use ultra_cut::{Kind, exchange, note_rooms};
-pub use ultra_section::{Block, Half, Held, Rooms};
+pub use ultra_block_core::{Block, Half, Held, Rooms};
+pub use ultra_partition::{MessageKind, exchange, note_rooms};

@@ -2,14 +2,15 @@
 
 ghost use Rattle.std.specs.Prelude.{◌≡◌, ℕ, ◌<◌, ◌≤◌, All, nat_lt};
 ghost use Rattle.std.specs.List.{list_all};
-ghost use Rattle.ultra_units.specs.Numbers.{unit_count};
-ghost use Rattle.ultra_cut.specs.Cut.{is_partition};
+ghost use Rattle.ultra_topology.specs.Numbers.{unit_count};
+ghost use Rattle.ultra_partition.specs.Cut.{is_partition};
 ghost use Rattle.ultra_block.specs.Dealt.{IsLastNamed};
+ghost use Rattle.ultra_topology.specs.declared.TheConstants.{MOST_UNITS};
 
 use std::alloc::AllocError;
 use thiserror::Error;
 use ultra_model::Config;
-use ultra_units::switch_count;
+use ultra_topology::switch_count;
 
 /// The most blocks that a machine is cut into.
 pub const MOST_BLOCKS: u8 = 64;
@@ -37,7 +38,7 @@ impl From<AllocError> for PartitionFault {
 
 /// How many units a machine of these settings has: at most 320.
 pub fn count_units(config: &Config) -> usize
-    ensures few { result ≤ 320 }
+    ensures few { result ≤ MOST_UNITS }
     ensures value { result ≡ unit_count config.now.stages }
 {
     let net = config.net();

@@ -9,10 +9,10 @@ use Rattle.atomic_table.proofs.Lists.{at_set}
 use Rattle.atomic_table.specs.Table.{State}
 use Rattle.ultra_board.specs.declared.rule.View.{View}
 use Rattle.ultra_board.specs.declared.rule.Limits.{Limits}
-use Rattle.ultra_board.specs.View.{total, times, spent_places}
+use Rattle.ultra_board.specs.View.{total_over_views, times, spent_places}
 use Rattle.ultra_board.specs.Step.{AddsToClaim}
-use Rattle.ultra_board.specs.Rule.{IsKept, IsSoundView}
-use Rattle.ultra_board.proofs.Sums.{total-set, total-set_same, one-le-total, spent_places-beside}
+use Rattle.ultra_board.specs.Rule.{IsBoardRule, IsSoundView}
+use Rattle.ultra_board.proofs.Sums.{total_over_views-set, total_over_views-set_same, one-le-total_over_views, spent_places-beside}
 use Rattle.ultra_board.proofs.Times.{times-push, times_below-more, times_below-itself, not_contained-times}
 
 -- the words after an add to claim
@@ -34,15 +34,15 @@ all_sound k vs place w claim done claim' done' sound le le' mine other u e =
     })
     (at_set vs place other w u e)
 
-module _ (k : Limits) (s : State ℕ View) (h : IsKept k s) (place : ℕ) (v : View) (e : get_elem? s.views place ≡ some v) where
-  same : (f : View → ℕ) (w : View) → f w ≡ f v → total f (set s.views place w) ≡ total f s.views
-  same f w q = total-set_same f s.views place v w e q
+module _ (k : Limits) (s : State ℕ View) (h : IsBoardRule k s) (place : ℕ) (v : View) (e : get_elem? s.views place ≡ some v) where
+  same : (f : View → ℕ) (w : View) → f w ≡ f v → total_over_views f (set s.views place w) ≡ total_over_views f s.views
+  same f w q = total_over_views-set_same f s.views place v w e q
 
   -- a number that claim hands out stands in no view
   fresh : slice_index s.words 0 < k.limit → times (slice_index s.words 0) v.drawn ≡ 0
   fresh lt =
       let n = slice_index s.words 0 in
-      let mine = one-le-total (λ (v : View). times n v.drawn) s.views place v e in
+      let mine = one-le-total_over_views (λ (v : View). times n v.drawn) s.views place v e in
       let all = h.drawn n in
       let below : min n k.limit ≡ n = omega arith in
       let all' = rw below at all in
@@ -50,7 +50,7 @@ module _ (k : Limits) (s : State ℕ View) (h : IsKept k s) (place : ℕ) (v : V
       omega arith
 
   drawn : 0 < v.places → slice_index s.words 0 < k.limit
-      → IsKept k record { words = slice_set s.words 0 (slice_index s.words 0 + 1); homes = s.homes; views = slice_set s.views place (record v { drawn = v.drawn ++ slice_index s.words 0 ∷ []; claims = v.claims + 1 }) }
+      → IsBoardRule k record { words = slice_set s.words 0 (slice_index s.words 0 + 1); homes = s.homes; views = slice_set s.views place (record v { drawn = v.drawn ++ slice_index s.words 0 ∷ []; claims = v.claims + 1 }) }
   drawn some_place lt =
       let n = slice_index s.words 0 in
       let w : View = record v { drawn = v.drawn ++ n ∷ []; claims = v.claims + 1 } in
@@ -60,17 +60,17 @@ module _ (k : Limits) (s : State ℕ View) (h : IsKept k s) (place : ℕ) (v : V
         limits = h.limits;
         words = at.3;
         drawn = λ i.
-            let sum = total-set (λ (v : View). times i v.drawn) s.views place v w e in
+            let sum = total_over_views-set (λ (v : View). times i v.drawn) s.views place v w e in
             let push = times-push i n v.drawn in
             let before = h.drawn i in
             let more = times_below-more i n k.limit lt in
             rw at.0 (omega arith);
         drawn_count =
-            let sum = total-set (λ (v : View). length v.drawn) s.views place v w e in
+            let sum = total_over_views-set (λ (v : View). length v.drawn) s.views place v w e in
             let push = length-append v.drawn (n ∷ []) in
             let before = h.drawn_count in
             rw at.0 (omega arith);
-        claims = let sum = total-set (λ (v : View). v.claims) s.views place v w e in let before = h.claims in rw at.0 (omega arith);
+        claims = let sum = total_over_views-set (λ (v : View). v.claims) s.views place v w e in let before = h.claims in rw at.0 (omega arith);
         claim = rw (at.0, same spent_places w refl) (omega arith);
         done = rw (at.1, same (λ (v : View). length v.finished) w refl) h.done;
         passes = rw (at.2, same (λ (v : View). v.held + v.tries) w refl) h.passes;
@@ -87,7 +87,7 @@ module _ (k : Limits) (s : State ℕ View) (h : IsKept k s) (place : ℕ) (v : V
       }
 
   spent : v.spent ≡ false → 0 < v.places → k.limit ≤ slice_index s.words 0
-      → IsKept k record { words = slice_set s.words 0 (slice_index s.words 0 + 1); homes = s.homes; views = slice_set s.views place (record v { spent = true; claims = v.claims + 1 }) }
+      → IsBoardRule k record { words = slice_set s.words 0 (slice_index s.words 0 + 1); homes = s.homes; views = slice_set s.views place (record v { spent = true; claims = v.claims + 1 }) }
   spent unspent some_place le =
       let n = slice_index s.words 0 in
       let w : View = record v { spent = true; claims = v.claims + 1 } in
@@ -103,9 +103,9 @@ module _ (k : Limits) (s : State ℕ View) (h : IsKept k s) (place : ℕ) (v : V
             let before' = rw this at before in
             rw (at.0, same (λ (v : View). times i v.drawn) w refl, next) before';
         drawn_count = let before = h.drawn_count in rw (at.0, same (λ (v : View). length v.drawn) w refl) (omega arith);
-        claims = let sum = total-set (λ (v : View). v.claims) s.views place v w e in let before = h.claims in rw at.0 (omega arith);
+        claims = let sum = total_over_views-set (λ (v : View). v.claims) s.views place v w e in let before = h.claims in rw at.0 (omega arith);
         claim =
-            let sum = total-set spent_places s.views place v w e in
+            let sum = total_over_views-set spent_places s.views place v w e in
             let none : spent_places v ≡ 0 = rw unspent refl in
             let before = h.claim in
             rw at.0 (omega arith);
@@ -125,7 +125,7 @@ module _ (k : Limits) (s : State ℕ View) (h : IsKept k s) (place : ℕ) (v : V
 
   -- an add by a seat that isn't spent draws a number or spends the seat, and the word doesn't wrap
   pub adds_to_claim : 0 < v.places → v.spent ≡ false
-      → (w : View) × IsKept k record { words = slice_set s.words 0 ((slice_index s.words 0 + 1) % 2 ^ 64); homes = s.homes; views = slice_set s.views place w } × AddsToClaim v (slice_index s.words 0) w
+      → (w : View) × IsBoardRule k record { words = slice_set s.words 0 ((slice_index s.words 0 + 1) % 2 ^ 64); homes = s.homes; views = slice_set s.views place w } × AddsToClaim v (slice_index s.words 0) w
   adds_to_claim some_place unspent =
       let n = slice_index s.words 0 in
       let beside = spent_places-beside s.views place v e unspent in

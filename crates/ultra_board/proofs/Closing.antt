@@ -6,15 +6,15 @@ use mathlib.Core.Option.{some, some-injective, some-ne-none}
 use Rattle.atomic_table.specs.Table.{State, Final, Seen}
 use Rattle.ultra_board.specs.declared.rule.View.{View}
 use Rattle.ultra_board.specs.declared.rule.Limits.{Limits}
-use Rattle.ultra_board.specs.View.{total, times, times_below, spent_places}
+use Rattle.ultra_board.specs.View.{total_over_views, times, times_below, spent_places}
 use Rattle.ultra_board.specs.Seat.{IsTotal}
-use Rattle.ultra_board.specs.Rule.{IsKept}
-use Rattle.ultra_board.proofs.Sums.{total-alone, spent_places-le}
+use Rattle.ultra_board.specs.Rule.{IsBoardRule}
+use Rattle.ultra_board.proofs.Sums.{total_over_views-alone, spent_places-le}
 use Rattle.ultra_board.proofs.Times.{length-within_none}
 
-module _ (k : Limits) (s : State ℕ View) (h : IsKept k s) (place : ℕ) (v : View) (e : get_elem? s.views place ≡ some v) (all : v.places ≡ k.seats) (no_try : v.tries ≡ 0) where
-  sole : (f : View → ℕ) → ((other : ℕ) (u : View) → get_elem? s.views other ≡ some u → u.places ≡ 0 → f u ≡ 0) → total f s.views ≡ f v
-  sole f none = total-alone f s.views place v e none (h.places ∙ sym all)
+module _ (k : Limits) (s : State ℕ View) (h : IsBoardRule k s) (place : ℕ) (v : View) (e : get_elem? s.views place ≡ some v) (all : v.places ≡ k.seats) (no_try : v.tries ≡ 0) where
+  sole : (f : View → ℕ) → ((other : ℕ) (u : View) → get_elem? s.views other ≡ some u → u.places ≡ 0 → f u ≡ 0) → total_over_views f s.views ≡ f v
+  sole f none = total_over_views-alone f s.views place v e none (h.places ∙ sym all)
 
   none_drawn : (f : List ℕ → ℕ) → f [] ≡ 0 → (other : ℕ) (u : View) → get_elem? s.views other ≡ some u → u.places ≡ 0 → f u.drawn ≡ 0
   none_drawn f none other u q empty = ap f ((h.views other u q).no_seat empty).0 ∙ none
@@ -55,7 +55,7 @@ word_is (w ∷ ws) zero n e = some-injective w n e
 word_is (w ∷ ws) (suc i) n e = word_is ws i n e
 
 -- the words of a table that was closed by a seat with all places
-pub closing : (k : Limits) (place : ℕ) (v : View) (words slots : List ℕ) → Final (Seen (IsKept k) place v) words slots → v.places ≡ k.seats → v.tries ≡ 0
+pub closing : (k : Limits) (place : ℕ) (v : View) (words slots : List ℕ) → Final (Seen (IsBoardRule k) place v) words slots → v.places ≡ k.seats → v.tries ≡ 0
     → (claim done passes : ℕ) → get_elem? words 0 ≡ some claim → get_elem? words 1 ≡ some done → get_elem? words 2 ≡ some passes → IsTotal v claim done passes
 closing k place v words slots final all no_try claim done passes at_0 at_1 at_2 =
     let s = final.0 in

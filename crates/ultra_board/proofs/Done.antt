@@ -8,28 +8,28 @@ use mathlib.Core.Option.{some}
 use Rattle.atomic_table.specs.Table.{State}
 use Rattle.ultra_board.specs.declared.rule.View.{View}
 use Rattle.ultra_board.specs.declared.rule.Limits.{Limits}
-use Rattle.ultra_board.specs.View.{total, times, spent_places}
+use Rattle.ultra_board.specs.View.{total_over_views, times, spent_places}
 use Rattle.ultra_board.specs.Step.{AddsToDone, LoadsDone}
-use Rattle.ultra_board.specs.Rule.{IsKept}
-use Rattle.ultra_board.proofs.Sums.{total-set, total-set_same, total-le_each, one-le-total}
+use Rattle.ultra_board.specs.Rule.{IsBoardRule}
+use Rattle.ultra_board.proofs.Sums.{total_over_views-set, total_over_views-set_same, total_over_views-le_each, one-le-total_over_views}
 use Rattle.ultra_board.proofs.Times.{length-within, one_more_within, times-contained, times-not_contained}
 use Rattle.ultra_board.proofs.Claim.{all_sound}
 
 after_done : (words : List ℕ) (n : ℕ) → length words ≡ 3 → (slice_index (slice_set words 1 n) 0 ≡ slice_index words 0) × (slice_index (slice_set words 1 n) 1 ≡ n) × (slice_index (slice_set words 1 n) 2 ≡ slice_index words 2) × (length (slice_set words 1 n) ≡ 3)
 after_done words n three = (get_or-set_other words 1 0 n 0 (omega arith), get_or-set_same words 1 n 0 (omega arith), get_or-set_other words 1 2 n 0 (omega arith), length-set words 1 n ∙ three)
 
-module _ (k : Limits) (s : State ℕ View) (h : IsKept k s) (place : ℕ) (v : View) (e : get_elem? s.views place ≡ some v) where
-  same : (f : View → ℕ) (w : View) → f w ≡ f v → total f (set s.views place w) ≡ total f s.views
-  same f w q = total-set_same f s.views place v w e q
+module _ (k : Limits) (s : State ℕ View) (h : IsBoardRule k s) (place : ℕ) (v : View) (e : get_elem? s.views place ≡ some v) where
+  same : (f : View → ℕ) (w : View) → f w ≡ f v → total_over_views f (set s.views place w) ≡ total_over_views f s.views
+  same f w q = total_over_views-set_same f s.views place v w e q
 
   -- a seat's own numbers finished are among all of them
   own : length v.finished ≤ slice_index s.words 1
-  own = let mine = one-le-total (λ (v : View). length v.finished) s.views place v e in let all = h.done in omega arith
+  own = let mine = one-le-total_over_views (λ (v : View). length v.finished) s.views place v e in let all = h.done in omega arith
 
-  loaded_words : (w : View) → IsKept k record { words = s.words; homes = s.homes; views = set s.views place w } → IsKept k record { words = slice_set s.words 1 (slice_index s.words 1); homes = s.homes; views = set s.views place w }
+  loaded_words : (w : View) → IsBoardRule k record { words = s.words; homes = s.homes; views = set s.views place w } → IsBoardRule k record { words = slice_set s.words 1 (slice_index s.words 1); homes = s.homes; views = set s.views place w }
   loaded_words w kept = rw (set-get_or s.words 1 0) kept
 
-  pub loads_done : (w : View) × IsKept k record { words = slice_set s.words 1 (slice_index s.words 1); homes = s.homes; views = slice_set s.views place w } × LoadsDone v (slice_index s.words 1) w
+  pub loads_done : (w : View) × IsBoardRule k record { words = slice_set s.words 1 (slice_index s.words 1); homes = s.homes; views = slice_set s.views place w } × LoadsDone v (slice_index s.words 1) w
   loads_done =
       let n = slice_index s.words 1 in
       let w : View = record v { seen = n; reads = v.reads + 1 } in
@@ -61,13 +61,13 @@ module _ (k : Limits) (s : State ℕ View) (h : IsKept k s) (place : ℕ) (v : V
   -- no more numbers are finished than were drawn
   few_done : slice_index s.words 1 ≤ k.limit
   few_done =
-      let within = total-le_each (λ (v : View). length v.finished) (λ (v : View). length v.drawn) s.views (λ other u q. length-within u.finished u.drawn (h.views other u q).finished) in
+      let within = total_over_views-le_each (λ (v : View). length v.finished) (λ (v : View). length v.drawn) s.views (λ other u q. length-within u.finished u.drawn (h.views other u q).finished) in
       let all_drawn = h.drawn_count in
       let all_done = h.done in
       omega arith
 
   finished : (i : ℕ) → times i v.finished < times i v.drawn
-      → IsKept k record { words = slice_set s.words 1 (slice_index s.words 1 + 1); homes = s.homes; views = slice_set s.views place (record v { finished = v.finished ++ i ∷ []; seen = slice_index s.words 1 + 1 }) }
+      → IsBoardRule k record { words = slice_set s.words 1 (slice_index s.words 1 + 1); homes = s.homes; views = slice_set s.views place (record v { finished = v.finished ++ i ∷ []; seen = slice_index s.words 1 + 1 }) }
   finished i room =
       let n = slice_index s.words 1 in
       let w : View = record v { finished = v.finished ++ i ∷ []; seen = n + 1 } in
@@ -81,7 +81,7 @@ module _ (k : Limits) (s : State ℕ View) (h : IsKept k s) (place : ℕ) (v : V
         claims = rw (at.0, same (λ (v : View). v.claims) w refl) h.claims;
         claim = rw (at.0, same spent_places w refl) h.claim;
         done =
-            let sum = total-set (λ (v : View). length v.finished) s.views place v w e in
+            let sum = total_over_views-set (λ (v : View). length v.finished) s.views place v w e in
             let push = length-append v.finished (i ∷ []) in
             let before = h.done in
             rw at.1 (omega arith);
@@ -100,7 +100,7 @@ module _ (k : Limits) (s : State ℕ View) (h : IsKept k s) (place : ℕ) (v : V
 
   -- an add by a seat that drew the number and hasn't finished it, and the word doesn't wrap
   pub adds_to_done : (i : ℕ) → Contains v.drawn i → ¬ Contains v.finished i
-      → (w : View) × IsKept k record { words = slice_set s.words 1 ((slice_index s.words 1 + 1) % 2 ^ 64); homes = s.homes; views = slice_set s.views place w } × AddsToDone i v (slice_index s.words 1) w
+      → (w : View) × IsBoardRule k record { words = slice_set s.words 1 ((slice_index s.words 1 + 1) % 2 ^ 64); homes = s.homes; views = slice_set s.views place w } × AddsToDone i v (slice_index s.words 1) w
   adds_to_done i there absent =
       let n = slice_index s.words 1 in
       let some_drawn = times-contained i v.drawn there in

@@ -8,10 +8,10 @@ use Rattle.atomic_table.proofs.Lists.{at_set, at_snoc, set_again}
 use Rattle.atomic_table.specs.Table.{State}
 use Rattle.ultra_board.specs.declared.rule.View.{View}
 use Rattle.ultra_board.specs.declared.rule.Limits.{Limits}
-use Rattle.ultra_board.specs.View.{total, times, spent_places, second_view, joined_view, no_view}
+use Rattle.ultra_board.specs.View.{total_over_views, times, spent_places, second_view, joined_view, no_view}
 use Rattle.ultra_board.specs.Step.{LoadsClaim}
-use Rattle.ultra_board.specs.Rule.{IsKept, IsSoundView}
-use Rattle.ultra_board.proofs.Sums.{total-set, total-push, one-le-total}
+use Rattle.ultra_board.specs.Rule.{IsBoardRule, IsSoundView}
+use Rattle.ultra_board.proofs.Sums.{total_over_views-set, total_over_views-push, one-le-total_over_views}
 use Rattle.ultra_board.proofs.Times.{times-append, times_below-le}
 
 split_spent : (b : Bool) (places : ℕ) → 2 ≤ places → (if b then places - 1 else 0) + (if b then 1 else 0) ≡ (if b then places else 0)
@@ -19,12 +19,12 @@ split_spent true places two = omega arith
 split_spent false places two = omega arith
 
 -- a seat with two places or more is split
-module _ (k : Limits) (s : State ℕ View) (h : IsKept k s) (place : ℕ) (v : View) (e : get_elem? s.views place ≡ some v) (two : 2 ≤ v.places) (no_try : v.tries ≡ 0) where
-  total_after : (f : View → ℕ) → total f (set s.views place (record v { places = v.places - 1 }) ++ second_view v ∷ []) + f v ≡ total f s.views + (f (record v { places = v.places - 1 }) + f (second_view v))
+module _ (k : Limits) (s : State ℕ View) (h : IsBoardRule k s) (place : ℕ) (v : View) (e : get_elem? s.views place ≡ some v) (two : 2 ≤ v.places) (no_try : v.tries ≡ 0) where
+  total_after : (f : View → ℕ) → total_over_views f (set s.views place (record v { places = v.places - 1 }) ++ second_view v ∷ []) + f v ≡ total_over_views f s.views + (f (record v { places = v.places - 1 }) + f (second_view v))
   total_after f =
       let w : View = record v { places = v.places - 1 } in
-      let changed = total-set f s.views place v w e in
-      let pushed = total-push f (set s.views place w) (second_view v) in
+      let changed = total_over_views-set f s.views place v w e in
+      let pushed = total_over_views-push f (set s.views place w) (second_view v) in
       omega arith
 
   second_sound : IsSoundView k (slice_index s.words 0) (slice_index s.words 1) (second_view v)
@@ -47,7 +47,7 @@ module _ (k : Limits) (s : State ℕ View) (h : IsKept k s) (place : ℕ) (v : V
     no_seat = λ q. absurd (omega arith);
   }
 
-  pub splits : IsKept k record { words = s.words; homes = s.homes; views = set s.views place (record v { places = v.places - 1 }) ++ second_view v ∷ [] }
+  pub splits : IsBoardRule k record { words = s.words; homes = s.homes; views = set s.views place (record v { places = v.places - 1 }) ++ second_view v ∷ [] }
   splits =
       let w : View = record v { places = v.places - 1 } in
       let Sound : View → Type 0 = λ u. IsSoundView k (slice_index s.words 0) (slice_index s.words 1) u in
@@ -79,15 +79,15 @@ or_true true b h = inl refl
 or_true false b h = inr h
 
 -- two seats are joined
-module _ (k : Limits) (s : State ℕ View) (h : IsKept k s) (place other : ℕ) (v u : View) (e : get_elem? s.views place ≡ some v) (apart : ¬ (other ≡ place))
+module _ (k : Limits) (s : State ℕ View) (h : IsBoardRule k s) (place other : ℕ) (v u : View) (e : get_elem? s.views place ≡ some v) (apart : ¬ (other ≡ place))
     (d : get_elem? (set s.views place (joined_view v u)) other ≡ some u) (some_place : 0 < v.places) (no_try : (v.tries ≡ 0) × (u.tries ≡ 0)) where
   theirs : IsSoundView k (slice_index s.words 0) (slice_index s.words 1) u
   theirs = ⊎_elim (λ t. absurd (apart t.0)) (λ t. h.views other u t.1) (at_set s.views place other (joined_view v u) u d)
 
-  total_joined : (f : View → ℕ) → f no_view ≡ 0 → total f (set (set s.views place (joined_view v u)) other no_view) + (f v + f u) ≡ total f s.views + f (joined_view v u)
+  total_joined : (f : View → ℕ) → f no_view ≡ 0 → total_over_views f (set (set s.views place (joined_view v u)) other no_view) + (f v + f u) ≡ total_over_views f s.views + f (joined_view v u)
   total_joined f none =
-      let one = total-set f s.views place v (joined_view v u) e in
-      let two = total-set f (set s.views place (joined_view v u)) other u no_view d in
+      let one = total_over_views-set f s.views place v (joined_view v u) e in
+      let two = total_over_views-set f (set s.views place (joined_view v u)) other u no_view d in
       omega arith
 
   nobody_sound : IsSoundView k (slice_index s.words 0) (slice_index s.words 1) no_view
@@ -115,7 +115,7 @@ module _ (k : Limits) (s : State ℕ View) (h : IsKept k s) (place other : ℕ) 
     no_seat = λ q. absurd (omega arith);
   }
 
-  pub joins : IsKept k record { words = s.words; homes = s.homes; views = set (set s.views place (joined_view v u)) other no_view }
+  pub joins : IsBoardRule k record { words = s.words; homes = s.homes; views = set (set s.views place (joined_view v u)) other no_view }
   joins =
       let Sound : View → Type 0 = λ w. IsSoundView k (slice_index s.words 0) (slice_index s.words 1) w in
       record {
@@ -136,10 +136,10 @@ module _ (k : Limits) (s : State ℕ View) (h : IsKept k s) (place other : ℕ) 
       }
 
 -- a load of claim
-pub loads_claim : (k : Limits) (s : State ℕ View) → IsKept k s → (place : ℕ) (v : View) → get_elem? s.views place ≡ some v
-    → IsKept k record { words = slice_set s.words 0 (slice_index s.words 0); homes = s.homes; views = slice_set s.views place v } × LoadsClaim v v
+pub loads_claim : (k : Limits) (s : State ℕ View) → IsBoardRule k s → (place : ℕ) (v : View) → get_elem? s.views place ≡ some v
+    → IsBoardRule k record { words = slice_set s.words 0 (slice_index s.words 0); homes = s.homes; views = slice_set s.views place v } × LoadsClaim v v
 loads_claim k s h place v e =
-    let mine = one-le-total (λ (v : View). v.places) s.views place v e in
+    let mine = one-le-total_over_views (λ (v : View). v.places) s.views place v e in
     let all = h.places in
     let few = h.limits.seats in (
       rw (set-get_or s.words 0 0, set_again s.views place v e) h,
@@ -147,7 +147,7 @@ loads_claim k s h place v e =
         view = refl;
         places = omega arith;
         once = λ i.
-            let mine = one-le-total (λ (v : View). times i v.drawn) s.views place v e in
+            let mine = one-le-total_over_views (λ (v : View). times i v.drawn) s.views place v e in
             let all = h.drawn i in
             let one = times_below-le i (min (slice_index s.words 0) k.limit) in
             omega arith;

@@ -8,7 +8,7 @@ use Rattle.ultra_board.specs.declared.TheConstants.{MOST_NUMBERS, MOST_PASSES, M
 use Rattle.ultra_board.specs.declared.words.TheConstants.{CLAIM, DONE, PASSES}
 use Rattle.ultra_board.specs.declared.rule.View.{View}
 use Rattle.ultra_board.specs.declared.rule.Limits.{Limits}
-use Rattle.ultra_board.specs.View.{times, times_below, total, spent_places}
+use Rattle.ultra_board.specs.View.{times, times_below, total_over_views, spent_places}
 
 -- what a board can be opened with
 pub record IsWithinLimits (k : Limits) : Type 0 where
@@ -33,23 +33,27 @@ pub record IsSoundView (k : Limits) (claim done : ℕ) (v : View) : Type 0 where
   pub no_seat : v.places ≡ 0 → (v.drawn ≡ []) × (v.claims ≡ 0) × (v.held ≡ 0)
 
 -- the rule: of the three words, and over all views
-pub record IsKept (k : Limits) (s : State ℕ View) : Type 0 where
+pub record IsBoardRule (k : Limits) (s : State ℕ View) : Type 0 where
   pub limits : IsWithinLimits k
   pub words : length s.words ≡ 3
   -- the numbers drawn are those below the lesser of claim and the limit, each in one view, once
-  pub drawn : (i : ℕ) → total (λ (v : View). times i v.drawn) s.views ≡ times_below i (min (slice_index s.words CLAIM) k.limit)
+  pub drawn : (i : ℕ)
+      → total_over_views (λ (v : View). times i v.drawn) s.views
+      ≡ times_below i (min (slice_index s.words CLAIM) k.limit)
   -- n numbers are drawn
-  pub drawn_count : total (λ (v : View). length v.drawn) s.views ≡ min (slice_index s.words CLAIM) k.limit
+  pub drawn_count : total_over_views (λ (v : View). length v.drawn) s.views
+      ≡ min (slice_index s.words CLAIM) k.limit
   -- claim is the count of the adds to it
-  pub claims : slice_index s.words CLAIM ≡ total (λ (v : View). v.claims) s.views
+  pub claims : slice_index s.words CLAIM ≡ total_over_views (λ (v : View). v.claims) s.views
   -- it is past the limit by at most the places of spent seats
-  pub claim : slice_index s.words CLAIM ≤ k.limit + total spent_places s.views
+  pub claim : slice_index s.words CLAIM ≤ k.limit + total_over_views spent_places s.views
   -- done is the count of the numbers finished
-  pub done : slice_index s.words DONE ≡ total (λ (v : View). length v.finished) s.views
+  pub done : slice_index s.words DONE ≡ total_over_views (λ (v : View). length v.finished) s.views
   -- passes is the sum of passes held and tries under way
-  pub passes : slice_index s.words PASSES ≡ total (λ (v : View). v.held + v.tries) s.views
-  pub bounded : total (λ (v : View). v.held) s.views ≤ k.bound
+  pub passes : slice_index s.words PASSES
+      ≡ total_over_views (λ (v : View). v.held + v.tries) s.views
+  pub bounded : total_over_views (λ (v : View). v.held) s.views ≤ k.bound
   -- no place is lost or made
-  pub places : total (λ (v : View). v.places) s.views ≡ k.seats
+  pub places : total_over_views (λ (v : View). v.places) s.views ≡ k.seats
   pub views : (place : ℕ) (v : View) → get_elem? s.views place ≡ some v
       → IsSoundView k (slice_index s.words CLAIM) (slice_index s.words DONE) v

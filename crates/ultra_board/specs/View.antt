@@ -6,11 +6,44 @@ use Rattle.ultra_board.specs.declared.rule.Limits.{Limits}
 
 -- the first seat of a board: it has all places and nothing else
 abbrev pub first_view : Limits → View
-first_view k = record { drawn = []; claims = 0; finished = []; seen = 0; reads = 0; full = 0; loads = 0; adds = 0; spent = false; held = 0; tries = 0; limit = k.limit; bound = k.bound; places = k.seats }
+first_view k =
+    record {
+      drawn = [];
+      claims = 0;
+      finished = [];
+      seen = 0;
+      reads = 0;
+      full = 0;
+      loads = 0;
+      adds = 0;
+      spent = false;
+      held = 0;
+      tries = 0;
+      limit = k.limit;
+      bound = k.bound;
+      places =
+          k.seats;
+    }
 
 -- the second seat of a split: one place and nothing else, spent if the first was
 abbrev pub second_view : View → View
-second_view v = record { drawn = []; claims = 0; finished = []; seen = 0; reads = 0; full = 0; loads = 0; adds = 0; spent = v.spent; held = 0; tries = 0; limit = v.limit; bound = v.bound; places = 1 }
+second_view v =
+    record {
+      drawn = [];
+      claims = 0;
+      finished = [];
+      seen = 0;
+      reads = 0;
+      full = 0;
+      loads = 0;
+      adds = 0;
+      spent = v.spent;
+      held = 0;
+      tries = 0;
+      limit = v.limit;
+      bound = v.bound;
+      places = 1;
+    }
 
 -- two seats as one
 abbrev pub joined_view : View → View → View
@@ -34,7 +67,23 @@ joined_view v u = record {
 -- what is left behind of the second seat of a join, which is no seat: it has no numbers, passes or
 -- places
 abbrev pub no_view : View
-no_view = record { drawn = []; claims = 0; finished = []; seen = 0; reads = 0; full = 0; loads = 0; adds = 0; spent = false; held = 0; tries = 0; limit = 0; bound = 0; places = 0 }
+no_view =
+    record {
+      drawn = [];
+      claims = 0;
+      finished = [];
+      seen = 0;
+      reads = 0;
+      full = 0;
+      loads = 0;
+      adds = 0;
+      spent = false;
+      held = 0;
+      tries = 0;
+      limit = 0;
+      bound = 0;
+      places = 0;
+    }
 
 abbrev pub one_if : Bool → ℕ
 one_if true = 1
@@ -50,9 +99,9 @@ abbrev pub times_below : ℕ → ℕ → ℕ
 times_below i n = one_if (nat_lt i n)
 
 -- a sum over views
-abbrev pub total : (View → ℕ) → List View → ℕ
-total f [] = 0
-total f (v ∷ vs) = f v + total f vs
+abbrev pub total_over_views : (View → ℕ) → List View → ℕ
+total_over_views f [] = 0
+total_over_views f (v ∷ vs) = f v + total_over_views f vs
 
 -- the places of a spent seat
 abbrev pub spent_places : View → ℕ

@@ -6,7 +6,7 @@ ghost use Rattle.ultra_board.specs.Rule.{IsWithinLimits};
 
 use crate::rule::Limits;
 use crate::seat::Seat;
-use crate::words::{Totals, Words};
+use crate::words::{BoardWords, Totals};
 use crate::{MOST_NUMBERS, MOST_PASSES, MOST_SEATS};
 use std::alloc::{AllocError, Global};
 use std::marker::{Brand, Model};
@@ -35,7 +35,7 @@ impl From<AllocError> for BoardFault {
 /// Contracts see which board it is, and what it was opened with.
 #[derive(Drop)]
 pub struct Board {
-    words: Words,
+    words: BoardWords,
 }
 
 impl Model for Board {
@@ -72,7 +72,7 @@ impl Board {
             bound,
             seats,
         };
-        let (words, token) = Words::open(alloc, &limits)?;
+        let (words, token) = BoardWords::open(alloc, &limits)?;
         let seat = Seat {
             token,
             limit,

@@ -55,10 +55,10 @@ pub struct View {
 pub struct BoardRule;
 
 impl TableRule<u64, View, Limits> for BoardRule {
-    ghost use Rattle.ultra_board.specs.Rule.{IsKept};
+    ghost use Rattle.ultra_board.specs.Rule.{IsBoardRule};
     ghost use Rattle.ultra_board.specs.View.{first_view};
 
-    ghost holds = { IsKept };
+    ghost holds = { IsBoardRule };
 
     ghost first = { first_view };
 }

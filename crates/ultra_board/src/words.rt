@@ -38,11 +38,11 @@ pub struct Totals {
 
 /// The words, under the board's rule. Contracts see which board's they are, and what that was opened with.
 #[derive(Drop)]
-pub(crate) struct Words {
+pub(crate) struct BoardWords {
     table: Table<u64, View, Limits, BoardRule, Global>,
 }
 
-impl Model for Words {
+impl Model for BoardWords {
     ghost use Rattle.std.specs.Prelude.{◌≡◌};
     ghost use Rattle.ultra_board.specs.Seat.{Opened};
 
@@ -53,15 +53,15 @@ impl Model for Words {
     ghost invariant = { λ w. (w.table.shared.table_id.words ≡ 3) × (w.table.shared.table_id.slots ≡ 0) };
 }
 
-impl Words {
+impl BoardWords {
     /// The words at the start, each 0, and the token of the first seat.
-    pub(crate) fn open(alloc: Global, limits: &Limits) -> Result<(Words, Token), AllocError>
+    pub(crate) fn open(alloc: Global, limits: &Limits) -> Result<(BoardWords, Token), AllocError>
         requires { IsWithinLimits limits.now }
         ensures words { IfOk result (λ w. w.0.limits ≡ limits.now) }
         ensures token { IfOk result (λ w. (w.1.table_id ≡ w.0.id) × (w.1.me ≡ (first_view limits.now, []))) }
     {
         let (table, token) = Table::of_words(alloc, &[0, 0, 0], limits)?;
-        Ok((Words { table }, token))
+        Ok((BoardWords { table }, token))
     }
 
     /// Adds 1 to claim, and gives the value before it.
@@ -173,7 +173,7 @@ impl Words {
         requires no_try { token.me.0.tries ≡ 0 }
         ensures { IsTotal token.me.0 result.claimed result.finished result.passes }
     {
-        let Words { table } = self;
+        let BoardWords { table } = self;
         let closed = table.close_with(token);
         let totals = Totals {
             claimed: closed.word(CLAIM),

@@ -1,3 +1,11 @@
+pub mod Interleaving
+pub mod Tickets
+pub mod Tally
+pub mod Gate
+pub mod ReadersWriters
+pub mod Barrier
+pub mod QueueState
+pub mod Queue
 pub mod Reading
 pub mod GateText
 pub mod ReadersWritersText

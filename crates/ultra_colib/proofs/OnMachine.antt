@@ -10,11 +10,11 @@ use Rattle.ultra_isa.specs.declared.Instr.{Instr}
 use Rattle.ultra_model.specs.Machine.{Settings, size, given_value}
 use Rattle.ultra_model.specs.Phases.{after}
 use Rattle.ultra_model.proofs.Each.{length-places}
-use Rattle.ultra_law.specs.SerialList.{cells_of}
+use Rattle.ultra_serial_law.specs.SerialList.{cells_of}
 use Rattle.ultra_para.specs.Para.{Para, core_at, cells_acted, start_para, alone, para_step, run_para}
 use Rattle.ultra_para.specs.Careful.{is_careful}
 use Rattle.ultra_para.specs.Law.{ParacomputerLaw}
-use Rattle.ultra_coordination.specs.Schedules.{Words, IsKept}
+use Rattle.ultra_colib.specs.Schedules.{CellWords, IsKeptBySchedules}
 use Rattle.ultra_colib.specs.Laws.{IsKeptByMachine}
 
 -- no step changes the number of cells
@@ -26,7 +26,7 @@ held_after : (c : Settings) (program : List Instr) (schedule : List ℕ) (v : Pa
 held_after c program [] v = refl
 held_after c program (p ∷ ps) v = held_after c program ps (para_step c program v p) ∙ held_acted v.cells (alone c program p (core_at v p)).sent
 
-module _ (law : ParacomputerLaw) (program : List Instr) (careful : is_careful program ≡ true) (Law : ℕ → Words → Type 0) (kept : IsKept program Law) where
+module _ (law : ParacomputerLaw) (program : List Instr) (careful : is_careful program ≡ true) (Law : ℕ → CellWords → Type 0) (kept : IsKeptBySchedules program Law) where
   pub kept_by_machine : IsKeptByMachine program Law
   kept_by_machine c ranged empty n =
       let r = law c ranged program careful n in
@@ -37,4 +37,4 @@ module _ (law : ParacomputerLaw) (program : List Instr) (careful : is_careful pr
         | true ↦ λ e. r.looks.cells a (grind (arith, common_steps))
         | false ↦ λ e. get_or_past v.cells a 0 (let past : size c * c.cells ≤ a = grind (arith, common_steps) in omega arith)
       ] in
-      subst (λ (w : Words). Law (size c) w) (fun_ext (λ a. same a (nat_lt a (size c * c.cells)) refl)) (kept c ranged empty r.schedule r.elements)
+      subst (λ (w : CellWords). Law (size c) w) (fun_ext (λ a. same a (nat_lt a (size c * c.cells)) refl)) (kept c ranged empty r.schedule r.elements)

@@ -5,11 +5,11 @@ use Rattle.std.proofs.Math.Pow.{pow_mono}
 use Rattle.ultra_asm.specs.declared.instruction.Mnemonic.TheVariants.{AddWord, Set, ShiftRight}
 use Rattle.ultra_asm.specs.declared.instruction.Operand.TheVariants.{Bits, Number, Register}
 use Rattle.ultra_asm.specs.Words.{text_words}
-use Rattle.ultra_asm.specs.Labels.{place_of}
+use Rattle.ultra_asm.specs.Labels.{label_pc}
 use Rattle.ultra_asm.specs.ProgramText.{AreInstructions, statements, AreLinesOf, IsProgramText}
 use Rattle.ultra_asm.proofs.Spelled.{operands_back}
-use Rattle.ultra_coordination.specs.Queue.{queue}
-use Rattle.ultra_colib.specs.Texts.{filled, queue_pieces, queue_numbers, queue_text}
+use Rattle.ultra_colib.specs.Queue.{queue}
+use Rattle.ultra_colib.specs.Texts.{text_with_numbers, queue_pieces, queue_numbers, queue_text}
 use Rattle.ultra_colib.proofs.Reading.{Lines, words, number_line, decimal_eleven, labels_of}
 
 module _ (z : ℕ) (z_small : z ≤ 6) (rounds : ℕ) (rounds_small : rounds < 2 ^ 32) where
@@ -18,7 +18,7 @@ module _ (z : ℕ) (z_small : z ≤ 6) (rounds : ℕ) (rounds_small : rounds < 2
 
   -- the text behind the line with number i
   abbrev rest : ℕ → List ℕ
-  rest i = drop 1 (filled (drop (i + 1) queue_pieces) (drop (i + 1) (queue_numbers z rounds)))
+  rest i = drop 1 (text_with_numbers (drop (i + 1) queue_pieces) (drop (i + 1) (queue_numbers z rounds)))
 
   line_0 : text_words (codes "li r4 " ++ (decimal (2 ^ z) ++ 10 ∷ rest 0)) ≡ words Set (Register 4 ∷ Number (2 ^ z) ∷ []) ∷ text_words (rest 0)
   line_0 = number_line Set (Register 4 ∷ Number (2 ^ z) ∷ []) (codes "li r4 ") (2 ^ z) (rest 0) (let few = places_small in (omega arith, (omega arith, tt))) (rw (decimal_digit 4 (omega arith)) refl)
@@ -53,7 +53,7 @@ module _ (z : ℕ) (z_small : z ≤ 6) (rounds : ℕ) (rounds_small : rounds < 2
   lines_are : text_words (queue_text z rounds) ≡ all_lines
   lines_are = ap (λ ls. text_words (codes "pid r1\naddi r1 r1 1\nnp r2\nli r3 1") ++ ls) (line_0 ∙ ap (λ ls. words Set (Register 4 ∷ Number (2 ^ z) ∷ []) ∷ ls) ((line_1 ∙ ap (λ ls. words Set (Register 5 ∷ Number rounds ∷ []) ∷ ls) (ap (λ ls. text_words (codes "li r15 4294967295\nins:\nli r6 0\nld r7 r6\nfence\nslt r8 r7 r4\njz r8 ins\nfaa r7 r6 r3\nfence\nslt r8 r7 r4\njnz r8 put\nfaa r7 r6 r15\nfence\njmp ins\nput:\nli r6 2\nfaa r7 r6 r3\nfence") ++ ls) (line_2 ∙ ap (λ ls. words ShiftRight (Register 8 ∷ Register 7 ∷ Bits z ∷ []) ∷ ls) (ap (λ ls. text_words (codes "add r8 r8 r8") ++ ls) (line_3 ∙ ap (λ ls. words Set (Register 9 ∷ Number (2 ^ z - 1) ∷ []) ∷ ls) (ap (λ ls. text_words (codes "and r9 r7 r9\naddi r10 r9 8") ++ ls) (line_4 ∙ ap (λ ls. words AddWord (Register 11 ∷ Register 9 ∷ Number (8 + 2 ^ z) ∷ []) ∷ ls) (ap (λ ls. text_words (codes "turn1:\nld r12 r10\nfence\nseq r13 r12 r8\njz r13 turn1\nst r11 r1\nfence\naddi r8 r8 1\nst r10 r8\nfence\nli r6 1\nfaa r7 r6 r3\nfence\ndel:\nli r6 1\nld r7 r6\nfence\nsub r8 r7 r3\nslt r8 r8 r4\njz r8 del\nfaa r7 r6 r15\nfence\nsub r8 r7 r3\nslt r8 r8 r4\njnz r8 take\nfaa r7 r6 r3\nfence\njmp del\ntake:\nli r6 3\nfaa r7 r6 r3\nfence") ++ ls) (line_5 ∙ ap (λ ls. words ShiftRight (Register 8 ∷ Register 7 ∷ Bits z ∷ []) ∷ ls) (ap (λ ls. text_words (codes "add r8 r8 r8\naddi r8 r8 1") ++ ls) (line_6 ∙ ap (λ ls. words Set (Register 9 ∷ Number (2 ^ z - 1) ∷ []) ∷ ls) (ap (λ ls. text_words (codes "and r9 r7 r9\naddi r10 r9 8") ++ ls) (line_7 ∙ ap (λ ls. words AddWord (Register 11 ∷ Register 9 ∷ Number (8 + 2 ^ z) ∷ []) ∷ ls) (ap (λ ls. text_words (codes "turn2:\nld r12 r10\nfence\nseq r13 r12 r8\njz r13 turn2\nld r14 r11\nfence\naddi r8 r8 1\nst r10 r8\nfence\nli r6 0\nfaa r7 r6 r15\nfence") ++ ls) line_8))))))))))))))))
 
-  instructions : AreInstructions (place_of all_lines) (statements all_lines) (queue z rounds)
+  instructions : AreInstructions (label_pc all_lines) (statements all_lines) (queue z rounds)
   instructions = (
     (refl, (refl, tt)),
     (
@@ -63,9 +63,9 @@ module _ (z : ℕ) (z_small : z ≤ 6) (rounds : ℕ) (rounds_small : rounds < 2
         (
           (refl, (refl, (refl, tt))),
           (
-            (refl, operands_back (place_of all_lines) (Register 4 ∷ Number (2 ^ z) ∷ []) (let few = places_small in (omega arith, (omega arith, tt))) (tt, (tt, tt))),
+            (refl, operands_back (label_pc all_lines) (Register 4 ∷ Number (2 ^ z) ∷ []) (let few = places_small in (omega arith, (omega arith, tt))) (tt, (tt, tt))),
             (
-              (refl, operands_back (place_of all_lines) (Register 5 ∷ Number rounds ∷ []) (let few = places_small in (omega arith, (omega arith, tt))) (tt, (tt, tt))),
+              (refl, operands_back (label_pc all_lines) (Register 5 ∷ Number rounds ∷ []) (let few = places_small in (omega arith, (omega arith, tt))) (tt, (tt, tt))),
               (
                 (refl, (refl, (refl, tt))),
                 (
@@ -99,17 +99,17 @@ module _ (z : ℕ) (z_small : z ≤ 6) (rounds : ℕ) (rounds_small : rounds < 2
                                             (
                                               (refl, tt),
                                               (
-                                                (refl, operands_back (place_of all_lines) (Register 8 ∷ Register 7 ∷ Bits z ∷ []) (let few = places_small in (omega arith, (omega arith, (omega arith, tt)))) (tt, (tt, (tt, tt)))),
+                                                (refl, operands_back (label_pc all_lines) (Register 8 ∷ Register 7 ∷ Bits z ∷ []) (let few = places_small in (omega arith, (omega arith, (omega arith, tt)))) (tt, (tt, (tt, tt)))),
                                                 (
                                                   (refl, (refl, (refl, (refl, tt)))),
                                                   (
-                                                    (refl, operands_back (place_of all_lines) (Register 9 ∷ Number (2 ^ z - 1) ∷ []) (let few = places_small in (omega arith, (omega arith, tt))) (tt, (tt, tt))),
+                                                    (refl, operands_back (label_pc all_lines) (Register 9 ∷ Number (2 ^ z - 1) ∷ []) (let few = places_small in (omega arith, (omega arith, tt))) (tt, (tt, tt))),
                                                     (
                                                       (refl, (refl, (refl, (refl, tt)))),
                                                       (
                                                         (refl, (refl, (refl, (refl, tt)))),
                                                         (
-                                                          (refl, operands_back (place_of all_lines) (Register 11 ∷ Register 9 ∷ Number (8 + 2 ^ z) ∷ []) (let few = places_small in (omega arith, (omega arith, (omega arith, tt)))) (tt, (tt, (tt, tt)))),
+                                                          (refl, operands_back (label_pc all_lines) (Register 11 ∷ Register 9 ∷ Number (8 + 2 ^ z) ∷ []) (let few = places_small in (omega arith, (omega arith, (omega arith, tt)))) (tt, (tt, (tt, tt)))),
                                                           (
                                                             (refl, (refl, (refl, tt))),
                                                             (
@@ -169,19 +169,19 @@ module _ (z : ℕ) (z_small : z ≤ 6) (rounds : ℕ) (rounds_small : rounds < 2
                                                                                                                   (
                                                                                                                     (refl, tt),
                                                                                                                     (
-                                                                                                                      (refl, operands_back (place_of all_lines) (Register 8 ∷ Register 7 ∷ Bits z ∷ []) (let few = places_small in (omega arith, (omega arith, (omega arith, tt)))) (tt, (tt, (tt, tt)))),
+                                                                                                                      (refl, operands_back (label_pc all_lines) (Register 8 ∷ Register 7 ∷ Bits z ∷ []) (let few = places_small in (omega arith, (omega arith, (omega arith, tt)))) (tt, (tt, (tt, tt)))),
                                                                                                                       (
                                                                                                                         (refl, (refl, (refl, (refl, tt)))),
                                                                                                                         (
                                                                                                                           (refl, (refl, (refl, (refl, tt)))),
                                                                                                                           (
-                                                                                                                            (refl, operands_back (place_of all_lines) (Register 9 ∷ Number (2 ^ z - 1) ∷ []) (let few = places_small in (omega arith, (omega arith, tt))) (tt, (tt, tt))),
+                                                                                                                            (refl, operands_back (label_pc all_lines) (Register 9 ∷ Number (2 ^ z - 1) ∷ []) (let few = places_small in (omega arith, (omega arith, tt))) (tt, (tt, tt))),
                                                                                                                             (
                                                                                                                               (refl, (refl, (refl, (refl, tt)))),
                                                                                                                               (
                                                                                                                                 (refl, (refl, (refl, (refl, tt)))),
                                                                                                                                 (
-                                                                                                                                  (refl, operands_back (place_of all_lines) (Register 11 ∷ Register 9 ∷ Number (8 + 2 ^ z) ∷ []) (let few = places_small in (omega arith, (omega arith, (omega arith, tt)))) (tt, (tt, (tt, tt)))),
+                                                                                                                                  (refl, operands_back (label_pc all_lines) (Register 11 ∷ Register 9 ∷ Number (8 + 2 ^ z) ∷ []) (let few = places_small in (omega arith, (omega arith, (omega arith, tt)))) (tt, (tt, (tt, tt)))),
                                                                                                                                   (
                                                                                                                                     (refl, (refl, (refl, tt))),
                                                                                                                                     (
@@ -207,7 +207,7 @@ module _ (z : ℕ) (z_small : z ≤ 6) (rounds : ℕ) (rounds_small : rounds < 2
                                                                                                                                                         (
                                                                                                                                                           (refl, tt),
                                                                                                                                                           (
-                                                                                                                                                            (refl, operands_back (place_of all_lines) (Register 6 ∷ Register 1 ∷ Number (7 + 2 * 2 ^ z) ∷ []) (let few = places_small in (omega arith, (omega arith, (omega arith, tt)))) (tt, (tt, (tt, tt)))),
+                                                                                                                                                            (refl, operands_back (label_pc all_lines) (Register 6 ∷ Register 1 ∷ Number (7 + 2 * 2 ^ z) ∷ []) (let few = places_small in (omega arith, (omega arith, (omega arith, tt)))) (tt, (tt, (tt, tt)))),
                                                                                                                                                             (
                                                                                                                                                               (refl, (refl, (refl, tt))),
                                                                                                                                                               (

@@ -4,17 +4,17 @@ use Rattle.std.proofs.lemmas.Fmt.{decimal_digit}
 use Rattle.ultra_asm.specs.declared.instruction.Mnemonic.TheVariants.{Set}
 use Rattle.ultra_asm.specs.declared.instruction.Operand.TheVariants.{Number, Register}
 use Rattle.ultra_asm.specs.Words.{text_words}
-use Rattle.ultra_asm.specs.Labels.{place_of}
+use Rattle.ultra_asm.specs.Labels.{label_pc}
 use Rattle.ultra_asm.specs.ProgramText.{AreInstructions, statements, AreLinesOf, IsProgramText}
 use Rattle.ultra_asm.proofs.Spelled.{operands_back}
-use Rattle.ultra_coordination.specs.ReadersWriters.{readers_writers}
-use Rattle.ultra_colib.specs.Texts.{filled, rw_pieces, rw_numbers, rw_text}
+use Rattle.ultra_colib.specs.ReadersWriters.{readers_writers}
+use Rattle.ultra_colib.specs.Texts.{text_with_numbers, rw_pieces, rw_numbers, rw_text}
 use Rattle.ultra_colib.proofs.Reading.{Lines, words, number_line, labels_of}
 
 module _ (writers : ℕ) (writers_small : writers < 2 ^ 32) (rounds : ℕ) (rounds_small : rounds < 2 ^ 32) where
   -- the text behind the line with number i
   abbrev rest : ℕ → List ℕ
-  rest i = drop 1 (filled (drop (i + 1) rw_pieces) (drop (i + 1) (rw_numbers writers rounds)))
+  rest i = drop 1 (text_with_numbers (drop (i + 1) rw_pieces) (drop (i + 1) (rw_numbers writers rounds)))
 
   line_0 : text_words (codes "li r5 " ++ (decimal rounds ++ 10 ∷ rest 0)) ≡ words Set (Register 5 ∷ Number rounds ∷ []) ∷ text_words (rest 0)
   line_0 = number_line Set (Register 5 ∷ Number rounds ∷ []) (codes "li r5 ") rounds (rest 0) (omega arith, (omega arith, tt)) (rw (decimal_digit 5 (omega arith)) refl)
@@ -28,7 +28,7 @@ module _ (writers : ℕ) (writers_small : writers < 2 ^ 32) (rounds : ℕ) (roun
   lines_are : text_words (rw_text writers rounds) ≡ all_lines
   lines_are = ap (λ ls. text_words (codes "pid r1\naddi r2 r1 8\nli r3 1\nli r4 65536") ++ ls) (line_0 ∙ ap (λ ls. words Set (Register 5 ∷ Number rounds ∷ []) ∷ ls) (line_1))
 
-  instructions : AreInstructions (place_of all_lines) (statements all_lines) (readers_writers writers rounds)
+  instructions : AreInstructions (label_pc all_lines) (statements all_lines) (readers_writers writers rounds)
   instructions = (
     (refl, (refl, tt)),
     (
@@ -38,9 +38,9 @@ module _ (writers : ℕ) (writers_small : writers < 2 ^ 32) (rounds : ℕ) (roun
         (
           (refl, (refl, (refl, tt))),
           (
-            (refl, operands_back (place_of all_lines) (Register 5 ∷ Number rounds ∷ []) (omega arith, (omega arith, tt)) (tt, (tt, tt))),
+            (refl, operands_back (label_pc all_lines) (Register 5 ∷ Number rounds ∷ []) (omega arith, (omega arith, tt)) (tt, (tt, tt))),
             (
-              (refl, operands_back (place_of all_lines) (Register 6 ∷ Number writers ∷ []) (omega arith, (omega arith, tt)) (tt, (tt, tt))),
+              (refl, operands_back (label_pc all_lines) (Register 6 ∷ Number writers ∷ []) (omega arith, (omega arith, tt)) (tt, (tt, tt))),
               (
                 (refl, (refl, (refl, tt))),
                 (

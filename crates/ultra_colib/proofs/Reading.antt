@@ -6,7 +6,7 @@ use Rattle.ultra_asm.specs.declared.instruction.Mnemonic.{Mnemonic}
 use Rattle.ultra_asm.specs.declared.instruction.Operand.{Operand}
 use Rattle.ultra_asm.specs.Words.{text_words, before_colon, is_name}
 use Rattle.ultra_asm.specs.Labels.{is_defined_before}
-use Rattle.ultra_asm.specs.Instruction.{word_of}
+use Rattle.ultra_asm.specs.Instruction.{mnemonic_word}
 use Rattle.ultra_asm.specs.ProgramText.{IsNewLabel, IsLabelled, line_at}
 use Rattle.ultra_asm.specs.Listing.{operand_text, operands_text, AreWritable}
 use Rattle.ultra_asm.proofs.Cutting.{text_next}
@@ -17,14 +17,14 @@ Lines = List (List (List ℕ))
 
 -- the words of an instruction
 abbrev pub words : Mnemonic → List Operand → List (List ℕ)
-words m os = word_of m ∷ map operand_text os
+words m os = mnemonic_word m ∷ map operand_text os
 
 -- a line that ends with a number, and the lines after it
-pub number_line : (m : Mnemonic) (os : List Operand) (line : List ℕ) (n : ℕ) (rest : List ℕ) → AreWritable os → word_of m ++ operands_text os ≡ line ++ (decimal n ++ []) → text_words (line ++ (decimal n ++ 10 ∷ rest)) ≡ words m os ∷ text_words rest
+pub number_line : (m : Mnemonic) (os : List Operand) (line : List ℕ) (n : ℕ) (rest : List ℕ) → AreWritable os → mnemonic_word m ++ operands_text os ≡ line ++ (decimal n ++ []) → text_words (line ++ (decimal n ++ 10 ∷ rest)) ≡ words m os ∷ text_words rest
 number_line m os line n rest writable e =
-    let same : line ++ (decimal n ++ 10 ∷ rest) ≡ (word_of m ++ operands_text os) ++ 10 ∷ rest =
+    let same : line ++ (decimal n ++ 10 ∷ rest) ≡ (mnemonic_word m ++ operands_text os) ++ 10 ∷ rest =
     ap (λ ds. line ++ (ds ++ 10 ∷ rest)) (sym (append-nil (decimal n))) ∙ (sym (append_assoc line (decimal n ++ []) (10 ∷ rest)) ∙ ap (λ xs. xs ++ 10 ∷ rest) (sym e)) in
-    ap text_words same ∙ text_next (word_of m) rest os (word_plain m) (operands_plain os writable)
+    ap text_words same ∙ text_next (mnemonic_word m) rest os (word_plain m) (operands_plain os writable)
 
 not_true : (b : Bool) → not b ≡ true → b ≡ false
 not_true true h = absurd cc

@@ -4,21 +4,23 @@ use Rattle.ultra_isa.specs.declared.Instr.{Instr}
 use Rattle.ultra_model.specs.Machine.{Settings, Machine, size}
 use Rattle.ultra_model.specs.Phases.{after}
 use Rattle.ultra_model.specs.Ranges.{AreInRange}
-use Rattle.ultra_law.specs.SerialList.{cells_of}
-use Rattle.ultra_coordination.specs.Schedules.{Words}
-use Rattle.ultra_coordination.specs.Gate.{gate, AreFewInside}
-use Rattle.ultra_coordination.specs.ReadersWriters.{readers_writers, AreWritersAlone}
-use Rattle.ultra_coordination.specs.Barrier.{barrier, AreInStep}
-use Rattle.ultra_coordination.specs.Queue.{queue, AreItemsOnce}
+use Rattle.ultra_serial_law.specs.SerialList.{cells_of}
+use Rattle.ultra_colib.specs.Schedules.{CellWords}
+use Rattle.ultra_colib.specs.Gate.{gate, AreFewInside}
+use Rattle.ultra_colib.specs.ReadersWriters.{readers_writers, AreWritersAlone}
+use Rattle.ultra_colib.specs.Barrier.{barrier, AreInStep}
+use Rattle.ultra_colib.specs.Queue.{queue, AreItemsOnce}
 
 -- the word in each cell of a machine; one that the memory hasn't counts as 0
-abbrev pub words_of : Settings → Machine → Words
-words_of c m a = elim (nat_lt a (size c * c.cells)) [ true ↦ cells_of c m a | false ↦ 0 ]
+abbrev pub cell_words : Settings → Machine → CellWords
+cell_words c m a = elim (nat_lt a (size c * c.cells)) [ true ↦ cells_of c m a | false ↦ 0 ]
 
 -- for all settings in their ranges without initial values and every number of cycles, the law of n
 -- processing elements holds
-abbrev pub IsKeptByMachine : List Instr → (ℕ → Words → Type 0) → Type 0
-IsKeptByMachine program Law = (c : Settings) → AreInRange c → c.initial ≡ [] → (n : ℕ) → Law (size c) (words_of c (after c program n))
+abbrev pub IsKeptByMachine : List Instr → (ℕ → CellWords → Type 0) → Type 0
+IsKeptByMachine program Law =
+    (c : Settings) → AreInRange c → c.initial ≡ [] → (n : ℕ)
+    → Law (size c) (cell_words c (after c program n))
 
 -- the gate lets few in at once, a writer is inside alone, the rounds of the barrier are in step,
 -- and the queue gives each item once

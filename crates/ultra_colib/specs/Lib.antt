@@ -1,3 +1,9 @@
+pub mod Tickets
+pub mod Schedules
+pub mod Gate
+pub mod ReadersWriters
+pub mod Barrier
+pub mod Queue
 pub mod Texts
 pub mod Parameters
 pub mod Laws

@@ -3,10 +3,10 @@
 use Rattle.std.specs.Prelude.{ℕ, ◌+◌, ◌-◌, ◌*◌, ◌^◌, List, [], ◌∷◌, ◌++◌, codes, decimal}
 
 -- the pieces of a text, with numbers between them
-abbrev pub filled : List (List ℕ) → List ℕ → List ℕ
-filled [] ns = []
-filled (p ∷ ps) [] = p ++ filled ps []
-filled (p ∷ ps) (n ∷ ns) = p ++ (decimal n ++ filled ps ns)
+abbrev pub text_with_numbers : List (List ℕ) → List ℕ → List ℕ
+text_with_numbers [] ns = []
+text_with_numbers (p ∷ ps) [] = p ++ text_with_numbers ps []
+text_with_numbers (p ∷ ps) (n ∷ ns) = p ++ (decimal n ++ text_with_numbers ps ns)
 
 -- the gate: `bound` processing elements at most are inside at once, `rounds` times each
 abbrev pub gate_pieces : List (List ℕ)
@@ -20,7 +20,7 @@ abbrev pub gate_numbers : ℕ → ℕ → List ℕ
 gate_numbers bound rounds = bound ∷ rounds ∷ []
 
 abbrev pub gate_text : ℕ → ℕ → List ℕ
-gate_text bound rounds = filled gate_pieces (gate_numbers bound rounds)
+gate_text bound rounds = text_with_numbers gate_pieces (gate_numbers bound rounds)
 
 -- readers and writers: the first `writers` processing elements write, the others read
 abbrev pub rw_pieces : List (List ℕ)
@@ -34,7 +34,7 @@ abbrev pub rw_numbers : ℕ → ℕ → List ℕ
 rw_numbers writers rounds = rounds ∷ writers ∷ []
 
 abbrev pub rw_text : ℕ → ℕ → List ℕ
-rw_text writers rounds = filled rw_pieces (rw_numbers writers rounds)
+rw_text writers rounds = text_with_numbers rw_pieces (rw_numbers writers rounds)
 
 -- the barrier
 abbrev pub barrier_pieces : List (List ℕ)
@@ -47,7 +47,7 @@ abbrev pub barrier_numbers : ℕ → List ℕ
 barrier_numbers rounds = rounds ∷ []
 
 abbrev pub barrier_text : ℕ → List ℕ
-barrier_text rounds = filled barrier_pieces (barrier_numbers rounds)
+barrier_text rounds = text_with_numbers barrier_pieces (barrier_numbers rounds)
 
 -- the queue with 2 ^ z places
 abbrev pub queue_pieces : List (List ℕ)
@@ -65,7 +65,9 @@ queue_pieces =
     ∷ []
 
 abbrev pub queue_numbers : ℕ → ℕ → List ℕ
-queue_numbers z rounds = (2 ^ z) ∷ rounds ∷ z ∷ (2 ^ z - 1) ∷ (8 + 2 ^ z) ∷ z ∷ (2 ^ z - 1) ∷ (8 + 2 ^ z) ∷ (7 + 2 * 2 ^ z) ∷ []
+queue_numbers z rounds =
+    (2 ^ z) ∷ rounds ∷ z ∷ (2 ^ z - 1) ∷ (8 + 2 ^ z) ∷ z ∷ (2 ^ z - 1) ∷ (8 + 2 ^ z)
+    ∷ (7 + 2 * 2 ^ z) ∷ []
 
 abbrev pub queue_text : ℕ → ℕ → List ℕ
-queue_text z rounds = filled queue_pieces (queue_numbers z rounds)
+queue_text z rounds = text_with_numbers queue_pieces (queue_numbers z rounds)

@@ -4,10 +4,10 @@ ghost use Rattle.std.specs.Prelude.{◌≡◌, ◌↔◌, List, true, false, IfO
 ghost use Rattle.ultra_isa.specs.declared.Instr.{Instr};
 ghost use Rattle.ultra_asm.specs.ProgramText.{IsProgramText};
 ghost use Rattle.ultra_para.specs.Careful.{is_careful};
-ghost use Rattle.ultra_coordination.specs.Gate.{gate};
-ghost use Rattle.ultra_coordination.specs.ReadersWriters.{readers_writers};
-ghost use Rattle.ultra_coordination.specs.Barrier.{barrier};
-ghost use Rattle.ultra_coordination.specs.Queue.{queue};
+ghost use Rattle.ultra_colib.specs.Gate.{gate};
+ghost use Rattle.ultra_colib.specs.ReadersWriters.{readers_writers};
+ghost use Rattle.ultra_colib.specs.Barrier.{barrier};
+ghost use Rattle.ultra_colib.specs.Queue.{queue};
 ghost use Rattle.ultra_colib.specs.Texts.{gate_text as text_of_gate, rw_text as text_of_rw, barrier_text as text_of_barrier, queue_text as text_of_queue};
 ghost use Rattle.ultra_colib.specs.Parameters.{gate_takes, rw_takes, barrier_takes, queue_takes};
 

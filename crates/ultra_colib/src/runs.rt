@@ -3,10 +3,10 @@
 ghost use Rattle.std.specs.Prelude.{◌≡◌, ◌↔◌, ◌<◌, ◌&&◌, All, false, IfOk, slice_index};
 ghost use Rattle.ultra_model.specs.Machine.{size, is_empty};
 ghost use Rattle.ultra_para.specs.Para.{start_para, run_para};
-ghost use Rattle.ultra_coordination.specs.Gate.{gate, AreFewInside};
-ghost use Rattle.ultra_coordination.specs.ReadersWriters.{readers_writers, AreWritersAlone};
-ghost use Rattle.ultra_coordination.specs.Barrier.{barrier, AreInStep};
-ghost use Rattle.ultra_coordination.specs.Queue.{queue, AreItemsOnce};
+ghost use Rattle.ultra_colib.specs.Gate.{gate, AreFewInside};
+ghost use Rattle.ultra_colib.specs.ReadersWriters.{readers_writers, AreWritersAlone};
+ghost use Rattle.ultra_colib.specs.Barrier.{barrier, AreInStep};
+ghost use Rattle.ultra_colib.specs.Queue.{queue, AreItemsOnce};
 ghost use Rattle.ultra_colib.specs.Parameters.{gate_takes, rw_takes, barrier_takes, queue_takes};
 
 use crate::ColibFault;

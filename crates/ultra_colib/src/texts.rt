@@ -1,7 +1,7 @@
 //! The texts of the coordination programs, with their parameters put in.
 
 ghost use Rattle.std.specs.Prelude.{◌≡◌, ◌≤◌, ◌^◌, [], ◌∷◌, IfOk, string_bytes};
-ghost use Rattle.ultra_colib.specs.Texts.{filled, gate_text, rw_text, barrier_text, queue_pieces, queue_text};
+ghost use Rattle.ultra_colib.specs.Texts.{text_with_numbers, gate_text, rw_text, barrier_text, queue_pieces, queue_text};
 
 use std::alloc::{AllocError, Global};
 
@@ -52,7 +52,7 @@ fn queue_filled(
     items: u32,
     results: u32,
 ) -> Result<String, AllocError>
-    ensures { IfOk result (λ text. string_bytes text ≡ filled queue_pieces (places ∷ rounds ∷ log_size ∷ last ∷ items ∷ log_size ∷ last ∷ items ∷ results ∷ [])) }
+    ensures { IfOk result (λ text. string_bytes text ≡ text_with_numbers queue_pieces (places ∷ rounds ∷ log_size ∷ last ∷ items ∷ log_size ∷ last ∷ items ∷ results ∷ [])) }
 {
     format!(in alloc;
         "pid r1\naddi r1 r1 1\nnp r2\nli r3 1\nli r4 {places}\nli r5 {rounds}\nli r15 4294967295\nins:\nli r6 0\nld r7 r6\nfence\nslt r8 r7 r4\njz r8 ins\nfaa r7 r6 r3\nfence\nslt r8 r7 r4\njnz r8 put\nfaa r7 r6 r15\nfence\njmp ins\nput:\nli r6 2\nfaa r7 r6 r3\nfence\nshr r8 r7 {log_size}\nadd r8 r8 r8\nli r9 {last}\nand r9 r7 r9\naddi r10 r9 8\naddi r11 r9 {items}\nturn1:\nld r12 r10\nfence\nseq r13 r12 r8\njz r13 turn1\nst r11 r1\nfence\naddi r8 r8 1\nst r10 r8\nfence\nli r6 1\nfaa r7 r6 r3\nfence\ndel:\nli r6 1\nld r7 r6\nfence\nsub r8 r7 r3\nslt r8 r8 r4\njz r8 del\nfaa r7 r6 r15\nfence\nsub r8 r7 r3\nslt r8 r8 r4\njnz r8 take\nfaa r7 r6 r3\nfence\njmp del\ntake:\nli r6 3\nfaa r7 r6 r3\nfence\nshr r8 r7 {log_size}\nadd r8 r8 r8\naddi r8 r8 1\nli r9 {last}\nand r9 r7 r9\naddi r10 r9 8\naddi r11 r9 {items}\nturn2:\nld r12 r10\nfence\nseq r13 r12 r8\njz r13 turn2\nld r14 r11\nfence\naddi r8 r8 1\nst r10 r8\nfence\nli r6 0\nfaa r7 r6 r15\nfence\naddi r6 r1 {results}\nst r6 r14\nfence\nadd r1 r1 r2\nsub r5 r5 r3\njnz r5 ins\nhalt\n"

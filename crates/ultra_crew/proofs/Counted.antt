@@ -1,12 +1,12 @@
--- Cycles that are made one after another, and the course of the workers.
+-- Cycles that are made one after another, and what workers are expected to give back.
 use Rattle.std.proofs.Common.{◌≡◌, ℕ, zero, suc, ◌+◌, List, refl, arith, ap}
 use Rattle.ultra_isa.specs.declared.Instr.{Instr}
 use Rattle.ultra_model.specs.Machine.{Machine, Settings}
 use Rattle.ultra_model.specs.Phases.{cycle, memory_phase, processor_phase, reply_phase, request_phase}
-use Rattle.ultra_section.specs.declared.half.Half.{Half}
+use Rattle.ultra_block_core.specs.declared.half.Half.{Half}
 use Rattle.ultra_block.specs.State.{BlocksState}
-use Rattle.ultra_desk.specs.declared.task.Task.{Task}
-use Rattle.ultra_crew.specs.Course.{IsCourse, course_of, cycles_on, later, results_in}
+use Rattle.ultra_crew.specs.declared.task.BlockTask.{BlockTask}
+use Rattle.ultra_crew.specs.ExpectedResults.{AreExpectedResults, expected_results_of, cycles_on, later, results_in}
 
 -- ---- machines
 pub cycles_one : (c : Settings) (program : List Instr) (m : Machine) → (cycle c program m).cycles ≡ m.cycles + 1
@@ -38,18 +38,18 @@ first_then c program zero m = refl
 first_then c program (suc n) m = grind (arith, first_then c program n m)
 
 -- ---- courses
-pub own_course : (workers : ℕ) (b : BlocksState) → IsCourse (course_of workers b) b.program workers b
-unfolding course_of
-own_course workers b = grind arith
+pub own_expected_results : (workers : ℕ) (b : BlocksState) → AreExpectedResults (expected_results_of workers b) b.program workers b
+unfolding expected_results_of
+own_expected_results workers b = grind arith
 
-module _ (results : ℕ → Half → ℕ → List Task) (program : List Instr) (workers : ℕ) (b : BlocksState) (course : IsCourse results program workers b) where
+module _ (results : ℕ → Half → ℕ → List BlockTask) (program : List Instr) (workers : ℕ) (b : BlocksState) (expected : AreExpectedResults results program workers b) where
   pub results_now : (h : Half) (w : ℕ) → results b.machine.cycles h w ≡ results_in workers b h w
   results_now h w =
-      let now = course.results_are 0 h w in
+      let now = expected.results_are 0 h w in
       let same = none_later b in
       grind arith
 
-  pub course_goes_on : (next : BlocksState) → next ≡ record b { machine = cycle b.config b.program b.machine } → IsCourse results program workers next
-  course_goes_on next is = grind (arith, cycles_one, first_then)
+  pub expected_goes_on : (next : BlocksState) → next ≡ record b { machine = cycle b.config b.program b.machine } → AreExpectedResults results program workers next
+  expected_goes_on next is = grind (arith, cycles_one, first_then)
 
 pub ruleset made_later = (none_later, count_later, more_later)

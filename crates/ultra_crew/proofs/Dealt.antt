@@ -3,19 +3,19 @@ use Rattle.std.proofs.Common.{◌≡◌, ℕ, zero, suc, ◌+◌, ◌<◌, List,
 use Rattle.std.proofs.lemmas.List.{get_or_default}
 use Rattle.std.proofs.lemmas.List.Elements.{All-filter}
 use Rattle.ultra_isa.specs.declared.Instr.{Instr}
-use Rattle.ultra_section.specs.BlockState.{BlockState}
-use Rattle.ultra_section.specs.declared.half.Half.{Half}
-use Rattle.ultra_section.specs.declared.rooms.Rooms.{Rooms}
-use Rattle.ultra_section.specs.Making.{CanMake}
-use Rattle.ultra_cut.specs.Cut.{no_block}
-use Rattle.ultra_cut.specs.Halves.{AllCanMake, all_made}
-use Rattle.ultra_desk.specs.Tasks.{AreTeams, CanBeMade, is_of_worker, task_made, tasks_from, team}
-use Rattle.ultra_desk.specs.declared.task.Task.{Task}
-use Rattle.ultra_crew.specs.Course.{teams_of}
+use Rattle.ultra_block_core.specs.BlockState.{BlockState}
+use Rattle.ultra_block_core.specs.declared.half.Half.{Half}
+use Rattle.ultra_block_core.specs.declared.rooms.Rooms.{Rooms}
+use Rattle.ultra_block_core.specs.Making.{CanMake}
+use Rattle.ultra_partition.specs.Cut.{no_block}
+use Rattle.ultra_partition.specs.Halves.{AllCanMake, all_after_half}
+use Rattle.ultra_crew.specs.Tasks.{AreTeams, CanBeMade, is_of_worker, task_after_half, tasks_from, team}
+use Rattle.ultra_crew.specs.declared.task.BlockTask.{BlockTask}
+use Rattle.ultra_crew.specs.ExpectedResults.{teams_of}
 
 module _ (h : Half) (rooms : Rooms) (program : List Instr) where
   -- the tasks of a team, when they are done, are its tasks of the blocks when they are
-  team_made : (workers w k : ℕ) (bs : List BlockState) → map (task_made h rooms program) (team workers w (tasks_from k bs)) ≡ team workers w (tasks_from k (all_made h rooms program bs))
+  team_made : (workers w k : ℕ) (bs : List BlockState) → map (task_after_half h rooms program) (team workers w (tasks_from k bs)) ≡ team workers w (tasks_from k (all_after_half h rooms program bs))
   team_made workers w k [] = refl
   team_made workers w k (b ∷ bs) =
       let more = team_made workers w (k + 1) bs in
@@ -29,11 +29,11 @@ module _ (h : Half) (rooms : Rooms) (program : List Instr) where
   each_can : (bs : List BlockState) → AllCanMake program h bs → All (CanMake program h) bs
   each_can bs can i d below = subst (CanMake program h) (get_or_default bs i no_block d below) (can i below)
 
-  module _ (workers : ℕ) (bs : List BlockState) (teams : List (Vec Task Global)) (many : length teams ≡ workers) (dealt : AreTeams workers teams bs) where
-    pub teams_can : AllCanMake program h bs → (w : ℕ) (d : Vec Task Global) → w < length teams → All (CanBeMade program h) (get_or teams w d).items
+  module _ (workers : ℕ) (bs : List BlockState) (teams : List (Vec BlockTask Global)) (many : length teams ≡ workers) (dealt : AreTeams workers teams bs) where
+    pub teams_can : AllCanMake program h bs → (w : ℕ) (d : Vec BlockTask Global) → w < length teams → All (CanBeMade program h) (get_or teams w d).items
     teams_can can w d below =
         let tasks = All-filter (is_of_worker workers w) (CanBeMade program h) (tasks_from 0 bs) (tasks_can 0 bs (each_can bs can)) in
         grind arith
 
-    pub teams_made : (w : ℕ) (d : Vec Task Global) → w < length teams → map (task_made h rooms program) (get_or teams w d).items ≡ teams_of workers (all_made h rooms program bs) w
+    pub teams_made : (w : ℕ) (d : Vec BlockTask Global) → w < length teams → map (task_after_half h rooms program) (get_or teams w d).items ≡ teams_of workers (all_after_half h rooms program bs) w
     teams_made w d below = grind (arith, team_made)

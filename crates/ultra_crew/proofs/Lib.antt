@@ -1,3 +1,6 @@
+pub mod Mapped
+pub mod TasksDealt
+pub mod Gathered
 pub mod Words
 pub mod RoomsSame
 pub mod Exchanged

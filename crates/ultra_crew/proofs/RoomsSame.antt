@@ -6,26 +6,26 @@ use Rattle.ultra_route.proofs.Table.{back, sizes}
 use Rattle.ultra_route.specs.Route.{shuffled}
 use Rattle.ultra_msg.specs.declared.Request.{Request}
 use Rattle.ultra_isa.specs.declared.Instr.{Instr}
-use Rattle.ultra_units.specs.Numbers.{reply_target, request_target, switch_count, switch_number}
-use Rattle.ultra_units.specs.Set.{has_unit}
-use Rattle.ultra_units.specs.Visits.{after_units}
-use Rattle.ultra_units.proofs.Standing.{unit_is}
-use Rattle.ultra_section.specs.declared.half.Half.{Half}
-use Rattle.ultra_section.specs.declared.half.Half.TheVariants.{SendReplies, SendRequests}
-use Rattle.ultra_section.specs.declared.rooms.Rooms.{Rooms}
-use Rattle.ultra_section.specs.BlockState.{BlockState}
-use Rattle.ultra_section.specs.RepliesSent.{begun, has_reply_way, has_way_from_module, sends_replies}
-use Rattle.ultra_section.specs.RequestsSent.{has_request_way, has_room_at, has_way_from_element, sends_requests}
-use Rattle.ultra_section.specs.Making.{made}
-use Rattle.ultra_section.proofs.Once.{all_keep}
-use Rattle.ultra_course.specs.Frame.{Frame}
-use Rattle.ultra_course.proofs.AtFrame.{number_small}
-use Rattle.ultra_cut.specs.declared.kind.Kind.{Kind}
-use Rattle.ultra_cut.specs.declared.kind.Kind.TheVariants.{Replies, Requests}
-use Rattle.ultra_cut.specs.Halves.{AreRooms}
+use Rattle.ultra_topology.specs.Numbers.{reply_target, request_target, switch_count, switch_number}
+use Rattle.ultra_topology.specs.Set.{has_unit}
+use Rattle.ultra_topology.specs.Visits.{after_units}
+use Rattle.ultra_topology.proofs.Standing.{unit_is}
+use Rattle.ultra_block_core.specs.declared.half.Half.{Half}
+use Rattle.ultra_block_core.specs.declared.half.Half.TheVariants.{SendReplies, SendRequests}
+use Rattle.ultra_block_core.specs.declared.rooms.Rooms.{Rooms}
+use Rattle.ultra_block_core.specs.BlockState.{BlockState}
+use Rattle.ultra_block_core.specs.RepliesSent.{without_events, has_reply_way, has_way_from_module, sends_replies}
+use Rattle.ultra_block_core.specs.RequestsSent.{has_request_way, has_room_at, has_way_from_element, sends_requests}
+use Rattle.ultra_block_core.specs.Making.{after_half}
+use Rattle.ultra_block_core.proofs.Once.{all_keep}
+use Rattle.ultra_cycle_law.specs.Frame.{Frame}
+use Rattle.ultra_cycle_law.proofs.AtFrame.{number_small}
+use Rattle.ultra_partition.specs.declared.kind.MessageKind.{MessageKind}
+use Rattle.ultra_partition.specs.declared.kind.MessageKind.TheVariants.{Replies, Requests}
+use Rattle.ultra_partition.specs.Halves.{AreRooms}
 
 -- the half in which messages of a kind leave
-abbrev pub sending : Kind → Half
+abbrev pub sending : MessageKind → Half
 sending Replies = SendReplies
 sending Requests = SendRequests
 
@@ -80,8 +80,8 @@ module _ (d : ℕ) (low : 1 ≤ d) (high : d ≤ 6) (f : Frame) (x y : Rooms) (x
   same_requests : (n : ℕ) (t : BlockState) → t.stages ≡ d → sends_requests x.no_request_room n t ≡ sends_requests y.no_request_room n t
   same_requests n t stages = grind (arith, unit_is, sizes, same_request_way, same_way_in)
 
-  pub rooms_same : (kind : Kind) (program : List Instr) (b : BlockState) → b.stages ≡ d → made (sending kind) x program b ≡ made (sending kind) y program b
+  pub rooms_same : (kind : MessageKind) (program : List Instr) (b : BlockState) → b.stages ≡ d → after_half (sending kind) x program b ≡ after_half (sending kind) y program b
   rooms_same Replies program b stages =
-      same_with (sends_replies x.no_reply_room) (sends_replies y.no_reply_room) (λ t. t.stages ≡ d) (λ n t is. grind arith) same_replies 320 (begun b) stages
+      same_with (sends_replies x.no_reply_room) (sends_replies y.no_reply_room) (λ t. t.stages ≡ d) (λ n t is. grind arith) same_replies 320 (without_events b) stages
   rooms_same Requests program b stages =
       same_with (sends_requests x.no_request_room) (sends_requests y.no_request_room) (λ t. t.stages ≡ d) (λ n t is. grind arith) same_requests 320 b stages

@@ -4,20 +4,20 @@ use Rattle.std.proofs.lemmas.Bool.Decides.{nat_tests}
 use Rattle.std.proofs.lemmas.Nat.Bits.{bit_at-suc, bit_at_lowest}
 use Rattle.ultra_model.specs.Machine.{is_nothing}
 use Rattle.ultra_model.proofs.Each.{places_at}
-use Rattle.ultra_units.specs.Numbers.{switch_count}
-use Rattle.ultra_units.specs.Set.{has_bit, has_unit}
-use Rattle.ultra_course.specs.Frame.{Frame}
-use Rattle.ultra_cut.specs.Halves.{AreRooms}
-use Rattle.ultra_crew.specs.Words.{units_with, word_of, words_of_rooms}
+use Rattle.ultra_topology.specs.Numbers.{switch_count}
+use Rattle.ultra_topology.specs.Set.{has_bit, has_unit}
+use Rattle.ultra_cycle_law.specs.Frame.{Frame}
+use Rattle.ultra_partition.specs.Halves.{AreRooms}
+use Rattle.ultra_crew.specs.Words.{units_with, word_with_bits, words_of_rooms}
 
 bits : (b : Bool) (w : ℕ) → let word = elim b [ true ↦ 1 | false ↦ 0 ] + 2 * w in (has_bit word 0 ≡ b) × (word / 2 ≡ w)
 bits b w = grind (arith, bit_at_lowest)
 
-has_bits : (n : ℕ) (p : ℕ → Bool) (i : ℕ) → i < n → has_bit (word_of n p) i ≡ p i
-unfolding word_of
+has_bits : (n : ℕ) (p : ℕ → Bool) (i : ℕ) → i < n → has_bit (word_with_bits n p) i ≡ p i
+unfolding word_with_bits
 has_bits zero p i within = absurd (omega arith)
-has_bits (suc n) p zero within = (bits (p 0) (word_of n (λ i. p (suc i)))).0
-has_bits (suc n) p (suc i) within = rw (bit_at-suc, (bits (p 0) (word_of n (λ i. p (suc i)))).1) (has_bits n (λ i. p (suc i)) i (omega arith))
+has_bits (suc n) p zero within = (bits (p 0) (word_with_bits n (λ i. p (suc i)))).0
+has_bits (suc n) p (suc i) within = rw (bit_at-suc, (bits (p 0) (word_with_bits n (λ i. p (suc i)))).1) (has_bits n (λ i. p (suc i)) i (omega arith))
 
 has_units : (p : ℕ → Bool) (n : ℕ) → n < 320 → has_unit (units_with p) n ≡ p n
 unfolding has_unit units_with
@@ -36,6 +36,6 @@ module _ (d : ℕ) (few : switch_count d + 2 ^ d ≤ 320) (f : Frame) where
     replies = λ n h. grind (arith, has_units, not_twice);
     requests = record {
       switches = λ n j h small. grind (arith, has_units, not_twice, nat_tests);
-      banks = λ m h. grind (arith, has_units, not_some, nat_tests);
+      modules = λ m h. grind (arith, has_units, not_some, nat_tests);
     };
   }

@@ -2,16 +2,16 @@
 use Rattle.std.specs.Prelude.{◌≡◌, ℕ, ◌+◌, ◌-◌, ◌*◌, ◌/◌, ◌%◌, ◌^◌, ◌==◌, true, false, nat_lt, List, length, Option, None}
 use Rattle.ultra_route.specs.Route.{shuffled}
 use Rattle.ultra_model.specs.Places.{places}
-use Rattle.ultra_units.specs.Numbers.{switch_number, reply_target, request_target}
-use Rattle.ultra_section.specs.BlockState.{BlockState}
-use Rattle.ultra_cut.specs.declared.kind.Kind.{Kind}
-use Rattle.ultra_cut.specs.declared.kind.Kind.TheVariants.{Replies, Requests}
-use Rattle.ultra_cut.specs.Cut.{block_at, home, first}
-use Rattle.ultra_cut.specs.Exchange.{AreSingle, AreThere, OnlyMove, on_each, with_table}
-use Rattle.ultra_cut.specs.Halves.{AreBlocks}
+use Rattle.ultra_topology.specs.Numbers.{switch_number, reply_target, request_target}
+use Rattle.ultra_block_core.specs.BlockState.{BlockState}
+use Rattle.ultra_partition.specs.declared.kind.MessageKind.{MessageKind}
+use Rattle.ultra_partition.specs.declared.kind.MessageKind.TheVariants.{Replies, Requests}
+use Rattle.ultra_partition.specs.Cut.{block_at, home, first}
+use Rattle.ultra_partition.specs.Exchange.{AreSingle, AreThere, OnlyMove, on_each, with_link_table}
+use Rattle.ultra_partition.specs.Halves.{AreBlocks}
 
 -- the unit of a machine of d stages to which a link leads
-abbrev pub unit_behind : Kind → ℕ → ℕ → ℕ
+abbrev pub unit_behind : MessageKind → ℕ → ℕ → ℕ
 unit_behind Replies d l = elim (nat_lt l (d * 2 ^ d)) [
   | true ↦ reply_target d (l / 2 ^ d) (l % 2 ^ d)
   | false ↦ switch_number d (d - 1) ((l - d * 2 ^ d) / 2)
@@ -31,18 +31,20 @@ at_home d partition unit on k = places ((d + 1) * 2 ^ d) (λ l. elim (home parti
 ])
 
 -- messages of a kind have been exchanged
-unfoldable pub exchanged : Kind → ℕ → List ℕ → List BlockState → List BlockState
+unfoldable pub exchanged : MessageKind → ℕ → List ℕ → List BlockState → List BlockState
 exchanged kind d partition bs = places (length bs) (λ k.
-    with_table kind (at_home d partition (unit_behind kind d) (on_each kind bs) k) (block_at bs k))
+    with_link_table kind (at_home d partition (unit_behind kind d) (on_each kind bs) k)
+    (block_at bs k))
 
 -- they can be exchanged where no link has a message in two blocks
-pub record CanBeExchanged (kind : Kind) (d : ℕ) (partition : List ℕ) (bs : List BlockState)
+pub record CanBeExchanged (kind : MessageKind) (d : ℕ) (partition : List ℕ) (bs : List BlockState)
     : Type 0 where
   pub blocks : AreBlocks d partition bs
   pub single : AreSingle kind bs
 
 -- they have been exchanged, and so the blocks are these
-pub record AreExchanged (kind : Kind) (d : ℕ) (partition : List ℕ) (old now : List BlockState)
+pub record AreExchanged (kind : MessageKind) (d : ℕ) (partition : List ℕ)
+    (old now : List BlockState)
     : Type 0 where
   pub moved : OnlyMove kind old now
   pub there : AreThere kind d partition now

@@ -1,7 +1,7 @@
+pub mod Tasks
 pub mod Words
 pub mod Exchanged
 pub mod Start
-pub mod Course
+pub mod ExpectedResults
 pub use Rattle.ultra_block.specs.State
-pub use Rattle.ultra_cut.specs.Cut
-pub use Rattle.ultra_desk.specs.declared.fault.CrewFault
+pub use Rattle.ultra_partition.specs.Cut

@@ -4,15 +4,15 @@ use Rattle.ultra_isa.specs.declared.Instr.{Instr}
 use Rattle.ultra_switch.specs.declared.Switch.{Switch}
 use Rattle.ultra_switch.specs.Queues.{SizedLane, SizedReplies}
 use Rattle.ultra_model.specs.Places.{places}
-use Rattle.ultra_model.specs.Machine.{Settings, Machine, lane_at, replies_at, bank_at, element_at, site}
-use Rattle.ultra_units.specs.Numbers.{switch_count, module_number, element_number}
-use Rattle.ultra_halves.specs.Halves.{ports}
-use Rattle.ultra_halves.specs.declared.elements.ProcessingElement.{ProcessingElement}
-use Rattle.ultra_section.specs.Units.{stage_of, index_of}
-use Rattle.ultra_section.specs.BlockState.{BlockState}
-use Rattle.ultra_section.specs.Building.{empty_block}
-use Rattle.ultra_cut.specs.Cut.{home}
-use Rattle.ultra_cut.specs.Moments.{machine_in}
+use Rattle.ultra_model.specs.Machine.{Settings, Machine, lane_at, replies_at, module_at, element_at, site}
+use Rattle.ultra_topology.specs.Numbers.{switch_count, module_number, element_number}
+use Rattle.ultra_unit_steps.specs.Halves.{ports}
+use Rattle.ultra_unit_steps.specs.declared.elements.ProcessingElement.{ProcessingElement}
+use Rattle.ultra_block_core.specs.Units.{stage_of, index_of}
+use Rattle.ultra_block_core.specs.BlockState.{BlockState}
+use Rattle.ultra_block_core.specs.Building.{empty_block}
+use Rattle.ultra_partition.specs.Cut.{home}
+use Rattle.ultra_partition.specs.Moments.{machine_in}
 use Rattle.ultra_block.specs.State.{BlocksState}
 
 -- the units of a machine, by their numbers
@@ -57,7 +57,7 @@ module _ (b : BlocksState) where
     done = b.machine.cycles;
     switches =
         places (switch_count d) (if_home b.partition k (λ n. n) (switch_in b.config b.machine));
-    modules = places (2 ^ d) (if_home b.partition k (module_number d) (bank_at b.machine));
+    modules = places (2 ^ d) (if_home b.partition k (module_number d) (module_at b.machine));
     elements =
         places (2 ^ d) (if_home b.partition k (element_number d) (element_in b.config b.machine));
   }

@@ -2,15 +2,17 @@
 
 ghost use Rattle.std.specs.Prelude.{◌≡◌, ◌+◌, ◌-◌, ◌<◌, ◌≤◌, ◌^◌, min, max, IfOk, IsOk};
 ghost use Rattle.ultra_model.specs.Phases.{cycle as next_cycle};
-ghost use Rattle.ultra_crew.specs.Course.{IsCourse, cycles_on};
+ghost use Rattle.ultra_crew.specs.ExpectedResults.{AreExpectedResults, cycles_on};
 
-use crate::shift::Shift;
+use crate::expected_results::ExpectedResults;
+use crate::fault::CrewFault;
+use crate::gate::Gate;
+use crate::worker_pool::WorkerPool;
 use std::alloc::Global;
 use std::marker::Brand;
 use std::sync::Wait;
 use std::thread::{self, Threads};
 use ultra_block::Blocks;
-use ultra_desk::{Course, CrewFault, Gate};
 
 /// The most workers of a crew.
 pub const MOST_WORKERS: usize = 64;
@@ -31,7 +33,7 @@ pub struct Crew;
 impl Crew {
     /// The machine makes one cycle, each half of it by n workers, 1 to 64. The partition stays as it is, and the machine after the cycle is the same for every partition, every number of workers and every gate. Of several workers each has a thread of its own, and the one of number `b` modulo the number of workers calls the gate and then makes the half for block `b`. One worker is the caller's thread, and calls no gate.
     ///
-    /// The machine's count of cycles has to be below `2^32 - 1`. The call may wait. In every end the threads that were started are joined.
+    /// The machine's count of cycles has to be below `2^32 - 1`. The call may wait. On every return path the threads that were started are joined.
     ///
     /// `NoThread` says that a thread could not be started or was gone, `NoMemory` that memory was refused; the blocks are then given up. With one worker the call succeeds.
     #[tactic(auto, using(crate::proofs::Counted::one_on))]
@@ -53,7 +55,7 @@ impl Crew {
 
     /// The machine makes n cycles, each as by `cycle`, but the workers' threads are started once. With one worker the call succeeds.
     ///
-    /// The machine's count of cycles has to be below `2^32` after these too. The call may wait. In every end the threads that were started are joined.
+    /// The machine's count of cycles has to be below `2^32` after these too. The call may wait. On every return path the threads that were started are joined.
     ///
     /// `NoThread` says that a thread could not be started or was gone, `NoMemory` that memory was refused; the blocks are then given up.
     pub fn cycles<R: Threads + Wait + Sync, G: Gate + Sync>(
@@ -103,7 +105,7 @@ fn count_busy(blocks: Blocks, workers: usize) -> (Blocks, usize)
 }
 
 /// The machine makes n cycles, whose halves are made by workers in threads of their own, which are started here and joined at the end.
-fn cycles_together<J: Course + Send, R: Threads + Wait + Sync, G: Gate + Sync>(
+fn cycles_together<J: ExpectedResults + Send, R: Threads + Wait + Sync, G: Gate + Sync>(
     rt: &R,
     alloc: Global,
     blocks: Blocks,
@@ -113,7 +115,7 @@ fn cycles_together<J: Course + Send, R: Threads + Wait + Sync, G: Gate + Sync>(
 ) -> Result<Blocks, CrewFault>
     requires counted { blocks.machine.cycles + count < 2 ^ 32 }
     requires some_worker { 1 ≤ workers }
-    requires course { IsCourse J.results J.program workers blocks }
+    requires expected { AreExpectedResults J.results J.program workers blocks }
     ensures { IfOk result (λ b. b ≡ record blocks { machine = cycles_on blocks.config blocks.program count blocks.machine }) }
 {
     thread::scope(
@@ -122,12 +124,12 @@ fn cycles_together<J: Course + Send, R: Threads + Wait + Sync, G: Gate + Sync>(
         |scope| -> Result<Blocks, CrewFault>
             requires counted { blocks.machine.cycles + count < 2 ^ 32 }
             requires some_worker { 1 ≤ workers }
-            requires course { IsCourse J.results J.program workers blocks }
+            requires expected { AreExpectedResults J.results J.program workers blocks }
             ensures { IfOk result (λ b. b ≡ record blocks { machine = cycles_on blocks.config blocks.program count blocks.machine }) }
         {
-            let shift = Shift::<J>::begin(scope, rt, alloc, workers, gate)?;
-            let result = shift.cycles(rt, alloc, blocks, count);
-            shift.end(rt);
+            let pool = WorkerPool::<J>::start(scope, rt, alloc, workers, gate)?;
+            let result = pool.cycles(rt, alloc, blocks, count);
+            pool.stop(rt);
             result
         },
     )

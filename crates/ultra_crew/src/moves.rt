@@ -2,15 +2,15 @@
 
 ghost use Rattle.ultra_crew.specs.Exchanged.{AreExchanged, CanBeExchanged};
 
-use ultra_cut::{Kind, exchange};
+use ultra_block_core::Block;
+use ultra_partition::{MessageKind, exchange};
 use ultra_route::Net;
-use ultra_section::Block;
 
 /// The blocks, each with the messages of a kind that lead to its units.
 pub(crate) fn with_exchanged(
     mut blocks: Vec<Block>,
     partition: &[u8],
-    kind: Kind,
+    kind: MessageKind,
     net: Net,
 ) -> Vec<Block>
     requires { CanBeExchanged kind net partition.now blocks.items }

@@ -31,11 +31,11 @@ IsUnread path _ = ⊥
 -- why the text of a file gives no settings that are accepted
 abbrev pub ExplainsSettings : List ℕ → List ℕ → Failure → Type 0
 ExplainsSettings path text (NotToml p) =
-    (p.now ≡ path) × settings_text.ExplainsFault text settings.NotToml
+    (p.now ≡ path) × settings_text.ExplainsSettingsFault text settings.NotToml
 ExplainsSettings path text (BadField p f) =
-    (p.now ≡ path) × settings_text.ExplainsFault text (settings.BadField f)
+    (p.now ≡ path) × settings_text.ExplainsSettingsFault text (settings.BadField f)
 ExplainsSettings path text (UnknownKey p) =
-    (p.now ≡ path) × settings_text.ExplainsFault text settings.UnknownKey
+    (p.now ≡ path) × settings_text.ExplainsSettingsFault text settings.UnknownKey
 ExplainsSettings path text NoMemory = ⊤
 ExplainsSettings path text _ = ⊥
 
@@ -48,19 +48,22 @@ ExplainsProgram path text NoMemory = ⊤
 ExplainsProgram path text _ = ⊥
 
 -- a file was read, and its text gives this value
-pub record FileGave {A : Type 0} (Gives : List ℕ → A → Type 0) (path : List ℕ) (old new : List File) (value : A) : Type 0 where
+pub record FileGave {A : Type 0} (Gives : List ℕ → A → Type 0) (path : List ℕ)
+    (old new : List File) (value : A) : Type 0 where
   pub text : List ℕ
   pub given : Gives text value
   pub files : new ≡ old ++ file_of path text ∷ []
 
 -- why a file gives no value: it isn't had, or its text is refused
-pub data FileGaveNothing (Explains : List ℕ → List ℕ → Failure → Type 0) (path : List ℕ) (old new : List File) (f : Failure) : Type 0 where
+pub data FileGaveNothing (Explains : List ℕ → List ℕ → Failure → Type 0) (path : List ℕ)
+    (old new : List File) (f : Failure) : Type 0 where
   not_had : IsUnread path f → new ≡ old → FileGaveNothing Explains path old new f
   not_accepted : (text : List ℕ) → Explains path text f → new ≡ old ++ file_of path text ∷ []
       → FileGaveNothing Explains path old new f
 
 -- two files were read, and they give these settings and this program
-pub record Gave (conf prog : List ℕ) (old new : List File) (c : Settings) (p : List Instr) : Type 0 where
+pub record Gave (conf prog : List ℕ) (old new : List File) (c : Settings)
+    (p : List Instr) : Type 0 where
   pub settings_bytes : List ℕ
   pub program_bytes : List ℕ
   pub accepted : IsAccepted settings_bytes c

@@ -33,7 +33,8 @@ module _ (text : Settings → List Instr → List ℕ) where
 
   -- how that fails: both files are accepted before a byte is written, and `Stops` says which
   -- failures stop the text
-  pub data TextFails (Stops : Failure → Type 0) (conf prog : List ℕ) (old new : Traffic) (f : Failure) : Type 0 where
+  pub data TextFails (Stops : Failure → Type 0) (conf prog : List ℕ) (old new : Traffic)
+      (f : Failure) : Type 0 where
     refused : GaveNothing conf prog old.files new.files f → new.written ≡ old.written
         → TextFails Stops conf prog old new f
     stopped : (c : Settings) (p : List Instr) → Gave conf prog old.files new.files c p → Stops f

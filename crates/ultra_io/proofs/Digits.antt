@@ -2,7 +2,7 @@
 use Rattle.std.proofs.Common.{ℕ, ◌≡◌, ◌+◌, ◌/◌, ◌%◌, ◌^◌, ◌<◌, ◌≤◌, ◌++◌, length, ap, arith, append_assoc, length-append}
 use Rattle.std.proofs.lemmas.Fmt.{decimal_digit, decimal_step, length-decimal-le}
 use Rattle.std.specs.Prelude.{decimal}
-use Rattle.ultra_io.specs.Sheet.{two_digits}
+use Rattle.ultra_io.specs.FilledBytes.{two_digits}
 
 pub decimal_two : (n : ℕ) → 10 ≤ n → n < 100 → decimal n ≡ two_digits n
 decimal_two n least most = rw (decimal_step n least (omega arith), decimal_digit (n / 10) (omega arith))

@@ -1,4 +1,4 @@
 pub mod Digits
 pub mod Writing
-pub mod Sheets
+pub mod WrittenBytes
 pub mod Pairs

@@ -3,8 +3,8 @@ use Rattle.std.proofs.Common.{ℕ, zero, suc, ◌≡◌, ◌+◌, ◌*◌, ◌/�
 use Rattle.std.specs.Prelude.{◌==◌}
 use Rattle.std.proofs.lemmas.Bool.{and_parts, eqb-true}
 use Rattle.std.proofs.lemmas.Bool.Decides.{Decides-below_and}
-use Rattle.ultra_io.specs.Sheet.{two_digits}
-use Rattle.ultra_io.specs.declared.sheet.TheConstants.{PAIRS}
+use Rattle.ultra_io.specs.FilledBytes.{two_digits}
+use Rattle.ultra_io.specs.declared.filled_bytes.TheConstants.{PAIRS}
 
 abbrev pub pairs : List ℕ
 pairs = PAIRS.now

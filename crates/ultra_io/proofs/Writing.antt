@@ -3,8 +3,8 @@ use Rattle.std.proofs.Common.{ℕ, ◌≡◌, ◌+◌, ◌⊎◌, inl, inr, List
 use Rattle.std.specs.Prelude.{Result, Ok, Err, OnOk, OnErr, IsOk}
 use Rattle.ultra_msg.specs.Bytes.{AreTakenOrWait, IsPrefix, TakesPrefix, Writes as HasGone}
 use Rattle.ultra_msg.proofs.Prefixes.{prefix_more, prefix_behind, takes_more, takes_longer, takes_later, none_written, more_waits, both_written}
-use Rattle.ultra_io.specs.declared.page.Page.{Page}
-use Rattle.ultra_io.specs.Page.{State, IsSpent, Wrote, IsBlank, state_at, GoesOn, Writes}
+use Rattle.ultra_io.specs.declared.text_buffer.TextBuffer.{TextBuffer}
+use Rattle.ultra_io.specs.TextBuffer.{State, IsSpent, Wrote, IsBlank, state_at, GoesOn, Writes}
 
 pub either : (b : Bool) → (b ≡ true) ⊎ (b ≡ false)
 either true = inl refl
@@ -55,24 +55,24 @@ wrote_then a b s t u v w = record {
   prefix = prefix_then a b s t u v w;
 }
 
--- the same of pages
+-- the same of text buffers
 module _ {S : Type 0} {taken : S → List ℕ} {failures : S → ℕ} where
-  pub writes_nothing : (s : Page S) → Writes taken failures [] s s
-  writes_nothing s = record { same_reference = refl; wrote = wrote_nothing (state_at taken failures s s.sheet.filled) }
+  pub writes_nothing : (s : TextBuffer S) → Writes taken failures [] s s
+  writes_nothing s = record { same_reference = refl; wrote = wrote_nothing (state_at taken failures s s.filled_bytes.filled) }
 
-  pub writes_failed : {a : List ℕ} (b : List ℕ) {s t : Page S} → t.failed ≡ true → Writes taken failures a s t → Writes taken failures (a ++ b) s t
+  pub writes_failed : {a : List ℕ} (b : List ℕ) {s t : TextBuffer S} → t.failed ≡ true → Writes taken failures a s t → Writes taken failures (a ++ b) s t
   writes_failed {a} b {s} {t} f w = record { same_reference = w.same_reference; wrote = wrote_failed a b _ _ f w.wrote }
 
-  pub writes_spent : {a : List ℕ} (b : List ℕ) {s t : Page S} → s.failed ≡ true → Writes taken failures a s t → Writes taken failures b s t
+  pub writes_spent : {a : List ℕ} (b : List ℕ) {s t : TextBuffer S} → s.failed ≡ true → Writes taken failures a s t → Writes taken failures b s t
   writes_spent {a} b {s} {t} f w = record { same_reference = w.same_reference; wrote = wrote_spent a b _ _ f w.wrote }
 
   infixl 20 ◌then◌
-  pub ◌then◌ : {a b : List ℕ} {s t u : Page S} {i j k : ℕ} → GoesOn taken failures a s i t j → GoesOn taken failures b t j u k → GoesOn taken failures (a ++ b) s i u k
+  pub ◌then◌ : {a b : List ℕ} {s t u : TextBuffer S} {i j k : ℕ} → GoesOn taken failures a s i t j → GoesOn taken failures b t j u k → GoesOn taken failures (a ++ b) s i u k
   ◌then◌ {a} {b} v w = record { same_reference = w.same_reference ∙ v.same_reference; wrote = wrote_then a b _ _ _ v.wrote w.wrote }
 
-  -- the text is the same, and goes as far as another place now
+  -- the text is the same, and goes as far as another position now
   infixl 20 ◌moved◌
-  pub ◌moved◌ : {a : List ℕ} {s t u : Page S} {i j k : ℕ} → GoesOn taken failures a s i t j → GoesOn taken failures [] t j u k → GoesOn taken failures a s i u k
+  pub ◌moved◌ : {a : List ℕ} {s t u : TextBuffer S} {i j k : ℕ} → GoesOn taken failures a s i t j → GoesOn taken failures [] t j u k → GoesOn taken failures a s i u k
   ◌moved◌ {a} v w = rw (append-nil a) at (v then w)
 
 -- bytes came to those that wait
@@ -84,7 +84,7 @@ wrote_waiting b s t taken failures failed waiting = record {
 }
 
 module _ {S : Type 0} {taken : S → List ℕ} {failures : S → ℕ} where
-  pub came_behind : (b : List ℕ) (s t : Page S) (i j : ℕ) → t.sink ≡ s.sink → t.failed ≡ s.failed → take j t.sheet.bytes ≡ take i s.sheet.bytes ++ b → GoesOn taken failures b s i t j
+  pub came_behind : (b : List ℕ) (s t : TextBuffer S) (i j : ℕ) → t.sink ≡ s.sink → t.failed ≡ s.failed → take j t.filled_bytes.bytes ≡ take i s.filled_bytes.bytes ++ b → GoesOn taken failures b s i t j
   came_behind b s t i j sink failed text = record {
     same_reference = ap (λ r. r.ghost_name) sink;
     wrote = wrote_waiting b _ _ (ap (λ r. taken r.now) sink) (ap (λ r. failures r.now) sink) failed text;
@@ -95,7 +95,7 @@ pub at_ok : {T E P : Type 0} (r : Result T E) → IsOk r → OnOk r P → P
 at_ok (Ok x) ok p = p
 at_ok (Err e) ok p = absurd cc
 
--- on an empty page all that was written has been taken where nothing is left, and a prefix of it after a fault
+-- on an empty buffer all that was written has been taken where nothing is left, and a prefix of it after a fault
 pub all_taken : (bytes : List ℕ) (s t : State) → s.waiting ≡ [] → t.failed ≡ false → t.waiting ≡ [] → Wrote bytes s t → t.taken ≡ s.taken ++ bytes
 all_taken bytes s t b g e w =
     let v = (w.whole g).0 in
@@ -114,7 +114,7 @@ part_taken part bytes s t b f begins w =
 pub begins_within : (first part middle last : List ℕ) → IsPrefix part middle → IsPrefix (first ++ part) (first ++ (middle ++ last))
 begins_within first part middle last is = prefix_behind first part (middle ++ last) (prefix_more part middle last is)
 
--- a text that was written on a blank page has gone to the sink when the page is finished, or the
+-- a text that was written on a blank buffer has gone to the sink when the buffer is finished, or the
 -- sink has failed once and has taken a prefix of it
 finished_states : {T E : Type 0} (r : Result T E) (bytes : List ℕ) (s t : State) → s.waiting ≡ [] → s.failed ≡ false → Wrote bytes s t → OnOk r (t.waiting ≡ []) → OnOk r (t.failed ≡ false) → OnErr r (t.failed ≡ true)
     → HasGone r bytes s.taken t.taken s.failures t.failures
@@ -131,16 +131,16 @@ finished_states (Err x) bytes s t empty sound w none_left whole failed = record 
   counted = (w.prefix sound failed).1;
 }
 
-is_empty : {S T E : Type 0} (r : Result T E) (p : Page S) → OnOk r (IsBlank p) → OnOk r (take p.sheet.filled p.sheet.bytes ≡ [])
+is_empty : {S T E : Type 0} (r : Result T E) (p : TextBuffer S) → OnOk r (IsBlank p) → OnOk r (take p.filled_bytes.filled p.filled_bytes.bytes ≡ [])
 is_empty (Ok x) p blank = blank.empty
 is_empty (Err x) p blank = tt
 
-is_sound : {S T E : Type 0} (r : Result T E) (p : Page S) → OnOk r (IsBlank p) → OnOk r (p.failed ≡ false)
+is_sound : {S T E : Type 0} (r : Result T E) (p : TextBuffer S) → OnOk r (IsBlank p) → OnOk r (p.failed ≡ false)
 is_sound (Ok x) p blank = blank.sound
 is_sound (Err x) p blank = tt
 
 module _ {S : Type 0} {taken : S → List ℕ} {failures : S → ℕ} where
-  pub finished : {T E : Type 0} (r : Result T E) {bytes : List ℕ} {s t u : Page S} → IsBlank s → Writes taken failures bytes s t → Writes taken failures [] t u → OnOk r (IsBlank u) → OnErr r (u.failed ≡ true)
+  pub finished : {T E : Type 0} (r : Result T E) {bytes : List ℕ} {s t u : TextBuffer S} → IsBlank s → Writes taken failures bytes s t → Writes taken failures [] t u → OnOk r (IsBlank u) → OnErr r (u.failed ≡ true)
       → HasGone r bytes (taken s.sink.now) (taken u.sink.now) (failures s.sink.now) (failures u.sink.now)
   finished r {bytes} {s} {t} {u} blank writes finishes ok err =
       let all = rw (append-nil bytes) at (writes then finishes).wrote in

@@ -1,4 +1,4 @@
 pub mod Source
 pub mod Account
-pub mod Page
-pub mod Sheet
+pub mod TextBuffer
+pub mod FilledBytes

@@ -18,5 +18,5 @@ failures_of NotRead = 1
 failures_of NoMemory = 0
 
 -- these are all bytes that a reader gives, where std says which it gives
-abbrev pub IsWhole : Option (List ℕ) → List ℕ → Type 0
-IsWhole known bytes = IfSome known (λ given. bytes ≡ given)
+abbrev pub AreAllBytes : Option (List ℕ) → List ℕ → Type 0
+AreAllBytes known bytes = IfSome known (λ given. bytes ≡ given)

@@ -1,15 +1,15 @@
 //! Files that are read and streams that are written: what a program sees of them, and those of the
-//! host. Text goes to a stream by a page, in large pieces.
+//! host. Text goes to a stream by a buffer, in large pieces.
 #![tactic(auto)]
 
 mod account;
-mod page;
-mod sheet;
+mod filled_bytes;
 mod source;
 mod stream;
+mod text_buffer;
 
 pub use account::Account;
-pub use page::{PART_BYTES, Page};
-pub use sheet::PAGE_BYTES;
+pub use filled_bytes::BUFFER_BYTES;
 pub use source::{FileSource, Source, SourceFault};
 pub use stream::Stream;
+pub use text_buffer::{PART_BYTES, TextBuffer};

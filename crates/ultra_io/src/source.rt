@@ -4,7 +4,7 @@ ghost use Rattle.std.specs.Prelude.{◌≡◌, ◌≢◌, ◌↔◌, ℕ, ◌+�
 ghost use Rattle.std.specs.Io.KnownBytes.{IsAtEnd};
 ghost use Rattle.std.specs.IoError.{error_kind};
 ghost use Rattle.ultra_io.specs.Account.{SourceState, source_state};
-ghost use Rattle.ultra_io.specs.Source.{File, file_of, failures_of, IsWhole};
+ghost use Rattle.ultra_io.specs.Source.{File, file_of, failures_of, AreAllBytes};
 
 use crate::account::Account;
 use std::alloc::Global;
@@ -100,7 +100,7 @@ fn fault_of(kind: ErrorKind) -> SourceFault
 
 /// All bytes of the file at a path: those that a file of this system gives once it is open.
 fn read_whole<R: Files>(alloc: Global, files: &R, path: &str) -> io::Result<Vec<u8>>
-    ensures { IfOk result (λ v. (file : R.File) × IsWhole (R.File.remaining file) v.items) }
+    ensures { IfOk result (λ v. (file : R.File) × AreAllBytes (R.File.remaining file) v.items) }
 {
     let mut file = fs::open(files, path)?;
     read_all(alloc, &mut file)
@@ -108,7 +108,7 @@ fn read_whole<R: Files>(alloc: Global, files: &R, path: &str) -> io::Result<Vec<
 
 /// All bytes that a reader gives from here on. An interrupted read is tried again.
 fn read_all<F: Read>(alloc: Global, reader: &mut F) -> io::Result<Vec<u8>>
-    ensures bytes { IfOk result (λ v. IsWhole (F.remaining reader.old) v.items) }
+    ensures bytes { IfOk result (λ v. AreAllBytes (F.remaining reader.old) v.items) }
     ensures end { OnOk result (IsAtEnd (F.remaining reader.new)) }
     ensures retried { IfErr result (λ e. error_kind e ≢ ErrorKind.Interrupted) }
 {

@@ -40,7 +40,7 @@ impl<W: Write> Sink for Stream<W> {
     ghost failures = { λ s. s.failures };
 
     fn write(&mut self, bytes: &[u8]) -> Result<usize, SinkFault> {
-        match hand_on(&mut self.writer, bytes) {
+        match write_some(&mut self.writer, bytes) {
             Some(count) => {
                 self.account.note_taken(&bytes[..count]);
                 Ok(count)
@@ -55,7 +55,7 @@ impl<W: Write> Sink for Stream<W> {
 
 /// Hands bytes to a writer, in one call, and answers how many it took. `None` says that it took
 /// none, though there were some.
-fn hand_on<W: Write>(writer: &mut W, bytes: &[u8]) -> Option<usize>
+fn write_some<W: Write>(writer: &mut W, bytes: &[u8]) -> Option<usize>
     ensures within { IfSome result (λ n. n ≤ length bytes.now) }
     ensures some { IfSome result (λ n. n ≡ 0 → bytes.now ≡ []) }
     ensures taken { IfSome result

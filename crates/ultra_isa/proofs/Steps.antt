@@ -84,14 +84,14 @@ module _ (s : Site) (most_open : ℕ) (i : Interface) where
 
   did : (c : Core) (e : Effect) → IsStepFrom s most_open i (does s most_open c i e)
   did c (sets d v) = done _
-  did c (goes_on_at place) = done _
+  did c (goes_on_at pc) = done _
   did c (refers a o target) = referred c record { pe = s.pe; cell = a; op = o } target refl (nat_lt a s.all_cells) refl
   did c waits = waited c (length i.opened == 0)
   did c halts = done _
 
   ran_where : (c : Core) (n : Instr) (b : Bool) → IsStepFrom s most_open i (runs_where s most_open b c i n)
   ran_where c n true = stalled c
-  ran_where c n false = did c (effect s c.registers c.place n)
+  ran_where c n false = did c (effect s c.registers c.pc n)
 
   ran : (c : Core) (n : Option Instr) → IsStepFrom s most_open i (runs s most_open c i n)
   ran c None = faulted PastEnd c
@@ -103,4 +103,4 @@ module _ (s : Site) (most_open : ℕ) (i : Interface) where
   ran_as (activity.Faulted f) c n = quiet step.Halted c (λ e. cc)
 
   pub step_is : (program : List Instr) (c : Core) → IsStepFrom s most_open i (step_of s most_open program c i)
-  step_is program c = ran_as c.activity c (slice_get program c.place)
+  step_is program c = ran_as c.activity c (slice_get program c.pc)

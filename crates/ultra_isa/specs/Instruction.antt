@@ -34,8 +34,8 @@ names (Swap d a b) = d ∷ a ∷ b ∷ []
 names Fence = []
 names Halt = []
 
--- what an instruction does: it sets a register, goes on at a place, refers to a cell with the
--- register for its answer, waits for the open cells, or halts
+-- what an instruction does: it sets a register, goes on at a program counter, refers to a cell with
+-- the register for its answer, waits for the open cells, or halts
 pub data Effect : Type 0 where
   sets : ℕ → ℕ → Effect
   goes_on_at : ℕ → Effect
@@ -47,27 +47,27 @@ pub data Effect : Type 0 where
 abbrev pub minus : ℕ → ℕ → ℕ
 minus v w = (v + 2 ^ 32 - w) % 2 ^ 32
 
--- the effect of an instruction at a place with these registers
+-- the effect of an instruction at a program counter with these registers
 abbrev pub effect : Site → List ℕ → ℕ → Instr → Effect
-effect s r place (Set d n) = sets d n
-effect s r place (Add d a b) = sets d (plus (slice_index r a) (slice_index r b))
-effect s r place (AddWord d a n) = sets d (plus (slice_index r a) n)
-effect s r place (Subtract d a b) = sets d (minus (slice_index r a) (slice_index r b))
-effect s r place (And d a b) = sets d (bit_and (slice_index r a) (slice_index r b))
-effect s r place (ShiftRight d a n) = sets d (slice_index r a / 2 ^ n)
-effect s r place (IsBelow d a b) =
+effect s r pc (Set d n) = sets d n
+effect s r pc (Add d a b) = sets d (plus (slice_index r a) (slice_index r b))
+effect s r pc (AddWord d a n) = sets d (plus (slice_index r a) n)
+effect s r pc (Subtract d a b) = sets d (minus (slice_index r a) (slice_index r b))
+effect s r pc (And d a b) = sets d (bit_and (slice_index r a) (slice_index r b))
+effect s r pc (ShiftRight d a n) = sets d (slice_index r a / 2 ^ n)
+effect s r pc (IsBelow d a b) =
     sets d (if nat_lt (slice_index r a) (slice_index r b) then 1 else 0)
-effect s r place (IsEqual d a b) = sets d (if slice_index r a == slice_index r b then 1 else 0)
-effect s r place (JumpIfZero a target) =
-    goes_on_at (if slice_index r a == 0 then target else place + 1)
-effect s r place (JumpIfNotZero a target) =
-    goes_on_at (if slice_index r a == 0 then place + 1 else target)
-effect s r place (Jump target) = goes_on_at target
-effect s r place (Number d) = sets d s.pe
-effect s r place (Size d) = sets d s.size
-effect s r place (Load d a) = refers (slice_index r a) op.Load (Some d)
-effect s r place (Store a b) = refers (slice_index r a) (op.Store (slice_index r b)) None
-effect s r place (Faa d a b) = refers (slice_index r a) (op.Faa (slice_index r b)) (Some d)
-effect s r place (Swap d a b) = refers (slice_index r a) (op.Swap (slice_index r b)) (Some d)
-effect s r place Fence = waits
-effect s r place Halt = halts
+effect s r pc (IsEqual d a b) = sets d (if slice_index r a == slice_index r b then 1 else 0)
+effect s r pc (JumpIfZero a target) =
+    goes_on_at (if slice_index r a == 0 then target else pc + 1)
+effect s r pc (JumpIfNotZero a target) =
+    goes_on_at (if slice_index r a == 0 then pc + 1 else target)
+effect s r pc (Jump target) = goes_on_at target
+effect s r pc (Number d) = sets d s.pe
+effect s r pc (Size d) = sets d s.size
+effect s r pc (Load d a) = refers (slice_index r a) op.Load (Some d)
+effect s r pc (Store a b) = refers (slice_index r a) (op.Store (slice_index r b)) None
+effect s r pc (Faa d a b) = refers (slice_index r a) (op.Faa (slice_index r b)) (Some d)
+effect s r pc (Swap d a b) = refers (slice_index r a) (op.Swap (slice_index r b)) (Some d)
+effect s r pc Fence = waits
+effect s r pc Halt = halts

@@ -3,18 +3,19 @@ use Rattle.std.specs.Prelude.{◌≤◌}
 use Rattle.ultra_isa.specs.declared.processor.Effect.{Effect as Found}
 use Rattle.ultra_isa.specs.declared.processor.Effect.TheVariants.{Sets, GoesOnAt, Refers, Waits, Halts}
 use Rattle.ultra_isa.specs.Instruction.{Effect, sets, goes_on_at, refers, waits, halts}
+use Rattle.ultra_isa.specs.declared.TheConstants.{MOST_INSTRUCTIONS}
 
 abbrev pub meaning : Found → Effect
 meaning (Sets d v) = sets d v
-meaning (GoesOnAt place) = goes_on_at place
+meaning (GoesOnAt pc) = goes_on_at pc
 meaning (Refers a o target) = refers a o target
 meaning Waits = waits
 meaning Halts = halts
 
--- where an effect goes on at a place, that place is at most the length of the longest program
+-- where an effect goes on at a program counter, it is at most the length of the longest program
 abbrev pub StaysWithin : Effect → Type 0
 StaysWithin (sets d v) = Unit {0}
-StaysWithin (goes_on_at place) = place ≤ 4096
+StaysWithin (goes_on_at pc) = pc ≤ MOST_INSTRUCTIONS
 StaysWithin (refers a o target) = Unit {0}
 StaysWithin waits = Unit {0}
 StaysWithin halts = Unit {0}

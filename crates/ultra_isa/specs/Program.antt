@@ -3,8 +3,9 @@ use Rattle.std.specs.Prelude.{ℕ, List, Bool, true, ◌&&◌, nat_le, length}
 use Rattle.std.specs.List.{list_all}
 use Rattle.ultra_isa.specs.declared.Instr.{Instr}
 use Rattle.ultra_isa.specs.declared.Instr.TheVariants.{Set, Add, AddWord, Subtract, And, ShiftRight, IsBelow, IsEqual, JumpIfZero, JumpIfNotZero, Jump, Number, Size, Load, Store, Faa, Swap, Fence, Halt}
+use Rattle.ultra_isa.specs.declared.TheConstants.{MOST_INSTRUCTIONS}
 
--- whether an instruction, if it can jump, jumps to a place that is at most the program's length
+-- whether an instruction, if it can jump, jumps to an index that is at most the program's length
 abbrev pub jumps_within : ℕ → Instr → Bool
 jumps_within n (JumpIfZero a target) = nat_le target n
 jumps_within n (JumpIfNotZero a target) = nat_le target n
@@ -31,4 +32,4 @@ all_jump_within n is = list_all (λ i. jumps_within n i) is
 
 -- at most 4096 instructions, all of whose jumps are within
 abbrev pub is_program : List Instr → Bool
-is_program is = nat_le (length is) 4096 && all_jump_within (length is) is
+is_program is = nat_le (length is) MOST_INSTRUCTIONS && all_jump_within (length is) is

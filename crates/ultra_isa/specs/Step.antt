@@ -15,11 +15,12 @@ use Rattle.ultra_isa.specs.declared.Activity.TheVariants as activity
 use Rattle.ultra_isa.specs.declared.Step.{Step}
 use Rattle.ultra_isa.specs.declared.Step.TheVariants as step
 use Rattle.ultra_isa.specs.Instruction.{Site, names, Effect, sets, goes_on_at, refers, waits, halts, effect}
+use Rattle.ultra_isa.specs.declared.TheConstants.{MOST_INSTRUCTIONS}
 
--- the registers, the place in the program, and what the processing element is doing
+-- the registers, the program counter, and what the processing element is doing
 pub record Core : Type 0 where
   pub registers : List ℕ
-  pub place : ℕ
+  pub pc : ℕ
   pub activity : Activity
 
 -- whether a processing element has halted or faulted
@@ -28,20 +29,21 @@ has_stopped activity.Running = false
 has_stopped activity.Halted = true
 has_stopped (activity.Faulted f) = true
 
--- what is true of every processor: it has 16 registers, and its place is at most the length of the
+-- what is true of every processor: it has 16 registers, and its program counter is at most the
+-- length of the
 -- longest program
 pub record IsPlaced (c : Core) : Type 0 where
   pub registers : length c.registers ≡ 16
-  pub place : c.place ≤ 4096
+  pub pc : c.pc ≤ MOST_INSTRUCTIONS
 
 -- a processor: which one it is, and its state
 pub record Located : Type 0 where
   pub site : Site
   pub core : Core
 
--- at first all registers are 0 and the place is 0
+-- at first all registers are 0 and the program counter is 0
 abbrev pub fresh_core : Core
-fresh_core = record { registers = replicate 16 0; place = 0; activity = activity.Running }
+fresh_core = record { registers = replicate 16 0; pc = 0; activity = activity.Running }
 
 -- what a step gives: the processor and its interface after it, the request that it issued, and what
 -- it was
@@ -55,7 +57,13 @@ abbrev pub stays : Step → Core → Interface → Stepped
 stays was c i = record { core = c; interface = i; sent = None; was = was }
 
 abbrev pub faults : MachineFault → Core → Interface → Stepped
-faults f c i = record { core = record c { activity = activity.Faulted f }; interface = i; sent = None; was = step.Fault f }
+faults f c i =
+    record {
+      core = record c { activity = activity.Faulted f };
+      interface = i;
+      sent = None;
+      was = step.Fault f;
+    }
 
 -- whether an instruction names an awaited register
 abbrev pub names_awaited : Instr → Interface → Bool
@@ -63,13 +71,19 @@ names_awaited n i = list_any (λ r. is_awaited r i.opened) (names n)
 
 -- a reference, after what has become of its request
 abbrev pub refers_as : Core → Interface → Request → Option ℕ → Issue → Stepped
-refers_as c i r target Sent = record { core = record c { place = c.place + 1 }; interface = after_issue i r target Sent; sent = Some r; was = step.Issued }
+refers_as c i r target Sent =
+    record {
+      core = record c { pc = c.pc + 1 };
+      interface = after_issue i r target Sent;
+      sent = Some r;
+      was = step.Issued;
+    }
 refers_as c i r target CellOpen = stays step.Stalled c i
 refers_as c i r target Full = stays step.Stalled c i
 
 -- a fence, where no cell is open and where one is
 abbrev pub waits_where : Bool → Core → Interface → Stepped
-waits_where true c i = stays step.Done record c { place = c.place + 1 } i
+waits_where true c i = stays step.Done record c { pc = c.pc + 1 } i
 waits_where false c i = stays step.Stalled c i
 
 -- the processing element, and the most cells that it may hold open
@@ -81,8 +95,8 @@ module _ (s : Site) (most_open : ℕ) where
 
   abbrev pub does : Core → Interface → Effect → Stepped
   does c i (sets d v) =
-      stays step.Done record c { registers = slice_set c.registers d v; place = c.place + 1 } i
-  does c i (goes_on_at place) = stays step.Done record c { place = place } i
+      stays step.Done record c { registers = slice_set c.registers d v; pc = c.pc + 1 } i
+  does c i (goes_on_at pc) = stays step.Done record c { pc = pc } i
   does c i (refers a o target) =
       refers_where (nat_lt a s.all_cells) c i record { pe = s.pe; cell = a; op = o } target
   does c i waits = waits_where (length i.opened == 0) c i
@@ -91,7 +105,7 @@ module _ (s : Site) (most_open : ℕ) where
   -- an instruction, where it names an awaited register and where it doesn't
   abbrev pub runs_where : Bool → Core → Interface → Instr → Stepped
   runs_where true c i n = stays step.Stalled c i
-  runs_where false c i n = does c i (effect s c.registers c.place n)
+  runs_where false c i n = does c i (effect s c.registers c.pc n)
 
   -- it stalls where the instruction names an awaited register
   abbrev pub runs : Core → Interface → Option Instr → Stepped
@@ -106,7 +120,7 @@ module _ (s : Site) (most_open : ℕ) where
 
   -- one step
   abbrev pub step_of : List Instr → Core → Interface → Stepped
-  step_of program c i = runs_as c.activity c i (slice_get program c.place)
+  step_of program c i = runs_as c.activity c i (slice_get program c.pc)
 
 -- a reply's value comes to the register that awaits it
 abbrev pub received : List ℕ → Option ℕ → Reply → List ℕ

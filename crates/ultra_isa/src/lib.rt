@@ -11,7 +11,7 @@ use ultra_msg::{Register, Shift, Word};
 /// The most instructions of a program.
 pub const MOST_INSTRUCTIONS: usize = 4096;
 
-/// One instruction. The first register is the one that is written, if one is; the target of a jump is a place of the program.
+/// One instruction. The first register is the one that is written, if one is; the target of a jump is the index of an instruction, or the length of the program.
 #[derive(Clone, Copy, Drop)]
 pub enum Instr {
     /// `li rd n`

@@ -6,6 +6,7 @@ ghost use Rattle.ultra_pni.specs.Interface.{is_awaited};
 ghost use Rattle.ultra_isa.specs.Instruction.{effect, goes_on_at, refers};
 ghost use Rattle.ultra_isa.specs.Meaning.{meaning, StaysWithin};
 ghost use Rattle.ultra_isa.specs.Step.{IsPlaced, fresh_core, has_stopped as stopped, names_awaited, does, runs, step_of};
+ghost use Rattle.ultra_isa.specs.declared.TheConstants.{MOST_INSTRUCTIONS};
 
 use crate::{Activity, Instr, MachineFault, Program, Step};
 use std::marker::Model;
@@ -21,7 +22,7 @@ const REGISTERS: usize = 16;
 enum Effect {
     /// It sets the register.
     Sets(Register, Word),
-    /// The next instruction is the one at the place.
+    /// The next instruction is the one at the program counter.
     GoesOnAt(usize),
     /// It refers to the cell; the answer goes to the register, if there is one.
     Refers(Cell, Op, Option<Register>),
@@ -31,14 +32,14 @@ enum Effect {
     Halts,
 }
 
-/// A processing element without its network interface: sixteen registers, a place in the program, and what it is doing (this project's profile).
+/// A processing element without its network interface: sixteen registers, a program counter, and what it is doing (this project's profile).
 #[derive(Drop)]
 pub struct Processor {
     pe: Pe,
     size: u32,
     all_cells: u32,
     registers: [Word; REGISTERS],
-    place: usize,
+    pc: usize,
     activity: Activity,
 }
 
@@ -47,9 +48,9 @@ impl Model for Processor {
 
     ghost Value = { Located };
 
-    ghost view = { λ p. record { site = record { pe = p.pe; size = p.size; all_cells = p.all_cells }; core = record { registers = p.registers; place = p.place; activity = p.activity } } };
+    ghost view = { λ p. record { site = record { pe = p.pe; size = p.size; all_cells = p.all_cells }; core = record { registers = p.registers; pc = p.pc; activity = p.activity } } };
 
-    ghost invariant = { λ p. IsPlaced record { registers = p.registers; place = p.place; activity = p.activity } };
+    ghost invariant = { λ p. IsPlaced record { registers = p.registers; pc = p.pc; activity = p.activity } };
 }
 
 /// Whether one of the three registers is awaited. Where an instruction names fewer, one of them is given again.
@@ -73,7 +74,7 @@ fn setting(interface: &Pni, d: Register, a: Register, b: Register, value: Word) 
 }
 
 impl Processor {
-    /// The processing element of this number, in a machine of this network with `cells` cells in each memory module. Its registers are 0, and it starts at place 0.
+    /// The processing element of this number, in a machine of this network with `cells` cells in each memory module. Its registers are 0, and it starts with program counter 0.
     pub fn new(pe: Pe, net: Net, cells: u32) -> Processor
         requires pe { pe < 2 ^ net }
         requires some_cells { 1 ≤ cells }
@@ -86,12 +87,12 @@ impl Processor {
             size,
             all_cells: size * cells,
             registers: [0; REGISTERS],
-            place: 0,
+            pc: 0,
             activity: Activity::Running,
         }
     }
 
-    /// Does one step: the instruction at the place, or a stall, or nothing where the processing element has halted or faulted. A request that it issues stands last in its interface.
+    /// Does one step: the instruction at the program counter, or a stall, or nothing where the processing element has halted or faulted. A request that it issues stands last in its interface.
     #[inline(always)]
     pub fn step(&mut self, program: &Program, interface: &mut Pni) -> Step
         ensures core { self.new ≡ record self.old { core = (step_of self.old.site interface.old.most_open program.now self.old.core interface.old.interface).core } }
@@ -121,12 +122,12 @@ impl Processor {
         self.registers[register.index()]
     }
 
-    /// The place in the program, from 0; one that has halted or faulted keeps the place of that instruction.
-    pub fn place(&self) -> usize
-        ensures value { result ≡ self.now.core.place }
+    /// The program counter, from 0; a processing element that has halted or faulted keeps that of the instruction that stopped it.
+    pub fn pc(&self) -> usize
+        ensures value { result ≡ self.now.core.pc }
         ensures placed { IsPlaced self.now.core }
     {
-        self.place
+        self.pc
     }
 
     /// What the processing element is doing.
@@ -146,14 +147,14 @@ impl Processor {
         }
     }
 
-    /// Does the instruction at the place, or stalls.
+    /// Does the instruction at the program counter, or stalls.
     #[inline(always)]
     fn run(&mut self, program: &Program, interface: &mut Pni) -> Step
-        ensures core { self.new ≡ record self.old { core = (runs self.old.site interface.old.most_open self.old.core interface.old.interface (slice_get program.now self.old.core.place)).core } }
-        ensures interface { interface.new ≡ record interface.old { interface = (runs self.old.site interface.old.most_open self.old.core interface.old.interface (slice_get program.now self.old.core.place)).interface } }
-        ensures was { result ≡ (runs self.old.site interface.old.most_open self.old.core interface.old.interface (slice_get program.now self.old.core.place)).was }
+        ensures core { self.new ≡ record self.old { core = (runs self.old.site interface.old.most_open self.old.core interface.old.interface (slice_get program.now self.old.core.pc)).core } }
+        ensures interface { interface.new ≡ record interface.old { interface = (runs self.old.site interface.old.most_open self.old.core interface.old.interface (slice_get program.now self.old.core.pc)).interface } }
+        ensures was { result ≡ (runs self.old.site interface.old.most_open self.old.core interface.old.interface (slice_get program.now self.old.core.pc)).was }
     {
-        match program.instruction(self.place) {
+        match program.instruction(self.pc) {
             Some(instruction) => self.perform(instruction, interface),
             None => self.fault(MachineFault::PastEnd),
         }
@@ -162,8 +163,8 @@ impl Processor {
     /// Does an instruction of a program, or stalls where it names an awaited register.
     #[inline(always)]
     fn perform(&mut self, instruction: Instr, interface: &mut Pni) -> Step
-        requires place { self.old.core.place < 4096 }
-        requires within { StaysWithin (effect self.old.site self.old.core.registers self.old.core.place instruction) }
+        requires pc { self.old.core.pc < MOST_INSTRUCTIONS }
+        requires within { StaysWithin (effect self.old.site self.old.core.registers self.old.core.pc instruction) }
         ensures core { self.new ≡ record self.old { core = (runs self.old.site interface.old.most_open self.old.core interface.old.interface (Some instruction)).core } }
         ensures interface { interface.new ≡ record interface.old { interface = (runs self.old.site interface.old.most_open self.old.core interface.old.interface (Some instruction)).interface } }
         ensures was { result ≡ (runs self.old.site interface.old.most_open self.old.core interface.old.interface (Some instruction)).was }
@@ -171,14 +172,14 @@ impl Processor {
         let Some(effect) = self.effect_of(instruction, interface) else {
             return Step::Stalled;
         };
-        self.act(effect, interface)
+        self.apply(effect, interface)
     }
 
-    /// What an instruction does at the place, with these registers, or `None` where it names an awaited register.
+    /// What an instruction does at the program counter, with these registers, or `None` where it names an awaited register.
     #[inline(always)]
     fn effect_of(&self, instruction: Instr, interface: &Pni) -> Option<Effect>
         ensures free { IsSome result ↔ (names_awaited instruction interface.now.interface ≡ false) }
-        ensures effect { IfSome result (λ e. meaning e ≡ effect self.now.site self.now.core.registers self.now.core.place instruction) }
+        ensures effect { IfSome result (λ e. meaning e ≡ effect self.now.site self.now.core.registers self.now.core.pc instruction) }
     {
         let word = |register: Register| self.register(register);
         match instruction {
@@ -208,14 +209,14 @@ impl Processor {
     #[inline(always)]
     fn branch(&self, interface: &Pni, a: Register, taken: bool, target: u16) -> Option<Effect>
         ensures free { IsSome result ↔ (is_awaited a interface.now.interface.opened ≡ false) }
-        ensures effect { IfSome result (λ e. meaning e ≡ goes_on_at (if taken then target else self.now.core.place + 1)) }
+        ensures effect { IfSome result (λ e. meaning e ≡ goes_on_at (if taken then target else self.now.core.pc + 1)) }
     {
         if awaits_one(interface, a, a, a) {
             None
         } else if taken {
             Some(Effect::GoesOnAt(target as usize))
         } else {
-            Some(Effect::GoesOnAt(self.place + 1))
+            Some(Effect::GoesOnAt(self.pc + 1))
         }
     }
 
@@ -241,8 +242,8 @@ impl Processor {
 
     /// Lets an instruction have its effect.
     #[inline(always)]
-    fn act(&mut self, effect: Effect, interface: &mut Pni) -> Step
-        requires place { self.old.core.place < 4096 }
+    fn apply(&mut self, effect: Effect, interface: &mut Pni) -> Step
+        requires pc { self.old.core.pc < MOST_INSTRUCTIONS }
         requires within { StaysWithin (meaning effect) }
         ensures core { self.new ≡ record self.old { core = (does self.old.site interface.old.most_open self.old.core interface.old.interface (meaning effect)).core } }
         ensures interface { interface.new ≡ record interface.old { interface = (does self.old.site interface.old.most_open self.old.core interface.old.interface (meaning effect)).interface } }
@@ -254,8 +255,8 @@ impl Processor {
                 self.advance();
                 Step::Done
             }
-            Effect::GoesOnAt(place) => {
-                self.place = place;
+            Effect::GoesOnAt(pc) => {
+                self.pc = pc;
                 Step::Done
             }
             Effect::Refers(cell, op, target) => self.refer(cell, op, target, interface),
@@ -277,7 +278,7 @@ impl Processor {
     /// Refers to a cell: issues the request, or stalls, or faults where the memory doesn't have the cell.
     #[inline(always)]
     fn refer(&mut self, cell: Cell, op: Op, target: Option<Register>, interface: &mut Pni) -> Step
-        requires { self.old.core.place < 4096 }
+        requires { self.old.core.pc < MOST_INSTRUCTIONS }
         ensures core { self.new ≡ record self.old { core = (does self.old.site interface.old.most_open self.old.core interface.old.interface (refers cell op target)).core } }
         ensures interface { interface.new ≡ record interface.old { interface = (does self.old.site interface.old.most_open self.old.core interface.old.interface (refers cell op target)).interface } }
         ensures was { result ≡ (does self.old.site interface.old.most_open self.old.core interface.old.interface (refers cell op target)).was }
@@ -301,10 +302,10 @@ impl Processor {
 
     /// Goes on at the next instruction.
     fn advance(&mut self)
-        requires { self.old.core.place < 4096 }
-        ensures { self.new ≡ record self.old { core = record self.old.core { place = self.old.core.place + 1 } } }
+        requires { self.old.core.pc < MOST_INSTRUCTIONS }
+        ensures { self.new ≡ record self.old { core = record self.old.core { pc = self.old.core.pc + 1 } } }
     {
-        self.place += 1;
+        self.pc += 1;
     }
 
     /// Stops for good.

@@ -2,12 +2,13 @@
 
 ghost use Rattle.std.specs.Prelude.{◌≡◌, ◌≤◌, ◌↔◌, length, slice_get, IsOk, IfOk, IfErr, IfSome, IsTrue};
 ghost use Rattle.ultra_isa.specs.Program.{jumps_within, all_jump_within, is_program};
+ghost use Rattle.ultra_isa.specs.declared.TheConstants.{MOST_INSTRUCTIONS};
 
 use crate::{Instr, MOST_INSTRUCTIONS};
 use std::alloc::{AllocError, Global};
 use std::marker::Model;
 
-/// A program: at most 4096 instructions, whose jumps go to places from 0 to the program's length (this project's profile).
+/// A program: at most 4096 instructions, whose jumps go to indexes from 0 to the program's length (this project's profile).
 #[derive(Drop)]
 pub struct Program {
     instructions: Vec<Instr>,
@@ -26,7 +27,7 @@ impl Model for Program {
 }
 
 impl Instr {
-    /// Whether the instruction, if it can jump, jumps to a place that is at most `length`.
+    /// Whether the instruction, if it can jump, jumps to an index that is at most `length`.
     fn stays_within(self, length: usize) -> bool
         ensures { result ≡ jumps_within length self }
     {
@@ -39,7 +40,7 @@ impl Instr {
     }
 }
 
-/// Whether each instruction, if it can jump, jumps to a place that is at most `length`.
+/// Whether each instruction, if it can jump, jumps to an index that is at most `length`.
 fn all_stay_within(list: &[Instr], length: usize) -> bool
     ensures { result ≡ all_jump_within length list.now }
 {
@@ -48,7 +49,7 @@ fn all_stay_within(list: &[Instr], length: usize) -> bool
 }
 
 impl Program {
-    /// The program of these instructions, or the list itself where there are more than 4096 of them or one jumps to a place above their number. It takes no memory.
+    /// The program of these instructions, or the list itself where there are more than 4096 of them or one jumps to an index above their number. It takes no memory.
     pub fn new(list: Vec<Instr>) -> Result<Program, Vec<Instr>>
         ensures valid { IsOk result ↔ IsTrue (is_program list.items) }
         ensures program { IfOk result (λ p. p ≡ list.items) }
@@ -73,18 +74,18 @@ impl Program {
     /// How many instructions there are: at most 4096.
     pub fn len(&self) -> usize
         ensures count { result ≡ length self.now }
-        ensures small { result ≤ 4096 }
+        ensures small { result ≤ MOST_INSTRUCTIONS }
         ensures valid { IsTrue (is_program self.now) }
     {
         self.instructions.len()
     }
 
-    /// The instruction at a place, or `None` where the place is not below the length.
-    pub fn instruction(&self, place: usize) -> Option<Instr>
-        ensures at { result ≡ slice_get self.now place }
+    /// The instruction at a program counter, or `None` where that is not below the length.
+    pub fn instruction(&self, pc: usize) -> Option<Instr>
+        ensures at { result ≡ slice_get self.now pc }
         ensures within { IfSome result (λ i. IsTrue (jumps_within (length self.now) i)) }
-        ensures small { length self.now ≤ 4096 }
+        ensures small { length self.now ≤ MOST_INSTRUCTIONS }
     {
-        self.instructions.as_slice().get(place).copied()
+        self.instructions.as_slice().get(pc).copied()
     }
 }

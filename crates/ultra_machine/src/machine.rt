@@ -1,20 +1,20 @@
 //! The whole machine.
 
 ghost use Rattle.std.specs.Prelude.{◌≡◌, ◌-◌, ◌^◌, ◌<◌, ◌↔◌, true, false, IfOk, OnOk, IfErr};
-ghost use Rattle.ultra_model.specs.{Machine.start, Machine.is_quiet as quiet, Machine.lane_at, Machine.replies_at, Machine.bank_at, Machine.element_at, Machine.site, Phases.cycle as next_cycle};
-ghost use Rattle.ultra_halves.specs.Elements.{element_of};
+ghost use Rattle.ultra_model.specs.{Machine.start, Machine.is_quiet as quiet, Machine.lane_at, Machine.replies_at, Machine.module_at, Machine.element_at, Machine.site, Phases.cycle as next_cycle};
+ghost use Rattle.ultra_unit_steps.specs.Elements.{element_of};
 ghost use Rattle.ultra_block.specs.{Cut.is_partition, Dealt.IsLastNamed};
 ghost use Rattle.ultra_machine.specs.Running.{Running};
 
 use std::alloc::{AllocError, Global};
 use std::marker::Model;
 use ultra_block::{Blocks, PartitionFault};
-use ultra_halves::ProcessingElement;
 use ultra_isa::Program;
 use ultra_mem::Module;
 use ultra_model::{Config, Stop};
 use ultra_msg::{Event, Pe};
 use ultra_switch::{ToMm, ToPe};
+use ultra_unit_steps::ProcessingElement;
 
 /// A machine: its settings, its program, and its units as they stand after some cycles.
 ///
@@ -123,11 +123,11 @@ impl Machine {
     }
 
     /// A memory module, by its number.
-    pub fn bank(&self, number: u32) -> &Module
+    pub fn memory_module(&self, number: u32) -> &Module
         requires { number < 2 ^ self.now.settings.stages }
-        ensures { result.now ≡ bank_at self.now.state number }
+        ensures { result.now ≡ module_at self.now.state number }
     {
-        self.blocks.bank(number)
+        self.blocks.memory_module(number)
     }
 
     /// A processing element, by its number.

@@ -2,12 +2,11 @@
 #![tactic(auto)]
 
 ghost use Rattle.std.specs.Prelude.{◌≡◌, ◌<◌, ◌≤◌, ◌⊎◌, ◌↔◌, length, IfOk, OnOk, IsTrue, IsErrOf, slice_get, slice_set, option_map};
-ghost use Rattle.ultra_msg.specs.Act.{act as act_of_op};
-ghost use Rattle.ultra_mem.specs.Serve.{new_bank, serve, served, IsIdle};
+ghost use Rattle.ultra_mem.specs.Serve.{fresh_module, serve, served, with_waiting, without_out, IsIdle};
 
 use std::alloc::{AllocError, Global};
 use std::marker::Model;
-use ultra_msg::{Op, Reply, ReplyMessage, ReplyPacket, Request, RequestPacket, Slot, Word};
+use ultra_msg::{Reply, ReplyMessage, ReplyPacket, Request, RequestPacket, Slot, Word};
 
 /// The most cells that a module can have.
 pub const MOST_CELLS: u32 = 4096;
@@ -63,26 +62,14 @@ pub struct Module {
 
 impl Model for Module {
     ghost use Rattle.std.specs.Prelude.{◌<◌, ◌≤◌, length, IfSome};
-    ghost use Rattle.ultra_mem.specs.Serve.{Bank};
+    ghost use Rattle.ultra_mem.specs.Serve.{ModuleState};
     ghost use Rattle.ultra_mem.specs.declared.TheConstants.{MOST_CELLS};
 
-    ghost Value = { Bank };
+    ghost Value = { ModuleState };
 
     ghost view = { λ m. record { cells = m.cells.items; inp = m.inp; out = m.out } };
 
     ghost invariant = { λ m. (1 ≤ length m.cells.items) × (length m.cells.items ≤ MOST_CELLS) × IfSome m.inp (λ p. p.offset < length m.cells.items) };
-}
-
-/// What the operation makes of a cell with this value, and its reply: the cell's value afterwards comes first.
-fn act(op: Op, value: Word) -> (Word, Reply)
-    ensures { result ≡ act_of_op op value }
-{
-    match op {
-        Op::Load => (value, Reply::Value(value)),
-        Op::Store(word) => (word, Reply::Ack),
-        Op::Faa(addend) => (value.wrapping_add(addend), Reply::Value(value)),
-        Op::Swap(word) => (word, Reply::Value(value)),
-    }
 }
 
 impl Module {
@@ -90,7 +77,7 @@ impl Module {
     ///
     /// `CellsOutOfRange` is found before memory is asked for. `NoMemory` comes only where the memory for the cells was refused.
     pub fn new(alloc: Global, cells: u32) -> Result<Module, ModuleFault>
-        ensures ok { IfOk result (λ m. m ≡ new_bank cells) }
+        ensures ok { IfOk result (λ m. m ≡ fresh_module cells) }
         ensures in_range { OnOk result ((1 ≤ cells) × (cells ≤ MOST_CELLS)) }
         ensures out_of_range { IsErrOf result ModuleFault.CellsOutOfRange ↔ ((cells < 1) ⊎ (MOST_CELLS < cells)) }
     {
@@ -154,16 +141,16 @@ impl Module {
     pub fn put(&mut self, request: Request, offset: u32)
         requires cell { offset < length self.old.cells }
         requires empty { self.old.inp ≡ None }
-        ensures { self.new ≡ record self.old { inp = Some record { request = request; offset = offset } } }
+        ensures { self.new ≡ with_waiting self.old request offset }
     {
-        self.receive(RequestPacket::of(request), offset);
+        self.put_packet(RequestPacket::of(request), offset);
     }
 
-    /// Takes a request as it comes by a link, as `put` does.
-    pub fn receive(&mut self, request: RequestPacket, offset: u32)
+    /// The same as `put`, with a packet.
+    pub fn put_packet(&mut self, request: RequestPacket, offset: u32)
         requires cell { offset < length self.old.cells }
         requires empty { self.old.inp ≡ None }
-        ensures { self.new ≡ record self.old { inp = Some record { request = request; offset = offset } } }
+        ensures { self.new ≡ with_waiting self.old request offset }
     {
         self.inp.fill(Placed { request, offset });
     }
@@ -180,7 +167,7 @@ impl Module {
         let Placed { request, offset } = self.inp.take()?;
         let request = request.request();
         let cell = &mut self.cells[offset as usize];
-        let (now, reply) = act(request.op, *cell);
+        let (now, reply) = request.op.act(*cell);
         *cell = now;
         self.out.fill(ReplyPacket::of(ReplyMessage {
             pe: request.pe,
@@ -197,16 +184,16 @@ impl Module {
     /// Takes the reply out of its register, or gives `None` where there is none. The register is empty afterwards.
     pub fn take_reply(&mut self) -> Option<ReplyMessage>
         ensures reply { result ≡ self.old.out }
-        ensures taken { self.new ≡ record self.old { out = None } }
+        ensures taken { self.new ≡ without_out self.old }
     {
-        Some(self.send()?.message())
+        Some(self.take_reply_packet()?.message())
     }
 
-    /// Takes the reply out of its register for its link, or gives `None` where there is none. The register is empty afterwards.
+    /// The same as `take_reply`, with a packet.
     #[inline(always)]
-    pub fn send(&mut self) -> Option<ReplyPacket>
+    pub fn take_reply_packet(&mut self) -> Option<ReplyPacket>
         ensures reply { result ≡ self.old.out }
-        ensures taken { self.new ≡ record self.old { out = None } }
+        ensures taken { self.new ≡ without_out self.old }
     {
         self.out.take()
     }

@@ -8,12 +8,12 @@ use Rattle.ultra_pni.specs.Interface.{Interface, is_open}
 use Rattle.ultra_isa.specs.declared.Instr.{Instr}
 use Rattle.ultra_isa.specs.Instruction.{Site}
 use Rattle.ultra_isa.proofs.Steps.{SendsInto, step_is}
-use Rattle.ultra_model.specs.Machine.{Settings, Machine, size, site, start, lane_at, replies_at, bank_at, element_at}
+use Rattle.ultra_model.specs.Machine.{Settings, Machine, size, site, start, lane_at, replies_at, module_at, element_at}
 use Rattle.ultra_model.specs.Phases.{memory_phase, processor_phase, step_at}
-use Rattle.ultra_model.specs.Balance.{weight, count, total, passes, lane_on_way, replies_on_way, bank_on_way, pending_on_way, opened_by, on_way, all_opened, IsBalanced}
+use Rattle.ultra_model.specs.Balance.{weight, count, total, passes, lane_on_way, replies_on_way, module_on_way, pending_on_way, opened_by, on_way, all_opened, IsBalanced}
 use Rattle.ultra_model.proofs.Sums.{total_same, total_plus, total_zero}
 use Rattle.ultra_model.proofs.Counting.{count-append, serve_way}
-use Rattle.ultra_model.proofs.AtPlaces.{lane-start, replies-start, bank-start, element-start, bank-memory_phase, element-processor_phase}
+use Rattle.ultra_model.proofs.AtPlaces.{lane-start, replies-start, memory_module-start, element-start, memory_module-memory_phase, element-processor_phase}
 
 both_false : (a b : Bool) → (a || b) ≡ false → (a ≡ false) × (b ≡ false)
 both_false true b h = cc
@@ -61,9 +61,9 @@ module _ (c : Settings) where
   nothing_on_way t =
       let lanes = table_zero c.stages (size c) (λ s x. lane_on_way t (lane_at (start c) s x)) (λ s x hs hx. rw (lane-start c s x hs hx) refl) in
       let replies = table_zero c.stages (size c) (λ s y. replies_on_way t (replies_at (start c) s y)) (λ s y hs hy. rw (replies-start c s y hs hy) refl) in
-      let banks = total_zero (size c) (λ k. bank_on_way t (bank_at (start c) k)) (λ k h. rw (bank-start c k h) refl) in
+      let modules = total_zero (size c) (λ k. module_on_way t (module_at (start c) k)) (λ k h. rw (memory_module-start c k h) refl) in
       let pending = total_zero (size c) (λ p. pending_on_way t (element_at (start c) p)) (λ p h. rw (element-start c p h) refl) in
-      omega (arith, lanes, replies, banks, pending)
+      omega (arith, lanes, replies, modules, pending)
 
   pub balanced-start : IsBalanced c (start c)
   balanced-start = record {
@@ -75,9 +75,9 @@ module _ (c : Settings) where
   memory_lanes : (m : Machine) (t : ℕ → ℕ → Bool) → on_way t c (memory_phase c m) ≡ on_way t c m
   unfolding memory_phase
   memory_lanes m t =
-      let banks : total (size c) (λ k. bank_on_way t (bank_at (memory_phase c m) k)) ≡ total (size c) (λ k. bank_on_way t (bank_at m k)) =
-      total_same (size c) _ _ (λ k h. rw (bank-memory_phase c m k h) (serve_way t (bank_at m k))) in
-      omega (arith, banks)
+      let modules : total (size c) (λ k. module_on_way t (module_at (memory_phase c m) k)) ≡ total (size c) (λ k. module_on_way t (module_at m k)) =
+      total_same (size c) _ _ (λ k h. rw (memory_module-memory_phase c m k h) (serve_way t (module_at m k))) in
+      omega (arith, modules)
 
   pub balanced-memory_phase : (m : Machine) → IsBalanced c m → IsBalanced c (memory_phase c m)
   unfolding memory_phase

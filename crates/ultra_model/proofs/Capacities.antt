@@ -6,7 +6,7 @@ use Rattle.std.proofs.lemmas.Bool.{eqb-true, cases_lt}
 use Rattle.std.proofs.lemmas.Bool.Decides.{nat_tests}
 use Rattle.ultra_msg.specs.declared.Request.{Request}
 use Rattle.ultra_msg.specs.declared.ReplyMessage.{ReplyMessage}
-use Rattle.ultra_switch.specs.declared.Entry.{Entry}
+use Rattle.ultra_switch.specs.declared.QueueEntry.{QueueEntry}
 use Rattle.ultra_switch.specs.declared.WaitRecord.{WaitRecord}
 use Rattle.ultra_switch.specs.Arrive.{Lane, Combination, entry, behind, can_combine, wait_record, combine, combine_within, after_arrival, arrive}
 use Rattle.ultra_switch.specs.Split.{is_of, records_after, replies_of}
@@ -18,7 +18,7 @@ use Rattle.ultra_isa.proofs.Steps.{SendsInto, step_is}
 use Rattle.ultra_model.specs.Places.{after_leaving}
 use Rattle.ultra_model.specs.Machine.{Settings, Machine, Element, site, start, lane_at, replies_at, element_at, reply_exit, request_exit}
 use Rattle.ultra_model.specs.Phases.{deliver, records_left, replies_made, arrive_all, has_reply_room, arriving_reply, reply_before, leaving_reply, replies_at_exit, next_replies, delivered, reply_phase, memory_phase, has_request_room, request_before, admitted, arriving_request, requests_by, arrivals_by, arrivals, leaving_request, lane_after_leaving, request_phase, step_at, processor_phase}
-use Rattle.ultra_model.specs.Capacity.{IsWithinPlaces}
+use Rattle.ultra_model.specs.Capacity.{IsWithinCapacity}
 use Rattle.ultra_model.proofs.Each.{if_tested}
 use Rattle.ultra_model.proofs.Counting.{both_true}
 use Rattle.ultra_model.proofs.AtPlaces.{lane-start, replies-start, element-start, lane-reply_phase, replies-reply_phase, element-reply_phase, lane-request_phase, element-request_phase, element-processor_phase}
@@ -65,14 +65,14 @@ left_shorter ws None = omega arith
 left_shorter ws (Some m) = records_shorter m ws
 
 -- a combination takes no place in the queue
-abbrev SameLength : List Entry → Option Combination → Type 0
+abbrev SameLength : List QueueEntry → Option Combination → Type 0
 SameLength es o = IfSome o (λ c. length c.queue ≡ length es)
 
-behind_length : (e : Entry) (es : List Entry) (o : Option Combination) → SameLength es o → SameLength (e ∷ es) (behind e o)
+behind_length : (e : QueueEntry) (es : List QueueEntry) (o : Option Combination) → SameLength es o → SameLength (e ∷ es) (behind e o)
 behind_length e es None h = tt
 behind_length e es (Some c) h = omega (arith, h)
 
-combine_length : (r : Request) (es : List Entry) → SameLength es (combine r es)
+combine_length : (r : Request) (es : List QueueEntry) → SameLength es (combine r es)
 combine_length r [] = tt
 combine_length r (e ∷ es) = if_tested (can_combine r e) (λ o. SameLength (e ∷ es) o) _ _ (λ z. refl) (λ z. behind_length e es (combine r es) (combine_length r es))
 
@@ -229,7 +229,7 @@ module _ (c : Settings) where
       omega (arith, room, all)
 
   -- ---- the phases
-  pub within-start : IsWithinPlaces c (start c)
+  pub within-start : IsWithinCapacity c (start c)
   within-start = record {
     requests = λ s x hs hx. rw (lane-start c s x hs hx) (omega arith);
     records = λ s x hs hx. rw (lane-start c s x hs hx) (omega arith);
@@ -237,7 +237,7 @@ module _ (c : Settings) where
     opened = λ p h. rw (element-start c p h) (omega arith);
   }
 
-  pub within-reply_phase : (m : Machine) → IsWithinPlaces c m → IsWithinPlaces c (reply_phase c m)
+  pub within-reply_phase : (m : Machine) → IsWithinCapacity c m → IsWithinCapacity c (reply_phase c m)
   within-reply_phase m w = record {
     requests = λ s x hs hx. rw (lane-reply_phase c m s x hs hx) (w.requests s x hs hx);
     records = λ s x hs hx. rw (lane-reply_phase c m s x hs hx) (omega (arith, w.records s x hs hx, left_shorter (lane_at m s x).records (arriving_reply c m s x)));
@@ -245,11 +245,11 @@ module _ (c : Settings) where
     opened = λ p h. rw (element-reply_phase c m p h) (omega (arith, w.opened p h, delivered_opened (element_at m p) (delivered c m p)));
   }
 
-  pub within-memory_phase : (m : Machine) → IsWithinPlaces c m → IsWithinPlaces c (memory_phase c m)
+  pub within-memory_phase : (m : Machine) → IsWithinCapacity c m → IsWithinCapacity c (memory_phase c m)
   unfolding memory_phase
   within-memory_phase m w = record { requests = w.requests; records = w.records; replies = w.replies; opened = w.opened }
 
-  pub within-request_phase : (m : Machine) → IsWithinPlaces c m → IsWithinPlaces c (request_phase c m)
+  pub within-request_phase : (m : Machine) → IsWithinCapacity c m → IsWithinCapacity c (request_phase c m)
   unfolding request_phase
   within-request_phase m w = record {
     requests = λ s x hs hx. rw (lane-request_phase c m s x hs hx) (omega (arith, arrivals_fit m s x (w.requests s x hs hx), arrive_all_queue c.wait_places (lane_after_leaving c m s x) (arrivals c m s x)));
@@ -258,7 +258,7 @@ module _ (c : Settings) where
     opened = λ p h. rw (element-request_phase c m p h) (w.opened p h);
   }
 
-  pub within-processor_phase : (program : List Instr) (m : Machine) → IsWithinPlaces c m → IsWithinPlaces c (processor_phase c program m)
+  pub within-processor_phase : (program : List Instr) (m : Machine) → IsWithinCapacity c m → IsWithinCapacity c (processor_phase c program m)
   unfolding processor_phase
   within-processor_phase program m w = record {
     requests = w.requests;

@@ -5,17 +5,17 @@ use Rattle.std.specs.List.{filter, AllByRecursion}
 use Rattle.std.proofs.lemmas.Bool.{eqb-true}
 use Rattle.ultra_msg.specs.declared.Request.{Request}
 use Rattle.ultra_msg.specs.declared.ReplyMessage.{ReplyMessage}
-use Rattle.ultra_switch.specs.declared.Entry.{Entry}
+use Rattle.ultra_switch.specs.declared.QueueEntry.{QueueEntry}
 use Rattle.ultra_switch.specs.declared.WaitRecord.{WaitRecord}
 use Rattle.ultra_switch.specs.Arrive.{Lane, Combination, entry, behind, can_combine, wait_record, combine, combine_within, after_arrival, arrive}
 use Rattle.ultra_switch.specs.Split.{is_of, records_after, replies_of, old_reply, new_reply}
 use Rattle.ultra_mem.specs.declared.Placed.{Placed}
-use Rattle.ultra_mem.specs.Serve.{Bank, after_serving, serve}
+use Rattle.ultra_mem.specs.Serve.{ModuleState, after_serving, serve}
 use Rattle.ultra_pni.specs.declared.OpenCell.{OpenCell}
 use Rattle.ultra_pni.specs.Interface.{closed}
 use Rattle.ultra_model.specs.Places.{after_leaving}
 use Rattle.ultra_model.specs.Phases.{records_left, replies_made, arrive_all}
-use Rattle.ultra_model.specs.Balance.{weight, count, count_option, passes, reply_passes, entry_passes, record_passes, replies_on_way, lane_on_way, bank_on_way}
+use Rattle.ultra_model.specs.Balance.{weight, count, count_option, passes, reply_passes, entry_passes, record_passes, replies_on_way, lane_on_way, module_on_way}
 use Rattle.ultra_model.proofs.Each.{if_tested}
 
 -- ---- lists
@@ -92,14 +92,14 @@ some_known P Q (Some x) h f = f x refl h
 -- ---- places, and the references whose processing element and cell pass a test
 module _ (t : ℕ → ℕ → Bool) where
   -- a combination leaves as many in the queue, and its partner is for the same cell
-  abbrev CombinesWell : Request → List Entry → Option Combination → Type 0
+  abbrev CombinesWell : Request → List QueueEntry → Option Combination → Type 0
   CombinesWell r es o = IfSome o (λ c. (count (entry_passes t) c.queue ≡ count (entry_passes t) es) × (c.old.request.cell ≡ r.cell))
 
-  behind_well : (r : Request) (e : Entry) (es : List Entry) (o : Option Combination) → CombinesWell r es o → CombinesWell r (e ∷ es) (behind e o)
+  behind_well : (r : Request) (e : QueueEntry) (es : List QueueEntry) (o : Option Combination) → CombinesWell r es o → CombinesWell r (e ∷ es) (behind e o)
   behind_well r e es None h = tt
   behind_well r e es (Some c) h = (ap (λ n. weight (entry_passes t e) + n) h.0, h.1)
 
-  combine_well : (r : Request) (es : List Entry) → CombinesWell r es (combine r es)
+  combine_well : (r : Request) (es : List QueueEntry) → CombinesWell r es (combine r es)
   combine_well r [] = tt
   combine_well r (e ∷ es) =
       if_tested (can_combine r e) (λ o. CombinesWell r (e ∷ es) o) _ _
@@ -140,12 +140,12 @@ module _ (t : ℕ → ℕ → Bool) where
   made_way ws (Some m) = split_way m ws
 
   -- a module turns a request into its reply
-  served_way : (b : Bank) (i : Option Placed) (o : Option ReplyMessage) → b.inp ≡ i → b.out ≡ o → bank_on_way t (after_serving b (elim o [ None ↦ i | Some r ↦ None ])) ≡ bank_on_way t b
+  served_way : (b : ModuleState) (i : Option Placed) (o : Option ReplyMessage) → b.inp ≡ i → b.out ≡ o → module_on_way t (after_serving b (elim o [ None ↦ i | Some r ↦ None ])) ≡ module_on_way t b
   served_way b i (Some r) e f = refl
   served_way b None None e f = refl
   served_way b (Some p) None e f = rw (e, f) (omega arith)
 
-  pub serve_way : (b : Bank) → bank_on_way t (serve b) ≡ bank_on_way t b
+  pub serve_way : (b : ModuleState) → module_on_way t (serve b) ≡ module_on_way t b
   serve_way b = served_way b b.inp b.out refl refl
 
   -- a cell that is open is closed by its delivery

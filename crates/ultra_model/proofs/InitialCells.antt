@@ -7,7 +7,7 @@ use Rattle.std.proofs.Math.Seq.{drop-cons}
 use Rattle.std.proofs.lemmas.List.Elements.{All-push, All-nil}
 use Rattle.std.proofs.lemmas.List.Folds.{list_all-append, list_all_at}
 use Rattle.std.proofs.Math.ListN.{length-set}
-use Rattle.ultra_model.specs.Accepted.{is_cell, cell_of, cells_of, is_named, are_different, are_initial}
+use Rattle.ultra_model.specs.Accepted.{is_cell, initial_cell, cells_of, is_given_value, are_different, are_initial}
 
 -- the initial cells so far, of those that are given, and a mark at each of their addresses
 pub record IsMarked (n : ℕ) (given : List (ℤ × ℤ)) (marks : List Bool) (cells : List (ℕ × ℕ)) : Type 0 where
@@ -15,21 +15,21 @@ pub record IsMarked (n : ℕ) (given : List (ℤ × ℤ)) (marks : List Bool) (c
   pub good : list_all (is_cell n) given ≡ true
   pub different : are_different cells ≡ true
   pub size : length marks ≡ n
-  pub marked : (a : ℕ) → a < n → get_or marks a false ≡ is_named a cells
+  pub marked : (a : ℕ) → a < n → get_or marks a false ≡ is_given_value a cells
   pub addresses : All (λ (i : ℕ × ℕ). i.0 < n) cells
   pub words : All (λ (i : ℕ × ℕ). i.1 < 2 ^ 32) cells
 
 -- an address that is given a value by a later pair too
-pub named_later : (a : ℕ) (is js : List (ℕ × ℕ)) (i : ℕ × ℕ) → a ≡ i.0 → is_named a (is ++ i ∷ js) ≡ true
+pub named_later : (a : ℕ) (is js : List (ℕ × ℕ)) (i : ℕ × ℕ) → a ≡ i.0 → is_given_value a (is ++ i ∷ js) ≡ true
 named_later a [] js i e = or_left _ _ (eq-eqb a i.0 e)
 named_later a (k ∷ ks) js i e = or_right _ _ (named_later a ks js i e)
 
 -- an address that a further pair is not about
-pub named_other : (a : ℕ) (is : List (ℕ × ℕ)) (i : ℕ × ℕ) → a ≢ i.0 → is_named a (is ++ i ∷ []) ≡ is_named a is
+pub named_other : (a : ℕ) (is : List (ℕ × ℕ)) (i : ℕ × ℕ) → a ≢ i.0 → is_given_value a (is ++ i ∷ []) ≡ is_given_value a is
 named_other a [] i ne = or_from _ _ (ne_eqb a i.0 ne) refl
 named_other a (k ∷ ks) i ne = ap (λ b. (a == k.0) || b) (named_other a ks i ne)
 
-pub different-push : (is : List (ℕ × ℕ)) (i : ℕ × ℕ) → are_different is ≡ true → is_named i.0 is ≡ false → are_different (is ++ i ∷ []) ≡ true
+pub different-push : (is : List (ℕ × ℕ)) (i : ℕ × ℕ) → are_different is ≡ true → is_given_value i.0 is ≡ false → are_different (is ++ i ∷ []) ≡ true
 different-push [] i d h = refl
 different-push (k ∷ ks) i d h =
     let here = and_parts _ _ d in
@@ -37,14 +37,14 @@ different-push (k ∷ ks) i d h =
     and_from _ _ (ap not (named_other k.0 ks i (λ e. eqb-false _ _ new.0 (sym e))) ∙ here.0) (different-push ks i here.1 new.1)
 
 -- an address that a later pair names again
-pub different_not : (is js : List (ℕ × ℕ)) (i : ℕ × ℕ) → is_named i.0 is ≡ true → are_different (is ++ i ∷ js) ≡ false
+pub different_not : (is js : List (ℕ × ℕ)) (i : ℕ × ℕ) → is_given_value i.0 is ≡ true → are_different (is ++ i ∷ js) ≡ false
 different_not [] js i h = absurd (false≢true h)
 different_not (k ∷ ks) js i h = elim (or_cases _ _ h) [
   | inl e ↦ and_left _ _ (not_from_true _ (named_later k.0 ks js i (sym (eqb-true _ _ e))))
   | inr e ↦ and_right _ _ (different_not ks js i e)
 ]
 
-unnamed_at : (a : ℕ) (is : List (ℕ × ℕ)) (k : ℕ) (d : ℕ × ℕ) → k < length is → is_named a is ≡ false → a ≢ (get_or is k d).0
+unnamed_at : (a : ℕ) (is : List (ℕ × ℕ)) (k : ℕ) (d : ℕ × ℕ) → k < length is → is_given_value a is ≡ false → a ≢ (get_or is k d).0
 unnamed_at a [] k d lt h e = absurd (omega arith)
 unnamed_at a (i ∷ is) zero d lt h e = eqb-false _ _ (or_parts _ _ h).0 e
 unnamed_at a (i ∷ is) (suc k) d lt h e = unnamed_at a is k d (omega arith) (or_parts _ _ h).1 e
@@ -66,9 +66,9 @@ marked_none n marks size clear = record {
   words = All-nil _;
 }
 
-pub marked_more : (n : ℕ) (given : List (ℤ × ℤ)) (x : ℤ × ℤ) (marks : List Bool) (cells : List (ℕ × ℕ)) (c : ℕ × ℕ) → IsMarked n given marks cells → is_cell n x ≡ true → c ≡ cell_of x → c.0 < n → c.1 < 2 ^ 32 → get_or marks c.0 false ≡ false → IsMarked n (given ++ x ∷ []) (set marks c.0 true) (cells ++ c ∷ [])
+pub marked_more : (n : ℕ) (given : List (ℤ × ℤ)) (x : ℤ × ℤ) (marks : List Bool) (cells : List (ℕ × ℕ)) (c : ℕ × ℕ) → IsMarked n given marks cells → is_cell n x ≡ true → c ≡ initial_cell x → c.0 < n → c.1 < 2 ^ 32 → get_or marks c.0 false ≡ false → IsMarked n (given ++ x ∷ []) (set marks c.0 true) (cells ++ c ∷ [])
 marked_more n given x marks cells c m good is address word clear = record {
-  value = ap (λ cs. cs ++ c ∷ []) m.value ∙ (ap (λ i. cells_of given ++ i ∷ []) is ∙ sym (map-append cell_of given (x ∷ [])));
+  value = ap (λ cs. cs ++ c ∷ []) m.value ∙ (ap (λ i. cells_of given ++ i ∷ []) is ∙ sym (map-append initial_cell given (x ∷ [])));
   good = list_all-append (is_cell n) given (x ∷ []) ∙ and_from _ _ m.good (and_from _ _ good refl);
   different = different-push cells c m.different (sym (m.marked c.0 address) ∙ clear);
   size = length-set marks c.0 true ∙ m.size;
@@ -81,14 +81,14 @@ marked_more n given x marks cells c m good is address word clear = record {
 }
 
 -- the next of the given pairs isn't a cell, or its cell stands before it
-pub refused_at : (n : ℕ) (given : List (ℤ × ℤ)) (k : ℕ) (d : ℤ × ℤ) → k < length given → (is_cell n (get_or given k d) ≡ false) ⊎ (is_named (cell_of (get_or given k d)).0 (cells_of (take k given)) ≡ true) → are_initial n given ≡ false
+pub refused_at : (n : ℕ) (given : List (ℤ × ℤ)) (k : ℕ) (d : ℤ × ℤ) → k < length given → (is_cell n (get_or given k d) ≡ false) ⊎ (is_given_value (initial_cell (get_or given k d)).0 (cells_of (take k given)) ≡ true) → are_initial n given ≡ false
 refused_at n given k d lt (inl h) = and_left _ _ (list_all_at (is_cell n) given k d lt h)
 refused_at n given k d lt (inr h) =
     let whole : take k given ++ get_or given k d ∷ drop (k + 1) given ≡ given = rw (add-one, ← drop-cons given k d lt) (take-append-drop k given) in
-    let cells : cells_of given ≡ cells_of (take k given) ++ cell_of (get_or given k d) ∷ cells_of (drop (k + 1) given) = ap cells_of (sym whole) ∙ map-append cell_of (take k given) _ in
-    and_right _ _ (ap are_different cells ∙ different_not (cells_of (take k given)) (cells_of (drop (k + 1) given)) (cell_of (get_or given k d)) h)
+    let cells : cells_of given ≡ cells_of (take k given) ++ initial_cell (get_or given k d) ∷ cells_of (drop (k + 1) given) = ap cells_of (sym whole) ∙ map-append initial_cell (take k given) _ in
+    and_right _ _ (ap are_different cells ∙ different_not (cells_of (take k given)) (cells_of (drop (k + 1) given)) (initial_cell (get_or given k d)) h)
 
 -- a cell whose mark is set stands before
-pub named_again : (n : ℕ) (given : List (ℤ × ℤ)) (x : ℤ × ℤ) (marks : List Bool) (cells : List (ℕ × ℕ)) (c : ℕ × ℕ) → IsMarked n given marks cells → c ≡ cell_of x → c.0 < n → get_or marks c.0 false ≡ true → is_named (cell_of x).0 (cells_of given) ≡ true
+pub named_again : (n : ℕ) (given : List (ℤ × ℤ)) (x : ℤ × ℤ) (marks : List Bool) (cells : List (ℕ × ℕ)) (c : ℕ × ℕ) → IsMarked n given marks cells → c ≡ initial_cell x → c.0 < n → get_or marks c.0 false ≡ true → is_given_value (initial_cell x).0 (cells_of given) ≡ true
 named_again n given x marks cells c m is address set =
-    ap (λ (i : ℕ × ℕ). is_named i.0 (cells_of given)) (sym is) ∙ (ap (is_named c.0) (sym m.value) ∙ (sym (m.marked c.0 address) ∙ set))
+    ap (λ (i : ℕ × ℕ). is_given_value i.0 (cells_of given)) (sym is) ∙ (ap (is_given_value c.0) (sym m.value) ∙ (sym (m.marked c.0 address) ∙ set))

@@ -5,7 +5,7 @@ use Rattle.std.specs.List.{filter, AllByRecursion}
 use Rattle.std.proofs.lemmas.Bool.{eqb-true}
 use Rattle.ultra_msg.specs.declared.Request.{Request}
 use Rattle.ultra_msg.specs.declared.ReplyMessage.{ReplyMessage}
-use Rattle.ultra_switch.specs.declared.Entry.{Entry}
+use Rattle.ultra_switch.specs.declared.QueueEntry.{QueueEntry}
 use Rattle.ultra_switch.specs.declared.WaitRecord.{WaitRecord}
 use Rattle.ultra_switch.specs.Arrive.{Lane, Combination, entry, behind, can_combine, wait_record, combine, combine_within, combined_entry, after_arrival, arrive}
 use Rattle.ultra_switch.specs.Split.{is_of, records_after, replies_of, old_reply, new_reply}
@@ -29,13 +29,13 @@ pub each-closed : (P : OpenCell → Type 0) (a : ℕ) (os : List OpenCell) → A
 each-closed P a [] h = tt
 each-closed P a (o ∷ os) h = if_tested (o.cell == a) (λ xs. AllByRecursion P xs) os (o ∷ closed a os) (λ z. h.1) (λ z. (h.0, each-closed P a os h.1))
 
-pub some-request : (P : Request → Type 0) (o : Option Entry) → IfSome o (λ e. P e.request) → IfSome (request_of o) P
+pub some-request : (P : Request → Type 0) (o : Option QueueEntry) → IfSome o (λ e. P e.request) → IfSome (request_of o) P
 some-request P None h = tt
 some-request P (Some e) h = h
 
 module _ (Q : ℕ → ℕ → Type 0) where
-  abbrev pub Entries : List Entry → Type 0
-  Entries es = AllByRecursion (λ (e : Entry). Q e.request.pe e.request.cell) es
+  abbrev pub Entries : List QueueEntry → Type 0
+  Entries es = AllByRecursion (λ (e : QueueEntry). Q e.request.pe e.request.cell) es
 
   abbrev pub Records : List WaitRecord → Type 0
   Records ws = AllByRecursion (λ (w : WaitRecord). Q w.pe w.cell × Q w.partner w.cell) ws
@@ -50,11 +50,11 @@ module _ (Q : ℕ → ℕ → Type 0) where
   abbrev CombinesWell : Request → Option Combination → Type 0
   CombinesWell r o = IfSome o (λ c. Entries c.queue × Q c.old.request.pe c.old.request.cell × (c.old.request.cell ≡ r.cell))
 
-  behind_well : (e : Entry) (r : Request) (o : Option Combination) → Q e.request.pe e.request.cell → CombinesWell r o → CombinesWell r (behind e o)
+  behind_well : (e : QueueEntry) (r : Request) (o : Option Combination) → Q e.request.pe e.request.cell → CombinesWell r o → CombinesWell r (behind e o)
   behind_well e r None q h = tt
   behind_well e r (Some c) q h = ((q, h.0), h.1, h.2)
 
-  combine_well : (r : Request) (es : List Entry) → Entries es → CombinesWell r (combine r es)
+  combine_well : (r : Request) (es : List QueueEntry) → Entries es → CombinesWell r (combine r es)
   combine_well r [] h = tt
   combine_well r (e ∷ es) h =
       if_tested (can_combine r e) (λ o. CombinesWell r o) (Some record { queue = combined_entry e r ∷ es; old = e }) (behind e (combine r es))
@@ -65,7 +65,7 @@ module _ (Q : ℕ → ℕ → Type 0) where
   within_well w l r h = if_tested (nat_lt (length l.records) w) (λ o. CombinesWell r o) (combine r l.queue) None (λ z. combine_well r l.queue h) (λ z. tt)
 
   arrived_well : (l : Lane) (r : Request) (o : Option Combination) → Entries l.queue → Records l.records → Q r.pe r.cell → CombinesWell r o → Entries (after_arrival l r o).queue × Records (after_arrival l r o).records
-  arrived_well l r None h g q k = (each-append (λ (e : Entry). Q e.request.pe e.request.cell) l.queue (entry r false ∷ []) h (q, tt), g)
+  arrived_well l r None h g q k = (each-append (λ (e : QueueEntry). Q e.request.pe e.request.cell) l.queue (entry r false ∷ []) h (q, tt), g)
   arrived_well l r (Some c) h g q k =
       let partner : Q r.pe c.old.request.cell = subst (λ a. Q r.pe a) (sym k.2) q in
       (k.0, each-append (λ (w : WaitRecord). Q w.pe w.cell × Q w.partner w.cell) l.records (wait_record c.old r ∷ []) g ((k.1, partner), tt))

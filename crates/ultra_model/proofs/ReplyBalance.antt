@@ -3,28 +3,28 @@ use Rattle.std.proofs.Common.{◌≡◌, ℕ, zero, suc, ◌+◌, ◌-◌, ◌*�
 use Rattle.std.specs.Prelude.{Option, Some, None, IfSome, slice_get, ◌==◌}
 use Rattle.ultra_msg.specs.declared.ReplyMessage.{ReplyMessage}
 use Rattle.ultra_route.specs.Route.{shuffled, unshuffled, bit_of}
-use Rattle.ultra_mem.specs.Serve.{Bank}
+use Rattle.ultra_mem.specs.Serve.{ModuleState}
 use Rattle.ultra_pni.specs.declared.OpenCell.{OpenCell}
 use Rattle.ultra_pni.specs.Interface.{closed}
 use Rattle.ultra_model.specs.Places.{after_leaving}
-use Rattle.ultra_model.specs.Machine.{Settings, Machine, Element, size, last_stage, lane_at, replies_at, bank_at, element_at, reply_exit}
+use Rattle.ultra_model.specs.Machine.{Settings, Machine, Element, size, last_stage, lane_at, replies_at, module_at, element_at, reply_exit}
 use Rattle.ultra_model.specs.Phases.{deliver, delivered, without_reply, replies_made, arriving_reply, reply_before, has_reply_room, leaving_reply, replies_at_exit, reply_phase}
 use Rattle.ultra_model.specs.Ranges.{AreInRange}
 use Rattle.ultra_model.specs.Routed.{IsReference, IsRouted}
-use Rattle.ultra_model.specs.Balance.{weight, count, count_option, total, reply_passes, lane_on_way, replies_on_way, bank_on_way, pending_on_way, opened_by, on_way, all_opened, IsBalanced}
+use Rattle.ultra_model.specs.Balance.{weight, count, count_option, total, reply_passes, lane_on_way, replies_on_way, module_on_way, pending_on_way, opened_by, on_way, all_opened, IsBalanced}
 use Rattle.ultra_model.proofs.Sums.{total_next, total_front, total_same, total_plus, total_only, total_pairs, total_unshuffled, total_shuffled, table_same, table_plus, table_term}
 use Rattle.ultra_model.proofs.Neighbours.{next_is, itself, other, one_neighbour, even_half, odd_half}
 use Rattle.ultra_model.proofs.Counting.{count-append, count-leaving, count-filters, is_reference, none_false, head_counted, some_known, made_way, closed_way}
 use Rattle.ultra_model.proofs.Routes.{turns_back, delivered_well}
-use Rattle.ultra_model.proofs.AtPlaces.{lane-reply_phase, replies-reply_phase, bank-reply_phase, element-reply_phase}
+use Rattle.ultra_model.proofs.AtPlaces.{lane-reply_phase, replies-reply_phase, memory_module-reply_phase, element-reply_phase}
 use Rattle.ultra_route.proofs.Table.{sizes}
 
 module _ (t : ℕ → ℕ → Bool) where
   -- the reply that leaves a module is one message less there
-  left_bank : (b : Bank) (o : Option ReplyMessage) → (o ≡ b.out) ⊎ (o ≡ None) → bank_on_way t (without_reply b o) + count_option (reply_passes t) o ≡ bank_on_way t b
-  left_bank b None e = omega arith
-  left_bank b (Some r) (inl e) = rw (← e) (omega arith)
-  left_bank b (Some r) (inr e) = absurd cc
+  left_module : (b : ModuleState) (o : Option ReplyMessage) → (o ≡ b.out) ⊎ (o ≡ None) → module_on_way t (without_reply b o) + count_option (reply_passes t) o ≡ module_on_way t b
+  left_module b None e = omega arith
+  left_module b (Some r) (inl e) = rw (← e) (omega arith)
+  left_module b (Some r) (inr e) = absurd cc
 
   delivered_pending : (e : Element) (o : Option ReplyMessage) → pending_on_way t (deliver e o) ≡ pending_on_way t e
   delivered_pending e None = refl
@@ -45,15 +45,15 @@ module _ (c : Settings) (range : AreInRange c) (m : Machine) where
   either_or_none true x y e = inl e
   either_or_none false x y e = inr refl
 
-  pub before_at_last : (s k : ℕ) → s ≡ last_stage c → reply_before c m s k ≡ (bank_at m k).out
+  pub before_at_last : (s k : ℕ) → s ≡ last_stage c → reply_before c m s k ≡ (module_at m k).out
   before_at_last s k e =
-      let f : Bool → Option ReplyMessage = λ b. elim b [ true ↦ (bank_at m k).out | false ↦ slice_get (replies_at m (s + 1) (shuffled c.stages k)) 0 ] in
+      let f : Bool → Option ReplyMessage = λ b. elim b [ true ↦ (module_at m k).out | false ↦ slice_get (replies_at m (s + 1) (shuffled c.stages k)) 0 ] in
       let here : (s == last_stage c) ≡ true = rw e (itself (last_stage c)) in
       ap f here
 
   pub before_below : (s x : ℕ) → s < last_stage c → reply_before c m s x ≡ slice_get (replies_at m (s + 1) (shuffled c.stages x)) 0
   before_below s x h =
-      let f : Bool → Option ReplyMessage = λ b. elim b [ true ↦ (bank_at m x).out | false ↦ slice_get (replies_at m (s + 1) (shuffled c.stages x)) 0 ] in
+      let f : Bool → Option ReplyMessage = λ b. elim b [ true ↦ (module_at m x).out | false ↦ slice_get (replies_at m (s + 1) (shuffled c.stages x)) 0 ] in
       ap f (other s (last_stage c) (omega arith))
 
   pub arriving_from : (s x : ℕ) (o : Option ReplyMessage) → reply_before c m s x ≡ o → (arriving_reply c m s x ≡ o) ⊎ (arriving_reply c m s x ≡ None)
@@ -163,13 +163,13 @@ module _ (c : Settings) (range : AreInRange c) (m : Machine) where
         let exit : total c.stages (λ s. total (size c) (λ y. exits_at s y)) ≡ total c.stages (λ s. total (size c) (λ x. made s x)) = total_same c.stages _ _ (λ s l. exits_all s) in
         omega (arith, after, before, each, exit)
 
-    pub all_banks : total (size c) (λ k. bank_on_way t (bank_at (reply_phase c m) k)) + total (size c) (λ k. arriving (last_stage c) k) ≡ total (size c) (λ k. bank_on_way t (bank_at m k))
-    all_banks =
-        let after = total_plus (size c) (λ k. bank_on_way t (bank_at (reply_phase c m) k)) (λ k. arriving (last_stage c) k) in
-        let each : total (size c) (λ k. bank_on_way t (bank_at (reply_phase c m) k) + arriving (last_stage c) k) ≡ total (size c) (λ k. bank_on_way t (bank_at m k)) =
+    pub all_modules : total (size c) (λ k. module_on_way t (module_at (reply_phase c m) k)) + total (size c) (λ k. arriving (last_stage c) k) ≡ total (size c) (λ k. module_on_way t (module_at m k))
+    all_modules =
+        let after = total_plus (size c) (λ k. module_on_way t (module_at (reply_phase c m) k)) (λ k. arriving (last_stage c) k) in
+        let each : total (size c) (λ k. module_on_way t (module_at (reply_phase c m) k) + arriving (last_stage c) k) ≡ total (size c) (λ k. module_on_way t (module_at m k)) =
         total_same (size c) _ _ (λ k h.
-        rw (bank-reply_phase c m k h)
-        (left_bank t (bank_at m k) (arriving_reply c m (last_stage c) k) (arriving_from (last_stage c) k (bank_at m k).out (before_at_last (last_stage c) k refl)))) in
+        rw (memory_module-reply_phase c m k h)
+        (left_module t (module_at m k) (arriving_reply c m (last_stage c) k) (arriving_from (last_stage c) k (module_at m k).out (before_at_last (last_stage c) k refl)))) in
         sym after ∙ each
 
     pub all_pending : total (size c) (λ p. pending_on_way t (element_at (reply_phase c m) p)) ≡ total (size c) (λ p. pending_on_way t (element_at m p))
@@ -180,7 +180,7 @@ module _ (c : Settings) (range : AreInRange c) (m : Machine) where
 
     -- a message less for each delivery
     pub on_way-reply_phase : on_way t c (reply_phase c m) + total (size c) (λ p. count_option (reply_passes t) (delivered c m p)) ≡ on_way t c m
-    on_way-reply_phase = omega (arith, all_arriving, all_leaving, all_lanes, all_queues, all_banks, all_pending, all_delivered)
+    on_way-reply_phase = omega (arith, all_arriving, all_leaving, all_lanes, all_queues, all_modules, all_pending, all_delivered)
 
   -- ---- a delivered cell is open
   -- the open cells counted by the test for one reference are those of the one processing element

@@ -5,35 +5,35 @@ use Rattle.std.proofs.lemmas.Bool.{eqb-true}
 use Rattle.ultra_msg.specs.declared.Request.{Request}
 use Rattle.ultra_route.specs.Route.{shuffled, unshuffled, bit_of}
 use Rattle.ultra_route.proofs.Table.{sizes}
-use Rattle.ultra_switch.specs.declared.Entry.{Entry}
+use Rattle.ultra_switch.specs.declared.QueueEntry.{QueueEntry}
 use Rattle.ultra_switch.specs.Queues.{request_of}
 use Rattle.ultra_mem.specs.declared.Placed.{Placed}
-use Rattle.ultra_mem.specs.Serve.{Bank}
+use Rattle.ultra_mem.specs.Serve.{ModuleState}
 use Rattle.ultra_model.specs.Places.{after_leaving}
-use Rattle.ultra_model.specs.Machine.{Settings, Machine, size, last_stage, lane_at, replies_at, bank_at, element_at, request_exit}
+use Rattle.ultra_model.specs.Machine.{Settings, Machine, size, last_stage, lane_at, replies_at, module_at, element_at, request_exit}
 use Rattle.ultra_model.specs.Phases.{has_request_room, request_before, admitted, arriving_request, entering, with_request, leaving_request, requests_by, arrivals_by, arrivals, lane_after_leaving, request_phase}
 use Rattle.ultra_model.specs.Ranges.{AreInRange}
-use Rattle.ultra_model.specs.Balance.{weight, count, count_option, total, passes, entry_passes, lane_on_way, replies_on_way, bank_on_way, pending_on_way, on_way, all_opened, IsBalanced}
+use Rattle.ultra_model.specs.Balance.{weight, count, count_option, total, passes, entry_passes, lane_on_way, replies_on_way, module_on_way, pending_on_way, on_way, all_opened, IsBalanced}
 use Rattle.ultra_model.proofs.Each.{if_tested}
 use Rattle.ultra_model.proofs.Sums.{total_next, total_front, total_same, total_plus, total_pairs, total_shuffled, table_same, table_plus}
 use Rattle.ultra_model.proofs.Counting.{count-append, count-leaving, arrive_all_way}
 use Rattle.ultra_model.proofs.Routes.{turns_back}
 use Rattle.ultra_model.proofs.Neighbours.{next_is, itself, other, one_neighbour, even_half, odd_half}
 use Rattle.ultra_model.proofs.ReplyBalance.{last_next}
-use Rattle.ultra_model.proofs.AtPlaces.{lane-request_phase, bank-request_phase, element-request_phase}
+use Rattle.ultra_model.proofs.AtPlaces.{lane-request_phase, memory_module-request_phase, element-request_phase}
 
 module _ (t : ℕ → ℕ → Bool) where
   -- what leaves a queue toward memory is its first or nothing
-  count-leaving_request : (o : Option Request) (q : List Entry) → (o ≡ request_of (slice_get q 0)) ⊎ (o ≡ None) → count_option (passes t) o + count (entry_passes t) (after_leaving o q) ≡ count (entry_passes t) q
+  count-leaving_request : (o : Option Request) (q : List QueueEntry) → (o ≡ request_of (slice_get q 0)) ⊎ (o ≡ None) → count_option (passes t) o + count (entry_passes t) (after_leaving o q) ≡ count (entry_passes t) q
   count-leaving_request o [] (inl e) = rw e (omega arith)
   count-leaving_request o (x ∷ xs) (inl e) = rw e refl
   count-leaving_request o q (inr e) = rw e (omega arith)
 
-  entered_bank : (c : Settings) (b : Bank) (i : Option Placed) (o : Option Request) → b.inp ≡ i
-      → bank_on_way t (with_request c b (elim i [ None ↦ o | Some r ↦ None ])) ≡ bank_on_way t b + count_option (passes t) (elim i [ None ↦ o | Some r ↦ None ])
-  entered_bank c b (Some p) o e = omega arith
-  entered_bank c b None None e = omega arith
-  entered_bank c b None (Some r) e = rw e (omega arith)
+  entered_module : (c : Settings) (b : ModuleState) (i : Option Placed) (o : Option Request) → b.inp ≡ i
+      → module_on_way t (with_request c b (elim i [ None ↦ o | Some r ↦ None ])) ≡ module_on_way t b + count_option (passes t) (elim i [ None ↦ o | Some r ↦ None ])
+  entered_module c b (Some p) o e = omega arith
+  entered_module c b None None e = omega arith
+  entered_module c b None (Some r) e = rw e (omega arith)
 
   in_either_order : (b : Bool) (xs ys : List Request) → count (passes t) (elim b [ true ↦ xs ++ ys | false ↦ ys ++ xs ]) ≡ count (passes t) xs + count (passes t) ys
   in_either_order true xs ys = count-append (passes t) xs ys
@@ -87,7 +87,7 @@ module _ (c : Settings) (range : AreInRange c) (m : Machine) where
   leaving_head s x hs hx =
       if_tested (s == last_stage c) (λ o. IsHeadOrNone s x o) (entering c m x) (arriving_request c m (s + 1) (shuffled c.stages x))
       (λ z. let e : s ≡ last_stage c = eqb-true s (last_stage c) z in
-      subst (λ n. IsHeadOrNone n x (entering c m x)) (sym e) (entering_or_none (bank_at m x).inp (request_of (slice_get (lane_at m (last_stage c) x).queue 0))))
+      subst (λ n. IsHeadOrNone n x (entering c m x)) (sym e) (entering_or_none (module_at m x).inp (request_of (slice_get (lane_at m (last_stage c) x).queue 0))))
       (λ z. arriving_from (s + 1) (shuffled c.stages x) (request_of (slice_get (lane_at m s x).queue 0)) (before_next s x hx))
 
   module _ (t : ℕ → ℕ → Bool) where
@@ -162,10 +162,10 @@ module _ (c : Settings) (range : AreInRange c) (m : Machine) where
         let come : total c.stages (λ s. total (size c) (λ x. arrivals_at s x)) ≡ total c.stages (λ s. total (size c) (λ y. arriving s y)) = total_same c.stages _ _ (λ s l. arrivals_all s) in
         omega (arith, after, before, each, come)
 
-    pub all_banks : total (size c) (λ k. bank_on_way t (bank_at (request_phase c m) k)) ≡ total (size c) (λ k. bank_on_way t (bank_at m k)) + total (size c) enters
-    all_banks =
-        total_same (size c) _ _ (λ k h. rw (bank-request_phase c m k h) (entered_bank t c (bank_at m k) (bank_at m k).inp (request_of (slice_get (lane_at m (last_stage c) k).queue 0)) refl))
-        ∙ total_plus (size c) (λ k. bank_on_way t (bank_at m k)) enters
+    pub all_modules : total (size c) (λ k. module_on_way t (module_at (request_phase c m) k)) ≡ total (size c) (λ k. module_on_way t (module_at m k)) + total (size c) enters
+    all_modules =
+        total_same (size c) _ _ (λ k h. rw (memory_module-request_phase c m k h) (entered_module t c (module_at m k) (module_at m k).inp (request_of (slice_get (lane_at m (last_stage c) k).queue 0)) refl))
+        ∙ total_plus (size c) (λ k. module_on_way t (module_at m k)) enters
 
     pub all_pending : total (size c) (λ p. pending_on_way t (element_at (request_phase c m) p)) + total (size c) (λ y. arriving 0 y) ≡ total (size c) (λ p. pending_on_way t (element_at m p))
     all_pending =
@@ -184,7 +184,7 @@ module _ (c : Settings) (range : AreInRange c) (m : Machine) where
 
     -- as many messages as before
     pub on_way-request_phase : on_way t c (request_phase c m) ≡ on_way t c m
-    on_way-request_phase = omega (arith, all_arriving, all_leaving, all_lanes, all_banks, all_pending, all_replies)
+    on_way-request_phase = omega (arith, all_arriving, all_leaving, all_lanes, all_modules, all_pending, all_replies)
 
     pub all_opened_as_before : all_opened t c (request_phase c m) ≡ all_opened t c m
     all_opened_as_before = total_same (size c) _ _ (λ p h. rw (element-request_phase c m p h) refl)

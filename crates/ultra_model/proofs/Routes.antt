@@ -9,21 +9,21 @@ use Rattle.ultra_msg.specs.declared.Request.{Request}
 use Rattle.ultra_msg.specs.declared.ReplyMessage.{ReplyMessage}
 use Rattle.ultra_route.specs.Route.{shuffled, unshuffled, line_of}
 use Rattle.ultra_route.proofs.Table.{turn, Turn, back, Back, ends, sizes}
-use Rattle.ultra_switch.specs.declared.Entry.{Entry}
+use Rattle.ultra_switch.specs.declared.QueueEntry.{QueueEntry}
 use Rattle.ultra_switch.specs.Queues.{request_of}
 use Rattle.ultra_mem.specs.declared.Placed.{Placed}
-use Rattle.ultra_mem.specs.Serve.{Bank, after_serving, serve}
+use Rattle.ultra_mem.specs.Serve.{ModuleState, after_serving, serve}
 use Rattle.ultra_pni.specs.declared.OpenCell.{OpenCell}
 use Rattle.ultra_pni.specs.Interface.{Interface}
 use Rattle.ultra_isa.specs.declared.Instr.{Instr}
 use Rattle.ultra_isa.proofs.Steps.{SendsInto, step_is}
-use Rattle.ultra_model.specs.Machine.{Settings, Machine, Element, size, last_stage, site, start, lane_at, replies_at, bank_at, element_at, reply_exit, request_exit}
+use Rattle.ultra_model.specs.Machine.{Settings, Machine, Element, size, last_stage, site, start, lane_at, replies_at, module_at, element_at, reply_exit, request_exit}
 use Rattle.ultra_model.specs.Phases.{deliver, delivered, without_reply, replies_made, arriving_reply, reply_before, has_reply_room, leaving_reply, replies_at_exit, next_replies, reply_phase, memory_phase, has_request_room, request_before, admitted, arriving_request, entering, with_request, requests_by, arrivals, lane_after_leaving, leaving_request, next_lane, request_phase, step_at, processor_phase}
 use Rattle.ultra_model.specs.Ranges.{AreInRange}
 use Rattle.ultra_model.specs.Routed.{IsReference, module_of, IsByLine, IsByEntry, IsAtModule, IsEntryAt, IsRecordAt, IsReplyAt, IsPlacedAt, IsReplyOf, IsOwn, IsRouted}
 use Rattle.ultra_model.proofs.Each.{each-append, each-after_leaving, each-first, some-weaker, if_tested}
 use Rattle.ultra_model.proofs.OnRoute.{each-filter, each-closed, some-request, Requests, Replies, arrive_all_well, records_left_well, replies_made_well}
-use Rattle.ultra_model.proofs.AtPlaces.{lane-start, replies-start, bank-start, element-start, lane-reply_phase, replies-reply_phase, bank-reply_phase, element-reply_phase, bank-memory_phase, lane-request_phase, bank-request_phase, element-request_phase, element-processor_phase}
+use Rattle.ultra_model.proofs.AtPlaces.{lane-start, replies-start, memory_module-start, element-start, lane-reply_phase, replies-reply_phase, memory_module-reply_phase, element-reply_phase, memory_module-memory_phase, lane-request_phase, memory_module-request_phase, element-request_phase, element-processor_phase}
 
 not_zero : (s : ℕ) → (s == 0) ≡ false → 1 ≤ s
 not_zero s h = grind (arith, nat_tests)
@@ -89,7 +89,7 @@ module _ (c : Settings) (range : AreInRange c) where
     before_reply : (s x : ℕ) → s < c.stages → x < size c → IfSome (reply_before c m s x) (λ r. IsByLine c s x r.pe r.cell)
     before_reply s x hs hx =
         if_tested (s == last_stage c) (λ o. IfSome o (λ (r : ReplyMessage). IsByLine c s x r.pe r.cell)) _ _
-        (λ z. some-weaker (IsReplyOf c x) (λ (r : ReplyMessage). IsByLine c s x r.pe r.cell) (bank_at m x).out (λ r k. module-at_last s x r.pe r.cell (eqb-true s (last_stage c) z) k) (w.outputs x hx))
+        (λ z. some-weaker (IsReplyOf c x) (λ (r : ReplyMessage). IsByLine c s x r.pe r.cell) (module_at m x).out (λ r k. module-at_last s x r.pe r.cell (eqb-true s (last_stage c) z) k) (w.outputs x hx))
         (λ z. let some = range.some_stages in
         let less : s < last_stage c = not_equal s (last_stage c) z (omega arith) in
         let next : s + 1 < c.stages = omega arith in
@@ -146,7 +146,7 @@ module _ (c : Settings) (range : AreInRange c) where
         (λ z. let one : 1 ≤ s = not_zero s z in
         let same : s - 1 + 1 ≡ s = omega arith in
         some-request (λ (r : Request). IsByEntry c s y r.pe r.cell) (slice_get (lane_at m (s - 1) x).queue 0)
-        (some-weaker (IsEntryAt c (s - 1) x) (λ (e : Entry). IsByEntry c s y e.request.pe e.request.cell) (slice_get (lane_at m (s - 1) x).queue 0)
+        (some-weaker (IsEntryAt c (s - 1) x) (λ (e : QueueEntry). IsByEntry c s y e.request.pe e.request.cell) (slice_get (lane_at m (s - 1) x).queue 0)
         (λ e k. subst (λ (n : ℕ). IsByEntry c n y e.request.pe e.request.cell) same (entry-from_line (s - 1) x y e.request.pe e.request.cell refl hy k))
         (each-first (IsEntryAt c (s - 1) x) (lane_at m (s - 1) x).queue (w.requests (s - 1) x (omega arith) b.line_small))))
 
@@ -184,7 +184,7 @@ module _ (c : Settings) (range : AreInRange c) where
     head_at k h =
         let some = range.some_stages in
         some-request (λ (r : Request). IsAtModule c k r.pe r.cell) (slice_get (lane_at m (last_stage c) k).queue 0)
-        (some-weaker (IsEntryAt c (last_stage c) k) (λ (e : Entry). IsAtModule c k e.request.pe e.request.cell) (slice_get (lane_at m (last_stage c) k).queue 0)
+        (some-weaker (IsEntryAt c (last_stage c) k) (λ (e : QueueEntry). IsAtModule c k e.request.pe e.request.cell) (slice_get (lane_at m (last_stage c) k).queue 0)
         (λ e l. line-at_last (last_stage c) k e.request.pe e.request.cell refl l)
         (each-first (IsEntryAt c (last_stage c) k) (lane_at m (last_stage c) k).queue (w.requests (last_stage c) k (omega arith) h)))
 
@@ -193,7 +193,7 @@ module _ (c : Settings) (range : AreInRange c) where
     entering_if k (Some p) o h = tt
 
     pub entering_well : (k : ℕ) → k < size c → IfSome (entering c m k) (λ r. IsAtModule c k r.pe r.cell)
-    entering_well k h = entering_if k (bank_at m k).inp (request_of (slice_get (lane_at m (last_stage c) k).queue 0)) (head_at k h)
+    entering_well k h = entering_if k (module_at m k).inp (request_of (slice_get (lane_at m (last_stage c) k).queue 0)) (head_at k h)
 
   -- ---- units
   offset_within : (k p a : ℕ) → IsAtModule c k p a → a / size c < c.cells
@@ -206,29 +206,29 @@ module _ (c : Settings) (range : AreInRange c) where
   pub placed_within : (k : ℕ) (p : Placed) → IsPlacedAt c k p → p.offset < c.cells
   placed_within k p w = rw w.1 (offset_within k p.request.pe p.request.cell w.0)
 
-  with_request_well : (k : ℕ) (b : Bank) (o : Option Request) → IfSome b.inp (IsPlacedAt c k) → IfSome o (λ r. IsAtModule c k r.pe r.cell) → IfSome (with_request c b o).inp (IsPlacedAt c k)
+  with_request_well : (k : ℕ) (b : ModuleState) (o : Option Request) → IfSome b.inp (IsPlacedAt c k) → IfSome o (λ r. IsAtModule c k r.pe r.cell) → IfSome (with_request c b o).inp (IsPlacedAt c k)
   with_request_well k b None h g = h
   with_request_well k b (Some r) h g = (g, refl)
 
-  with_request_output : (k : ℕ) (b : Bank) (o : Option Request) → IfSome b.out (IsReplyOf c k) → IfSome (with_request c b o).out (IsReplyOf c k)
+  with_request_output : (k : ℕ) (b : ModuleState) (o : Option Request) → IfSome b.out (IsReplyOf c k) → IfSome (with_request c b o).out (IsReplyOf c k)
   with_request_output k b None h = h
   with_request_output k b (Some r) h = h
 
-  without_reply_input : (k : ℕ) (b : Bank) (o : Option ReplyMessage) → IfSome b.inp (IsPlacedAt c k) → IfSome (without_reply b o).inp (IsPlacedAt c k)
+  without_reply_input : (k : ℕ) (b : ModuleState) (o : Option ReplyMessage) → IfSome b.inp (IsPlacedAt c k) → IfSome (without_reply b o).inp (IsPlacedAt c k)
   without_reply_input k b None h = h
   without_reply_input k b (Some r) h = h
 
-  without_reply_output : (k : ℕ) (b : Bank) (o : Option ReplyMessage) → IfSome b.out (IsReplyOf c k) → IfSome (without_reply b o).out (IsReplyOf c k)
+  without_reply_output : (k : ℕ) (b : ModuleState) (o : Option ReplyMessage) → IfSome b.out (IsReplyOf c k) → IfSome (without_reply b o).out (IsReplyOf c k)
   without_reply_output k b None h = h
   without_reply_output k b (Some r) h = tt
 
-  served_well : (k : ℕ) (b : Bank) (i : Option Placed) (o : Option ReplyMessage) → b.inp ≡ i → b.out ≡ o → IfSome i (IsPlacedAt c k) → IfSome o (IsReplyOf c k)
+  served_well : (k : ℕ) (b : ModuleState) (i : Option Placed) (o : Option ReplyMessage) → b.inp ≡ i → b.out ≡ o → IfSome i (IsPlacedAt c k) → IfSome o (IsReplyOf c k)
       → let s = after_serving b (elim o [ None ↦ i | Some r ↦ None ]) in IfSome s.inp (IsPlacedAt c k) × IfSome s.out (IsReplyOf c k)
   served_well k b i (Some r) e f h g = (rw e h, rw f g)
   served_well k b None None e f h g = (rw e tt, rw f tt)
   served_well k b (Some p) None e f h g = (tt, h.0)
 
-  serve_well : (k : ℕ) (b : Bank) → IfSome b.inp (IsPlacedAt c k) → IfSome b.out (IsReplyOf c k) → IfSome (serve b).inp (IsPlacedAt c k) × IfSome (serve b).out (IsReplyOf c k)
+  serve_well : (k : ℕ) (b : ModuleState) → IfSome b.inp (IsPlacedAt c k) → IfSome b.out (IsReplyOf c k) → IfSome (serve b).inp (IsPlacedAt c k) × IfSome (serve b).out (IsReplyOf c k)
   serve_well k b h g = served_well k b b.inp b.out refl refl h g
 
   abbrev Within : OpenCell → Type 0
@@ -256,8 +256,8 @@ module _ (c : Settings) (range : AreInRange c) where
     requests = λ s x hs hx. rw (lane-start c s x hs hx) tt;
     records = λ s x hs hx. rw (lane-start c s x hs hx) tt;
     replies = λ s y hs hy. rw (replies-start c s y hs hy) tt;
-    inputs = λ k h. rw (bank-start c k h) tt;
-    outputs = λ k h. rw (bank-start c k h) tt;
+    inputs = λ k h. rw (memory_module-start c k h) tt;
+    outputs = λ k h. rw (memory_module-start c k h) tt;
     pending = λ p h. rw (element-start c p h) tt;
     opened = λ p h. rw (element-start c p h) tt;
   }
@@ -267,8 +267,8 @@ module _ (c : Settings) (range : AreInRange c) where
     requests = λ s x hs hx. rw (lane-reply_phase c m s x hs hx) (w.requests s x hs hx);
     records = λ s x hs hx. rw (lane-reply_phase c m s x hs hx) (records_left_well (IsByLine c s x) (lane_at m s x).records (arriving_reply c m s x) (w.records s x hs hx));
     replies = λ s y hs hy. rw (replies-reply_phase c m s y hs hy) (next_replies_well m w s y hs hy);
-    inputs = λ k h. rw (bank-reply_phase c m k h) (without_reply_input k (bank_at m k) (arriving_reply c m (last_stage c) k) (w.inputs k h));
-    outputs = λ k h. rw (bank-reply_phase c m k h) (without_reply_output k (bank_at m k) (arriving_reply c m (last_stage c) k) (w.outputs k h));
+    inputs = λ k h. rw (memory_module-reply_phase c m k h) (without_reply_input k (module_at m k) (arriving_reply c m (last_stage c) k) (w.inputs k h));
+    outputs = λ k h. rw (memory_module-reply_phase c m k h) (without_reply_output k (module_at m k) (arriving_reply c m (last_stage c) k) (w.outputs k h));
     pending = λ p h. rw (element-reply_phase c m p h) (deliver_pending p (element_at m p) (delivered c m p) (w.pending p h));
     opened = λ p h. rw (element-reply_phase c m p h) (deliver_opened (element_at m p) (delivered c m p) (w.opened p h));
   }
@@ -279,8 +279,8 @@ module _ (c : Settings) (range : AreInRange c) where
     requests = w.requests;
     records = w.records;
     replies = w.replies;
-    inputs = λ k h. rw (bank-memory_phase c m k h) (serve_well k (bank_at m k) (w.inputs k h) (w.outputs k h)).0;
-    outputs = λ k h. rw (bank-memory_phase c m k h) (serve_well k (bank_at m k) (w.inputs k h) (w.outputs k h)).1;
+    inputs = λ k h. rw (memory_module-memory_phase c m k h) (serve_well k (module_at m k) (w.inputs k h) (w.outputs k h)).0;
+    outputs = λ k h. rw (memory_module-memory_phase c m k h) (serve_well k (module_at m k) (w.inputs k h) (w.outputs k h)).1;
     pending = w.pending;
     opened = w.opened;
   }
@@ -291,8 +291,8 @@ module _ (c : Settings) (range : AreInRange c) where
     requests = λ s x hs hx. rw (lane-request_phase c m s x hs hx) (lane_well m w s x hs hx).0;
     records = λ s x hs hx. rw (lane-request_phase c m s x hs hx) (lane_well m w s x hs hx).1;
     replies = w.replies;
-    inputs = λ k h. rw (bank-request_phase c m k h) (with_request_well k (bank_at m k) (entering c m k) (w.inputs k h) (entering_well m w k h));
-    outputs = λ k h. rw (bank-request_phase c m k h) (with_request_output k (bank_at m k) (entering c m k) (w.outputs k h));
+    inputs = λ k h. rw (memory_module-request_phase c m k h) (with_request_well k (module_at m k) (entering c m k) (w.inputs k h) (entering_well m w k h));
+    outputs = λ k h. rw (memory_module-request_phase c m k h) (with_request_output k (module_at m k) (entering c m k) (w.outputs k h));
     pending = λ p h. rw (element-request_phase c m p h) (each-after_leaving (IsOwn c p) (arriving_request c m 0 (shuffled c.stages p)) (element_at m p).interface.pending (w.pending p h));
     opened = λ p h. rw (element-request_phase c m p h) (w.opened p h);
   }

@@ -8,14 +8,14 @@ use Rattle.ultra_msg.specs.declared.Reply.{Reply}
 use Rattle.ultra_msg.specs.declared.ReplyMessage.{ReplyMessage}
 use Rattle.ultra_msg.specs.declared.Event.{Event}
 use Rattle.ultra_msg.specs.declared.Event.TheVariants.{Delivered, Served, Combined, Issued}
-use Rattle.ultra_switch.specs.declared.Entry.{Entry}
+use Rattle.ultra_switch.specs.declared.QueueEntry.{QueueEntry}
 use Rattle.ultra_switch.specs.declared.WaitRecord.{WaitRecord}
 use Rattle.ultra_switch.specs.Arrive.{Lane, entry}
 use Rattle.ultra_mem.specs.declared.Placed.{Placed}
-use Rattle.ultra_mem.specs.Serve.{Bank}
+use Rattle.ultra_mem.specs.Serve.{ModuleState}
 use Rattle.ultra_isa.specs.declared.Instr.{Instr}
 use Rattle.ultra_isa.specs.declared.Activity.{Activity}
-use Rattle.ultra_model.specs.Machine.{Settings, Machine, Element, size, bank_at, is_quiet}
+use Rattle.ultra_model.specs.Machine.{Settings, Machine, Element, size, module_at, is_quiet}
 use Rattle.ultra_model.specs.Phases.{after}
 
 -- settings by their stages, the places of the three kinds of buffers, the most open cells and the cells that are not 0 at first
@@ -29,10 +29,10 @@ abbrev pub message : ℕ → ℕ → Reply → ReplyMessage
 message p a r = record { pe = p; cell = a; reply = r }
 
 -- an entry of a queue that has not combined there, and one that has
-abbrev pub single : ℕ → ℕ → Op → Entry
+abbrev pub single : ℕ → ℕ → Op → QueueEntry
 single p a o = entry (request p a o) false
 
-abbrev pub marked : ℕ → ℕ → Op → Entry
+abbrev pub marked : ℕ → ℕ → Op → QueueEntry
 marked p a o = entry (request p a o) true
 
 abbrev pub kept : ℕ → ℕ → Give → ℕ → Give → WaitRecord
@@ -85,7 +85,7 @@ module _ (c : Settings) (program : List Instr) where
 -- ---- what stands where; places that are empty are left out
 pub data Holding : Type 0 where
   pending : ℕ → List Request → Holding
-  queued : ℕ → ℕ → List Entry → Holding
+  queued : ℕ → ℕ → List QueueEntry → Holding
   waiting : ℕ → ℕ → List WaitRecord → Holding
   entering : ℕ → Request → Holding
   leaving : ℕ → ReplyMessage → Holding
@@ -109,8 +109,8 @@ holdings m =
     by_number (λ p (e : Element). if_any (pending p) e.interface.pending) 0 m.elements
     ++ by_number (λ s (row : List Lane). by_number (λ x (l : Lane). if_any (queued s x) l.queue) 0 row) 0 m.lanes
     ++ by_number (λ s (row : List Lane). by_number (λ x (l : Lane). if_any (waiting s x) l.records) 0 row) 0 m.lanes
-    ++ by_number (λ k (b : Bank). if_some (λ (p : Placed). entering k p.request) b.inp) 0 m.banks
-    ++ by_number (λ k (b : Bank). if_some (leaving k) b.out) 0 m.banks
+    ++ by_number (λ k (b : ModuleState). if_some (λ (p : Placed). entering k p.request) b.inp) 0 m.modules
+    ++ by_number (λ k (b : ModuleState). if_some (leaving k) b.out) 0 m.modules
     ++ by_number (λ s (row : List (List ReplyMessage)). by_number (λ y rs. if_any (replying s y) rs) 0 row) 0 m.replies
 
 -- numbers that are not 0, with where they stand
@@ -120,19 +120,19 @@ if_not_zero k (suc v) = (k, suc v) ∷ []
 
 -- the cells that are not 0, by address
 abbrev pub nonzero_cells : Settings → Machine → List (ℕ × ℕ)
-nonzero_cells c m = by_number (λ a v. if_not_zero a v) 0 (map (λ a. slice_index (bank_at m (a % size c)).cells (a / size c)) (range_with_len 0 (size c * c.cells)))
+nonzero_cells c m = by_number (λ a v. if_not_zero a v) 0 (map (λ a. slice_index (module_at m (a % size c)).cells (a / size c)) (range_with_len 0 (size c * c.cells)))
 
--- a processor: its place, what it is doing, and its registers that are not 0
+-- a processor: its program counter, what it is doing, and its registers that are not 0
 pub record Stand : Type 0 where
   pub activity : Activity
-  pub place : ℕ
+  pub pc : ℕ
   pub registers : List (ℕ × ℕ)
 
 abbrev pub stand : Activity → ℕ → List (ℕ × ℕ) → Stand
-stand activity place registers = record { activity = activity; place = place; registers = registers }
+stand activity pc registers = record { activity = activity; pc = pc; registers = registers }
 
 abbrev pub stands : Machine → List Stand
-stands m = map (λ (e : Element). stand e.core.activity e.core.place (by_number (λ i v. if_not_zero i v) 0 e.core.registers)) m.elements
+stands m = map (λ (e : Element). stand e.core.activity e.core.pc (by_number (λ i v. if_not_zero i v) 0 e.core.registers)) m.elements
 
 -- what happened in the first n cycles, after which of them the machine is quiet, and how it stands after them
 pub record Summary : Type 0 where

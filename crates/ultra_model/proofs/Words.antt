@@ -16,13 +16,13 @@ use Rattle.ultra_msg.specs.declared.Request.{Request}
 use Rattle.ultra_msg.specs.declared.ReplyMessage.{ReplyMessage}
 use Rattle.ultra_route.specs.Route.{shuffled, unshuffled}
 use Rattle.ultra_route.proofs.Table.{sizes}
-use Rattle.ultra_switch.specs.declared.Entry.{Entry}
+use Rattle.ultra_switch.specs.declared.QueueEntry.{QueueEntry}
 use Rattle.ultra_switch.specs.declared.WaitRecord.{WaitRecord}
 use Rattle.ultra_switch.specs.Arrive.{Lane, Combination, entry, behind, can_combine, wait_record, combine, combine_within, combined_entry, after_arrival, arrive}
 use Rattle.ultra_switch.specs.Split.{is_of, records_after, replies_of, old_reply, new_reply}
 use Rattle.ultra_switch.specs.Queues.{request_of}
 use Rattle.ultra_mem.specs.declared.Placed.{Placed}
-use Rattle.ultra_mem.specs.Serve.{Bank, after_serving, serve, value_at}
+use Rattle.ultra_mem.specs.Serve.{ModuleState, after_serving, serve, value_at}
 use Rattle.ultra_pni.specs.declared.Issue.{Issue}
 use Rattle.ultra_pni.specs.declared.Issue.TheVariants.{Sent, CellOpen, Full}
 use Rattle.ultra_pni.specs.Interface.{Interface, target_of, issue_of}
@@ -33,14 +33,14 @@ use Rattle.ultra_isa.specs.declared.Activity.TheVariants as activity
 use Rattle.ultra_isa.specs.Instruction.{Site, Effect, sets, goes_on_at, refers, waits, halts, effect}
 use Rattle.ultra_isa.specs.Step.{Core, Stepped, received, refers_as, refers_where, waits_where, does, runs_where, runs, runs_as, step_of, names_awaited}
 use Rattle.ultra_isa.proofs.Steps.{SendsInto}
-use Rattle.ultra_model.specs.Machine.{Settings, Machine, Element, size, last_stage, site, start, given_value, lane_at, replies_at, bank_at, element_at, reply_exit, request_exit}
+use Rattle.ultra_model.specs.Machine.{Settings, Machine, Element, size, last_stage, site, start, given_value, lane_at, replies_at, module_at, element_at, reply_exit, request_exit}
 use Rattle.ultra_model.specs.Phases.{deliver, delivered, without_reply, records_left, replies_made, arriving_reply, reply_before, has_reply_room, leaving_reply, replies_at_exit, next_replies, reply_phase, memory_phase, arrive_all, has_request_room, request_before, admitted, arriving_request, entering, with_request, requests_by, arrivals, lane_after_leaving, leaving_request, request_phase, step_at, processor_phase, cycle, after}
 use Rattle.ultra_model.specs.Ranges.{AreInRange}
 use Rattle.ultra_model.proofs.Each.{each-append, each-after_leaving, each-first, each-places, if_tested}
 use Rattle.ultra_model.proofs.OnRoute.{each-filter, some-request}
 use Rattle.ultra_model.proofs.Routes.{turns_back, two_ports}
 use Rattle.ultra_model.proofs.Balanced.{sends}
-use Rattle.ultra_model.proofs.AtPlaces.{lane-start, replies-start, bank-start, element-start, lane-reply_phase, replies-reply_phase, bank-reply_phase, element-reply_phase, bank-memory_phase, lane-request_phase, bank-request_phase, element-request_phase, element-processor_phase}
+use Rattle.ultra_model.proofs.AtPlaces.{lane-start, replies-start, memory_module-start, element-start, lane-reply_phase, replies-reply_phase, memory_module-reply_phase, element-reply_phase, memory_module-memory_phase, lane-request_phase, memory_module-request_phase, element-request_phase, element-processor_phase}
 use Rattle.ultra_model.specs.Words.{IsWord, OfWord, GivesWord, AddsWord, NamesWord, HoldsWords}
 
 -- ---- operations
@@ -113,7 +113,7 @@ Answers r = GivesWord r.reply
 abbrev pub Asks : Request → Type 0
 Asks r = OfWord r.op
 
-abbrev Queued : Entry → Type 0
+abbrev Queued : QueueEntry → Type 0
 Queued e = OfWord e.request.op
 
 each_after : (r : ReplyMessage) (ws : List WaitRecord) → AllByRecursion Gives ws → AllByRecursion Gives (records_after r ws)
@@ -147,36 +147,36 @@ deliver_pending : (e : Element) (o : Option ReplyMessage) → AllByRecursion Ask
 deliver_pending e None h = h
 deliver_pending e (Some r) h = h
 
-record BankWords (b : Bank) : Type 0 where
+record ModuleWords (b : ModuleState) : Type 0 where
   input : IfSome b.inp (λ (p : Placed). OfWord p.request.op)
   output : IfSome b.out Answers
   cells : AllByRecursion IsWord b.cells
 
-replied_bank : (b : Bank) (o : Option ReplyMessage) → BankWords b → BankWords (without_reply b o)
-replied_bank b None h = h
-replied_bank b (Some r) h = record { input = h.input; output = tt; cells = h.cells }
+replied_module : (b : ModuleState) (o : Option ReplyMessage) → ModuleWords b → ModuleWords (without_reply b o)
+replied_module b None h = h
+replied_module b (Some r) h = record { input = h.input; output = tt; cells = h.cells }
 
-served_bank : (b : Bank) (i : Option Placed) (o : Option ReplyMessage) → b.inp ≡ i → b.out ≡ o → BankWords b → BankWords (after_serving b (elim o [ None ↦ i | Some r ↦ None ]))
-served_bank b i (Some r) e f h = h
-served_bank b None None e f h = h
-served_bank b (Some p) None e f h =
+served_module : (b : ModuleState) (i : Option Placed) (o : Option ReplyMessage) → b.inp ≡ i → b.out ≡ o → ModuleWords b → ModuleWords (after_serving b (elim o [ None ↦ i | Some r ↦ None ]))
+served_module b i (Some r) e f h = h
+served_module b None None e f h = h
+served_module b (Some p) None e f h =
     let input = rw e at h.input in
     let acted = act_word p.request.op (value_at b p) input (index_word b.cells p.offset h.cells) in
     record { input = tt; output = acted.1; cells = set_words b.cells p.offset (act p.request.op (value_at b p)).0 h.cells acted.0 }
 
-entered_bank : (c : Settings) (b : Bank) (o : Option Request) → BankWords b → IfSome o Asks → BankWords (with_request c b o)
-entered_bank c b None h k = h
-entered_bank c b (Some r) h k = record { input = k; output = h.output; cells = h.cells }
+entered_module : (c : Settings) (b : ModuleState) (o : Option Request) → ModuleWords b → IfSome o Asks → ModuleWords (with_request c b o)
+entered_module c b None h k = h
+entered_module c b (Some r) h k = record { input = k; output = h.output; cells = h.cells }
 
 -- ---- arrivals
 abbrev CombinesWords : Request → Option Combination → Type 0
 CombinesWords r o = IfSome o (λ c. AllByRecursion Queued c.queue × OfWord c.old.request.op)
 
-behind_words : (e : Entry) (r : Request) (o : Option Combination) → Queued e → CombinesWords r o → CombinesWords r (behind e o)
+behind_words : (e : QueueEntry) (r : Request) (o : Option Combination) → Queued e → CombinesWords r o → CombinesWords r (behind e o)
 behind_words e r None q h = tt
 behind_words e r (Some c) q h = ((q, h.0), h.1)
 
-combine_words : (r : Request) (es : List Entry) → Asks r → AllByRecursion Queued es → CombinesWords r (combine r es)
+combine_words : (r : Request) (es : List QueueEntry) → Asks r → AllByRecursion Queued es → CombinesWords r (combine r es)
 combine_words r [] k h = tt
 combine_words r (e ∷ es) k h =
     if_tested (can_combine r e) (λ o. CombinesWords r o) (Some record { queue = combined_entry e r ∷ es; old = e }) (behind e (combine r es))
@@ -200,7 +200,7 @@ arrive_words w l (r ∷ rs) h g k =
 module _ (s : Site) (pe : IsWord s.pe) (all : IsWord s.size) where
   abbrev MakesWord : Effect → Type 0
   MakesWord (sets d v) = IsWord v
-  MakesWord (goes_on_at place) = Unit {0}
+  MakesWord (goes_on_at pc) = Unit {0}
   MakesWord (refers a o target) = OfWord o
   MakesWord waits = Unit {0}
   MakesWord halts = Unit {0}
@@ -208,26 +208,26 @@ module _ (s : Site) (pe : IsWord s.pe) (all : IsWord s.size) where
   below : (a b : ℕ) → a ≤ b → IsWord b → IsWord a
   below a b h k = omega (arith, h, k)
 
-  effect_word : (vs : List ℕ) (place : ℕ) (i : Instr) → AllByRecursion IsWord vs → NamesWord i → MakesWord (effect s vs place i)
-  effect_word vs place (Set d n) h k = k
-  effect_word vs place (Add d a b) h k = plus_word (slice_index vs a) (slice_index vs b)
-  effect_word vs place (AddWord d a n) h k = plus_word (slice_index vs a) n
-  effect_word vs place (Subtract d a b) h k = omega arith
-  effect_word vs place (And d a b) h k = below _ _ (and_le_l (slice_index vs a) (slice_index vs b)) (index_word vs a h)
-  effect_word vs place (ShiftRight d a n) h k = below _ _ (div-le_self (slice_index vs a) (2 ^ n)) (index_word vs a h)
-  effect_word vs place (IsBelow d a b) h k = one_or_none (nat_lt (slice_index vs a) (slice_index vs b))
-  effect_word vs place (IsEqual d a b) h k = one_or_none (slice_index vs a == slice_index vs b)
-  effect_word vs place (JumpIfZero a target) h k = tt
-  effect_word vs place (JumpIfNotZero a target) h k = tt
-  effect_word vs place (Jump target) h k = tt
-  effect_word vs place (Number d) h k = pe
-  effect_word vs place (Size d) h k = all
-  effect_word vs place (Load d a) h k = tt
-  effect_word vs place (Store a b) h k = index_word vs b h
-  effect_word vs place (Faa d a b) h k = index_word vs b h
-  effect_word vs place (Swap d a b) h k = index_word vs b h
-  effect_word vs place Fence h k = tt
-  effect_word vs place Halt h k = tt
+  effect_word : (vs : List ℕ) (pc : ℕ) (i : Instr) → AllByRecursion IsWord vs → NamesWord i → MakesWord (effect s vs pc i)
+  effect_word vs pc (Set d n) h k = k
+  effect_word vs pc (Add d a b) h k = plus_word (slice_index vs a) (slice_index vs b)
+  effect_word vs pc (AddWord d a n) h k = plus_word (slice_index vs a) n
+  effect_word vs pc (Subtract d a b) h k = omega arith
+  effect_word vs pc (And d a b) h k = below _ _ (and_le_l (slice_index vs a) (slice_index vs b)) (index_word vs a h)
+  effect_word vs pc (ShiftRight d a n) h k = below _ _ (div-le_self (slice_index vs a) (2 ^ n)) (index_word vs a h)
+  effect_word vs pc (IsBelow d a b) h k = one_or_none (nat_lt (slice_index vs a) (slice_index vs b))
+  effect_word vs pc (IsEqual d a b) h k = one_or_none (slice_index vs a == slice_index vs b)
+  effect_word vs pc (JumpIfZero a target) h k = tt
+  effect_word vs pc (JumpIfNotZero a target) h k = tt
+  effect_word vs pc (Jump target) h k = tt
+  effect_word vs pc (Number d) h k = pe
+  effect_word vs pc (Size d) h k = all
+  effect_word vs pc (Load d a) h k = tt
+  effect_word vs pc (Store a b) h k = index_word vs b h
+  effect_word vs pc (Faa d a b) h k = index_word vs b h
+  effect_word vs pc (Swap d a b) h k = index_word vs b h
+  effect_word vs pc Fence h k = tt
+  effect_word vs pc Halt h k = tt
 
   -- a step's registers, and the request that it sends
   pub record StepWords (t : Stepped) : Type 0 where
@@ -250,14 +250,14 @@ module _ (s : Site) (pe : IsWord s.pe) (all : IsWord s.size) where
 
     did_words : (c : Core) (i : Interface) (e : Effect) → AllByRecursion IsWord c.registers → MakesWord e → StepWords (does s most c i e)
     did_words c i (sets d v) h k = record { registers = set_words c.registers d v h k; sent = tt }
-    did_words c i (goes_on_at place) h k = record { registers = h; sent = tt }
+    did_words c i (goes_on_at pc) h k = record { registers = h; sent = tt }
     did_words c i (refers a o target) h k = referred_words c i record { pe = s.pe; cell = a; op = o } target (nat_lt a s.all_cells) h k
     did_words c i waits h k = waited_words c i (length i.opened == 0) h
     did_words c i halts h k = record { registers = h; sent = tt }
 
     ran_where_words : (c : Core) (i : Interface) (n : Instr) (b : Bool) → AllByRecursion IsWord c.registers → NamesWord n → StepWords (runs_where s most b c i n)
     ran_where_words c i n true h k = record { registers = h; sent = tt }
-    ran_where_words c i n false h k = did_words c i (effect s c.registers c.place n) h (effect_word c.registers c.place n h k)
+    ran_where_words c i n false h k = did_words c i (effect s c.registers c.pc n) h (effect_word c.registers c.pc n h k)
 
     ran_words : (c : Core) (i : Interface) (n : Option Instr) → AllByRecursion IsWord c.registers → IfSome n NamesWord → StepWords (runs s most c i n)
     ran_words c i None h k = record { registers = h; sent = tt }
@@ -269,21 +269,21 @@ module _ (s : Site) (pe : IsWord s.pe) (all : IsWord s.size) where
     ran_as_words (activity.Faulted f) c i n h k = record { registers = h; sent = tt }
 
     pub step_words : (program : List Instr) (c : Core) (i : Interface) → AllByRecursion NamesWord program → AllByRecursion IsWord c.registers → StepWords (step_of s most program c i)
-    step_words program c i k h = ran_as_words c.activity c i (slice_get program c.place) h (get_named program c.place k)
+    step_words program c i k h = ran_as_words c.activity c i (slice_get program c.pc) h (get_named program c.pc k)
 
 below_last : (s n d : ℕ) → (s == n) ≡ false → s < n + 1 → n + 1 ≡ d → s + 1 < d
 below_last s n d h l e = grind (arith, nat_tests)
 
 -- ---- the phases
 module _ (c : Settings) (range : AreInRange c) (m : Machine) (w : HoldsWords c m) where
-  banks : (k : ℕ) → k < size c → BankWords (bank_at m k)
-  banks k h = record { input = w.inputs k h; output = w.outputs k h; cells = w.cells k h }
+  modules : (k : ℕ) → k < size c → ModuleWords (module_at m k)
+  modules k h = record { input = w.inputs k h; output = w.outputs k h; cells = w.cells k h }
 
   -- replies
   before_reply : (s x : ℕ) → s < c.stages → x < size c → IfSome (reply_before c m s x) Answers
   before_reply s x hs hx =
       let some = range.some_stages in
-      if_tested (s == last_stage c) (λ o. IfSome o Answers) (bank_at m x).out (slice_get (replies_at m (s + 1) (shuffled c.stages x)) 0)
+      if_tested (s == last_stage c) (λ o. IfSome o Answers) (module_at m x).out (slice_get (replies_at m (s + 1) (shuffled c.stages x)) 0)
       (λ z. w.outputs x hx)
       (λ z. let less : s + 1 < c.stages = below_last s (last_stage c) c.stages z (omega arith) (omega arith) in
       each-first Answers (replies_at m (s + 1) (shuffled c.stages x)) (w.replies (s + 1) (shuffled c.stages x) less (turns_back c range x hx).entry_small))
@@ -309,24 +309,24 @@ module _ (c : Settings) (range : AreInRange c) (m : Machine) (w : HoldsWords c m
       let some = range.some_stages in
       each-first Answers (replies_at m 0 (shuffled c.stages p)) (w.replies 0 (shuffled c.stages p) (omega arith) (turns_back c range p h).entry_small)
 
-  replied : (k : ℕ) → k < size c → BankWords (without_reply (bank_at m k) (arriving_reply c m (last_stage c) k))
-  replied k h = replied_bank (bank_at m k) (arriving_reply c m (last_stage c) k) (banks k h)
+  replied : (k : ℕ) → k < size c → ModuleWords (without_reply (module_at m k) (arriving_reply c m (last_stage c) k))
+  replied k h = replied_module (module_at m k) (arriving_reply c m (last_stage c) k) (modules k h)
 
   pub words-reply_phase : HoldsWords c (reply_phase c m)
   words-reply_phase = record {
     requests = λ s x hs hx. rw (lane-reply_phase c m s x hs hx) (w.requests s x hs hx);
     records = λ s x hs hx. rw (lane-reply_phase c m s x hs hx) (each_left (lane_at m s x).records (arriving_reply c m s x) (w.records s x hs hx));
     replies = λ s y hs hy. rw (replies-reply_phase c m s y hs hy) (reply_words s y hs hy);
-    inputs = λ k h. rw (bank-reply_phase c m k h) (replied k h).input;
-    outputs = λ k h. rw (bank-reply_phase c m k h) (replied k h).output;
-    cells = λ k h. rw (bank-reply_phase c m k h) (replied k h).cells;
+    inputs = λ k h. rw (memory_module-reply_phase c m k h) (replied k h).input;
+    outputs = λ k h. rw (memory_module-reply_phase c m k h) (replied k h).output;
+    cells = λ k h. rw (memory_module-reply_phase c m k h) (replied k h).cells;
     pending = λ p h. rw (element-reply_phase c m p h) (deliver_pending (element_at m p) (delivered c m p) (w.pending p h));
     registers = λ p h. rw (element-reply_phase c m p h) (deliver_registers (element_at m p) (delivered c m p) (w.registers p h) (delivered_words p h));
   }
 
   -- memory
-  served : (k : ℕ) → k < size c → BankWords (serve (bank_at m k))
-  served k h = served_bank (bank_at m k) (bank_at m k).inp (bank_at m k).out refl refl (banks k h)
+  served : (k : ℕ) → k < size c → ModuleWords (serve (module_at m k))
+  served k h = served_module (module_at m k) (module_at m k).inp (module_at m k).out refl refl (modules k h)
 
   pub words-memory_phase : HoldsWords c (memory_phase c m)
   unfolding memory_phase
@@ -334,9 +334,9 @@ module _ (c : Settings) (range : AreInRange c) (m : Machine) (w : HoldsWords c m
     requests = w.requests;
     records = w.records;
     replies = w.replies;
-    inputs = λ k h. rw (bank-memory_phase c m k h) (served k h).input;
-    outputs = λ k h. rw (bank-memory_phase c m k h) (served k h).output;
-    cells = λ k h. rw (bank-memory_phase c m k h) (served k h).cells;
+    inputs = λ k h. rw (memory_module-memory_phase c m k h) (served k h).input;
+    outputs = λ k h. rw (memory_module-memory_phase c m k h) (served k h).output;
+    cells = λ k h. rw (memory_module-memory_phase c m k h) (served k h).cells;
     pending = w.pending;
     registers = w.registers;
   }
@@ -378,11 +378,11 @@ module _ (c : Settings) (range : AreInRange c) (m : Machine) (w : HoldsWords c m
   entering_if None o h = h
   entering_if (Some p) o h = tt
 
-  entered : (k : ℕ) → k < size c → BankWords (with_request c (bank_at m k) (entering c m k))
+  entered : (k : ℕ) → k < size c → ModuleWords (with_request c (module_at m k) (entering c m k))
   entered k h =
       let some = range.some_stages in
-      entered_bank c (bank_at m k) (entering c m k) (banks k h)
-      (entering_if (bank_at m k).inp (request_of (slice_get (lane_at m (last_stage c) k).queue 0))
+      entered_module c (module_at m k) (entering c m k) (modules k h)
+      (entering_if (module_at m k).inp (request_of (slice_get (lane_at m (last_stage c) k).queue 0))
       (some-request Asks (slice_get (lane_at m (last_stage c) k).queue 0) (each-first Queued (lane_at m (last_stage c) k).queue (w.requests (last_stage c) k (omega arith) h))))
 
   pub words-request_phase : HoldsWords c (request_phase c m)
@@ -391,9 +391,9 @@ module _ (c : Settings) (range : AreInRange c) (m : Machine) (w : HoldsWords c m
     requests = λ s x hs hx. rw (lane-request_phase c m s x hs hx) (lane_words s x hs hx).0;
     records = λ s x hs hx. rw (lane-request_phase c m s x hs hx) (lane_words s x hs hx).1;
     replies = w.replies;
-    inputs = λ k h. rw (bank-request_phase c m k h) (entered k h).input;
-    outputs = λ k h. rw (bank-request_phase c m k h) (entered k h).output;
-    cells = λ k h. rw (bank-request_phase c m k h) (entered k h).cells;
+    inputs = λ k h. rw (memory_module-request_phase c m k h) (entered k h).input;
+    outputs = λ k h. rw (memory_module-request_phase c m k h) (entered k h).output;
+    cells = λ k h. rw (memory_module-request_phase c m k h) (entered k h).cells;
     pending = λ p h. rw (element-request_phase c m p h) (each-after_leaving Asks (arriving_request c m 0 (shuffled c.stages p)) (element_at m p).interface.pending (w.pending p h));
     registers = λ p h. rw (element-request_phase c m p h) (w.registers p h);
   }
@@ -441,9 +441,9 @@ module _ (c : Settings) (range : AreInRange c) (initial : AllByRecursion (λ (i 
     requests = λ s x hs hx. rw (lane-start c s x hs hx) tt;
     records = λ s x hs hx. rw (lane-start c s x hs hx) tt;
     replies = λ s y hs hy. rw (replies-start c s y hs hy) tt;
-    inputs = λ k h. rw (bank-start c k h) tt;
-    outputs = λ k h. rw (bank-start c k h) tt;
-    cells = λ k h. rw (bank-start c k h) (each-places IsWord c.cells (λ o. given_value c.initial (o * size c + k) 0) (λ o l. given_word_at c.initial (o * size c + k) 0 initial (omega arith)));
+    inputs = λ k h. rw (memory_module-start c k h) tt;
+    outputs = λ k h. rw (memory_module-start c k h) tt;
+    cells = λ k h. rw (memory_module-start c k h) (each-places IsWord c.cells (λ o. given_value c.initial (o * size c + k) 0) (λ o l. given_word_at c.initial (o * size c + k) 0 initial (omega arith)));
     pending = λ p h. rw (element-start c p h) tt;
     registers = λ p h. rw (element-start c p h) (zero_words 16);
   }

@@ -9,6 +9,10 @@ use Rattle.ultra_model.specs.declared.config.Field.TheVariants.{Stages, RequestP
 use Rattle.ultra_model.specs.declared.config.ConfigFault.{ConfigFault}
 use Rattle.ultra_model.specs.declared.config.ConfigFault.TheVariants.{NoMemory, BadConfig}
 use Rattle.ultra_route.specs.declared.TheConstants.{MOST_STAGES}
+use Rattle.ultra_switch.specs.declared.TheConstants.{MOST_REQUEST_PLACES, MOST_WAIT_PLACES}
+use Rattle.ultra_mem.specs.declared.TheConstants.{MOST_CELLS}
+use Rattle.ultra_pni.specs.declared.TheConstants.{MOST_OPEN}
+use Rattle.ultra_model.specs.declared.config.TheConstants.{MOST_CYCLES, MOST_REPLY_PLACES}
 
 -- the key as it is written
 abbrev pub name_of : Field → List ℕ
@@ -27,9 +31,9 @@ natural (pos n) = n
 natural (negsuc n) = 0
 
 -- a number that is given, else 0
-abbrev pub number_of : Option ℤ → ℕ
-number_of None = 0
-number_of (Some z) = natural z
+abbrev pub number_or_zero : Option ℤ → ℕ
+number_or_zero None = 0
+number_or_zero (Some z) = natural z
 
 -- whether a number is not negative and below a bound
 abbrev pub is_below : ℕ → ℤ → Bool
@@ -47,20 +51,20 @@ abbrev pub is_cell : ℕ → ℤ × ℤ → Bool
 is_cell cells i = is_below cells i.0 && is_below (2 ^ 32) i.1
 
 -- an address with its value
-abbrev pub cell_of : ℤ × ℤ → ℕ × ℕ
-cell_of i = (natural i.0, natural i.1)
+abbrev pub initial_cell : ℤ × ℤ → ℕ × ℕ
+initial_cell i = (natural i.0, natural i.1)
 
 abbrev pub cells_of : List (ℤ × ℤ) → List (ℕ × ℕ)
-cells_of is = map cell_of is
+cells_of is = map initial_cell is
 
 -- whether an address is given a value
-abbrev pub is_named : ℕ → List (ℕ × ℕ) → Bool
-is_named a is = list_any (λ (i : ℕ × ℕ). a == i.0) is
+abbrev pub is_given_value : ℕ → List (ℕ × ℕ) → Bool
+is_given_value a is = list_any (λ (i : ℕ × ℕ). a == i.0) is
 
 -- whether no address is given two values
 abbrev pub are_different : List (ℕ × ℕ) → Bool
 are_different [] = true
-are_different (i ∷ is) = not (is_named i.0 is) && are_different is
+are_different (i ∷ is) = not (is_given_value i.0 is) && are_different is
 
 -- whether each pair is one of n cells with a word, and no cell stands twice
 abbrev pub are_initial : ℕ → List (ℤ × ℤ) → Bool
@@ -76,48 +80,49 @@ initial_of (Some v) = cells_of v.items
 
 -- the cells of the whole memory: those of a module for each of the 2^stages modules
 abbrev pub all_cells_of : RawSettings → ℕ
-all_cells_of r = 2 ^ number_of r.stages * number_of r.cells
+all_cells_of r = 2 ^ number_or_zero r.stages * number_or_zero r.cells
 
 -- whether a key has an accepted value
 abbrev pub is_good : RawSettings → Field → Bool
 is_good r Stages = is_within 1 MOST_STAGES r.stages
-is_good r RequestPlaces = is_within 2 32 r.request_places
-is_good r ReplyPlaces = is_within 4 64 r.reply_places
-is_good r WaitPlaces = is_within 0 16 r.wait_places
-is_good r MostOpen = is_within 1 8 r.most_open
-is_good r Cells = is_within 1 4096 r.cells
-is_good r Cycles = is_within 1 1000000 r.cycles
+is_good r RequestPlaces = is_within 2 MOST_REQUEST_PLACES r.request_places
+is_good r ReplyPlaces = is_within 4 MOST_REPLY_PLACES r.reply_places
+is_good r WaitPlaces = is_within 0 MOST_WAIT_PLACES r.wait_places
+is_good r MostOpen = is_within 1 MOST_OPEN r.most_open
+is_good r Cells = is_within 1 MOST_CELLS r.cells
+is_good r Cycles = is_within 1 MOST_CYCLES r.cycles
 is_good r Initial = are_initial_given (all_cells_of r) r.initial
 
 -- the keys in the order in which they are looked at: these with a single number, and then `initial`
-abbrev pub numbers : List Field
-numbers = Stages ∷ RequestPlaces ∷ ReplyPlaces ∷ WaitPlaces ∷ MostOpen ∷ Cells ∷ Cycles ∷ []
+abbrev pub single_number_keys : List Field
+single_number_keys =
+    Stages ∷ RequestPlaces ∷ ReplyPlaces ∷ WaitPlaces ∷ MostOpen ∷ Cells ∷ Cycles ∷ []
 
 -- the first of some keys whose value isn't accepted
 abbrev pub first_bad_of : RawSettings → List Field → Option Field
 first_bad_of r fs = find (λ f. not (is_good r f)) fs
 
 abbrev pub first_bad : RawSettings → Option Field
-first_bad r = first_bad_of r (numbers ++ Initial ∷ [])
+first_bad r = first_bad_of r (single_number_keys ++ Initial ∷ [])
 
 -- the settings, once they are accepted
 abbrev pub settings_of : RawSettings → Settings
 settings_of r = record {
-  stages = number_of r.stages;
-  request_places = number_of r.request_places;
-  reply_places = number_of r.reply_places;
-  wait_places = number_of r.wait_places;
-  most_open = number_of r.most_open;
-  cells = number_of r.cells;
-  cycles = number_of r.cycles;
+  stages = number_or_zero r.stages;
+  request_places = number_or_zero r.request_places;
+  reply_places = number_or_zero r.reply_places;
+  wait_places = number_or_zero r.wait_places;
+  most_open = number_or_zero r.most_open;
+  cells = number_or_zero r.cells;
+  cycles = number_or_zero r.cycles;
   initial = initial_of r.initial;
 }
 
 -- the fault names the first bad key. `NoMemory` comes only where all keys with a single number are
 -- accepted
-abbrev pub ExplainsRefusal : RawSettings → ConfigFault → Type 0
-ExplainsRefusal r NoMemory = first_bad_of r numbers ≡ None
-ExplainsRefusal r (BadConfig f) = first_bad r ≡ Some f
+abbrev pub ExplainsConfigFault : RawSettings → ConfigFault → Type 0
+ExplainsConfigFault r NoMemory = first_bad_of r single_number_keys ≡ None
+ExplainsConfigFault r (BadConfig f) = first_bad r ≡ Some f
 
 -- the same for the initial cells alone
 abbrev pub ExplainsInitial : ℕ → List (ℤ × ℤ) → ConfigFault → Type 0

@@ -3,13 +3,13 @@
 use Rattle.std.specs.Prelude.{◌≡◌, ℕ, zero, suc, ◌+◌, ◌<◌, ◌≤◌, List, [], ◌∷◌, Bool, true, false, ◌==◌, Option, Some, None}
 use Rattle.ultra_msg.specs.declared.Request.{Request}
 use Rattle.ultra_msg.specs.declared.ReplyMessage.{ReplyMessage}
-use Rattle.ultra_switch.specs.declared.Entry.{Entry}
+use Rattle.ultra_switch.specs.declared.QueueEntry.{QueueEntry}
 use Rattle.ultra_switch.specs.declared.WaitRecord.{WaitRecord}
 use Rattle.ultra_switch.specs.Arrive.{Lane}
 use Rattle.ultra_mem.specs.declared.Placed.{Placed}
-use Rattle.ultra_mem.specs.Serve.{Bank}
+use Rattle.ultra_mem.specs.Serve.{ModuleState}
 use Rattle.ultra_pni.specs.declared.OpenCell.{OpenCell}
-use Rattle.ultra_model.specs.Machine.{Settings, Machine, Element, size, lane_at, replies_at, bank_at, element_at}
+use Rattle.ultra_model.specs.Machine.{Settings, Machine, Element, size, lane_at, replies_at, module_at, element_at}
 
 abbrev pub weight : Bool → ℕ
 weight true = 1
@@ -37,7 +37,7 @@ module _ (t : ℕ → ℕ → Bool) where
   abbrev pub reply_passes : ReplyMessage → Bool
   reply_passes r = t r.pe r.cell
 
-  abbrev pub entry_passes : Entry → Bool
+  abbrev pub entry_passes : QueueEntry → Bool
   entry_passes e = t e.request.pe e.request.cell
 
   -- the partner of a record waits for its reply
@@ -50,8 +50,10 @@ module _ (t : ℕ → ℕ → Bool) where
   abbrev pub replies_on_way : List ReplyMessage → ℕ
   replies_on_way rs = count reply_passes rs
 
-  abbrev pub bank_on_way : Bank → ℕ
-  bank_on_way b = count_option (λ (p : Placed). t p.request.pe p.request.cell) b.inp + count_option reply_passes b.out
+  abbrev pub module_on_way : ModuleState → ℕ
+  module_on_way b =
+      count_option (λ (p : Placed). t p.request.pe p.request.cell) b.inp
+      + count_option reply_passes b.out
 
   abbrev pub pending_on_way : Element → ℕ
   pending_on_way e = count passes e.interface.pending
@@ -67,7 +69,7 @@ module _ (t : ℕ → ℕ → Bool) where
     on_way =
         total c.stages (λ s. total (size c) (λ x. lane_on_way (lane_at m s x)))
         + total c.stages (λ s. total (size c) (λ y. replies_on_way (replies_at m s y)))
-        + total (size c) (λ k. bank_on_way (bank_at m k))
+        + total (size c) (λ k. module_on_way (module_at m k))
         + total (size c) (λ p. pending_on_way (element_at m p))
 
     abbrev pub all_opened : ℕ

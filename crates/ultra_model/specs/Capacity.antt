@@ -4,7 +4,7 @@ use Rattle.ultra_model.specs.Machine.{Settings, Machine, size, lane_at, replies_
 
 -- the queues toward memory, the wait buffers, the queues toward the processing elements, and the
 -- open cells of a processing element
-pub record IsWithinPlaces (c : Settings) (m : Machine) : Type 0 where
+pub record IsWithinCapacity (c : Settings) (m : Machine) : Type 0 where
   pub requests : (s x : ℕ) → s < c.stages → x < size c
       → length (lane_at m s x).queue ≤ c.request_places
   pub records : (s x : ℕ) → s < c.stages → x < size c

@@ -7,7 +7,7 @@ use Rattle.ultra_msg.specs.declared.ReplyMessage.{ReplyMessage}
 use Rattle.ultra_msg.specs.declared.Event.{Event}
 use Rattle.ultra_route.specs.Route.{with_lowest, bit_of}
 use Rattle.ultra_switch.specs.Arrive.{Lane, empty_lane}
-use Rattle.ultra_mem.specs.Serve.{Bank, empty_bank}
+use Rattle.ultra_mem.specs.Serve.{ModuleState, empty_module}
 use Rattle.ultra_pni.specs.Interface.{Interface, empty_interface}
 use Rattle.ultra_isa.specs.Instruction.{Site}
 use Rattle.ultra_isa.specs.Step.{Core, fresh_core, has_stopped}
@@ -43,7 +43,7 @@ fresh_element = record { core = fresh_core; interface = empty_interface; issued 
 pub record Machine : Type 0 where
   pub lanes : List (List Lane)
   pub replies : List (List (List ReplyMessage))
-  pub banks : List Bank
+  pub modules : List ModuleState
   pub elements : List Element
   pub cycles : ℕ
   pub events : List Event
@@ -79,7 +79,13 @@ module _ (c : Settings) where
   start = record {
     lanes = table c.stages size (λ s x. empty_lane);
     replies = table c.stages size (λ s y. []);
-    banks = places size (λ m. record { cells = places c.cells (λ o. given_value c.initial (o * size + m) 0); inp = None; out = None });
+    modules =
+        places size
+        (λ m. record {
+          cells = places c.cells (λ o. given_value c.initial (o * size + m) 0);
+          inp = None;
+          out = None;
+        });
     elements = places size (λ p. fresh_element);
     cycles = 0;
     events = [];
@@ -94,8 +100,8 @@ lane_at m s x = in_table empty_lane m.lanes s x
 abbrev pub replies_at : Machine → ℕ → ℕ → List ReplyMessage
 replies_at m s y = in_table [] m.replies s y
 
-abbrev pub bank_at : Machine → ℕ → Bank
-bank_at m k = slice_index_or m.banks k empty_bank
+abbrev pub module_at : Machine → ℕ → ModuleState
+module_at m k = slice_index_or m.modules k empty_module
 
 abbrev pub element_at : Machine → ℕ → Element
 element_at m p = slice_index_or m.elements p fresh_element
@@ -111,7 +117,10 @@ is_nothing (Some x) = false
 
 abbrev pub is_quiet : Machine → Bool
 is_quiet m =
-    list_all (λ (ls : List Lane). list_all (λ (l : Lane). is_empty l.queue && is_empty l.records) ls) m.lanes
-    && list_all (λ (qs : List (List ReplyMessage)). list_all (λ (q : List ReplyMessage). is_empty q) qs) m.replies
-    && list_all (λ (b : Bank). is_nothing b.inp && is_nothing b.out) m.banks
-    && list_all (λ (e : Element). has_stopped e.core.activity && is_empty e.interface.opened && is_empty e.interface.pending) m.elements
+    list_all (λ (ls : List Lane). list_all
+    (λ (l : Lane). is_empty l.queue && is_empty l.records) ls) m.lanes
+    && list_all (λ (qs : List (List ReplyMessage)). list_all
+    (λ (q : List ReplyMessage). is_empty q) qs) m.replies
+    && list_all (λ (b : ModuleState). is_nothing b.inp && is_nothing b.out) m.modules
+    && list_all (λ (e : Element). has_stopped e.core.activity && is_empty e.interface.opened
+    && is_empty e.interface.pending) m.elements

@@ -14,7 +14,7 @@ use Rattle.ultra_switch.specs.Arrive.{Lane, Combination, combine_within, arrive}
 use Rattle.ultra_switch.specs.Queues.{request_of}
 use Rattle.ultra_switch.specs.Split.{records_after, replies_of}
 use Rattle.ultra_mem.specs.declared.Served.{Served as Act}
-use Rattle.ultra_mem.specs.Serve.{Bank, serve, served}
+use Rattle.ultra_mem.specs.Serve.{ModuleState, serve, served}
 use Rattle.ultra_pni.specs.Interface.{target_of, closed}
 use Rattle.ultra_isa.specs.declared.Instr.{Instr}
 use Rattle.ultra_isa.specs.declared.Step.{Step}
@@ -22,7 +22,7 @@ use Rattle.ultra_isa.specs.declared.Step.TheVariants as step
 use Rattle.ultra_isa.specs.Step.{Stepped, step_of, received}
 use Rattle.ultra_model.specs.declared.Stop.{Stop}
 use Rattle.ultra_model.specs.Places.{places, table, after_leaving, present, joined}
-use Rattle.ultra_model.specs.Machine.{Settings, Machine, Element, size, last_stage, site, request_exit, reply_exit, lane_at, replies_at, bank_at, element_at, start}
+use Rattle.ultra_model.specs.Machine.{Settings, Machine, Element, size, last_stage, site, request_exit, reply_exit, lane_at, replies_at, module_at, element_at, start}
 
 -- ---- what a phase does to one processing element, queue or module
 abbrev pub delivery : Option ReplyMessage → Option Event
@@ -34,11 +34,15 @@ delivery (Some r) = Some (Delivered r)
 abbrev pub deliver : Element → Option ReplyMessage → Element
 deliver e None = e
 deliver e (Some r) = record e {
-  core = record e.core { registers = received e.core.registers (target_of r.cell e.interface.opened) r.reply };
+  core =
+      record e.core {
+        registers = received e.core.registers
+            (target_of r.cell e.interface.opened) r.reply;
+      };
   interface = record e.interface { opened = closed r.cell e.interface.opened };
 }
 
-abbrev pub without_reply : Bank → Option ReplyMessage → Bank
+abbrev pub without_reply : ModuleState → Option ReplyMessage → ModuleState
 without_reply b None = b
 without_reply b (Some r) = record b { out = None }
 
@@ -71,7 +75,9 @@ combination s x r (Some c) =
 
 abbrev pub combinations : ℕ → ℕ → ℕ → Lane → List Request → List Event
 combinations wait_places s x l [] = []
-combinations wait_places s x l (r ∷ rs) = combination s x r (combine_within wait_places l r) ++ combinations wait_places s x (arrive wait_places l r) rs
+combinations wait_places s x l (r ∷ rs) =
+    combination s x r (combine_within wait_places l r)
+    ++ combinations wait_places s x (arrive wait_places l r) rs
 
 abbrev pub issues_after : ℕ → Option Request → ℕ
 issues_after n None = n
@@ -102,7 +108,11 @@ module _ (c : Settings) where
 
   -- the reply that waits to come to memory-side position x of stage s
   abbrev pub reply_before : Machine → ℕ → ℕ → Option ReplyMessage
-  reply_before m s x = elim (s == last_stage c) [ true ↦ (bank_at m x).out | false ↦ slice_get (replies_at m (s + 1) (shuffled c.stages x)) 0 ]
+  reply_before m s x =
+      elim (s == last_stage c) [
+        | true ↦ (module_at m x).out
+        | false ↦ slice_get (replies_at m (s + 1) (shuffled c.stages x)) 0
+      ]
 
   -- it arrives where its switch has room
   unfoldable pub arriving_reply : Machine → ℕ → ℕ → Option ReplyMessage
@@ -111,11 +121,17 @@ module _ (c : Settings) where
 
   -- the reply that leaves the queue at PE-side position y of stage s
   abbrev pub leaving_reply : Machine → ℕ → ℕ → Option ReplyMessage
-  leaving_reply m s y = elim (s == 0) [ true ↦ slice_get (replies_at m s y) 0 | false ↦ arriving_reply m (s - 1) (unshuffled c.stages y) ]
+  leaving_reply m s y =
+      elim (s == 0) [
+        | true ↦ slice_get (replies_at m s y) 0
+        | false ↦ arriving_reply m (s - 1) (unshuffled c.stages y)
+      ]
 
   -- what becomes of the reply that arrives at x, and what of it goes by y
   abbrev pub replies_at_exit : Machine → ℕ → ℕ → ℕ → List ReplyMessage
-  replies_at_exit m s x y = filter (λ r. reply_exit c s x r == y) (replies_made (lane_at m s x).records (arriving_reply m s x))
+  replies_at_exit m s x y =
+      filter (λ r. reply_exit c s x r == y)
+      (replies_made (lane_at m s x).records (arriving_reply m s x))
 
   abbrev pub next_replies : Machine → ℕ → ℕ → List ReplyMessage
   next_replies m s y =
@@ -124,7 +140,11 @@ module _ (c : Settings) where
       ++ replies_at_exit m s (2 * (y / 2) + 1) y
 
   abbrev pub lane_after_split : Machine → ℕ → ℕ → Lane
-  lane_after_split m s x = record { queue = (lane_at m s x).queue; records = records_left (lane_at m s x).records (arriving_reply m s x) }
+  lane_after_split m s x =
+      record {
+        queue = (lane_at m s x).queue;
+        records = records_left (lane_at m s x).records (arriving_reply m s x);
+      }
 
   -- the reply that is delivered to processing element p
   abbrev pub delivered : Machine → ℕ → Option ReplyMessage
@@ -134,7 +154,8 @@ module _ (c : Settings) where
   reply_phase m = record {
     lanes = table c.stages (size c) (λ s x. lane_after_split m s x);
     replies = table c.stages (size c) (λ s y. next_replies m s y);
-    banks = places (size c) (λ k. without_reply (bank_at m k) (arriving_reply m (last_stage c) k));
+    modules =
+        places (size c) (λ k. without_reply (module_at m k) (arriving_reply m (last_stage c) k));
     elements = places (size c) (λ p. deliver (element_at m p) (delivered m p));
     cycles = m.cycles;
     events = present (places (size c) (λ p. delivery (delivered m p)));
@@ -144,8 +165,8 @@ module _ (c : Settings) where
   -- ---- memory
   unfoldable pub memory_phase : Machine → Machine
   memory_phase m = record m {
-    banks = places (size c) (λ k. serve (bank_at m k));
-    events = m.events ++ present (places (size c) (λ k. serving k (served (bank_at m k))));
+    modules = places (size c) (λ k. serve (module_at m k));
+    events = m.events ++ present (places (size c) (λ k. serving k (served (module_at m k))));
   }
 
   -- ---- requests
@@ -172,15 +193,23 @@ module _ (c : Settings) where
   -- the request that goes into the register of module k: where that is empty, the head of the last
   -- queue
   abbrev pub entering : Machine → ℕ → Option Request
-  entering m k = elim (bank_at m k).inp [ None ↦ request_of (slice_get (lane_at m (last_stage c) k).queue 0) | Some r ↦ None ]
+  entering m k =
+      elim (module_at m k).inp [
+        | None ↦ request_of (slice_get (lane_at m (last_stage c) k).queue 0)
+        | Some r ↦ None
+      ]
 
-  abbrev pub with_request : Bank → Option Request → Bank
+  abbrev pub with_request : ModuleState → Option Request → ModuleState
   with_request b None = b
   with_request b (Some r) = record b { inp = Some record { request = r; offset = r.cell / size c } }
 
   -- the request that leaves the queue at memory-side position x of stage s
   abbrev pub leaving_request : Machine → ℕ → ℕ → Option Request
-  leaving_request m s x = elim (s == last_stage c) [ true ↦ entering m x | false ↦ arriving_request m (s + 1) (shuffled c.stages x) ]
+  leaving_request m s x =
+      elim (s == last_stage c) [
+        | true ↦ entering m x
+        | false ↦ arriving_request m (s + 1) (shuffled c.stages x)
+      ]
 
   abbrev pub requests_by : ℕ → ℕ → ℕ → Option Request → List Request
   requests_by s y x None = []
@@ -198,7 +227,11 @@ module _ (c : Settings) where
   ]
 
   abbrev pub lane_after_leaving : Machine → ℕ → ℕ → Lane
-  lane_after_leaving m s x = record { queue = after_leaving (leaving_request m s x) (lane_at m s x).queue; records = (lane_at m s x).records }
+  lane_after_leaving m s x =
+      record {
+        queue = after_leaving (leaving_request m s x) (lane_at m s x).queue;
+        records = (lane_at m s x).records;
+      }
 
   abbrev pub next_lane : Machine → ℕ → ℕ → Lane
   next_lane m s x = arrive_all c.wait_places (lane_after_leaving m s x) (arrivals m s x)
@@ -206,9 +239,15 @@ module _ (c : Settings) where
   unfoldable pub request_phase : Machine → Machine
   request_phase m = record m {
     lanes = table c.stages (size c) (λ s x. next_lane m s x);
-    banks = places (size c) (λ k. with_request (bank_at m k) (entering m k));
-    elements = places (size c) (λ p. without_pending (element_at m p) (arriving_request m 0 (shuffled c.stages p)));
-    events = m.events ++ joined (joined (table c.stages (size c) (λ s x. combinations c.wait_places s x (lane_after_leaving m s x) (arrivals m s x))));
+    modules = places (size c) (λ k. with_request (module_at m k) (entering m k));
+    elements =
+        places (size c)
+        (λ p. without_pending (element_at m p) (arriving_request m 0 (shuffled c.stages p)));
+    events =
+        m.events
+        ++ joined (joined
+        (table c.stages (size c)
+        (λ s x. combinations c.wait_places s x (lane_after_leaving m s x) (arrivals m s x))));
   }
 
   -- ---- processors
@@ -220,7 +259,9 @@ module _ (c : Settings) where
   processor_phase program m = record m {
     elements = places (size c) (λ p. stepped (element_at m p) (step_at program m p));
     cycles = m.cycles + 1;
-    events = m.events ++ present (places (size c) (λ p. issue_event (element_at m p) (step_at program m p).sent));
+    events =
+        m.events
+        ++ present (places (size c) (λ p. issue_event (element_at m p) (step_at program m p).sent));
     stops = present (places (size c) (λ p. stop_of p (step_at program m p).was));
   }
 

@@ -4,11 +4,11 @@ use Rattle.std.specs.List.{AllByRecursion}
 use Rattle.ultra_msg.specs.declared.Request.{Request}
 use Rattle.ultra_msg.specs.declared.ReplyMessage.{ReplyMessage}
 use Rattle.ultra_route.specs.Route.{line_of, entry_of}
-use Rattle.ultra_switch.specs.declared.Entry.{Entry}
+use Rattle.ultra_switch.specs.declared.QueueEntry.{QueueEntry}
 use Rattle.ultra_switch.specs.declared.WaitRecord.{WaitRecord}
 use Rattle.ultra_mem.specs.declared.Placed.{Placed}
 use Rattle.ultra_pni.specs.declared.OpenCell.{OpenCell}
-use Rattle.ultra_model.specs.Machine.{Settings, Machine, size, lane_at, replies_at, bank_at, element_at}
+use Rattle.ultra_model.specs.Machine.{Settings, Machine, size, lane_at, replies_at, module_at, element_at}
 
 module _ (c : Settings) where
   -- a processing element and a cell that the machine has
@@ -36,7 +36,7 @@ module _ (c : Settings) where
     pub home : module_of a ≡ k
 
   -- the request of a queue toward memory, and both requests of a record
-  abbrev pub IsEntryAt : ℕ → ℕ → Entry → Type 0
+  abbrev pub IsEntryAt : ℕ → ℕ → QueueEntry → Type 0
   IsEntryAt s x e = IsByLine s x e.request.pe e.request.cell
 
   abbrev pub IsRecordAt : ℕ → ℕ → WaitRecord → Type 0
@@ -63,7 +63,9 @@ module _ (c : Settings) where
         → AllByRecursion (IsRecordAt s x) (lane_at m s x).records
     pub replies : (s y : ℕ) → s < c.stages → y < size c
         → AllByRecursion (IsReplyAt s y) (replies_at m s y)
-    pub inputs : (k : ℕ) → k < size c → IfSome (bank_at m k).inp (IsPlacedAt k)
-    pub outputs : (k : ℕ) → k < size c → IfSome (bank_at m k).out (IsReplyOf k)
+    pub inputs : (k : ℕ) → k < size c → IfSome (module_at m k).inp (IsPlacedAt k)
+    pub outputs : (k : ℕ) → k < size c → IfSome (module_at m k).out (IsReplyOf k)
     pub pending : (p : ℕ) → p < size c → AllByRecursion (IsOwn p) (element_at m p).interface.pending
-    pub opened : (p : ℕ) → p < size c → AllByRecursion (λ (o : OpenCell). o.cell < size c * c.cells) (element_at m p).interface.opened
+    pub opened : (p : ℕ) → p < size c
+        → AllByRecursion (λ (o : OpenCell). o.cell < size c * c.cells)
+        (element_at m p).interface.opened

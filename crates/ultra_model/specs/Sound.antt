@@ -1,12 +1,12 @@
 -- what holds of a machine at the start and after each phase of each cycle
 use Rattle.ultra_model.specs.Machine.{Settings, Machine}
 use Rattle.ultra_model.specs.Shape.{HasShape}
-use Rattle.ultra_model.specs.Capacity.{IsWithinPlaces}
+use Rattle.ultra_model.specs.Capacity.{IsWithinCapacity}
 use Rattle.ultra_model.specs.Routed.{IsRouted}
 use Rattle.ultra_model.specs.Balance.{IsBalanced}
 
 pub record IsSound (c : Settings) (m : Machine) : Type 0 where
   pub shape : HasShape c m
-  pub places : IsWithinPlaces c m
+  pub places : IsWithinCapacity c m
   pub routes : IsRouted c m
   pub balance : IsBalanced c m

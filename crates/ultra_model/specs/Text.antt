@@ -10,16 +10,13 @@ use Rattle.ultra_msg.specs.declared.Reply.TheVariants as reply
 use Rattle.ultra_msg.specs.declared.ReplyMessage.{ReplyMessage}
 use Rattle.ultra_msg.specs.declared.Give.{Give}
 use Rattle.ultra_msg.specs.declared.Give.TheVariants as give
-use Rattle.ultra_switch.specs.declared.Entry.{Entry}
+use Rattle.ultra_switch.specs.declared.QueueEntry.{QueueEntry}
 use Rattle.ultra_switch.specs.declared.WaitRecord.{WaitRecord}
 use Rattle.ultra_isa.specs.declared.MachineFault.{MachineFault}
 use Rattle.ultra_isa.specs.declared.MachineFault.TheVariants.{AddressOutOfRange, PastEnd}
 use Rattle.ultra_isa.specs.declared.Activity.{Activity}
 use Rattle.ultra_isa.specs.declared.Activity.TheVariants.{Running, Halted, Faulted}
-
--- a line's end
-abbrev pub newline : List ℕ
-newline = 10 ∷ []
+pub use Rattle.ultra_msg.specs.Bytes.{newline}
 
 -- an operation
 abbrev pub op_text : Op → List ℕ
@@ -41,7 +38,7 @@ abbrev pub mark_text : Bool → List ℕ
 mark_text true = codes " *"
 mark_text false = []
 
-abbrev pub entry_text : Entry → List ℕ
+abbrev pub entry_text : QueueEntry → List ℕ
 entry_text e = request_text e.request ++ mark_text e.combined
 
 -- a reply, and with its identity, `P@A = V` or `P@A = ack`
@@ -62,7 +59,9 @@ give_text give.Ack = codes "ack"
 -- a record of a wait buffer, `P@A GIVE Q GIVE`: the identity of old, old's way, new's processing
 -- element, new's way
 abbrev pub record_text : WaitRecord → List ℕ
-record_text w = identity_text w.pe w.cell ++ codes " " ++ give_text w.give_old ++ codes " " ++ decimal w.partner ++ codes " " ++ give_text w.give_new
+record_text w =
+    identity_text w.pe w.cell ++ codes " " ++ give_text w.give_old ++ codes " "
+    ++ decimal w.partner ++ codes " " ++ give_text w.give_new
 
 -- the faults, and what a processing element is doing
 abbrev pub fault_text : MachineFault → List ℕ
@@ -75,9 +74,9 @@ activity_text Halted = codes "halted"
 activity_text (Faulted f) = fault_text f
 
 -- the entries of one line, the front first
-abbrev pub listed : {X : Type 0} → (X → List ℕ) → List X → List ℕ
-listed text [] = []
-listed text (x ∷ xs) = text x ++ flat_map (λ y. codes ", " ++ text y) xs
+abbrev pub comma_separated : {X : Type 0} → (X → List ℕ) → List X → List ℕ
+comma_separated text [] = []
+comma_separated text (x ∷ xs) = text x ++ flat_map (λ y. codes ", " ++ text y) xs
 
 -- what stands before the entry at an index
 abbrev pub separator : ℕ → List ℕ

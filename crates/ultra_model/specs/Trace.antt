@@ -6,15 +6,15 @@ use Rattle.ultra_msg.specs.declared.Request.{Request}
 use Rattle.ultra_msg.specs.declared.ReplyMessage.{ReplyMessage}
 use Rattle.ultra_msg.specs.declared.Event.{Event}
 use Rattle.ultra_msg.specs.declared.Event.TheVariants.{Delivered, Served, Combined, Issued}
-use Rattle.ultra_switch.specs.declared.Entry.{Entry}
+use Rattle.ultra_switch.specs.declared.QueueEntry.{QueueEntry}
 use Rattle.ultra_switch.specs.declared.WaitRecord.{WaitRecord}
 use Rattle.ultra_mem.specs.declared.Placed.{Placed}
 use Rattle.ultra_isa.specs.declared.Instr.{Instr}
 use Rattle.ultra_isa.specs.Step.{Core}
 use Rattle.ultra_model.specs.declared.Stop.{Stop}
-use Rattle.ultra_model.specs.Machine.{Settings, Machine, size, lane_at, replies_at, bank_at, element_at, is_quiet}
+use Rattle.ultra_model.specs.Machine.{Settings, Machine, size, lane_at, replies_at, module_at, element_at, is_quiet}
 use Rattle.ultra_model.specs.Phases.{after}
-use Rattle.ultra_model.specs.Text.{newline, request_text, entry_text, reply_text, message_text, record_text, fault_text, activity_text, listed}
+use Rattle.ultra_model.specs.Text.{newline, request_text, entry_text, reply_text, message_text, record_text, fault_text, activity_text, comma_separated}
 
 -- ---- what happened in the cycle
 -- a reply was delivered
@@ -27,7 +27,9 @@ got_line (Issued r n) = []
 -- a module has served a request
 abbrev pub act_line : Event → List ℕ
 act_line (Delivered m) = []
-act_line (Served k r v now) = codes "act " ++ decimal k ++ codes " " ++ request_text r ++ codes " = " ++ reply_text v ++ codes " now " ++ decimal now ++ newline
+act_line (Served k r v now) =
+    codes "act " ++ decimal k ++ codes " " ++ request_text r ++ codes " = " ++ reply_text v
+    ++ codes " now " ++ decimal now ++ newline
 act_line (Combined s x a old new first) = []
 act_line (Issued r n) = []
 
@@ -35,10 +37,10 @@ act_line (Issued r n) = []
 abbrev pub fault_line : Stop → List ℕ
 fault_line s = codes "fault " ++ decimal s.pe ++ codes " " ++ fault_text s.fault ++ newline
 
--- ---- what stands where after the cycle; an empty place has no line
+-- ---- what is where after the cycle; an empty queue, buffer or register has no line
 abbrev pub place_line : {X : Type 0} → List ℕ → (X → List ℕ) → List X → List ℕ
 place_line name text [] = []
-place_line name text (x ∷ xs) = name ++ codes ": " ++ listed text (x ∷ xs) ++ newline
+place_line name text (x ∷ xs) = name ++ codes ": " ++ comma_separated text (x ∷ xs) ++ newline
 
 -- a register holds one or none
 abbrev pub held : {X : Type 0} → Option X → List X
@@ -56,7 +58,7 @@ stage_name word s x = word ++ codes " " ++ decimal s ++ codes " " ++ decimal x
 abbrev pub pni_line : ℕ → List Request → List ℕ
 pni_line p rs = place_line (unit_name (codes "pni") p) request_text rs
 
-abbrev pub req_line : ℕ → ℕ → List Entry → List ℕ
+abbrev pub req_line : ℕ → ℕ → List QueueEntry → List ℕ
 req_line s x es = place_line (stage_name (codes "req") s x) entry_text es
 
 abbrev pub wait_line : ℕ → ℕ → List WaitRecord → List ℕ
@@ -80,23 +82,23 @@ abbrev pub by_stage : Settings → (ℕ → ℕ → List ℕ) → List ℕ
 by_stage c line = by_number c.stages (λ s. by_number (size c) (λ x. line s x))
 
 -- the lines of one processing element, of one position of a stage, and of one module
-abbrev pub pni_of : Machine → ℕ → List ℕ
-pni_of m p = pni_line p (element_at m p).interface.pending
+abbrev pub pni_lines : Machine → ℕ → List ℕ
+pni_lines m p = pni_line p (element_at m p).interface.pending
 
-abbrev pub req_of : Machine → ℕ → ℕ → List ℕ
-req_of m s x = req_line s x (lane_at m s x).queue
+abbrev pub req_lines : Machine → ℕ → ℕ → List ℕ
+req_lines m s x = req_line s x (lane_at m s x).queue
 
-abbrev pub wait_of : Machine → ℕ → ℕ → List ℕ
-wait_of m s x = wait_line s x (lane_at m s x).records
+abbrev pub wait_lines : Machine → ℕ → ℕ → List ℕ
+wait_lines m s x = wait_line s x (lane_at m s x).records
 
-abbrev pub inp_of : Machine → ℕ → List ℕ
-inp_of m k = inp_line k (bank_at m k).inp
+abbrev pub inp_lines : Machine → ℕ → List ℕ
+inp_lines m k = inp_line k (module_at m k).inp
 
-abbrev pub out_of : Machine → ℕ → List ℕ
-out_of m k = out_line k (bank_at m k).out
+abbrev pub out_lines : Machine → ℕ → List ℕ
+out_lines m k = out_line k (module_at m k).out
 
-abbrev pub rep_of : Machine → ℕ → ℕ → List ℕ
-rep_of m s y = rep_line s y (replies_at m s y)
+abbrev pub rep_lines : Machine → ℕ → ℕ → List ℕ
+rep_lines m s y = rep_line s y (replies_at m s y)
 
 -- ---- one cycle, after which this is the machine
 -- what happened in the cycle
@@ -107,12 +109,12 @@ events_text events stops =
 -- what stands where after the cycle
 abbrev pub state_text : Settings → Machine → List ℕ
 state_text c m =
-    by_number (size c) (pni_of m)
-    ++ by_stage c (req_of m)
-    ++ by_stage c (wait_of m)
-    ++ by_number (size c) (inp_of m)
-    ++ by_number (size c) (out_of m)
-    ++ by_stage c (rep_of m)
+    by_number (size c) (pni_lines m)
+    ++ by_stage c (req_lines m)
+    ++ by_stage c (wait_lines m)
+    ++ by_number (size c) (inp_lines m)
+    ++ by_number (size c) (out_lines m)
+    ++ by_stage c (rep_lines m)
 
 unfoldable pub cycle_text : Settings → Machine → List ℕ
 cycle_text c m =
@@ -141,20 +143,24 @@ unfoldable pub registers_text : List ℕ → List ℕ
 registers_text values = by_number 16 (λ i. register_text i (slice_index values i))
 
 abbrev pub pe_line : ℕ → Core → List ℕ
-pe_line p e = codes "pe " ++ decimal p ++ codes " " ++ activity_text e.activity ++ codes " " ++ decimal e.place ++ registers_text e.registers ++ newline
+pe_line p e =
+    codes "pe " ++ decimal p ++ codes " " ++ activity_text e.activity ++ codes " " ++ decimal e.pc
+    ++ registers_text e.registers ++ newline
 
 -- the value of the cell at an address: it lies in the module that the address modulo N names
 abbrev pub cell_value : Settings → Machine → ℕ → ℕ
-cell_value c m a = slice_index (bank_at m (a % size c)).cells (a / size c)
+cell_value c m a = slice_index (module_at m (a % size c)).cells (a / size c)
 
-abbrev pub cell_of : Settings → Machine → ℕ → List ℕ
-cell_of c m a = cell_line a (cell_value c m a)
+abbrev pub cell_lines : Settings → Machine → ℕ → List ℕ
+cell_lines c m a = cell_line a (cell_value c m a)
 
-abbrev pub pe_of : Machine → ℕ → List ℕ
-pe_of m p = pe_line p (element_at m p).core
+abbrev pub pe_lines : Machine → ℕ → List ℕ
+pe_lines m p = pe_line p (element_at m p).core
 
 unfoldable pub end_text : Settings → Machine → List ℕ
-end_text c m = ending_text (is_quiet m) ++ newline ++ by_number (size c * c.cells) (cell_of c m) ++ by_number (size c) (pe_of m)
+end_text c m =
+    ending_text (is_quiet m) ++ newline ++ by_number (size c * c.cells) (cell_lines c m)
+    ++ by_number (size c) (pe_lines m)
 
 -- ---- the whole
 module _ (c : Settings) (program : List Instr) where

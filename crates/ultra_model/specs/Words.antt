@@ -9,12 +9,12 @@ use Rattle.ultra_msg.specs.declared.Give.{Give}
 use Rattle.ultra_msg.specs.declared.Give.TheVariants as give
 use Rattle.ultra_msg.specs.declared.Request.{Request}
 use Rattle.ultra_msg.specs.declared.ReplyMessage.{ReplyMessage}
-use Rattle.ultra_switch.specs.declared.Entry.{Entry}
+use Rattle.ultra_switch.specs.declared.QueueEntry.{QueueEntry}
 use Rattle.ultra_switch.specs.declared.WaitRecord.{WaitRecord}
 use Rattle.ultra_mem.specs.declared.Placed.{Placed}
 use Rattle.ultra_isa.specs.declared.Instr.{Instr}
 use Rattle.ultra_isa.specs.declared.Instr.TheVariants.{Set, Add, AddWord, Subtract, And, ShiftRight, IsBelow, IsEqual, JumpIfZero, JumpIfNotZero, Jump, Number, Size, Load, Store, Faa, Swap, Fence, Halt}
-use Rattle.ultra_model.specs.Machine.{Settings, Machine, size, lane_at, replies_at, bank_at, element_at}
+use Rattle.ultra_model.specs.Machine.{Settings, Machine, size, lane_at, replies_at, module_at, element_at}
 
 abbrev pub IsWord : ℕ → Type 0
 IsWord v = v < 2 ^ 32
@@ -61,14 +61,17 @@ NamesWord Halt = Unit {0}
 -- the cells, the registers, and what every message and record carries
 pub record HoldsWords (c : Settings) (m : Machine) : Type 0 where
   pub requests : (s x : ℕ) → s < c.stages → x < size c
-      → AllByRecursion (λ (e : Entry). OfWord e.request.op) (lane_at m s x).queue
-  pub records : (s x : ℕ) → s < c.stages → x < size c → AllByRecursion (λ (w : WaitRecord). AddsWord w.give_old × AddsWord w.give_new) (lane_at m s x).records
+      → AllByRecursion (λ (e : QueueEntry). OfWord e.request.op) (lane_at m s x).queue
+  pub records : (s x : ℕ) → s < c.stages → x < size c
+      → AllByRecursion (λ (w : WaitRecord). AddsWord w.give_old × AddsWord w.give_new)
+      (lane_at m s x).records
   pub replies : (s y : ℕ) → s < c.stages → y < size c
       → AllByRecursion (λ (r : ReplyMessage). GivesWord r.reply) (replies_at m s y)
-  pub inputs : (k : ℕ) → k < size c → IfSome (bank_at m k).inp (λ (p : Placed). OfWord p.request.op)
+  pub inputs : (k : ℕ) → k < size c
+      → IfSome (module_at m k).inp (λ (p : Placed). OfWord p.request.op)
   pub outputs : (k : ℕ) → k < size c
-      → IfSome (bank_at m k).out (λ (r : ReplyMessage). GivesWord r.reply)
-  pub cells : (k : ℕ) → k < size c → AllByRecursion IsWord (bank_at m k).cells
+      → IfSome (module_at m k).out (λ (r : ReplyMessage). GivesWord r.reply)
+  pub cells : (k : ℕ) → k < size c → AllByRecursion IsWord (module_at m k).cells
   pub pending : (p : ℕ) → p < size c
       → AllByRecursion (λ (r : Request). OfWord r.op) (element_at m p).interface.pending
   pub registers : (p : ℕ) → p < size c → AllByRecursion IsWord (element_at m p).core.registers

@@ -2,15 +2,24 @@
 
 ghost use Rattle.std.specs.Prelude.{◌≡◌, ◌≢◌, ℕ, ◌*◌, ◌^◌, ◌<◌, ◌≤◌, true, false, Some, All, AllPairs, IfOk, OnOk, IfErr, OnErr, IfSome, OnSome, IfNone};
 ghost use Rattle.ultra_route.specs.declared.TheConstants.{MOST_STAGES};
-ghost use Rattle.ultra_model.specs.Accepted.{name_of, natural, number_of, is_below, is_within, is_cell, cell_of, are_initial, cells_of, first_bad, settings_of, ExplainsRefusal, ExplainsInitial};
+ghost use Rattle.ultra_model.specs.Accepted.{name_of, natural, number_or_zero, is_below, is_within, is_cell, initial_cell, are_initial, cells_of, first_bad, settings_of, ExplainsConfigFault, ExplainsInitial};
 ghost use Rattle.ultra_model.specs.Valid.{IsValid};
 
 use std::alloc::{AllocError, AllocFailed, Global};
 use std::fmt;
 use std::marker::Model;
 use thiserror::Error;
+use ultra_mem::MOST_CELLS;
 use ultra_msg::{Cell, Word};
+use ultra_pni::MOST_OPEN;
 use ultra_route::{MOST_STAGES, Net};
+use ultra_switch::{MOST_REQUEST_PLACES, MOST_WAIT_PLACES};
+
+/// The most places that a queue toward the processing elements can have.
+pub const MOST_REPLY_PLACES: u32 = 64;
+
+/// The most cycles of a run.
+pub const MOST_CYCLES: u32 = 1_000_000;
 
 /// The settings as they are given: the number of each key, or its default where the key is absent. `None` is a value that is missing, or of another kind than wanted.
 #[derive(Drop)]
@@ -160,15 +169,30 @@ impl Config {
     pub fn new(alloc: Global, raw: &RawSettings) -> Result<Config, ConfigFault>
         ensures accepted { OnOk result (first_bad raw.now ≡ None) }
         ensures value { IfOk result (λ c. c ≡ settings_of raw.now) }
-        ensures refused { IfErr result (ExplainsRefusal raw.now) }
+        ensures refused { IfErr result (ExplainsConfigFault raw.now) }
     {
         let stages = number_within(raw.stages, 1, MOST_STAGES, Field::Stages)?;
-        let request_places = number_within(raw.request_places, 2, 32, Field::RequestPlaces)?;
-        let reply_places = number_within(raw.reply_places, 4, 64, Field::ReplyPlaces)?;
-        let wait_places = number_within(raw.wait_places, 0, 16, Field::WaitPlaces)?;
-        let most_open = number_within(raw.most_open, 1, 8, Field::MostOpen)?;
-        let cells = number_within(raw.cells, 1, 4096, Field::Cells)?;
-        let cycles = number_within(raw.cycles, 1, 1_000_000, Field::Cycles)?;
+        let request_places = number_within(
+            raw.request_places,
+            2,
+            MOST_REQUEST_PLACES as u32,
+            Field::RequestPlaces,
+        )?;
+        let reply_places = number_within(
+            raw.reply_places,
+            4,
+            MOST_REPLY_PLACES,
+            Field::ReplyPlaces,
+        )?;
+        let wait_places = number_within(
+            raw.wait_places,
+            0,
+            MOST_WAIT_PLACES as u32,
+            Field::WaitPlaces,
+        )?;
+        let most_open = number_within(raw.most_open, 1, MOST_OPEN as u32, Field::MostOpen)?;
+        let cells = number_within(raw.cells, 1, MOST_CELLS, Field::Cells)?;
+        let cycles = number_within(raw.cycles, 1, MOST_CYCLES, Field::Cycles)?;
         let Some(given) = &raw.initial else {
             return Err(ConfigFault::BadConfig(Field::Initial));
         };
@@ -203,7 +227,7 @@ impl Config {
     /// The places of a queue toward memory, from 2 to 32.
     pub fn request_places(&self) -> u32
         ensures value { result ≡ self.now.request_places }
-        ensures range { (2 ≤ result) × (result ≤ 32) }
+        ensures range { (2 ≤ result) × (result ≤ MOST_REQUEST_PLACES) }
     {
         self.request_places
     }
@@ -211,7 +235,7 @@ impl Config {
     /// The places of a queue toward the processing elements, from 4 to 64.
     pub fn reply_places(&self) -> u32
         ensures value { result ≡ self.now.reply_places }
-        ensures range { (4 ≤ result) × (result ≤ 64) }
+        ensures range { (4 ≤ result) × (result ≤ MOST_REPLY_PLACES) }
     {
         self.reply_places
     }
@@ -219,7 +243,7 @@ impl Config {
     /// The places of a wait buffer, from 0 to 16.
     pub fn wait_places(&self) -> u32
         ensures value { result ≡ self.now.wait_places }
-        ensures range { result ≤ 16 }
+        ensures range { result ≤ MOST_WAIT_PLACES }
     {
         self.wait_places
     }
@@ -227,7 +251,7 @@ impl Config {
     /// The most open cells of a processing element, from 1 to 8.
     pub fn most_open(&self) -> u32
         ensures value { result ≡ self.now.most_open }
-        ensures range { (1 ≤ result) × (result ≤ 8) }
+        ensures range { (1 ≤ result) × (result ≤ MOST_OPEN) }
     {
         self.most_open
     }
@@ -235,7 +259,7 @@ impl Config {
     /// The cells of a module, from 1 to 4096.
     pub fn cells(&self) -> u32
         ensures value { result ≡ self.now.cells }
-        ensures range { (1 ≤ result) × (result ≤ 4096) }
+        ensures range { (1 ≤ result) × (result ≤ MOST_CELLS) }
     {
         self.cells
     }
@@ -251,7 +275,7 @@ impl Config {
     /// The most cycles, from 1 to 1,000,000.
     pub fn cycles(&self) -> u32
         ensures value { result ≡ self.now.cycles }
-        ensures range { (1 ≤ result) × (result ≤ 1000000) }
+        ensures range { (1 ≤ result) × (result ≤ MOST_CYCLES) }
     {
         self.cycles
     }
@@ -289,7 +313,7 @@ fn number_within(
     field: Field,
 ) -> Result<u32, ConfigFault>
     ensures within { OnOk result (is_within least most given ≡ true) }
-    ensures value { IfOk result (λ n. number_of given ≡ n) }
+    ensures value { IfOk result (λ n. number_or_zero given ≡ n) }
     ensures range { IfOk result (λ n. (least ≤ n) × (n ≤ most)) }
     ensures fault { IfErr result (λ e. e ≡ ConfigFault.BadConfig field) }
     ensures outside { OnErr result (is_within least most given ≡ false) }
@@ -320,7 +344,7 @@ fn number_below(number: i64, bound: u64) -> Option<u32>
 fn all_cells(stages: u32, cells: u32) -> u32
     requires some_stages { 1 ≤ stages }
     requires most_stages { stages ≤ 6 }
-    requires most_cells { cells ≤ 4096 }
+    requires most_cells { cells ≤ MOST_CELLS }
     ensures value { result ≡ 2 ^ stages * cells }
     ensures small { result ≤ 262144 }
 {
@@ -358,7 +382,7 @@ fn initial_within(
 /// The address with its value, if it is below the bound and the value is a word.
 fn initial_cell(pair: (i64, i64), all_cells: u32) -> Option<(Cell, Word)>
     ensures good { OnSome result (is_cell all_cells pair ≡ true) }
-    ensures value { IfSome result (λ c. c ≡ cell_of pair) }
+    ensures value { IfSome result (λ c. c ≡ initial_cell pair) }
     ensures address { IfSome result (λ c. c.0 < all_cells) }
     ensures word { IfSome result (λ c. c.1 < 2 ^ 32) }
     ensures refused { IfNone result (is_cell all_cells pair ≡ false) }

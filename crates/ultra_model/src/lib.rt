@@ -4,7 +4,7 @@
 
 mod config;
 
-pub use config::{Config, ConfigFault, Field, RawSettings};
+pub use config::{Config, ConfigFault, Field, MOST_CYCLES, MOST_REPLY_PLACES, RawSettings};
 use ultra_isa::MachineFault;
 use ultra_msg::Pe;
 

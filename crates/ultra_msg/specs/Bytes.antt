@@ -1,7 +1,11 @@
 -- bytes that go to a sink; this project's profile
-use Rattle.std.specs.Prelude.{◌≡◌, ◌≤◌, ◌<◌, ◌+◌, ℕ, List, ◌++◌, take, length, Result, OnOk, OnErr}
+use Rattle.std.specs.Prelude.{◌≡◌, ◌≤◌, ◌<◌, ◌+◌, ℕ, List, [], ◌∷◌, ◌++◌, take, length, Result, OnOk, OnErr}
 use Rattle.std.specs.Borrow.{Bor}
 use Rattle.std.specs.List.{flat_map}
+
+-- a line's end
+abbrev pub newline : List ℕ
+newline = 10 ∷ []
 
 -- the first list is a prefix of the second
 abbrev pub IsPrefix : {X : Type 0} → List X → List X → Type 0
@@ -31,7 +35,8 @@ abbrev pub in_a_row : List (Bor (List ℕ)) → List ℕ
 in_a_row pieces = flat_map (λ piece. piece.now) pieces
 
 -- the bytes were written, or the sink has failed once and has taken a prefix of them
-pub record Writes {T E : Type 0} (result : Result T E) (bytes old new : List ℕ) (before after : ℕ) : Type 0 where
+pub record Writes {T E : Type 0} (result : Result T E) (bytes old new : List ℕ)
+    (before after : ℕ) : Type 0 where
   pub ok : OnOk result (new ≡ old ++ bytes)
   pub still : OnOk result (after ≡ before)
   pub err : OnErr result (TakesPrefix bytes old new)

@@ -121,6 +121,23 @@ pub enum Op {
     Swap(Word),
 }
 
+impl Op {
+    ghost use Rattle.ultra_msg.specs.Act.{act};
+
+    /// What the operation makes of a cell with this value: the cell's value afterwards, and the reply. Sums are modulo `2^32`.
+    #[inline(always)]
+    pub fn act(self, value: Word) -> (Word, Reply)
+        ensures { result ≡ act self value }
+    {
+        match self {
+            Op::Load => (value, Reply::Value(value)),
+            Op::Store(word) => (word, Reply::Ack),
+            Op::Faa(addend) => (value.wrapping_add(addend), Reply::Value(value)),
+            Op::Swap(word) => (word, Reply::Value(value)),
+        }
+    }
+}
+
 /// A reference of a processing element (PE) to a cell. The PE and the cell are its identity in the network.
 #[derive(Clone, Copy, PartialEq, Eq, Debug, Default, Drop)]
 pub struct Request {

@@ -43,13 +43,13 @@ module _ (s : Site) (k : ℕ) (some : 1 ≤ k) (rs : List Request) where
 
   same_effect : (c : Core) (e : Effect) → IsSameStep (does s k c (closed_with rs) e) (does s 1 c empty_interface e)
   same_effect c (sets d v) = same _ _ refl refl refl
-  same_effect c (goes_on_at place) = same _ _ refl refl refl
+  same_effect c (goes_on_at pc) = same _ _ refl refl refl
   same_effect c (refers a o target) = same_reference (nat_lt a s.all_cells) c record { pe = s.pe; cell = a; op = o } target
   same_effect c waits = same _ _ refl refl refl
   same_effect c halts = same _ _ refl refl refl
 
   same_where : (a b : Bool) (c : Core) (n : Instr) → a ≡ false → b ≡ false → IsSameStep (runs_where s k a c (closed_with rs) n) (runs_where s 1 b c empty_interface n)
-  same_where a b c n p q = rw (p, q) (same_effect c (effect s c.registers c.place n))
+  same_where a b c n p q = rw (p, q) (same_effect c (effect s c.registers c.pc n))
 
   same_run : (c : Core) (o : Option Instr) → IsSameStep (runs s k c (closed_with rs) o) (runs s 1 c empty_interface o)
   same_run c None = same _ _ refl refl refl
@@ -64,23 +64,23 @@ module _ (s : Site) (k : ℕ) (some : 1 ≤ k) (rs : List Request) where
 pub same_step : (s : Site) (k : ℕ) → 1 ≤ k → (program : List Instr) (c : Core) (i : Interface) → i.opened ≡ [] → IsSameStep (step_of s k program c i) (step_of s 1 program c empty_interface)
 same_step s k some program c i e =
     let is : closed_with i.pending ≡ i = ap (λ os. record { opened = os; pending = i.pending }) (sym e) in
-    subst (λ j. IsSameStep (step_of s k program c j) (step_of s 1 program c empty_interface)) is (same_as s k some i.pending c.activity c (slice_get program c.place))
+    subst (λ j. IsSameStep (step_of s k program c j) (step_of s 1 program c empty_interface)) is (same_as s k some i.pending c.activity c (slice_get program c.pc))
 
 -- ---- what a step that sends a request does besides
 pub record IsReference (program : List Instr) (c d : Core) : Type 0 where
   pub instr : Instr
-  pub at : slice_get program c.place ≡ Some instr
+  pub at : slice_get program c.pc ≡ Some instr
   pub refers : refers_to_cell instr ≡ true
   pub running : c.activity ≡ activity.Running
-  pub core : d ≡ record c { place = c.place + 1 }
+  pub core : d ≡ record c { pc = c.pc + 1 }
 
 module _ (s : Site) where
-  reference_core : (b : Bool) (c : Core) (q : Request) (target : Option ℕ) (r : Request) → (refers_where s 1 b c empty_interface q target).sent ≡ Some r → (refers_where s 1 b c empty_interface q target).core ≡ record c { place = c.place + 1 }
+  reference_core : (b : Bool) (c : Core) (q : Request) (target : Option ℕ) (r : Request) → (refers_where s 1 b c empty_interface q target).sent ≡ Some r → (refers_where s 1 b c empty_interface q target).core ≡ record c { pc = c.pc + 1 }
   reference_core true c q target r e = refl
   reference_core false c q target r e = absurd cc
 
   abbrev Refers : Bool → Core → Instr → Type 0
-  Refers b c n = (refers_to_cell n ≡ true) × ((runs_where s 1 b c empty_interface n).core ≡ record c { place = c.place + 1 })
+  Refers b c n = (refers_to_cell n ≡ true) × ((runs_where s 1 b c empty_interface n).core ≡ record c { pc = c.pc + 1 })
 
   reference : (b : Bool) (c : Core) (n : Instr) (r : Request) → (runs_where s 1 b c empty_interface n).sent ≡ Some r → Refers b c n
   reference true c n r e = absurd cc
@@ -90,7 +90,7 @@ module _ (s : Site) where
   reference false c (Swap d a b) r e = (refl, reference_core (nat_lt _ s.all_cells) c _ _ r e)
   reference false c n r e = absurd cc
 
-  reference_run : (program : List Instr) (a : Activity) (c : Core) (o : Option Instr) (r : Request) → c.activity ≡ a → slice_get program c.place ≡ o → (runs_as s 1 a c empty_interface o).sent ≡ Some r → IsReference program c (runs_as s 1 a c empty_interface o).core
+  reference_run : (program : List Instr) (a : Activity) (c : Core) (o : Option Instr) (r : Request) → c.activity ≡ a → slice_get program c.pc ≡ o → (runs_as s 1 a c empty_interface o).sent ≡ Some r → IsReference program c (runs_as s 1 a c empty_interface o).core
   reference_run program activity.Running c None r p q e = absurd cc
   reference_run program activity.Running c (Some n) r p q e =
       let is = reference (names_awaited n empty_interface) c n r e in
@@ -99,7 +99,7 @@ module _ (s : Site) where
   reference_run program (activity.Faulted f) c o r p q e = absurd cc
 
 pub reference_step : (s : Site) (program : List Instr) (c : Core) (r : Request) → (step_of s 1 program c empty_interface).sent ≡ Some r → IsReference program c (step_of s 1 program c empty_interface).core
-reference_step s program c r e = reference_run s program c.activity c (slice_get program c.place) r refl refl e
+reference_step s program c r e = reference_run s program c.activity c (slice_get program c.pc) r refl refl e
 
 -- ---- a fence follows
 fence_begins : (is : List Instr) → begins_with_fence is ≡ true → slice_get is 0 ≡ Some Fence
@@ -133,7 +133,7 @@ stalls_where s k c i false p q = refl
 not_none : (i : Interface) (o : OpenCell) (os : List OpenCell) → i.opened ≡ o ∷ os → (length i.opened == 0) ≡ false
 not_none i o os e = let some : length i.opened ≢ 0 = rw e (omega arith) in other (length i.opened) 0 some
 
-pub fence_stalls : (s : Site) (k : ℕ) (program : List Instr) (c : Core) (i : Interface) (o : OpenCell) (os : List OpenCell) → c.activity ≡ activity.Running → slice_get program c.place ≡ Some Fence → i.opened ≡ o ∷ os
+pub fence_stalls : (s : Site) (k : ℕ) (program : List Instr) (c : Core) (i : Interface) (o : OpenCell) (os : List OpenCell) → c.activity ≡ activity.Running → slice_get program c.pc ≡ Some Fence → i.opened ≡ o ∷ os
     → step_of s k program c i ≡ stays step.Stalled c i
 fence_stalls s k program c i o os p q e =
-    ap (λ a. runs_as s k a c i (slice_get program c.place)) p ∙ (ap (λ n. runs s k c i n) q ∙ stalls_where s k c i (length i.opened == 0) refl (not_none i o os e))
+    ap (λ a. runs_as s k a c i (slice_get program c.pc)) p ∙ (ap (λ n. runs s k c i n) q ∙ stalls_where s k c i (length i.opened == 0) refl (not_none i o os e))

@@ -10,14 +10,14 @@ use Rattle.ultra_isa.specs.Step.{Core, received}
 use Rattle.ultra_model.specs.Machine.{Settings}
 use Rattle.ultra_model.specs.Balance.{weight, count}
 use Rattle.ultra_model.proofs.Neighbours.{itself, other}
-use Rattle.ultra_law.specs.declared.Issue.{Issue}
-use Rattle.ultra_law.specs.declared.Entry.{Entry as Done}
-use Rattle.ultra_law.specs.Log.{latest_number}
-use Rattle.ultra_law.specs.Legal.{request_of}
-use Rattle.ultra_law.proofs.Explained.{IsIn}
-use Rattle.ultra_law.proofs.Issued.{is_named}
-use Rattle.ultra_law.proofs.LaneForest.{in_counts}
-use Rattle.ultra_law.proofs.Tidy.{that_is}
+use Rattle.ultra_serial_law.specs.declared.LoggedIssue.{LoggedIssue}
+use Rattle.ultra_serial_law.specs.declared.Entry.{Entry as Done}
+use Rattle.ultra_serial_law.specs.Log.{latest_number}
+use Rattle.ultra_serial_law.specs.Legal.{leaf_of_entry}
+use Rattle.ultra_serial_law.proofs.Explained.{IsIn}
+use Rattle.ultra_serial_law.proofs.Issued.{is_named}
+use Rattle.ultra_serial_law.proofs.LaneForest.{in_counts}
+use Rattle.ultra_serial_law.proofs.Tidy.{that_is}
 use Rattle.ultra_para.proofs.Relation.{IsWaiting, State, opening}
 
 -- two in a list of what is counted once are one
@@ -51,14 +51,14 @@ none_counted : (os : List OpenCell) (a : ℕ) → os ≡ [] → 1 ≤ count (λ 
 none_counted os a e l = let none : count (λ (v : OpenCell). v.cell == a) os ≡ 0 = rw e refl in absurd (omega (arith, none, l))
 
 -- the answer that comes is that of an entry
-pub record IsAnswer (is : List Issue) (list : List Done) (p : ℕ) (r : ReplyMessage) : Type 0 where
+pub record IsAnswer (is : List LoggedIssue) (list : List Done) (p : ℕ) (r : ReplyMessage) : Type 0 where
   pub entry : Done
   pub stands : IsIn entry list
   pub pe : entry.pe ≡ p
   pub number : entry.number ≡ latest_number p r.cell is 0
   pub reply : entry.reply ≡ r.reply
 
-module _ (c : Settings) (program : List Instr) (is : List Issue) (list : List Done) (once : (p k : ℕ) → count (λ (d : Done). is_named p k (request_of d)) list ≤ 1) where
+module _ (c : Settings) (program : List Instr) (is : List LoggedIssue) (list : List Done) (once : (p k : ℕ) → count (λ (d : Done). is_named p k (leaf_of_entry d)) list ≤ 1) where
   module _ (p : ℕ) (now : Core) (os : List OpenCell) (k : ℕ) (q : Core) (r : ReplyMessage) (open_there : 1 ≤ count (λ (v : OpenCell). v.cell == r.cell) os) (a : IsAnswer is list p r) where
     abbrev pub core_after : Core
     core_after = record now { registers = received now.registers (target_of r.cell os) r.reply }
@@ -79,9 +79,9 @@ module _ (c : Settings) (program : List Instr) (is : List Issue) (list : List Do
     state_delivered (inr (inr s)) =
         let w = waited s.waiting in
         let n = s.waiting.number in
-        let one : is_named p n (request_of s.entry) ≡ true = rw (s.pe, s.number) (that_is p n) in
-        let two : is_named p n (request_of a.entry) ≡ true = rw (a.pe, w.2) (that_is p n) in
-        let same : s.entry ≡ a.entry = same_in (λ (d : Done). is_named p n (request_of d)) list s.entry a.entry (once p n) s.stands one a.stands two in
+        let one : is_named p n (leaf_of_entry s.entry) ≡ true = rw (s.pe, s.number) (that_is p n) in
+        let two : is_named p n (leaf_of_entry a.entry) ≡ true = rw (a.pe, w.2) (that_is p n) in
+        let same : s.entry ≡ a.entry = same_in (λ (d : Done). is_named p n (leaf_of_entry d)) list s.entry a.entry (once p n) s.stands one a.stands two in
         inl record {
           none = w.1;
           same = s.same

@@ -18,24 +18,24 @@ use Rattle.ultra_model.specs.Balance.{count}
 use Rattle.ultra_model.proofs.Each.{each-append, each-weaker, each-right, places_at, length-places}
 use Rattle.ultra_model.proofs.AtPlaces.{element-start, element-reply_phase, element-memory_phase, element-request_phase, element-processor_phase}
 use Rattle.ultra_model.proofs.ReplyBalance.{delivered_open}
-use Rattle.ultra_law.specs.declared.Issue.{Issue}
-use Rattle.ultra_law.specs.declared.Entry.{Entry as Done}
-use Rattle.ultra_law.specs.declared.Leaf.{Leaf}
-use Rattle.ultra_law.specs.Log.{latest_number}
-use Rattle.ultra_law.specs.Legal.{Cells, given, answered_by, request_of, cells_after, replayed}
-use Rattle.ultra_law.specs.SerialList.{History, noted, history}
-use Rattle.ultra_law.proofs.Forest.{leaf_of}
-use Rattle.ultra_law.proofs.Explained.{IsIn, in-append}
-use Rattle.ultra_law.proofs.Mentions.{in-places}
-use Rattle.ultra_law.proofs.MemoryForest.{noted-append}
-use Rattle.ultra_law.proofs.ProcessorForest.{issues_noted, noted_issues}
-use Rattle.ultra_law.proofs.RequestForest.{in_holds}
-use Rattle.ultra_law.proofs.Named.{IsNoIssue, IsLogged, AreLogged, noted_logged}
-use Rattle.ultra_law.proofs.Issued.{is_named, IsEarlier, same_issues, NewIssue, each_issued, sent_own}
-use Rattle.ultra_law.proofs.Answered.{IsNoAct, same_order}
-use Rattle.ultra_law.proofs.Lists.{count_replayed, each_replayed}
-use Rattle.ultra_law.proofs.Replays.{replayed-append}
-use Rattle.ultra_law.proofs.Law.{IsSerial, serial_after, grows-noted, deliveries, servings, meetings, issues_of, any_delivery, each_serving, each_meeting, events_of, delivered_entry, history_next, given_is}
+use Rattle.ultra_serial_law.specs.declared.LoggedIssue.{LoggedIssue}
+use Rattle.ultra_serial_law.specs.declared.Entry.{Entry as Done}
+use Rattle.ultra_serial_law.specs.declared.NamedRequest.{NamedRequest}
+use Rattle.ultra_serial_law.specs.Log.{latest_number}
+use Rattle.ultra_serial_law.specs.Legal.{Cells, given, answered_by, leaf_of_entry, cells_after, replayed}
+use Rattle.ultra_serial_law.specs.SerialList.{History, noted, history}
+use Rattle.ultra_serial_law.proofs.Forest.{leaf_of}
+use Rattle.ultra_serial_law.proofs.Explained.{IsIn, in-append}
+use Rattle.ultra_serial_law.proofs.Mentions.{in-places}
+use Rattle.ultra_serial_law.proofs.MemoryForest.{noted-append}
+use Rattle.ultra_serial_law.proofs.ProcessorForest.{issues_noted, noted_issues}
+use Rattle.ultra_serial_law.proofs.RequestForest.{in_holds}
+use Rattle.ultra_serial_law.proofs.Named.{IsNoIssue, IsLogged, AreLogged, noted_logged}
+use Rattle.ultra_serial_law.proofs.Issued.{is_named, IsEarlier, same_issues, NewIssue, each_issued, sent_own}
+use Rattle.ultra_serial_law.proofs.Answered.{IsNoAct, same_order}
+use Rattle.ultra_serial_law.proofs.Lists.{count_replayed, each_replayed}
+use Rattle.ultra_serial_law.proofs.Replays.{replayed-append}
+use Rattle.ultra_serial_law.proofs.Law.{IsSerial, serial_after, grows-noted, deliveries, servings, meetings, issues_of, any_delivery, each_serving, each_meeting, events_of, delivered_entry, history_next, given_is}
 use Rattle.ultra_para.specs.Para.{Para, core_at, start_para, run_para}
 use Rattle.ultra_para.specs.Careful.{is_careful}
 use Rattle.ultra_para.specs.Law.{IsReached, ParacomputerLaw}
@@ -59,7 +59,7 @@ all_of P (x ∷ xs) h (suc k) d l = all_of P xs h.1 k d (omega (arith, l))
 
 module _ (c : Settings) (program : List Instr) where
   -- ---- replies
-  module _ (is : List Issue) (list : List Done) (once : (p k : ℕ) → count (λ (d : Done). is_named p k (request_of d)) list ≤ 1) (p : ℕ) (q : Core) (e : Element) where
+  module _ (is : List LoggedIssue) (list : List Done) (once : (p k : ℕ) → count (λ (d : Done). is_named p k (leaf_of_entry d)) list ≤ 1) (p : ℕ) (q : Core) (e : Element) where
     deliver_one : (o : Option ReplyMessage) → IfSome o (λ r. (r.pe ≡ p) × (1 ≤ count (λ (v : OpenCell). v.cell == r.cell) e.interface.opened)) → IfSome o (λ r. IsIn (answered_by (leaf_of is r.pe r.cell) r.reply) list)
         → State c program is list p e.core e.interface.opened e.issued q → State c program is list p (deliver e o).core (deliver e o).interface.opened (deliver e o).issued q
     deliver_one None h g s = s
@@ -91,7 +91,7 @@ module _ (c : Settings) (range : AreInRange c) (program : List Instr) (careful :
     abbrev h : History
     h = history c program n
 
-    abbrev is : List Issue
+    abbrev is : List LoggedIssue
     is = h.log.issues
 
     -- the events of the cycle before the last phase, and those of the last
@@ -136,7 +136,7 @@ module _ (c : Settings) (range : AreInRange c) (program : List Instr) (careful :
     serial_next : IsSerial c (suc n) (after c program (suc n)) (history c program (suc n))
     serial_next = serial_after c range program (suc n)
 
-    rest : List Leaf
+    rest : List NamedRequest
     rest = (grows-noted n early h).0
 
     longer : mid.order ≡ h.order ++ rest
@@ -146,14 +146,14 @@ module _ (c : Settings) (range : AreInRange c) (program : List Instr) (careful :
     logged : AreLogged is (h.order ++ rest)
     logged =
         let one = (noted_logged n early h serial.recorded.logged).order in
-        let two : AreLogged is mid.order = subst (λ (js : List Issue). AreLogged js mid.order) mid_issues one in
-        subst (λ (ls : List Leaf). AreLogged is ls) longer two
+        let two : AreLogged is mid.order = subst (λ (js : List LoggedIssue). AreLogged js mid.order) mid_issues one in
+        subst (λ (ls : List NamedRequest). AreLogged is ls) longer two
 
     logged_rest : AreLogged is rest
     logged_rest = each-right (IsLogged is) h.order rest logged
 
-    small_rest : AllByRecursion (λ (l : Leaf). l.pe < size c) rest
-    small_rest = each-weaker (IsLogged is) (λ (l : Leaf). l.pe < size c) rest (λ l z. let known = in_holds (IsEarlier c m n) z.0 is serial.recorded.issues z.1 in rw (← z.2) known.element) logged_rest
+    small_rest : AllByRecursion (λ (l : NamedRequest). l.pe < size c) rest
+    small_rest = each-weaker (IsLogged is) (λ (l : NamedRequest). l.pe < size c) rest (λ l z. let known = in_holds (IsEarlier c m n) z.0 is serial.recorded.issues z.1 in rw (← z.2) known.element) logged_rest
 
     order_is : (history c program (suc n)).order ≡ h.order ++ rest
     order_is = next_order ∙ longer
@@ -163,17 +163,17 @@ module _ (c : Settings) (range : AreInRange c) (program : List Instr) (careful :
         let same : count (is_named p k) (history c program (suc n)).order ≡ count (is_named p k) (h.order ++ rest) = ap (λ ls. count (is_named p k) ls) order_is in
         omega (arith, same, serial_next.recorded.once p k)
 
-    abbrev order : List Leaf
+    abbrev order : List NamedRequest
     order = h.order ++ rest
 
     abbrev list : List Done
     list = replayed initial order
 
-    once : (p k : ℕ) → count (λ (d : Done). is_named p k (request_of d)) list ≤ 1
+    once : (p k : ℕ) → count (λ (d : Done). is_named p k (leaf_of_entry d)) list ≤ 1
     once p k = omega (arith, count_replayed (is_named p k) initial order, once_order p k)
 
-    all_logged : (d : Done) → IsIn d list → IsLogged is (request_of d)
-    all_logged d k = in_holds (λ (u : Done). IsLogged is (request_of u)) d list (each_replayed (IsLogged is) initial order logged) k
+    all_logged : (d : Done) → IsIn d list → IsLogged is (leaf_of_entry d)
+    all_logged d k = in_holds (λ (u : Done). IsLogged is (leaf_of_entry u)) d list (each_replayed (IsLogged is) initial order logged) k
 
     -- ---- a processing element through the cycle
     brought : (p : ℕ) → p < size c → element_at m3 p ≡ without_pending (deliver (element_at m p) (delivered c m p)) (arriving_request c m2 0 (shuffled c.stages p))
@@ -204,9 +204,9 @@ module _ (c : Settings) (range : AreInRange c) (program : List Instr) (careful :
         let number : (element_at m3 q).issued ≡ (element_at m3 p).issued = ap (λ z. (element_at m3 z).issued) (sym e) in
         subst (λ o. IsNewOf o (element_at m3 p).issued record { pe = r.pe; number = (element_at m3 q).issued; cell = r.cell; op = r.op; cycle = n }) (sym sent) (number, refl, refl)
 
-    all_new : (p : ℕ) → AllByRecursion (NewIssue (λ (u : Issue). u.pe ≡ p → IsNewOf (step_at c program m3 p).sent (element_at m3 p).issued u) n) es
+    all_new : (p : ℕ) → AllByRecursion (NewIssue (λ (u : LoggedIssue). u.pe ≡ p → IsNewOf (step_at c program m3 p).sent (element_at m3 p).issued u) n) es
     all_new p =
-        each_issued c program m3 (NewIssue (λ (u : Issue). u.pe ≡ p → IsNewOf (step_at c program m3 p).sent (element_at m3 p).issued u) n)
+        each_issued c program m3 (NewIssue (λ (u : LoggedIssue). u.pe ≡ p → IsNewOf (step_at c program m3 p).sent (element_at m3 p).issued u) n)
         (λ q r hq e own. new_is p q r (sym own ∙ sent_own c program m3 q r e) e)
 
     issue_listed_as : (p : ℕ) (o : Option Request) → p < size c → (step_at c program m3 p).sent ≡ o → IfSome o (λ (r : Request). (r.pe ≡ p) × IsIn (Issued r (element_at m3 p).issued) es)
@@ -223,16 +223,16 @@ module _ (c : Settings) (range : AreInRange c) (program : List Instr) (careful :
         rw (element-processor_phase c program m3 p hp) one
 
     -- ---- a cycle
-    served : (v : Para) → Stands n v → AreRelated c program is list (cells_after initial order) (λ p. element_at m p) (run_para c program v (map (λ (l : Leaf). l.pe) rest))
+    served : (v : Para) → Stands n v → AreRelated c program is list (cells_after initial order) (λ p. element_at m p) (run_para c program v (map (λ (l : NamedRequest). l.pe) rest))
     served v w = serve_all c program is initial (λ p. element_at m p) rest h.order v w small_rest logged_rest once_order
 
-    small_schedule : (ls : List Leaf) → AllByRecursion (λ (l : Leaf). l.pe < size c) ls → AllByRecursion (λ p. p < size c) (map (λ (l : Leaf). l.pe) ls)
+    small_schedule : (ls : List NamedRequest) → AllByRecursion (λ (l : NamedRequest). l.pe < size c) ls → AllByRecursion (λ p. p < size c) (map (λ (l : NamedRequest). l.pe) ls)
     small_schedule [] k = tt
     small_schedule (l ∷ ls) k = (k.0, small_schedule ls k.1)
 
     next : (v : Para) → Stands n v → IsReachedFrom c program is (issues_noted n es is) list (cells_after initial order) (λ z. element_at m z) (λ z. element_at (processor_phase c program m3) z) v (Stands (suc n))
     next v w =
-        let first = map (λ (l : Leaf). l.pe) rest in
+        let first = map (λ (l : NamedRequest). l.pe) rest in
         let r = all_turns c program is (issues_noted n es is) list (cells_after initial order) (λ z. element_at m z) (λ z. element_at (processor_phase c program m3) z) turns (run_para c program v first) (served v w) in
         record {
           schedule = first ++ r.schedule;
@@ -271,14 +271,14 @@ module _ (c : Settings) (range : AreInRange c) (program : List Instr) (careful :
       }
 
   -- ---- what the relation says of a processing element with no cell open
-  waits_for_one : (is : List Issue) (p : ℕ) (now : Core) (os : List OpenCell) (k : ℕ) → IsWaiting c program is p now os k → os ≡ [] → ⊥
+  waits_for_one : (is : List LoggedIssue) (p : ℕ) (now : Core) (os : List OpenCell) (k : ℕ) → IsWaiting c program is p now os k → os ≡ [] → ⊥
   waits_for_one is p now os k w e =
       let o = opening c program p w.before w.request w.sent in
       let one : OpenCell = record { cell = w.request.cell; target = o.target } in
       let both : ◌≡◌ {A = List OpenCell} (one ∷ []) [] = sym o.opened ∙ (w.opened ∙ e) in
       absurd cc
 
-  same_core : (is : List Issue) (list : List Done) (p : ℕ) (now : Core) (os : List OpenCell) (k : ℕ) (q : Core) → State c program is list p now os k q → os ≡ [] → q ≡ now
+  same_core : (is : List LoggedIssue) (list : List Done) (p : ℕ) (now : Core) (os : List OpenCell) (k : ℕ) (q : Core) → State c program is list p now os k q → os ≡ [] → q ≡ now
   same_core js ds p now os k q (inl s) e = s.same
   same_core js ds p now os k q (inr (inl s)) e = absurd (waits_for_one js p now os k s.waiting e)
   same_core js ds p now os k q (inr (inr s)) e = absurd (waits_for_one js p now os k s.waiting e)

@@ -12,31 +12,31 @@ use Rattle.ultra_isa.specs.Step.{Core, received}
 use Rattle.ultra_isa.proofs.Steps.{SendsInto, step_is}
 use Rattle.ultra_model.specs.Machine.{Settings, Element, size, site}
 use Rattle.ultra_model.proofs.Each.{each-weaker}
-use Rattle.ultra_law.specs.declared.Issue.{Issue}
-use Rattle.ultra_law.specs.declared.Entry.{Entry as Done}
-use Rattle.ultra_law.specs.Log.{latest_number}
-use Rattle.ultra_law.specs.Legal.{Cells}
-use Rattle.ultra_law.proofs.Explained.{IsIn, in-append}
+use Rattle.ultra_serial_law.specs.declared.LoggedIssue.{LoggedIssue}
+use Rattle.ultra_serial_law.specs.declared.Entry.{Entry as Done}
+use Rattle.ultra_serial_law.specs.Log.{latest_number}
+use Rattle.ultra_serial_law.specs.Legal.{Cells}
+use Rattle.ultra_serial_law.proofs.Explained.{IsIn, in-append}
 use Rattle.ultra_para.specs.Para.{Para, core_at, alone}
 
 -- a request with this name has acted
 abbrev pub IsServed : List Done → ℕ → ℕ → Type 0
 IsServed list p k = (d : Done) × IsIn d list × (d.pe ≡ p) × (d.number ≡ k)
 
-abbrev pub IsServedIssue : List Done → ℕ → ℕ → Issue → Type 0
+abbrev pub IsServedIssue : List Done → ℕ → ℕ → LoggedIssue → Type 0
 IsServedIssue list p issued i = i.pe ≡ p → (i.number < issued) × IsServed list p i.number
 
 -- all issues of p have acted
-abbrev pub AreServed : List Issue → List Done → ℕ → ℕ → Type 0
+abbrev pub AreServed : List LoggedIssue → List Done → ℕ → ℕ → Type 0
 AreServed is list p issued = AllByRecursion (IsServedIssue list p issued) is
 
 -- or it is this request of this number
-abbrev pub IsServedOr : List Done → ℕ → ℕ → ℕ → Request → Issue → Type 0
+abbrev pub IsServedOr : List Done → ℕ → ℕ → ℕ → Request → LoggedIssue → Type 0
 IsServedOr list p issued number r i = i.pe ≡ p → (i.number < issued) × (IsServed list p i.number ⊎ ((i.number ≡ number) × (i.cell ≡ r.cell) × (i.op ≡ r.op)))
 
 module _ (c : Settings) (program : List Instr) where
   -- p waits at a fence for the reply to the request that it made from the state `before`
-  pub record IsWaiting (is : List Issue) (p : ℕ) (now : Core) (os : List OpenCell) (issued : ℕ) : Type 0 where
+  pub record IsWaiting (is : List LoggedIssue) (p : ℕ) (now : Core) (os : List OpenCell) (issued : ℕ) : Type 0 where
     pub before : Core
     pub request : Request
     pub number : ℕ
@@ -45,24 +45,24 @@ module _ (c : Settings) (program : List Instr) where
     pub core : (alone c program p before).core ≡ now
     pub opened : (alone c program p before).interface.opened ≡ os
     pub running : now.activity ≡ Running
-    pub fence : slice_get program now.place ≡ Some Fence
+    pub fence : slice_get program now.pc ≡ Some Fence
     pub latest : latest_number p request.cell is 0 ≡ number
 
   -- no cell is open: the same on the paracomputer
-  pub record IsIdle (is : List Issue) (list : List Done) (p : ℕ) (now : Core) (os : List OpenCell) (issued : ℕ) (other : Core) : Type 0 where
+  pub record IsIdle (is : List LoggedIssue) (list : List Done) (p : ℕ) (now : Core) (os : List OpenCell) (issued : ℕ) (other : Core) : Type 0 where
     pub none : os ≡ []
     pub same : other ≡ now
     pub served : AreServed is list p issued
 
   -- the request hasn't acted: on the paracomputer it stands before the operation
-  pub record IsAsking (is : List Issue) (list : List Done) (p : ℕ) (now : Core) (os : List OpenCell) (issued : ℕ) (other : Core) : Type 0 where
+  pub record IsAsking (is : List LoggedIssue) (list : List Done) (p : ℕ) (now : Core) (os : List OpenCell) (issued : ℕ) (other : Core) : Type 0 where
     pub waiting : IsWaiting is p now os issued
     pub same : other ≡ waiting.before
     pub unserved : IsServed list p waiting.number → ⊥
     pub others : AllByRecursion (IsServedOr list p issued waiting.number waiting.request) is
 
   -- the request has acted: on the paracomputer it has the reply already
-  pub record IsActed (is : List Issue) (list : List Done) (p : ℕ) (now : Core) (os : List OpenCell) (issued : ℕ) (other : Core) : Type 0 where
+  pub record IsActed (is : List LoggedIssue) (list : List Done) (p : ℕ) (now : Core) (os : List OpenCell) (issued : ℕ) (other : Core) : Type 0 where
     pub waiting : IsWaiting is p now os issued
     pub entry : Done
     pub stands : IsIn entry list
@@ -71,11 +71,11 @@ module _ (c : Settings) (program : List Instr) where
     pub same : other ≡ record now { registers = received now.registers (target_of waiting.request.cell os) entry.reply }
     pub served : AreServed is list p issued
 
-  abbrev pub State : List Issue → List Done → ℕ → Core → List OpenCell → ℕ → Core → Type 0
+  abbrev pub State : List LoggedIssue → List Done → ℕ → Core → List OpenCell → ℕ → Core → Type 0
   State is list p now os issued other = IsIdle is list p now os issued other ⊎ (IsAsking is list p now os issued other ⊎ IsActed is list p now os issued other)
 
   -- the whole: the cells, and each processing element
-  pub record AreRelated (is : List Issue) (list : List Done) (cells : Cells) (e : ℕ → Element) (v : Para) : Type 0 where
+  pub record AreRelated (is : List LoggedIssue) (list : List Done) (cells : Cells) (e : ℕ → Element) (v : Para) : Type 0 where
     pub long : length v.cells ≡ size c * c.cells
     pub wide : length v.cores ≡ size c
     pub held : (a : ℕ) → a < size c * c.cells → slice_index v.cells a ≡ cells a
@@ -85,7 +85,7 @@ module _ (c : Settings) (program : List Instr) where
   served_more : (list more : List Done) (p k : ℕ) → IsServed list p k → IsServed (list ++ more) p k
   served_more list more p k h = (h.0, in-append h.0 list more h.1, h.2, h.3)
 
-  pub all_served_more : (is : List Issue) (list more : List Done) (p k : ℕ) → AreServed is list p k → AreServed is (list ++ more) p k
+  pub all_served_more : (is : List LoggedIssue) (list more : List Done) (p k : ℕ) → AreServed is list p k → AreServed is (list ++ more) p k
   all_served_more is list more p k h = each-weaker (IsServedIssue list p k) (IsServedIssue (list ++ more) p k) is (λ i f e. let g = f e in (g.0, served_more list more p i.number g.1)) h
 
   one_of_two : (list : List Done) (d u : Done) → IsIn u (list ++ d ∷ []) → IsIn u list ⊎ (d ≡ u)
@@ -98,10 +98,10 @@ module _ (c : Settings) (program : List Instr) where
   not_by_other list d u p k apart a b h (inl g) = h (u, g, a, b)
   not_by_other list d u p k apart a b h (inr e) = apart (ap (λ (w : Done). w.pe) e ∙ a)
 
-  or_more : (list more : List Done) (p k number : ℕ) (r : Request) (i : Issue) → IsServedOr list p k number r i → IsServedOr (list ++ more) p k number r i
+  or_more : (list more : List Done) (p k number : ℕ) (r : Request) (i : LoggedIssue) → IsServedOr list p k number r i → IsServedOr (list ++ more) p k number r i
   or_more list more p k number r i f e = let g = f e in (g.0, elim g.1 [ inl s ↦ inl (served_more list more p i.number s) | inr s ↦ inr s ])
 
-  pub state_other : (is : List Issue) (list : List Done) (d : Done) (p : ℕ) (now : Core) (os : List OpenCell) (k : ℕ) (other : Core) → d.pe ≢ p → State is list p now os k other → State is (list ++ d ∷ []) p now os k other
+  pub state_other : (is : List LoggedIssue) (list : List Done) (d : Done) (p : ℕ) (now : Core) (os : List OpenCell) (k : ℕ) (other : Core) → d.pe ≢ p → State is list p now os k other → State is (list ++ d ∷ []) p now os k other
   state_other is list d p now os k other apart (inl s) = inl record { none = s.none; same = s.same; served = all_served_more is list (d ∷ []) p k s.served }
   state_other is list d p now os k other apart (inr (inl s)) = inr (inl record {
     waiting = s.waiting;

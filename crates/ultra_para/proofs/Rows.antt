@@ -33,7 +33,7 @@ careful : is_careful add_one_carefully ≡ true
 careful = refl
 
 -- a fence does nothing, and who has halted stays
-fence_then_halt : (core_at (run_para one_stage add_one_carefully (start_para one_stage) (0 ∷ 0 ∷ 0 ∷ 0 ∷ 0 ∷ 0 ∷ [])) 0).place ≡ 4
+fence_then_halt : (core_at (run_para one_stage add_one_carefully (start_para one_stage) (0 ∷ 0 ∷ 0 ∷ 0 ∷ 0 ∷ 0 ∷ [])) 0).pc ≡ 4
 unfolding places
 fence_then_halt = refl
 

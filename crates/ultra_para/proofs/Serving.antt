@@ -14,18 +14,18 @@ use Rattle.ultra_model.specs.Balance.{weight, count}
 use Rattle.ultra_model.proofs.Each.{each-weaker}
 use Rattle.ultra_model.proofs.Counting.{count-append}
 use Rattle.ultra_model.proofs.Neighbours.{itself}
-use Rattle.ultra_law.specs.declared.Leaf.{Leaf}
-use Rattle.ultra_law.specs.declared.Issue.{Issue}
-use Rattle.ultra_law.specs.declared.Entry.{Entry as Done}
-use Rattle.ultra_law.specs.Legal.{Cells, with_cell, answered_by, cells_after, replayed, request_of}
-use Rattle.ultra_law.proofs.Explained.{in-append, in-append_right}
-use Rattle.ultra_law.proofs.Issued.{is_named}
-use Rattle.ultra_law.proofs.Named.{IsLogged}
-use Rattle.ultra_law.proofs.RequestForest.{in_holds}
-use Rattle.ultra_law.proofs.LaneForest.{in_counts}
-use Rattle.ultra_law.proofs.Lists.{count_replayed}
-use Rattle.ultra_law.proofs.Tidy.{that_is}
-use Rattle.ultra_law.proofs.Replays.{cells-append, replayed-append, with_other}
+use Rattle.ultra_serial_law.specs.declared.NamedRequest.{NamedRequest}
+use Rattle.ultra_serial_law.specs.declared.LoggedIssue.{LoggedIssue}
+use Rattle.ultra_serial_law.specs.declared.Entry.{Entry as Done}
+use Rattle.ultra_serial_law.specs.Legal.{Cells, with_cell, answered_by, cells_after, replayed, leaf_of_entry}
+use Rattle.ultra_serial_law.proofs.Explained.{in-append, in-append_right}
+use Rattle.ultra_serial_law.proofs.Issued.{is_named}
+use Rattle.ultra_serial_law.proofs.Named.{IsLogged}
+use Rattle.ultra_serial_law.proofs.RequestForest.{in_holds}
+use Rattle.ultra_serial_law.proofs.LaneForest.{in_counts}
+use Rattle.ultra_serial_law.proofs.Lists.{count_replayed}
+use Rattle.ultra_serial_law.proofs.Tidy.{that_is}
+use Rattle.ultra_serial_law.proofs.Replays.{cells-append, replayed-append, with_other}
 use Rattle.ultra_para.specs.Para.{Para, core_at, cells_acted, core_answered, alone, after_alone, para_step, run_para}
 use Rattle.ultra_para.proofs.Relation.{IsServed, IsServedIssue, IsServedOr, IsAsking, IsActed, State, AreRelated, state_other, IsOpening, opening}
 
@@ -49,23 +49,23 @@ module _ (c : Settings) (program : List Instr) where
       ap (λ q. after_alone c program v p (alone c program p q)) e
       ∙ ap (λ o. record { cells = cells_acted v.cells o; cores = slice_set v.cores p (core_answered v.cells (alone c program p before) o) }) f
 
-  module _ (is : List Issue) (initial : Cells) (e : ℕ → Element) where
-    abbrev Related : List Leaf → Para → Type 0
+  module _ (is : List LoggedIssue) (initial : Cells) (e : ℕ → Element) where
+    abbrev Related : List NamedRequest → Para → Type 0
     Related order v = AreRelated c program is (replayed initial order) (cells_after initial order) e v
 
     -- whose request this is: its processing element asks for it
-    pub record IsAsked (list : List Done) (l : Leaf) (v : Para) : Type 0 where
+    pub record IsAsked (list : List Done) (l : NamedRequest) (v : Para) : Type 0 where
       pub asking : IsAsking c program is list l.pe (e l.pe).core (e l.pe).interface.opened (e l.pe).issued (core_at v l.pe)
       pub number : l.number ≡ asking.waiting.number
       pub cell : l.cell ≡ asking.waiting.request.cell
       pub op : l.op ≡ asking.waiting.request.op
 
-    asked_by : (list : List Done) (l : Leaf) (v : Para) (s : IsAsking c program is list l.pe (e l.pe).core (e l.pe).interface.opened (e l.pe).issued (core_at v l.pe)) (i : Issue) → (i.number ≡ l.number) → (i.cell ≡ l.cell) → (i.op ≡ l.op)
+    asked_by : (list : List Done) (l : NamedRequest) (v : Para) (s : IsAsking c program is list l.pe (e l.pe).core (e l.pe).interface.opened (e l.pe).issued (core_at v l.pe)) (i : LoggedIssue) → (i.number ≡ l.number) → (i.cell ≡ l.cell) → (i.op ≡ l.op)
         → (IsServed list l.pe l.number → ⊥) → IsServed list l.pe i.number ⊎ ((i.number ≡ s.waiting.number) × (i.cell ≡ s.waiting.request.cell) × (i.op ≡ s.waiting.request.op)) → IsAsked list l v
     asked_by list l v s i n a o fresh (inl h) = absurd (fresh (subst (λ k. IsServed list l.pe k) n h))
     asked_by list l v s i n a o fresh (inr h) = record { asking = s; number = sym n ∙ h.0; cell = sym a ∙ h.1; op = sym o ∙ h.2 }
 
-    asked : (list : List Done) (l : Leaf) (v : Para) → IsLogged is l → (IsServed list l.pe l.number → ⊥) → State c program is list l.pe (e l.pe).core (e l.pe).interface.opened (e l.pe).issued (core_at v l.pe) → IsAsked list l v
+    asked : (list : List Done) (l : NamedRequest) (v : Para) → IsLogged is l → (IsServed list l.pe l.number → ⊥) → State c program is list l.pe (e l.pe).core (e l.pe).interface.opened (e l.pe).issued (core_at v l.pe) → IsAsked list l v
     asked list l v z fresh (inl s) =
         let k = (in_holds (IsServedIssue list l.pe (e l.pe).issued) z.0 is s.served z.1) z.2 in
         absurd (fresh (subst (λ n. IsServed list l.pe n) z.3 k.1))
@@ -76,7 +76,7 @@ module _ (c : Settings) (program : List Instr) where
         let k = (in_holds (IsServedIssue list l.pe (e l.pe).issued) z.0 is s.served z.1) z.2 in
         absurd (fresh (subst (λ n. IsServed list l.pe n) z.3 k.1))
 
-    module _ (order : List Leaf) (v : Para) (w : Related order v) (l : Leaf) (hp : l.pe < size c) (a : IsAsked (replayed initial order) l v) where
+    module _ (order : List NamedRequest) (v : Para) (w : Related order v) (l : NamedRequest) (hp : l.pe < size c) (a : IsAsked (replayed initial order) l v) where
       abbrev list : List Done
       list = replayed initial order
 
@@ -123,7 +123,7 @@ module _ (c : Settings) (program : List Instr) where
       core_same p same = rw same (get_or-set_same v.cores l.pe (answered start_core l.pe r value) fresh_core (omega (arith, hp, w.wide)))
 
       -- it has acted now
-      served_now : (i : Issue) → IsServedOr list l.pe (e l.pe).issued a.asking.waiting.number r i → IsServedIssue (list ++ done ∷ []) l.pe (e l.pe).issued i
+      served_now : (i : LoggedIssue) → IsServedOr list l.pe (e l.pe).issued a.asking.waiting.number r i → IsServedIssue (list ++ done ∷ []) l.pe (e l.pe).issued i
       served_now i f z =
           let g = f z in (
             g.0,
@@ -172,23 +172,23 @@ module _ (c : Settings) (program : List Instr) where
           } in
           rw (next, replayed-append initial order (l ∷ []), cells-append initial order (l ∷ [])) one
 
-    pub serve_one : (order : List Leaf) (v : Para) → Related order v → (l : Leaf) → l.pe < size c → IsLogged is l → (IsServed (replayed initial order) l.pe l.number → ⊥) → Related (order ++ l ∷ []) (para_step c program v l.pe)
+    pub serve_one : (order : List NamedRequest) (v : Para) → Related order v → (l : NamedRequest) → l.pe < size c → IsLogged is l → (IsServed (replayed initial order) l.pe l.number → ⊥) → Related (order ++ l ∷ []) (para_step c program v l.pe)
     serve_one order v w l hp z fresh = serves order v w l hp (asked (replayed initial order) l v z fresh (w.elements l.pe hp))
 
     -- ---- all entries
-    not_yet : (order rest : List Leaf) (l : Leaf) → count (is_named l.pe l.number) (order ++ l ∷ rest) ≤ 1 → IsServed (replayed initial order) l.pe l.number → ⊥
+    not_yet : (order rest : List NamedRequest) (l : NamedRequest) → count (is_named l.pe l.number) (order ++ l ∷ rest) ≤ 1 → IsServed (replayed initial order) l.pe l.number → ⊥
     not_yet order rest l once s =
         let t = is_named l.pe l.number in
-        let named : t (request_of s.0) ≡ true = rw (s.2, s.3) (that_is l.pe l.number) in
-        let there = in_counts (λ (d : Done). t (request_of d)) s.0 (replayed initial order) s.1 named in
+        let named : t (leaf_of_entry s.0) ≡ true = rw (s.2, s.3) (that_is l.pe l.number) in
+        let there = in_counts (λ (d : Done). t (leaf_of_entry d)) s.0 (replayed initial order) s.1 named in
         let here : weight (t l) ≡ 1 = rw (that_is l.pe l.number) refl in
         absurd (omega (arith, once, there, here, count_replayed t initial order, count-append t order (l ∷ rest)))
 
-    pub serve_all : (rest order : List Leaf) (v : Para) → Related order v → AllByRecursion (λ (l : Leaf). l.pe < size c) rest → AllByRecursion (IsLogged is) rest → ((p k : ℕ) → count (is_named p k) (order ++ rest) ≤ 1)
-        → Related (order ++ rest) (run_para c program v (map (λ (l : Leaf). l.pe) rest))
+    pub serve_all : (rest order : List NamedRequest) (v : Para) → Related order v → AllByRecursion (λ (l : NamedRequest). l.pe < size c) rest → AllByRecursion (IsLogged is) rest → ((p k : ℕ) → count (is_named p k) (order ++ rest) ≤ 1)
+        → Related (order ++ rest) (run_para c program v (map (λ (l : NamedRequest). l.pe) rest))
     serve_all [] order v w hp z once = rw (append-nil order) w
     serve_all (l ∷ rest) order v w hp z once =
         let whole : order ++ l ∷ rest ≡ (order ++ l ∷ []) ++ rest = sym (append_assoc order (l ∷ []) rest) in
         let one = serve_one order v w l hp.0 z.0 (not_yet order rest l (once l.pe l.number)) in
         let all = serve_all rest (order ++ l ∷ []) (para_step c program v l.pe) one hp.1 z.1 (λ p k. rw (← whole) (once p k)) in
-        subst (λ ls. Related ls (run_para c program v (map (λ (u : Leaf). u.pe) (l ∷ rest)))) (sym whole) all
+        subst (λ ls. Related ls (run_para c program v (map (λ (u : NamedRequest). u.pe) (l ∷ rest)))) (sym whole) all

@@ -16,16 +16,16 @@ use Rattle.ultra_model.specs.Machine.{Settings, Element, size, site}
 use Rattle.ultra_model.specs.Phases.{issues_after as count_after}
 use Rattle.ultra_model.proofs.Each.{each-weaker}
 use Rattle.ultra_model.proofs.Counting.{is_reference}
-use Rattle.ultra_law.specs.declared.Issue.{Issue}
-use Rattle.ultra_law.specs.declared.Entry.{Entry as Done}
-use Rattle.ultra_law.specs.Log.{latest_number, is_issue_for}
-use Rattle.ultra_law.specs.Legal.{Cells, request_of}
-use Rattle.ultra_law.proofs.Explained.{IsIn}
-use Rattle.ultra_law.proofs.Issued.{NewIssue, each_issue}
-use Rattle.ultra_law.proofs.Named.{IsLogged}
-use Rattle.ultra_law.proofs.Tidy.{is_that, that_is}
-use Rattle.ultra_law.proofs.RequestForest.{in_holds}
-use Rattle.ultra_law.proofs.ProcessorForest.{issues_after, issues_noted}
+use Rattle.ultra_serial_law.specs.declared.LoggedIssue.{LoggedIssue}
+use Rattle.ultra_serial_law.specs.declared.Entry.{Entry as Done}
+use Rattle.ultra_serial_law.specs.Log.{latest_number, is_issue_for}
+use Rattle.ultra_serial_law.specs.Legal.{Cells, leaf_of_entry}
+use Rattle.ultra_serial_law.proofs.Explained.{IsIn}
+use Rattle.ultra_serial_law.proofs.Issued.{NewIssue, each_issue}
+use Rattle.ultra_serial_law.proofs.Named.{IsLogged}
+use Rattle.ultra_serial_law.proofs.Tidy.{is_that, that_is}
+use Rattle.ultra_serial_law.proofs.RequestForest.{in_holds}
+use Rattle.ultra_serial_law.proofs.ProcessorForest.{issues_after, issues_noted}
 use Rattle.ultra_para.specs.Para.{Para, core_at, alone, para_step, run_para}
 use Rattle.ultra_para.specs.Careful.{is_careful}
 use Rattle.ultra_para.proofs.Alone.{same_step, reference_step, careful_next, fence_stalls}
@@ -33,7 +33,7 @@ use Rattle.ultra_para.proofs.Relation.{IsServed, IsServedIssue, AreServed, IsSer
 use Rattle.ultra_para.proofs.Serving.{step_alone}
 
 -- ---- what holds of each new issue, made weaker
-new_weaker : (P Q : Issue → Type 0) (n : ℕ) (es : List Event) → ((i : Issue) → P i → Q i) → AllByRecursion (NewIssue P n) es → AllByRecursion (NewIssue Q n) es
+new_weaker : (P Q : LoggedIssue → Type 0) (n : ℕ) (es : List Event) → ((i : LoggedIssue) → P i → Q i) → AllByRecursion (NewIssue P n) es → AllByRecursion (NewIssue Q n) es
 new_weaker P Q n [] f h = tt
 new_weaker P Q n (Delivered r ∷ es) f h = (tt, new_weaker P Q n es f h.1)
 new_weaker P Q n (Served k r reply now ∷ es) f h = (tt, new_weaker P Q n es f h.1)
@@ -41,35 +41,35 @@ new_weaker P Q n (Combined s x a p q g ∷ es) f h = (tt, new_weaker P Q n es f 
 new_weaker P Q n (Issued r k ∷ es) f h = (f _ h.0, new_weaker P Q n es f h.1)
 
 -- ---- the latest number after new issues
-number-append : (p a : ℕ) (is : List Issue) (i : Issue) (n : ℕ) → latest_number p a (is ++ i ∷ []) n ≡ elim (is_issue_for p a i) [ true ↦ i.number | false ↦ latest_number p a is n ]
+number-append : (p a : ℕ) (is : List LoggedIssue) (i : LoggedIssue) (n : ℕ) → latest_number p a (is ++ i ∷ []) n ≡ elim (is_issue_for p a i) [ true ↦ i.number | false ↦ latest_number p a is n ]
 number-append p a [] i n = refl
 number-append p a (j ∷ is) i n = number-append p a is i (elim (is_issue_for p a j) [ true ↦ j.number | false ↦ n ])
 
-number_by : (p a : ℕ) (is : List Issue) (i : Issue) (b : Bool) → is_issue_for p a i ≡ b → latest_number p a (is ++ i ∷ []) 0 ≡ elim b [ true ↦ i.number | false ↦ latest_number p a is 0 ]
+number_by : (p a : ℕ) (is : List LoggedIssue) (i : LoggedIssue) (b : Bool) → is_issue_for p a i ≡ b → latest_number p a (is ++ i ∷ []) 0 ≡ elim b [ true ↦ i.number | false ↦ latest_number p a is 0 ]
 number_by p a is i b e = let f : Bool → ℕ = λ t. elim t [ true ↦ i.number | false ↦ latest_number p a is 0 ] in number-append p a is i 0 ∙ ap f e
 
-not_for : (p a : ℕ) (i : Issue) → (i.pe ≡ p → ⊥) → is_issue_for p a i ≡ false
+not_for : (p a : ℕ) (i : LoggedIssue) → (i.pe ≡ p → ⊥) → is_issue_for p a i ≡ false
 not_for p a i h = ⊎_elim (λ e. absurd (h (is_that p a i.pe i.cell e).0)) (λ e. e) (cases_Bool (is_reference p a i.pe i.cell))
 
-latest_kept : (n p a : ℕ) (es : List Event) (is : List Issue) → AllByRecursion (NewIssue (λ i. i.pe ≡ p → ⊥) n) es → latest_number p a (issues_noted n es is) 0 ≡ latest_number p a is 0
+latest_kept : (n p a : ℕ) (es : List Event) (is : List LoggedIssue) → AllByRecursion (NewIssue (λ i. i.pe ≡ p → ⊥) n) es → latest_number p a (issues_noted n es is) 0 ≡ latest_number p a is 0
 latest_kept n p a [] is h = refl
 latest_kept n p a (Delivered r ∷ es) is h = latest_kept n p a es is h.1
 latest_kept n p a (Served k r reply now ∷ es) is h = latest_kept n p a es is h.1
 latest_kept n p a (Combined s x b q r f ∷ es) is h = latest_kept n p a es is h.1
 latest_kept n p a (Issued r k ∷ es) is h =
-    let i : Issue = record { pe = r.pe; number = k; cell = r.cell; op = r.op; cycle = n } in
+    let i : LoggedIssue = record { pe = r.pe; number = k; cell = r.cell; op = r.op; cycle = n } in
     latest_kept n p a es (issues_after n is (Issued r k)) h.1 ∙ number_by p a is i false (not_for p a i h.0)
 
 -- the request has this number already, or it comes
-abbrev IsNumbered : ℕ → ℕ → ℕ → List Event → List Issue → Type 0
+abbrev IsNumbered : ℕ → ℕ → ℕ → List Event → List LoggedIssue → Type 0
 IsNumbered p a k es is = (latest_number p a is 0 ≡ k) ⊎ ((r : Request) × IsIn (Issued r k) es × (r.pe ≡ p) × (r.cell ≡ a))
 
-numbered_next : (n p a k j : ℕ) (r : Request) (es : List Event) (is : List Issue) (b : Bool) → is_reference p a r.pe r.cell ≡ b → (r.pe ≡ p → j ≡ k) → IsNumbered p a k (Issued r j ∷ es) is → IsNumbered p a k es (issues_after n is (Issued r j))
+numbered_next : (n p a k j : ℕ) (r : Request) (es : List Event) (is : List LoggedIssue) (b : Bool) → is_reference p a r.pe r.cell ≡ b → (r.pe ≡ p → j ≡ k) → IsNumbered p a k (Issued r j ∷ es) is → IsNumbered p a k es (issues_after n is (Issued r j))
 numbered_next n p a k j r es is true e f h =
-    let i : Issue = record { pe = r.pe; number = j; cell = r.cell; op = r.op; cycle = n } in
+    let i : LoggedIssue = record { pe = r.pe; number = j; cell = r.cell; op = r.op; cycle = n } in
     inl (number_by p a is i true e ∙ f (is_that p a r.pe r.cell e).0)
 numbered_next n p a k j r es is false e f (inl h) =
-    let i : Issue = record { pe = r.pe; number = j; cell = r.cell; op = r.op; cycle = n } in
+    let i : LoggedIssue = record { pe = r.pe; number = j; cell = r.cell; op = r.op; cycle = n } in
     inl (number_by p a is i false e ∙ h)
 numbered_next n p a k j r es is false e f (inr (q, inl z, pe, cell)) =
     let same : r ≡ q = cc in
@@ -80,7 +80,7 @@ numbered_next n p a k j r es is false e f (inr (q, inl z, pe, cell)) =
     absurd cc
 numbered_next n p a k j r es is false e f (inr (q, inr z, pe, cell)) = inr (q, z, pe, cell)
 
-latest_new : (n p a k : ℕ) (es : List Event) (is : List Issue) → AllByRecursion (NewIssue (λ i. i.pe ≡ p → i.number ≡ k) n) es → IsNumbered p a k es is → latest_number p a (issues_noted n es is) 0 ≡ k
+latest_new : (n p a k : ℕ) (es : List Event) (is : List LoggedIssue) → AllByRecursion (NewIssue (λ i. i.pe ≡ p → i.number ≡ k) n) es → IsNumbered p a k es is → latest_number p a (issues_noted n es is) 0 ≡ k
 latest_new n p a k [] is h (inl e) = e
 latest_new n p a k [] is h (inr z) = absurd z.1
 latest_new n p a k (Delivered r ∷ es) is h (inl e) = latest_new n p a k es is h.1 (inl e)
@@ -97,13 +97,13 @@ latest_new n p a k (Issued r j ∷ es) is h g =
 
 -- ---- one processing element
 -- a new issue of p is that of the request which it sent, with this number
-abbrev pub IsNewOf : Option Request → ℕ → Issue → Type 0
+abbrev pub IsNewOf : Option Request → ℕ → LoggedIssue → Type 0
 IsNewOf None k i = ⊥
 IsNewOf (Some r) k i = (i.number ≡ k) × (i.cell ≡ r.cell) × (i.op ≡ r.op)
 
-module _ (c : Settings) (some_open : 1 ≤ c.most_open) (program : List Instr) (careful : is_careful program ≡ true) (n : ℕ) (es : List Event) (is : List Issue) (list : List Done)
-    (all_logged : (d : Done) → IsIn d list → IsLogged is (request_of d)) where
-  abbrev pub later : List Issue
+module _ (c : Settings) (some_open : 1 ≤ c.most_open) (program : List Instr) (careful : is_careful program ≡ true) (n : ℕ) (es : List Event) (is : List LoggedIssue) (list : List Done)
+    (all_logged : (d : Done) → IsIn d list → IsLogged is (leaf_of_entry d)) where
+  abbrev pub later : List LoggedIssue
   later = issues_noted n es is
 
   -- the paracomputer's processing element makes the step, or stays
@@ -115,9 +115,9 @@ module _ (c : Settings) (some_open : 1 ≤ c.most_open) (program : List Instr) (
     t = step_of (site c p) c.most_open program now i
 
     -- ---- no issue of p
-    module _ (none : AllByRecursion (NewIssue (λ (u : Issue). u.pe ≡ p → ⊥) n) es) where
+    module _ (none : AllByRecursion (NewIssue (λ (u : LoggedIssue). u.pe ≡ p → ⊥) n) es) where
       still_served : AreServed is list p k → AreServed later list p k
-      still_served h = each_issue (IsServedIssue list p k) n es is (new_weaker (λ (u : Issue). u.pe ≡ p → ⊥) (IsServedIssue list p k) n es (λ u f e. absurd (f e)) none) h
+      still_served h = each_issue (IsServedIssue list p k) n es is (new_weaker (λ (u : LoggedIssue). u.pe ≡ p → ⊥) (IsServedIssue list p k) n es (λ u f e. absurd (f e)) none) h
 
       still_waits : (core : Core) (os : List OpenCell) → IsWaiting c program is p core os k → IsWaiting c program later p core os k
       still_waits core os w = record {
@@ -139,7 +139,7 @@ module _ (c : Settings) (some_open : 1 ≤ c.most_open) (program : List Instr) (
         waiting = still_waits core os s.waiting;
         same = s.same;
         unserved = s.unserved;
-        others = each_issue (IsServedOr list p k s.waiting.number s.waiting.request) n es is (new_weaker (λ (u : Issue). u.pe ≡ p → ⊥) (IsServedOr list p k s.waiting.number s.waiting.request) n es (λ u f e. absurd (f e)) none) s.others;
+        others = each_issue (IsServedOr list p k s.waiting.number s.waiting.request) n es is (new_weaker (λ (u : LoggedIssue). u.pe ≡ p → ⊥) (IsServedOr list p k s.waiting.number s.waiting.request) n es (λ u f e. absurd (f e)) none) s.others;
       }
 
       still_acted : (core : Core) (os : List OpenCell) → IsActed c program is list p core os k q → IsActed c program later list p core os k q
@@ -160,12 +160,12 @@ module _ (c : Settings) (some_open : 1 ≤ c.most_open) (program : List Instr) (
         let o = opening c program p w.before w.request w.sent in
         fence_stalls (site c p) c.most_open program now i record { cell = w.request.cell; target = o.target } [] w.running w.fence (sym w.opened ∙ o.opened)
 
-    none_of : (o : Option Request) → o ≡ None → AllByRecursion (NewIssue (λ (u : Issue). u.pe ≡ p → IsNewOf o k u) n) es → AllByRecursion (NewIssue (λ (u : Issue). u.pe ≡ p → ⊥) n) es
+    none_of : (o : Option Request) → o ≡ None → AllByRecursion (NewIssue (λ (u : LoggedIssue). u.pe ≡ p → IsNewOf o k u) n) es → AllByRecursion (NewIssue (λ (u : LoggedIssue). u.pe ≡ p → ⊥) n) es
     none_of None e h = h
     none_of (Some r) e h = absurd cc
 
-    module _ (new : AllByRecursion (NewIssue (λ (u : Issue). u.pe ≡ p → IsNewOf t.sent k u) n) es) (issue_listed : IfSome t.sent (λ (r : Request). (r.pe ≡ p) × IsIn (Issued r k) es)) where
-      fence_turn : (w : IsWaiting c program is p now i.opened k) → ((none : AllByRecursion (NewIssue (λ (u : Issue). u.pe ≡ p → ⊥) n) es) → State c program later list p now i.opened k q) → Turned p q t.core t.interface.opened (count_after k t.sent)
+    module _ (new : AllByRecursion (NewIssue (λ (u : LoggedIssue). u.pe ≡ p → IsNewOf t.sent k u) n) es) (issue_listed : IfSome t.sent (λ (r : Request). (r.pe ≡ p) × IsIn (Issued r k) es)) where
+      fence_turn : (w : IsWaiting c program is p now i.opened k) → ((none : AllByRecursion (NewIssue (λ (u : LoggedIssue). u.pe ≡ p → ⊥) n) es) → State c program later list p now i.opened k q) → Turned p q t.core t.interface.opened (count_after k t.sent)
       fence_turn w f =
           let none = none_of t.sent (ap (λ (u : Stepped). u.sent) (stalled w)) new in
           rw (stalled w) (inr (f none))
@@ -193,8 +193,8 @@ module _ (c : Settings) (some_open : 1 ≤ c.most_open) (program : List Instr) (
           let number = h.3 in
           absurd (omega (arith, less, same, number))
 
-      new_of : (r : Request) → t.sent ≡ Some r → AllByRecursion (NewIssue (λ (u : Issue). u.pe ≡ p → IsNewOf (Some r) k u) n) es
-      new_of r e = subst (λ o. AllByRecursion (NewIssue (λ (u : Issue). u.pe ≡ p → IsNewOf o k u) n) es) e new
+      new_of : (r : Request) → t.sent ≡ Some r → AllByRecursion (NewIssue (λ (u : LoggedIssue). u.pe ≡ p → IsNewOf (Some r) k u) n) es
+      new_of r e = subst (λ o. AllByRecursion (NewIssue (λ (u : LoggedIssue). u.pe ≡ p → IsNewOf o k u) n) es) e new
 
       listed_of : (r : Request) → t.sent ≡ Some r → (r.pe ≡ p) × IsIn (Issued r k) es
       listed_of r e = subst (λ o. IfSome o (λ (u : Request). (u.pe ≡ p) × IsIn (Issued u k) es)) e issue_listed
@@ -204,7 +204,7 @@ module _ (c : Settings) (some_open : 1 ≤ c.most_open) (program : List Instr) (
           let alike = same_step (site c p) c.most_open some_open program now i s.none in
           let sends : (alone c program p now).sent ≡ Some r = sym alike.sent ∙ e in
           let is_one = reference_step (site c p) program now r sends in
-          let next : t.core ≡ record now { place = now.place + 1 } = alike.core ∙ is_one.core in
+          let next : t.core ≡ record now { pc = now.pc + 1 } = alike.core ∙ is_one.core in
           let news = new_of r e in
           let there = listed_of r e in
           let waiting : IsWaiting c program later p t.core t.interface.opened (k + 1) = record {
@@ -216,15 +216,15 @@ module _ (c : Settings) (some_open : 1 ≤ c.most_open) (program : List Instr) (
             core = sym alike.core;
             opened = sym alike.opened;
             running = ap (λ (v : Core). v.activity) next ∙ is_one.running;
-            fence = ap (λ (v : Core). slice_get program v.place) next ∙ careful_next program now.place is_one.instr careful is_one.at is_one.refers;
-            latest = latest_new n p r.cell k es is (new_weaker (λ (u : Issue). u.pe ≡ p → IsNewOf (Some r) k u) (λ (u : Issue). u.pe ≡ p → u.number ≡ k) n es (λ u f z. (f z).0) news) (inr (r, there.1, there.0, refl));
+            fence = ap (λ (v : Core). slice_get program v.pc) next ∙ careful_next program now.pc is_one.instr careful is_one.at is_one.refers;
+            latest = latest_new n p r.cell k es is (new_weaker (λ (u : LoggedIssue). u.pe ≡ p → IsNewOf (Some r) k u) (λ (u : LoggedIssue). u.pe ≡ p → u.number ≡ k) n es (λ u f z. (f z).0) news) (inr (r, there.1, there.0, refl));
           } in
           let asking : IsAsking c program later list p t.core t.interface.opened (k + 1) q = record {
             waiting = waiting;
             same = s.same;
             unserved = earlier s;
             others = each_issue (IsServedOr list p (k + 1) k r) n es is
-                (new_weaker (λ (u : Issue). u.pe ≡ p → IsNewOf (Some r) k u) (IsServedOr list p (k + 1) k r) n es (λ u f z. let g = f z in let same = g.0 in (omega (arith, same), inr g)) news)
+                (new_weaker (λ (u : LoggedIssue). u.pe ≡ p → IsNewOf (Some r) k u) (IsServedOr list p (k + 1) k r) n es (λ u f z. let g = f z in let same = g.0 in (omega (arith, same), inr g)) news)
                 (each-weaker (IsServedIssue list p k) (IsServedOr list p (k + 1) k r) is (λ u f z. let g = f z in let less = g.0 in (omega (arith, less), inl g.1)) s.served);
           } in
           rw e (inr (inr (inl asking)))
@@ -239,7 +239,7 @@ module _ (c : Settings) (some_open : 1 ≤ c.most_open) (program : List Instr) (
       turn (inr (inr s)) = fence_turn s.waiting (λ none. inr (inr (still_acted none now i.opened s)))
 
 -- ---- all processing elements, one after another
-module _ (c : Settings) (program : List Instr) (is later : List Issue) (list : List Done) (cells : Cells) (e u : ℕ → Element) where
+module _ (c : Settings) (program : List Instr) (is later : List LoggedIssue) (list : List Done) (cells : Cells) (e u : ℕ → Element) where
   abbrev pub Turns : ℕ → Core → Type 0
   Turns p q = ((alone c program p q).sent ≡ None) × State c program later list p (u p).core (u p).interface.opened (u p).issued (alone c program p q).core ⊎ State c program later list p (u p).core (u p).interface.opened (u p).issued q
 

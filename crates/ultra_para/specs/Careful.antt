@@ -24,7 +24,7 @@ abbrev pub is_careful : List Instr → Bool
 is_careful [] = true
 is_careful (i ∷ is) = (not (refers_to_cell i) || begins_with_fence is) && is_careful is
 
--- the same at one place, for the code, which goes by places
+-- the same at one program counter, for the code, which goes by program counters
 abbrev pub is_some_fence : Option Instr → Bool
 is_some_fence None = false
 is_some_fence (Some i) = is_fence i
@@ -33,5 +33,5 @@ abbrev pub is_fenced : Option Instr → Option Instr → Bool
 is_fenced None next = true
 is_fenced (Some i) next = not (refers_to_cell i) || is_some_fence next
 
-abbrev pub is_fenced_place : List Instr → ℕ → Bool
-is_fenced_place is k = is_fenced (slice_get is k) (slice_get is (k + 1))
+abbrev pub is_fenced_pc : List Instr → ℕ → Bool
+is_fenced_pc is k = is_fenced (slice_get is k) (slice_get is (k + 1))

@@ -6,7 +6,7 @@ use Rattle.ultra_isa.specs.declared.Instr.{Instr}
 use Rattle.ultra_model.specs.Machine.{Settings, Machine, size, element_at}
 use Rattle.ultra_model.specs.Phases.{after}
 use Rattle.ultra_model.specs.Ranges.{AreInRange}
-use Rattle.ultra_law.specs.SerialList.{cells_of}
+use Rattle.ultra_serial_law.specs.SerialList.{cells_of}
 use Rattle.ultra_para.specs.Para.{Para, core_at, start_para, run_para}
 use Rattle.ultra_para.specs.Careful.{is_careful}
 
@@ -15,7 +15,7 @@ abbrev pub WaitsForNothing : List OpenCell → Type 0
 WaitsForNothing os = os ≡ []
 
 -- the machine looks like the paracomputer: they have the same cells and, for each processing
--- element without an open cell, the same registers, place and state
+-- element without an open cell, the same registers, program counter and state
 pub record LooksLike (c : Settings) (m : Machine) (v : Para) : Type 0 where
   pub cells : (a : ℕ) → a < size c * c.cells → slice_index v.cells a ≡ cells_of c m a
   pub cores : (p : ℕ) → p < size c → WaitsForNothing (element_at m p).interface.opened
@@ -29,4 +29,6 @@ pub record IsReached (c : Settings) (program : List Instr) (m : Machine) : Type 
 
 -- for all settings in their ranges, every careful program and every number of cycles
 abbrev pub ParacomputerLaw : Type 0
-ParacomputerLaw = (c : Settings) → AreInRange c → (program : List Instr) → is_careful program ≡ true → (n : ℕ) → IsReached c program (after c program n)
+ParacomputerLaw =
+    (c : Settings) → AreInRange c → (program : List Instr) → is_careful program ≡ true → (n : ℕ)
+    → IsReached c program (after c program n)

@@ -10,7 +10,7 @@ use Rattle.ultra_isa.specs.Step.{Core, fresh_core, Stepped, step_of, received}
 use Rattle.ultra_model.specs.Places.{places}
 use Rattle.ultra_model.specs.Machine.{Settings, size, site, given_value}
 
--- the cells by address, and the registers, place and state of each processing element
+-- the cells by address, and the registers, program counter and state of each processing element
 pub record Para : Type 0 where
   pub cells : List ℕ
   pub cores : List Core
@@ -31,20 +31,32 @@ cells_acted cells (Some r) = slice_set cells r.cell (act r.op (slice_index cells
 
 abbrev pub core_answered : List ℕ → Stepped → Option Request → Core
 core_answered cells t None = t.core
-core_answered cells t (Some r) = record t.core { registers = received t.core.registers (target_of r.cell t.interface.opened) (act r.op (slice_index cells r.cell)).1 }
+core_answered cells t (Some r) =
+    record t.core {
+      registers = received t.core.registers (target_of r.cell t.interface.opened)
+          (act r.op (slice_index cells r.cell)).1;
+    }
 
 module _ (c : Settings) where
   -- at first the cells hold the initial values and else 0, as the machine's do, and the processing
   -- elements are fresh
   abbrev pub start_para : Para
-  start_para = record { cells = places (size c * c.cells) (λ a. given_value c.initial a 0); cores = places (size c) (λ p. fresh_core) }
+  start_para =
+      record {
+        cells = places (size c * c.cells) (λ a. given_value c.initial a 0);
+        cores = places (size c) (λ p. fresh_core);
+      }
 
   module _ (program : List Instr) where
     abbrev pub alone : ℕ → Core → Stepped
     alone p core = alone_at (site c p) program core
 
     abbrev pub after_alone : Para → ℕ → Stepped → Para
-    after_alone m p t = record { cells = cells_acted m.cells t.sent; cores = slice_set m.cores p (core_answered m.cells t t.sent) }
+    after_alone m p t =
+        record {
+          cells = cells_acted m.cells t.sent;
+          cores = slice_set m.cores p (core_answered m.cells t t.sent);
+        }
 
     -- a step of processing element p
     abbrev pub para_step : Para → ℕ → Para

@@ -15,7 +15,12 @@ abbrev pub cores_of : List Located → List Core
 cores_of ps = map (λ (p : Located). p.core) ps
 
 abbrev pub programmed : Settings → List Instr → List ℕ → List Located → Programmed
-programmed c program cells ps = record { settings = c; program = program; state = record { cells = cells; cores = cores_of ps } }
+programmed c program cells ps =
+    record {
+      settings = c;
+      program = program;
+      state = record { cells = cells; cores = cores_of ps };
+    }
 
 -- each processor before its first step
 abbrev pub fresh_processors : Settings → List Located

@@ -1,24 +1,11 @@
 //! One step of a processing element whose requests act at once.
 
 ghost use Rattle.std.specs.Prelude.{◌≡◌, ◌≤◌, length};
-ghost use Rattle.ultra_msg.specs.Act.{act as effect};
 ghost use Rattle.ultra_para.specs.Para.{alone_at, cells_acted, core_answered};
 
 use ultra_isa::{Processor, Program};
-use ultra_msg::{Op, Reply, ReplyMessage, Word};
+use ultra_msg::{Reply, ReplyMessage, Word};
 use ultra_pni::Pni;
-
-/// What an operation leaves in a cell with this value, and its reply.
-fn act(op: Op, value: Word) -> (Word, Reply)
-    ensures { result ≡ effect op value }
-{
-    match op {
-        Op::Load => (value, Reply::Value(value)),
-        Op::Store(word) => (word, Reply::Ack),
-        Op::Faa(addend) => (value.wrapping_add(addend), Reply::Value(value)),
-        Op::Swap(word) => (word, Reply::Value(value)),
-    }
-}
 
 /// Does one step of a processing element. A request that it issues acts on these cells, and its reply comes, before the step ends.
 pub(crate) fn step_at_once(processor: &mut Processor, program: &Program, cells: &mut [Word])
@@ -30,7 +17,7 @@ pub(crate) fn step_at_once(processor: &mut Processor, program: &Program, cells: 
     processor.step(program, &mut interface);
     if let Some(request) = interface.leave() {
         let cell = request.cell as usize;
-        let (word, reply) = act(request.op, cells[cell]);
+        let (word, reply) = request.op.act(cells[cell]);
         cells[cell] = word;
         let message = ReplyMessage {
             pe: request.pe,

@@ -1,7 +1,7 @@
 //! Careful programs.
 
 ghost use Rattle.std.specs.Prelude.{◌≡◌, ◌<◌, length, slice_get};
-ghost use Rattle.ultra_para.specs.Careful.{is_careful as careful, refers_to_cell, is_some_fence, is_fenced_place};
+ghost use Rattle.ultra_para.specs.Careful.{is_careful as careful, refers_to_cell, is_some_fence, is_fenced_pc};
 
 use ultra_isa::{Instr, Program};
 
@@ -15,23 +15,23 @@ fn refers(instruction: Instr) -> bool
     }
 }
 
-/// Whether a fence stands at a place.
-fn is_fence_at(program: &Program, place: usize) -> bool
-    ensures { result ≡ is_some_fence (slice_get program.now place) }
+/// Whether a fence stands at a program counter.
+fn is_fence_at(program: &Program, pc: usize) -> bool
+    ensures { result ≡ is_some_fence (slice_get program.now pc) }
 {
-    match program.instruction(place) {
+    match program.instruction(pc) {
         Some(Instr::Fence) => true,
         _ => false,
     }
 }
 
-/// Whether the instruction at a place refers to no cell or is directly followed by a fence.
-fn is_fenced_at(program: &Program, place: usize) -> bool
-    requires { place < length program.now }
-    ensures { result ≡ is_fenced_place program.now place }
+/// Whether the instruction at a program counter refers to no cell or is directly followed by a fence.
+fn is_fenced_at(program: &Program, pc: usize) -> bool
+    requires { pc < length program.now }
+    ensures { result ≡ is_fenced_pc program.now pc }
 {
-    match program.instruction(place) {
-        Some(instruction) => !refers(instruction) || is_fence_at(program, place + 1),
+    match program.instruction(pc) {
+        Some(instruction) => !refers(instruction) || is_fence_at(program, pc + 1),
         None => true,
     }
 }
@@ -40,8 +40,8 @@ fn is_fenced_at(program: &Program, place: usize) -> bool
 pub fn is_careful(program: &Program) -> bool
     ensures { result ≡ careful program.now }
 {
-    for place in 0..program.len() {
-        if !is_fenced_at(program, place) {
+    for pc in 0..program.len() {
+        if !is_fenced_at(program, pc) {
             return false;
         }
     }

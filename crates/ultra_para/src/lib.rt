@@ -12,7 +12,7 @@ pub use paracomputer::Para;
 
 /// The paracomputer law, as this function's contract: for all settings in their ranges, every careful program and every
 /// number of cycles there is a schedule after which the paracomputer has the machine's cells and, for each processing
-/// element that has no open cell in the machine, its registers, place and state.
+/// element that has no open cell in the machine, its registers, program counter and state.
 ///
 /// The paracomputer is the 1983 paper's; the machine is this project's profile of it. The function itself does nothing.
 pub fn paracomputer_law()

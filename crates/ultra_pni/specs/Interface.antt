@@ -1,11 +1,12 @@
 -- a processing element's interface to the network. At most one outstanding reference to a cell is
 -- the 1983 paper's; the rest is this project's profile
-use Rattle.std.specs.Prelude.{◌≢◌, ℕ, ◌≤◌, List, [], ◌∷◌, ◌++◌, Bool, true, false, ◌==◌, nat_lt, length, Option, Some, None, if◌then◌else◌}
+use Rattle.std.specs.Prelude.{◌≢◌, ℕ, ◌≤◌, List, [], ◌∷◌, ◌++◌, Bool, true, false, ◌==◌, nat_lt, length, drop, slice_get, Option, Some, None, if◌then◌else◌}
 use Rattle.std.specs.List.{list_any, AllPairs}
 use Rattle.ultra_msg.specs.declared.Request.{Request}
 use Rattle.ultra_pni.specs.declared.OpenCell.{OpenCell}
 use Rattle.ultra_pni.specs.declared.Issue.{Issue}
 use Rattle.ultra_pni.specs.declared.Issue.TheVariants.{Sent, CellOpen, Full}
+use Rattle.ultra_pni.specs.declared.TheConstants.{MOST_OPEN}
 
 -- the open cells in the order of their issues, and the requests that are not yet in the network,
 -- the first to leave first
@@ -21,10 +22,10 @@ pub record SizedInterface : Type 0 where
   pub interface : Interface
   pub most_open : ℕ
 
--- what is true of every interface: at most `most_open` cells are open, which is at most 8, no more
--- requests are pending than cells are open, and no cell is open twice
+-- what is true of every interface: at most `most_open` cells are open, no more requests are pending
+-- than cells are open, and no cell is open twice
 pub record IsWithin (i : Interface) (most_open : ℕ) : Type 0 where
-  pub small : most_open ≤ 8
+  pub small : most_open ≤ MOST_OPEN
   pub opened : length i.opened ≤ most_open
   pub pending : length i.pending ≤ length i.opened
   pub different : AllPairs (λ o p. o.cell ≢ p.cell) i.opened
@@ -42,12 +43,27 @@ is_awaited r os = list_any (λ o. goes_to r o.target) os
 
 -- what becomes of a request, of at most n open cells
 abbrev pub issue_of : ℕ → Interface → Request → Issue
-issue_of most_open i r = if is_open r.cell i.opened then CellOpen else if nat_lt (length i.opened) most_open then Sent else Full
+issue_of most_open i r =
+    if is_open r.cell i.opened then CellOpen else if nat_lt (length i.opened) most_open then Sent
+    else Full
 
 abbrev pub after_issue : Interface → Request → Option ℕ → Issue → Interface
-after_issue i r target Sent = record { opened = i.opened ++ record { cell = r.cell; target = target } ∷ []; pending = i.pending ++ r ∷ [] }
+after_issue i r target Sent =
+    record {
+      opened = i.opened ++ record { cell = r.cell; target = target }
+          ∷ [];
+      pending = i.pending ++ r ∷ [];
+    }
 after_issue i r target CellOpen = i
 after_issue i r target Full = i
+
+-- the request that leaves next, if there is one, and the interface without it
+abbrev pub next_pending : SizedInterface → Option Request
+next_pending p = slice_get p.interface.pending 0
+
+abbrev pub without_next : SizedInterface → SizedInterface
+without_next p =
+    record p { interface = record p.interface { pending = drop 1 p.interface.pending } }
 
 -- the register that the reply for a cell goes to
 abbrev pub target_of : ℕ → List OpenCell → Option ℕ

@@ -8,6 +8,6 @@ abbrev pub has_register : ℕ → ℕ → Bool
 has_register word r = bit_at word r == 1
 
 -- what is true of every interface, and what is kept of the registers that it awaits
-pub record IsKept (i : Interface) (most_open word : ℕ) : Type 0 where
+pub record IsConsistentPni (i : Interface) (most_open word : ℕ) : Type 0 where
   pub within : IsWithin i most_open
   pub awaited : (r : ℕ) → has_register word r ≡ is_awaited r i.opened

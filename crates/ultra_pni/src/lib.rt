@@ -1,9 +1,9 @@
 //! A processing element's network interface: its requests that are not yet in the network, and its open cells.
 #![tactic(auto)]
 
-ghost use Rattle.std.specs.Prelude.{◌≡◌, ℕ, ◌-◌, ◌<◌, ◌≤◌, ◌↔◌, ◌==◌, ◌&&◌, [], true, false, length, drop, slice_get};
+ghost use Rattle.std.specs.Prelude.{◌≡◌, ℕ, ◌-◌, ◌<◌, ◌≤◌, ◌↔◌, ◌==◌, ◌&&◌, [], true, false, length, slice_get};
 ghost use Rattle.std.specs.List.{position};
-ghost use Rattle.ultra_pni.specs.Interface.{empty_interface, is_open, is_awaited, issue_of, after_issue, target_of, closed, IsWithin};
+ghost use Rattle.ultra_pni.specs.Interface.{empty_interface, is_open, is_awaited, issue_of, after_issue, target_of, closed, next_pending, without_next, IsWithin};
 
 mod registers;
 mod ring;
@@ -33,7 +33,7 @@ pub enum Issue {
     Sent,
     /// Its cell is open already; nothing has changed.
     CellOpen,
-    /// As many cells are open as may be; nothing has changed.
+    /// The maximum number of cells is already open; nothing has changed.
     Full,
 }
 
@@ -51,13 +51,13 @@ pub struct Pni {
 
 impl Model for Pni {
     ghost use Rattle.ultra_pni.specs.Interface.{SizedInterface};
-    ghost use Rattle.ultra_pni.specs.Registers.{IsKept};
+    ghost use Rattle.ultra_pni.specs.Registers.{IsConsistentPni};
 
     ghost Value = { SizedInterface };
 
     ghost view = { λ p. record { interface = record { opened = p.opened.items; pending = p.pending }; most_open = p.most_open } };
 
-    ghost invariant = { λ p. IsKept record { opened = p.opened.items; pending = p.pending } p.most_open p.awaited };
+    ghost invariant = { λ p. IsConsistentPni record { opened = p.opened.items; pending = p.pending } p.most_open p.awaited };
 }
 
 /// The place of a cell among the open ones, or `None` where it isn't open.
@@ -68,9 +68,9 @@ fn place_of(opened: &[OpenCell], cell: Cell) -> Option<usize>
 }
 
 impl Pni {
-    /// An interface with nothing open and nothing pending, which can hold `most_open` cells open, at most 8.
+    /// An interface with nothing open and nothing pending, which can hold `most_open` cells open, at most `MOST_OPEN`.
     pub fn new(most_open: usize) -> Pni
-        requires { most_open ≤ 8 }
+        requires { most_open ≤ MOST_OPEN }
         ensures { result ≡ record { interface = empty_interface; most_open = most_open } }
     {
         Pni {
@@ -83,7 +83,7 @@ impl Pni {
 
     /// Takes a request, whose value is to go to the register `target`, if it is to go to one.
     ///
-    /// `Sent` says that the request is now the last of the list and that its cell is open. `CellOpen` says that its cell was open already, and else `Full` that as many cells were open as may be; both leave the interface as it was.
+    /// `Sent` says that the request is now the last of the list and that its cell is open. `CellOpen` says that its cell was open already, and else `Full` that the maximum number of cells was already open; both leave the interface as it was.
     #[inline(always)]
     pub fn issue(&mut self, request: Request, target: Option<Register>) -> Issue
         ensures answer { result ≡ issue_of self.old.most_open self.old.interface request }
@@ -106,14 +106,14 @@ impl Pni {
 
     /// The request that leaves next, or `None` where none is pending.
     pub fn head(&self) -> Option<Request>
-        ensures { result ≡ slice_get self.now.interface.pending 0 }
+        ensures { result ≡ next_pending self.now }
     {
-        Some(self.front()?.request())
+        Some(self.head_packet()?.request())
     }
 
-    /// The request that leaves next as it would go onto a link, or `None` where none is pending.
-    pub fn front(&self) -> Option<RequestPacket>
-        ensures { result ≡ slice_get self.now.interface.pending 0 }
+    /// The same as `head`, as a packet.
+    pub fn head_packet(&self) -> Option<RequestPacket>
+        ensures { result ≡ next_pending self.now }
     {
         if self.pending.len() == 0 {
             None
@@ -124,16 +124,16 @@ impl Pni {
 
     /// Takes the request that leaves next out of the list; its cell stays open. `None` says that none was pending.
     pub fn leave(&mut self) -> Option<Request>
-        ensures request { result ≡ slice_get self.old.interface.pending 0 }
-        ensures interface { self.new ≡ record self.old { interface = record self.old.interface { pending = drop 1 self.old.interface.pending } } }
+        ensures request { result ≡ next_pending self.old }
+        ensures interface { self.new ≡ without_next self.old }
     {
-        Some(self.send()?.request())
+        Some(self.leave_packet()?.request())
     }
 
-    /// Takes the request that leaves next out of the list for its link, as `leave` does.
-    pub fn send(&mut self) -> Option<RequestPacket>
-        ensures request { result ≡ slice_get self.old.interface.pending 0 }
-        ensures interface { self.new ≡ record self.old { interface = record self.old.interface { pending = drop 1 self.old.interface.pending } } }
+    /// The same as `leave`, with a packet.
+    pub fn leave_packet(&mut self) -> Option<RequestPacket>
+        ensures request { result ≡ next_pending self.old }
+        ensures interface { self.new ≡ without_next self.old }
     {
         self.pending.pop()
     }

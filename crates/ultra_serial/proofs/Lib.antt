@@ -5,6 +5,6 @@ pub mod Turns
 pub mod Cycles
 pub mod Numbers
 pub mod Explaining
-pub mod ByName
+pub mod RecordsByName
 pub mod Searching
 pub mod Advancing

@@ -1,10 +1,10 @@
 pub mod ByPair
-pub mod ByName
+pub mod RecordsByName
 pub mod Memory
-pub mod Waiting
+pub mod PendingRequests
 pub mod Following
 pub mod Ordered
 pub mod Ordering
-pub mod Recording
+pub mod LogRecorder
 pub mod Breach
 pub mod Examined

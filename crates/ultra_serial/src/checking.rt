@@ -1,19 +1,20 @@
 //! Whether a serial list explains a log.
 
 ghost use Rattle.std.specs.Prelude.{◌≡◌, ◌<◌, ℕ, List, [], true, false, Some, None, IfOk, OnOk, IfErr, IfSome, slice_get};
-ghost use Rattle.ultra_law.specs.declared.records.Answer.{Answer as AnswerOf};
-ghost use Rattle.ultra_law.specs.declared.records.Entry.{Entry as EntryOf};
-ghost use Rattle.ultra_law.specs.Log.{Log as LogOf, log_of};
-ghost use Rattle.ultra_law.specs.Legal.{Cells, given, Has, IsAnswerTo, IsLegal};
+ghost use Rattle.ultra_serial_law.specs.declared.records.LoggedAnswer.{LoggedAnswer as AnswerOf};
+ghost use Rattle.ultra_serial_law.specs.declared.records.Entry.{Entry as EntryOf};
+ghost use Rattle.ultra_serial_law.specs.Log.{Log as LogOf, log_of};
+ghost use Rattle.ultra_serial_law.specs.Legal.{Cells, given, Has, IsAnswerTo, IsLegal};
 ghost use Rattle.ultra_serial.specs.Memory.{cell_in};
-ghost use Rattle.ultra_serial.specs.Breach.{cells_past, ExplainsFault};
-ghost use Rattle.ultra_serial.specs.Examined.{AreExplained, IsListed, IsFirstMissing, IsFine, IsWrongAt};
-ghost use Rattle.ultra_serial.specs.ByName.{Holds};
+ghost use Rattle.ultra_serial.specs.Breach.{cells_past, ExplainsCheckFault};
+ghost use Rattle.ultra_serial.specs.Examined.{AreExplained, IsListed, IsFirstMissingAnswer, IsFine, IsWrongAt};
+ghost use Rattle.ultra_serial.specs.RecordsByName.{Holds};
 
-use crate::by_name::ByName;
 use crate::examining::{after_issues, fault_of, is_answer_to};
+use crate::keys::RequestName;
 use crate::memory::SerialMemory;
-use crate::{Answer, Entry, Log};
+use crate::records_by_name::RecordsByName;
+use crate::{Entry, Log, LoggedAnswer};
 use std::alloc::{AllocError, Global};
 use ultra_msg::{Cell, Word};
 
@@ -66,7 +67,7 @@ pub fn check(
     list: &[Entry],
 ) -> Result<(), CheckFault>
     ensures legal { OnOk result (IsLegal (given initial.now) (log_of log.now) (given cells.now) list.now) }
-    ensures breach { IfErr result (ExplainsFault (given initial.now) (log_of log.now) (given cells.now) list.now) }
+    ensures breach { IfErr result (ExplainsCheckFault (given initial.now) (log_of log.now) (given cells.now) list.now) }
 {
     let mut memory = SerialMemory::new(alloc, initial)?;
     examine(alloc, log, list, &mut memory)?;
@@ -89,9 +90,9 @@ fn examine(
     ensures cells { OnOk result (cell_in memory.new ≡ cells_past (cell_in memory.old) list.now) }
     ensures explained { OnOk result (AreExplained (cell_in memory.old) (log_of log.now) list.now) }
     ensures answered { OnOk result ((a : AnswerOf) → Has (log_of log.now).answers a → IsListed list.now a) }
-    ensures breach { (final : Cells) → IfErr result (ExplainsFault (cell_in memory.old) (log_of log.now) final list.now) }
+    ensures breach { (final : Cells) → IfErr result (ExplainsCheckFault (cell_in memory.old) (log_of log.now) final list.now) }
 {
-    let mut names = ByName::new(alloc, log)?;
+    let mut names = RecordsByName::new(alloc, log)?;
     replay(list, &mut names, memory)?;
     if let Some(index) = first_missing(log.answers.as_slice(), &names) {
         return Err(CheckFault::Breach(BreachKind::Missing, index));
@@ -100,18 +101,26 @@ fn examine(
 }
 
 /// Finds the first fault of an entry. The entries before it have acted on the memory, and stand in `names`, which has the log and no entries yet.
-fn replay(list: &[Entry], names: &mut ByName, memory: &mut SerialMemory) -> Result<(), CheckFault>
+fn replay(
+    list: &[Entry],
+    names: &mut RecordsByName,
+    memory: &mut SerialMemory,
+) -> Result<(), CheckFault>
     ensures cells { OnOk result (cell_in memory.new ≡ cells_past (cell_in memory.old) list.now) }
     ensures names { OnOk result ((log : LogOf) → Holds names.old log [] → Holds names.new log list.now) }
     ensures explained { OnOk result ((log : LogOf) → Holds names.old log [] → AreExplained (cell_in memory.old) log list.now) }
-    ensures breach { (log : LogOf) (final : Cells) → Holds names.old log [] → IfErr result (ExplainsFault (cell_in memory.old) log final list.now) }
+    ensures breach { (log : LogOf) (final : Cells) → Holds names.old log [] → IfErr result (ExplainsCheckFault (cell_in memory.old) log final list.now) }
 {
     let mut from = 0;
     for (index, entry) in list.iter().enumerate() {
         if let Some(kind) = fault_of(names, from, memory, entry)? {
             return Err(CheckFault::Breach(kind, index));
         }
-        let issues = names.issues.get((entry.pe, entry.number));
+        let name = RequestName {
+            pe: entry.pe,
+            number: entry.number,
+        };
+        let issues = names.issues.get(name);
         from = after_issues(issues, entry, from);
         names.add(*entry)?;
     }
@@ -119,12 +128,16 @@ fn replay(list: &[Entry], names: &mut ByName, memory: &mut SerialMemory) -> Resu
 }
 
 /// The first answer whose name stands nowhere among the entries.
-fn first_missing(answers: &[Answer], names: &ByName) -> Option<usize>
+fn first_missing(answers: &[LoggedAnswer], names: &RecordsByName) -> Option<usize>
     ensures none { (log : LogOf) (list : List EntryOf) → Holds names.now log list → result ≡ None → (a : AnswerOf) → Has answers.now a → IsListed list a }
-    ensures some { (log : LogOf) (list : List EntryOf) → Holds names.now log list → IfSome result (λ n. IsFirstMissing answers.now list n) }
+    ensures some { (log : LogOf) (list : List EntryOf) → Holds names.now log list → IfSome result (λ n. IsFirstMissingAnswer answers.now list n) }
 {
     for (index, answer) in answers.iter().enumerate() {
-        if !is_listed(answer, names.entries.get((answer.pe, answer.number))) {
+        let name = RequestName {
+            pe: answer.pe,
+            number: answer.number,
+        };
+        if !is_listed(answer, names.entries.get(name)) {
             return Some(index);
         }
     }
@@ -132,7 +145,7 @@ fn first_missing(answers: &[Answer], names: &ByName) -> Option<usize>
 }
 
 /// Whether an answer's name stands in the list.
-fn is_listed(answer: &Answer, list: &[Entry]) -> bool
+fn is_listed(answer: &LoggedAnswer, list: &[Entry]) -> bool
     ensures yes { result ≡ true → (e : EntryOf) × Has list.now e × IsAnswerTo e answer.now }
     ensures no { result ≡ false → (e : EntryOf) → Has list.now e → IsAnswerTo e answer.now → ⊥ }
 {

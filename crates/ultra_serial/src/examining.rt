@@ -2,27 +2,28 @@
 
 ghost use Rattle.std.specs.Prelude.{◌≡◌, ◌≢◌, ◌<◌, ◌≤◌, ◌+◌, ◌⊎◌, List, true, false, IfOk};
 ghost use Rattle.ultra_msg.specs.Act.{act as effect};
-ghost use Rattle.ultra_law.specs.declared.records.Issue.{Issue as IssueOf};
-ghost use Rattle.ultra_law.specs.declared.records.Answer.{Answer as AnswerOf};
-ghost use Rattle.ultra_law.specs.declared.records.Entry.{Entry as EntryOf};
-ghost use Rattle.ultra_law.specs.Log.{Log as LogOf};
-ghost use Rattle.ultra_law.specs.Legal.{Has, IsIssueNamed, IsAnswerTo, IsIssueOf, with_cell};
+ghost use Rattle.ultra_serial_law.specs.declared.records.LoggedIssue.{LoggedIssue as IssueOf};
+ghost use Rattle.ultra_serial_law.specs.declared.records.LoggedAnswer.{LoggedAnswer as AnswerOf};
+ghost use Rattle.ultra_serial_law.specs.declared.records.Entry.{Entry as EntryOf};
+ghost use Rattle.ultra_serial_law.specs.Log.{Log as LogOf};
+ghost use Rattle.ultra_serial_law.specs.Legal.{Has, IsIssueNamed, IsAnswerTo, IsIssueOf, with_cell};
 ghost use Rattle.ultra_serial.specs.Memory.{cell_in};
 ghost use Rattle.ultra_serial.specs.Breach.{HasNameOf};
 ghost use Rattle.ultra_serial.specs.Examined.{Finds};
-ghost use Rattle.ultra_serial.specs.ByName.{Holds};
+ghost use Rattle.ultra_serial.specs.RecordsByName.{Holds};
 
-use crate::by_name::ByName;
 use crate::checking::BreachKind;
+use crate::keys::RequestName;
 use crate::memory::SerialMemory;
-use crate::{Answer, Entry, Issue};
+use crate::records_by_name::RecordsByName;
+use crate::{Entry, LoggedAnswer, LoggedIssue};
 use std::alloc::AllocError;
 
 /// The first fault of the next entry of a list, or `None` where it has none; then the entry has acted on the memory. An error says that memory was refused.
 ///
 /// `names` has the log and the entries before this one, by name. They have acted on `memory`, and `from` is the first cycle after all their issues.
 pub(crate) fn fault_of(
-    names: &ByName,
+    names: &RecordsByName,
     from: u64,
     memory: &mut SerialMemory,
     entry: &Entry,
@@ -30,7 +31,10 @@ pub(crate) fn fault_of(
     ensures finds { (log : LogOf) (before : List EntryOf) → Holds names.now log before → IfOk result (λ found. Finds log before from (cell_in memory.old) entry.now found) }
     ensures acted { IfOk result (λ found. found ≡ None → cell_in memory.new ≡ with_cell (cell_in memory.old) entry.now.cell (effect entry.now.op (cell_in memory.old entry.now.cell)).0) }
 {
-    let name = (entry.pe, entry.number);
+    let name = RequestName {
+        pe: entry.pe,
+        number: entry.number,
+    };
     let issues = names.issues.get(name);
     let others = names.entries.get(name);
     let answers = names.answers.get(name);
@@ -54,7 +58,7 @@ pub(crate) fn fault_of(
 }
 
 /// Whether the entry is one of the issues, with its cell and operation.
-fn is_issued(issues: &[Issue], entry: &Entry) -> bool
+fn is_issued(issues: &[LoggedIssue], entry: &Entry) -> bool
     ensures yes { result ≡ true → (i : IssueOf) × Has issues.now i × IsIssueOf entry.now i }
     ensures no { result ≡ false → (i : IssueOf) → Has issues.now i → IsIssueOf entry.now i → ⊥ }
 {
@@ -67,7 +71,7 @@ fn is_issued(issues: &[Issue], entry: &Entry) -> bool
 }
 
 /// Whether an issue is that of the entry, with its cell and operation.
-fn is_issue_of(issue: &Issue, entry: &Entry) -> bool
+fn is_issue_of(issue: &LoggedIssue, entry: &Entry) -> bool
     ensures yes { result ≡ true → IsIssueOf entry.now issue.now }
     ensures no { result ≡ false → IsIssueOf entry.now issue.now → ⊥ }
 {
@@ -91,7 +95,7 @@ fn is_repeated(before: &[Entry], entry: &Entry) -> bool
 }
 
 /// Whether the entry has an answer that isn't its reply.
-fn is_answered_otherwise(answers: &[Answer], entry: &Entry) -> bool
+fn is_answered_otherwise(answers: &[LoggedAnswer], entry: &Entry) -> bool
     ensures yes { result ≡ true → (a : AnswerOf) × Has answers.now a × IsAnswerTo entry.now a × (a.reply ≢ entry.now.reply) }
     ensures no { result ≡ false → (a : AnswerOf) → Has answers.now a → IsAnswerTo entry.now a → a.reply ≡ entry.now.reply }
 {
@@ -104,7 +108,7 @@ fn is_answered_otherwise(answers: &[Answer], entry: &Entry) -> bool
 }
 
 /// Whether the entry has an answer of an earlier cycle than `from`.
-fn is_answered_before(answers: &[Answer], entry: &Entry, from: u64) -> bool
+fn is_answered_before(answers: &[LoggedAnswer], entry: &Entry, from: u64) -> bool
     ensures yes { result ≡ true → (a : AnswerOf) × Has answers.now a × IsAnswerTo entry.now a × (a.cycle < from) }
     ensures no { result ≡ false → (a : AnswerOf) → Has answers.now a → IsAnswerTo entry.now a → from ≤ a.cycle }
 {
@@ -117,7 +121,7 @@ fn is_answered_before(answers: &[Answer], entry: &Entry, from: u64) -> bool
 }
 
 /// Whether an answer has the entry's name.
-pub(crate) fn is_answer_to(answer: &Answer, entry: &Entry) -> bool
+pub(crate) fn is_answer_to(answer: &LoggedAnswer, entry: &Entry) -> bool
     ensures yes { result ≡ true → IsAnswerTo entry.now answer.now }
     ensures no { result ≡ false → IsAnswerTo entry.now answer.now → ⊥ }
 {
@@ -125,7 +129,7 @@ pub(crate) fn is_answer_to(answer: &Answer, entry: &Entry) -> bool
 }
 
 /// The first cycle that isn't before `from` and comes after each issue of the entry's name.
-pub(crate) fn after_issues(issues: &[Issue], entry: &Entry, from: u64) -> u64
+pub(crate) fn after_issues(issues: &[LoggedIssue], entry: &Entry, from: u64) -> u64
     requires { from ≤ 4294967296 }
     ensures small { result ≤ 4294967296 }
     ensures no_less { from ≤ result }

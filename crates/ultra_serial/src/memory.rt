@@ -2,7 +2,7 @@
 
 ghost use Rattle.std.specs.Prelude.{◌≡◌, IfOk, OnOk, OnErr};
 ghost use Rattle.ultra_msg.specs.Act.{act as effect};
-ghost use Rattle.ultra_law.specs.Legal.{given, with_cell};
+ghost use Rattle.ultra_serial_law.specs.Legal.{given, with_cell};
 ghost use Rattle.ultra_serial.specs.Memory.{value_in, cell_in};
 
 use std::alloc::{AllocError, Global};
@@ -57,12 +57,7 @@ impl SerialMemory {
         ensures absent { OnErr result (value_in self.old cell ≡ None) }
     {
         let old = self.value(cell);
-        let (new, reply) = match op {
-            Op::Load => (old, Reply::Value(old)),
-            Op::Store(word) => (word, Reply::Ack),
-            Op::Faa(word) => (old.wrapping_add(word), Reply::Value(old)),
-            Op::Swap(word) => (word, Reply::Value(old)),
-        };
+        let (new, reply) = op.act(old);
         self.set(cell, new)?;
         Ok(reply)
     }

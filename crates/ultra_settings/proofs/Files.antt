@@ -6,24 +6,24 @@ use Rattle.std.proofs.lemmas.Bool.Decides.{nat_tests}
 use Rattle.toml.specs.declared.value.Value.{Value}
 use Rattle.toml.specs.View.{items_view, members_view}
 use Rattle.toml.specs.Data.{Data, Items, Members, as_table}
-use Rattle.ultra_settings.specs.JobsText.{Paths, is_file_key, is_job_key, has_other_key, text_at, paths_of, count_of, paths_in, jobs_in, array_at, jobs_at}
+use Rattle.ultra_settings.specs.JobsText.{Paths, is_file_key, is_job_key, has_other_key, text_at, paths_of, job_count, paths_in, jobs_in, array_at, jobs_at}
 
 pub has_other_key-keys : (is_key : List ℕ → Bool) (es : List (String Global × Value)) → has_other_key is_key (members_view es) ≡ list_any (λ k. not (is_key (string_bytes k))) (keys_of es)
 has_other_key-keys is_key [] = refl
 has_other_key-keys is_key (e ∷ es) = ap (λ b. not (is_key (string_bytes e.0)) || b) (has_other_key-keys is_key es)
 
-count_of-items : (vs : List Value) → count_of (items_view vs) ≡ length vs
-count_of-items [] = refl
-count_of-items (v ∷ vs) = let rest = count_of-items vs in omega arith
+job_count-items : (vs : List Value) → job_count (items_view vs) ≡ length vs
+job_count-items [] = refl
+job_count-items (v ∷ vs) = let rest = job_count-items vs in omega arith
 
 pub listed : (vs : List Value) → 1 ≤ length vs → length vs ≤ 256 → jobs_in (items_view vs) ≡ paths_in (items_view vs)
-listed vs some few = rw (count_of-items vs) (grind (arith, nat_tests))
+listed vs some few = rw (job_count-items vs) (grind (arith, nat_tests))
 
 pub none_listed : (vs : List Value) → length vs ≡ 0 → jobs_in (items_view vs) ≡ None
-none_listed vs none = rw (count_of-items vs) (grind (arith, nat_tests))
+none_listed vs none = rw (job_count-items vs) (grind (arith, nat_tests))
 
 pub too_many_listed : (vs : List Value) → 256 < length vs → jobs_in (items_view vs) ≡ None
-too_many_listed vs many = rw (count_of-items vs) (grind (arith, nat_tests))
+too_many_listed vs many = rw (job_count-items vs) (grind (arith, nat_tests))
 
 -- the jobs so far, before those of the rest
 abbrev pub after : List Paths → Option (List Paths) → Option (List Paths)

@@ -56,13 +56,13 @@ paths_in no_items = Some []
 paths_in (item d ds) = onto (paths_of d) (paths_in ds)
 
 -- an array of 1 to 256
-abbrev pub count_of : Items → ℕ
-count_of no_items = 0
-count_of (item d ds) = count_of ds + 1
+abbrev pub job_count : Items → ℕ
+job_count no_items = 0
+job_count (item d ds) = job_count ds + 1
 
 abbrev pub jobs_in : Items → Option (List Paths)
 jobs_in ds =
-    if nat_le 1 (count_of ds) && nat_le (count_of ds) 256 then paths_in ds else None
+    if nat_le 1 (job_count ds) && nat_le (job_count ds) 256 then paths_in ds else None
 
 -- a file of jobs is a table with such an array `job`, and no other key
 abbrev pub array_at : Members → Option Items
@@ -76,7 +76,8 @@ abbrev pub Gives : List ℕ → List Paths → Type 0
 Gives text ps = IsUtf8 text × IsSomeAnd (parse_document text) (λ ms. jobs_at ms ≡ Some ps)
 
 -- why a text gives no jobs
-abbrev pub ExplainsFault : List ℕ → JobsFault → Type 0
-ExplainsFault text NoMemory = ⊤
-ExplainsFault text NotToml = IsUtf8 text → parse_document text ≡ None
-ExplainsFault text BadJob = IsUtf8 text × IsSomeAnd (parse_document text) (λ ms. jobs_at ms ≡ None)
+abbrev pub ExplainsJobsFault : List ℕ → JobsFault → Type 0
+ExplainsJobsFault text NoMemory = ⊤
+ExplainsJobsFault text NotToml = IsUtf8 text → parse_document text ≡ None
+ExplainsJobsFault text BadJob =
+    IsUtf8 text × IsSomeAnd (parse_document text) (λ ms. jobs_at ms ≡ None)

@@ -10,11 +10,11 @@ use Rattle.ultra_model.specs.declared.config.Field.{Field}
 use Rattle.ultra_model.specs.declared.config.Field.TheVariants.{Stages, RequestPlaces, ReplyPlaces, WaitPlaces, MostOpen, Cells, Cycles, Initial}
 use Rattle.ultra_settings.specs.declared.settings.SettingsFault.{SettingsFault}
 use Rattle.ultra_settings.specs.declared.settings.SettingsFault.TheVariants.{NoMemory, NotToml, BadField, UnknownKey}
-use Rattle.ultra_model.specs.Accepted.{name_of, numbers, first_bad}
+use Rattle.ultra_model.specs.Accepted.{name_of, single_number_keys, first_bad}
 
 -- all keys
 abbrev pub fields : List Field
-fields = numbers ++ Initial ∷ []
+fields = single_number_keys ++ Initial ∷ []
 
 -- the integer of a value, or the default where there is no value
 abbrev pub integer_or : Option ℤ → Option Data → Option ℤ
@@ -36,8 +36,8 @@ pair_in (item a no_items) = None
 pair_in (item a (item b no_items)) = both (as_integer a) (as_integer b)
 pair_in (item a (item b (item c ds))) = None
 
-abbrev pub pair_of : Data → Option (ℤ × ℤ)
-pair_of d = option_and_then pair_in (as_array d)
+abbrev pub integer_pair : Data → Option (ℤ × ℤ)
+integer_pair d = option_and_then pair_in (as_array d)
 
 -- an array of such arrays
 abbrev pub onto : Option (ℤ × ℤ) → Option (List (ℤ × ℤ)) → Option (List (ℤ × ℤ))
@@ -46,7 +46,7 @@ onto (Some p) ps = option_map (λ l. p ∷ l) ps
 
 abbrev pub pairs_in : Items → Option (List (ℤ × ℤ))
 pairs_in no_items = Some []
-pairs_in (item d ds) = onto (pair_of d) (pairs_in ds)
+pairs_in (item d ds) = onto (integer_pair d) (pairs_in ds)
 
 abbrev pub pairs_or_none : Option Data → Option (List (ℤ × ℤ))
 pairs_or_none None = Some []
@@ -76,12 +76,14 @@ has_unknown_key (member k d ms) = not (is_key k) || has_unknown_key ms
 
 -- the settings that a text gives, and whether it has another key
 abbrev pub Gives : List ℕ → RawSettings → Bool → Type 0
-Gives text r unknown = IsUtf8 text × IsSomeAnd (parse_document text) (λ ms. IsGiven ms r × (unknown ≡ has_unknown_key ms))
+Gives text r unknown =
+    IsUtf8 text
+    × IsSomeAnd (parse_document text) (λ ms. IsGiven ms r × (unknown ≡ has_unknown_key ms))
 
 -- why a text gives no settings. Keys are looked at in their order, and unknown keys last
-abbrev pub ExplainsFault : List ℕ → SettingsFault → Type 0
-ExplainsFault text NoMemory = ⊤
-ExplainsFault text NotToml = IsUtf8 text → parse_document text ≡ None
-ExplainsFault text (BadField f) =
+abbrev pub ExplainsSettingsFault : List ℕ → SettingsFault → Type 0
+ExplainsSettingsFault text NoMemory = ⊤
+ExplainsSettingsFault text NotToml = IsUtf8 text → parse_document text ≡ None
+ExplainsSettingsFault text (BadField f) =
     (r : RawSettings) × (unknown : Bool) × Gives text r unknown × (first_bad r ≡ Some f)
-ExplainsFault text UnknownKey = (r : RawSettings) × Gives text r true × (first_bad r ≡ None)
+ExplainsSettingsFault text UnknownKey = (r : RawSettings) × Gives text r true × (first_bad r ≡ None)

@@ -5,7 +5,7 @@ ghost use Rattle.std.specs.Option.{option_copied};
 ghost use Rattle.std.specs.List.{list_any};
 ghost use Rattle.std.specs.BTreeMap.{keys};
 ghost use Rattle.toml.specs.View.{view, items_view, table_view};
-ghost use Rattle.ultra_settings.specs.JobsText.{all_paths, Gives, ExplainsFault, is_file_key, is_job_key, text_at, paths_of, paths_in, jobs_in, array_at, jobs_at};
+ghost use Rattle.ultra_settings.specs.JobsText.{all_paths, Gives, ExplainsJobsFault, is_file_key, is_job_key, text_at, paths_of, paths_in, jobs_in, array_at, jobs_at};
 
 use crate::lookup::value_at;
 use std::alloc::{AllocError, Global};
@@ -44,7 +44,7 @@ impl From<AllocError> for JobsFault {
 /// are written.
 pub fn jobs_from(alloc: Global, bytes: &[u8]) -> Result<Vec<(String, String)>, JobsFault>
     ensures ok { IfOk result (λ v. Gives bytes.now (all_paths v.items)) }
-    ensures refused { IfErr result (ExplainsFault bytes.now) }
+    ensures refused { IfErr result (ExplainsJobsFault bytes.now) }
 {
     let table = match toml::table_from_slice(alloc, bytes) {
         Ok(table) => table,

@@ -7,7 +7,7 @@ ghost use Rattle.std.specs.BTreeMap.{keys};
 ghost use Rattle.toml.specs.View.{view, items_view, table_view};
 ghost use Rattle.ultra_model.specs.Accepted.{first_bad, settings_of};
 ghost use Rattle.ultra_model.specs.declared.config.RawSettings.{RawSettings};
-ghost use Rattle.ultra_settings.specs.SettingsText.{given_integer, given_initial, pair_of, pair_in, pairs_in, is_key, IsGiven, Gives, ExplainsFault};
+ghost use Rattle.ultra_settings.specs.SettingsText.{given_integer, given_initial, integer_pair, pair_in, pairs_in, is_key, IsGiven, Gives, ExplainsSettingsFault};
 
 use crate::lookup::value_at;
 use std::alloc::{AllocError, AllocFailed, Global};
@@ -76,7 +76,7 @@ struct Given {
 /// The settings that a text gives, before they are checked. The fault is `NoMemory` or `NotToml`.
 fn given_settings(alloc: Global, bytes: &[u8]) -> Result<Given, SettingsFault>
     ensures ok { IfOk result (λ g. Gives bytes.now g.raw g.has_unknown_key) }
-    ensures refused { IfErr result (ExplainsFault bytes.now) }
+    ensures refused { IfErr result (ExplainsSettingsFault bytes.now) }
 {
     let table = match toml::table_from_slice(alloc, bytes) {
         Ok(table) => table,
@@ -137,7 +137,7 @@ fn pairs_in(alloc: Global, array: &[Value]) -> Result<Option<Vec<(i64, i64)>>, A
 {
     let mut pairs = Vec::new(alloc);
     for value in array {
-        let Some(pair) = pair_of(value) else {
+        let Some(pair) = integer_pair(value) else {
             return Ok(None);
         };
         pairs.push(pair)?;
@@ -146,8 +146,8 @@ fn pairs_in(alloc: Global, array: &[Value]) -> Result<Option<Vec<(i64, i64)>>, A
 }
 
 /// The two integers of a value that is an array of just these.
-fn pair_of(value: &Value) -> Option<(i64, i64)>
-    ensures { result ≡ pair_of (view value.now) }
+fn integer_pair(value: &Value) -> Option<(i64, i64)>
+    ensures { result ≡ integer_pair (view value.now) }
 {
     pair_in(value.as_array()?)
 }
@@ -183,7 +183,7 @@ fn is_key(text: &str) -> bool
 pub fn settings_from(alloc: Global, bytes: &[u8]) -> Result<Config, SettingsFault>
     ensures ok { IfOk result (λ c. (r : RawSettings) × Gives bytes.now r false ×
         (first_bad r ≡ None) × (c ≡ settings_of r)) }
-    ensures refused { IfErr result (ExplainsFault bytes.now) }
+    ensures refused { IfErr result (ExplainsSettingsFault bytes.now) }
 {
     let given = given_settings(alloc, bytes)?;
     let config = match Config::new(alloc, &given.raw) {

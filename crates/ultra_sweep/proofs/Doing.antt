@@ -6,7 +6,7 @@ use Rattle.ultra_board.specs.declared.rule.View.{View}
 use Rattle.ultra_board.specs.View.{times, times_below}
 use Rattle.ultra_sweep.specs.declared.job.Job.{Job}
 use Rattle.ultra_sweep.specs.declared.job.JobResult.{JobResult}
-use Rattle.ultra_sweep.specs.Job.{numbers, IsOutcomeOf, IsResultOf, IsResultAmong}
+use Rattle.ultra_sweep.specs.Job.{job_numbers, IsOutcomeOf, IsResultOf, IsResultAmong}
 use Rattle.ultra_sweep.specs.Work.{HasDone, HasDoneAll}
 use Rattle.ultra_sweep.proofs.Numbers.{room, not_in_second}
 
@@ -36,13 +36,13 @@ among jobs i job r below at its =
     }
 
 -- a number that was drawn names a job that no result names yet, so there is room for one result more
-module _ (jobs : List Job) (rs : List JobResult) (i : ℕ) (v s : View) (done : HasDoneAll (numbers rs) v s) (limit : v.limit ≡ length jobs)
-    (within : (k : ℕ) → times k (numbers rs) ≤ times_below k (length jobs)) (below : i < s.limit) (fresh : ¬ Contains s.drawn i) where
+module _ (jobs : List Job) (rs : List JobResult) (i : ℕ) (v s : View) (done : HasDoneAll (job_numbers rs) v s) (limit : v.limit ≡ length jobs)
+    (within : (k : ℕ) → times k (job_numbers rs) ≤ times_below k (length jobs)) (below : i < s.limit) (fresh : ¬ Contains s.drawn i) where
   pub is_below : i < length jobs
   is_below = let same = ap (λ (x : View). x.limit) done in omega arith
 
-  pub is_new : times i (numbers rs) ≡ 0
-  is_new = not_in_second i v.drawn (numbers rs) (subst (λ ns. ¬ Contains ns i) (ap (λ (x : View). x.drawn) done) fresh)
+  pub is_new : times i (job_numbers rs) ≡ 0
+  is_new = not_in_second i v.drawn (job_numbers rs) (subst (λ ns. ¬ Contains ns i) (ap (λ (x : View). x.drawn) done) fresh)
 
   pub has_room : length rs < length jobs
   has_room = room (length jobs) rs i within is_below is_new

@@ -7,7 +7,7 @@ use Rattle.std.specs.Prelude.{◌==◌, Contains}
 use Rattle.ultra_board.specs.View.{one_if, times, times_below}
 use Rattle.ultra_board.proofs.Times.{times-append, times-push, length-within, times-not_contained}
 use Rattle.ultra_sweep.specs.declared.job.JobResult.{JobResult}
-use Rattle.ultra_sweep.specs.Job.{numbers}
+use Rattle.ultra_sweep.specs.Job.{job_numbers}
 
 -- a number is itself, and no other
 pub one_if-same : (i : ℕ) → one_if (i == i) ≡ 1
@@ -59,15 +59,15 @@ length-below n xs within =
     let long = length-first_numbers n in
     omega arith
 
-pub length-numbers : (rs : List JobResult) → length (numbers rs) ≡ length rs
-length-numbers rs = length-map rs (λ (q : JobResult). q.number)
+pub length-job_numbers : (rs : List JobResult) → length (job_numbers rs) ≡ length rs
+length-job_numbers rs = length-map rs (λ (q : JobResult). q.number)
 
 -- the numbers of one result more
-pub numbers-push : (rs : List JobResult) (r : JobResult) → numbers (rs ++ r ∷ []) ≡ numbers rs ++ r.number ∷ []
-numbers-push rs r = map-append (λ (q : JobResult). q.number) rs (r ∷ [])
+pub job_numbers-push : (rs : List JobResult) (r : JobResult) → job_numbers (rs ++ r ∷ []) ≡ job_numbers rs ++ r.number ∷ []
+job_numbers-push rs r = map-append (λ (q : JobResult). q.number) rs (r ∷ [])
 
-pub times-numbers_push : (i : ℕ) (rs : List JobResult) (r : JobResult) → times i (numbers (rs ++ r ∷ [])) ≡ times i (numbers rs) + one_if (r.number == i)
-times-numbers_push i rs r = ap (times i) (numbers-push rs r) ∙ times-push i r.number (numbers rs)
+pub times-numbers_push : (i : ℕ) (rs : List JobResult) (r : JobResult) → times i (job_numbers (rs ++ r ∷ [])) ≡ times i (job_numbers rs) + one_if (r.number == i)
+times-numbers_push i rs r = ap (times i) (job_numbers-push rs r) ∙ times-push i r.number (job_numbers rs)
 
 -- one number more that is new
 pub one_more : (n : ℕ) (xs : List ℕ) (k : ℕ) → ((i : ℕ) → times i xs ≤ times_below i n) → k < n → times k xs ≡ 0 → (i : ℕ) → times i (xs ++ k ∷ []) ≤ times_below i n
@@ -83,23 +83,23 @@ one_more n xs k within below new i = by_case (k == i) refl (times-push i k xs) (
     by_case false e push before = let one : one_if (k == i) ≡ 0 = ap one_if e in omega arith
 
 -- one result more that names a new job
-pub within-push : (n : ℕ) (rs : List JobResult) (r : JobResult) → ((i : ℕ) → times i (numbers rs) ≤ times_below i n) → r.number < n → times r.number (numbers rs) ≡ 0
-    → (i : ℕ) → times i (numbers (rs ++ r ∷ [])) ≤ times_below i n
-within-push n rs r within below new i = subst (λ xs. times i xs ≤ times_below i n) (sym (numbers-push rs r)) (one_more n (numbers rs) r.number within below new i)
+pub within-push : (n : ℕ) (rs : List JobResult) (r : JobResult) → ((i : ℕ) → times i (job_numbers rs) ≤ times_below i n) → r.number < n → times r.number (job_numbers rs) ≡ 0
+    → (i : ℕ) → times i (job_numbers (rs ++ r ∷ [])) ≤ times_below i n
+within-push n rs r within below new i = subst (λ xs. times i xs ≤ times_below i n) (sym (job_numbers-push rs r)) (one_more n (job_numbers rs) r.number within below new i)
 
 -- a number that isn't in two lists isn't in the second
 pub not_in_second : (i : ℕ) (xs ys : List ℕ) → ¬ Contains (xs ++ ys) i → times i ys ≡ 0
 not_in_second i xs ys absent = let none = times-not_contained i (xs ++ ys) absent in let both = times-append i xs ys in omega arith
 
 -- where a number below n is new, there is room for one result more
-pub room : (n : ℕ) (rs : List JobResult) (k : ℕ) → ((i : ℕ) → times i (numbers rs) ≤ times_below i n) → k < n → times k (numbers rs) ≡ 0 → length rs < n
+pub room : (n : ℕ) (rs : List JobResult) (k : ℕ) → ((i : ℕ) → times i (job_numbers rs) ≤ times_below i n) → k < n → times k (job_numbers rs) ≡ 0 → length rs < n
 room n rs k within below new =
-    let most = length-below n (numbers rs ++ k ∷ []) (one_more n (numbers rs) k within below new) in
-    let long = length-push (numbers rs) k in
-    let same = length-numbers rs in
+    let most = length-below n (job_numbers rs ++ k ∷ []) (one_more n (job_numbers rs) k within below new) in
+    let long = length-push (job_numbers rs) k in
+    let same = length-job_numbers rs in
     omega arith
 
 -- a result that stands among others is counted
-pub times-middle : (i : ℕ) (before rest : List JobResult) (r : JobResult) → times i (numbers (before ++ r ∷ rest)) ≡ times i (numbers before) + (one_if (r.number == i) + times i (numbers rest))
+pub times-middle : (i : ℕ) (before rest : List JobResult) (r : JobResult) → times i (job_numbers (before ++ r ∷ rest)) ≡ times i (job_numbers before) + (one_if (r.number == i) + times i (job_numbers rest))
 times-middle i before rest r =
-    ap (times i) (map-append (λ (q : JobResult). q.number) before (r ∷ rest)) ∙ times-append i (numbers before) (r.number ∷ numbers rest)
+    ap (times i) (map-append (λ (q : JobResult). q.number) before (r ∷ rest)) ∙ times-append i (job_numbers before) (r.number ∷ job_numbers rest)

@@ -4,27 +4,27 @@ use Rattle.std.specs.Prelude.{◌==◌, slice_index}
 use Rattle.atomic_table.specs.Table.{State}
 use Rattle.ultra_board.specs.declared.rule.View.{View}
 use Rattle.ultra_board.specs.declared.rule.Limits.{Limits}
-use Rattle.ultra_board.specs.View.{one_if, times, times_below, total}
-use Rattle.ultra_board.specs.Rule.{IsKept}
+use Rattle.ultra_board.specs.View.{one_if, times, times_below, total_over_views}
+use Rattle.ultra_board.specs.Rule.{IsBoardRule}
 use Rattle.ultra_board.proofs.Times.{times_below-le}
 use Rattle.ultra_sweep.specs.declared.job.JobResult.{JobResult}
 use Rattle.ultra_sweep.specs.declared.gathering.GatherFault.{GatherFault}
 use Rattle.ultra_sweep.specs.declared.gathering.GatherFault.TheVariants.{Double, Stranger, Missing, NoMemory}
-use Rattle.ultra_sweep.specs.Job.{numbers}
-use Rattle.ultra_sweep.specs.Gather.{NamesEachOnce, IsNext, ExplainsFault}
+use Rattle.ultra_sweep.specs.Job.{job_numbers}
+use Rattle.ultra_sweep.specs.Gather.{NamesEachOnce, IsNext, ExplainsGatherFault}
 use Rattle.ultra_sweep.specs.Law.{IsSomeSpent, SweepLaw}
 use Rattle.ultra_sweep.proofs.Numbers.{one_if-same, times_below-in, times_below-out, times-middle}
 
 -- the job that comes next is counted once more
-counted : (n i : ℕ) (results before : List JobResult) → IsNext n results i before → times i (numbers before) + 1 ≤ times i (numbers results)
+counted : (n i : ℕ) (results before : List JobResult) → IsNext n results i before → times i (job_numbers before) + 1 ≤ times i (job_numbers results)
 counted n i results before next =
     let all = times-middle i before next.rest next.result in
-    let here : times i (numbers (before ++ next.result ∷ next.rest)) ≡ times i (numbers results) = ap (λ rs. times i (numbers rs)) next.there in
+    let here : times i (job_numbers (before ++ next.result ∷ next.rest)) ≡ times i (job_numbers results) = ap (λ rs. times i (job_numbers rs)) next.there in
     let one : one_if (next.result.number == i) ≡ 1 = ap (λ k. one_if (k == i)) next.number ∙ one_if-same i in
     omega arith
 
 -- where each job is named once, only memory can be wanting
-pub only_memory : (n : ℕ) (results : List JobResult) → NamesEachOnce n results → (fault : GatherFault) → ExplainsFault n results fault → fault ≡ NoMemory
+pub only_memory : (n : ℕ) (results : List JobResult) → NamesEachOnce n results → (fault : GatherFault) → ExplainsGatherFault n results fault → fault ≡ NoMemory
 only_memory n results once (Double i) (before, next, twice) =
     let more = counted n i results before next in let all = once i in let one = times_below-le i n in absurd (omega arith)
 only_memory n results once (Stranger i) (before, next, far) =
@@ -34,7 +34,7 @@ only_memory n results once (Missing i) missing =
 only_memory n results once NoMemory why = refl
 
 -- what is drawn on a board where a seat is spent
-all_drawn : (k : Limits) (s : State ℕ View) → IsKept k s → IsSomeSpent s.views → (i : ℕ) → total (λ (v : View). times i v.drawn) s.views ≡ times_below i k.limit
+all_drawn : (k : Limits) (s : State ℕ View) → IsBoardRule k s → IsSomeSpent s.views → (i : ℕ) → total_over_views (λ (v : View). times i v.drawn) s.views ≡ times_below i k.limit
 all_drawn k s kept spent i =
     let past = (kept.views spent.place spent.view spent.there).spent spent.spent in
     let all : min (slice_index s.words 0) k.limit ≡ k.limit = omega arith in
@@ -46,7 +46,7 @@ sweep limits state kept spent results all =
     record { once = once; no_other_fault = only_memory limits.limit results once }
 
 -- on a board that was closed by a seat that is spent, each number was drawn once
-pub closed : (results : List JobResult) (drawn : List ℕ) (n claimed : ℕ) → drawn ≡ numbers results → min claimed n ≡ length drawn → n ≤ claimed → ((i : ℕ) → times i drawn ≡ times_below i (length drawn)) → NamesEachOnce n results
+pub closed : (results : List JobResult) (drawn : List ℕ) (n claimed : ℕ) → drawn ≡ job_numbers results → min claimed n ≡ length drawn → n ≤ claimed → ((i : ℕ) → times i drawn ≡ times_below i (length drawn)) → NamesEachOnce n results
 closed results drawn n claimed named count all each i =
     let long : length drawn ≡ n = omega arith in
     ap (times i) (sym named) ∙ (each i ∙ ap (times_below i) long)

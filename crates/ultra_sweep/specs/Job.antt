@@ -3,15 +3,15 @@ use Rattle.std.specs.Prelude.{◌≡◌, ◌<◌, ℕ, List, map, length, Option
 use Rattle.ultra_model.specs.Trace.{trace}
 use Rattle.ultra_sweep.specs.declared.job.Job.{Job}
 use Rattle.ultra_sweep.specs.declared.job.JobResult.{JobResult}
-use Rattle.ultra_sweep.specs.declared.job.Outcome.{Outcome}
-use Rattle.ultra_sweep.specs.declared.job.Outcome.TheVariants.{Trace, NoMemory}
+use Rattle.ultra_sweep.specs.declared.job.JobOutcome.{JobOutcome}
+use Rattle.ultra_sweep.specs.declared.job.JobOutcome.TheVariants.{Trace, NoMemory}
 
 -- the trace of a job's run
 abbrev pub trace_of : Job → List ℕ
 trace_of job = trace job.config job.program
 
 -- what became of a job: its trace, or nothing is known of it
-abbrev pub IsOutcomeOf : Job → Outcome → Type 0
+abbrev pub IsOutcomeOf : Job → JobOutcome → Type 0
 IsOutcomeOf job (Trace text) = text.items ≡ trace_of job
 IsOutcomeOf job NoMemory = ⊤
 
@@ -26,10 +26,10 @@ pub record IsResultAmong (jobs : List Job) (result : JobResult) : Type 0 where
   pub outcome : IfSome (slice_get jobs result.number) (λ job. IsOutcomeOf job result.outcome)
 
 -- the numbers of the jobs that results name
-abbrev pub numbers : List JobResult → List ℕ
-numbers results = map (λ r. r.number) results
+abbrev pub job_numbers : List JobResult → List ℕ
+job_numbers results = map (λ r. r.number) results
 
 -- the text of a job that has one
-abbrev pub text_in : Outcome → Option (List ℕ)
+abbrev pub text_in : JobOutcome → Option (List ℕ)
 text_in (Trace text) = Some text.items
 text_in NoMemory = None

@@ -5,13 +5,13 @@ use mathlib.Core.Option.{some}
 use Rattle.atomic_table.specs.Table.{State}
 use Rattle.ultra_board.specs.declared.rule.View.{View}
 use Rattle.ultra_board.specs.declared.rule.Limits.{Limits}
-use Rattle.ultra_board.specs.View.{total, times}
-use Rattle.ultra_board.specs.Rule.{IsKept}
+use Rattle.ultra_board.specs.View.{total_over_views, times}
+use Rattle.ultra_board.specs.Rule.{IsBoardRule}
 use Rattle.ultra_sweep.specs.declared.job.JobResult.{JobResult}
 use Rattle.ultra_sweep.specs.declared.gathering.GatherFault.{GatherFault}
 use Rattle.ultra_sweep.specs.declared.gathering.GatherFault.TheVariants.{NoMemory}
-use Rattle.ultra_sweep.specs.Job.{numbers}
-use Rattle.ultra_sweep.specs.Gather.{NamesEachOnce, ExplainsFault}
+use Rattle.ultra_sweep.specs.Job.{job_numbers}
+use Rattle.ultra_sweep.specs.Gather.{NamesEachOnce, ExplainsGatherFault}
 
 -- a call of `work` has ended well on the board: a seat is spent
 pub record IsSomeSpent (views : List View) : Type 0 where
@@ -24,15 +24,17 @@ pub record IsSomeSpent (views : List View) : Type 0 where
 -- name what all seats have drawn
 abbrev pub AreAllResults : List View → List JobResult → Type 0
 AreAllResults views results =
-    (i : ℕ) → total (λ (v : View). times i v.drawn) views ≡ times i (numbers results)
+    (i : ℕ) → total_over_views (λ (v : View). times i v.drawn) views ≡ times i (job_numbers results)
 
 -- each job is named once, and `gather` gives them all or answers that memory was refused
-pub record IsWhole (n : ℕ) (results : List JobResult) : Type 0 where
+pub record HasEachJobOnce (n : ℕ) (results : List JobResult) : Type 0 where
   pub once : NamesEachOnce n results
-  pub no_other_fault : (fault : GatherFault) → ExplainsFault n results fault → fault ≡ NoMemory
+  pub no_other_fault : (fault : GatherFault) → ExplainsGatherFault n results fault
+      → fault ≡ NoMemory
 
 -- at every moment between two steps on a board
 abbrev pub SweepLaw : Type 0
 SweepLaw =
-    (limits : Limits) (state : State ℕ View) → IsKept limits state → IsSomeSpent state.views
-    → (results : List JobResult) → AreAllResults state.views results → IsWhole limits.limit results
+    (limits : Limits) (state : State ℕ View) → IsBoardRule limits state → IsSomeSpent state.views
+    → (results : List JobResult) → AreAllResults state.views results
+    → HasEachJobOnce limits.limit results

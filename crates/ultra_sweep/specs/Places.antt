@@ -2,37 +2,38 @@
 use Rattle.std.specs.Prelude.{◌≡◌, ◌<◌, ◌≤◌, ℕ, List, ◌∷◌, ◌++◌, Option, Some, None, IsSome, Vec, length, map, slice_index_or, slice_set}
 use Rattle.std.specs.declared.alloc.Global.{Global}
 use Rattle.ultra_sweep.specs.declared.job.JobResult.{JobResult}
-use Rattle.ultra_sweep.specs.declared.job.Outcome.TheVariants as outcome
+use Rattle.ultra_sweep.specs.declared.job.JobOutcome.TheVariants as outcome
 use Rattle.ultra_sweep.specs.declared.gathering.GatherFault.{GatherFault}
 use Rattle.ultra_sweep.specs.declared.gathering.GatherFault.TheVariants.{Double, Stranger, Missing, NoMemory}
 
-abbrev pub Places : Type 0
-Places = List (Option (Vec ℕ Global))
+abbrev pub TextPlaces : Type 0
+TextPlaces = List (Option (Vec ℕ Global))
 
 -- what is in the place of job i
-abbrev pub place_of : Places → ℕ → Option (Vec ℕ Global)
-place_of places i = slice_index_or places i None
+abbrev pub text_in_place : TextPlaces → ℕ → Option (Vec ℕ Global)
+text_in_place places i = slice_index_or places i None
 
 -- a result's text went into the place of its job, which was empty
-pub record IsPut (it : JobResult) (old new : Places) : Type 0 where
+pub record IsPut (it : JobResult) (old new : TextPlaces) : Type 0 where
   pub below : it.number < length old
-  pub empty : place_of old it.number ≡ None
+  pub empty : text_in_place old it.number ≡ None
   pub text : Vec ℕ Global
   pub outcome : it.outcome ≡ outcome.Trace text
   pub full : new ≡ slice_set old it.number (Some text)
 
 -- why it didn't
-abbrev pub ExplainsRefusal : JobResult → Places → GatherFault → Type 0
-ExplainsRefusal it places (Double i) =
-    (it.number ≡ i) × (i < length places) × IsSome (place_of places i)
-ExplainsRefusal it places (Stranger i) = (it.number ≡ i) × (length places ≤ i)
-ExplainsRefusal it places (Missing i) = ⊥
-ExplainsRefusal it places NoMemory =
-    (it.number < length places) × (place_of places it.number ≡ None) × (it.outcome ≡ outcome.NoMemory)
+abbrev pub ExplainsPutFault : JobResult → TextPlaces → GatherFault → Type 0
+ExplainsPutFault it places (Double i) =
+    (it.number ≡ i) × (i < length places) × IsSome (text_in_place places i)
+ExplainsPutFault it places (Stranger i) = (it.number ≡ i) × (length places ≤ i)
+ExplainsPutFault it places (Missing i) = ⊥
+ExplainsPutFault it places NoMemory =
+    (it.number < length places) × (text_in_place places it.number ≡ None)
+    × (it.outcome ≡ outcome.NoMemory)
 
 -- the first empty place is that of job i
-pub record IsFirstEmpty (places : Places) (i : ℕ) : Type 0 where
+pub record IsFirstEmpty (places : TextPlaces) (i : ℕ) : Type 0 where
   pub full : List (Vec ℕ Global)
-  pub rest : Places
+  pub rest : TextPlaces
   pub there : map Some full ++ None ∷ rest ≡ places
   pub number : length full ≡ i

@@ -4,7 +4,7 @@ use Rattle.std.specs.Prelude.{◌≡◌, ℕ, List, [], ◌∷◌, ◌++◌, tru
 use Rattle.ultra_board.specs.declared.rule.View.{View}
 use Rattle.ultra_sweep.specs.declared.job.Job.{Job}
 use Rattle.ultra_sweep.specs.declared.job.JobResult.{JobResult}
-use Rattle.ultra_sweep.specs.Job.{numbers, IsResultAmong}
+use Rattle.ultra_sweep.specs.Job.{job_numbers, IsResultAmong}
 
 -- a pass was taken. How often the passes were loaded, found to be full and added to is open
 abbrev pub HasEntered : View → View → Type 0
@@ -37,5 +37,5 @@ HasDoneAll ns v w =
 -- the jobs that were drawn in the call are those that its results name, in their order. Each is
 -- finished, and none is left to draw
 pub record HasWorked (jobs : List Job) (v w : View) (rs : List JobResult) : Type 0 where
-  pub done : HasDoneAll (numbers rs) (record v { spent = true }) w
+  pub done : HasDoneAll (job_numbers rs) (record v { spent = true }) w
   pub results : All (IsResultAmong jobs) rs

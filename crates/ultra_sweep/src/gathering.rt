@@ -2,11 +2,11 @@
 
 ghost use Rattle.std.specs.Prelude.{◌≡◌, ◌≤◌, [], IfOk, IfErr, OnOk, All, List, length, map, replicate, true, vec_len, vec_capacity};
 ghost use Rattle.ultra_sweep.specs.declared.job.Job.{Job};
-ghost use Rattle.ultra_sweep.specs.Job.{numbers, trace_of, IsResultAmong};
-ghost use Rattle.ultra_sweep.specs.Gather.{AreGathered, ExplainsFault, ExplainsEnd};
-ghost use Rattle.ultra_sweep.specs.Places.{IsPut, ExplainsRefusal, IsFirstEmpty};
+ghost use Rattle.ultra_sweep.specs.Job.{job_numbers, trace_of, IsResultAmong};
+ghost use Rattle.ultra_sweep.specs.Gather.{AreGathered, ExplainsGatherFault, ExplainsEnd};
+ghost use Rattle.ultra_sweep.specs.Places.{IsPut, ExplainsPutFault, IsFirstEmpty};
 
-use crate::job::{JobResult, Outcome};
+use crate::job::{JobOutcome, JobResult};
 use std::alloc::{AllocError, Global};
 use std::marker::Model;
 use ultra_board::{Board, Seat};
@@ -56,7 +56,7 @@ impl Model for Gathered {
 /// come in place of any other answer.
 pub fn gather(alloc: Global, count: u64, results: Vec<JobResult>) -> Result<Gathered, GatherFault>
     ensures ok { IfOk result (λ g. AreGathered count results.items g) }
-    ensures err { IfErr result (ExplainsFault count results.items) }
+    ensures err { IfErr result (ExplainsGatherFault count results.items) }
     ensures traces { (jobs : List Job) → length jobs ≡ count →
         All (IsResultAmong jobs) results.items → IfOk result (λ g. g ≡ map trace_of jobs) }
 {
@@ -79,7 +79,7 @@ pub fn close_and_gather(
     requires all { seat.view.places ≡ board.limits.seats }
     requires spent { seat.view.spent ≡ true }
     requires count { seat.view.limit ≡ count }
-    requires drawn { seat.view.drawn ≡ numbers results.items }
+    requires drawn { seat.view.drawn ≡ job_numbers results.items }
     ensures ok { IfOk result (λ g. AreGathered count results.items g) }
     ensures traces { (jobs : List Job) → length jobs ≡ count →
         All (IsResultAmong jobs) results.items → IfOk result (λ g. g ≡ map trace_of jobs) }
@@ -130,7 +130,7 @@ fn empty_places(alloc: Global, count: usize) -> Result<Vec<Option<Vec<u8>>>, All
 /// Puts the trace of a job into the job's place.
 fn put(places: &mut [Option<Vec<u8>>], it: JobResult) -> Result<(), GatherFault>
     ensures ok { OnOk result (IsPut it places.old places.new) }
-    ensures err { IfErr result (ExplainsRefusal it places.old) }
+    ensures err { IfErr result (ExplainsPutFault it places.old) }
 {
     let JobResult { number, outcome } = it;
     if number >= places.len() as u64 {
@@ -141,11 +141,11 @@ fn put(places: &mut [Option<Vec<u8>>], it: JobResult) -> Result<(), GatherFault>
         return Err(GatherFault::Double(number));
     }
     match outcome {
-        Outcome::Trace(text) => {
+        JobOutcome::Trace(text) => {
             *place = Some(text);
             Ok(())
         }
-        Outcome::NoMemory => Err(GatherFault::NoMemory),
+        JobOutcome::NoMemory => Err(GatherFault::NoMemory),
     }
 }
 

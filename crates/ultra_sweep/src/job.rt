@@ -21,7 +21,7 @@ pub struct Job {
 
 /// What became of a job.
 #[derive(Drop)]
-pub enum Outcome {
+pub enum JobOutcome {
     /// The trace of its run.
     Trace(Vec<u8>),
     /// Memory was refused, to its run or to its text.
@@ -34,7 +34,7 @@ pub struct JobResult {
     /// The job's number.
     pub number: u64,
     /// What became of it.
-    pub outcome: Outcome,
+    pub outcome: JobOutcome,
 }
 
 /// Who runs the jobs that are drawn.

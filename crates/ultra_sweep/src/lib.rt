@@ -14,7 +14,7 @@ mod reporting;
 mod working;
 
 pub use gathering::{GatherFault, Gathered, close_and_gather, gather};
-pub use job::{Job, JobGate, JobResult, Outcome};
+pub use job::{Job, JobGate, JobOutcome, JobResult};
 pub use law::sweep_law;
 pub use reporting::report;
 pub use ultra_settings::{JobsFault, SettingsFault, jobs_from, settings_from};

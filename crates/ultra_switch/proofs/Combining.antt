@@ -6,7 +6,7 @@ use Rattle.std.proofs.lemmas.Grind.{common_steps}
 use Rattle.std.proofs.lemmas.List.Sums.{fails_before_first}
 use Rattle.std.proofs.lemmas.Option.{get_or_from_slice_get}
 use Rattle.ultra_msg.specs.declared.Request.{Request}
-use Rattle.ultra_switch.specs.declared.Entry.{Entry}
+use Rattle.ultra_switch.specs.declared.QueueEntry.{QueueEntry}
 use Rattle.ultra_switch.specs.Partner.{IsFirst, IsPartner, combination_at}
 use Rattle.ultra_switch.specs.Arrive.{Lane, combine, combine_within, behind, can_combine}
 
@@ -17,16 +17,16 @@ module _ {X : Type 0} where
       let first : length xs ≤ position_or_len p xs = grind (arith, common_steps) in
       fails_before_first p xs k d (omega arith)
 
-abbrev NoneBefore : Request → List Entry → ℕ → Type 0
-NoneBefore r es n = (k : ℕ) (d : Entry) → k < n → can_combine r (get_or es k d) ≡ false
+abbrev NoneBefore : Request → List QueueEntry → ℕ → Type 0
+NoneBefore r es n = (k : ℕ) (d : QueueEntry) → k < n → can_combine r (get_or es k d) ≡ false
 
-combines_nowhere : (r : Request) (es : List Entry) → NoneBefore r es (length es) → combine r es ≡ None
+combines_nowhere : (r : Request) (es : List QueueEntry) → NoneBefore r es (length es) → combine r es ≡ None
 combines_nowhere r [] fails = refl
 combines_nowhere r (e ∷ es) fails =
     let first : can_combine r e ≡ false = fails 0 e (omega arith) in
     rw (combine, first) (ap (behind e) (combines_nowhere r es (λ k d within. fails (suc k) d (omega arith))))
 
-combines_at : (r : Request) (es : List Entry) (k : ℕ) (e : Entry) → NoneBefore r es k → slice_get es k ≡ Some e → can_combine r e ≡ true → combine r es ≡ Some (combination_at r es k e)
+combines_at : (r : Request) (es : List QueueEntry) (k : ℕ) (e : QueueEntry) → NoneBefore r es k → slice_get es k ≡ Some e → can_combine r e ≡ true → combine r es ≡ Some (combination_at r es k e)
 combines_at r [] k e fails there passes = cc
 combines_at r (x ∷ es) zero e fails there passes =
     let same : x ≡ e = cc in
@@ -37,7 +37,7 @@ combines_at r (x ∷ es) (suc k) e fails there passes =
     rw (combine, first) (ap (behind x) (combines_at r es k e (λ j d within. fails (suc j) d (omega arith)) there passes))
 
 -- a request combines with the entry at the place that was found
-pub combines_within : (w : ℕ) (l : Lane) (r : Request) (k : ℕ) (e : Entry) → length l.records < w → IsFirst (can_combine r) l.queue (Some k) → slice_get l.queue k ≡ Some e → combine_within w l r ≡ Some (combination_at r l.queue k e)
+pub combines_within : (w : ℕ) (l : Lane) (r : Request) (k : ℕ) (e : QueueEntry) → length l.records < w → IsFirst (can_combine r) l.queue (Some k) → slice_get l.queue k ≡ Some e → combine_within w l r ≡ Some (combination_at r l.queue k e)
 combines_within w l r k e room found there =
     let free : nat_lt (length l.records) w ≡ true = grind arith in
     let same : get_or l.queue k e ≡ e = get_or_from_slice_get l.queue k e e there in

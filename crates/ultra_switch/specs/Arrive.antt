@@ -3,25 +3,25 @@
 use Rattle.std.specs.Prelude.{ℕ, List, [], ◌∷◌, ◌++◌, Bool, true, false, not, ◌&&◌, ◌==◌, nat_lt, length, Option, Some, None}
 use Rattle.ultra_msg.specs.declared.Request.{Request}
 use Rattle.ultra_msg.specs.Pair.{pair_of}
-use Rattle.ultra_switch.specs.declared.Entry.{Entry}
+use Rattle.ultra_switch.specs.declared.QueueEntry.{QueueEntry}
 use Rattle.ultra_switch.specs.declared.WaitRecord.{WaitRecord}
 use Rattle.ultra_switch.specs.declared.Arrived.{Arrived}
 use Rattle.ultra_switch.specs.declared.Arrived.TheVariants.{Appended, CombinedWith}
 
 -- a queue toward memory with its wait buffer, the front and the oldest record first
 pub record Lane : Type 0 where
-  pub queue : List Entry
+  pub queue : List QueueEntry
   pub records : List WaitRecord
 
 abbrev pub empty_lane : Lane
 empty_lane = record { queue = []; records = [] }
 
-abbrev pub entry : Request → Bool → Entry
+abbrev pub entry : Request → Bool → QueueEntry
 entry r marked = record { request = r; combined = marked }
 
 -- whether a request may combine with this entry: it is for the same cell, and has not combined in
 -- this queue
-abbrev pub can_combine : Request → Entry → Bool
+abbrev pub can_combine : Request → QueueEntry → Bool
 can_combine r e = not e.combined && (e.request.cell == r.cell)
 
 -- the request that stands for both after a request has combined with an old one: it has the
@@ -30,11 +30,11 @@ abbrev pub sent_for : Request → Request → Request
 sent_for old r = record { pe = old.pe; cell = old.cell; op = (pair_of old.op r.op).sent }
 
 -- the entry that stands for both; it is marked
-abbrev pub combined_entry : Entry → Request → Entry
+abbrev pub combined_entry : QueueEntry → Request → QueueEntry
 combined_entry e r = entry (sent_for e.request r) true
 
 -- the record that is kept of the two
-abbrev pub wait_record : Entry → Request → WaitRecord
+abbrev pub wait_record : QueueEntry → Request → WaitRecord
 wait_record e r = record {
   pe = e.request.pe;
   cell = e.request.cell;
@@ -45,15 +45,15 @@ wait_record e r = record {
 
 -- a request has combined with the entry `old`: the queue after it
 pub record Combination : Type 0 where
-  pub queue : List Entry
-  pub old : Entry
+  pub queue : List QueueEntry
+  pub old : QueueEntry
 
-abbrev pub behind : Entry → Option Combination → Option Combination
+abbrev pub behind : QueueEntry → Option Combination → Option Combination
 behind e None = None
 behind e (Some c) = Some record { queue = e ∷ c.queue; old = c.old }
 
 -- a request combines with the frontmost entry that it can combine with
-abbrev pub combine : Request → List Entry → Option Combination
+abbrev pub combine : Request → List QueueEntry → Option Combination
 combine r [] = None
 combine r (e ∷ es) = elim (can_combine r e) [
   | true ↦ Some record { queue = combined_entry e r ∷ es; old = e }

@@ -3,19 +3,20 @@
 use Rattle.std.specs.Prelude.{◌≡◌, ℕ, suc, ◌≤◌, List, [], ◌∷◌, Bool, false, ◌==◌, length}
 use Rattle.std.specs.Int.{bit_at}
 use Rattle.ultra_msg.specs.declared.Request.{Request}
-use Rattle.ultra_switch.specs.declared.Entry.{Entry}
+use Rattle.ultra_switch.specs.declared.QueueEntry.{QueueEntry}
 use Rattle.ultra_switch.specs.Arrive.{entry}
+use Rattle.ultra_switch.specs.declared.TheConstants.{MOST_REQUEST_PLACES}
 
 abbrev pub has_mark : ℕ → ℕ → Bool
 has_mark word place = bit_at word place == 1
 
 -- requests that stand from a place on, each with its mark
-abbrev pub marked_from : ℕ → ℕ → List Request → List Entry
+abbrev pub marked_from : ℕ → ℕ → List Request → List QueueEntry
 marked_from word place [] = []
 marked_from word place (r ∷ rs) = entry r (has_mark word place) ∷ marked_from word (suc place) rs
 
 -- the requests of a queue, each with its mark
-abbrev pub marked_by : ℕ → List Request → List Entry
+abbrev pub marked_by : ℕ → List Request → List QueueEntry
 marked_by word rs = marked_from word 0 rs
 
 -- there is no mark behind the last request
@@ -24,11 +25,11 @@ AreOf word rs = (place : ℕ) → length rs ≤ place → has_mark word place �
 
 -- a queue of requests with marks, and its places
 pub record MarkedEntries : Type 0 where
-  pub entries : List Entry
+  pub entries : List QueueEntry
   pub places : ℕ
 
 -- a word has a bit for each place
 pub record IsMarked (word : ℕ) (rs : List Request) (places : ℕ) : Type 0 where
   pub marks : AreOf word rs
   pub within : length rs ≤ places
-  pub most : places ≤ 32
+  pub most : places ≤ MOST_REQUEST_PLACES

@@ -2,7 +2,7 @@
 use Rattle.std.specs.Prelude.{◌≡◌, ℕ, ◌<◌, List, Bool, true, false, length, Option, Some, None, slice_index_or, slice_get, slice_set}
 use Rattle.std.specs.Option.{MatchOption}
 use Rattle.ultra_msg.specs.declared.Request.{Request}
-use Rattle.ultra_switch.specs.declared.Entry.{Entry}
+use Rattle.ultra_switch.specs.declared.QueueEntry.{QueueEntry}
 use Rattle.ultra_switch.specs.Arrive.{Lane, Combination, combine_within, combined_entry}
 
 module _ {X : Type 0} (p : X → Bool) (xs : List X) where
@@ -19,7 +19,7 @@ module _ {X : Type 0} (p : X → Bool) (xs : List X) where
       (λ i. (i < length xs) × Passes i × ((k : ℕ) → k < i → Fails k))
 
 -- a request combines with the entry at a place
-abbrev pub combination_at : Request → List Entry → ℕ → Entry → Combination
+abbrev pub combination_at : Request → List QueueEntry → ℕ → QueueEntry → Combination
 combination_at r es k e = record { queue = slice_set es k (combined_entry e r); old = e }
 
 -- where a place is given, the request combines with the entry there; where none is, it combines
@@ -27,4 +27,6 @@ combination_at r es k e = record { queue = slice_set es k (combined_entry e r); 
 abbrev pub IsPartner : ℕ → Lane → Request → Option ℕ → Type 0
 IsPartner wait_places l r found = MatchOption found
     (combine_within wait_places l r ≡ None)
-    (λ k. (k < length l.queue) × ((e : Entry) → slice_get l.queue k ≡ Some e → combine_within wait_places l r ≡ Some (combination_at r l.queue k e)))
+    (λ k. (k < length l.queue)
+    × ((e : QueueEntry) → slice_get l.queue k ≡ Some e
+    → combine_within wait_places l r ≡ Some (combination_at r l.queue k e)))

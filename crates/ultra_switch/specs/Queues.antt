@@ -3,8 +3,9 @@
 use Rattle.std.specs.Prelude.{◌≤◌, ℕ, List, [], length, Option, Some, None}
 use Rattle.ultra_msg.specs.declared.Request.{Request}
 use Rattle.ultra_msg.specs.declared.ReplyMessage.{ReplyMessage}
-use Rattle.ultra_switch.specs.declared.Entry.{Entry}
+use Rattle.ultra_switch.specs.declared.QueueEntry.{QueueEntry}
 use Rattle.ultra_switch.specs.Arrive.{Lane, empty_lane}
+use Rattle.ultra_switch.specs.declared.TheConstants.{MOST_REQUEST_PLACES, MOST_WAIT_PLACES}
 
 -- a queue toward memory with its wait buffer, and the places of both
 pub record SizedLane : Type 0 where
@@ -16,12 +17,12 @@ abbrev pub empty_requests : ℕ → ℕ → SizedLane
 empty_requests request_places wait_places =
     record { lane = empty_lane; request_places = request_places; wait_places = wait_places }
 
--- nothing holds more than its places; a queue has at most 32, and a wait buffer at most 16
+-- nothing holds more than its places, of which there is a greatest number
 pub record IsWithinPlaces (l : SizedLane) : Type 0 where
   pub requests : length l.lane.queue ≤ l.request_places
   pub records : length l.lane.records ≤ l.wait_places
-  pub most_requests : l.request_places ≤ 32
-  pub most_records : l.wait_places ≤ 16
+  pub most_requests : l.request_places ≤ MOST_REQUEST_PLACES
+  pub most_records : l.wait_places ≤ MOST_WAIT_PLACES
 
 -- a queue toward the processing elements, and its places
 pub record SizedReplies : Type 0 where
@@ -32,6 +33,6 @@ abbrev pub empty_replies : ℕ → SizedReplies
 empty_replies places = record { replies = []; places = places }
 
 -- the request of the entry, if there is one
-abbrev pub request_of : Option Entry → Option Request
+abbrev pub request_of : Option QueueEntry → Option Request
 request_of None = None
 request_of (Some e) = Some e.request

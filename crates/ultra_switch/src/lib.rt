@@ -18,9 +18,15 @@ use std::alloc::{AllocError, Global};
 pub use ultra_msg::Slot;
 use ultra_msg::{Cell, Give, Pe, ReplyMessage, Request};
 
+/// The most places that a queue toward memory can have: its marks are the bits of a word.
+pub const MOST_REQUEST_PLACES: usize = 32;
+
+/// The most places that a wait buffer can have.
+pub const MOST_WAIT_PLACES: usize = 16;
+
 /// A request in a queue toward memory.
 #[derive(Clone, Copy, PartialEq, Eq, Debug, Drop)]
-pub struct Entry {
+pub struct QueueEntry {
     /// What is sent to memory: the request that arrived, or what stands for it and the one that it combined with.
     pub request: Request,
     /// Whether it has combined in this queue.
@@ -86,7 +92,7 @@ pub struct Switch {
 }
 
 impl Switch {
-    /// A switch whose queues and wait buffers are empty. `request_places` are the places of each queue toward memory, at most 32, `reply_places` those of each queue toward the processing elements, and `wait_places` those of each wait buffer, at most 16.
+    /// A switch whose queues and wait buffers are empty. `request_places` are the places of each queue toward memory, at most `MOST_REQUEST_PLACES`, `reply_places` those of each queue toward the processing elements, and `wait_places` those of each wait buffer, at most `MOST_WAIT_PLACES`.
     ///
     /// `NoMemory` means that the memory for a queue was refused.
     pub fn new(
@@ -95,8 +101,8 @@ impl Switch {
         reply_places: usize,
         wait_places: usize,
     ) -> Result<Switch, SwitchFault>
-        requires requests { request_places ≤ 32 }
-        requires records { wait_places ≤ 16 }
+        requires requests { request_places ≤ MOST_REQUEST_PLACES }
+        requires records { wait_places ≤ MOST_WAIT_PLACES }
         ensures to_mm { IfOk result (λ s. let q = empty_requests request_places wait_places in (s.to_mm.zero ≡ q) × (s.to_mm.one ≡ q)) }
         ensures to_pe { IfOk result (λ s. let q = empty_replies reply_places in (s.to_pe.zero ≡ q) × (s.to_pe.one ≡ q)) }
     {

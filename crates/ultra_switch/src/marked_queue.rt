@@ -4,16 +4,14 @@ ghost use Rattle.std.specs.Prelude.{◌≡◌, ℕ, ◌+◌, ◌<◌, ◌≤◌,
 ghost use Rattle.std.specs.List.{position};
 ghost use Rattle.ultra_switch.specs.Arrive.{can_combine, entry};
 ghost use Rattle.ultra_switch.specs.Queues.{request_of};
+ghost use Rattle.ultra_switch.specs.declared.TheConstants.{MOST_REQUEST_PLACES};
 
-use crate::Entry;
+use crate::QueueEntry;
 use crate::marks::Marks;
 use crate::queue::Queue;
 use std::alloc::{AllocError, Global};
 use std::marker::Model;
 use ultra_msg::RequestPacket;
-
-/// The most places that a queue toward memory can have: the bits of a word.
-pub(crate) const MOST_REQUEST_PLACES: usize = 32;
 
 /// A queue of requests, each with a mark, of a fixed number of places.
 #[derive(Drop)]
@@ -38,7 +36,7 @@ impl MarkedQueue {
 
     /// An empty queue of this many places.
     pub(crate) fn new(alloc: Global, places: usize) -> Result<MarkedQueue, AllocError>
-        requires { places ≤ 32 }
+        requires { places ≤ MOST_REQUEST_PLACES }
         ensures { IfOk result (λ q. q ≡ record { entries = []; places = places }) }
     {
         Ok(MarkedQueue {
@@ -62,14 +60,6 @@ impl MarkedQueue {
         self.requests.free()
     }
 
-    /// How many places the queue has, at most 32.
-    pub(crate) fn places(&self) -> usize
-        ensures value { result ≡ self.now.places }
-        ensures most { result ≤ 32 }
-    {
-        self.requests.capacity()
-    }
-
     /// Whether no request stands in the queue.
     pub(crate) fn is_empty(&self) -> bool
         ensures { result ≡ (length self.now.entries == 0) }
@@ -78,11 +68,11 @@ impl MarkedQueue {
     }
 
     /// The request at this place, counted from 0 at the front, with its mark.
-    pub(crate) fn entry(&self, place: usize) -> Entry
+    pub(crate) fn entry(&self, place: usize) -> QueueEntry
         requires { place < length self.now.entries }
         ensures { slice_get self.now.entries place ≡ Some result }
     {
-        Entry {
+        QueueEntry {
             request: self.requests.get(place).request(),
             combined: self.marks.has(place),
         }
@@ -138,7 +128,7 @@ impl MarkedQueue {
 }
 
 /// Whether the request can combine with the entry: it has no mark and is for the same cell.
-fn can_combine(request: &RequestPacket, entry: Entry) -> bool
+fn can_combine(request: &RequestPacket, entry: QueueEntry) -> bool
     ensures { result ≡ can_combine request.now entry }
 {
     !entry.combined && entry.request.cell == request.cell()

@@ -2,6 +2,7 @@
 
 ghost use Rattle.std.specs.Prelude.{◌≡◌, ◌≢◌, ℕ, suc, ◌^◌, ◌<◌, true, false};
 ghost use Rattle.ultra_switch.specs.Marks.{has_mark};
+ghost use Rattle.ultra_switch.specs.declared.TheConstants.{MOST_REQUEST_PLACES};
 
 use std::marker::Model;
 
@@ -31,7 +32,7 @@ impl Marks {
 
     /// Whether the request at this place is marked.
     pub(crate) fn has(self, place: usize) -> bool
-        requires { place < 32 }
+        requires { place < MOST_REQUEST_PLACES }
         ensures { result ≡ has_mark self place }
     {
         (self.word >> place) % 2 == 1
@@ -39,7 +40,7 @@ impl Marks {
 
     /// These marks, and that of the request at this place.
     pub(crate) fn with(self, place: usize) -> Marks
-        requires { place < 32 }
+        requires { place < MOST_REQUEST_PLACES }
         ensures here { has_mark result place ≡ true }
         ensures others { (other : ℕ) → other ≢ place → has_mark result other ≡ has_mark self other }
     {

@@ -57,14 +57,6 @@ impl<T: Copy + Default> Queue<T> {
         self.free
     }
 
-    /// How many places the queue has.
-    pub(crate) fn capacity(&self) -> usize
-        ensures capacity { result ≡ self.now.capacity }
-        ensures within { result < 2 ^ 63 }
-    {
-        self.rest.capacity()
-    }
-
     /// Whether no item stands in the queue.
     pub(crate) fn is_empty(&self) -> bool
         ensures { result ≡ (length self.now.items == 0) }
@@ -122,6 +114,7 @@ impl<T: Copy + Default> Queue<T> {
         ensures items { self.new ≡ buffer (drop 1 self.old.items) self.old.capacity }
     {
         let first = self.front.take()?;
+        // for the prover: the places of the ring are below 2^63
         let _places = self.rest.capacity();
         if let Some(next) = self.rest.pop_front() {
             self.front.fill(next);

@@ -1,6 +1,7 @@
 //! Queues toward the processing elements.
 
-ghost use Rattle.std.specs.Prelude.{◌≡◌, ℕ, ◌+◌, ◌<◌, ◌≤◌, ◌==◌, ◌++◌, ◌∷◌, [], length, drop, slice_get, nat_le, Some, IfOk};
+ghost use Rattle.std.specs.Prelude.{◌≡◌, ℕ, ◌+◌, ◌<◌, ◌≤◌, ◌==◌, length, slice_get, nat_le, Some, IfOk};
+ghost use Rattle.ultra_switch.specs.Calls.{first_reply, with_reply, without_first};
 ghost use Rattle.ultra_switch.specs.Queues.{empty_replies};
 
 use crate::queue::Queue;
@@ -67,7 +68,7 @@ impl ToPe {
 
     /// The reply at the front, or `None` where the queue is empty.
     pub fn head(&self) -> Option<ReplyMessage>
-        ensures { result ≡ slice_get self.now.replies 0 }
+        ensures { result ≡ first_reply self.now }
     {
         Some(self.queue.front()?.message())
     }
@@ -75,31 +76,31 @@ impl ToPe {
     /// A reply comes to the end of the queue.
     pub fn put(&mut self, reply: ReplyMessage)
         requires { length self.old.replies < self.old.places }
-        ensures { self.new ≡ record self.old { replies = self.old.replies ++ reply ∷ [] } }
+        ensures { self.new ≡ with_reply self.old reply }
     {
-        self.receive(ReplyPacket::of(reply));
+        self.put_packet(ReplyPacket::of(reply));
     }
 
     /// Takes the reply at the front out of the queue, or answers `None` where the queue is empty.
     pub fn leave(&mut self) -> Option<ReplyMessage>
-        ensures value { result ≡ slice_get self.old.replies 0 }
-        ensures queue { self.new ≡ record self.old { replies = drop 1 self.old.replies } }
+        ensures value { result ≡ first_reply self.old }
+        ensures queue { self.new ≡ without_first self.old }
     {
-        Some(self.send()?.message())
+        Some(self.leave_packet()?.message())
     }
 
-    /// A reply comes from a link to the end of the queue.
-    pub fn receive(&mut self, reply: ReplyPacket)
+    /// The same as `put`, with a packet.
+    pub fn put_packet(&mut self, reply: ReplyPacket)
         requires { length self.old.replies < self.old.places }
-        ensures { self.new ≡ record self.old { replies = self.old.replies ++ reply ∷ [] } }
+        ensures { self.new ≡ with_reply self.old reply }
     {
         self.queue.push(reply);
     }
 
-    /// Takes the reply at the front out of the queue for its link, or answers `None` where the queue is empty.
-    pub fn send(&mut self) -> Option<ReplyPacket>
-        ensures value { result ≡ slice_get self.old.replies 0 }
-        ensures queue { self.new ≡ record self.old { replies = drop 1 self.old.replies } }
+    /// The same as `leave`, with a packet.
+    pub fn leave_packet(&mut self) -> Option<ReplyPacket>
+        ensures value { result ≡ first_reply self.old }
+        ensures queue { self.new ≡ without_first self.old }
     {
         self.queue.pop()
     }

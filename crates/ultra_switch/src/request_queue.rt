@@ -1,21 +1,20 @@
 //! Queues toward memory, with their wait buffers.
 
-ghost use Rattle.std.specs.Prelude.{◌≡◌, ℕ, ◌+◌, ◌<◌, ◌≤◌, ◌==◌, ◌&&◌, length, drop, slice_get, nat_le, IfOk, IfSome, ◌∷◌, []};
+ghost use Rattle.std.specs.Prelude.{◌≡◌, ℕ, ◌+◌, ◌<◌, ◌≤◌, ◌==◌, ◌&&◌, length, slice_get, nat_le, IfOk, IfSome, ◌∷◌, []};
 ghost use Rattle.std.specs.List.{position};
-ghost use Rattle.ultra_switch.specs.Arrive.{arrive, arrival, sent_for, wait_record};
+ghost use Rattle.ultra_switch.specs.Arrive.{sent_for, wait_record};
+ghost use Rattle.ultra_switch.specs.Calls.{after_split, arrival_of, lane_head, split_replies, with_arrival, without_head};
 ghost use Rattle.ultra_switch.specs.Partner.{IsPartner};
-ghost use Rattle.ultra_switch.specs.Split.{is_of, records_after, replies_of, replies_in, old_reply, new_reply};
-ghost use Rattle.ultra_switch.specs.Queues.{empty_requests, request_of};
+ghost use Rattle.ultra_switch.specs.Split.{is_of, replies_in, old_reply, new_reply};
+ghost use Rattle.ultra_switch.specs.Queues.{empty_requests};
+ghost use Rattle.ultra_switch.specs.declared.TheConstants.{MOST_REQUEST_PLACES};
 
 use crate::marked_queue::MarkedQueue;
-use crate::{Arrived, Entry, Split, WaitRecord};
+use crate::{Arrived, MOST_WAIT_PLACES, QueueEntry, Split, WaitRecord};
 use arrayvec::ArrayVec;
 use std::alloc::{AllocError, Global};
 use std::marker::Model;
 use ultra_msg::{ReplyMessage, ReplyPacket, Request, RequestPacket, pair, take_out};
-
-/// The most places that a wait buffer can have.
-const MOST_WAIT_PLACES: usize = 16;
 
 /// A queue toward memory, with its wait buffer: of one memory-side port of a switch.
 #[derive(Drop)]
@@ -42,8 +41,8 @@ impl ToMm {
         request_places: usize,
         wait_places: usize,
     ) -> Result<ToMm, AllocError>
-        requires requests { request_places ≤ 32 }
-        requires records { wait_places ≤ 16 }
+        requires requests { request_places ≤ MOST_REQUEST_PLACES }
+        requires records { wait_places ≤ MOST_WAIT_PLACES }
         ensures { IfOk result (λ q. q ≡ empty_requests request_places wait_places) }
     {
         Ok(ToMm {
@@ -76,7 +75,7 @@ impl ToMm {
     }
 
     /// The entry at this place of the queue, counted from 0 at the front.
-    pub fn entry(&self, index: usize) -> Entry
+    pub fn entry(&self, index: usize) -> QueueEntry
         requires { index < length self.now.lane.queue }
         ensures { slice_get self.now.lane.queue index ≡ Some result }
     {
@@ -87,7 +86,7 @@ impl ToMm {
     pub fn record_count(&self) -> usize
         ensures value { result ≡ length self.now.lane.records }
         ensures within { result ≤ self.now.wait_places }
-        ensures most { self.now.wait_places ≤ 16 }
+        ensures most { self.now.wait_places ≤ MOST_WAIT_PLACES }
     {
         self.records.len()
     }
@@ -109,30 +108,30 @@ impl ToMm {
 
     /// The request at the front of the queue, or `None` where the queue is empty.
     pub fn head(&self) -> Option<Request>
-        ensures { result ≡ request_of (slice_get self.now.lane.queue 0) }
+        ensures { result ≡ lane_head self.now }
     {
-        Some(self.front()?.request())
+        Some(self.head_packet()?.request())
     }
 
-    /// The request at the front as it would go onto a link, or `None` where the queue is empty.
-    pub fn front(&self) -> Option<RequestPacket>
-        ensures { result ≡ request_of (slice_get self.now.lane.queue 0) }
+    /// The same as `head`, as a packet.
+    pub fn head_packet(&self) -> Option<RequestPacket>
+        ensures { result ≡ lane_head self.now }
     {
         self.queue.front()
     }
 
     /// Takes the request at the front out of the queue, or answers `None` where the queue is empty.
     pub fn leave(&mut self) -> Option<Request>
-        ensures value { result ≡ request_of (slice_get self.old.lane.queue 0) }
-        ensures queue { self.new ≡ record self.old { lane = record self.old.lane { queue = drop 1 self.old.lane.queue } } }
+        ensures value { result ≡ lane_head self.old }
+        ensures queue { self.new ≡ without_head self.old }
     {
-        Some(self.send()?.request())
+        Some(self.leave_packet()?.request())
     }
 
-    /// Takes the request at the front out of the queue for its link, or answers `None` where the queue is empty.
-    pub fn send(&mut self) -> Option<RequestPacket>
-        ensures value { result ≡ request_of (slice_get self.old.lane.queue 0) }
-        ensures queue { self.new ≡ record self.old { lane = record self.old.lane { queue = drop 1 self.old.lane.queue } } }
+    /// The same as `leave`, with a packet.
+    pub fn leave_packet(&mut self) -> Option<RequestPacket>
+        ensures value { result ≡ lane_head self.old }
+        ensures queue { self.new ≡ without_head self.old }
     {
         self.queue.pop()
     }
@@ -140,18 +139,18 @@ impl ToMm {
     /// A request arrives. It combines with the frontmost entry for its cell that hasn't combined in this queue, where there is one and the wait buffer has a free place; otherwise it goes to the end of the queue. The record of a combination goes behind those that are there.
     pub fn arrive(&mut self, request: Request) -> Arrived
         requires { length self.old.lane.queue < self.old.request_places }
-        ensures outcome { result ≡ arrival self.old.wait_places self.old.lane request }
-        ensures lane { self.new ≡ record self.old { lane = arrive self.old.wait_places self.old.lane request } }
+        ensures outcome { result ≡ arrival_of self.old request }
+        ensures lane { self.new ≡ with_arrival self.old request }
     {
-        self.receive(&RequestPacket::of(request))
+        self.arrive_packet(&RequestPacket::of(request))
     }
 
-    /// A request arrives from a link, as `arrive` says.
+    /// The same as `arrive`, with a packet.
     #[inline(always)]
-    pub fn receive(&mut self, packet: &RequestPacket) -> Arrived
+    pub fn arrive_packet(&mut self, packet: &RequestPacket) -> Arrived
         requires { length self.old.lane.queue < self.old.request_places }
-        ensures outcome { result ≡ arrival self.old.wait_places self.old.lane packet.now }
-        ensures lane { self.new ≡ record self.old { lane = arrive self.old.wait_places self.old.lane packet.now } }
+        ensures outcome { result ≡ arrival_of self.old packet.now }
+        ensures lane { self.new ≡ with_arrival self.old packet.now }
     {
         let Some(place) = self.partner(packet) else {
             self.queue.push(*packet);
@@ -177,20 +176,20 @@ impl ToMm {
 
     /// A reply comes back. Where the wait buffer has a record of its processing element and cell, the oldest such record goes, and the replies to the two requests of that pair are made by it; otherwise the reply goes on itself.
     pub fn split(&mut self, reply: ReplyMessage) -> Split
-        ensures replies { replies_in result ≡ replies_of reply self.old.lane.records }
-        ensures records { self.new ≡ record self.old { lane = record self.old.lane { records = records_after reply self.old.lane.records } } }
+        ensures replies { replies_in result ≡ split_replies self.old reply }
+        ensures records { self.new ≡ after_split self.old reply }
     {
-        match self.divide(ReplyPacket::of(reply)) {
+        match self.split_packet(ReplyPacket::of(reply)) {
             Split::One(reply) => Split::One(reply.message()),
             Split::Two(old, new) => Split::Two(old.message(), new.message()),
         }
     }
 
-    /// A reply comes back by a link, as `split` says.
+    /// The same as `split`, with packets.
     #[inline(always)]
-    pub fn divide(&mut self, reply: ReplyPacket) -> Split<ReplyPacket>
-        ensures replies { replies_in result ≡ replies_of reply self.old.lane.records }
-        ensures records { self.new ≡ record self.old { lane = record self.old.lane { records = records_after reply self.old.lane.records } } }
+    pub fn split_packet(&mut self, reply: ReplyPacket) -> Split<ReplyPacket>
+        ensures replies { replies_in result ≡ split_replies self.old reply }
+        ensures records { self.new ≡ after_split self.old reply }
     {
         match record_place(&self.records, &reply) {
             Some(place) => replies_by(take_out(&mut self.records, place), reply.message()),
@@ -200,7 +199,7 @@ impl ToMm {
 }
 
 /// A request combines with the request of an old entry: the request that stands for both, and what is kept of the two.
-fn combine(old: Entry, request: Request) -> (Request, WaitRecord)
+fn combine(old: QueueEntry, request: Request) -> (Request, WaitRecord)
     ensures sent { result.0 ≡ sent_for old.request request }
     ensures kept { result.1 ≡ wait_record old request }
 {

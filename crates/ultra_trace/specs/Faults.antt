@@ -1,8 +1,8 @@
 -- the faults of a run by several workers; this project's profile
-use Rattle.ultra_alone.specs.declared.fault.RunFault.{RunFault}
-use Rattle.ultra_alone.specs.declared.fault.RunFault.TheVariants.{NoMemory, NoThread}
-use Rattle.ultra_crew.specs.CrewFault.{CrewFault}
-use Rattle.ultra_crew.specs.CrewFault.TheVariants as crew
+use Rattle.ultra_trace_alone.specs.declared.fault.RunFault.{RunFault}
+use Rattle.ultra_trace_alone.specs.declared.fault.RunFault.TheVariants.{NoMemory, NoThread}
+use Rattle.ultra_crew.specs.declared.fault.CrewFault.{CrewFault}
+use Rattle.ultra_crew.specs.declared.fault.CrewFault.TheVariants as crew
 
 -- a fault of the workers ends the run by the same name
 abbrev pub fault_of_crew : CrewFault → RunFault

@@ -1,10 +1,10 @@
-//! A run by several workers, each in a thread of its own, and its trace. The run in the caller's thread, and what both share, is in `ultra_alone`.
+//! A run by several workers, each in a thread of its own, and its trace. The run in the caller's thread, and what both share, is in `ultra_trace_alone`.
 #![tactic(auto)]
 
 mod running;
 mod together;
 
 pub use running::run;
-pub use ultra_alone::{RunFault, run_alone};
 pub use ultra_crew::{Gate, Half};
-pub use ultra_lines::write_cycle;
+pub use ultra_trace_alone::{RunFault, run_alone};
+pub use ultra_trace_text::write_cycle;

@@ -1,21 +1,21 @@
-//! The trace of a run by n workers: in the caller's thread for one (`ultra_alone`), and else in a thread for each.
+//! The trace of a run by n workers: in the caller's thread for one (`ultra_trace_alone`), and else in a thread for each.
 
 ghost use Rattle.std.specs.Prelude.{◌≡◌, ◌≢◌, ◌+◌, ◌≤◌, List, ℕ, ◌++◌, OnOk, OnErr, IfErr};
 ghost use Rattle.ultra_msg.specs.Bytes.{TakesPrefix};
 ghost use Rattle.ultra_model.specs.Trace.{trace};
-ghost use Rattle.ultra_alone.specs.declared.fault.RunFault.TheVariants.{NoMemory, NoThread};
-ghost use Rattle.ultra_alone.specs.Faults.{sink_faults};
-ghost use Rattle.ultra_alone.specs.Headline.{Headline};
+ghost use Rattle.ultra_trace_alone.specs.declared.fault.RunFault.TheVariants.{NoMemory, NoThread};
+ghost use Rattle.ultra_trace_alone.specs.Faults.{sink_faults};
+ghost use Rattle.ultra_trace_alone.specs.Headline.{Headline};
 
 use crate::together::write_trace_together;
 use std::alloc::Global;
 use std::sync::Wait;
 use std::thread::Threads;
-use ultra_alone::{RunFault, new_blocks, run_alone};
 use ultra_crew::Gate;
 use ultra_isa::Program;
 use ultra_model::Config;
 use ultra_msg::Sink;
+use ultra_trace_alone::{RunFault, new_blocks, run_alone};
 
 /// Runs a program on a machine of these settings by n workers, 1 to 64, and writes the trace to the sink: the same bytes for every number of workers and every gate. After a fault the sink has taken a prefix of it.
 ///

@@ -4,10 +4,11 @@ use Rattle.std.specs.Prelude.{IsSome}
 use Rattle.std.specs.List.{AllByRecursion}
 use Rattle.std.proofs.lemmas.Bool.{cases_Bool}
 use Rattle.std.proofs.lemmas.Bool.Decides.{nat_tests}
-use Rattle.ultra_law.specs.Tree.{Tree, Kept, kept, is_under, tree_of, without}
-use Rattle.ultra_law.specs.Explicable.{one_if, held_by}
+use Rattle.ultra_serial_law.specs.Tree.{Tree, Kept, kept, is_under, tree_of, without}
+use Rattle.ultra_serial_law.specs.Explicable.{held_by}
+use Rattle.ultra_model.specs.Balance.{weight}
 use Rattle.ultra_tree.specs.Absorb.{AreWithin}
-use Rattle.ultra_law.proofs.Latest.{tree_later, rest_here, rest_later}
+use Rattle.ultra_serial_law.proofs.Latest.{tree_later, rest_here, rest_later}
 use Rattle.ultra_tree.proofs.Kept.{same_identity}
 
 pub equal_test : (a b : ℕ) → a ≡ b → (a == b) ≡ true
@@ -35,15 +36,15 @@ module _ (k : Kept) (ks : List Kept) where
   beside : (n : ℕ) → n ≤ k.pe → held_below n (k ∷ ks) ≡ held_below n ks
   beside zero l = refl
   beside (suc n) l =
-      let e = ap one_if (other_test k.pe n (λ h. omega (arith, h, l))) in
+      let e = ap weight (other_test k.pe n (λ h. omega (arith, h, l))) in
       omega (arith, beside n (omega (arith, l)), e)
 
   among : (n : ℕ) → k.pe < n → held_below n (k ∷ ks) ≡ held_below n ks + 1
   among zero l = absurd (omega (arith, l))
   among (suc n) l =
       ⊎_elim
-      (λ h. let e = ap one_if h in let at = equal_of k.pe n h in omega (arith, beside n (omega (arith, at)), e))
-      (λ h. let e = ap one_if h in let ne = apart_of k.pe n h in omega (arith, among n (omega (arith, ne, l)), e))
+      (λ h. let e = ap weight h in let at = equal_of k.pe n h in omega (arith, beside n (omega (arith, at)), e))
+      (λ h. let e = ap weight h in let ne = apart_of k.pe n h in omega (arith, among n (omega (arith, ne, l)), e))
       (cases_Bool (k.pe == n))
 
 all_below : (n : ℕ) (ks : List Kept) → AllByRecursion (λ (k : Kept). k.pe < n) ks → length ks ≡ held_below n ks
@@ -75,8 +76,8 @@ within_more n m p a t ks w l f = record {
   elements = (l, w.elements);
   few = λ q.
       ⊎_elim
-      (λ h. let e = ap one_if h in let at = equal_of p q h in let fq = subst (λ i. held_by i ks < m) at f in omega (arith, e, fq))
-      (λ h. let e = ap one_if h in omega (arith, e, w.few q))
+      (λ h. let e = ap weight h in let at = equal_of p q h in let fq = subst (λ i. held_by i ks < m) at f in omega (arith, e, fq))
+      (λ h. let e = ap weight h in omega (arith, e, w.few q))
       (cases_Bool (p == q));
 }
 
@@ -107,7 +108,7 @@ one_fewer p a (k ∷ ks) s =
     (λ u.
     let e = ap (λ us. held_by p us) (rest_here p a k ks u) in
     let at = (same_identity k.pe k.cell p a u).0 in
-    let one = ap one_if (equal_test k.pe p at) in
+    let one = ap weight (equal_test k.pe p at) in
     omega (arith, e, one))
     (λ u.
     let e = ap (λ us. held_by p us) (rest_later p a k ks u) in

@@ -1,7 +1,7 @@
 -- the greatest depth of a leaf is the height
 use Rattle.std.proofs.Common.{◌≡◌, ℕ, zero, suc, ◌+◌, ◌-◌, ◌<◌, ◌≤◌, Bool, true, false, nat_lt, arith, ap, ⊎_elim}
 use Rattle.std.proofs.lemmas.Bool.{cases_lt}
-use Rattle.ultra_law.specs.Tree.{height}
+use Rattle.ultra_serial_law.specs.Tree.{height}
 use Rattle.ultra_tree.specs.Counts.{leaf_count}
 use Rattle.ultra_tree.specs.Places.{depth_at, depth_of_first}
 use Rattle.ultra_tree.specs.Seen.{seen_node}

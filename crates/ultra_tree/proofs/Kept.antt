@@ -2,8 +2,8 @@
 use Rattle.std.proofs.Common.{◌≡◌, ◌≢◌, ℕ, List, [], ◌∷◌, ◌++◌, Bool, true, false, ◌==◌, ◌&&◌, refl, arith, sym, ap, ◌∙◌, ⊎_elim, Option, Some, None}
 use Rattle.std.proofs.lemmas.Bool.{cases_Bool}
 use Rattle.std.proofs.lemmas.Bool.Decides.{nat_tests}
-use Rattle.ultra_law.specs.Tree.{Tree, Kept, is_under, tree_of, without}
-use Rattle.ultra_law.proofs.Latest.{tree_here, tree_later, rest_here, rest_later}
+use Rattle.ultra_serial_law.specs.Tree.{Tree, Kept, is_under, tree_of, without}
+use Rattle.ultra_serial_law.proofs.Latest.{tree_here, tree_later, rest_here, rest_later}
 
 pub same_identity : (p a q b : ℕ) → (p == q) && (a == b) ≡ true → (p ≡ q) × (a ≡ b)
 same_identity p a q b e = (grind (arith, nat_tests), grind (arith, nat_tests))

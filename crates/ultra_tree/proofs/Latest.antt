@@ -4,12 +4,12 @@ use Rattle.std.specs.Prelude.{slice_get, Option, not, is_some, IfSome, IfNone, â
 use Rattle.std.proofs.lemmas.List.{append-nil, length_push}
 use Rattle.std.proofs.lemmas.Option.{get_or_from_slice_get, slice_get-get_or, slice_get_within}
 use Rattle.std.proofs.lemmas.Bool.Decides.{nat_tests}
-use Rattle.ultra_law.specs.Tree.{is_under, tree_of, Kept}
+use Rattle.ultra_serial_law.specs.Tree.{is_under, tree_of, Kept}
 use Rattle.ultra_tree.specs.declared.held.Held.{Held}
 use Rattle.ultra_tree.specs.Seen.{seen, kept_as, trees_of, IsLatest}
 use Rattle.std.proofs.lemmas.Bool.{cases_Bool}
 use Rattle.ultra_tree.proofs.Counted.{equal_of, apart_of}
-use Rattle.ultra_law.proofs.Latest.{tree_here, tree_later, rest_here}
+use Rattle.ultra_serial_law.proofs.Latest.{tree_here, tree_later, rest_here}
 use Rattle.ultra_tree.proofs.Kept.{same_identity, tree_more, tree_same, rest_more, rest_same}
 
 module _ {A : Type 0} (p a : â„•) where

@@ -1,7 +1,7 @@
 -- the leaves of a tree as a list
 use Rattle.std.proofs.Common.{◌≡◌, ℕ, zero, suc, ◌-◌, ◌<◌, ◌≤◌, List, [], ◌∷◌, ◌++◌, length, map, take, true, false, Some, arith, ap, refl, ◌∙◌, length-append}
 use Rattle.std.specs.Prelude.{slice_get}
-use Rattle.ultra_law.specs.Tree.{leaves}
+use Rattle.ultra_serial_law.specs.Tree.{leaves}
 use Rattle.ultra_tree.specs.Counts.{leaf_count}
 use Rattle.ultra_tree.specs.Places.{leaves_in}
 use Rattle.ultra_tree.specs.Seen.{at_cell, seen_node}

@@ -3,8 +3,8 @@ use Rattle.std.specs.Prelude.{◌≡◌, ℕ, ◌<◌, ◌≤◌, List, [], Bool
 use Rattle.std.specs.List.{AllByRecursion}
 use Rattle.ultra_msg.specs.declared.Event.{Event}
 use Rattle.ultra_msg.specs.declared.Event.TheVariants.{Delivered, Served, Combined, Issued}
-use Rattle.ultra_law.specs.Tree.{Kept}
-use Rattle.ultra_law.specs.Explicable.{held_by}
+use Rattle.ultra_serial_law.specs.Tree.{Kept}
+use Rattle.ultra_serial_law.specs.Explicable.{held_by}
 use Rattle.ultra_tree.specs.declared.explaining.ExplainFault.{ExplainFault}
 use Rattle.ultra_tree.specs.declared.explaining.ExplainFault.TheVariants.{Full, Spent}
 
@@ -14,11 +14,11 @@ pub record AreWithin (n m : ℕ) (ks : List Kept) : Type 0 where
   pub few : (p : ℕ) → held_by p ks ≤ m
 
 -- the cell that an event is about
-abbrev pub cell_of : Event → ℕ
-cell_of (Delivered r) = r.cell
-cell_of (Served k r reply now) = r.cell
-cell_of (Combined s x a p q f) = a
-cell_of (Issued r i) = r.cell
+abbrev pub event_cell : Event → ℕ
+event_cell (Delivered r) = r.cell
+event_cell (Served k r reply now) = r.cell
+event_cell (Combined s x a p q f) = a
+event_cell (Issued r i) = r.cell
 
 -- an explainer as its callers see it: the number of processing elements, how many requests each can
 -- have on their way, whether memory was refused, and the trees, the latest first
@@ -39,7 +39,7 @@ IsCombination (Combined s x a p q f) = Unit {0}
 IsCombination (Issued r i) = ⊥
 
 -- when each fault comes, and what it leaves
-abbrev pub ExplainsFault : Explained → Event → ExplainFault → Explained → Type 0
-ExplainsFault old e Full new =
+abbrev pub ExplainsExplainFault : Explained → Event → ExplainFault → Explained → Type 0
+ExplainsExplainFault old e Full new =
     (old.is_spent ≡ false) × IsCombination e × (new ≡ record old { is_spent = true; trees = [] })
-ExplainsFault old e Spent new = (old.is_spent ≡ true) × (new ≡ old)
+ExplainsExplainFault old e Spent new = (old.is_spent ≡ true) × (new ≡ old)

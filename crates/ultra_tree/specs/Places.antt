@@ -1,7 +1,7 @@
 -- the leaves of a tree by their places
 use Rattle.std.specs.Prelude.{ℕ, zero, suc, ◌+◌, ◌-◌, List, [], ◌∷◌, ◌++◌, max, Bool, true, false, nat_lt, Option, Some}
 use Rattle.ultra_tree.specs.Counts.{leaf_count}
-use Rattle.ultra_tree.specs.Text.{leaf_text, opening, closings, mark_text}
+use Rattle.ultra_tree.specs.Text.{leaf_text, opening, closings, order_mark_text}
 use Rattle.ultra_tree.specs.declared.listing.Leaf.{Leaf}
 use Rattle.ultra_tree.specs.declared.trees.Node.{Node, Pair'}
 use Rattle.ultra_tree.specs.declared.trees.Node as node
@@ -17,7 +17,11 @@ module _ {A : Type 0} where
   -- comes before new
   abbrev pub depth_at : Node A → ℕ → ℕ
   depth_at (node.Leaf p n o) i = 0
-  depth_at (Pair' s x p old q new f k l) i = elim (nat_lt i (leaf_count old)) [ true ↦ depth_at old i + 1 | false ↦ depth_at new (i - leaf_count old) + 1 ]
+  depth_at (Pair' s x p old q new f k l) i =
+      elim (nat_lt i (leaf_count old)) [
+        | true ↦ depth_at old i + 1
+        | false ↦ depth_at new (i - leaf_count old) + 1
+      ]
 
   -- the greatest depth of the first leaves
   abbrev pub depth_of_first : Node A → ℕ → ℕ
@@ -27,9 +31,13 @@ module _ {A : Type 0} where
   -- the text of a leaf with what opens before it and closes behind it, where n pairs close behind
   -- the whole tree, and then a mark comes
   abbrev pub piece : Node A → ℕ → ℕ → Option Bool → List ℕ
-  piece (node.Leaf p n o) i closing mark = leaf_text p n ++ closings closing ++ mark_text mark
+  piece (node.Leaf p n o) i closing mark = leaf_text p n ++ closings closing ++ order_mark_text mark
   piece (Pair' s x p old q new f k l) i closing mark =
-      opening i s x ++ elim (nat_lt i (leaf_count old)) [ true ↦ piece old i 0 (Some f) | false ↦ piece new (i - leaf_count old) (closing + 1) mark ]
+      opening i s x
+      ++ elim (nat_lt i (leaf_count old)) [
+        | true ↦ piece old i 0 (Some f)
+        | false ↦ piece new (i - leaf_count old) (closing + 1) mark
+      ]
 
 -- the texts of the places from i on, k of them
 abbrev pub pieces : (ℕ → List ℕ) → ℕ → ℕ → List ℕ

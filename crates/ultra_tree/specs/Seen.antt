@@ -1,7 +1,7 @@
 -- how the trees of the code are seen as those of the definition
 use Rattle.std.specs.Prelude.{◌≡◌, ℕ, List, [], ◌∷◌, ◌++◌, Some, remove, slice_get}
-use Rattle.ultra_law.specs.Tree.{Tree as SerialTree, leaf, pair, Kept, kept, tree_of, without}
-use Rattle.ultra_law.specs.declared.records.Leaf.{Leaf as SerialLeaf}
+use Rattle.ultra_serial_law.specs.Tree.{Tree as SerialTree, leaf, pair, Kept, kept, tree_of, without}
+use Rattle.ultra_serial_law.specs.declared.records.NamedRequest.{NamedRequest}
 use Rattle.ultra_tree.specs.declared.listing.Leaf.{Leaf}
 use Rattle.ultra_tree.specs.declared.trees.Node.{Node, Pair'}
 use Rattle.ultra_tree.specs.declared.trees.Node as node
@@ -9,7 +9,7 @@ use Rattle.ultra_tree.specs.declared.trees.Tree.{Tree}
 use Rattle.ultra_tree.specs.declared.held.Held.{Held}
 
 -- a leaf with the cell that its request is for
-abbrev pub at_cell : ℕ → Leaf → SerialLeaf
+abbrev pub at_cell : ℕ → Leaf → NamedRequest
 at_cell a l = record { pe = l.pe; number = l.number; cell = a; op = l.op }
 
 module _ {A : Type 0} where

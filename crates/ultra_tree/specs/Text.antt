@@ -1,6 +1,6 @@
 -- the text of a tree: this project's profile
 use Rattle.std.specs.Prelude.{ℕ, zero, suc, List, [], ◌++◌, Bool, true, false, Option, Some, None, codes, decimal}
-use Rattle.ultra_law.specs.Tree.{Tree, leaf, pair}
+use Rattle.ultra_serial_law.specs.Tree.{Tree, leaf, pair}
 
 -- the name of a request
 abbrev pub leaf_text : ℕ → ℕ → List ℕ
@@ -30,6 +30,6 @@ abbrev pub closings : ℕ → List ℕ
 closings zero = []
 closings (suc n) = codes "]" ++ closings n
 
-abbrev pub mark_text : Option Bool → List ℕ
-mark_text None = []
-mark_text (Some f) = order_mark f
+abbrev pub order_mark_text : Option Bool → List ℕ
+order_mark_text None = []
+order_mark_text (Some f) = order_mark f

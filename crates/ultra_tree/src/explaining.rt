@@ -3,9 +3,9 @@
 ghost use Rattle.std.specs.Prelude.{◌≡◌, ◌≢◌, ℕ, ◌*◌, ◌^◌, ◌<◌, ◌≤◌, [], ◌∷◌, ◌↔◌, None, Some, false, true, not, option_map, IfOk, IfErr, IsSome, IsTrue, OnOk};
 ghost use Rattle.ultra_model.specs.Machine.{size};
 ghost use Rattle.ultra_msg.specs.declared.Event.TheVariants.{Combined};
-ghost use Rattle.ultra_law.specs.Tree.{tree_of as tree_in, kept, without, trees_after};
-ghost use Rattle.ultra_law.specs.Explicable.{IsAbsorbable, served_tree, held_by};
-ghost use Rattle.ultra_tree.specs.Absorb.{cell_of, nothing_absorbed, ExplainsFault};
+ghost use Rattle.ultra_serial_law.specs.Tree.{tree_of as tree_in, kept, without, trees_after};
+ghost use Rattle.ultra_serial_law.specs.Explicable.{IsAbsorbable, served_tree, held_by};
+ghost use Rattle.ultra_tree.specs.Absorb.{event_cell, nothing_absorbed, ExplainsExplainFault};
 ghost use Rattle.ultra_tree.specs.Seen.{seen};
 ghost use Rattle.ultra_tree.specs.declared.explaining.ExplainFault.TheVariants.{Full, Spent};
 
@@ -165,8 +165,8 @@ impl<A: Allocator + Clone> Explainer<A> {
         ensures trees { OnOk result
             (self.new ≡ record self.old { trees = trees_after self.old.trees event.now }) }
         ensures served { IfOk result (λ t.
-            option_map (seen (cell_of event.now)) t ≡ served_tree self.old.trees event.now) }
-        ensures fault { IfErr result (λ f. ExplainsFault self.old event.now f self.new) }
+            option_map (seen (event_cell event.now)) t ≡ served_tree self.old.trees event.now) }
+        ensures fault { IfErr result (λ f. ExplainsExplainFault self.old event.now f self.new) }
     {
         if self.is_spent {
             return Err(ExplainFault::Spent);

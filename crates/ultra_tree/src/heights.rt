@@ -1,7 +1,7 @@
 //! The height of a tree.
 
 ghost use Rattle.std.specs.Prelude.{◌≡◌, ℕ, ◌<◌, ◌^◌};
-ghost use Rattle.ultra_law.specs.Tree.{height as height_of};
+ghost use Rattle.ultra_serial_law.specs.Tree.{height as height_of};
 ghost use Rattle.ultra_tree.specs.Counts.{leaf_count, HasRightCounts};
 ghost use Rattle.ultra_tree.specs.Places.{depth_at};
 ghost use Rattle.ultra_tree.specs.Seen.{seen};
@@ -30,7 +30,7 @@ fn depth_of<A: Allocator>(tree: &Node<A>, place: u64) -> u64
     let mut node = tree;
     let mut place = place;
     let mut depth = 0u64;
-    'down: loop {
+    loop {
         match node {
             Node::Leaf { .. } => return depth,
             Node::Pair {

@@ -1,8 +1,8 @@
 //! Trees under the identities of their requests.
 
 ghost use Rattle.std.specs.Prelude.{◌≡◌, None, Some, remove, slice_get, IfSome, IfNone};
-ghost use Rattle.ultra_law.specs.Tree.{tree_of, without};
-ghost use Rattle.ultra_law.specs.Explicable.{held_by};
+ghost use Rattle.ultra_serial_law.specs.Tree.{tree_of, without};
+ghost use Rattle.ultra_serial_law.specs.Explicable.{held_by};
 ghost use Rattle.ultra_tree.specs.Seen.{trees_of, IsLatest};
 
 use crate::trees::Tree;

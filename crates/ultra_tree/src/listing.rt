@@ -1,7 +1,7 @@
 //! The leaves of a tree in serial order.
 
 ghost use Rattle.std.specs.Prelude.{◌≡◌, ℕ, ◌<◌, Some, map, slice_get, IfOk};
-ghost use Rattle.ultra_law.specs.Tree.{leaves as leaves_of};
+ghost use Rattle.ultra_serial_law.specs.Tree.{leaves as leaves_of};
 ghost use Rattle.ultra_tree.specs.Counts.{leaf_count, HasRightCounts};
 ghost use Rattle.ultra_tree.specs.Places.{leaves_in};
 ghost use Rattle.ultra_tree.specs.Seen.{seen, at_cell};
@@ -60,7 +60,7 @@ fn leaf_at<A: Allocator>(tree: &Node<A>, place: u64) -> Leaf
 {
     let mut node = tree;
     let mut place = place;
-    'down: loop {
+    loop {
         match node {
             Node::Leaf { pe, number, op } => {
                 return Leaf {

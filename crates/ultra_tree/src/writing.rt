@@ -5,7 +5,7 @@ ghost use Rattle.ultra_msg.specs.Bytes.{Writes};
 ghost use Rattle.ultra_tree.specs.Counts.{leaf_count, HasRightCounts};
 ghost use Rattle.ultra_tree.specs.Places.{piece};
 ghost use Rattle.ultra_tree.specs.Seen.{seen};
-ghost use Rattle.ultra_tree.specs.Text.{leaf_text, head_text, opening, closings, mark_text, tree_text};
+ghost use Rattle.ultra_tree.specs.Text.{leaf_text, head_text, opening, closings, order_mark_text, tree_text};
 
 use crate::trees::{Node, Tree};
 use itoa::Buffer;
@@ -40,7 +40,7 @@ fn write_at<A: Allocator, S: Sink>(
     let mut place = place;
     let mut closing = 0u64;
     let mut mark = None;
-    'down: loop {
+    loop {
         match node {
             Node::Leaf { pe, number, .. } => {
                 return write_leaf(*pe, *number, closing, mark, sink);
@@ -77,7 +77,7 @@ fn write_leaf<S: Sink>(
     mark: Option<bool>,
     sink: &mut S,
 ) -> Result<(), SinkFault>
-    ensures { Writes result (leaf_text pe number ++ closings closing ++ mark_text mark)
+    ensures { Writes result (leaf_text pe number ++ closings closing ++ order_mark_text mark)
         (S.taken sink.old) (S.taken sink.new) (S.failures sink.old) (S.failures sink.new) }
 {
     write_name(pe, number, sink)?;
@@ -160,7 +160,7 @@ fn write_closing<S: Sink>(sink: &mut S) -> Result<(), SinkFault>
 /// Writes which part of a pair comes first in the serial order, if the text goes on with its new
 /// part.
 fn write_mark<S: Sink>(mark: Option<bool>, sink: &mut S) -> Result<(), SinkFault>
-    ensures { Writes result (mark_text mark)
+    ensures { Writes result (order_mark_text mark)
         (S.taken sink.old) (S.taken sink.new) (S.failures sink.old) (S.failures sink.new) }
 {
     match mark {

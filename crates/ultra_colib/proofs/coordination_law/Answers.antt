@@ -1,12 +1,12 @@
 use Rattle.std.proofs.Common.{refl}
-use Rattle.ultra_coordination.specs.Gate.{gate, AreFewInside}
-use Rattle.ultra_coordination.specs.ReadersWriters.{readers_writers, AreWritersAlone}
-use Rattle.ultra_coordination.specs.Barrier.{barrier, AreInStep}
-use Rattle.ultra_coordination.specs.Queue.{queue, AreItemsOnce}
-use Rattle.ultra_coordination.proofs.Gate as gate_proof
-use Rattle.ultra_coordination.proofs.ReadersWriters as rw_proof
-use Rattle.ultra_coordination.proofs.Barrier as barrier_proof
-use Rattle.ultra_coordination.proofs.Queue as queue_proof
+use Rattle.ultra_colib.specs.Gate.{gate, AreFewInside}
+use Rattle.ultra_colib.specs.ReadersWriters.{readers_writers, AreWritersAlone}
+use Rattle.ultra_colib.specs.Barrier.{barrier, AreInStep}
+use Rattle.ultra_colib.specs.Queue.{queue, AreItemsOnce}
+use Rattle.ultra_colib.proofs.Gate as gate_proof
+use Rattle.ultra_colib.proofs.ReadersWriters as rw_proof
+use Rattle.ultra_colib.proofs.Barrier as barrier_proof
+use Rattle.ultra_colib.proofs.Queue as queue_proof
 use Rattle.ultra_colib.proofs.OnMachine.{kept_by_machine}
 use Rattle.ultra_colib.proofs.coordination_law.Goals as goal
 

@@ -1,5 +1,5 @@
 use Rattle.std.proofs.Common.{◌≡◌, arith}
-use Rattle.ultra_course.specs.Whole.{empty_switch}
+use Rattle.ultra_cycle_law.specs.Whole.{empty_switch}
 use Rattle.ultra_block.proofs.Built.{is_fresh, row_put}
 use Rattle.ultra_block.proofs.building.fresh_block.Goals as goal
 

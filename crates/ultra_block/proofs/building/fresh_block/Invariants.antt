@@ -1,5 +1,5 @@
 use Rattle.std.proofs.Common.{◌^◌}
-use Rattle.ultra_units.specs.Numbers.{switch_count}
+use Rattle.ultra_topology.specs.Numbers.{switch_count}
 use Rattle.ultra_block.proofs.Built.{AreIn}
 use Rattle.ultra_block.proofs.building.fresh_block.Given as goal
 

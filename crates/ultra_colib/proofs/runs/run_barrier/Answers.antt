@@ -5,8 +5,8 @@ use Rattle.ultra_model.specs.Machine.{size}
 use Rattle.ultra_model.proofs.Ranged.{in_range}
 use Rattle.ultra_para.specs.Para.{start_para, run_para}
 use Rattle.ultra_para.specs.Programmed.{Programmed}
-use Rattle.ultra_coordination.specs.Barrier.{AreInStep}
-use Rattle.ultra_coordination.proofs.Barrier.{kept}
+use Rattle.ultra_colib.specs.Barrier.{AreInStep}
+use Rattle.ultra_colib.proofs.Barrier.{kept}
 use Rattle.ultra_colib.specs.declared.fault.ColibFault.TheVariants.{BadParameter}
 use Rattle.ultra_colib.proofs.Given.{none_of, rounds_of}
 use Rattle.ultra_colib.proofs.runs.run_barrier.Goals as goal

@@ -1,5 +1,5 @@
 use Rattle.std.proofs.Common.{◌≡◌}
-use Rattle.ultra_crew.specs.Course.{later}
+use Rattle.ultra_crew.specs.ExpectedResults.{later}
 use Rattle.ultra_crew.proofs.crew.cycles_alone.Given as goal
 
 abbrev pub invariant-loop : goal.invariant-loop

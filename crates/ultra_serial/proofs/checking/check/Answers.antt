@@ -1,10 +1,10 @@
 use Rattle.std.proofs.Common.{subst, ap, ◌∙◌}
 use Rattle.std.proofs.lemmas.Result.{err_from_is_err_and}
 use Rattle.ultra_serial.specs.declared.checking.BreachKind.TheVariants.{WrongCell}
-use Rattle.ultra_law.specs.Log.{log_of}
-use Rattle.ultra_law.specs.Legal.{Cells, given}
+use Rattle.ultra_serial_law.specs.Log.{log_of}
+use Rattle.ultra_serial_law.specs.Legal.{Cells, given}
 use Rattle.ultra_serial.specs.Memory.{cell_in}
-use Rattle.ultra_serial.specs.Breach.{cells_past, ExplainsFault}
+use Rattle.ultra_serial.specs.Breach.{cells_past, ExplainsCheckFault}
 use Rattle.ultra_serial.specs.Examined.{AreExplained, IsFine, IsWrongAt}
 use Rattle.ultra_serial.proofs.Explaining.{breach_explained, fine_everywhere, wrong_cell_found, legal_found}
 use Rattle.ultra_serial.proofs.checking.check.Goals as goal
@@ -18,7 +18,7 @@ pub returns-in_err-examine-clause-breach : goal.returns-in_err-examine-clause-br
 returns-in_err-examine-clause-breach c =
     let p = err_from_is_err_and c.from_residual-in_err-examine.result c.from_residual-in_err-examine.ensures.1 in
     let final = given c.args.cells.now in
-    rw (p.1, p.2) (subst (λ (m : Cells). ExplainsFault m (log_of c.args.log.now) final c.args.list.now c.in_err-examine.field-0.0) c.in_ok-memory.ensures (c.in_err-examine.ensures.breach final))
+    rw (p.1, p.2) (subst (λ (m : Cells). ExplainsCheckFault m (log_of c.args.log.now) final c.args.list.now c.in_err-examine.field-0.0) c.in_ok-memory.ensures (c.in_err-examine.ensures.breach final))
 
 pub returns-in_err-wanted-clause-breach : goal.returns-in_err-wanted-clause-breach
 returns-in_err-wanted-clause-breach c =

@@ -3,9 +3,9 @@ use Rattle.std.specs.Prelude.{slice_get}
 use Rattle.std.proofs.lemmas.Bool.{cases_eq}
 use Rattle.std.proofs.lemmas.Option.{slice_get-get_or, get_or_from_slice_get, slice_get_within}
 use Rattle.ultra_serial.specs.ByPair.{list_of}
-use Rattle.ultra_law.specs.declared.records.Answer.{Answer}
+use Rattle.ultra_serial_law.specs.declared.records.LoggedAnswer.{LoggedAnswer}
 use Rattle.ultra_serial.specs.Examined.{IsListed}
-use Rattle.ultra_serial.proofs.ByName.{listed, not_listed}
+use Rattle.ultra_serial.proofs.RecordsByName.{listed, not_listed}
 use Rattle.ultra_serial.proofs.Searching.{some_answer}
 use Rattle.ultra_serial.proofs.checking.first_missing.Goals as goal
 
@@ -28,7 +28,7 @@ loop-index-preserved c = λ k a l at.
     let n = c.loop-index.index in
     let x = get_or xs n some_answer in
     let y : IsListed (list_of b.entries.lists x.pe x.number) x = subst (λ es. IsListed es x) c.get.ensures (c.is_listed.ensures.yes (search rules)) in
-    ⊎_elim (λ e. subst (λ (v : Answer). IsListed (list_of b.entries.lists v.pe v.number) v) (get_or_from_slice_get xs n a some_answer (ap (λ i. slice_get xs i) (sym e) ∙ at)) y)
+    ⊎_elim (λ e. subst (λ (v : LoggedAnswer). IsListed (list_of b.entries.lists v.pe v.number) v) (get_or_from_slice_get xs n a some_answer (ap (λ i. slice_get xs i) (sym e) ∙ at)) y)
     (λ ne. c.loop-index.invariant k a (omega (arith, l, ne)) at) (cases_eq k n)
 
 pub returns-clause-none : goal.returns-clause-none

@@ -1,6 +1,6 @@
 use Rattle.std.proofs.Common.{◌≡◌, ◌<◌, ℕ, Some}
 use Rattle.std.specs.Prelude.{slice_get}
-use Rattle.ultra_law.specs.declared.records.Entry.{Entry}
+use Rattle.ultra_serial_law.specs.declared.records.Entry.{Entry}
 use Rattle.ultra_serial.specs.Memory.{cell_in}
 use Rattle.ultra_serial.specs.Examined.{IsFine, IsWrongAt}
 use Rattle.ultra_serial.proofs.checking.lowest_used.Given as goal

@@ -1,9 +1,9 @@
 use Rattle.std.proofs.Common.{◌≡◌, ◌≤◌, [], take}
-use Rattle.ultra_law.specs.Log.{Log}
+use Rattle.ultra_serial_law.specs.Log.{Log}
 use Rattle.ultra_serial.specs.Memory.{cell_in}
 use Rattle.ultra_serial.specs.Breach.{cells_past}
 use Rattle.ultra_serial.specs.Examined.{IsFirstAfter, AreExplained}
-use Rattle.ultra_serial.specs.ByName.{Holds}
+use Rattle.ultra_serial.specs.RecordsByName.{Holds}
 use Rattle.ultra_serial.proofs.checking.replay.Given as goal
 
 abbrev pub invariant-loop-index : goal.invariant-loop-index

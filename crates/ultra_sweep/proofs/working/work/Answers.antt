@@ -3,9 +3,9 @@ use Rattle.std.specs.Prelude.{All}
 use Rattle.std.proofs.lemmas.List.Elements.{All-append}
 use Rattle.ultra_board.specs.View.{times, times_below}
 use Rattle.ultra_sweep.specs.declared.job.JobResult.{JobResult}
-use Rattle.ultra_sweep.specs.Job.{numbers, IsResultAmong}
+use Rattle.ultra_sweep.specs.Job.{job_numbers, IsResultAmong}
 use Rattle.ultra_sweep.specs.Work.{HasDoneAll}
-use Rattle.ultra_sweep.proofs.Numbers.{one_more, numbers-push}
+use Rattle.ultra_sweep.proofs.Numbers.{one_more, job_numbers-push}
 use Rattle.ultra_sweep.proofs.Doing.{done_more, among, is_below, is_new, has_room}
 use Rattle.ultra_sweep.proofs.working.work.Goals as goal
 
@@ -37,14 +37,14 @@ loop-number-preserved g c =
     let below = is_below jobs rs i v s so_far.done c.requires.jobs so_far.within c.in-Some.ensures.below c.in-Some.ensures.fresh in
     let new = is_new jobs rs i v s so_far.done c.requires.jobs so_far.within c.in-Some.ensures.below c.in-Some.ensures.fresh in
     let its = c.do_job-result.ensures.result in
-    let named : numbers c.push_reserved.new.self.items ≡ numbers rs ++ i ∷ [] =
-    ap numbers c.push_reserved.ensures.items ∙ (numbers-push rs r ∙ ap (λ k. numbers rs ++ k ∷ []) its.number) in
+    let named : job_numbers c.push_reserved.new.self.items ≡ job_numbers rs ++ i ∷ [] =
+    ap job_numbers c.push_reserved.ensures.items ∙ (job_numbers-push rs r ∙ ap (λ k. job_numbers rs ++ k ∷ []) its.number) in
     record {
       board = c.do_job-result.ensures.board ∙ (ap (λ q. q.board) c.in-Some.ensures.number ∙ so_far.board);
-      done = subst (λ ns. HasDoneAll ns v w) (sym named) (done_more (numbers rs) i v s c.draw.new.seat.view w so_far.done (ap (λ q. q.view) c.in-Some.ensures.number) c.do_job-result.ensures.done);
+      done = subst (λ ns. HasDoneAll ns v w) (sym named) (done_more (job_numbers rs) i v s c.draw.new.seat.view w so_far.done (ap (λ q. q.view) c.in-Some.ensures.number) c.do_job-result.ensures.done);
       results = subst (All (IsResultAmong jobs)) (sym c.push_reserved.ensures.items)
           (All-append (IsResultAmong jobs) rs (r ∷ []) so_far.results (only jobs r (among jobs i c.index-jobs-number.result r below c.index-jobs-number.is its)));
-      within = λ k. subst (λ ns. times k ns ≤ times_below k (length jobs)) (sym named) (one_more (length jobs) (numbers rs) i so_far.within below new k);
+      within = λ k. subst (λ ns. times k ns ≤ times_below k (length jobs)) (sym named) (one_more (length jobs) (job_numbers rs) i so_far.within below new k);
       room = let same = c.push_reserved.ensures.capacity in let before = so_far.room in omega arith;
     }
   where

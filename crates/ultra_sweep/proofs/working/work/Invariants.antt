@@ -1,16 +1,16 @@
 use Rattle.std.proofs.Common.{◌≡◌, ◌≤◌, ◌-◌, ℕ, length}
 use Rattle.std.specs.Prelude.{All, vec_capacity}
 use Rattle.ultra_board.specs.View.{times, times_below}
-use Rattle.ultra_sweep.specs.Job.{numbers, IsResultAmong}
+use Rattle.ultra_sweep.specs.Job.{job_numbers, IsResultAmong}
 use Rattle.ultra_sweep.specs.Work.{HasDoneAll}
 use Rattle.ultra_sweep.proofs.working.work.Given as goal
 
 abbrev pub invariant-loop-number : goal.invariant-loop-number
 invariant-loop-number g l = record {
   board : l.seat.board ≡ l.initial.seat.board;
-  done : HasDoneAll (numbers l.results.items) l.initial.seat.view l.seat.view;
+  done : HasDoneAll (job_numbers l.results.items) l.initial.seat.view l.seat.view;
   results : All (IsResultAmong l.jobs) l.results.items;
-  within : (i : ℕ) → times i (numbers l.results.items) ≤ times_below i (length l.jobs);
+  within : (i : ℕ) → times i (job_numbers l.results.items) ≤ times_below i (length l.jobs);
   room : length l.jobs ≤ vec_capacity l.results;
 }
 

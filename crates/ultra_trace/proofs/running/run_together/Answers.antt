@@ -1,6 +1,6 @@
 use Rattle.std.proofs.lemmas.Result.{IfOk-from_err, MatchResult-from_err}
 use Rattle.ultra_msg.proofs.Prefixes.{takes_none}
-use Rattle.ultra_alone.proofs.Headlines.{headline_on_ok}
+use Rattle.ultra_trace_alone.proofs.Headlines.{headline_on_ok}
 use Rattle.ultra_trace.proofs.running.run_together.Goals as goal
 
 pub returns-in_err-blocks-clause-headline : goal.returns-in_err-blocks-clause-headline

@@ -1,16 +1,16 @@
 use Rattle.std.proofs.Common.{arith, rules, sym, ◌+◌}
 use Rattle.ultra_model.specs.Machine.{is_quiet}
 use Rattle.ultra_io.proofs.Writing.{writes_nothing}
-use Rattle.ultra_alone.proofs.Count.{next_after, done_after, cycle_written, busy_none, first_written, last_written, last_machine, still_busy, limit_written, limit_machine, not_second}
+use Rattle.ultra_trace_alone.proofs.Count.{next_after, done_after, cycle_written, busy_none, first_written, last_written, last_machine, still_busy, limit_written, limit_machine, not_second}
 use Rattle.ultra_trace.proofs.together.put_cycles_together.Goals as goal
 
 pub loop-init : goal.loop-init
 loop-init g c = record {
   state = c.requires.start;
-  writes = writes_nothing c.args.page.now;
+  writes = writes_nothing c.args.buffer.now;
   busy = busy_none c.args.blocks.config c.args.blocks.program;
   sound = c.requires.sound;
-  course = c.requires.course;
+  expected = c.requires.expected;
 }
 
 pub cycle-requires-clause-counted : goal.cycle-requires-clause-counted
@@ -46,7 +46,7 @@ returns-then-put_and_judge-clause-end g c =
     let n = c.loop.counter in
     let made = c.in_ok-blocks.ensures in
     let now = next_after first.config first.program n c.loop.blocks c.in_ok-blocks.blocks c.loop.invariant.state made.state in
-    last_machine first.config first.program n c.in_ok-blocks.blocks now c.loop.invariant.busy (omega arith) c.put_and_judge.new.page.failed (sym c.if-put_and_judge.ensures.over)
+    last_machine first.config first.program n c.in_ok-blocks.blocks now c.loop.invariant.busy (omega arith) c.put_and_judge.new.buffer.failed (sym c.if-put_and_judge.ensures.over)
 
 pub loop-preserved : goal.loop-preserved
 loop-preserved g c =
@@ -58,9 +58,9 @@ loop-preserved g c =
     record {
       state = now;
       writes = cycle_written first.config first.program n c.in_ok-blocks.blocks now c.loop.invariant.writes c.put_and_judge.ensures.writes;
-      busy = still_busy first.config first.program n c.in_ok-blocks.blocks now c.loop.invariant.busy (omega arith) c.put_and_judge.new.page.failed over;
-      sound = not_second (is_quiet c.in_ok-blocks.blocks.machine) c.put_and_judge.new.page.failed over;
-      course = made.course;
+      busy = still_busy first.config first.program n c.in_ok-blocks.blocks now c.loop.invariant.busy (omega arith) c.put_and_judge.new.buffer.failed over;
+      sound = not_second (is_quiet c.in_ok-blocks.blocks.machine) c.put_and_judge.new.buffer.failed over;
+      expected = made.expected;
     }
 
 pub returns-clause-writes : goal.returns-clause-writes

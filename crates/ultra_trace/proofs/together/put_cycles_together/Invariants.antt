@@ -1,16 +1,16 @@
 use Rattle.std.proofs.Common.{◌≡◌, false}
-use Rattle.ultra_crew.specs.Course.{IsCourse}
-use Rattle.ultra_io.specs.Page.{Writes}
-use Rattle.ultra_alone.specs.BlocksAfter.{IsAfter}
+use Rattle.ultra_crew.specs.ExpectedResults.{AreExpectedResults}
+use Rattle.ultra_io.specs.TextBuffer.{Writes}
+use Rattle.ultra_trace_alone.specs.BlocksAfter.{IsAfter}
 use Rattle.ultra_model.specs.Trace.{cycles_text}
-use Rattle.ultra_alone.proofs.Count.{IsBusy}
+use Rattle.ultra_trace_alone.proofs.Count.{IsBusy}
 use Rattle.ultra_trace.proofs.together.put_cycles_together.Given as goal
 
 abbrev pub invariant-loop : goal.invariant-loop
 invariant-loop g l = record {
   state : IsAfter l.initial.blocks.config l.initial.blocks.program l.counter l.blocks;
-  writes : Writes g.S.Sink.taken g.S.Sink.failures (cycles_text l.initial.blocks.config l.initial.blocks.program l.counter) l.initial.page l.page;
+  writes : Writes g.S.Sink.taken g.S.Sink.failures (cycles_text l.initial.blocks.config l.initial.blocks.program l.counter) l.initial.buffer l.buffer;
   busy : IsBusy l.initial.blocks.config l.initial.blocks.program l.counter;
-  sound : l.page.failed ≡ false;
-  course : IsCourse g.J.Course.results g.J.Course.program l.shift l.blocks;
+  sound : l.buffer.failed ≡ false;
+  expected : AreExpectedResults g.J.ExpectedResults.results g.J.ExpectedResults.program l.pool l.blocks;
 }

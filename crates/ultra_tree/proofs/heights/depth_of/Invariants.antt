@@ -4,8 +4,8 @@ use Rattle.ultra_tree.specs.Places.{depth_at}
 use Rattle.ultra_tree.proofs.heights.depth_of.Given as goal
 
 -- the leaf is that of the place in what is left, which many pairs hold
-abbrev pub invariant-down : goal.invariant-down
-invariant-down g l = record {
+abbrev pub invariant-loop-node : goal.invariant-loop-node
+invariant-loop-node g l = record {
   right_counts : HasRightCounts l.node;
   within : l.place < leaf_count l.node;
   depth : l.depth + leaf_count l.node ≤ leaf_count l.initial.node;

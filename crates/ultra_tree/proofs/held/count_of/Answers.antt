@@ -1,7 +1,8 @@
 use Rattle.std.proofs.Common.{◌≡◌, ◌+◌, ◌∷◌, [], ◌++◌, take, arith, refl, ap, sym, ◌∙◌, add-one}
 use Rattle.std.proofs.lemmas.List.{take_all}
 use Rattle.std.proofs.Math.Seq.{take-suc}
-use Rattle.ultra_law.specs.Explicable.{held_by, one_if}
+use Rattle.ultra_serial_law.specs.Explicable.{held_by}
+use Rattle.ultra_model.specs.Balance.{weight}
 use Rattle.ultra_tree.specs.Seen.{trees_of}
 use Rattle.ultra_tree.proofs.Counted.{equal_test, other_test}
 use Rattle.ultra_tree.proofs.Latest.{trees_push}
@@ -19,10 +20,10 @@ loop-one-preserved g c =
     let few = c.loop-one.invariant.few in
     elim c.if-one-pe.branch [
       | then-one-pe w ↦
-          let here = ap one_if (equal_test one.pe c.args.pe w.if-one-pe.true) in
+          let here = ap weight (equal_test one.pe c.args.pe w.if-one-pe.true) in
           record { counted = omega (arith, more, here, counted, w.count-is); few = omega (arith, few, w.count-is) }
       | else-one-pe w ↦
-          let here = ap one_if (other_test one.pe c.args.pe w.if-one-pe.false) in
+          let here = ap weight (other_test one.pe c.args.pe w.if-one-pe.false) in
           record { counted = omega (arith, more, here, counted, w.count-is); few = omega (arith, few, w.count-is) }
     ]
 

@@ -1,5 +1,5 @@
 use Rattle.std.proofs.Common.{◌≡◌, ◌≤◌, take}
-use Rattle.ultra_law.specs.Explicable.{held_by}
+use Rattle.ultra_serial_law.specs.Explicable.{held_by}
 use Rattle.ultra_tree.specs.Seen.{trees_of}
 use Rattle.ultra_tree.proofs.held.count_of.Given as goal
 

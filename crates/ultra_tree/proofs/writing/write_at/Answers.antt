@@ -9,20 +9,20 @@ use Rattle.ultra_tree.proofs.writing.write_at.Goals as goal
 
 pub returns-in_err-write_opening-in-Pair : goal.returns-in_err-write_opening-in-Pair
 returns-in_err-write_opening-in-Pair g c =
-    let before = rw c.in-Pair.is at c.down.invariant.so_far in
-    so_far_failed (opening c.down.place c.in-Pair.stage c.in-Pair.position) _ c.from_residual.result c.from_residual.ensures.0 before c.in_err-write_opening-in-Pair.ensures
+    let before = rw c.in-Pair.is at c.loop-node.invariant.so_far in
+    so_far_failed (opening c.loop-node.place c.in-Pair.stage c.in-Pair.position) _ c.from_residual.result c.from_residual.ensures.0 before c.in_err-write_opening-in-Pair.ensures
 
-pub down-preserved-then-place-old_leaves : goal.down-preserved-then-place-old_leaves
-down-preserved-then-place-old_leaves g c =
+pub loop-node-preserved-then-place-old_leaves : goal.loop-node-preserved-then-place-old_leaves
+loop-node-preserved-then-place-old_leaves g c =
     let old = c.in-Pair.old.value in
     let new = c.in-Pair.new.value in
-    let right = right_parts c.in-Pair.old_leaves c.in-Pair.new_leaves old new (subst (λ t. HasRightCounts t) c.in-Pair.is c.down.invariant.right_counts) in
-    let depth = subst (λ t. c.down.closing + leaf_count t ≤ leaf_count c.args.tree.now) c.in-Pair.is c.down.invariant.depth in
+    let right = right_parts c.in-Pair.old_leaves c.in-Pair.new_leaves old new (subst (λ t. HasRightCounts t) c.in-Pair.is c.loop-node.invariant.right_counts) in
+    let depth = subst (λ t. c.loop-node.closing + leaf_count t ≤ leaf_count c.args.tree.now) c.in-Pair.is c.loop-node.invariant.depth in
     let of_old = right.of_old in
-    let less : c.down.place < leaf_count old = omega (arith, c.if-place-old_leaves.true, of_old) in
-    let text = text_in_old old new c.in-Pair.old_first c.down.place c.down.closing c.down.mark less in
-    let before = rw c.in-Pair.is at c.down.invariant.so_far in
-    let after = so_far_more (opening c.down.place c.in-Pair.stage c.in-Pair.position) _ before c.in_ok-write_opening-in-Pair.ensures in
+    let less : c.loop-node.place < leaf_count old = omega (arith, c.if-place-old_leaves.true, of_old) in
+    let text = text_in_old old new c.in-Pair.old_first c.loop-node.place c.loop-node.closing c.loop-node.mark less in
+    let before = rw c.in-Pair.is at c.loop-node.invariant.so_far in
+    let after = so_far_more (opening c.loop-node.place c.in-Pair.stage c.in-Pair.position) _ before c.in_ok-write_opening-in-Pair.ensures in
     rw c.deref-node.ensures record {
       right_counts = right.in_old;
       within = less;
@@ -30,19 +30,19 @@ down-preserved-then-place-old_leaves g c =
       so_far = rw text at after;
     }
 
-pub down-preserved : goal.down-preserved
-down-preserved g c =
+pub loop-node-preserved : goal.loop-node-preserved
+loop-node-preserved g c =
     let old = c.in-Pair.old.value in
     let new = c.in-Pair.new.value in
-    let right = right_parts c.in-Pair.old_leaves c.in-Pair.new_leaves old new (subst (λ t. HasRightCounts t) c.in-Pair.is c.down.invariant.right_counts) in
-    let within = subst (λ t. c.down.place < leaf_count t) c.in-Pair.is c.down.invariant.within in
-    let depth = subst (λ t. c.down.closing + leaf_count t ≤ leaf_count c.args.tree.now) c.in-Pair.is c.down.invariant.depth in
+    let right = right_parts c.in-Pair.old_leaves c.in-Pair.new_leaves old new (subst (λ t. HasRightCounts t) c.in-Pair.is c.loop-node.invariant.right_counts) in
+    let within = subst (λ t. c.loop-node.place < leaf_count t) c.in-Pair.is c.loop-node.invariant.within in
+    let depth = subst (λ t. c.loop-node.closing + leaf_count t ≤ leaf_count c.args.tree.now) c.in-Pair.is c.loop-node.invariant.depth in
     let of_old = right.of_old in
     let some_old = right.some_old in
-    let past : leaf_count old ≤ c.down.place = omega (arith, c.if-place-old_leaves.false, of_old) in
-    let text = text_in_new old new c.in-Pair.old_first c.down.place c.down.closing c.down.mark past in
-    let before = rw c.in-Pair.is at c.down.invariant.so_far in
-    let after = so_far_more (opening c.down.place c.in-Pair.stage c.in-Pair.position) _ before c.in_ok-write_opening-in-Pair.ensures in
+    let past : leaf_count old ≤ c.loop-node.place = omega (arith, c.if-place-old_leaves.false, of_old) in
+    let text = text_in_new old new c.in-Pair.old_first c.loop-node.place c.loop-node.closing c.loop-node.mark past in
+    let before = rw c.in-Pair.is at c.loop-node.invariant.so_far in
+    let after = so_far_more (opening c.loop-node.place c.in-Pair.stage c.in-Pair.position) _ before c.in_ok-write_opening-in-Pair.ensures in
     rw (c.deref-node-else-place-old_leaves.ensures, of_old) record {
       right_counts = right.in_new;
       within = omega (arith, within, past);
@@ -50,8 +50,8 @@ down-preserved g c =
       so_far = rw text at after;
     }
 
-pub down-init : goal.down-init
-down-init g c = record {
+pub loop-node-init : goal.loop-node-init
+loop-node-init g c = record {
   right_counts = c.requires.right_counts;
   within = c.requires.within;
   depth = omega arith;
@@ -63,10 +63,10 @@ overflow_sub-place g c = c.if-place-old_leaves.false
 
 pub overflow_add-closing : goal.overflow_add-closing
 overflow_add-closing g c =
-    let depth = c.down.invariant.depth in let within = c.down.invariant.within in let fits = c.requires.fits in
+    let depth = c.loop-node.invariant.depth in let within = c.loop-node.invariant.within in let fits = c.requires.fits in
     omega (arith, depth, within, fits)
 
 pub returns-in-Leaf : goal.returns-in-Leaf
 returns-in-Leaf g c =
-    let before = rw c.in-Leaf.is at c.down.invariant.so_far in
+    let before = rw c.in-Leaf.is at c.loop-node.invariant.so_far in
     so_far_last _ c.write_leaf.result before c.write_leaf.ensures

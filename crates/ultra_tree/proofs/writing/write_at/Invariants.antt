@@ -6,8 +6,8 @@ use Rattle.ultra_tree.specs.Places.{piece}
 use Rattle.ultra_tree.proofs.writing.write_at.Given as goal
 
 -- what is left to write is the text of the place in what is left
-abbrev pub invariant-down : goal.invariant-down
-invariant-down g l = record {
+abbrev pub invariant-loop-node : goal.invariant-loop-node
+invariant-loop-node g l = record {
   right_counts : HasRightCounts l.node;
   within : l.place < leaf_count l.node;
   depth : l.closing + leaf_count l.node ≤ leaf_count l.initial.node;

@@ -4,7 +4,7 @@ use Rattle.std.specs.List.Sorted.{IsPartitionPoint}
 use Rattle.std.proofs.lemmas.List.Sorted.{IsPartitionPoint-from_clause}
 use Rattle.ultra_asm.specs.declared.labels.Definition.{Definition}
 use Rattle.ultra_asm.specs.declared.labels.Label.{Label}
-use Rattle.ultra_asm.specs.Label.{has_name, place_at, AreInOrder}
+use Rattle.ultra_asm.specs.Label.{has_name, pc_at, AreInOrder}
 use Rattle.ultra_asm.specs.Found.{definition_in}
 use Rattle.ultra_asm.proofs.InOrder.{is_below, parted, hit, miss}
 use Rattle.ultra_asm.proofs.Collecting.{on_line}
@@ -39,9 +39,9 @@ returns-then-eq c =
     let is : d ≡ get_or c.as_slice-labels.result.now c.partition_point-index.result d = here.1 d in
     let named : has_name c.args.name.now d ≡ true = sym c.eq.ensures ∙ c.if-eq.true in
     let first = hit c.args.name.now c.as_slice-labels.result.now (up at) c.partition_point-index.result (point at) d here.0 (ap (has_name c.args.name.now) (sym is) ∙ named) in
-    let place : c.place_at-place.result ≡ place_at c.args.self.now.instructions.items d.line = c.place_at-place.ensures ∙ ap (λ is. place_at is d.line) c.as_slice.ensures.value in
-    let there : ℕ → Option Definition = λ n. Some (record { line = d.line; place = n }) in
-    ap there place ∙ found at (Some d) (first ∙ ap Some (sym is))
+    let pc : c.pc_at-pc.result ≡ pc_at c.args.self.now.instructions.items d.line = c.pc_at-pc.ensures ∙ ap (λ is. pc_at is d.line) c.as_slice.ensures.value in
+    let there : ℕ → Option Definition = λ n. Some (record { line = d.line; pc = n }) in
+    ap there pc ∙ found at (Some d) (first ∙ ap Some (sym is))
 
 pub returns-else-eq : goal.returns-else-eq
 returns-else-eq c =

@@ -1,5 +1,5 @@
 use Rattle.std.proofs.{Common.arith, Common.refl, lemmas.Grind.common_steps, lemmas.List.get_or_default}
-use Rattle.ultra_cut.specs.Moments.{machine_in}
+use Rattle.ultra_partition.specs.Moments.{machine_in}
 use Rattle.ultra_block.{proofs.Dealt.none_carried, proofs.Dealt.same_cut, proofs.Dealt.unit_carried, specs.State.MakeUp}
 use Rattle.ultra_block.proofs.blocks.Blocks.recut.Goals as goal
 

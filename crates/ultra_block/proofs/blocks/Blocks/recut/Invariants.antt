@@ -1,4 +1,4 @@
-use Rattle.ultra_cut.specs.Cut.{block_at}
+use Rattle.ultra_partition.specs.Cut.{block_at}
 use Rattle.ultra_block.proofs.Dealt.{AreCarried}
 use Rattle.ultra_block.proofs.blocks.Blocks.recut.Given as goal
 

@@ -2,7 +2,7 @@ use Rattle.std.proofs.Common.{◌≡◌, ℕ, ◌<◌, ltb, true, ap, subst, sym
 use Rattle.std.specs.Prelude.{IsTrue, ◌↔◌, not}
 use Rattle.std.proofs.lemmas.Bool.{false≢true}
 use Rattle.std.proofs.lemmas.Bool.Decides.{nat_tests}
-use Rattle.ultra_law.specs.Explicable.{IsAbsorbable, held_by}
+use Rattle.ultra_serial_law.specs.Explicable.{IsAbsorbable, held_by}
 use Rattle.ultra_tree.specs.Absorb.{Explained}
 use Rattle.ultra_tree.specs.Seen.{trees_of}
 use Rattle.ultra_tree.proofs.Counted.{equal_test}

@@ -1,7 +1,7 @@
 use Rattle.std.proofs.Common.{ap, subst, sym, ◌∙◌, arith}
 use Rattle.std.specs.Prelude.{IsSome}
-use Rattle.ultra_law.specs.Tree.{tree_of}
-use Rattle.ultra_law.specs.Explicable.{held_by}
+use Rattle.ultra_serial_law.specs.Tree.{tree_of}
+use Rattle.ultra_serial_law.specs.Explicable.{held_by}
 use Rattle.ultra_tree.specs.Absorb.{Explained}
 use Rattle.ultra_tree.proofs.Kept.{tree_other}
 use Rattle.ultra_tree.proofs.Counted.{fewer_rest}

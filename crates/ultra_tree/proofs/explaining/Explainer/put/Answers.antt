@@ -1,6 +1,6 @@
 use Rattle.std.proofs.Common.{ap, subst, sym, ◌∙◌, arith, ◌∷◌}
-use Rattle.ultra_law.specs.Tree.{kept}
-use Rattle.ultra_law.specs.Explicable.{held_by}
+use Rattle.ultra_serial_law.specs.Tree.{kept}
+use Rattle.ultra_serial_law.specs.Explicable.{held_by}
 use Rattle.ultra_tree.specs.Absorb.{Explained, AreWithin}
 use Rattle.ultra_tree.specs.Seen.{seen, trees_of}
 use Rattle.ultra_tree.proofs.Counted.{room_for, within_more}

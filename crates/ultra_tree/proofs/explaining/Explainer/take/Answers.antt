@@ -1,8 +1,8 @@
 use Rattle.std.proofs.Common.{ap, subst, sym, ◌∙◌, arith}
 use Rattle.std.specs.Prelude.{IsSome, is_some}
 use Rattle.std.proofs.lemmas.Bool.{false≢true}
-use Rattle.ultra_law.specs.Tree.{tree_of, without}
-use Rattle.ultra_law.specs.Explicable.{held_by}
+use Rattle.ultra_serial_law.specs.Tree.{tree_of, without}
+use Rattle.ultra_serial_law.specs.Explicable.{held_by}
 use Rattle.ultra_tree.specs.Absorb.{Explained, AreWithin}
 use Rattle.ultra_tree.specs.Seen.{trees_of, IsLatest}
 use Rattle.ultra_tree.proofs.Counted.{within_rest, element_of, one_fewer}

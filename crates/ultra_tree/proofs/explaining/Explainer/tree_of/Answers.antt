@@ -1,5 +1,5 @@
 use Rattle.std.proofs.Common.{ap, subst, sym, ◌∙◌, arith}
-use Rattle.ultra_law.specs.Tree.{tree_of}
+use Rattle.ultra_serial_law.specs.Tree.{tree_of}
 use Rattle.ultra_tree.specs.Absorb.{Explained}
 use Rattle.ultra_tree.specs.Seen.{trees_of, IsLatest}
 use Rattle.ultra_tree.proofs.Latest.{latest_within, latest_read}

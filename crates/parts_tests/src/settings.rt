@@ -1,0 +1,135 @@
+//! The settings of a machine: the ends of their ranges, and what is refused.
+
+use std::alloc::Global;
+use std::process::Abort;
+use std::test::Fail;
+use test_support::defaults;
+use ultra_machine::{Config, ConfigFault, Field, RawSettings};
+
+/// The field for which these settings are refused, if they are.
+fn refusal(alloc: Global, raw: &RawSettings) -> Result<Option<Field>, Fail> {
+    match Config::new(alloc, raw) {
+        Ok(_) => Ok(None),
+        Err(ConfigFault::BadConfig(field)) => Ok(Some(field)),
+        Err(fault) => Err(fault.into()),
+    }
+}
+
+/// Asserts that these settings are refused for a field.
+fn check_refused(
+    rt: &(impl Abort + AllocGlobal),
+    raw: RawSettings,
+    field: Field,
+) -> Result<(), Fail> {
+    let refused = refusal(rt.alloc(), &raw)?;
+    assert_eq!(rt; refused, Some(field));
+    Ok(())
+}
+
+/// The least settings, with these initial cells.
+fn least(initial: Vec<(i64, i64)>) -> RawSettings {
+    RawSettings {
+        stages: Some(1),
+        request_places: Some(2),
+        reply_places: Some(4),
+        wait_places: Some(0),
+        most_open: Some(1),
+        cells: Some(1),
+        cycles: Some(1),
+        initial: Some(initial),
+    }
+}
+
+/// The greatest settings with one stage, and these initial cells.
+fn most(initial: Vec<(i64, i64)>) -> RawSettings {
+    RawSettings {
+        stages: Some(1),
+        request_places: Some(32),
+        reply_places: Some(64),
+        wait_places: Some(16),
+        most_open: Some(8),
+        cells: Some(4096),
+        cycles: Some(1_000_000),
+        initial: Some(initial),
+    }
+}
+
+#[test]
+fn least_ends_of_the_ranges_are_accepted(rt: HostRuntime) -> Result<(), Fail> {
+    let raw = least(vec![in rt.alloc(); (1, 4294967295), (0, 0)]?);
+    let config = Config::new(rt.alloc(), &raw)?;
+    assert_eq!(rt; config.initial(), [(1, 4294967295), (0, 0)].as_slice());
+    assert_eq!(rt; config.all_cells(), 2);
+    Ok(())
+}
+
+#[test]
+fn greatest_ends_of_the_ranges_are_accepted(rt: HostRuntime) -> Result<(), Fail> {
+    let raw = most(vec![in rt.alloc(); (8191, 7)]?);
+    let config = Config::new(rt.alloc(), &raw)?.try_clone()?;
+    assert_eq!(rt; config.cycles(), 1_000_000);
+    assert_eq!(rt; config.initial().len(), 1);
+    Ok(())
+}
+
+#[test]
+fn stages_out_of_range_are_refused(rt: HostRuntime) -> Result<(), Fail> {
+    for bad in [None, Some(-1), Some(0), Some(7), Some(i64::MAX)] {
+        let raw = RawSettings {
+            stages: bad,
+            ..defaults(rt.alloc(), 1)
+        };
+        check_refused(&rt, raw, Field::Stages)?;
+    }
+    Ok(())
+}
+
+#[test]
+fn numbers_outside_their_range_are_refused(rt: HostRuntime) -> Result<(), Fail> {
+    let raw = RawSettings {
+        wait_places: Some(17),
+        ..defaults(rt.alloc(), 1)
+    };
+    check_refused(&rt, raw, Field::WaitPlaces)?;
+    let raw = RawSettings {
+        cycles: Some(1_000_001),
+        ..defaults(rt.alloc(), 1)
+    };
+    check_refused(&rt, raw, Field::Cycles)
+}
+
+#[test]
+fn the_first_bad_key_is_reported(rt: HostRuntime) -> Result<(), Fail> {
+    let raw = RawSettings {
+        cells: Some(4097),
+        most_open: None,
+        initial: None,
+        ..defaults(rt.alloc(), 1)
+    };
+    check_refused(&rt, raw, Field::MostOpen)
+}
+
+#[test]
+fn initial_cells_are_checked(rt: HostRuntime) -> Result<(), Fail> {
+    for bad in [
+        [(0, 1), (32, 1)],
+        [(-1, 1), (2, 1)],
+        [(3, 1), (3, 1)],
+        [(3, 4294967296), (2, 1)],
+        [(3, 1), (2, -1)],
+    ] {
+        let raw = RawSettings {
+            initial: Some(Vec::from_array(rt.alloc(), bad)?),
+            ..defaults(rt.alloc(), 1)
+        };
+        check_refused(&rt, raw, Field::Initial)?;
+    }
+    Ok(())
+}
+
+#[test]
+fn names_are_as_they_are_written(rt: HostRuntime) -> Result<(), Fail> {
+    let text = format!(in rt.alloc(); "{}", ConfigFault::BadConfig(Field::MostOpen))?;
+    assert_eq!(rt; text.as_str(), "bad open");
+    Ok(())
+}

@@ -1,0 +1,5 @@
+-- the table is that of the program's commands
+use Rattle.ultra_args.proofs.grammar.ultra_command.Goals as goal
+
+pub returns : goal.returns
+returns c = c.program_with.ensures

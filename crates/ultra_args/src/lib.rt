@@ -1,0 +1,185 @@
+//! The command line of the program.
+#![tactic(auto)]
+
+mod grammar;
+mod heap;
+mod help;
+mod reading;
+mod table;
+mod workers;
+
+ghost use Rattle.std.specs.Prelude.{◌≡◌, ◌≢◌, [], codes, map, option_map, IfOk, MatchResult};
+ghost use Rattle.clap.specs.Words.{fault_of, kind_of, HasKind, Text};
+ghost use Rattle.clap.specs.declared.error.ErrorKind.TheVariants.{OutOfMemory};
+ghost use Rattle.ultra_args.specs.Asked.{asked, asked_of, AreOnly, AreRunOf, IsAnswer};
+ghost use Rattle.ultra_args.specs.Asked.{IsAskedBy, IsHelp, IsRunOf, IsTextOfKind, IsVersion};
+ghost use Rattle.ultra_args.specs.Grammar.{ultra_app, IsApp};
+
+use clap::error::ErrorKind;
+use grammar::ultra_command;
+pub use heap::HeapBytes;
+use reading::named_command;
+use std::alloc::{AllocError, Global};
+pub use workers::Workers;
+
+/// What the program is asked to do.
+#[derive(Clone, Copy, Drop)]
+pub enum Invocation<'w> {
+    /// To write the trace of a run: `ultra run CONF PROG [--workers H]`.
+    Run {
+        /// The path of the settings.
+        settings: &'w str,
+        /// The path of the program's text.
+        program: &'w str,
+        /// How many threads of the host make the cycles, 1 to 64: 1 where the words don't say.
+        workers: Workers,
+    },
+    /// To write the serial order of a run: `ultra order CONF PROG`.
+    Order {
+        /// The path of the settings.
+        settings: &'w str,
+        /// The path of the program's text.
+        program: &'w str,
+    },
+    /// To write the combining tree of each memory act of a run:
+    /// `ultra explain CONF PROG [--heap BYTES]`.
+    Explain {
+        /// The path of the settings.
+        settings: &'w str,
+        /// The path of the program's text.
+        program: &'w str,
+        /// The size of the heap of the trees: 1,048,576 bytes where the words don't say.
+        heap: HeapBytes,
+    },
+    /// To write the canonical text of a program: `ultra list PROG`.
+    List {
+        /// The path of the program's text.
+        program: &'w str,
+    },
+    /// To write the traces of many runs: `ultra sweep JOBS --workers H --at-once B [--progress]`.
+    Sweep {
+        /// The path of the file of jobs.
+        jobs: &'w str,
+        /// How many threads of the host do the jobs, 1 to 64.
+        workers: Workers,
+        /// How many of them may run a job at once, 1 to 64.
+        at_once: Workers,
+        /// Whether standard error shows how many jobs are finished.
+        progress: bool,
+    },
+    /// To write the canonical text of a coordination program: `ultra lib NAME NUMBER..`.
+    Lib(Coordination),
+}
+
+/// A coordination program with its parameters as the words give them: they may be out of range. The
+/// rounds are to be 1 to 1000.
+#[derive(Clone, Copy)]
+pub enum Coordination {
+    /// A gate: `ultra lib gate B T`. The bound is to be 1 to 64.
+    Gate { bound: u32, rounds: u32 },
+    /// A queue of `2^log_size` places: `ultra lib queue Z T`. The logarithm is to be 0 to 6.
+    Queue { log_size: u32, rounds: u32 },
+    /// Readers and writers: `ultra lib rw G T`. The writers are to be 0 to 64.
+    ReadersWriters { writers: u32, rounds: u32 },
+    /// A barrier: `ultra lib barrier T`.
+    Barrier { rounds: u32 },
+}
+
+/// What the words of a command line ask for.
+#[derive(Drop)]
+pub enum Parsed<'w> {
+    /// A command.
+    Invocation(Invocation<'w>),
+    /// Help: a text for standard output.
+    Help(String),
+    /// The version: a text for standard output.
+    Version(String),
+    /// No command, since the words are wrong: a text for standard error.
+    Usage(String),
+    /// It isn't known, since memory was refused.
+    NoMemory,
+}
+
+/// What the words ask for. The first word is the program's name.
+///
+/// The contract says which words are which command, which ask for help or the version, and which
+/// are wrong. So `run CONF PROG`, where neither path begins with a hyphen, is the run of these
+/// paths by one worker. `clap` lays out the texts, and tests show them.
+pub fn parse<'w>(alloc: Global, words: &'w [&'w str]) -> Parsed<'w>
+    ensures asked { IsAskedBy (map (λ w. w.now) words.entry.now) result }
+    ensures run { (conf prog : Text) → AreRunOf (map (λ w. w.now) words.entry.now) conf prog
+        → IsRunOf conf prog result }
+    ensures help { AreOnly (map (λ w. w.now) words.entry.now) (codes "--help") → IsHelp result }
+    ensures version { AreOnly (map (λ w. w.now) words.entry.now) (codes "--version")
+        → IsVersion result }
+{
+    match command_in(alloc, words) {
+        Ok(command) => Parsed::Invocation(command),
+        Err(error) => match shown(alloc, &error) {
+            Ok(text) => text_of_kind(error.kind(), text),
+            Err(_) => Parsed::NoMemory,
+        },
+    }
+}
+
+/// What words ask for that give no command but a text of this kind.
+fn text_of_kind<'w>(kind: ErrorKind, text: String) -> Parsed<'w>
+    ensures { IsTextOfKind kind result }
+{
+    match kind {
+        ErrorKind::DisplayHelp => Parsed::Help(text),
+        ErrorKind::DisplayVersion => Parsed::Version(text),
+        _ => Parsed::Usage(text),
+    }
+}
+
+/// The error's text for the user, unless memory was refused.
+fn shown(alloc: Global, error: &clap::Error) -> Result<String, AllocError>
+    ensures { IfOk result (λ t. kind_of error.now ≢ OutOfMemory) }
+{
+    if error.kind() == ErrorKind::OutOfMemory {
+        return Err(AllocError);
+    }
+    format!(in alloc; "{error}")
+}
+
+/// The command of the words.
+fn command_in<'w>(alloc: Global, words: &'w [&'w str]) -> Result<Invocation<'w>, clap::Error>
+    ensures { IsAnswer (map (λ w. w.now) words.entry.now) result }
+{
+    let mut ultra = ultra_command(alloc)?;
+    read_words(&mut ultra, words)
+}
+
+/// The command that the words name, as `clap` reads them by `ultra`.
+fn read_words<'w>(
+    ultra: &mut clap::Command<'w>,
+    words: &'w [&'w str],
+) -> Result<Invocation<'w>, clap::Error>
+    ensures { IsApp ultra_app ultra.old → IsAnswer (map (λ w. w.now) words.entry.now) result }
+{
+    match matched_command(ultra, words)? {
+        Some(command) => Ok(command),
+        None => Err(ultra.error(
+            ErrorKind::ValueValidation,
+            "the coordination programs are gate B T, queue Z T, rw G T and barrier T, with each \
+             number in decimal digits",
+        )?),
+    }
+}
+
+/// The command that the words name, if `clap` accepts them.
+fn matched_command<'w>(
+    ultra: &mut clap::Command<'w>,
+    words: &'w [&'w str],
+) -> Result<Option<Invocation<'w>>, clap::Error>
+    ensures { IsApp ultra_app ultra.old → MatchResult result
+        (λ o. (fault_of ultra_app (map (λ w. w.now) words.entry.now) ≡ [])
+        × (option_map asked_of o ≡ asked (map (λ w. w.now) words.entry.now)))
+        (HasKind (fault_of ultra_app (map (λ w. w.now) words.entry.now))) }
+{
+    match ultra.try_get_matches_from_mut(words) {
+        Ok(matches) => Ok(named_command(&matches)),
+        Err(error) => Err(error),
+    }
+}

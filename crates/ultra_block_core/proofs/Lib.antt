@@ -1,0 +1,14 @@
+pub use Rattle.ultra_topology.proofs.Readers
+pub use Rattle.ultra_topology.proofs.Standing
+pub use Rattle.ultra_topology.proofs.Marks
+pub use Rattle.ultra_topology.proofs.Put
+pub mod Common
+pub mod Known
+pub mod Noted
+pub mod OfKind
+pub mod Once
+pub mod UnitUpdates
+pub mod Few
+pub mod Visited
+pub mod Holding
+pub mod OwnProgram

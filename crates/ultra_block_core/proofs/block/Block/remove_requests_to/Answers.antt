@@ -1,0 +1,6 @@
+use Rattle.std.proofs.Common.{arith}
+use Rattle.ultra_block_core.proofs.Common.{are_inlets, requests_read}
+use Rattle.ultra_block_core.proofs.block.Block.remove_requests_to.Goals as goal
+
+pub remove_messages_to-requires-clause-inlets : goal.remove_messages_to-requires-clause-inlets
+remove_messages_to-requires-clause-inlets c = rw (c.self.invariant.requests) (are_inlets _ _ requests_read _ (omega arith) (omega arith) _ _ (rw (← c.self.view_is) at c.requires.links))

@@ -1,0 +1,11 @@
+use Rattle.std.proofs.Common.{Some, arith, rules}
+use Rattle.ultra_topology.proofs.Readers.{element_leads}
+use Rattle.ultra_block_core.proofs.{Common.get_or_default, Common.nat_tests, Known.element_kept}
+use Rattle.ultra_block_core.proofs.block.Block.send_request_of_element.Goals as goal
+
+pub invariant_of-self-2 : goal.invariant_of-self-2
+invariant_of-self-2 g c =
+    element_kept c.self.invariant c.note_element_sent_request.ensures c.args.pe (Some c.in-Some.element) (Some c.send_request-out.new.self) (grind (arith, get_or_default)) (grind (arith, nat_tests)) (grind arith)
+
+pub send_from_end-requires-clause-leads : goal.send_from_end-requires-clause-leads
+send_from_end-requires-clause-leads g c = element_leads _ _ _ (omega arith) (omega arith) (rw (← c.self.view_is) at c.requires.is).small (search rules)

@@ -1,0 +1,10 @@
+use Rattle.std.proofs.Common.{Some, arith, length-append}
+use Rattle.ultra_block_core.proofs.{Common.get_or_default, Common.nat_tests, Known.switch_kept, Noted.none_left}
+use Rattle.ultra_block_core.proofs.block.Block.take_replies_of_switch.Goals as goal
+
+pub take_into_switch-requires-clause-room : goal.take_into_switch-requires-clause-room
+take_into_switch-requires-clause-room g c = grind (arith, get_or_default)
+
+pub invariant_of-self-2 : goal.invariant_of-self-2
+invariant_of-self-2 g c =
+    switch_kept c.self.invariant c.note_switch_took_replies.ensures (Some c.in-Some.switch) (Some c.take_into_switch.new.switch) (grind (arith, get_or_default)) (grind (arith, nat_tests, none_left, length-append)) (grind arith)

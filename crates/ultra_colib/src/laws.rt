@@ -1,0 +1,39 @@
+//! The laws of the coordination programs, and of a ticket counter, on the paracomputer: each holds after every schedule.
+//!
+//! The gate's test, increment and retest are the 1983 paper's; the programs are this project's.
+
+ghost use Rattle.ultra_colib.specs.Barrier.{BarrierLaw};
+ghost use Rattle.ultra_colib.specs.Gate.{GateLaw};
+ghost use Rattle.ultra_colib.specs.Queue.{QueueLaw};
+ghost use Rattle.ultra_colib.specs.ReadersWriters.{ReadersWritersLaw};
+ghost use Rattle.ultra_colib.specs.Tickets.{TicketsLaw};
+
+/// The law of the ticket counter, as this function's contract: for all settings in their ranges without initial values
+/// and every schedule, no two processing elements have taken the same ticket. The function itself does nothing.
+pub fn tickets_law()
+    ensures different { TicketsLaw }
+{}
+
+/// The gate's law, as this function's contract: at most `bound` processing elements are inside at once, after every
+/// schedule. The function itself does nothing.
+pub fn gate_law()
+    ensures kept { GateLaw }
+{}
+
+/// The law of the readers and writers, as this function's contract: where a writer is inside, nobody else is, after
+/// every schedule. The function itself does nothing.
+pub fn readers_writers_law()
+    ensures kept { ReadersWritersLaw }
+{}
+
+/// The barrier's law, as this function's contract: nobody has finished more rounds than anybody has begun, after every
+/// schedule. The function itself does nothing.
+pub fn barrier_law()
+    ensures kept { BarrierLaw }
+{}
+
+/// The queue's law, as this function's contract: the results that aren't 0 are pairwise different inserted values, after
+/// every schedule. The function itself does nothing.
+pub fn queue_law()
+    ensures kept { QueueLaw }
+{}

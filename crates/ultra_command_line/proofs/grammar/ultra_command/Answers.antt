@@ -1,5 +1,0 @@
--- the table is that of the program's commands
-use Rattle.ultra_command_line.proofs.grammar.ultra_command.Goals as goal
-
-pub returns : goal.returns
-returns c = c.program_with.ensures

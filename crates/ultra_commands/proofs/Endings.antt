@@ -1,0 +1,182 @@
+-- how commands end
+use Rattle.std.proofs.Common.{◌≡◌, ◌≢◌, ◌∙◌, ◌+◌, ℕ, inl, inr, refl, sym, ap, subst, arith, ⊎_elim}
+use Rattle.std.specs.Prelude.{Bool, List, Result, Ok, Err, OnOk, IfErr}
+use Rattle.std.proofs.lemmas.Bool.{cases_eq}
+use Rattle.ultra_settings.specs.JobsText.{Paths}
+use Rattle.ultra_isa.specs.declared.Instr.{Instr}
+use Rattle.ultra_model.specs.Machine.{Settings}
+use Rattle.ultra_io.specs.Account.{SinkState}
+use Rattle.ultra_inputs.specs.declared.failure.Failure.{Failure}
+use Rattle.ultra_inputs.specs.declared.failure.Failure.TheVariants.{Usage, NotWords, NotRead, NotToml, BadField, UnknownKey, NotUtf8, BadLine, BadJob, BadParameter, NoMemory, NoThread, HeapFull, NotWritten}
+use Rattle.ultra_inputs.specs.Failure.{status_of, read_failures, write_failures}
+use Rattle.ultra_inputs.specs.Traffic.{Traffic, IsStopped, TextFails, refused, stopped}
+use Rattle.ultra_commands.specs.Listing.{ListFails, unread_text, refused_text, unwritten}
+use Rattle.ultra_commands.specs.Stops.{IsStoppedBy}
+use Rattle.ultra_commands.specs.Explanation.{explanation_of, EndsFull, IsCutShort}
+use Rattle.ultra_commands.specs.Coordination as lib
+use Rattle.ultra_commands.specs.Coordination.{LibFails}
+use Rattle.ultra_args.specs.declared.Coordination.{Coordination}
+use Rattle.ultra_args.specs.declared.Parsed.{Parsed}
+use Rattle.ultra_inputs.specs.Shown.{IsReported}
+use Rattle.ultra_sweep_command.specs.Sweep as sweep
+use Rattle.ultra_sweep_command.specs.Sweep.{Swept, SweepFails, HasFailed, JobsFail}
+use Rattle.ultra_commands.specs.Outcome.{IsStatus, IsRefusal, status_failures, ExplainFails, Obeyed, NotObeyed, HasReported, HasEnded}
+
+two : IsStatus 2
+two = inr (inl refl)
+
+three : IsStatus 3
+three = inr (inr (inl refl))
+
+four : IsStatus 4
+four = inr (inr (inr (inl refl)))
+
+five : IsStatus 5
+five = inr (inr (inr (inr refl)))
+
+-- the status of a failure, and how often the source of files and standard output failed
+record Ends (f : Failure) : Type 0 where
+  status : IsStatus (status_of f)
+  bad : status_of f ≢ 0
+  unread : status_of f ≢ 3 → read_failures f ≡ 0
+  written : write_failures f ≡ status_failures (status_of f)
+
+ends : (f : Failure) → Ends f
+ends (Usage t) = record { status = two; bad = λ e. cc; unread = λ ne. refl; written = refl }
+ends NotWords = record { status = two; bad = λ e. cc; unread = λ ne. refl; written = refl }
+ends (NotRead p) = record { status = three; bad = λ e. cc; unread = λ ne. absurd (ne refl); written = refl }
+ends (NotToml p) = record { status = three; bad = λ e. cc; unread = λ ne. refl; written = refl }
+ends (BadField p f) = record { status = three; bad = λ e. cc; unread = λ ne. refl; written = refl }
+ends (UnknownKey p) = record { status = three; bad = λ e. cc; unread = λ ne. refl; written = refl }
+ends (NotUtf8 p) = record { status = three; bad = λ e. cc; unread = λ ne. refl; written = refl }
+ends (BadLine p l k) = record { status = three; bad = λ e. cc; unread = λ ne. refl; written = refl }
+ends (BadJob p) = record { status = three; bad = λ e. cc; unread = λ ne. refl; written = refl }
+ends BadParameter = record { status = three; bad = λ e. cc; unread = λ ne. refl; written = refl }
+ends NoMemory = record { status = four; bad = λ e. cc; unread = λ ne. refl; written = refl }
+ends NoThread = record { status = four; bad = λ e. cc; unread = λ ne. refl; written = refl }
+ends HeapFull = record { status = four; bad = λ e. cc; unread = λ ne. refl; written = refl }
+ends NotWritten = record { status = five; bad = λ e. cc; unread = λ ne. refl; written = refl }
+
+-- want of memory or of a thread, a full heap and a failed write are no refusals
+not_four : ¬ IsRefusal 4
+not_four (inl e) = cc
+not_four (inr e) = cc
+
+pub not_five : ¬ IsRefusal 5
+not_five (inl e) = cc
+not_five (inr e) = cc
+
+ended_by : (f g : Failure) → f ≡ g → ¬ IsRefusal (status_of g) → ¬ IsRefusal (status_of f)
+ended_by f g same never r = never (subst (λ x. IsRefusal (status_of x)) same r)
+
+is_unwritten : (f : Failure) → f ≡ NotWritten → ¬ IsRefusal (status_of f)
+is_unwritten f e = ended_by f NotWritten e not_five
+
+is_stopped : (f : Failure) → IsStopped f → ¬ IsRefusal (status_of f)
+is_stopped f (inl e) = ended_by f NoMemory e not_four
+is_stopped f (inr e) = is_unwritten f e
+
+is_stopped_by : (workers : ℕ) (f : Failure) → IsStoppedBy workers f → ¬ IsRefusal (status_of f)
+is_stopped_by workers f (inl s) = is_stopped f s
+is_stopped_by workers f (inr s) = ended_by f NoThread s.0 not_four
+
+is_cut_short : (f : Failure) → IsCutShort f → ¬ IsRefusal (status_of f)
+is_cut_short f (inl e) = ended_by f HeapFull e not_four
+is_cut_short f (inr s) = is_stopped f s
+
+-- a command that fails to write a text has written nothing where an input is refused
+module _ (conf prog : List ℕ) (old new : Traffic) (f : Failure) (text : Settings → List Instr → List ℕ) where
+  text_refused : (Stops : Failure → Type 0) → (Stops f → ¬ IsRefusal (status_of f)) → TextFails text Stops conf prog old new f → IsRefusal (status_of f) → new.written ≡ old.written
+  text_refused Stops why (refused gave same) r = same
+  text_refused Stops why (stopped c p gave stops begun) r = absurd (why stops r)
+
+  pub order_refused : TextFails text IsStopped conf prog old new f → IsRefusal (status_of f) → new.written ≡ old.written
+  order_refused = text_refused IsStopped (is_stopped f)
+
+  pub run_refused : (workers : ℕ) → TextFails text (IsStoppedBy workers) conf prog old new f → IsRefusal (status_of f) → new.written ≡ old.written
+  run_refused workers = text_refused (IsStoppedBy workers) (is_stopped_by workers f)
+
+  cut_short_refused : TextFails text IsCutShort conf prog old new f → IsRefusal (status_of f) → new.written ≡ old.written
+  cut_short_refused = text_refused IsCutShort (is_cut_short f)
+
+pub explain_refused : (conf prog : List ℕ) (old new : Traffic) (f : Failure) → ExplainFails conf prog old new f → IsRefusal (status_of f) → new.written ≡ old.written
+explain_refused conf prog old new f why = cut_short_refused conf prog old new f explanation_of why.fails
+
+-- what the command explain says of its failure, as one fact
+pub explain_failed : {T : Type 0} (conf prog : List ℕ) (old new : Traffic) (r : Result T Failure) → IfErr r (TextFails explanation_of IsCutShort conf prog old new) → IfErr r (λ f. f ≡ HeapFull → EndsFull conf prog old new) → IfErr r (ExplainFails conf prog old new)
+explain_failed conf prog old new (Ok x) fails full = fails
+explain_failed conf prog old new (Err f) fails full = record { fails = fails; full = full }
+
+pub list_refused : (prog : List ℕ) (old new : Traffic) (f : Failure) → ListFails prog old new f → IsRefusal (status_of f) → new.written ≡ old.written
+list_refused prog old new f (unread_text why same) r = ap (λ t. t.written) same
+list_refused prog old new f (refused_text text why same) r = ap (λ t. t.written) same
+list_refused prog old new f (unwritten text p gave why files begun) r = absurd (is_unwritten f why r)
+
+pub lib_refused : (c : Coordination) (old new : List ℕ) (f : Failure) → LibFails c old new f → IsRefusal (status_of f) → new ≡ old
+lib_refused c old new f (lib.refused bad why same) r = same
+lib_refused c old new f (lib.no_memory good why same) r = same
+lib_refused c old new f (lib.unwritten good why begun) r = absurd (is_unwritten f why r)
+
+-- a command that writes a coordination program reads no file
+pub lib_unread : (c : Coordination) (old new : List ℕ) (f : Failure) → LibFails c old new f → read_failures f ≡ 0
+lib_unread c old new f (lib.refused bad why same) = ap read_failures why
+lib_unread c old new f (lib.no_memory good why same) = ap read_failures why
+lib_unread c old new f (lib.unwritten good why begun) = ap read_failures why
+
+jobs_refused : (paths : List Paths) (progress : Bool) (old new : Traffic) (before after : SinkState) (f : Failure) → JobsFail paths progress old new before after f → IsRefusal (status_of f) → new.written ≡ old.written
+jobs_refused paths progress old new before after f (sweep.refused gave same still) r = same
+jobs_refused paths progress old new before after f (sweep.not_run jobs last gave stops same shown) r = same
+jobs_refused paths progress old new before after f (sweep.unwritten jobs gave why begun shown) r = absurd (is_unwritten f why r)
+
+sweep_refused : (path : List ℕ) (progress : Bool) (old new : Traffic) (before after : SinkState) (f : Failure) → SweepFails path progress old new before after f → IsRefusal (status_of f) → new.written ≡ old.written
+sweep_refused path progress old new before after f (sweep.unlisted gave same still) r = same
+sweep_refused path progress old new before after f (sweep.listed text paths gave fails) r = jobs_refused paths progress _ new before after f fails r
+
+not_zero : ¬ IsRefusal 0
+not_zero (inl e) = cc
+not_zero (inr e) = cc
+
+module _ (p : Parsed) (old new : Traffic) (before after : SinkState) (source_failures source_failures_after failures failures_after end : ℕ) where
+  -- what was asked for was done
+  well_ended : end ≡ 0 → Obeyed p old new before after → source_failures_after ≡ source_failures → failures_after ≡ failures → HasEnded p old new before after source_failures source_failures_after failures failures_after end
+  well_ended zero good read_still still = record {
+    status = inl zero;
+    nothing = λ r. absurd (not_zero (subst IsRefusal zero r));
+    counted = rw zero (omega arith);
+    read_still = λ ne. read_still;
+    done = λ e. good;
+    failed = λ ne. absurd (ne zero);
+  }
+
+  -- a command whose failure was reported
+  pub failure_ended : (f : Failure) (shown : SinkState) → NotObeyed p old new before shown f → (IsRefusal (status_of f) → new.written ≡ old.written) → source_failures_after ≡ source_failures + read_failures f → failures_after ≡ failures + write_failures f → end ≡ status_of f → IsReported f shown after → HasEnded p old new before after source_failures source_failures_after failures failures_after end
+  failure_ended f shown why nothing read_counted counted same report =
+      let e = ends f in
+      let read_nothing : end ≢ 3 → read_failures f ≡ 0 = λ ne. e.unread (λ three. ne (same ∙ three)) in
+      record {
+        status = rw same e.status;
+        nothing = λ r. nothing (subst IsRefusal same r);
+        counted = rw same (counted ∙ ap (λ n. failures + n) e.written);
+        read_still = λ ne. let none = read_nothing ne in omega (arith, read_counted, none);
+        done = λ zero. absurd (e.bad (sym same ∙ zero));
+        failed = λ ne. record { failure = f; shown = shown; same_status = sym same; why = why; report = report; read_counted = read_counted };
+      }
+
+  -- a command that is done, or whose failure was reported
+  pub command_ended : {T : Type 0} (r : Result T Failure) (Done : Type 0) (Fails : Failure → Type 0) → (Done → after ≡ before → Obeyed p old new before after) → ((f : Failure) → Fails f → NotObeyed p old new before before f)
+      → ((f : Failure) → Fails f → IsRefusal (status_of f) → new.written ≡ old.written) → OnOk r Done → IfErr r Fails → OnOk r (source_failures_after ≡ source_failures) → IfErr r (λ f. source_failures_after ≡ source_failures + read_failures f)
+      → OnOk r (failures_after ≡ failures) → IfErr r (λ f. failures_after ≡ failures + write_failures f) → HasReported r before after end → HasEnded p old new before after source_failures source_failures_after failures failures_after end
+  command_ended (Ok x) Done Fails obeyed failed nothing good bad read_still read_counted still counted reported = well_ended reported.well.0 (obeyed good reported.well.1) read_still still
+  command_ended (Err f) Done Fails obeyed failed nothing good bad read_still read_counted still counted reported = failure_ended f before (failed f bad) (nothing f bad) read_counted counted reported.badly.0 reported.badly.1
+
+  -- a sweep that is done, or whose failure was reported
+  pub sweep_ended : (path : List ℕ) (progress : Bool) → (Swept path progress old new before after → Obeyed p old new before after) → ((f : Failure) (shown : SinkState) → SweepFails path progress old new before shown f → NotObeyed p old new before shown f)
+      → (end ≡ 0 → Swept path progress old new before after) → (end ≢ 0 → HasFailed path progress old new before after source_failures source_failures_after end)
+      → (end ≡ 0 → source_failures_after ≡ source_failures) → (end ≡ 0 → failures_after ≡ failures) → (end ≢ 0 → (f : Failure) × (status_of f ≡ end) × (failures_after ≡ failures + write_failures f)) → HasEnded p old new before after source_failures source_failures_after failures failures_after end
+  sweep_ended path progress obeyed failed done fails read_still still counted = ⊎_elim (λ zero. well_ended zero (obeyed (done zero)) (read_still zero) (still zero)) (λ (bad : end ≢ 0). badly (fails bad) (counted bad)) (cases_eq end 0)
+    where
+      badly : HasFailed path progress old new before after source_failures source_failures_after end → (f : Failure) × (status_of f ≡ end) × (failures_after ≡ failures + write_failures f) → HasEnded p old new before after source_failures source_failures_after failures failures_after end
+      badly b (g, other, count) =
+          let f = b.failure in
+          let both : write_failures g ≡ write_failures f = (ends g).written ∙ (ap status_failures (other ∙ sym b.same_status) ∙ sym (ends f).written) in
+          failure_ended f b.shown (failed f b.shown b.why) (sweep_refused path progress old new before b.shown f b.why) b.read_counted (count ∙ ap (λ n. failures + n) both) (sym b.same_status) b.report

@@ -1,0 +1,5 @@
+pub mod Lines
+pub mod Firsts
+pub mod InRange
+pub mod Runs
+pub mod Endings

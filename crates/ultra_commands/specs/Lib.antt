@@ -1,0 +1,6 @@
+pub mod Stops
+pub mod Order
+pub mod Listing
+pub mod Coordination
+pub mod Explanation
+pub mod Outcome

@@ -1,0 +1,152 @@
+//! The program `ultra` as a library: what it does with the words of its command line, its files and
+//! its streams.
+#![tactic(auto)]
+
+mod acts;
+mod coordination;
+mod explaining;
+mod line_buffer;
+mod listing;
+mod serial_order;
+mod trace;
+
+ghost use Rattle.std.specs.Prelude.{◌≡◌, ◌≢◌, ◌+◌, map};
+ghost use Rattle.ultra_args.specs.Asked.{IsAskedBy};
+ghost use Rattle.ultra_args.specs.declared.Parsed.{Parsed};
+ghost use Rattle.ultra_inputs.specs.Shown.{stream};
+ghost use Rattle.ultra_inputs.specs.Traffic.{traffic};
+ghost use Rattle.ultra_commands.specs.Outcome.{status_failures, IsRefusal, IsStatus, Obeyed, Failed, HasEnded, HasReported};
+
+use crate::coordination::write_program;
+use crate::explaining::explain;
+use crate::listing::list;
+use crate::serial_order::order;
+use crate::trace::run;
+use std::sync::Wait;
+use std::thread::Threads;
+use ultra_args::{Invocation, Parsed, parse};
+use ultra_inputs::{Failure, give_up};
+use ultra_io::Source;
+use ultra_msg::{Sink, write_all};
+use ultra_sweep_command::{SweepPlan, sweep};
+
+/// Does what the words ask for, and answers the status that the program ends with: 0 done, 2 a
+/// usage fault, 3 refused input, 4 no memory, no thread or a full heap, 5 a failed write.
+///
+/// The first word is the program's name. Results, help and the version go to `out`; what is wrong
+/// goes to `err`. `clap` lays out the texts of help, of the version and of usage faults, and tests
+/// show them. A sweep and a run by several workers start threads, and the call may wait for them.
+pub fn main_with<'w, R: AllocGlobal + Threads + Wait + Sync, F: Source, O: Sink, E: Sink>(
+    rt: &R,
+    words: &'w [&'w str],
+    source: &mut F,
+    out: &mut O,
+    err: &mut E,
+) -> u8
+    ensures status { IsStatus result }
+    ensures nothing { IsRefusal result → O.taken out.new ≡ O.taken out.old }
+    ensures counted { O.failures out.new ≡ O.failures out.old + status_failures result }
+    ensures read_still { result ≢ 3 → F.failures source.new ≡ F.failures source.old }
+    ensures done { result ≡ 0 → (p : Parsed) × IsAskedBy (map (λ w. w.now) words.entry.now) p × Obeyed p
+        (traffic (F.files source.old) (O.taken out.old)) (traffic (F.files source.new) (O.taken out.new))
+        (stream (E.taken err.old) (E.failures err.old))
+        (stream (E.taken err.new) (E.failures err.new)) }
+    ensures failed { result ≢ 0 → (p : Parsed) × IsAskedBy (map (λ w. w.now) words.entry.now) p × Failed p
+        (traffic (F.files source.old) (O.taken out.old)) (traffic (F.files source.new) (O.taken out.new))
+        (stream (E.taken err.old) (E.failures err.old))
+        (stream (E.taken err.new) (E.failures err.new))
+        (F.failures source.old) (F.failures source.new) result }
+{
+    obey(rt, parse(rt.alloc(), words), source, out, err)
+}
+
+/// Does what is asked for, and answers the status.
+fn obey<'w, R: AllocGlobal + Threads + Wait + Sync, F: Source, O: Sink, E: Sink>(
+    rt: &R,
+    parsed: Parsed<'w>,
+    source: &mut F,
+    out: &mut O,
+    err: &mut E,
+) -> u8
+    ensures { HasEnded parsed.entry
+        (traffic (F.files source.old) (O.taken out.old)) (traffic (F.files source.new) (O.taken out.new))
+        (stream (E.taken err.old) (E.failures err.old))
+        (stream (E.taken err.new) (E.failures err.new))
+        (F.failures source.old) (F.failures source.new)
+        (O.failures out.old) (O.failures out.new) result }
+{
+    match parsed {
+        Parsed::Invocation(command) => carry_out(rt, command, source, out, err),
+        Parsed::Help(text) | Parsed::Version(text) => match write_all(out, text.as_bytes()) {
+            Ok(()) => 0,
+            Err(_) => give_up(&Failure::NotWritten, err),
+        },
+        Parsed::Usage(text) => give_up(&Failure::Usage(text), err),
+        Parsed::NoMemory => give_up(&Failure::NoMemory, err),
+    }
+}
+
+/// Carries out a command, and answers the status.
+fn carry_out<'w, R: AllocGlobal + Threads + Wait + Sync, F: Source, O: Sink, E: Sink>(
+    rt: &R,
+    command: Invocation<'w>,
+    source: &mut F,
+    out: &mut O,
+    err: &mut E,
+) -> u8
+    ensures { HasEnded (Parsed.Invocation command.entry)
+        (traffic (F.files source.old) (O.taken out.old)) (traffic (F.files source.new) (O.taken out.new))
+        (stream (E.taken err.old) (E.failures err.old))
+        (stream (E.taken err.new) (E.failures err.new))
+        (F.failures source.old) (F.failures source.new)
+        (O.failures out.old) (O.failures out.new) result }
+{
+    let alloc = rt.alloc();
+    match command {
+        Invocation::Run {
+            settings,
+            program,
+            workers,
+        } => {
+            let done = run(rt, alloc, settings, program, workers, source, out);
+            ended(done, err)
+        }
+        Invocation::Order { settings, program } => {
+            ended(order(alloc, settings, program, source, out), err)
+        }
+        Invocation::Explain {
+            settings,
+            program,
+            heap,
+        } => {
+            let done = explain(alloc, settings, program, heap.count, source, out);
+            ended(done, err)
+        }
+        Invocation::List { program } => ended(list(alloc, program, source, out), err),
+        Invocation::Sweep {
+            jobs,
+            workers,
+            at_once,
+            progress,
+        } => {
+            let plan = SweepPlan {
+                workers,
+                at_once,
+                progress,
+            };
+            sweep(rt, alloc, jobs, plan, source, out, err)
+        }
+        Invocation::Lib(coordination) => { ended(write_program(alloc, coordination, out), err) }
+    }
+}
+
+/// The status of a command that is done or has failed. A failure is reported on `err`.
+fn ended<'p, E: Sink>(done: Result<(), Failure<'p>>, err: &mut E) -> u8
+    ensures { HasReported done.entry (stream (E.taken err.old) (E.failures err.old))
+        (stream (E.taken err.new) (E.failures err.new)) result }
+{
+    match done {
+        Ok(()) => 0,
+        Err(failure) => give_up(&failure, err),
+    }
+}

@@ -1,5 +1,0 @@
-use Rattle.ultra_coordination.proofs.Tickets.{different}
-use Rattle.ultra_coordination.proofs.tickets_law.Goals as goal
-
-pub returns : goal.returns
-returns c = record { different = λ s ranged empty schedule elements. different s ranged empty schedule elements }

@@ -1,9 +1,0 @@
-pub mod Common
-pub mod Moved
-pub mod Columns
-pub mod Halves
-pub mod Units
-pub mod NothingHeld
-pub mod Happenings
-pub mod Whole
-pub mod Questions

@@ -1,3 +1,0 @@
-pub mod Mapped
-pub mod Dealt
-pub mod Gathered

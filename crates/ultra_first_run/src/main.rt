@@ -1,0 +1,116 @@
+//! The program `ultra_first_run`: what `ultra run CONF PROG` does, and nothing else. It stands on far
+//! fewer crates than `ultra`, so a fresh machine has it sooner.
+#![tactic(auto)]
+
+ghost use Rattle.std.specs.Prelude.{◌≡◌, ◌++◌, IfErr, IfOk, List, OnErr, OnOk, map, string_bytes, ℕ};
+ghost use Rattle.ultra_model.specs.Trace.{trace};
+ghost use Rattle.ultra_inputs.specs.Traffic.{traffic, IsStopped, WroteText, TextFails};
+ghost use Rattle.ultra_inputs.specs.Shown.{stream};
+ghost use Rattle.ultra_first_run.specs.Ending.{HasEndedFirstRun, failure_of_run, usage};
+ghost use Rattle.ultra_msg.specs.Bytes.{TakesPrefix};
+
+use std::alloc::Global;
+use std::env::Env;
+use std::process::ExitCode;
+use std::{env, io};
+use ultra_inputs::{Failure, Inputs, give_up, no_words, read_inputs};
+use ultra_io::{FileSource, Source, Stream};
+use ultra_msg::{Sink, write_all};
+use ultra_trace_alone::{RunFault, run_alone};
+
+/// Reads settings and a program, runs the program in this thread and writes its trace to `out`.
+/// Each file is accepted before the next is read, and both before a byte is written.
+///
+/// An error says what failed. `out` has then taken a prefix of the trace, and nothing where a file
+/// was refused.
+fn run<'p, F: Source, O: Sink>(
+    alloc: Global,
+    settings_path: &'p str,
+    program_path: &'p str,
+    source: &mut F,
+    out: &mut O,
+) -> Result<(), Failure<'p>>
+    ensures ok { OnOk result (WroteText trace settings_path.now program_path.now
+        (traffic (F.files source.old) (O.taken out.old)) (traffic (F.files source.new) (O.taken out.new))) }
+    ensures err { IfErr result (TextFails trace IsStopped settings_path.now program_path.now
+        (traffic (F.files source.old) (O.taken out.old)) (traffic (F.files source.new) (O.taken out.new))) }
+{
+    let Inputs { config, program } = read_inputs(alloc, settings_path, program_path, source)?;
+    match run_alone(alloc, &config, &program, out) {
+        Ok(()) => Ok(()),
+        Err(fault) => Err(failure_of_run(fault)),
+    }
+}
+
+/// The program's failure for a fault of the run.
+fn failure_of_run<'p>(fault: RunFault) -> Failure<'p>
+    ensures { result ≡ failure_of_run fault }
+{
+    match fault {
+        RunFault::Write => Failure::NotWritten,
+        RunFault::NoMemory => Failure::NoMemory,
+        RunFault::NoThread => Failure::NoThread,
+    }
+}
+
+/// Shows on `err` how the program is called, and answers the status of a usage fault.
+fn show_usage<E: Sink>(err: &mut E) -> u8
+    ensures status { result ≡ 2 }
+    ensures prefix { TakesPrefix usage (E.taken err.old) (E.taken err.new) }
+    ensures whole { E.failures err.new ≡ E.failures err.old → E.taken err.new ≡ E.taken err.old ++ usage }
+{
+    let _ = write_all(err, b"usage: ultra_first_run CONF PROG\n");
+    2
+}
+
+/// Runs what the two words after the program's name name, and answers the status that the program
+/// ends with: 0 done, 2 a usage fault, 3 refused input, 4 no memory, 5 a failed write. What is wrong
+/// goes to `err`.
+fn run_words<F: Source, O: Sink, E: Sink>(
+    alloc: Global,
+    words: &[String],
+    source: &mut F,
+    out: &mut O,
+    err: &mut E,
+) -> u8
+    ensures { HasEndedFirstRun (map string_bytes words.now)
+        (traffic (F.files source.old) (O.taken out.old)) (traffic (F.files source.new) (O.taken out.new))
+        (stream (E.taken err.old) (E.failures err.old)) (stream (E.taken err.new) (E.failures err.new)) result }
+{
+    let [_, settings, program] = words else {
+        return show_usage(err);
+    };
+    match run(alloc, settings.as_str(), program.as_str(), source, out) {
+        Ok(()) => 0,
+        Err(failure) => give_up(&failure, err),
+    }
+}
+
+/// Calls `run_words` with the words that the program was called with. An error says that the words
+/// couldn't be had; nothing is read or written then.
+fn start<R: AllocGlobal + Env, F: Source, O: Sink, E: Sink>(
+    rt: &R,
+    source: &mut F,
+    out: &mut O,
+    err: &mut E,
+) -> io::Result<u8>
+    ensures ended { IfOk result (λ s. (words : List (List ℕ)) × HasEndedFirstRun words
+        (traffic (F.files source.old) (O.taken out.old)) (traffic (F.files source.new) (O.taken out.new))
+        (stream (E.taken err.old) (E.failures err.old)) (stream (E.taken err.new) (E.failures err.new)) s) }
+    ensures nothing { OnErr result (traffic (F.files source.new) (O.taken out.new) ≡ traffic (F.files source.old) (O.taken out.old)) }
+    ensures nothing_shown { OnErr result (stream (E.taken err.new) (E.failures err.new) ≡ stream (E.taken err.old) (E.failures err.old)) }
+{
+    let words: Vec<String> = env::args(rt)?.collect(rt.alloc())?;
+    Ok(run_words(rt.alloc(), words.as_slice(), source, out, err))
+}
+
+fn main(rt: HostRuntime) -> ExitCode {
+    let mut source = FileSource::new(&rt);
+    let mut out = Stream::new(rt.stdout());
+    let mut err = Stream::new(rt.stderr());
+    let status = match start(&rt, &mut source, &mut out, &mut err) {
+        Ok(status) => status,
+        Err(error) => give_up(&no_words(&error), &mut err),
+    };
+    ExitCode::from(status)
+}

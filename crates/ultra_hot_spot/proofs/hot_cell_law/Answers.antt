@@ -1,0 +1,5 @@
+use Rattle.ultra_hot_spot.proofs.Law.{hot_cell}
+use Rattle.ultra_hot_spot.proofs.hot_cell_law.Goals as goal
+
+pub returns : goal.returns
+returns c = record { at_once = hot_cell }

@@ -1,0 +1,2 @@
+pub mod HotCell
+pub mod AllAtOnce

@@ -1,5 +1,0 @@
-use Rattle.ultra_law.proofs.ExplicableRuns.{explaining}
-use Rattle.ultra_law.proofs.explaining_law.Goals as goal
-
-pub returns : goal.returns
-returns c = record { explained = explaining }

@@ -1,5 +1,0 @@
-use Rattle.ultra_law.proofs.HotSpot.{hot_spot}
-use Rattle.ultra_law.proofs.hot_spot_law.Goals as goal
-
-pub returns : goal.returns
-returns c = record { at_once = hot_spot }

@@ -1,5 +1,0 @@
-use Rattle.ultra_law.proofs.Replies.{replies}
-use Rattle.ultra_law.proofs.reply_law.Goals as goal
-
-pub returns : goal.returns
-returns c = record { answered = replies }

@@ -1,9 +1,0 @@
-use Rattle.ultra_model.specs.Trace.{cycle_text}
-use Rattle.ultra_io.proofs.Writing.{◌then◌}
-use Rattle.ultra_lines.proofs.cycle.put_cycle.Goals as goal
-
-pub returns : goal.returns
-unfolding cycle_text
-returns g c =
-    let number = rw c.done.ensures at c.put_number.ensures in
-    number then c.put_events.ensures then c.put_state.ensures

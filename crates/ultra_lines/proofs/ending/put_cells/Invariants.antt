@@ -1,6 +1,0 @@
-use Rattle.ultra_io.specs.Page.{Writes}
-use Rattle.ultra_model.specs.Trace.{by_number, cell_of}
-use Rattle.ultra_lines.proofs.ending.put_cells.Given as goal
-
-abbrev pub invariant-loop-address : goal.invariant-loop-address
-invariant-loop-address g l = Writes g.S.Sink.taken g.S.Sink.failures (by_number l.address (cell_of l.blocks.config l.blocks.machine)) l.initial.page l.page

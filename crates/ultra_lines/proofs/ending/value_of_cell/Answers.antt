@@ -1,8 +1,0 @@
-use Rattle.std.proofs.Common.{◌/◌, arith}
-use Rattle.ultra_lines.proofs.Numbered.{value_or_zero}
-use Rattle.ultra_lines.proofs.ending.value_of_cell.Goals as goal
-
-pub returns : goal.returns
-returns c =
-    let is = value_or_zero c.bank-bank.result.now.cells (c.args.address / c.positions-modules.result) in
-    grind arith

@@ -1,0 +1,10 @@
+//! The two kinds of messages.
+
+/// What goes from unit to unit.
+#[derive(Clone, Copy, Drop)]
+pub enum MessageKind {
+    /// From memory to processing elements.
+    Replies,
+    /// From processing elements to memory.
+    Requests,
+}

@@ -1,6 +1,0 @@
-use Rattle.std.proofs.Common.{Some, refl, arith}
-use Rattle.ultra_section.proofs.Known.{switch_kept}
-use Rattle.ultra_section.proofs.block.Block.put_switch.Goals as goal
-
-pub invariant_of-self : goal.invariant_of-self
-invariant_of-self c = switch_kept c.self.invariant c.stand_switch.ensures _ (Some c.args.switch) refl refl (grind arith)

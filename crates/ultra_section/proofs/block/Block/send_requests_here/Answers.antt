@@ -1,5 +1,0 @@
-use Rattle.ultra_section.proofs.Known.{are_own, own_rooms}
-use Rattle.ultra_section.proofs.block.Block.send_requests_here.Goals as goal
-
-pub returns : goal.returns
-returns g c = (own_rooms c.self.inside.sets, rw (c.self.view_is) at (are_own c.self.invariant), c.send_requests_past.ensures)

@@ -1,7 +1,0 @@
-use Rattle.std.proofs.Common.{take}
-use Rattle.ultra_serial.specs.ByPair.{list_of}
-use Rattle.ultra_serial.specs.ByName.{AreAnswersByName}
-use Rattle.ultra_serial.proofs.by_name.answers_by_name.Given as goal
-
-abbrev pub invariant-loop-answer : goal.invariant-loop-answer
-invariant-loop-answer l = AreAnswersByName (list_of l.named.lists) (take l.answer-index l.answers)

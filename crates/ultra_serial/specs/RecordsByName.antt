@@ -1,0 +1,31 @@
+-- what it is to keep a log and entries by name
+use Rattle.std.specs.Prelude.{ℕ, List}
+use Rattle.ultra_serial.specs.declared.records_by_name.RecordsByName.{RecordsByName}
+use Rattle.ultra_serial.specs.ByPair.{list_of}
+use Rattle.ultra_serial_law.specs.declared.records.LoggedIssue.{LoggedIssue}
+use Rattle.ultra_serial_law.specs.declared.records.LoggedAnswer.{LoggedAnswer}
+use Rattle.ultra_serial_law.specs.Log.{Log}
+use Rattle.ultra_serial_law.specs.declared.records.Entry.{Entry}
+use Rattle.ultra_serial_law.specs.Legal.{Has}
+
+-- the lists of the names hold what the whole list does, each item under its own name
+pub record AreByName {X : Type 0} (pe number : X → ℕ) (lists : ℕ → ℕ → List X)
+    (whole : List X) : Type 0 where
+  pub within : (p n : ℕ) (x : X) → Has (lists p n) x → Has whole x
+  pub all : (x : X) → Has whole x → Has (lists (pe x) (number x)) x
+
+abbrev pub AreIssuesByName : (ℕ → ℕ → List LoggedIssue) → List LoggedIssue → Type 0
+AreIssuesByName lists whole =
+    AreByName (λ (i : LoggedIssue). i.pe) (λ (i : LoggedIssue). i.number) lists whole
+
+abbrev pub AreAnswersByName : (ℕ → ℕ → List LoggedAnswer) → List LoggedAnswer → Type 0
+AreAnswersByName lists whole =
+    AreByName (λ (a : LoggedAnswer). a.pe) (λ (a : LoggedAnswer). a.number) lists whole
+
+abbrev pub AreEntriesByName : (ℕ → ℕ → List Entry) → List Entry → Type 0
+AreEntriesByName lists whole = AreByName (λ (e : Entry). e.pe) (λ (e : Entry). e.number) lists whole
+
+pub record Holds (b : RecordsByName) (log : Log) (list : List Entry) : Type 0 where
+  pub issues : AreIssuesByName (list_of b.issues.lists) log.issues
+  pub answers : AreAnswersByName (list_of b.answers.lists) log.answers
+  pub entries : AreEntriesByName (list_of b.entries.lists) list

@@ -1,0 +1,151 @@
+//! When the requests of a run were issued and answered.
+
+ghost use Rattle.std.specs.Prelude.{◌≡◌, ℕ, ◌∷◌, ◌++◌, ◌≤◌, List, IfOk, OnOk};
+ghost use Rattle.ultra_model.specs.Machine.{start};
+ghost use Rattle.ultra_serial_law.specs.Log.{Log as LogKept, empty_log, log_of, latest_number, logged};
+ghost use Rattle.ultra_serial_law.specs.SerialList.{history};
+ghost use Rattle.ultra_serial.specs.LogRecorder.{Records, logged_all};
+ghost use Rattle.ultra_model.specs.declared.config.TheConstants.{MOST_CYCLES};
+
+use crate::by_pair::ListsByPair;
+use crate::keys::RequestIdentity;
+use crate::serial_state::OrderFault;
+use crate::{Log, LoggedAnswer, LoggedIssue};
+use std::alloc::{AllocError, Global};
+use ultra_isa::Program;
+use ultra_machine::{Config, Machine};
+use ultra_msg::{Cell, Event, Pe};
+
+/// What was issued and answered so far.
+#[derive(Drop)]
+pub(crate) struct LogRecorder {
+    log: Log,
+    /// The numbers of the issues of each processing element for each cell.
+    numbers: ListsByPair<RequestIdentity, u32>,
+}
+
+impl LogRecorder {
+    /// Before the first cycle.
+    fn new(alloc: Global) -> LogRecorder
+        ensures { Records result empty_log }
+    {
+        LogRecorder {
+            log: Log {
+                issues: Vec::new(alloc),
+                answers: Vec::new(alloc),
+            },
+            numbers: ListsByPair::new(alloc),
+        }
+    }
+
+    /// What happened in a cycle.
+    fn note_all(&mut self, cycle: u32, events: &[Event]) -> Result<(), AllocError>
+        ensures { OnOk result ((l : LogKept) → Records self.old l → Records self.new (logged_all cycle events.now l)) }
+    {
+        for event in events {
+            self.note(cycle, event)?;
+        }
+        Ok(())
+    }
+
+    /// An event of a cycle.
+    fn note(&mut self, cycle: u32, event: &Event) -> Result<(), AllocError>
+        ensures { OnOk result ((l : LogKept) → Records self.old l → Records self.new (logged cycle l event.now)) }
+    {
+        match *event {
+            Event::Delivered(message) => {
+                let number = self.latest_number(message.pe, message.cell);
+                self.log.answers.push(LoggedAnswer {
+                    pe: message.pe,
+                    number,
+                    reply: message.reply,
+                    cycle,
+                })?;
+            }
+            Event::Served { .. } => {}
+            Event::Combined { .. } => {}
+            Event::Issued { request, number } => {
+                let identity = RequestIdentity {
+                    pe: request.pe,
+                    cell: request.cell,
+                };
+                self.numbers.push(identity, number)?;
+                self.log.issues.push(LoggedIssue {
+                    pe: request.pe,
+                    number,
+                    cell: request.cell,
+                    op: request.op,
+                    cycle,
+                })?;
+            }
+        }
+        Ok(())
+    }
+
+    /// The number of the latest issue of a processing element for a cell, or 0 where there is none.
+    fn latest_number(&self, pe: Pe, cell: Cell) -> u32
+        ensures { (l : LogKept) → Records self.now l → result ≡ latest_number pe cell l.issues 0 }
+    {
+        self.numbers
+            .get(RequestIdentity { pe, cell })
+            .last()
+            .copied()
+            .unwrap_or(0)
+    }
+
+    /// Records the first `cycles` cycles of a run. An error says that memory was refused.
+    fn record(
+        &mut self,
+        alloc: Global,
+        config: &Config,
+        program: &Program,
+        cycles: u32,
+    ) -> Result<(), AllocError>
+        requires cycles { cycles ≤ MOST_CYCLES }
+        requires before { Records self.old empty_log }
+        ensures { OnOk result (Records self.new (history config.now program.now cycles).log) }
+    {
+        let mut machine = Machine::new(alloc, config, program)?;
+        self.record_cycles(&mut machine, cycles)
+    }
+
+    /// Records a machine from its start for `cycles` cycles, or until it is quiet. An error says that memory was refused.
+    fn record_cycles(&mut self, machine: &mut Machine, cycles: u32) -> Result<(), AllocError>
+        requires cycles { cycles ≤ MOST_CYCLES }
+        requires start { machine.old.state ≡ start machine.old.settings }
+        requires before { Records self.old empty_log }
+        ensures { OnOk result (Records self.new (history machine.old.settings machine.old.program cycles).log) }
+    {
+        for cycle in 0..cycles {
+            machine.cycle();
+            self.note_all(cycle, machine.events())?;
+            if machine.is_quiet() {
+                break;
+            }
+        }
+        Ok(())
+    }
+
+    /// The log.
+    fn into_log(self) -> Log
+        ensures { log_of result ≡ log_of self.log }
+    {
+        let LogRecorder { log, numbers: _ } = self;
+        log
+    }
+}
+
+/// What a run of n cycles, at most 1,000,000, issued and answered. `NoMemory` means that memory was refused.
+pub fn log(
+    alloc: Global,
+    config: &Config,
+    program: &Program,
+    cycles: u32,
+) -> Result<Log, OrderFault>
+    requires { cycles ≤ MOST_CYCLES }
+    ensures { IfOk result (λ log. log_of log ≡ (history config.now program.now cycles).log) }
+{
+    let mut recording = LogRecorder::new(alloc);
+    recording.record(alloc, config, program, cycles)?;
+    Ok(recording.into_log())
+}

@@ -1,0 +1,83 @@
+//! A log and entries, each kept under its name.
+
+ghost use Rattle.std.specs.Prelude.{List, [], ◌∷◌, ◌++◌, IfOk, OnOk};
+ghost use Rattle.ultra_serial_law.specs.declared.records.Entry.{Entry as EntryOf};
+ghost use Rattle.ultra_serial_law.specs.Log.{Log as LogOf, log_of};
+ghost use Rattle.ultra_serial.specs.ByPair.{list_of};
+ghost use Rattle.ultra_serial.specs.RecordsByName.{AreIssuesByName, AreAnswersByName, Holds};
+
+use crate::by_pair::ListsByPair;
+use crate::keys::RequestName;
+use crate::{Entry, Log, LoggedAnswer, LoggedIssue};
+use std::alloc::{AllocError, Global};
+
+/// The issues and answers of a log, and entries: each under its name, which is the processing element and the number.
+#[derive(Drop)]
+pub(crate) struct RecordsByName {
+    /// The issues, under their names.
+    pub issues: ListsByPair<RequestName, LoggedIssue>,
+    /// The answers, under the names of their requests.
+    pub answers: ListsByPair<RequestName, LoggedAnswer>,
+    /// The entries, under their names.
+    pub entries: ListsByPair<RequestName, Entry>,
+}
+
+impl RecordsByName {
+    /// A log, and no entries.
+    pub fn new(alloc: Global, log: &Log) -> Result<RecordsByName, AllocError>
+        ensures { IfOk result (λ names. Holds names (log_of log.now) []) }
+    {
+        Ok(RecordsByName {
+            issues: issues_by_name(alloc, log.issues.as_slice())?,
+            answers: answers_by_name(alloc, log.answers.as_slice())?,
+            entries: ListsByPair::new(alloc),
+        })
+    }
+
+    /// One entry more.
+    pub fn add(&mut self, entry: Entry) -> Result<(), AllocError>
+        ensures { OnOk result ((log : LogOf) (before : List EntryOf) → Holds self.old log before → Holds self.new log (before ++ entry ∷ [])) }
+    {
+        let name = RequestName {
+            pe: entry.pe,
+            number: entry.number,
+        };
+        self.entries.push(name, entry)
+    }
+}
+
+/// Issues under their names.
+fn issues_by_name(
+    alloc: Global,
+    issues: &[LoggedIssue],
+) -> Result<ListsByPair<RequestName, LoggedIssue>, AllocError>
+    ensures { IfOk result (λ named. AreIssuesByName (list_of named.lists) issues.now) }
+{
+    let mut named = ListsByPair::new(alloc);
+    for issue in issues {
+        let name = RequestName {
+            pe: issue.pe,
+            number: issue.number,
+        };
+        named.push(name, *issue)?;
+    }
+    Ok(named)
+}
+
+/// Answers under their names.
+fn answers_by_name(
+    alloc: Global,
+    answers: &[LoggedAnswer],
+) -> Result<ListsByPair<RequestName, LoggedAnswer>, AllocError>
+    ensures { IfOk result (λ named. AreAnswersByName (list_of named.lists) answers.now) }
+{
+    let mut named = ListsByPair::new(alloc);
+    for answer in answers {
+        let name = RequestName {
+            pe: answer.pe,
+            number: answer.number,
+        };
+        named.push(name, *answer)?;
+    }
+    Ok(named)
+}

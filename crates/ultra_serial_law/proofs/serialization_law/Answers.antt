@@ -1,0 +1,5 @@
+use Rattle.ultra_serial_law.proofs.Law.{serialization}
+use Rattle.ultra_serial_law.proofs.serialization_law.Goals as goal
+
+pub returns : goal.returns
+returns c = record { chained = serialization }

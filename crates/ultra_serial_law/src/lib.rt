@@ -1,0 +1,57 @@
+//! The serial order of what a machine's requests do, as definitions, and its laws: the lists of a run are a chain of
+//! legal lists, the replies of a run are the answers of its log, each event of a run can be absorbed by the trees kept so
+//! far, and the memory serves a hot spot by one act. They speak of the whole machine's definition alone.
+#![tactic(auto)]
+
+mod records;
+
+ghost use Rattle.ultra_serial_law.specs.Chain.{SerializationLaw};
+ghost use Rattle.ultra_serial_law.specs.Explicable.{ExplainingLaw};
+ghost use Rattle.ultra_serial_law.specs.HotSpot.{HotSpotLaw};
+ghost use Rattle.ultra_serial_law.specs.Replies.{ReplyLaw};
+
+pub use records::{Entry, Log, LoggedAnswer, LoggedIssue, NamedRequest, SerialList};
+
+/// The serialization law, as this function's contract: for all settings in their ranges, every program and every
+/// number of cycles, the serial lists of the cycles so far are a chain. Each is a prefix of the next, and each
+/// explains the replies that were given and the cells: a request stands in it at most once, every answer is its
+/// entry's reply in a replay of the list, the replay ends with the cells, and a request that was answered before
+/// another was issued stands before it.
+///
+/// The serialization principle is that of the 1983 paper; the machine is this project's profile of it. The function
+/// itself does nothing.
+pub fn serialization_law()
+    ensures chained { SerializationLaw }
+{}
+
+/// The replies of a run are the answers of its log, as this function's contract: for all settings in their ranges, every
+/// program and every number of cycles, the log's answers are the replies that were delivered so far, one by one and in
+/// the same order, each with its processing element (PE), its value and its cycle. The request of each was issued in an
+/// earlier cycle, by that PE, for the cell of the reply, and has the number that the answer names.
+///
+/// So what the serialization law says of answers it says of the replies that come to the processing elements. The
+/// function itself does nothing.
+pub fn reply_law()
+    ensures answered { ReplyLaw }
+{}
+
+/// Each event of a run can be absorbed by the trees kept so far, as this function's contract. For all settings in their
+/// ranges, every program, every cycle and each of its events, one after the other: a request that is served or combines
+/// is held, and one that is issued isn't held yet, and there is room for it. The tree of a request that is served is no
+/// higher than the stages, and has at most one leaf of each processing element. The function itself does nothing.
+pub fn explaining_law()
+    ensures explained { ExplainingLaw }
+{}
+
+/// The hot spot law, as this function's contract: whenever all queues, wait buffers and modules are
+/// empty and each processing element has one request that is not yet in the network, all for one
+/// cell, the memory serves them by one act. With d stages and the cycles counted from there, the
+/// act is in cycle d + 1, its tree has height d and a leaf for each of the 2^d processing elements,
+/// and each of them is answered in cycle 2d + 2. In these cycles there is no other act on the cell.
+///
+/// It holds for all settings in their ranges with a place in each wait buffer, and for every
+/// program. That requests for one cell combine at every stage is the 1983 paper's; the counts of
+/// cycles are this project's profile of it. The function itself does nothing.
+pub fn hot_spot_law()
+    ensures at_once { HotSpotLaw }
+{}

@@ -1,0 +1,59 @@
+use Rattle.std.proofs.Common.{◌≡◌, ◌+◌, ℕ, List, ◌∷◌, [], ◌++◌, ap, subst, length, arith, length-append}
+use Rattle.std.specs.Prelude.{All, IfOk, Result}
+use Rattle.std.proofs.lemmas.Result.{IfOk-weaker}
+use Rattle.std.proofs.lemmas.List.Elements.{All-head, All-rest}
+use Rattle.ultra_board.specs.Seat.{Opened}
+use Rattle.ultra_sweep.specs.declared.job.Job.{Job}
+use Rattle.ultra_sweep_command.specs.declared.seat_results.SeatResults.{SeatResults}
+use Rattle.ultra_sweep_command.specs.SeatResults.{AreSeatResults, AreWholeResults}
+use Rattle.ultra_sweep_command.proofs.sweep_threads.join_all.Goals as goal
+use Rattle.ultra_sweep_command.proofs.sweep_threads.join_all.Goals.{in-Ok, in-Err}
+
+-- the results of the seats so far, with one more
+next : {E : Type 0} (board : Opened) (jobs : List Job) (k m : ℕ) (own other : SeatResults) (sum : Result SeatResults E) → IfOk sum (λ all. (js : List Job) (n : ℕ) → AreWholeResults board js n own → AreSeatResults board js 1 other → AreWholeResults board js (n + 1) all) → AreWholeResults board jobs k own → AreSeatResults board jobs 1 other → k + 1 ≡ m → IfOk sum (AreWholeResults board jobs m)
+next board jobs k m own other sum joined before part more =
+    IfOk-weaker sum _ (AreWholeResults board jobs m) (λ all h. subst (λ n. AreWholeResults board jobs n all) more (h jobs k before part)) joined
+
+pub loop-thread-preserved-then-if-drop : goal.loop-thread-preserved-then-if-drop
+loop-thread-preserved-then-if-drop g c =
+    let so_far = c.loop-thread.invariant in
+    let seen = c.loop-thread.yielded in
+    let thread = c.in-Some.thread in
+    let steps = c.in-Some.ensures.steps.0 in
+    let mine : thread.promise ≡ c.args.task = All-head (λ t. t.promise ≡ c.args.task) thread c.next.new.self.rest.items (subst (All (λ t. t.promise ≡ c.args.task)) steps so_far.rest) in
+    let part = subst (λ task. AreSeatResults task.board.now task.jobs.now 1 c.join-seat_results.result) mine c.join-seat_results.ensures in
+    let longer = length-append seen (thread ∷ []) in
+    let shorter = ap length steps in
+    let count = so_far.count in
+    let one_more : length seen + 1 + 1 ≡ length (seen ++ thread ∷ []) + 1 = omega arith in
+    record {
+      rest = All-rest (λ t. t.promise ≡ c.args.task) thread c.next.new.self.rest.items c.loop-thread.thread-iterator.rest.items steps so_far.rest;
+      count = omega arith;
+      all =
+          elim c.match-all.branch [
+            | in-Ok w ↦ rw w.all-is (next c.args.task.board.now c.args.task.jobs.now (length seen + 1) (length (seen ++ thread ∷ []) + 1) w.in-Ok.all c.join-seat_results.result w.join_seat_results.result w.join_seat_results.ensures (rw w.in-Ok.is at so_far.all) part one_more)
+            | in-Err w ↦ rw w.all-is tt
+          ];
+    }
+
+pub loop-thread-preserved : goal.loop-thread-preserved
+loop-thread-preserved g c =
+    let so_far = c.loop-thread.invariant in
+    let seen = c.loop-thread.yielded in
+    let thread = c.in-Some.thread in
+    let steps = c.in-Some.ensures.steps.0 in
+    let mine : thread.promise ≡ c.args.task = All-head (λ t. t.promise ≡ c.args.task) thread c.next.new.self.rest.items (subst (All (λ t. t.promise ≡ c.args.task)) steps so_far.rest) in
+    let part = subst (λ task. AreSeatResults task.board.now task.jobs.now 1 c.join-seat_results.result) mine c.join-seat_results.ensures in
+    let longer = length-append seen (thread ∷ []) in
+    let shorter = ap length steps in
+    let count = so_far.count in
+    let one_more : length seen + 1 + 1 ≡ length (seen ++ thread ∷ []) + 1 = omega arith in
+    record {
+      rest = All-rest (λ t. t.promise ≡ c.args.task) thread c.next.new.self.rest.items c.loop-thread.thread-iterator.rest.items steps so_far.rest;
+      count = omega arith;
+      all =
+          elim c.match-all.branch [
+            | in-Ok w ↦ rw w.all-is (next c.args.task.board.now c.args.task.jobs.now (length seen + 1) (length (seen ++ thread ∷ []) + 1) w.in-Ok.all c.join-seat_results.result w.join_seat_results.result w.join_seat_results.ensures (rw w.in-Ok.is at so_far.all) part one_more)
+            | in-Err w ↦ rw w.all-is tt
+          ];
+    }

@@ -1,0 +1,172 @@
+-- how many cycles a trace has
+use Rattle.std.proofs.Common.{ℕ, zero, suc, ◌≡◌, ◌+◌, ◌-◌, ◌≤◌, ◌<◌, ◌⊎◌, inl, inr, List, ◌++◌, Bool, true, false, ◌||◌, Some, None, refl, sym, ◌∙◌, ap, arith, add-one}
+use Rattle.std.specs.List.{find, range_with_len, flat_map}
+use Rattle.std.specs.Option.{unwrap_or}
+use Rattle.std.proofs.lemmas.List.Concat.{flat_map-append}
+use Rattle.ultra_isa.specs.declared.Instr.{Instr}
+use Rattle.ultra_model.specs.Machine.{Settings, Machine, start, is_quiet}
+use Rattle.ultra_block.specs.State.{BlocksState}
+use Rattle.ultra_model.specs.Phases.{after, cycle, reply_phase, memory_phase, request_phase, processor_phase}
+use Rattle.ultra_io.specs.declared.text_buffer.TextBuffer.{TextBuffer}
+use Rattle.ultra_io.specs.TextBuffer.{Writes, WritesPrefix}
+use Rattle.ultra_trace_alone.specs.BlocksAfter.{IsAfter}
+use Rattle.ultra_model.specs.Trace.{by_number, cycle_text, cycles_text, cycle_count, all_cycles_text, last_state, end_text}
+use Rattle.ultra_io.proofs.Writing.{either, writes_failed, writes_spent}
+use Rattle.ultra_trace_text.proofs.Numbered.{range_parts, writes_number}
+
+-- ---- the first number of a range that passes a test
+module _ (test : ℕ → Bool) where
+  none_found : (a n : ℕ) → ((j : ℕ) → a ≤ j → j < a + n → test j ≡ false) → find test (range_with_len a n) ≡ None
+  none_found a zero h = refl
+  none_found a (suc n) h = let rest = none_found (a + 1) n in grind arith
+
+  found : (a n k : ℕ) → a ≤ k → k < a + n → test k ≡ true → ((j : ℕ) → a ≤ j → j < k → test j ≡ false) → find test (range_with_len a n) ≡ Some k
+  found a zero k p q t h = absurd (omega arith)
+  found a (suc n) k p q t h = let rest = found (a + 1) n k in grind arith
+
+  found_beyond : (a n b k : ℕ) → k ≤ b → k ≤ a + n → ((j : ℕ) → a ≤ j → j < k → test j ≡ false) → k ≤ unwrap_or (find test (range_with_len a n)) b
+  found_beyond a zero b k p q h = p
+  found_beyond a (suc n) b k p q h = let rest = found_beyond (a + 1) n b k in grind arith
+
+-- ---- the machine after n cycles
+module _ (c : Settings) (program : List Instr) where
+  pub after_none : after c program 0 ≡ start c
+  unfolding after
+  after_none = refl
+
+  pub after_next : (n : ℕ) → after c program (n + 1) ≡ cycle c program (after c program n)
+  unfolding after
+  after_next n = rw add-one refl
+
+  pub cycles_next : (m : Machine) → (cycle c program m).cycles ≡ m.cycles + 1
+  unfolding cycle reply_phase memory_phase request_phase processor_phase
+  cycles_next m = refl
+
+  pub cycles_after : (n : ℕ) → (after c program n).cycles ≡ n
+  unfolding after start
+  cycles_after zero = refl
+  cycles_after (suc n) = grind (arith, cycles_next, cycles_after n)
+
+-- ---- the blocks after n cycles
+module _ (c : Settings) (program : List Instr) (n : ℕ) where
+  -- a cycle more
+  pub next_after : (old new : BlocksState) → IsAfter c program n old → new ≡ record old { machine = cycle old.config old.program old.machine } → IsAfter c program (n + 1) new
+  next_after old new a made = grind (arith, after_next)
+
+  pub done_after : (b : BlocksState) → IsAfter c program n b → b.machine.cycles ≡ n
+  done_after b a = grind (arith, cycles_after)
+
+  pub quiet_after : (b : BlocksState) → IsAfter c program n b → is_quiet (after c program n) ≡ is_quiet b.machine
+  quiet_after b a = ap (λ m. is_quiet m) (sym a.state)
+
+  -- the lines of the last cycle, and those at the end
+  pub cycle_after : (b : BlocksState) → IsAfter c program n b → cycle_text b.config b.machine ≡ cycle_text c (after c program n)
+  cycle_after b a = cc
+
+  pub end_after : (b : BlocksState) → IsAfter c program n b → end_text b.config b.machine ≡ end_text c (after c program n)
+  end_after b a = cc
+
+-- where the machine is busy after n cycles, from the first on
+abbrev pub IsBusy : Settings → List Instr → ℕ → Type 0
+IsBusy c program n = (j : ℕ) → 1 ≤ j → j ≤ n → is_quiet (after c program j) ≡ false
+
+module _ (c : Settings) (program : List Instr) where
+  pub busy_none : IsBusy c program 0
+  busy_none = grind arith
+
+  pub busy_more : (n : ℕ) → IsBusy c program n → is_quiet (after c program (n + 1)) ≡ false → IsBusy c program (n + 1)
+  busy_more n h b = grind arith
+
+  -- the trace ends where the machine is quiet first
+  pub count_quiet : (n : ℕ) → IsBusy c program n → n < c.cycles → is_quiet (after c program (n + 1)) ≡ true → cycle_count c program ≡ n + 1
+  unfolding cycle_count
+  count_quiet n h p q =
+      let is = found (λ k. is_quiet (after c program k)) 1 c.cycles (n + 1) (omega arith) (omega arith) q in
+      grind arith
+
+  -- and else with the last cycle that the settings allow
+  pub count_limit : IsBusy c program c.cycles → cycle_count c program ≡ c.cycles
+  unfolding cycle_count
+  count_limit h = grind (arith, none_found)
+
+  -- it has each cycle before which the machine was busy
+  count_beyond : (n : ℕ) → IsBusy c program n → n < c.cycles → n + 1 ≤ cycle_count c program
+  unfolding cycle_count
+  count_beyond n h p = grind (arith, found_beyond)
+
+-- ---- the first lines of all
+pub first_lines : (line : ℕ → List ℕ) (n m : ℕ) → n ≤ m → (rest : List ℕ) × (by_number m line ≡ by_number n line ++ rest)
+first_lines line n m h =
+    let k : ℕ = m - n in
+    let parts = range_parts 0 n k m (omega arith) in
+    (flat_map line (range_with_len (0 + n) k), ap (flat_map line) parts ∙ flat_map-append line (range_with_len 0 n) (range_with_len (0 + n) k))
+
+-- ---- what has been written at the end, and the machine then
+one_of : (a b : Bool) → (a || b) ≡ true → (a ≡ true) ⊎ (b ≡ true)
+one_of a b h = grind arith
+
+pub not_second : (a b : Bool) → (a || b) ≡ false → b ≡ false
+not_second a b h = grind arith
+
+module _ (c : Settings) (program : List Instr) where
+  all_written : (n : ℕ) {S : Type 0} {taken : S → List ℕ} {failures : S → ℕ} {s t : TextBuffer S} → cycle_count c program ≡ n → Writes taken failures (cycles_text c program n) s t → Writes taken failures (all_cycles_text c program) s t
+  unfolding all_cycles_text
+  all_written n e w = rw e w
+
+module _ (c : Settings) (program : List Instr) (n : ℕ) where
+  -- the lines of a cycle more
+  pub cycle_written : (b : BlocksState) → IsAfter c program (n + 1) b → {S : Type 0} {taken : S → List ℕ} {failures : S → ℕ} {s t u : TextBuffer S} → Writes taken failures (cycles_text c program n) s t → Writes taken failures (cycle_text b.config b.machine) t u → Writes taken failures (cycles_text c program (n + 1)) s u
+  cycle_written b now v w = writes_number (λ k. cycle_text c (after c program (k + 1))) n v (rw (cycle_after c program (n + 1) b now) at w)
+
+  -- after a fault the cycles that are missing don't matter
+  missing_cycles : {S : Type 0} {taken : S → List ℕ} {failures : S → ℕ} {s t : TextBuffer S} → IsBusy c program n → n < c.cycles → t.failed ≡ true → Writes taken failures (cycles_text c program (n + 1)) s t → Writes taken failures (all_cycles_text c program) s t
+  unfolding all_cycles_text
+  missing_cycles h p f w =
+      let first = first_lines (λ k. cycle_text c (after c program (k + 1))) (n + 1) (cycle_count c program) (count_beyond c program n h p) in
+      rw first.1 (writes_failed first.0 f w)
+
+  -- the cycles so far are the first of the trace
+  pub first_written : {S : Type 0} {taken : S → List ℕ} {failures : S → ℕ} {s t : TextBuffer S} → IsBusy c program n → n < c.cycles → Writes taken failures (cycles_text c program n) s t → WritesPrefix taken failures (all_cycles_text c program) s t
+  unfolding all_cycles_text
+  first_written h p w =
+      let beyond = count_beyond c program n h p in
+      let first = first_lines (λ k. cycle_text c (after c program (k + 1))) n (cycle_count c program) (omega (arith, beyond)) in
+      (cycles_text c program n, (first.0, sym first.1), w)
+
+  -- where the machine is quiet or the sink has failed, the cycle was the last
+  module _ (b : BlocksState) (a : IsAfter c program (n + 1) b) (h : IsBusy c program n) (p : n < c.cycles) where
+    counted : is_quiet b.machine ≡ true → cycle_count c program ≡ n + 1
+    counted q = count_quiet c program n h p (quiet_after c program (n + 1) b a ∙ q)
+
+    pub last_written : {S : Type 0} {taken : S → List ℕ} {failures : S → ℕ} {s t : TextBuffer S} → (is_quiet b.machine || t.failed) ≡ true → Writes taken failures (cycles_text c program (n + 1)) s t → Writes taken failures (all_cycles_text c program) s t
+    last_written {t = t} over w = elim (one_of (is_quiet b.machine) t.failed over) [
+      | inl q ↦ all_written c program (n + 1) (counted q) w
+      | inr f ↦ missing_cycles h p f w
+    ]
+
+    pub last_machine : (failed : Bool) → (is_quiet b.machine || failed) ≡ true → failed ≡ false → IsAfter c program (cycle_count c program) b
+    last_machine failed over f = grind (arith, counted)
+
+    -- and else it goes on
+    pub still_busy : (failed : Bool) → (is_quiet b.machine || failed) ≡ false → IsBusy c program (n + 1)
+    still_busy failed over = grind (arith, busy_more, quiet_after)
+
+  -- where the settings allow no more, that was the last
+  module _ (all : n ≡ c.cycles) (h : IsBusy c program n) where
+    limit : cycle_count c program ≡ n
+    limit = grind (arith, count_limit)
+
+    pub limit_written : {S : Type 0} {taken : S → List ℕ} {failures : S → ℕ} {s t : TextBuffer S} → Writes taken failures (cycles_text c program n) s t → Writes taken failures (all_cycles_text c program) s t
+    limit_written w = all_written c program n limit w
+
+    pub limit_machine : (b : BlocksState) → IsAfter c program n b → IsAfter c program (cycle_count c program) b
+    limit_machine b a = grind (arith, limit)
+
+module _ (c : Settings) (program : List Instr) where
+  -- the lines at the end; after a fault it doesn't matter which
+  pub end_written : (b : BlocksState) {S : Type 0} {taken : S → List ℕ} {failures : S → ℕ} {s t : TextBuffer S} → (s.failed ≡ false → IsAfter c program (cycle_count c program) b) → Writes taken failures (end_text b.config b.machine) s t → Writes taken failures (end_text c (last_state c program)) s t
+  unfolding last_state
+  end_written b {s = s} h w = elim (either s.failed) [
+    | inl e ↦ writes_spent (end_text c (after c program (cycle_count c program))) e w
+    | inr e ↦ rw (end_after c program (cycle_count c program) b (h e)) at w
+  ]

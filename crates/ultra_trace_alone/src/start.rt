@@ -1,0 +1,53 @@
+//! The machine at the start of a run.
+
+ghost use Rattle.std.specs.Prelude.{◌≡◌, ◌≤◌, true, IfOk, OnOk};
+ghost use Rattle.ultra_model.specs.Ranges.{AreInRange};
+ghost use Rattle.ultra_block.specs.Cut.{is_partition};
+ghost use Rattle.ultra_trace_alone.specs.BlocksAfter.{IsAfter};
+ghost use Rattle.ultra_trace_alone.specs.Dealt.{IsDealtOut};
+
+use std::alloc::{AllocError, Global};
+use ultra_block::{Blocks, PartitionFault, count_units};
+use ultra_isa::Program;
+use ultra_model::Config;
+
+/// The machine before its first cycle, cut for n workers: unit `u` stands in block `u` modulo n. An error says that memory was refused.
+pub fn new_blocks(
+    alloc: Global,
+    config: &Config,
+    program: &Program,
+    workers: u8,
+) -> Result<Blocks, AllocError>
+    requires some { 1 ≤ workers }
+    requires most { workers ≤ 64 }
+    ensures start { IfOk result (IsAfter config.now program.now 0) }
+    ensures dealt { IfOk result (λ b. IsDealtOut workers b.partition) }
+    ensures range { AreInRange config.now }
+{
+    // for the prover: the settings are in their ranges
+    let _valid = config.initial();
+    // one worker has all units, which are in one block from the start
+    if workers == 1 {
+        return Blocks::in_one_block(alloc, config, program);
+    }
+    let partition = dealt_out(alloc, config, workers)?;
+    match Blocks::new(alloc, config, program, partition.as_slice()) {
+        Ok(blocks) => Ok(blocks),
+        Err(PartitionFault::NoMemory) => Err(AllocError),
+        Err(PartitionFault::BadPartition) => unreachable!(),
+    }
+}
+
+/// The partition that deals the units out to n workers, one after another. An error says that memory was refused.
+fn dealt_out(alloc: Global, config: &Config, workers: u8) -> Result<Vec<u8>, AllocError>
+    requires some { 1 ≤ workers }
+    requires most { workers ≤ 64 }
+    ensures partition { IfOk result (λ v. is_partition config.now v.items ≡ true) }
+    ensures dealt { IfOk result (λ v. IsDealtOut workers v.items) }
+{
+    let mut partition = Vec::new(alloc);
+    for unit in 0..count_units(config) {
+        partition.push((unit % usize::from(workers)) as u8)?;
+    }
+    Ok(partition)
+}

@@ -1,0 +1,7 @@
+use Rattle.ultra_io.proofs.Writing.{◌then◌}
+use Rattle.ultra_trace_text.proofs.texts.begin_place.Goals as goal
+
+pub returns-clause-goes_on : goal.returns-clause-goes_on
+returns-clause-goes_on g c = λ name is.
+    rw (← is)
+    (c.begin-at.ensures.goes_on then c.write-at.ensures.goes_on then c.write_number-at.ensures.goes_on then c.write-at-2.ensures.goes_on then c.write_number-at-2.ensures.goes_on then c.write.ensures.goes_on)

@@ -1,2 +1,0 @@
-pub mod Wave
-pub mod AllAtOnce
