@@ -122,6 +122,11 @@ module _ (s : Site) (most_open : ℕ) where
   abbrev pub step_of : List Instr → Core → Interface → Stepped
   step_of program c i = runs_as c.activity c i (slice_get program c.pc)
 
+-- whether a step was a stall
+abbrev pub is_stall : Step → Bool
+is_stall step.Stalled = true
+is_stall other = false
+
 -- a reply's value comes to the register that awaits it
 abbrev pub received : List ℕ → Option ℕ → Reply → List ℕ
 received r None v = r

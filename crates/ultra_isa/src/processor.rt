@@ -5,7 +5,7 @@ ghost use Rattle.std.specs.List.{list_any};
 ghost use Rattle.ultra_pni.specs.Interface.{is_awaited};
 ghost use Rattle.ultra_isa.specs.Instruction.{effect, goes_on_at, refers};
 ghost use Rattle.ultra_isa.specs.Meaning.{meaning, StaysWithin};
-ghost use Rattle.ultra_isa.specs.Step.{IsPlaced, fresh_core, has_stopped as stopped, names_awaited, does, runs, step_of};
+ghost use Rattle.ultra_isa.specs.Step.{IsPlaced, fresh_core, is_stall, has_stopped as stopped, names_awaited, does, runs, step_of};
 ghost use Rattle.ultra_isa.specs.declared.TheConstants.{MOST_INSTRUCTIONS};
 
 use crate::{Activity, Instr, MachineFault, Program, Step};
@@ -108,6 +108,16 @@ impl Processor {
         }
     }
 
+    /// Whether the next step would stall: one that has halted or faulted doesn't.
+    pub fn would_stall(&self, program: &Program, interface: &Pni) -> bool
+        ensures { result ≡ is_stall (step_of self.now.site interface.now.most_open program.now self.now.core interface.now.interface).was }
+    {
+        match self.activity {
+            Activity::Running => self.instruction_would_stall(program, interface),
+            Activity::Halted | Activity::Faulted(_) => false,
+        }
+    }
+
     /// A word comes to a register.
     pub fn receive(&mut self, register: Register, value: Word)
         ensures { self.new ≡ record self.old { core = record self.old.core { registers = slice_set self.old.core.registers register value } } }
@@ -157,6 +167,30 @@ impl Processor {
         match program.instruction(self.pc) {
             Some(instruction) => self.perform(instruction, interface),
             None => self.fault(MachineFault::PastEnd),
+        }
+    }
+
+    /// Whether the instruction at the program counter would stall.
+    fn instruction_would_stall(&self, program: &Program, interface: &Pni) -> bool
+        ensures { result ≡ is_stall (runs self.now.site interface.now.most_open self.now.core interface.now.interface (slice_get program.now self.now.core.pc)).was }
+    {
+        match program.instruction(self.pc) {
+            Some(instruction) => match self.effect_of(instruction, interface) {
+                Some(effect) => self.effect_would_stall(effect, interface),
+                None => true,
+            },
+            None => false,
+        }
+    }
+
+    /// Whether an instruction would stall that has this effect.
+    fn effect_would_stall(&self, effect: Effect, interface: &Pni) -> bool
+        ensures { result ≡ is_stall (does self.now.site interface.now.most_open self.now.core interface.now.interface (meaning effect)).was }
+    {
+        match effect {
+            Effect::Refers(cell, _, _) => cell < self.all_cells && interface.refuses(cell),
+            Effect::Waits => interface.open_count() != 0,
+            Effect::Sets(_, _) | Effect::GoesOnAt(_) | Effect::Halts => false,
         }
     }
 

@@ -47,6 +47,12 @@ issue_of most_open i r =
     if is_open r.cell i.opened then CellOpen else if nat_lt (length i.opened) most_open then Sent
     else Full
 
+-- whether a request that became this was refused
+abbrev pub is_refusal : Issue → Bool
+is_refusal Sent = false
+is_refusal CellOpen = true
+is_refusal Full = true
+
 abbrev pub after_issue : Interface → Request → Option ℕ → Issue → Interface
 after_issue i r target Sent =
     record {

@@ -3,7 +3,8 @@
 
 ghost use Rattle.std.specs.Prelude.{◌≡◌, ℕ, ◌-◌, ◌<◌, ◌≤◌, ◌↔◌, ◌==◌, ◌&&◌, [], true, false, length, slice_get};
 ghost use Rattle.std.specs.List.{position};
-ghost use Rattle.ultra_pni.specs.Interface.{empty_interface, is_open, is_awaited, issue_of, after_issue, target_of, closed, next_pending, without_next, IsWithin};
+ghost use Rattle.ultra_msg.specs.declared.Request.{Request};
+ghost use Rattle.ultra_pni.specs.Interface.{empty_interface, is_open, is_awaited, is_refusal, issue_of, after_issue, target_of, closed, next_pending, without_next, IsWithin};
 
 mod registers;
 mod ring;
@@ -157,6 +158,13 @@ impl Pni {
         ensures { result ≡ is_open cell self.now.interface.opened }
     {
         self.opened.iter().any(|open| open.cell == cell)
+    }
+
+    /// Whether a request for the cell would be refused now: its cell is open, or the maximum number of cells is already open.
+    pub fn refuses(&self, cell: Cell) -> bool
+        ensures { (r : Request) → r.cell ≡ cell → result ≡ is_refusal (issue_of self.now.most_open self.now.interface r) }
+    {
+        self.is_open(cell) || self.opened.len() >= self.most_open
     }
 
     /// Whether the register is awaited: the reply for an open cell goes to it.
