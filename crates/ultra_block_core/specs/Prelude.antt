@@ -2,7 +2,7 @@
 -- come from there.
 pub use Rattle.std.specs.List.{list_all, list_any}
 pub use Rattle.std.specs.Option.{ForSome}
-pub use Rattle.ultra_unit_steps.specs.{Elements.delivered_to, Elements.element_of, Elements.element_without, Elements.executed, Elements.holds_request, Elements.is_at_rest, Elements.quiet_element, Elements.step_at, Halves.lane_without, Halves.where_room, Modules.module_with, Modules.quiet_module, Switches.CanTakeReplies, Switches.CanTakeRequests, Switches.HasWay, Switches.after_both, Switches.after_replies, Switches.after_requests, Switches.combinations_of, Switches.combinations_of_both, Switches.first_request, Switches.has_reply_room, Switches.has_request_room, Switches.holds_replies, Switches.holds_requests, Switches.keeps_records, Switches.quiet_switch, Switches.replies_leaving, Switches.request_heads, Switches.requests_leaving, Switches.without_replies, Switches.without_requests, declared.elements.ProcessingElement.ProcessingElement}
+pub use Rattle.ultra_unit_steps.specs.{Elements.delivered_to, Elements.element_of, Elements.element_without, Elements.executed, Elements.holds_request, Elements.is_at_rest, Elements.quiet_element, Elements.step_at, Halves.lane_without, Halves.where_room, Modules.module_with, Modules.quiet_module, Prelude.CanDeliver, Switches.CanTakeReplies, Switches.CanTakeRequests, Switches.HasWay, Switches.after_both, Switches.after_replies, Switches.after_requests, Switches.combinations_of, Switches.combinations_of_both, Switches.first_request, Switches.has_reply_room, Switches.has_request_room, Switches.holds_replies, Switches.holds_requests, Switches.keeps_records, Switches.quiet_switch, Switches.replies_leaving, Switches.request_heads, Switches.requests_leaving, Switches.without_replies, Switches.without_requests, declared.elements.ProcessingElement.ProcessingElement}
 pub use Rattle.ultra_isa.specs.{Step.has_stopped, declared.Instr.Instr}
 pub use Rattle.ultra_mem.specs.Serve.{ModuleState, serve, served}
 pub use Rattle.ultra_model.specs.{Phases.delivery, Phases.issue_event, Phases.serving, Phases.stop_of, Phases.without_reply, Places.present}

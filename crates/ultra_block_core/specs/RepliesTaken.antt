@@ -1,6 +1,6 @@
 -- the half of a cycle in which replies come to switches and processing elements
 use Rattle.std.specs.Prelude.{ℕ, ◌<◌, [], ◌∷◌, ◌++◌, length, Option, Some, None, slice_set}
-use Rattle.ultra_block_core.specs.Prelude.{ForSome, ReplyMessage, Ports, present, delivery, CanTakeReplies, after_replies, delivered_to, Unit as UnitName, of_unit, unit_of, reply_links, delivery_link, on_link, on_both, without_both}
+use Rattle.ultra_block_core.specs.Prelude.{ForSome, ReplyMessage, Ports, present, delivery, CanDeliver, CanTakeReplies, after_replies, delivered_to, Unit as UnitName, of_unit, unit_of, reply_links, delivery_link, on_link, on_both, without_both}
 use Rattle.ultra_topology.specs.declared.unit.Unit.TheVariants as unit
 use Rattle.ultra_block_core.specs.BlockState.{BlockState, HasEventRoom, own_switch, own_element}
 
@@ -42,12 +42,12 @@ abbrev pub SwitchCanTakeReplies : ℕ → ℕ → ℕ → BlockState → Type 0
 SwitchCanTakeReplies n s k b =
     ForSome (own_switch b.switches n) (λ w. CanTakeReplies w (replies_at_switch s k b))
 
--- where a reply has come to a processing element, fewer of its requests wait than it has cells open
+-- where a reply has come to a processing element, its cell is open, and its request has left
 abbrev pub ElementCanTakeReply : ℕ → BlockState → Type 0
 ElementCanTakeReply p b =
     ForSome (own_element b.elements p)
     (λ e. ForSome (reply_at_element p b)
-    (λ _. length e.interface.interface.pending < length e.interface.interface.opened))
+    (λ r. CanDeliver r.cell e.interface.interface))
 
 abbrev pub UnitCanTakeReplies : ℕ → BlockState → UnitName → Type 0
 UnitCanTakeReplies n b (unit.Switch s k) = SwitchCanTakeReplies n s k b

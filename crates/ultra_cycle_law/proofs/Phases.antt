@@ -5,7 +5,7 @@ use Rattle.ultra_topology.specs.{Set.has_unit, Units.stage_of, Units.index_of, W
 use Rattle.ultra_topology.proofs.Standing.{is_switch}
 use Rattle.ultra_route.specs.Route.{shuffled, unshuffled}
 use Rattle.ultra_model.specs.Phases.{arrivals as arrivals_at, combinations as combinations_in, delivery, replies_made, arriving_reply, leaving_reply, replies_at_exit, next_replies, lane_after_split, delivered, reply_phase, has_reply_room, has_request_room, arriving_request, entering, leaving_request, lane_after_leaving, next_lane, request_phase, serving, memory_phase, processor_phase, cycle}
-use Rattle.ultra_model.proofs.{Capacities.after_leaving_shorter, Interfaces.delivered_waiting, Neighbours.next_is, Neighbours.itself, Routes.entering_well, Sound.sound-reply_phase, Sound.sound-memory_phase, Sound.sound-request_phase, Sound.sound-processor_phase}
+use Rattle.ultra_model.proofs.{Capacities.after_leaving_shorter, Interfaces.can_deliver, Neighbours.next_is, Neighbours.itself, Routes.entering_well, Sound.sound-reply_phase, Sound.sound-memory_phase, Sound.sound-request_phase, Sound.sound-processor_phase}
 use Rattle.ultra_unit_steps.specs.Switches.{CanTakeReplies as SwitchCanTakeReplies, CanTakeRequests as SwitchCanTakeRequests, after_replies, first_request, after_requests, combinations_of}
 use Rattle.ultra_cycle_law.specs.{Course.deliveries, Course.combinations, Course.servings, Course.issues, Course.stops, Whole.whole, Law.CanTakeReplies, Law.CanTakeRequests, Law.CanExecute, Law.CycleLaw}
 use Rattle.ultra_cycle_law.proofs.AtFrame.{at_number, number_small, same_places, whole_is, whole_alike, lane_is, replies_is, memory_module_is, element_is, size_is, regroup}
@@ -119,7 +119,7 @@ module _ (c : Settings) (n : ℕ) (f : Frame) (events : List Event) (faults : Li
     unfolding arriving_reply
     can_take_replies = record {
       switches = each_switch as_sent reply_comes (λ s k. SwitchCanTakeReplies) (λ s k hs hk. let q = switch_number d s k in grind (arith, two, nat_tests, noted q (number_small d s k hs hk), reply_room_is closed noted s (2 * k) hs, reply_room_is closed noted s (2 * k + 1) hs, after_leaving_shorter (replies_from d closed f q).zero (f.switch q).to_pe.zero.replies, after_leaving_shorter (replies_from d closed f q).one (f.switch q).to_pe.one.replies));
-      elements = λ p hp. grind (arith, comes_home p hp, delivered_waiting c w.range m (rw w.machine w.sound.routes) (rw w.machine w.sound.balance) p hp, element_is c f n events faults p hp);
+      elements = λ p hp. grind (arith, comes_home p hp, can_deliver c w.range m (rw w.machine w.sound.routes) (rw w.machine w.sound.balance) p hp, element_is c f n events faults p hp);
     }
 
   -- ---- memory

@@ -1,6 +1,6 @@
 -- a cycle in six halves is one cycle of the definition
 use Rattle.std.specs.Prelude.{ℕ, ◌+◌, ◌-◌, ◌^◌, ◌<◌, List, ◌++◌, ◌≡◌, ◌/◌, length, None}
-use Rattle.ultra_cycle_law.specs.Prelude.{cycle, switch_count}
+use Rattle.ultra_cycle_law.specs.Prelude.{CanDeliver, cycle, switch_count}
 use Rattle.std.specs.Option.{ForSome}
 use Rattle.ultra_unit_steps.specs.Switches as switch
 use Rattle.ultra_cycle_law.specs.Frame.{Frame, AreClosedToReplies, AreClosedToRequests, Ports, AreAlike, IsClear}
@@ -11,14 +11,13 @@ use Rattle.ultra_cycle_law.specs.{Course.Event, Course.Instr, Course.Stop, Whole
 -- make a step
 
 module _ (d : ℕ) (f : Frame) where
-  -- where replies come to a switch there is room; where one comes to a processing element, fewer
-  -- requests wait than cells are open
+  -- where replies come to a switch there is room; where one comes to a processing element, its
+  -- cell is open, and its request has left
   pub record CanTakeReplies : Type 0 where
     pub switches : (n : ℕ) → n < switch_count d
         → switch.CanTakeReplies (f.switch n) (half.replies_to d f n)
     pub elements : (p : ℕ) → p < 2 ^ d
-        → (let i = (f.element p).interface.interface in
-        ForSome (half.reply_to d f p) (λ _. length i.pending < length i.opened))
+        → ForSome (half.reply_to d f p) (λ r. CanDeliver r.cell (f.element p).interface.interface)
 
   -- where requests come to a switch there is room; one that comes to a module is for one of its
   -- cells, and finds its register empty

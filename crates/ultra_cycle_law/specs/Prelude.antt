@@ -2,6 +2,7 @@
 -- come from there.
 pub use Rattle.ultra_unit_steps.specs.Elements.{delivered_to, element_of, element_without, executed, step_at}
 pub use Rattle.ultra_unit_steps.specs.Halves.{map_ports, ports, where_room}
+pub use Rattle.ultra_unit_steps.specs.Prelude.{CanDeliver}
 pub use Rattle.ultra_unit_steps.specs.Switches.{after_replies, after_requests, combinations_of, has_reply_room, has_request_room, replies_leaving, request_heads, requests_leaving, without_replies, without_requests}
 pub use Rattle.ultra_model.specs.Machine.{is_nothing, site, size}
 pub use Rattle.ultra_model.specs.Phases.{cycle, delivery, issue_event, serving, stop_of, without_reply}

@@ -41,7 +41,7 @@ pub count-all : {X : Type 0} (t : X → Bool) (xs : List X) → AllByRecursion (
 count-all t [] h = refl
 count-all t (x ∷ xs) h = rw h.0 (omega (arith, count-all t xs h.1))
 
-false_of_zero : (b : Bool) (n : ℕ) → weight b + n ≤ 0 → b ≡ false
+pub false_of_zero : (b : Bool) (n : ℕ) → weight b + n ≤ 0 → b ≡ false
 false_of_zero true n h = absurd (omega (arith, h))
 false_of_zero false n h = refl
 

@@ -1,6 +1,6 @@
 -- a processing element's interface to the network. At most one outstanding reference to a cell is
 -- the 1983 paper's; the rest is this project's profile
-use Rattle.std.specs.Prelude.{◌≢◌, ℕ, ◌≤◌, List, [], ◌∷◌, ◌++◌, Bool, true, false, ◌==◌, nat_lt, length, drop, slice_get, Option, Some, None, if◌then◌else◌}
+use Rattle.std.specs.Prelude.{◌≡◌, ◌≢◌, ℕ, ◌-◌, ◌≤◌, List, [], ◌∷◌, ◌++◌, Bool, true, false, ◌==◌, nat_lt, length, map, drop, slice_get, Option, Some, None, if◌then◌else◌}
 use Rattle.std.specs.List.{list_any, AllPairs}
 use Rattle.ultra_msg.specs.declared.Request.{Request}
 use Rattle.ultra_pni.specs.declared.OpenCell.{OpenCell}
@@ -22,16 +22,32 @@ pub record SizedInterface : Type 0 where
   pub interface : Interface
   pub most_open : ℕ
 
+-- the cells that are open, and those of the pending requests
+abbrev pub open_cells : Interface → List ℕ
+open_cells i = map (λ o. o.cell) i.opened
+
+abbrev pub pending_cells : Interface → List ℕ
+pending_cells i = map (λ r. r.cell) i.pending
+
 -- what is true of every interface: at most `most_open` cells are open, no more requests are pending
--- than cells are open, and no cell is open twice
+-- than cells are open, these are for the cells that were opened last, and no cell is open twice
 pub record IsWithin (i : Interface) (most_open : ℕ) : Type 0 where
   pub small : most_open ≤ MOST_OPEN
   pub opened : length i.opened ≤ most_open
   pub pending : length i.pending ≤ length i.opened
+  pub latest : pending_cells i ≡ drop (length i.opened - length i.pending) (open_cells i)
   pub different : AllPairs (λ o p. o.cell ≢ p.cell) i.opened
 
 abbrev pub is_open : ℕ → List OpenCell → Bool
 is_open a os = list_any (λ o. o.cell == a) os
+
+abbrev pub is_pending : ℕ → List Request → Bool
+is_pending a rs = list_any (λ r. r.cell == a) rs
+
+-- a reply for cell a can be delivered: the cell is open, and its request has left the list
+pub record CanDeliver (a : ℕ) (i : Interface) : Type 0 where
+  pub open_cell : is_open a i.opened ≡ true
+  pub none_pending : is_pending a i.pending ≡ false
 
 -- whether a register is where a reply goes, and whether one of the open cells' replies goes there
 abbrev pub goes_to : ℕ → Option ℕ → Bool

@@ -4,7 +4,7 @@
 ghost use Rattle.std.specs.Prelude.{◌≡◌, ℕ, ◌-◌, ◌<◌, ◌≤◌, ◌↔◌, ◌==◌, ◌&&◌, [], true, false, length, slice_get};
 ghost use Rattle.std.specs.List.{position};
 ghost use Rattle.ultra_msg.specs.declared.Request.{Request};
-ghost use Rattle.ultra_pni.specs.Interface.{empty_interface, is_open, is_awaited, is_refusal, issue_of, after_issue, target_of, closed, next_pending, without_next, IsWithin};
+ghost use Rattle.ultra_pni.specs.Interface.{empty_interface, CanDeliver, is_open, is_awaited, is_refusal, issue_of, after_issue, target_of, closed, next_pending, without_next, IsWithin};
 
 mod registers;
 mod ring;
@@ -141,13 +141,13 @@ impl Pni {
 
     /// A reply has come: its cell is no longer open. Gives the register that the reply's value goes to, or `None` where it goes to none.
     ///
-    /// A reply for a cell that isn't open changes nothing and gives `None`. The condition: a request has left whose reply hasn't come.
+    /// The cell has to be open, and its request has to have left the list.
     pub fn deliver(&mut self, reply: ReplyMessage) -> Option<Register>
-        requires { length self.old.interface.pending < length self.old.interface.opened }
+        requires { CanDeliver reply.cell self.old.interface }
         ensures target { result ≡ target_of reply.cell self.old.interface.opened }
         ensures interface { self.new ≡ record self.old { interface = record self.old.interface { opened = closed reply.cell self.old.interface.opened } } }
     {
-        let place = place_of(self.opened.as_slice(), reply.cell)?;
+        let place = place_of(self.opened.as_slice(), reply.cell).unwrap();
         let closed = take_out(&mut self.opened, place);
         self.awaited = awaited_by(self.opened.as_slice());
         closed.target

@@ -13,6 +13,7 @@ pub use Rattle.ultra_msg.specs.declared.Event.{Event}
 pub use Rattle.ultra_msg.specs.declared.Event.TheVariants.{Combined}
 pub use Rattle.ultra_msg.specs.declared.ReplyMessage.{ReplyMessage}
 pub use Rattle.ultra_msg.specs.declared.Request.{Request}
+pub use Rattle.ultra_pni.specs.Interface.{CanDeliver}
 pub use Rattle.ultra_route.specs.Route.{bit_of}
 pub use Rattle.ultra_switch.specs.Queues.{SizedLane, SizedReplies, request_of}
 pub use Rattle.ultra_switch.specs.{declared.Ports.Ports, declared.Switch.Switch}

@@ -1,7 +1,7 @@
 //! Processing elements, and what the halves of a cycle do to one.
 
 ghost use Rattle.std.specs.Prelude.{◌≡◌, ◌+◌, ◌-◌, ◌^◌, ◌<◌, ◌↔◌, Some, IsTrue, length, slice_get};
-ghost use Rattle.ultra_unit_steps.specs.Prelude.{has_stopped, issue_event, stop_of};
+ghost use Rattle.ultra_unit_steps.specs.Prelude.{CanDeliver, has_stopped, issue_event, stop_of};
 
 use ultra_isa::{Processor, Program, Step};
 use ultra_model::Stop;
@@ -35,9 +35,9 @@ pub enum StepOutcome {
 impl ProcessingElement {
     ghost use Rattle.ultra_unit_steps.specs.Elements.{delivered_to, element_of, element_without, executed, holds_request, is_at_rest, issue_in, quiet_element, step_at, stop_in};
 
-    /// A reply is delivered: its register is set, if it has one, and its cell is no longer open. Fewer requests have to wait than cells are open: some request has left that isn't answered.
+    /// A reply is delivered: its register is set, if it has one, and its cell is no longer open. The cell has to be open, and its request has to have left the list.
     pub fn deliver(&mut self, reply: ReplyMessage)
-        requires { length self.old.interface.interface.pending < length self.old.interface.interface.opened }
+        requires { CanDeliver reply.cell self.old.interface.interface }
         ensures { self.new ≡ delivered_to self.old (Some reply) }
     {
         if let Some(register) = self.interface.deliver(reply)

@@ -5,7 +5,7 @@ use Rattle.ultra_pni.specs.Interface.{Interface, empty_interface, SizedInterface
 use Rattle.ultra_isa.specs.declared.Instr.{Instr}
 use Rattle.ultra_isa.specs.Instruction.{Site}
 use Rattle.ultra_isa.specs.Step.{Core, step_of}
-use Rattle.ultra_para.proofs.Sending.{pending_is_sent, more_is_open}
+use Rattle.ultra_para.proofs.Sending.{pending_is_sent, can_deliver}
 use Rattle.ultra_para.proofs.at_once.step_at_once.Goals as goal
 
 -- what a step leaves in a new interface
@@ -43,8 +43,7 @@ deliver-target-requires c =
     let core = c.args.processor.now.core in
     let after = interface_after s program core _ _ c.new-interface.ensures c.step.ensures.interface in
     let sent = is_sent s program core _ _ after c.in-Some.ensures.request in
-    let more = more_is_open s program core c.in-Some.request sent in
-    rw (c.leave.ensures.interface, after) more
+    rw (c.leave.ensures.interface, after) (can_deliver s program core c.in-Some.request sent)
 
 pub returns-in_default-target-clause-cells : goal.returns-in_default-target-clause-cells
 returns-in_default-target-clause-cells c =
