@@ -1,5 +1,5 @@
 -- the tasks of the workers, and their results
-use Rattle.std.specs.Prelude.{◌≡◌, ℕ, ◌+◌, ◌%◌, ◌==◌, ◌<◌, ◌≤◌, List, [], ◌∷◌, Bool, Vec, filter, length, slice_index_or, vec_capacity}
+use Rattle.std.specs.Prelude.{◌≡◌, ℕ, ◌+◌, ◌%◌, ◌==◌, ◌<◌, ◌≤◌, min, max, List, [], ◌∷◌, Bool, Vec, filter, length, slice_index_or, vec_capacity}
 use Rattle.std.specs.Global.{Global}
 use Rattle.ultra_isa.specs.declared.Instr.{Instr}
 use Rattle.ultra_block_core.specs.BlockState.{BlockState}
@@ -22,6 +22,10 @@ is_of_worker workers w t = t.number % workers == w
 
 abbrev pub team : ℕ → ℕ → List BlockTask → List BlockTask
 team workers w tasks = filter (is_of_worker workers w) tasks
+
+-- so many of n workers have a block of `count`, the first ones; there is always one
+abbrev pub busy_workers : ℕ → ℕ → ℕ
+busy_workers workers count = max (min workers count) 1
 
 -- these are the teams of all workers, to which these blocks were dealt
 abbrev pub AreTeams : ℕ → List (Vec BlockTask Global) → List BlockState → Type 0

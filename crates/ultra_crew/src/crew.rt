@@ -1,7 +1,8 @@
 //! A cycle of the whole machine, made by host workers.
 
-ghost use Rattle.std.specs.Prelude.{◌≡◌, ◌+◌, ◌-◌, ◌<◌, ◌≤◌, ◌^◌, min, max, IfOk, IsOk};
+ghost use Rattle.std.specs.Prelude.{◌≡◌, ◌+◌, ◌-◌, ◌<◌, ◌≤◌, ◌^◌, IfOk, IsOk};
 ghost use Rattle.ultra_model.specs.Phases.{cycle as next_cycle};
+ghost use Rattle.ultra_crew.specs.Tasks.{busy_workers};
 ghost use Rattle.ultra_crew.specs.ExpectedResults.{AreExpectedResults, cycles_on};
 
 use crate::expected_results::ExpectedResults;
@@ -76,8 +77,7 @@ impl Crew {
             cycles_alone(&mut blocks, count);
             return Ok(blocks);
         }
-        let (blocks, busy) = count_busy(blocks, workers);
-        cycles_together::<Brand, R, G>(rt, alloc, blocks, busy, gate, count)
+        cycles_together::<Brand, R, G>(rt, alloc, blocks, workers, gate, count)
     }
 }
 
@@ -96,7 +96,7 @@ fn cycles_alone(blocks: &mut Blocks, count: u32)
 fn count_busy(blocks: Blocks, workers: usize) -> (Blocks, usize)
     requires { 1 ≤ workers }
     ensures same { result.0 ≡ blocks }
-    ensures busy { result.1 ≡ max (min workers blocks.count) 1 }
+    ensures busy { result.1 ≡ busy_workers workers blocks.count }
     ensures some_worker { 1 ≤ result.1 }
 {
     let parts = blocks.into_parts();
@@ -104,7 +104,7 @@ fn count_busy(blocks: Blocks, workers: usize) -> (Blocks, usize)
     (Blocks::of_parts(parts), busy)
 }
 
-/// The machine makes n cycles, whose halves are made by workers in threads of their own, which are started here and joined at the end.
+/// The machine makes n cycles, whose halves are made by workers in threads of their own, which are started here and joined at the end. Each of these workers that has a block gets a thread.
 fn cycles_together<J: ExpectedResults + Send, R: Threads + Wait + Sync, G: Gate + Sync>(
     rt: &R,
     alloc: Global,
@@ -115,19 +115,20 @@ fn cycles_together<J: ExpectedResults + Send, R: Threads + Wait + Sync, G: Gate 
 ) -> Result<Blocks, CrewFault>
     requires counted { blocks.machine.cycles + count < 2 ^ 32 }
     requires some_worker { 1 ≤ workers }
-    requires expected { AreExpectedResults J.results J.program workers blocks }
+    requires expected { AreExpectedResults J.results J.program (busy_workers workers blocks.count) blocks }
     ensures { IfOk result (λ b. b ≡ record blocks { machine = cycles_on blocks.config blocks.program count blocks.machine }) }
 {
+    let (blocks, busy) = count_busy(blocks, workers);
     thread::scope(
         thread::scope_env(),
         rt,
         |scope| -> Result<Blocks, CrewFault>
             requires counted { blocks.machine.cycles + count < 2 ^ 32 }
-            requires some_worker { 1 ≤ workers }
-            requires expected { AreExpectedResults J.results J.program workers blocks }
+            requires some_worker { 1 ≤ busy }
+            requires expected { AreExpectedResults J.results J.program busy blocks }
             ensures { IfOk result (λ b. b ≡ record blocks { machine = cycles_on blocks.config blocks.program count blocks.machine }) }
         {
-            let pool = WorkerPool::<J>::start(scope, rt, alloc, workers, gate)?;
+            let pool = WorkerPool::<J>::start(scope, rt, alloc, busy, gate)?;
             let result = pool.cycles(rt, alloc, blocks, count);
             pool.stop(rt);
             result
