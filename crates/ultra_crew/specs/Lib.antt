@@ -1,4 +1,5 @@
 pub mod Tasks
+pub mod Faults
 pub mod Words
 pub mod Exchanged
 pub mod Start

@@ -1,11 +1,12 @@
 //! What goes to a worker, and what the worker gives back.
 
-ghost use Rattle.std.specs.Prelude.{◌≡◌, ⊤, All, map};
-ghost use Rattle.ultra_crew.specs.Tasks.{CanBeMade, task_after_half};
+ghost use Rattle.std.specs.Prelude.{◌≡◌, ⊤, All, List, map};
+ghost use Rattle.ultra_isa.specs.declared.Instr.{Instr};
+ghost use Rattle.ultra_crew.specs.Tasks.{CanBeMade, task_after_half, task_after_own_half};
 
 use crate::expected_results::ExpectedResults;
 use crate::gate::Gate;
-use crate::task::{AssignmentName, BlockTask, make_all};
+use crate::task::{AssignmentName, BlockTask};
 use std::marker::{Model, PhantomData};
 use std::sync::Wait;
 use ultra_block_core::Rooms;
@@ -65,5 +66,22 @@ impl<J: ExpectedResults> FinishedAssignment<J> {
             expected: _,
         } = self;
         team
+    }
+}
+
+/// A worker does its tasks: for each it calls the gate, and then makes the half.
+fn make_all<R: Wait, G: Gate>(
+    rt: &R,
+    gate: &G,
+    name: AssignmentName,
+    team: &mut [BlockTask],
+    rooms: &Rooms,
+)
+    requires { (program : List Instr) × All (CanBeMade program name.half) team.old }
+    ensures { team.new ≡ map (task_after_own_half name.half rooms.now) team.old }
+{
+    for task in team.iter_mut() {
+        let call = task.call_gate(rt, gate, name);
+        task.make(call, rooms);
     }
 }

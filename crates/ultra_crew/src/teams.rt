@@ -38,7 +38,7 @@ pub fn deal_to_teams(
     let workers = teams.len();
     let mut number = 0;
     for block in blocks.drain(..) {
-        teams[number % workers].push(BlockTask { number, block })?;
+        teams[number % workers].push(BlockTask::new(number, block))?;
         number += 1;
     }
     Ok(())
@@ -59,7 +59,7 @@ pub fn collect_from_teams(
     let workers = teams.len();
     for number in (0..count).rev() {
         if let Some(task) = teams[number % workers].pop() {
-            blocks.push(task.block)?;
+            blocks.push(task.into_block())?;
         }
     }
     blocks.as_mut_slice().reverse();

@@ -1,6 +1,6 @@
 //! Workers whose threads are kept over several cycles.
 
-ghost use Rattle.std.specs.Prelude.{◌≡◌, ℕ, ◌+◌, ◌-◌, ◌<◌, ◌≤◌, ◌^◌, All, IfOk, List, OnOk, [], length, map, slice_index_or};
+ghost use Rattle.std.specs.Prelude.{◌≡◌, ℕ, ◌+◌, ◌-◌, ◌<◌, ◌≤◌, ◌^◌, All, IfOk, List, IfErr, OnOk, [], length, map, slice_index_or, vec_capacity};
 ghost use Rattle.ultra_model.specs.Phases.{cycle as next_cycle};
 ghost use Rattle.ultra_block_core.specs.declared.half.Half.{Half};
 ghost use Rattle.ultra_block_core.specs.BlockState.{BlockState};
@@ -9,6 +9,7 @@ ghost use Rattle.ultra_partition.specs.Moments.{AreWhole, machine_in};
 ghost use Rattle.ultra_crew.specs.Tasks.{AreEmptyTeams, AreTeams, CanBeMade, task_after_half};
 ghost use Rattle.ultra_crew.specs.Start.{state_of};
 ghost use Rattle.ultra_crew.specs.ExpectedResults.{AreExpectedResults, IsDue, cycles_on, results_in};
+ghost use Rattle.ultra_crew.specs.declared.fault.CrewFault.TheVariants.{NoThread};
 
 use crate::expected_results::ExpectedResults;
 use crate::fault::CrewFault;
@@ -16,8 +17,8 @@ use crate::gate::Gate;
 use crate::moves::with_exchanged;
 use crate::task::{AssignmentName, BlockTask};
 use crate::teams::{collect_from_teams, deal_to_teams, empty_teams};
-use crate::worker_thread::WorkerThread;
-use std::alloc::Global;
+use crate::worker_thread::{Channels, WorkerThread};
+use std::alloc::{AllocError, Global};
 use std::marker::Model;
 use std::sync::Wait;
 use std::thread::{Scope, Threads};
@@ -39,7 +40,7 @@ impl<J: ExpectedResults> Model for WorkerPool<J> {
 }
 
 impl<J: ExpectedResults> WorkerPool<J> {
-    /// Starts a thread for each of n workers. They make the halves of blocks of the machine whose expected results are `J`, and call this gate before each half of a block. On every return path the threads that were started are joined: by `stop`, or here where one could not be started.
+    /// Starts a thread for each of n workers. They make the halves of blocks of the machine whose expected results are `J`, and call this gate before each half of a block. Memory is asked for before the first thread is started. On every return path the threads that were started are joined: by `stop`, or here where one could not be started.
     ///
     /// `NoThread` says that a thread could not be started, `NoMemory` that memory was refused.
     pub fn start<'s, E, R: Threads + Wait + Sync, G: Gate + Sync>(
@@ -53,16 +54,9 @@ impl<J: ExpectedResults> WorkerPool<J> {
         J: Send + 's,
         ensures { IfOk result (λ s. s ≡ workers) }
     {
-        let mut threads = Vec::with_capacity(alloc, workers)?;
-        for _ in 0..workers {
-            match WorkerThread::start(scope, rt, alloc, gate) {
-                Ok(thread) => threads.push_reserved(thread),
-                Err(fault) => {
-                    stop_all(rt, threads);
-                    return Err(fault);
-                }
-            }
-        }
+        let threads = Vec::with_capacity(alloc, workers)?;
+        let channels = channels_for(alloc, workers)?;
+        let threads = start_threads(scope, rt, channels, threads, gate)?;
         Ok(WorkerPool { threads })
     }
 
@@ -268,12 +262,49 @@ impl<J: ExpectedResults> WorkerPool<J> {
                 worker,
             };
             let team = self.threads[worker].receive_team(rt, name)?;
-            if teams.push(team).is_err() {
-                return Err(CrewFault::NoMemory);
-            }
+            teams.push(team)?;
         }
         Ok(())
     }
+}
+
+/// The channels of n workers. An error says that memory was refused.
+fn channels_for<J: ExpectedResults>(
+    alloc: Global,
+    workers: usize,
+) -> Result<Vec<Channels<J>>, AllocError>
+    ensures { IfOk result (λ v. length v.items ≡ workers) }
+{
+    let mut channels = Vec::with_capacity(alloc, workers)?;
+    for _ in 0..workers {
+        channels.push(Channels::new(alloc)?)?;
+    }
+    Ok(channels)
+}
+
+/// Starts a worker's thread over each of these channels, and puts it into a list that has room for all. It takes no memory: the only fault is `NoThread`, which says that one could not be started; those that were are joined then.
+fn start_threads<'s, J: ExpectedResults + Send + 's, E, R: Threads + Wait + Sync, G: Gate + Sync>(
+    scope: &Scope<'s, E>,
+    rt: &'s R,
+    channels: Vec<Channels<J>>,
+    mut threads: Vec<WorkerThread<J>>,
+    gate: &'s G,
+) -> Result<Vec<WorkerThread<J>>, CrewFault>
+    requires empty { threads.items ≡ [] }
+    requires room { length channels.items ≤ vec_capacity threads }
+    ensures all { IfOk result (λ v. length v.items ≡ length channels.items) }
+    ensures fault { IfErr result (λ e. e ≡ NoThread) }
+{
+    for each in channels {
+        match WorkerThread::start(scope, rt, each, gate) {
+            Ok(thread) => threads.push_reserved(thread),
+            Err(fault) => {
+                stop_all(rt, threads);
+                return Err(fault);
+            }
+        }
+    }
+    Ok(threads)
 }
 
 /// Lets these workers end, and joins their threads.

@@ -1,15 +1,16 @@
 //! A worker's thread, with the channels to it and back.
 
-ghost use Rattle.std.specs.Prelude.{◌≡◌, All, IfOk, map};
+ghost use Rattle.std.specs.Prelude.{◌≡◌, All, IfErr, IfOk, map};
 ghost use Rattle.ultra_crew.specs.Tasks.{CanBeMade, task_after_half};
+ghost use Rattle.ultra_crew.specs.declared.fault.CrewFault.TheVariants.{NoThread};
 
 use crate::assignment::{Assignment, FinishedAssignment};
 use crate::expected_results::ExpectedResults;
 use crate::fault::CrewFault;
 use crate::gate::Gate;
 use crate::task::{AssignmentName, BlockTask};
-use crossbeam_channel::{Receiver, SendError, Sender, TryRecvError, bounded};
-use std::alloc::Global;
+use crossbeam_channel::{Receiver, Sender, TryRecvError, bounded};
+use std::alloc::{AllocError, Global};
 use std::hint;
 use std::marker::PhantomData;
 use std::sync::Wait;
@@ -29,6 +30,26 @@ pub struct WorkerThread<J: ExpectedResults> {
 struct WorkerChannels<J: ExpectedResults> {
     assignments: Receiver<Assignment<J>>,
     results: Sender<FinishedAssignment<J>>,
+}
+
+/// The channels to a worker's thread and back, which has not been started yet.
+#[derive(Drop)]
+pub struct Channels<J: ExpectedResults> {
+    assignments: (Sender<Assignment<J>>, Receiver<Assignment<J>>),
+    results: (
+        Sender<FinishedAssignment<J>>,
+        Receiver<FinishedAssignment<J>>,
+    ),
+}
+
+impl<J: ExpectedResults> Channels<J> {
+    /// Channels that hold one assignment and one result. An error says that memory was refused.
+    pub fn new(alloc: Global) -> Result<Channels<J>, AllocError> {
+        Ok(Channels {
+            assignments: bounded(alloc, 1)?,
+            results: bounded(alloc, 1)?,
+        })
+    }
 }
 
 /// How often a thread looks for a message before it sleeps until one comes: for about the time that a half of a cycle takes.
@@ -76,6 +97,7 @@ impl<J: ExpectedResults> WorkerChannels<J> {
     ) -> Result<JoinHandle<()>, CrewFault>
     where
         J: Send + 's,
+        ensures { IfErr result (λ e. e ≡ NoThread) }
     {
         scope
             .spawn(move || self.work(rt, gate))
@@ -85,18 +107,19 @@ impl<J: ExpectedResults> WorkerChannels<J> {
 }
 
 impl<J: ExpectedResults> WorkerThread<J> {
-    /// Starts a worker's thread. It makes halves of blocks, and calls this gate before each half of a block. `NoThread` says that it could not be started, `NoMemory` that memory was refused.
+    /// Starts a worker's thread over these channels. It makes halves of blocks, and calls this gate before each half of a block. It takes no memory: the only fault is `NoThread`, which says that the thread could not be started.
     pub fn start<'s, E, R: Threads + Wait + Sync, G: Gate + Sync>(
         scope: &Scope<'s, E>,
         rt: &'s R,
-        alloc: Global,
+        channels: Channels<J>,
         gate: &'s G,
     ) -> Result<WorkerThread<J>, CrewFault>
     where
         J: Send + 's,
+        ensures { IfErr result (λ e. e ≡ NoThread) }
     {
-        let (assignments, to_make) = bounded(alloc, 1)?;
-        let (made, results) = bounded(alloc, 1)?;
+        let (assignments, to_make) = channels.assignments;
+        let (made, results) = channels.results;
         let channels = WorkerChannels {
             assignments: to_make,
             results: made,
@@ -126,11 +149,7 @@ impl<J: ExpectedResults> WorkerThread<J> {
             rooms: *rooms,
             expected: PhantomData,
         };
-        match self.assignments.send(rt, assignment) {
-            Ok(()) => Ok(()),
-            Err(SendError::OutOfMemory(_)) => Err(CrewFault::NoMemory),
-            Err(SendError::Disconnected(_)) => Err(CrewFault::NoThread),
-        }
+        Ok(self.assignments.send(rt, assignment)?)
     }
 
     /// The team of this name after its half. Results of another name are dropped. `NoThread` says that the thread is gone.
@@ -139,7 +158,8 @@ impl<J: ExpectedResults> WorkerThread<J> {
         rt: &R,
         name: AssignmentName,
     ) -> Result<Vec<BlockTask>, CrewFault>
-        ensures { IfOk result (λ v. v.items ≡ J.results name.cycle name.half name.worker) }
+        ensures team { IfOk result (λ v. v.items ≡ J.results name.cycle name.half name.worker) }
+        ensures fault { IfErr result (λ e. e ≡ NoThread) }
     {
         for _ in rt.forever() {
             let Some(results) = next(rt, &self.results) else {

@@ -20,7 +20,7 @@ loop-number-preserved-in-Continue-1 c =
     record {
       many = length-set c.loop-number.teams.items (k % c.len-workers.result) c.pop.new.self ∙ so_far.many;
       gathered = λ bs e dealt.
-          c.in_ok-push.ensures.items
+          (rw c.into_block.ensures at c.in_ok-push.ensures.items)
           ∙ gathered_next c.len-workers.result (search rules) bs k (below bs e) c.loop-number.teams.items so_far.many (left bs e dealt) was c.index_mut.ensures.value
           c.in-Some.task c.pop.new.self c.in-Some.ensures.items c.loop-number.blocks.items (so_far.gathered bs e dealt ∙ ap (λ j. reverse (drop j bs)) (sym now));
       left = λ bs e dealt.

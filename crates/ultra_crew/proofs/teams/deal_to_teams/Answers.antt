@@ -17,7 +17,7 @@ loop-block-preserved c =
       len = length-set c.loop-block.teams.items (number % workers) c.push.new.self ∙ so_far.len;
       number = let h = so_far.number in let e = length-append c.loop-block.yielded (c.in-Some.block ∷ []) in omega (arith, h, e);
       each = λ w d below.
-          dealt_next workers ts t c.loop-block.teams.items c.push.new.self so_far.each so_far.len number refl c.index_mut.result.now c.index_mut.ensures.value c.in_ok-push.ensures.items w d below
+          dealt_next workers ts t c.loop-block.teams.items c.push.new.self so_far.each so_far.len number refl c.index_mut.result.now c.index_mut.ensures.value (rw c.new.ensures at c.in_ok-push.ensures.items) w d below
           ∙ ap (λ n. team workers w (ts ++ task n c.in-Some.block ∷ [])) (let h = so_far.number in omega (arith, h))
           ∙ ap (λ us. team workers w us) (sym (tasks_more 0 c.loop-block.yielded c.in-Some.block));
     }
