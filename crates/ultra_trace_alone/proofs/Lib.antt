@@ -1,2 +1,3 @@
 pub mod Count
+pub mod Shown
 pub mod Headlines
