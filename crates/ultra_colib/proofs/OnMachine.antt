@@ -9,8 +9,8 @@ use Rattle.ultra_msg.specs.declared.Request.{Request}
 use Rattle.ultra_isa.specs.declared.Instr.{Instr}
 use Rattle.ultra_model.specs.Machine.{Settings, size, given_value}
 use Rattle.ultra_model.specs.Phases.{after}
+use Rattle.ultra_model.specs.Trace.{cell_value}
 use Rattle.ultra_model.proofs.Each.{length-places}
-use Rattle.ultra_serial_law.specs.SerialList.{cells_of}
 use Rattle.ultra_para.specs.Para.{Para, core_at, cells_acted, start_para, alone, para_step, run_para}
 use Rattle.ultra_para.specs.Careful.{is_careful}
 use Rattle.ultra_para.specs.Law.{ParacomputerLaw}
@@ -32,8 +32,8 @@ module _ (law : ParacomputerLaw) (program : List Instr) (careful : is_careful pr
       let r = law c ranged program careful n in
       let v : Para = run_para c program (start_para c) r.schedule in
       let held : length v.cells ≡ size c * c.cells = held_after c program r.schedule (start_para c) ∙ length-places (size c * c.cells) (λ a. given_value c.initial a 0) in
-      let same : (a : ℕ) (b : Bool) → nat_lt a (size c * c.cells) ≡ b → slice_index v.cells a ≡ elim b as (λ _. ℕ) [ true ↦ cells_of c (after c program n) a | false ↦ 0 ] =
-      λ a b. elim b as (λ b. nat_lt a (size c * c.cells) ≡ b → slice_index v.cells a ≡ elim b as (λ _. ℕ) [ true ↦ cells_of c (after c program n) a | false ↦ 0 ]) [
+      let same : (a : ℕ) (b : Bool) → nat_lt a (size c * c.cells) ≡ b → slice_index v.cells a ≡ elim b as (λ _. ℕ) [ true ↦ cell_value c (after c program n) a | false ↦ 0 ] =
+      λ a b. elim b as (λ b. nat_lt a (size c * c.cells) ≡ b → slice_index v.cells a ≡ elim b as (λ _. ℕ) [ true ↦ cell_value c (after c program n) a | false ↦ 0 ]) [
         | true ↦ λ e. r.looks.cells a (grind (arith, common_steps))
         | false ↦ λ e. get_or_past v.cells a 0 (let past : size c * c.cells ≤ a = grind (arith, common_steps) in omega arith)
       ] in

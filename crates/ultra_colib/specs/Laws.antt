@@ -4,7 +4,7 @@ use Rattle.ultra_isa.specs.declared.Instr.{Instr}
 use Rattle.ultra_model.specs.Machine.{Settings, Machine, size}
 use Rattle.ultra_model.specs.Phases.{after}
 use Rattle.ultra_model.specs.Ranges.{AreInRange}
-use Rattle.ultra_serial_law.specs.SerialList.{cells_of}
+use Rattle.ultra_model.specs.Trace.{cell_value}
 use Rattle.ultra_colib.specs.Schedules.{CellWords}
 use Rattle.ultra_colib.specs.Gate.{gate, AreFewInside}
 use Rattle.ultra_colib.specs.ReadersWriters.{readers_writers, AreWritersAlone}
@@ -13,7 +13,7 @@ use Rattle.ultra_colib.specs.Queue.{queue, AreItemsOnce}
 
 -- the word in each cell of a machine; one that the memory hasn't counts as 0
 abbrev pub cell_words : Settings → Machine → CellWords
-cell_words c m a = elim (nat_lt a (size c * c.cells)) [ true ↦ cells_of c m a | false ↦ 0 ]
+cell_words c m a = elim (nat_lt a (size c * c.cells)) [ true ↦ cell_value c m a | false ↦ 0 ]
 
 -- for all settings in their ranges without initial values and every number of cycles, the law of n
 -- processing elements holds

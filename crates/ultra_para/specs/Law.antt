@@ -6,7 +6,7 @@ use Rattle.ultra_isa.specs.declared.Instr.{Instr}
 use Rattle.ultra_model.specs.Machine.{Settings, Machine, size, element_at}
 use Rattle.ultra_model.specs.Phases.{after}
 use Rattle.ultra_model.specs.Ranges.{AreInRange}
-use Rattle.ultra_serial_law.specs.SerialList.{cells_of}
+use Rattle.ultra_model.specs.Trace.{cell_value}
 use Rattle.ultra_para.specs.Para.{Para, core_at, start_para, run_para}
 use Rattle.ultra_para.specs.Careful.{is_careful}
 
@@ -17,7 +17,7 @@ WaitsForNothing os = os ≡ []
 -- the machine looks like the paracomputer: they have the same cells and, for each processing
 -- element without an open cell, the same registers, program counter and state
 pub record LooksLike (c : Settings) (m : Machine) (v : Para) : Type 0 where
-  pub cells : (a : ℕ) → a < size c * c.cells → slice_index v.cells a ≡ cells_of c m a
+  pub cells : (a : ℕ) → a < size c * c.cells → slice_index v.cells a ≡ cell_value c m a
   pub cores : (p : ℕ) → p < size c → WaitsForNothing (element_at m p).interface.opened
       → core_at v p ≡ (element_at m p).core
 

@@ -9,15 +9,17 @@ use Rattle.ultra_model.specs.Machine.{Settings, Machine, size}
 use Rattle.ultra_model.specs.Phases.{reply_phase, memory_phase, request_phase, processor_phase, cycle, after}
 use Rattle.ultra_model.specs.Ranges.{AreInRange}
 use Rattle.ultra_serial_law.specs.Tree.{Tree, Kept, trees_after}
-use Rattle.ultra_serial_law.specs.SerialList.{History, noted, history}
-use Rattle.ultra_serial_law.specs.Explicable.{served_tree, AreAbsorbable, ServeTrees, IsOfMachine, AreExplicable, ExplainingLaw}
+use Rattle.ultra_serial_law.specs.Legal.{given, replayed}
+use Rattle.ultra_serial_law.specs.SerialList.{History, noted, history, serial_list}
+use Rattle.ultra_serial_law.specs.Explicable.{served_tree, AreAbsorbable, ServeTrees, AreLeavesAdded, IsOfMachine, AreExplicable, ExplainingLaw}
+use Rattle.ultra_serial_law.proofs.AddedLeaves.{leaves_added}
 use Rattle.ultra_serial_law.proofs.Mentions.{sum_of, trees_noted, noted_trees}
 use Rattle.ultra_serial_law.proofs.Issued.{each_issued}
 use Rattle.ultra_serial_law.proofs.Absorbing.{kept_passing, lost, brought, IsFit, fit_absorbable, fit_served, absorbable-append, serve_trees-append, trees_noted-append}
 use Rattle.ultra_serial_law.proofs.Fitting.{servings_fit, meetings_fit}
 use Rattle.ultra_serial_law.proofs.KeptTrees.{all_brought, events_kept, requests_of, requests_replied, requests_served, requests_combined, requests_issued}
 use Rattle.ultra_serial_law.proofs.NewRequests.{issues_absorbable}
-use Rattle.ultra_serial_law.proofs.Law.{IsSerial, serial_after, deliveries, any_delivery, servings, meetings, issues_of, events_of, noted_cycle, serial-reply_phase, serial-memory_phase, serial-request_phase}
+use Rattle.ultra_serial_law.proofs.Law.{IsSerial, serial_after, deliveries, any_delivery, servings, meetings, issues_of, events_of, noted_cycle, history_next, serial-reply_phase, serial-memory_phase, serial-request_phase}
 
 sum_zero : (f : Event → ℕ) (es : List Event) → AllByRecursion (λ e. f e ≡ 0) es → sum_of f es ≡ 0
 sum_zero f [] h = refl
@@ -198,10 +200,17 @@ module _ (c : Settings) (range : AreInRange c) (program : List Instr) where
   unfolding after
   next_is n = ap (λ k. (after c program k).events) (let e : suc n ≡ n + 1 = omega arith in e)
 
+  -- what the history of a cycle more has is what its events add
+  listed_next : (n : ℕ) → AreLeavesAdded (serial_list c program n) (history c program n).trees (after c program (suc n)).events (serial_list c program (suc n))
+  listed_next n =
+      let es = (after c program (suc n)).events in
+      subst (λ (h : History). AreLeavesAdded (serial_list c program n) (history c program n).trees es (replayed (given c.initial) h.order)) (sym (history_next c range program n)) (leaves_added (given c.initial) n es (history c program n))
+
   are_explicable : AreExplicable c program
   are_explicable = record {
     absorbable = λ n. subst (λ es. AreAbsorbable (size c) c.most_open (history c program n).trees es) (next_is n) (cycle_comes n (after c program n) (history c program n) (serial_after c range program n) (few_after n));
     served = λ n. subst (λ es. ServeTrees (IsOfMachine c) (history c program n).trees es) (next_is n) (cycle_serves n (after c program n) (history c program n) (serial_after c range program n) (few_after n));
+    listed = λ n. subst (λ k. AreLeavesAdded (serial_list c program n) (history c program n).trees (after c program k).events (serial_list c program k)) (let e : suc n ≡ n + 1 = omega arith in e) (listed_next n);
   }
 
 -- the law

@@ -22,6 +22,7 @@ use Rattle.ultra_model.specs.Machine.{Settings, Machine, Element, size, last_sta
 use Rattle.ultra_model.specs.Phases.{delivery, delivered, deliver, without_reply, arriving_reply, with_request, entering, issue_event, step_at, serving, combination, combinations, lane_after_leaving, arrivals, reply_phase, memory_phase, request_phase, processor_phase, cycle, after}
 use Rattle.ultra_model.specs.Balance.{count}
 use Rattle.ultra_model.specs.Ranges.{AreInRange}
+use Rattle.ultra_model.specs.Trace.{cell_value}
 use Rattle.ultra_model.specs.Sound.{IsSound}
 use Rattle.ultra_model.proofs.Each.{each-append, each-weaker, each-places, each-present, each-joined, each-first, some-weaker, places_at, length-places}
 use Rattle.ultra_model.proofs.Routes.{turns_back, module_small}
@@ -31,7 +32,7 @@ use Rattle.ultra_model.proofs.Neighbours.{other}
 use Rattle.ultra_serial_law.specs.Tree.{NamedRequest, served_leaves}
 use Rattle.ultra_serial_law.specs.Log.{LoggedIssue, LoggedAnswer}
 use Rattle.ultra_serial_law.specs.Legal.{Entry as Done, Has, Cells, with_cell, given_over, given, answered_by, leaf_of_entry, cells_after, replayed, IsLegal}
-use Rattle.ultra_serial_law.specs.SerialList.{History, empty_history, noted, after_event, cells_of, history, serial_list}
+use Rattle.ultra_serial_law.specs.SerialList.{History, empty_history, noted, after_event, history, serial_list}
 use Rattle.ultra_serial_law.specs.Chain.{AreChained, SerializationLaw}
 use Rattle.ultra_serial_law.proofs.Tidy.{IsTidy, tidy-start, tidy-reply_phase, tidy-memory_phase, tidy-request_phase, tidy-processor_phase, that_is}
 use Rattle.ultra_serial_law.proofs.Forest.{leaf_of, built_leaf}
@@ -44,6 +45,7 @@ use Rattle.ultra_serial_law.proofs.ProcessorForest.{issues_noted, noted_issues, 
 use Rattle.ultra_serial_law.proofs.Named.{IsNoIssue, IsLogged}
 use Rattle.ultra_serial_law.proofs.Issued.{is_named, IsEarlier, IsRecorded, same_issues, recorded_noted, recorded_issued, each_issued, sent_own, NewIssue}
 use Rattle.ultra_serial_law.proofs.Answered.{IsAnsweredWell, answered_more, answered_issued, DeliversWell, delivered_answers, IsNoDelivery, same_answers, IsNoAct, same_order, same_trees}
+use Rattle.ultra_serial_law.proofs.LastCycle.{list_at_end}
 use Rattle.ultra_serial_law.proofs.Replays.{replayed-append}
 use Rattle.ultra_serial_law.proofs.Lists.{in_has, has_in, one_place, get_left, get_before, requests_of, count_replayed, each_replayed}
 
@@ -56,7 +58,7 @@ pub record IsSerial (c : Settings) (n : ℕ) (m : Machine) (h : History) : Type 
   pub tidy : IsTidy c m
   pub recorded : IsRecorded c m n h
   pub forest : IsForest c m h.trees h.log.issues (list_of c h)
-  pub cells : (a : ℕ) → cells_after (given c.initial) h.order a ≡ cells_of c m a
+  pub cells : (a : ℕ) → cells_after (given c.initial) h.order a ≡ cell_value c m a
   pub answers : AllByRecursion (IsAnsweredWell h.log.issues (list_of c h)) h.log.answers
 
 -- ---- it is legal
@@ -85,7 +87,7 @@ module _ (c : Settings) (n : ℕ) (m : Machine) (h : History) (w : IsSerial c n 
   agreed_with : (e f : Done) (x : LoggedAnswer) → e ≡ f → x.reply ≡ f.reply → x.reply ≡ e.reply
   agreed_with e f x same r = r ∙ ap (λ d. d.reply) (sym same)
 
-  pub is_legal : IsLegal (given c.initial) h.log (cells_of c m) list
+  pub is_legal : IsLegal (given c.initial) h.log (cell_value c m) list
   is_legal = record {
     issued = λ e k.
         let l = in_holds (λ (d : Done). IsLogged h.log.issues (leaf_of_entry d)) e list logged (in_has list e k) in
@@ -132,7 +134,7 @@ given_past (i ∷ is) n a v l h =
     ap (λ u. given_value is a u) (ap f (other i.0 a (omega (arith, l, h.0)))) ∙ given_past is n a v l h.1
 
 module _ (c : Settings) (range : AreInRange c) where
-  cell-start : (a : ℕ) → cells_of c (start c) a ≡ given_value c.initial a 0
+  cell-start : (a : ℕ) → cell_value c (start c) a ≡ given_value c.initial a 0
   cell-start a =
       let k = a % size c in
       let some = pow_pos c.stages in
@@ -227,7 +229,7 @@ module _ (c : Settings) (range : AreInRange c) (program : List Instr) (n : ℕ) 
   pub delivers_well : (m : Machine) (h : History) → IsSerial c n m h → AllByRecursion (DeliversWell h.log.issues (list_of c h)) (deliveries m)
   delivers_well m h w = each_delivery (DeliversWell h.log.issues (list_of c h)) m (λ p hp. delivered_entry m h w p hp)
 
-  same_cells_replied : (m : Machine) (a : ℕ) → cells_of c (reply_phase c m) a ≡ cells_of c m a
+  same_cells_replied : (m : Machine) (a : ℕ) → cell_value c (reply_phase c m) a ≡ cell_value c m a
   same_cells_replied m a =
       let k = a % size c in
       ap (λ v. slice_index v.cells (a / size c)) (memory_module-reply_phase c m k (module_small c range a)) ∙ ap (λ cs. slice_index cs (a / size c)) (reply_cells (module_at m k) (arriving_reply c m (last_stage c) k))
@@ -289,7 +291,7 @@ module _ (c : Settings) (range : AreInRange c) (program : List Instr) (n : ℕ) 
       (λ s hs. each-places (λ es. AllByRecursion P es) (size c) (λ x. combinations c.wait_places s x (lane_after_leaving c m s x) (arrivals c m s x))
       (λ x hx. each_of_lane P c.wait_places s x (lane_after_leaving c m s x) (arrivals c m s x) (λ a p q g. f s x a p q g)))))
 
-  same_cells_requested : (m : Machine) (a : ℕ) → cells_of c (request_phase c m) a ≡ cells_of c m a
+  same_cells_requested : (m : Machine) (a : ℕ) → cell_value c (request_phase c m) a ≡ cell_value c m a
   same_cells_requested m a =
       let k = a % size c in
       ap (λ v. slice_index v.cells (a / size c)) (memory_module-request_phase c m k (module_small c range a)) ∙ ap (λ cs. slice_index cs (a / size c)) (request_cells c (module_at m k) (entering c m k))
@@ -340,7 +342,7 @@ module _ (c : Settings) (range : AreInRange c) (program : List Instr) (n : ℕ) 
       each-weaker (λ (d : Done). d.number < (element_at m d.pe).issued) (λ (d : Done). AllByRecursion (NewIssue (Fresh m d) n) (issues_of m)) (list_of c h)
       (λ d z. each_issued c program m (NewIssue (Fresh m d) n) (λ p r hp e. (ap (λ q. (element_at m q).issued) (sym (sent_own c program m p r e)), z))) (entries_given m h w)
 
-  same_cells_processed : (m : Machine) (a : ℕ) → cells_of c (processor_phase c program m) a ≡ cells_of c m a
+  same_cells_processed : (m : Machine) (a : ℕ) → cell_value c (processor_phase c program m) a ≡ cell_value c m a
   unfolding processor_phase
   same_cells_processed m a = refl
 
@@ -409,6 +411,7 @@ module _ (c : Settings) (range : AreInRange c) (program : List Instr) where
   are_chained = record {
     grows = λ n. subst (λ k. IsPrefix (serial_list c program n) (serial_list c program k)) (omega arith) (grows_next n);
     legal = λ n. is_legal c n (after c program n) (history c program n) (serial_after n);
+    whole = list_at_end c program;
   }
 
 -- the law

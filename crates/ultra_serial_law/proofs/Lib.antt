@@ -18,11 +18,13 @@ pub mod Lists
 pub mod Law
 pub mod Broken
 pub mod Rest
+pub mod LastCycle
 pub mod Absorbing
 pub mod SmallTrees
 pub mod Fitting
 pub mod KeptTrees
 pub mod NewRequests
+pub mod AddedLeaves
 pub mod ExplicableRuns
 pub mod Taken
 pub mod Grown

@@ -19,6 +19,7 @@ use Rattle.ultra_model.specs.Places.{places, present}
 use Rattle.ultra_model.specs.Machine.{Settings, Machine, size, lane_at, replies_at, module_at, element_at}
 use Rattle.ultra_model.specs.Phases.{serving, memory_phase}
 use Rattle.ultra_model.specs.Ranges.{AreInRange}
+use Rattle.ultra_model.specs.Trace.{cell_value}
 use Rattle.ultra_model.specs.Shape.{HasShape}
 use Rattle.ultra_model.specs.Routed.{module_of, IsPlacedAt, IsEntryAt, IsOwn, IsRouted}
 use Rattle.ultra_model.specs.Balance.{count_option, total, passes, entry_passes, lane_on_way, module_on_way, pending_on_way, on_way, IsBalanced}
@@ -31,7 +32,7 @@ use Rattle.ultra_model.proofs.AtPlaces.{memory_module-memory_phase}
 use Rattle.ultra_serial_law.specs.Tree.{Tree, Kept, tree_of, leaves, leaves_of}
 use Rattle.ultra_serial_law.specs.Log.{LoggedIssue}
 use Rattle.ultra_serial_law.specs.Legal.{Entry as Done, Cells, cells_after, replayed}
-use Rattle.ultra_serial_law.specs.SerialList.{History, noted, after_event, cells_of}
+use Rattle.ultra_serial_law.specs.SerialList.{History, noted, after_event}
 use Rattle.ultra_serial_law.proofs.Series.{sent, value_after, IsSeries, in_series}
 use Rattle.ultra_serial_law.proofs.Tidy.{that_is, total_most}
 use Rattle.ultra_serial_law.proofs.Forest.{built, built_leaf, built_next, built_proper, grown, position_of, record_at}
@@ -77,8 +78,8 @@ module _ (c : Settings) (range : AreInRange c) (m : Machine) (shape : HasShape c
   -- the modules below j have acted
   pub record Acted (j : ℕ) (h : History) : Type 0 where
     pub trees : (p a : ℕ) → j ≤ module_of c a → tree_of p a h.trees ≡ tree_of p a first.trees
-    pub cells_ahead : (a : ℕ) → j ≤ module_of c a → cells_after initial h.order a ≡ cells_of c m a
-    pub cells_done : (a : ℕ) → module_of c a < j → cells_after initial h.order a ≡ cells_of c after a
+    pub cells_ahead : (a : ℕ) → j ≤ module_of c a → cells_after initial h.order a ≡ cell_value c m a
+    pub cells_done : (a : ℕ) → module_of c a < j → cells_after initial h.order a ≡ cell_value c after a
     pub explained : (k : ℕ) → k < j → IfSome (to_serve (module_at m k)) (λ (p : Placed). IsExplained (replayed initial h.order) (built c m is c.stages p.request.pe p.request.cell) (act p.request.op (value_at (module_at m k) p)).1)
     pub grows : (more : List Done) × (replayed initial h.order ≡ replayed initial first.order ++ more)
     pub log : h.log ≡ first.log
@@ -87,14 +88,14 @@ module _ (c : Settings) (range : AreInRange c) (m : Machine) (shape : HasShape c
   small = pow_pos c.stages
 
   -- the cells of a module that acts, and of one that doesn't
-  cells_if_none : (j a : ℕ) → j < size c → module_of c a ≡ j → to_serve (module_at m j) ≡ None → cells_of c after a ≡ cells_of c m a
+  cells_if_none : (j a : ℕ) → j < size c → module_of c a ≡ j → to_serve (module_at m j) ≡ None → cell_value c after a ≡ cell_value c m a
   cells_if_none j a hj e none =
       let at : module_at after (a % size c) ≡ serve (module_at m (a % size c)) = memory_module-memory_phase c m (a % size c) (module_small c range a) in
       let here : to_serve (module_at m (a % size c)) ≡ None = rw e none in
       let stays : after_serving (module_at m (a % size c)) (to_serve (module_at m (a % size c))) ≡ module_at m (a % size c) = ap (λ o. after_serving (module_at m (a % size c)) o) here in
       ap (λ v. slice_index v.cells (a / size c)) (at ∙ stays)
 
-  cells_if_some : (j a : ℕ) (p : Placed) → j < size c → module_of c a ≡ j → to_serve (module_at m j) ≡ Some p → cells_of c after a ≡ slice_index (slice_set (module_at m j).cells p.offset (act p.request.op (value_at (module_at m j) p)).0) (a / size c)
+  cells_if_some : (j a : ℕ) (p : Placed) → j < size c → module_of c a ≡ j → to_serve (module_at m j) ≡ Some p → cell_value c after a ≡ slice_index (slice_set (module_at m j).cells p.offset (act p.request.op (value_at (module_at m j) p)).0) (a / size c)
   cells_if_some j a p hj e some =
       let at : module_at after (a % size c) ≡ serve (module_at m (a % size c)) = memory_module-memory_phase c m (a % size c) (module_small c range a) in
       let moved : serve (module_at m (a % size c)) ≡ serve (module_at m j) = ap (λ k. serve (module_at m k)) e in
@@ -112,7 +113,7 @@ module _ (c : Settings) (range : AreInRange c) (m : Machine) (shape : HasShape c
   }
 
   -- the value that a request finds is that of its cell
-  value_is : (j : ℕ) (p : Placed) → IsPlacedAt c j p → cells_of c m p.request.cell ≡ value_at (module_at m j) p
+  value_is : (j : ℕ) (p : Placed) → IsPlacedAt c j p → cell_value c m p.request.cell ≡ value_at (module_at m j) p
   value_is j p placed =
       ap (λ k. slice_index (module_at m k).cells (p.request.cell / size c)) placed.0.home ∙ ap (λ o. slice_index (module_at m j).cells o) (sym placed.1)
 
@@ -128,14 +129,14 @@ module _ (c : Settings) (range : AreInRange c) (m : Machine) (shape : HasShape c
   explained_later None t r old more now e h = tt
   explained_later (Some u) t r old more now e h = subst (λ es. IsExplained es (t u) (r u)) (sym e) (explained_more old more (t u) (r u) h)
 
-  cell_here : (j a : ℕ) (p : Placed) → j < size c → to_serve (module_at m j) ≡ Some p → IsPlacedAt c j p → a ≡ p.request.cell → cells_of c after a ≡ (act p.request.op (value_at (module_at m j) p)).0
+  cell_here : (j a : ℕ) (p : Placed) → j < size c → to_serve (module_at m j) ≡ Some p → IsPlacedAt c j p → a ≡ p.request.cell → cell_value c after a ≡ (act p.request.op (value_at (module_at m j) p)).0
   cell_here j a p hj some placed e =
       let home : module_of c a ≡ j = ap (λ v. module_of c v) e ∙ placed.0.home in
       let place : a / size c ≡ p.offset = ap (λ v. v / size c) e ∙ sym placed.1 in
       let within : p.offset < length (module_at m j).cells = rw (shape.cells j hj) (placed_within c range j p placed) in
       cells_if_some j a p hj home some ∙ rw place (get_or-set_same (module_at m j).cells p.offset (act p.request.op (value_at (module_at m j) p)).0 0 within)
 
-  cell_beside : (j a : ℕ) (p : Placed) → j < size c → to_serve (module_at m j) ≡ Some p → IsPlacedAt c j p → module_of c a ≡ j → a ≢ p.request.cell → cells_of c after a ≡ cells_of c m a
+  cell_beside : (j a : ℕ) (p : Placed) → j < size c → to_serve (module_at m j) ≡ Some p → IsPlacedAt c j p → module_of c a ≡ j → a ≢ p.request.cell → cell_value c after a ≡ cell_value c m a
   cell_beside j a p hj some placed home apart =
       let places_apart : a / size c ≢ p.offset = λ e. apart (same_cell (size c) a p.request.cell small (home ∙ sym placed.0.home) (e ∙ placed.1)) in
       cells_if_some j a p hj home some
@@ -145,7 +146,7 @@ module _ (c : Settings) (range : AreInRange c) (m : Machine) (shape : HasShape c
   -- a cell of a module that has acted
   cell_done : (j a : ℕ) (p : Placed) (h : History) → j < size c → to_serve (module_at m j) ≡ Some p → IsPlacedAt c j p → module_of c a < suc j → Acted j h → (t : Tree) → AreFor p.request.cell (leaves t)
       → IsSeries t (value_at (module_at m j) p) → cells_after initial h.order p.request.cell ≡ value_at (module_at m j) p → sent t ≡ p.request.op
-      → cells_after (cells_after initial h.order) (leaves t) a ≡ cells_of c after a
+      → cells_after (cells_after initial h.order) (leaves t) a ≡ cell_value c after a
   cell_done j a p h hj some placed l g t are_for series value op =
       let before = cells_after initial h.order in
       ⊎_elim
@@ -217,7 +218,7 @@ module _ (c : Settings) (range : AreInRange c) (m : Machine) (shape : HasShape c
         rw (noted_present n (event_at j) (map event_at (range_with_len (j + 1) k)) h)
         (acted_from n k (j + 1) (after_some n (event_at j) h) (omega (arith, e)) (subst (λ i. Acted i (after_some n (event_at j) h)) next one))
 
-    pub all_acted : (n : ℕ) → ((a : ℕ) → cells_after initial first.order a ≡ cells_of c m a) → Acted (size c) (noted n all_served first)
+    pub all_acted : (n : ℕ) → ((a : ℕ) → cells_after initial first.order a ≡ cell_value c m a) → Acted (size c) (noted n all_served first)
     unfolding places
     all_acted n cells = acted_from n (size c) 0 first (omega arith) record {
       trees = λ p a l. refl;
@@ -269,7 +270,7 @@ module _ (c : Settings) (range : AreInRange c) (m : Machine) (shape : HasShape c
         ∙ (same_grown s (position_of c s p a) (built c after is s p a) (built c m is s p a) (λ q. built c after is s q a) (λ q. built c m is s q a) (record_at c m s p a) (same_tree s p a) (λ q. same_tree s q a)
         ∙ sym (built_next c m is s p a)))
 
-    module _ (n : ℕ) (cells : (a : ℕ) → cells_after initial first.order a ≡ cells_of c m a) (is_list : list ≡ replayed initial first.order) where
+    module _ (n : ℕ) (cells : (a : ℕ) → cells_after initial first.order a ≡ cell_value c m a) (is_list : list ≡ replayed initial first.order) where
       abbrev last : History
       last = noted n all_served first
 

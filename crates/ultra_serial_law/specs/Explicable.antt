@@ -1,13 +1,14 @@
 -- which events the trees that are kept can absorb, and that they can absorb those of every run
-use Rattle.std.specs.Prelude.{◌≡◌, ◌≢◌, ◌<◌, ◌≤◌, ◌+◌, ◌==◌, ℕ, List, [], ◌∷◌, length, Bool, true, false, Option, Some, None, IsSome, IfSome, slice_get}
+use Rattle.std.specs.Prelude.{◌≡◌, ◌≢◌, ◌<◌, ◌≤◌, ◌+◌, ◌==◌, ℕ, List, [], ◌∷◌, ◌++◌, length, map, Option, Some, None, IsSome, IfSome, slice_get}
 use Rattle.ultra_msg.specs.declared.Event.{Event}
 use Rattle.ultra_msg.specs.declared.Event.TheVariants.{Delivered, Served, Combined, Issued}
 use Rattle.ultra_isa.specs.declared.Instr.{Instr}
 use Rattle.ultra_model.specs.Machine.{Settings, size}
 use Rattle.ultra_model.specs.Phases.{after}
 use Rattle.ultra_model.specs.Ranges.{AreInRange}
-use Rattle.ultra_serial_law.specs.Tree.{Tree, NamedRequest, leaves, height, Kept, tree_of, trees_after}
-use Rattle.ultra_serial_law.specs.SerialList.{history}
+use Rattle.ultra_serial_law.specs.Tree.{Tree, NamedRequest, leaves, height, Kept, tree_of, trees_after, leaves_of}
+use Rattle.ultra_serial_law.specs.Legal.{Entry, leaf_of_entry}
+use Rattle.ultra_serial_law.specs.SerialList.{history, serial_list}
 use Rattle.ultra_model.specs.Balance.{weight}
 
 -- how many of the trees are those of requests of a processing element
@@ -51,13 +52,26 @@ pub record IsOfMachine (c : Settings) (t : Tree) : Type 0 where
   pub different : (j k : ℕ) (l r : NamedRequest) → slice_get (leaves t) j ≡ Some l
       → slice_get (leaves t) k ≡ Some r → l.pe ≡ r.pe → j ≡ k
 
--- in every cycle the trees so far can absorb each event
+-- how a serial list grows: each event adds a piece to it, and the requests of the piece are the
+-- leaves of the tree that the event's act serves, in serial order
+abbrev pub AreLeavesAdded : List Entry → List Kept → List Event → List Entry → Type 0
+AreLeavesAdded list ks [] longer = list ≡ longer
+AreLeavesAdded list ks (e ∷ es) longer =
+    (piece : List Entry)
+    × (map (λ (e : Entry). leaf_of_entry e) piece ≡ leaves_of (served_tree ks e))
+    × AreLeavesAdded (list ++ piece) (trees_after ks e) es longer
+
+-- in every cycle the trees so far can absorb each event, and the leaves of the trees that are served
+-- are what the cycle adds to the serial list
 pub record AreExplicable (c : Settings) (program : List Instr) : Type 0 where
   pub absorbable : (n : ℕ)
       → AreAbsorbable (size c) c.most_open (history c program n).trees
       (after c program (n + 1)).events
   pub served : (n : ℕ)
       → ServeTrees (IsOfMachine c) (history c program n).trees (after c program (n + 1)).events
+  pub listed : (n : ℕ)
+      → AreLeavesAdded (serial_list c program n) (history c program n).trees
+      (after c program (n + 1)).events (serial_list c program (n + 1))
 
 -- for all settings in their ranges, every program and every number of cycles
 abbrev pub ExplainingLaw : Type 0

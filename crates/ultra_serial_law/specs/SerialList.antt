@@ -1,13 +1,13 @@
 -- the serial list of a run: what was served, by cycle and module, each served request as the leaves
 -- of its tree in serial order
-use Rattle.std.specs.Prelude.{ℕ, zero, suc, ◌%◌, ◌/◌, List, [], ◌∷◌, ◌++◌, slice_index}
+use Rattle.std.specs.Prelude.{ℕ, zero, suc, List, [], ◌∷◌, ◌++◌}
 use Rattle.ultra_msg.specs.declared.Event.{Event}
 use Rattle.ultra_isa.specs.declared.Instr.{Instr}
-use Rattle.ultra_model.specs.Machine.{Settings, Machine, size, module_at}
+use Rattle.ultra_model.specs.Machine.{Settings}
 use Rattle.ultra_model.specs.Phases.{after}
 use Rattle.ultra_serial_law.specs.Tree.{NamedRequest, Kept, trees_after, served_leaves}
 use Rattle.ultra_serial_law.specs.Log.{Log, empty_log, logged}
-use Rattle.ultra_serial_law.specs.Legal.{Cells, Entry, given, replayed}
+use Rattle.ultra_serial_law.specs.Legal.{Entry, given, replayed}
 
 -- what a run leaves behind: the trees that are kept, the requests that were served, in order, and
 -- the log
@@ -32,10 +32,6 @@ noted cycle [] h = h
 noted cycle (e ∷ es) h = noted cycle es (after_event cycle h e)
 
 module _ (c : Settings) where
-  -- the cells of a machine, by address
-  abbrev pub cells_of : Machine → Cells
-  cells_of m = λ a. slice_index (module_at m (a % size c)).cells (a / size c)
-
   -- the history of the first n cycles
   unfoldable pub history : List Instr → ℕ → History
   history program zero = empty_history

@@ -14,14 +14,18 @@ pub use records::{Entry, Log, LoggedAnswer, LoggedIssue, NamedRequest, SerialLis
 
 /// The serialization law, as this function's contract: for all settings in their ranges, every program and every
 /// number of cycles, the serial lists of the cycles so far are a chain. Each is a prefix of the next, and each
-/// explains the replies that were given and the cells: a request stands in it at most once, every answer is its
+/// explains the replies that were given and the cells: a request is in it at most once, every answer is its
 /// entry's reply in a replay of the list, the replay ends with the cells, and a request that was answered before
-/// another was issued stands before it.
+/// another was issued comes before it. The list is complete where the trace ends.
+///
+/// Along every run each event can be absorbed by the trees kept so far, and each act adds to the list the leaves of the
+/// tree that it serves (see [`explaining_law`]).
 ///
 /// The serialization principle is that of the 1983 paper; the machine is this project's profile of it. The function
 /// itself does nothing.
 pub fn serialization_law()
     ensures chained { SerializationLaw }
+    ensures explained { ExplainingLaw }
 {}
 
 /// The replies of a run are the answers of its log, as this function's contract: for all settings in their ranges, every
@@ -38,7 +42,8 @@ pub fn reply_law()
 /// Each event of a run can be absorbed by the trees kept so far, as this function's contract. For all settings in their
 /// ranges, every program, every cycle and each of its events, one after the other: a request that is served or combines
 /// is held, and one that is issued isn't held yet, and there is room for it. The tree of a request that is served is no
-/// higher than the stages, and has at most one leaf of each processing element. The function itself does nothing.
+/// higher than the stages, and has at most one leaf of each processing element. Its leaves, in serial order, are the
+/// piece that its act adds to the serial list, and nothing else adds to it. The function itself does nothing.
 pub fn explaining_law()
     ensures explained { ExplainingLaw }
 {}

@@ -62,7 +62,7 @@ pub struct LoggedAnswer {
 }
 
 /// What a machine issued and answered in its first cycles.
-#[derive(Drop)]
+#[derive(PartialEq, Eq, Debug, Drop)]
 pub struct Log {
     /// All issues, by cycle, then by processing element.
     pub issues: Vec<LoggedIssue>,

@@ -1,5 +1,6 @@
 use Rattle.ultra_serial_law.proofs.Law.{serialization}
+use Rattle.ultra_serial_law.proofs.ExplicableRuns.{explaining}
 use Rattle.ultra_serial_law.proofs.serialization_law.Goals as goal
 
 pub returns : goal.returns
-returns c = record { chained = serialization }
+returns c = record { chained = serialization; explained = explaining }
