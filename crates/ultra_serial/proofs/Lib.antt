@@ -1,5 +1,7 @@
 pub mod ByPair
+pub mod Places
 pub mod CellsHeld
+pub mod DenseCells
 pub mod Stacks
 pub mod Turns
 pub mod Cycles

@@ -1,6 +1,8 @@
 pub mod ByPair
+pub mod ByName
 pub mod RecordsByName
 pub mod Memory
+pub mod DenseCells
 pub mod PendingRequests
 pub mod Following
 pub mod Ordered

@@ -1,7 +1,7 @@
 -- what it is to keep a log and entries by name
 use Rattle.std.specs.Prelude.{ℕ, List}
 use Rattle.ultra_serial.specs.declared.records_by_name.RecordsByName.{RecordsByName}
-use Rattle.ultra_serial.specs.ByPair.{list_of}
+use Rattle.ultra_serial.specs.ByName.{list_named}
 use Rattle.ultra_serial_law.specs.declared.records.LoggedIssue.{LoggedIssue}
 use Rattle.ultra_serial_law.specs.declared.records.LoggedAnswer.{LoggedAnswer}
 use Rattle.ultra_serial_law.specs.Log.{Log}
@@ -26,6 +26,6 @@ abbrev pub AreEntriesByName : (ℕ → ℕ → List Entry) → List Entry → Ty
 AreEntriesByName lists whole = AreByName (λ (e : Entry). e.pe) (λ (e : Entry). e.number) lists whole
 
 pub record Holds (b : RecordsByName) (log : Log) (list : List Entry) : Type 0 where
-  pub issues : AreIssuesByName (list_of b.issues.lists) log.issues
-  pub answers : AreAnswersByName (list_of b.answers.lists) log.answers
-  pub entries : AreEntriesByName (list_of b.entries.lists) list
+  pub issues : AreIssuesByName (list_named b.issues) log.issues
+  pub answers : AreAnswersByName (list_named b.answers) log.answers
+  pub entries : AreEntriesByName (list_named b.entries) list

@@ -5,14 +5,14 @@ ghost use Rattle.ultra_serial_law.specs.declared.records.LoggedAnswer.{LoggedAns
 ghost use Rattle.ultra_serial_law.specs.declared.records.Entry.{Entry as EntryOf};
 ghost use Rattle.ultra_serial_law.specs.Log.{Log as LogOf, log_of};
 ghost use Rattle.ultra_serial_law.specs.Legal.{Cells, given, Has, IsAnswerTo, IsLegal};
-ghost use Rattle.ultra_serial.specs.Memory.{cell_in};
+ghost use Rattle.ultra_serial.specs.DenseCells.{dense_cells};
 ghost use Rattle.ultra_serial.specs.Breach.{cells_past, ExplainsCheckFault};
 ghost use Rattle.ultra_serial.specs.Examined.{AreExplained, IsListed, IsFirstMissingAnswer, IsFine, IsWrongAt};
 ghost use Rattle.ultra_serial.specs.RecordsByName.{Holds};
 
+use crate::dense_memory::DenseMemory;
 use crate::examining::{after_issues, fault_of, is_answer_to};
 use crate::keys::RequestName;
-use crate::memory::SerialMemory;
 use crate::records_by_name::RecordsByName;
 use crate::{Entry, Log, LoggedAnswer};
 use std::alloc::{AllocError, Global};
@@ -38,7 +38,7 @@ pub enum BreachKind {
 }
 
 /// Why a list is not accepted.
-#[derive(Clone, Copy, Debug, Drop)]
+#[derive(Clone, Copy, PartialEq, Eq, Debug, Drop)]
 pub enum CheckFault {
     /// Memory was refused.
     NoMemory,
@@ -69,9 +69,9 @@ pub fn check(
     ensures legal { OnOk result (IsLegal (given initial.now) (log_of log.now) (given cells.now) list.now) }
     ensures breach { IfErr result (ExplainsCheckFault (given initial.now) (log_of log.now) (given cells.now) list.now) }
 {
-    let mut memory = SerialMemory::new(alloc, initial)?;
+    let mut memory = DenseMemory::new(alloc, initial)?;
     examine(alloc, log, list, &mut memory)?;
-    let wanted = SerialMemory::new(alloc, cells)?;
+    let wanted = DenseMemory::new(alloc, cells)?;
     let of_initial = lowest_given(&memory, &wanted, initial, None);
     let of_cells = lowest_given(&memory, &wanted, cells, of_initial);
     if let Some(cell) = lowest_used(&memory, &wanted, list, of_cells) {
@@ -85,12 +85,12 @@ fn examine(
     alloc: Global,
     log: &Log,
     list: &[Entry],
-    memory: &mut SerialMemory,
+    memory: &mut DenseMemory,
 ) -> Result<(), CheckFault>
-    ensures cells { OnOk result (cell_in memory.new ≡ cells_past (cell_in memory.old) list.now) }
-    ensures explained { OnOk result (AreExplained (cell_in memory.old) (log_of log.now) list.now) }
+    ensures cells { OnOk result (dense_cells memory.new ≡ cells_past (dense_cells memory.old) list.now) }
+    ensures explained { OnOk result (AreExplained (dense_cells memory.old) (log_of log.now) list.now) }
     ensures answered { OnOk result ((a : AnswerOf) → Has (log_of log.now).answers a → IsListed list.now a) }
-    ensures breach { (final : Cells) → IfErr result (ExplainsCheckFault (cell_in memory.old) (log_of log.now) final list.now) }
+    ensures breach { (final : Cells) → IfErr result (ExplainsCheckFault (dense_cells memory.old) (log_of log.now) final list.now) }
 {
     let mut names = RecordsByName::new(alloc, log)?;
     replay(list, &mut names, memory)?;
@@ -104,12 +104,12 @@ fn examine(
 fn replay(
     list: &[Entry],
     names: &mut RecordsByName,
-    memory: &mut SerialMemory,
+    memory: &mut DenseMemory,
 ) -> Result<(), CheckFault>
-    ensures cells { OnOk result (cell_in memory.new ≡ cells_past (cell_in memory.old) list.now) }
+    ensures cells { OnOk result (dense_cells memory.new ≡ cells_past (dense_cells memory.old) list.now) }
     ensures names { OnOk result ((log : LogOf) → Holds names.old log [] → Holds names.new log list.now) }
-    ensures explained { OnOk result ((log : LogOf) → Holds names.old log [] → AreExplained (cell_in memory.old) log list.now) }
-    ensures breach { (log : LogOf) (final : Cells) → Holds names.old log [] → IfErr result (ExplainsCheckFault (cell_in memory.old) log final list.now) }
+    ensures explained { OnOk result ((log : LogOf) → Holds names.old log [] → AreExplained (dense_cells memory.old) log list.now) }
+    ensures breach { (log : LogOf) (final : Cells) → Holds names.old log [] → IfErr result (ExplainsCheckFault (dense_cells memory.old) log final list.now) }
 {
     let mut from = 0;
     for (index, entry) in list.iter().enumerate() {
@@ -159,14 +159,14 @@ fn is_listed(answer: &LoggedAnswer, list: &[Entry]) -> bool
 
 /// The lowest address at which two memories differ, among these and what was found before.
 fn lowest_given(
-    left: &SerialMemory,
-    right: &SerialMemory,
+    left: &DenseMemory,
+    right: &DenseMemory,
     given: &[(Cell, Word)],
     lowest: Option<Cell>,
 ) -> Option<Cell>
-    ensures kept { (a : ℕ) → IsFine (cell_in left.now) (cell_in right.now) lowest a → IsFine (cell_in left.now) (cell_in right.now) result a }
-    ensures covered { (k : ℕ) (i : ℕ × ℕ) → slice_get given.now k ≡ Some i → IsFine (cell_in left.now) (cell_in right.now) result i.0 }
-    ensures wrong { IsWrongAt (cell_in left.now) (cell_in right.now) lowest → IsWrongAt (cell_in left.now) (cell_in right.now) result }
+    ensures kept { (a : ℕ) → IsFine (dense_cells left.now) (dense_cells right.now) lowest a → IsFine (dense_cells left.now) (dense_cells right.now) result a }
+    ensures covered { (k : ℕ) (i : ℕ × ℕ) → slice_get given.now k ≡ Some i → IsFine (dense_cells left.now) (dense_cells right.now) result i.0 }
+    ensures wrong { IsWrongAt (dense_cells left.now) (dense_cells right.now) lowest → IsWrongAt (dense_cells left.now) (dense_cells right.now) result }
 {
     let mut found = lowest;
     for (cell, _) in given {
@@ -177,14 +177,14 @@ fn lowest_given(
 
 /// The lowest address at which two memories differ, among those of the entries and what was found before.
 fn lowest_used(
-    left: &SerialMemory,
-    right: &SerialMemory,
+    left: &DenseMemory,
+    right: &DenseMemory,
     list: &[Entry],
     lowest: Option<Cell>,
 ) -> Option<Cell>
-    ensures kept { (a : ℕ) → IsFine (cell_in left.now) (cell_in right.now) lowest a → IsFine (cell_in left.now) (cell_in right.now) result a }
-    ensures covered { (k : ℕ) (e : EntryOf) → slice_get list.now k ≡ Some e → IsFine (cell_in left.now) (cell_in right.now) result e.cell }
-    ensures wrong { IsWrongAt (cell_in left.now) (cell_in right.now) lowest → IsWrongAt (cell_in left.now) (cell_in right.now) result }
+    ensures kept { (a : ℕ) → IsFine (dense_cells left.now) (dense_cells right.now) lowest a → IsFine (dense_cells left.now) (dense_cells right.now) result a }
+    ensures covered { (k : ℕ) (e : EntryOf) → slice_get list.now k ≡ Some e → IsFine (dense_cells left.now) (dense_cells right.now) result e.cell }
+    ensures wrong { IsWrongAt (dense_cells left.now) (dense_cells right.now) lowest → IsWrongAt (dense_cells left.now) (dense_cells right.now) result }
 {
     let mut found = lowest;
     for entry in list {
@@ -194,10 +194,10 @@ fn lowest_used(
 }
 
 /// The lower of an address that was found before and this one, if the memories differ at it.
-fn lower(left: &SerialMemory, right: &SerialMemory, cell: Cell, found: Option<Cell>) -> Option<Cell>
-    ensures kept { (a : ℕ) → IsFine (cell_in left.now) (cell_in right.now) found a → IsFine (cell_in left.now) (cell_in right.now) result a }
-    ensures covered { IsFine (cell_in left.now) (cell_in right.now) result cell }
-    ensures wrong { IsWrongAt (cell_in left.now) (cell_in right.now) found → IsWrongAt (cell_in left.now) (cell_in right.now) result }
+fn lower(left: &DenseMemory, right: &DenseMemory, cell: Cell, found: Option<Cell>) -> Option<Cell>
+    ensures kept { (a : ℕ) → IsFine (dense_cells left.now) (dense_cells right.now) found a → IsFine (dense_cells left.now) (dense_cells right.now) result a }
+    ensures covered { IsFine (dense_cells left.now) (dense_cells right.now) result cell }
+    ensures wrong { IsWrongAt (dense_cells left.now) (dense_cells right.now) found → IsWrongAt (dense_cells left.now) (dense_cells right.now) result }
 {
     if left.value(cell) == right.value(cell) {
         return found;

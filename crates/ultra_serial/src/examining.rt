@@ -7,14 +7,14 @@ ghost use Rattle.ultra_serial_law.specs.declared.records.LoggedAnswer.{LoggedAns
 ghost use Rattle.ultra_serial_law.specs.declared.records.Entry.{Entry as EntryOf};
 ghost use Rattle.ultra_serial_law.specs.Log.{Log as LogOf};
 ghost use Rattle.ultra_serial_law.specs.Legal.{Has, IsIssueNamed, IsAnswerTo, IsIssueOf, with_cell};
-ghost use Rattle.ultra_serial.specs.Memory.{cell_in};
+ghost use Rattle.ultra_serial.specs.DenseCells.{dense_cells};
 ghost use Rattle.ultra_serial.specs.Breach.{HasNameOf};
 ghost use Rattle.ultra_serial.specs.Examined.{Finds};
 ghost use Rattle.ultra_serial.specs.RecordsByName.{Holds};
 
 use crate::checking::BreachKind;
+use crate::dense_memory::DenseMemory;
 use crate::keys::RequestName;
-use crate::memory::SerialMemory;
 use crate::records_by_name::RecordsByName;
 use crate::{Entry, LoggedAnswer, LoggedIssue};
 use std::alloc::AllocError;
@@ -25,11 +25,11 @@ use std::alloc::AllocError;
 pub(crate) fn fault_of(
     names: &RecordsByName,
     from: u64,
-    memory: &mut SerialMemory,
+    memory: &mut DenseMemory,
     entry: &Entry,
 ) -> Result<Option<BreachKind>, AllocError>
-    ensures finds { (log : LogOf) (before : List EntryOf) → Holds names.now log before → IfOk result (λ found. Finds log before from (cell_in memory.old) entry.now found) }
-    ensures acted { IfOk result (λ found. found ≡ None → cell_in memory.new ≡ with_cell (cell_in memory.old) entry.now.cell (effect entry.now.op (cell_in memory.old entry.now.cell)).0) }
+    ensures finds { (log : LogOf) (before : List EntryOf) → Holds names.now log before → IfOk result (λ found. Finds log before from (dense_cells memory.old) entry.now found) }
+    ensures acted { IfOk result (λ found. found ≡ None → dense_cells memory.new ≡ with_cell (dense_cells memory.old) entry.now.cell (effect entry.now.op (dense_cells memory.old entry.now.cell)).0) }
 {
     let name = RequestName {
         pe: entry.pe,

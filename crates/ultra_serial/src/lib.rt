@@ -1,8 +1,10 @@
 //! The serial order of what a machine's requests did, its log, and whether such an order explains a log.
 #![tactic(auto)]
 
+mod by_name;
 mod by_pair;
 mod checking;
+mod dense_memory;
 mod examining;
 mod keys;
 mod log_recorder;
@@ -11,6 +13,7 @@ mod ordered_run;
 mod pending_requests;
 mod records_by_name;
 mod serial_state;
+mod small_list;
 
 pub use checking::{BreachKind, CheckFault, check};
 pub use log_recorder::log;

@@ -63,7 +63,7 @@ impl SerialMemory {
     }
 
     /// Gives a cell a value.
-    fn set(&mut self, cell: Cell, word: Word) -> Result<(), AllocError>
+    pub(crate) fn set(&mut self, cell: Cell, word: Word) -> Result<(), AllocError>
         ensures cells { OnOk result (cell_in self.new ≡ with_cell (cell_in self.old) cell word) }
         ensures unchanged { OnErr result (self.new ≡ self.old) }
         ensures absent { OnErr result (value_in self.old cell ≡ None) }

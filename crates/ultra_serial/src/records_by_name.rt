@@ -1,12 +1,12 @@
 //! A log and entries, each kept under its name.
 
-ghost use Rattle.std.specs.Prelude.{List, [], ◌∷◌, ◌++◌, IfOk, OnOk};
+ghost use Rattle.std.specs.Prelude.{◌≡◌, ℕ, List, [], ◌∷◌, ◌++◌, IfOk, OnOk};
 ghost use Rattle.ultra_serial_law.specs.declared.records.Entry.{Entry as EntryOf};
 ghost use Rattle.ultra_serial_law.specs.Log.{Log as LogOf, log_of};
-ghost use Rattle.ultra_serial.specs.ByPair.{list_of};
+ghost use Rattle.ultra_serial.specs.ByName.{list_named};
 ghost use Rattle.ultra_serial.specs.RecordsByName.{AreIssuesByName, AreAnswersByName, Holds};
 
-use crate::by_pair::ListsByPair;
+use crate::by_name::ListsByName;
 use crate::keys::RequestName;
 use crate::{Entry, Log, LoggedAnswer, LoggedIssue};
 use std::alloc::{AllocError, Global};
@@ -15,11 +15,11 @@ use std::alloc::{AllocError, Global};
 #[derive(Drop)]
 pub(crate) struct RecordsByName {
     /// The issues, under their names.
-    pub issues: ListsByPair<RequestName, LoggedIssue>,
+    pub issues: ListsByName<LoggedIssue>,
     /// The answers, under the names of their requests.
-    pub answers: ListsByPair<RequestName, LoggedAnswer>,
+    pub answers: ListsByName<LoggedAnswer>,
     /// The entries, under their names.
-    pub entries: ListsByPair<RequestName, Entry>,
+    pub entries: ListsByName<Entry>,
 }
 
 impl RecordsByName {
@@ -29,8 +29,8 @@ impl RecordsByName {
     {
         Ok(RecordsByName {
             issues: issues_by_name(alloc, log.issues.as_slice())?,
-            answers: answers_by_name(alloc, log.answers.as_slice())?,
-            entries: ListsByPair::new(alloc),
+            answers: answers_by_name(alloc, log.issues.as_slice(), log.answers.as_slice())?,
+            entries: empty_lists(alloc, log.issues.as_slice())?,
         })
     }
 
@@ -46,14 +46,28 @@ impl RecordsByName {
     }
 }
 
+/// Empty lists, with places for the names of issues.
+fn empty_lists<T: Drop>(alloc: Global, issues: &[LoggedIssue]) -> Result<ListsByName<T>, AllocError>
+    ensures { IfOk result (λ named. (p n : ℕ) → list_named named p n ≡ []) }
+{
+    let mut named = ListsByName::new(alloc)?;
+    for issue in issues {
+        named.make_place(RequestName {
+            pe: issue.pe,
+            number: issue.number,
+        })?;
+    }
+    Ok(named)
+}
+
 /// Issues under their names.
 fn issues_by_name(
     alloc: Global,
     issues: &[LoggedIssue],
-) -> Result<ListsByPair<RequestName, LoggedIssue>, AllocError>
-    ensures { IfOk result (λ named. AreIssuesByName (list_of named.lists) issues.now) }
+) -> Result<ListsByName<LoggedIssue>, AllocError>
+    ensures { IfOk result (λ named. AreIssuesByName (list_named named) issues.now) }
 {
-    let mut named = ListsByPair::new(alloc);
+    let mut named = empty_lists(alloc, issues)?;
     for issue in issues {
         let name = RequestName {
             pe: issue.pe,
@@ -64,14 +78,15 @@ fn issues_by_name(
     Ok(named)
 }
 
-/// Answers under their names.
+/// Answers under their names, with places for those of issues.
 fn answers_by_name(
     alloc: Global,
+    issues: &[LoggedIssue],
     answers: &[LoggedAnswer],
-) -> Result<ListsByPair<RequestName, LoggedAnswer>, AllocError>
-    ensures { IfOk result (λ named. AreAnswersByName (list_of named.lists) answers.now) }
+) -> Result<ListsByName<LoggedAnswer>, AllocError>
+    ensures { IfOk result (λ named. AreAnswersByName (list_named named) answers.now) }
 {
-    let mut named = ListsByPair::new(alloc);
+    let mut named = empty_lists(alloc, issues)?;
     for answer in answers {
         let name = RequestName {
             pe: answer.pe,

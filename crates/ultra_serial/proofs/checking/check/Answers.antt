@@ -3,7 +3,7 @@ use Rattle.std.proofs.lemmas.Result.{err_from_is_err_and}
 use Rattle.ultra_serial.specs.declared.checking.BreachKind.TheVariants.{WrongCell}
 use Rattle.ultra_serial_law.specs.Log.{log_of}
 use Rattle.ultra_serial_law.specs.Legal.{Cells, given}
-use Rattle.ultra_serial.specs.Memory.{cell_in}
+use Rattle.ultra_serial.specs.DenseCells.{dense_cells}
 use Rattle.ultra_serial.specs.Breach.{cells_past, ExplainsCheckFault}
 use Rattle.ultra_serial.specs.Examined.{AreExplained, IsFine, IsWrongAt}
 use Rattle.ultra_serial.proofs.Explaining.{breach_explained, fine_everywhere, wrong_cell_found, legal_found}
@@ -31,10 +31,10 @@ returns-in-Some-clause-breach c =
     let cs = c.args.cells.now in
     let list = c.args.list.now in
     let log = log_of c.args.log.now in
-    let r = cell_in c.examine.new.memory in
+    let r = dense_cells c.examine.new.memory in
     let explained = subst (λ (m : Cells). AreExplained m log list) c.in_ok-memory.ensures c.in_ok-examine.ensures.explained in
     let past = c.in_ok-examine.ensures.cells ∙ ap (λ (m : Cells). cells_past m list) c.in_ok-memory.ensures in
-    let w = cell_in c.in_ok-wanted.wanted in
+    let w = dense_cells c.in_ok-wanted.wanted in
     let cell = c.in-Some.cell in
     let listed = c.in_ok-examine.ensures.answered in
     let wrong : IsWrongAt r w c.lowest_used.result = c.lowest_used.ensures.wrong (c.lowest_given-of_cells.ensures.wrong (c.lowest_given-of_initial.ensures.wrong tt)) in
@@ -52,10 +52,10 @@ returns-clause-legal c =
     let cs = c.args.cells.now in
     let list = c.args.list.now in
     let log = log_of c.args.log.now in
-    let r = cell_in c.examine.new.memory in
+    let r = dense_cells c.examine.new.memory in
     let explained = subst (λ (m : Cells). AreExplained m log list) c.in_ok-memory.ensures c.in_ok-examine.ensures.explained in
     let past = c.in_ok-examine.ensures.cells ∙ ap (λ (m : Cells). cells_past m list) c.in_ok-memory.ensures in
-    let w = cell_in c.in_ok-wanted.wanted in
+    let w = dense_cells c.in_ok-wanted.wanted in
     let listed = c.in_ok-examine.ensures.answered in
     let fine = fine_everywhere is cs list r w c.lowest_used.result past c.in_ok-wanted.ensures
     (λ k i at. c.lowest_used.ensures.kept i.0 (c.lowest_given-of_cells.ensures.kept i.0 (c.lowest_given-of_initial.ensures.covered k i at)))

@@ -1,7 +1,7 @@
 use Rattle.std.proofs.lemmas.Result.{err_from_is_err_and}
 use Rattle.ultra_serial.specs.declared.checking.BreachKind.TheVariants.{Missing}
 use Rattle.ultra_serial_law.specs.Log.{log_of}
-use Rattle.ultra_serial.specs.Memory.{cell_in}
+use Rattle.ultra_serial.specs.DenseCells.{dense_cells}
 use Rattle.ultra_serial.proofs.Explaining.{breach_explained, first_missing_fault}
 use Rattle.ultra_serial.proofs.checking.examine.Goals as goal
 
@@ -17,7 +17,7 @@ returns-in_err-replay-clause-breach c = λ final.
 
 pub returns-in-Some-clause-breach : goal.returns-in-Some-clause-breach
 returns-in-Some-clause-breach c = λ final.
-    let initial = cell_in c.args.memory.now in
+    let initial = dense_cells c.args.memory.now in
     let log = log_of c.args.log.now in
     let list = c.args.list.now in
     breach_explained initial log final list Missing c.in-Some.index (first_missing_fault initial log final list (c.in_ok-replay.ensures.explained log c.in_ok-names.ensures) c.in-Some.index

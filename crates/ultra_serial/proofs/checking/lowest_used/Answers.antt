@@ -1,7 +1,7 @@
 use Rattle.std.proofs.Common.{arith}
 use Rattle.std.proofs.lemmas.Option.{slice_get_within}
 use Rattle.ultra_serial_law.specs.declared.records.Entry.{Entry}
-use Rattle.ultra_serial.specs.Memory.{cell_in}
+use Rattle.ultra_serial.specs.DenseCells.{dense_cells}
 use Rattle.ultra_serial.specs.Examined.{IsFine}
 use Rattle.ultra_serial.proofs.Searching.{none_below, more_below}
 use Rattle.ultra_serial.proofs.checking.lowest_used.Goals as goal
@@ -9,7 +9,7 @@ use Rattle.ultra_serial.proofs.checking.lowest_used.Goals as goal
 pub loop-entry-init : goal.loop-entry-init
 loop-entry-init c = record {
   kept = λ a h. h;
-  covered = none_below c.args.list.now (λ (e : Entry). IsFine (cell_in c.args.left.now) (cell_in c.args.right.now) c.args.lowest e.cell);
+  covered = none_below c.args.list.now (λ (e : Entry). IsFine (dense_cells c.args.left.now) (dense_cells c.args.right.now) c.args.lowest e.cell);
   wrong = λ h. h;
 }
 
@@ -18,7 +18,7 @@ loop-entry-preserved c =
     let i = c.loop-entry.invariant in
     record {
       kept = λ a h. c.lower-found.ensures.kept a (i.kept a h);
-      covered = more_below c.args.list.now (λ (e : Entry). IsFine (cell_in c.args.left.now) (cell_in c.args.right.now) c.lower-found.result e.cell) c.loop-entry.entry-index _
+      covered = more_below c.args.list.now (λ (e : Entry). IsFine (dense_cells c.args.left.now) (dense_cells c.args.right.now) c.lower-found.result e.cell) c.loop-entry.entry-index _
           (λ k e l at. c.lower-found.ensures.kept e.cell (i.covered k e l at)) c.lower-found.ensures.covered;
       wrong = λ h. c.lower-found.ensures.wrong (i.wrong h);
     }

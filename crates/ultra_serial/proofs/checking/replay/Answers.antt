@@ -5,7 +5,7 @@ use Rattle.std.proofs.lemmas.Result.{err_from_is_err_and}
 use Rattle.ultra_msg.specs.Act.{act}
 use Rattle.ultra_serial_law.specs.Log.{Log, empty_log}
 use Rattle.ultra_serial_law.specs.Legal.{Cells, with_cell}
-use Rattle.ultra_serial.specs.Memory.{cell_in}
+use Rattle.ultra_serial.specs.DenseCells.{dense_cells}
 use Rattle.ultra_serial.specs.Breach.{cells_past}
 use Rattle.ultra_serial.specs.Examined.{Finds, IsFirstAfter, AreExplained}
 use Rattle.ultra_serial.proofs.Explaining.{past_more, explained_none, explained_more, first_none, first_more, first_fault, breach_explained}
@@ -19,7 +19,7 @@ no_log = empty_log
 
 pub loop-index-init : goal.loop-index-init
 loop-index-init c = record {
-  explained = λ log h. explained_none (cell_in c.args.memory.now) log;
+  explained = λ log h. explained_none (dense_cells c.args.memory.now) log;
   cells = refl;
   first = λ log h. first_none log;
   names = λ log h. h;
@@ -38,7 +38,7 @@ returns-in_err-add-clause-breach c = λ log final h.
 
 pub returns-in-Some-clause-breach : goal.returns-in-Some-clause-breach
 returns-in-Some-clause-breach c = λ log final h.
-    let initial = cell_in c.args.memory.now in
+    let initial = dense_cells c.args.memory.now in
     let xs = c.args.list.now in
     let n = c.loop-index.index in
     let e = get_or xs n some_entry in
@@ -46,13 +46,13 @@ returns-in-Some-clause-breach c = λ log final h.
     let from = c.loop-index.from in
     let kind = c.in-Some.kind in
     let names = c.loop-index.invariant.names log h in
-    let found : Finds log before from (cell_in c.loop-index.memory) e (Some kind) = rw c.in-Some.is at c.in_ok-kind.ensures.finds log before names in
+    let found : Finds log before from (dense_cells c.loop-index.memory) e (Some kind) = rw c.in-Some.is at c.in_ok-kind.ensures.finds log before names in
     breach_explained initial log final xs kind n (first_fault initial log final xs n from e (slice_get-get_or xs n some_entry (omega arith)) (c.loop-index.invariant.explained log h) (c.loop-index.invariant.first log h) kind
     (subst (λ (m : Cells). Finds log before from m e (Some kind)) c.loop-index.invariant.cells found))
 
 pub loop-index-preserved : goal.loop-index-preserved
 loop-index-preserved c =
-    let initial = cell_in c.args.memory.now in
+    let initial = dense_cells c.args.memory.now in
     let xs = c.args.list.now in
     let n = c.loop-index.index in
     let e = get_or xs n some_entry in
@@ -65,7 +65,7 @@ loop-index-preserved c =
     let i = c.loop-index.invariant in
     record {
       explained = λ log h.
-          let found : Finds log before from (cell_in c.loop-index.memory) e None = rw c.in_default.is at c.in_ok-kind.ensures.finds log before (i.names log h) in
+          let found : Finds log before from (dense_cells c.loop-index.memory) e None = rw c.in_default.is at c.in_ok-kind.ensures.finds log before (i.names log h) in
           let finds = subst (λ (m : Cells). Finds log before from m e None) i.cells found in
           subst (λ us. AreExplained initial log us) (sym grown) (explained_more initial log before from e (i.explained log h) finds (i.first log h));
       cells =
@@ -83,7 +83,7 @@ loop-index-preserved c =
 pub returns : goal.returns
 returns c =
     let all = take_all c.loop-index.index c.args.list.now (omega arith) in
-    let initial = cell_in c.args.memory.now in
+    let initial = dense_cells c.args.memory.now in
     let i = c.loop-index.invariant in
     record {
       cells = i.cells ∙ ap (λ us. cells_past initial us) all;

@@ -1,17 +1,17 @@
 use Rattle.std.proofs.Common.{◌≡◌, ◌≤◌, [], take}
 use Rattle.ultra_serial_law.specs.Log.{Log}
-use Rattle.ultra_serial.specs.Memory.{cell_in}
+use Rattle.ultra_serial.specs.DenseCells.{dense_cells}
 use Rattle.ultra_serial.specs.Breach.{cells_past}
 use Rattle.ultra_serial.specs.Examined.{IsFirstAfter, AreExplained}
 use Rattle.ultra_serial.specs.RecordsByName.{Holds}
 use Rattle.ultra_serial.proofs.checking.replay.Given as goal
 
 abbrev pub invariant-loop-index : goal.invariant-loop-index
-invariant-loop-index l = let initial = cell_in l.initial.memory in
+invariant-loop-index l = let initial = dense_cells l.initial.memory in
     let before = take l.index l.list in
     record {
       explained : (log : Log) → Holds l.initial.names log [] → AreExplained initial log before;
-      cells : cell_in l.memory ≡ cells_past initial before;
+      cells : dense_cells l.memory ≡ cells_past initial before;
       first : (log : Log) → Holds l.initial.names log [] → IsFirstAfter log before l.from;
       names : (log : Log) → Holds l.initial.names log [] → Holds l.names log before;
       small : l.from ≤ 4294967296;
