@@ -1,0 +1,3 @@
+pub mod SerialText
+pub mod Reading
+pub mod Faults

@@ -1,0 +1,58 @@
+//! The text of a serial list, and its reader. The text form is this project's profile.
+#![tactic(auto)]
+
+mod line;
+mod number;
+
+ghost use Rattle.std.specs.Prelude.{◌≡◌, List, IfOk, IfErr};
+ghost use Rattle.ultra_serial_law.specs.declared.records.Entry.{Entry as EntryOf};
+ghost use Rattle.ultra_list.specs.SerialText.{IsListText, ListTextLaw};
+ghost use Rattle.ultra_list.specs.Faults.{ExplainsListFault, IsReadAs};
+
+use line::entry_at;
+use std::alloc::{AllocFailed, Global};
+use ultra_serial_law::SerialList;
+
+/// Why a text isn't read as a list.
+#[derive(Clone, Copy, PartialEq, Eq, Debug, Drop)]
+pub enum ListFault {
+    /// Memory was refused.
+    NoMemory,
+    /// The first line, counted from 1, that isn't an entry.
+    NotAnEntry(usize),
+}
+
+impl<T: Drop> From<AllocFailed<T>> for ListFault {
+    ghost use Rattle.ultra_list.specs.declared.ListFault.TheVariants.{NoMemory};
+
+    ghost from_gives = { λ _ fault. fault ≡ NoMemory };
+
+    fn from(_: AllocFailed<T>) -> ListFault {
+        ListFault::NoMemory
+    }
+}
+
+/// The list whose text this is: each entry on a line of its own, as `0.0 faa 0 1 = 1`.
+///
+/// Else the fault names the first line that isn't an entry; or memory was refused, which may stand in place of another answer.
+pub fn read_list(alloc: Global, text: &[u8]) -> Result<SerialList, ListFault>
+    ensures ok { IfOk result (λ list. IsListText text.now list.items) }
+    ensures refused { IfErr result (ExplainsListFault text.now) }
+    ensures complete { (es : List EntryOf) → IsListText text.now es → IsReadAs es result }
+{
+    let mut list = Vec::new(alloc);
+    let mut rest = text;
+    while !rest.is_empty() {
+        let Some((entry, next)) = entry_at(rest) else {
+            return Err(ListFault::NotAnEntry(list.len() + 1));
+        };
+        list.push(entry)?;
+        rest = next;
+    }
+    Ok(list)
+}
+
+/// What is written for a list is the text of that list, as this function's contract: for each list of entries whose numbers are words of 32 bits, as those of a [`SerialList`] are. So [`read_list`] gives it back. The function itself does nothing.
+pub fn list_text_law()
+    ensures written { ListTextLaw }
+{}
