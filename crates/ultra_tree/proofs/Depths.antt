@@ -4,14 +4,14 @@ use Rattle.std.proofs.lemmas.Bool.{cases_lt}
 use Rattle.ultra_serial_law.specs.Tree.{height}
 use Rattle.ultra_tree.specs.Counts.{leaf_count}
 use Rattle.ultra_tree.specs.Places.{depth_at, depth_of_first}
-use Rattle.ultra_tree.specs.Seen.{seen_node}
-use Rattle.ultra_tree.specs.declared.trees.Node.{Node, Pair'}
-use Rattle.ultra_tree.specs.declared.trees.Node as node
+use Rattle.ultra_tree.specs.Seen.{seen_counted}
+use Rattle.ultra_tree.specs.declared.trees.CountedNode.{CountedNode, Pair'}
+use Rattle.ultra_tree.specs.declared.trees.CountedNode as node
 use Rattle.ultra_tree.proofs.Places.{is_below, is_not_below}
 
 module _ {A : Type 0} where
   -- ---- a leaf of a pair
-  module _ (old new : Node A) (i : ℕ) where
+  module _ (old new : CountedNode A) (i : ℕ) where
     depth_by : Bool → ℕ
     depth_by b = elim b [ true ↦ depth_at old i + 1 | false ↦ depth_at new (i - leaf_count old) + 1 ]
 
@@ -24,7 +24,7 @@ module _ {A : Type 0} where
     depth_in_new h = ap depth_by (is_not_below i (leaf_count old) h)
 
   -- ---- no leaf is deeper than the height, and one is as deep
-  depth_most : (a : ℕ) (t : Node A) (i : ℕ) → i < leaf_count t → depth_at t i ≤ height (seen_node a t)
+  depth_most : (a : ℕ) (t : CountedNode A) (i : ℕ) → i < leaf_count t → depth_at t i ≤ height (seen_counted a t)
   depth_most a (node.Leaf p n o) i h = omega arith
   depth_most a (Pair' s x p old q new f k l) i h =
       ⊎_elim
@@ -32,10 +32,10 @@ module _ {A : Type 0} where
       (λ past. let deeper = depth_in_new old new i past in let rest = depth_most a new (i - leaf_count old) (omega (arith, h, past)) in omega (arith, deeper, rest))
       (cases_lt i (leaf_count old))
 
-  abbrev IsDeepest : ℕ → Node A → ℕ → Type 0
-  IsDeepest a t i = (i < leaf_count t) × (height (seen_node a t) ≤ depth_at t i)
+  abbrev IsDeepest : ℕ → CountedNode A → ℕ → Type 0
+  IsDeepest a t i = (i < leaf_count t) × (height (seen_counted a t) ≤ depth_at t i)
 
-  deepest : (a : ℕ) (t : Node A) → (i : ℕ) × IsDeepest a t i
+  deepest : (a : ℕ) (t : CountedNode A) → (i : ℕ) × IsDeepest a t i
   deepest a (node.Leaf p n o) = (0, (omega arith, omega arith))
   deepest a (Pair' s x p old q new f k l) =
       let in_old = deepest a old in
@@ -49,16 +49,16 @@ module _ {A : Type 0} where
       (λ higher.
       let deeper = depth_in_old old new in_old.0 in_old.1.0 in
       (in_old.0, (omega (arith, in_old.1.0), omega (arith, higher, deeper, in_old.1.1))))
-      (cases_lt (height (seen_node a old)) (height (seen_node a new)))
+      (cases_lt (height (seen_counted a old)) (height (seen_counted a new)))
 
-  first_most : (t : Node A) (n b : ℕ) → ((i : ℕ) → i < n → depth_at t i ≤ b) → depth_of_first t n ≤ b
+  first_most : (t : CountedNode A) (n b : ℕ) → ((i : ℕ) → i < n → depth_at t i ≤ b) → depth_of_first t n ≤ b
   first_most t zero b h = omega arith
   first_most t (suc n) b h =
       let here = h n (omega arith) in
       let rest = first_most t n b (λ i l. h i (omega (arith, l))) in
       omega (arith, here, rest)
 
-  first_least : (t : Node A) (n i : ℕ) → i < n → depth_at t i ≤ depth_of_first t n
+  first_least : (t : CountedNode A) (n i : ℕ) → i < n → depth_at t i ≤ depth_of_first t n
   first_least t zero i h = absurd (omega (arith, h))
   first_least t (suc n) i h =
       ⊎_elim
@@ -66,9 +66,9 @@ module _ {A : Type 0} where
       (λ l. let same : depth_at t i ≡ depth_at t n = ap (λ j. depth_at t j) (omega (arith, h, l)) in omega (arith, same))
       (cases_lt i n)
 
-  pub greatest_depth : (a : ℕ) (t : Node A) → depth_of_first t (leaf_count t) ≡ height (seen_node a t)
+  pub greatest_depth : (a : ℕ) (t : CountedNode A) → depth_of_first t (leaf_count t) ≡ height (seen_counted a t)
   greatest_depth a t =
-      let most = first_most t (leaf_count t) (height (seen_node a t)) (λ i l. depth_most a t i l) in
+      let most = first_most t (leaf_count t) (height (seen_counted a t)) (λ i l. depth_most a t i l) in
       let deep = deepest a t in
       let reached = first_least t (leaf_count t) deep.0 deep.1.0 in
       omega (arith, most, reached, deep.1.1)

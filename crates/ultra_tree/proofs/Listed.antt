@@ -4,9 +4,9 @@ use Rattle.std.specs.Prelude.{slice_get}
 use Rattle.ultra_serial_law.specs.Tree.{leaves}
 use Rattle.ultra_tree.specs.Counts.{leaf_count}
 use Rattle.ultra_tree.specs.Places.{leaves_in}
-use Rattle.ultra_tree.specs.Seen.{at_cell, seen_node}
-use Rattle.ultra_tree.specs.declared.trees.Node.{Node, Pair'}
-use Rattle.ultra_tree.specs.declared.trees.Node as node
+use Rattle.ultra_tree.specs.Seen.{at_cell, seen_counted}
+use Rattle.ultra_tree.specs.declared.trees.CountedNode.{CountedNode, Pair'}
+use Rattle.ultra_tree.specs.declared.trees.CountedNode as node
 
 -- ---- lists
 module _ {X : Type 0} where
@@ -37,12 +37,12 @@ map_append f (x ∷ xs) ys = ap (λ zs. f x ∷ zs) (map_append f xs ys)
 
 -- ---- leaves
 module _ {A : Type 0} where
-  pub length_leaves : (t : Node A) → length (leaves_in t) ≡ leaf_count t
+  pub length_leaves : (t : CountedNode A) → length (leaves_in t) ≡ leaf_count t
   length_leaves (node.Leaf p n o) = refl
   length_leaves (Pair' s x p old q new true k l) = omega (arith, length-append (leaves_in old) (leaves_in new), length_leaves old, length_leaves new)
   length_leaves (Pair' s x p old q new false k l) = omega (arith, length-append (leaves_in new) (leaves_in old), length_leaves old, length_leaves new)
 
-  pub leaves_seen : (a : ℕ) (t : Node A) → map (at_cell a) (leaves_in t) ≡ leaves (seen_node a t)
+  pub leaves_seen : (a : ℕ) (t : CountedNode A) → map (at_cell a) (leaves_in t) ≡ leaves (seen_counted a t)
   leaves_seen a (node.Leaf p n o) = refl
   leaves_seen a (Pair' s x p old q new true k l) = map_append (at_cell a) (leaves_in old) (leaves_in new) ∙ rw (leaves_seen a old, leaves_seen a new) refl
   leaves_seen a (Pair' s x p old q new false k l) = map_append (at_cell a) (leaves_in new) (leaves_in old) ∙ rw (leaves_seen a old, leaves_seen a new) refl

@@ -2,10 +2,10 @@
 use Rattle.std.proofs.Common.{◌≡◌, ℕ, zero, suc, ◌+◌, ◌-◌, ◌<◌, ◌≤◌, List, [], ◌++◌, Bool, true, false, nat_lt, Option, Some, None, codes, arith, ap, refl, sym, ◌∙◌, append_assoc, append-nil}
 use Rattle.ultra_tree.specs.Counts.{leaf_count}
 use Rattle.ultra_tree.specs.Places.{piece, pieces}
-use Rattle.ultra_tree.specs.Seen.{seen_node}
+use Rattle.ultra_tree.specs.Seen.{seen_counted}
 use Rattle.ultra_tree.specs.Text.{head_text, order_mark, opening, closings, order_mark_text, tree_text}
-use Rattle.ultra_tree.specs.declared.trees.Node.{Node, Pair'}
-use Rattle.ultra_tree.specs.declared.trees.Node as node
+use Rattle.ultra_tree.specs.declared.trees.CountedNode.{CountedNode, Pair'}
+use Rattle.ultra_tree.specs.declared.trees.CountedNode as node
 use Rattle.ultra_tree.proofs.Places.{is_below, is_not_below, some_leaf}
 
 -- ---- texts in a row
@@ -46,7 +46,7 @@ regrouped h o m n b c d = simp (append_assoc, append-nil)
 
 module _ {A : Type 0} where
   -- ---- a leaf of a pair
-  module _ (old new : Node A) (f : Bool) (i closing : ℕ) (mark : Option Bool) where
+  module _ (old new : CountedNode A) (f : Bool) (i closing : ℕ) (mark : Option Bool) where
     text_by : Bool → List ℕ
     text_by b = elim b [ true ↦ piece old i 0 (Some f) | false ↦ piece new (i - leaf_count old) (closing + 1) mark ]
 
@@ -59,7 +59,7 @@ module _ {A : Type 0} where
     text_in_new h = ap text_by (is_not_below i (leaf_count old) h)
 
   -- the texts of all places, with what follows the tree
-  all_pieces : (a : ℕ) (t : Node A) (closing : ℕ) (mark : Option Bool) → pieces (λ i. piece t i closing mark) 0 (leaf_count t) ≡ tree_text (seen_node a t) ++ closings closing ++ order_mark_text mark
+  all_pieces : (a : ℕ) (t : CountedNode A) (closing : ℕ) (mark : Option Bool) → pieces (λ i. piece t i closing mark) 0 (leaf_count t) ≡ tree_text (seen_counted a t) ++ closings closing ++ order_mark_text mark
   all_pieces a (node.Leaf p n o) closing mark = append-nil _
   all_pieces a (Pair' s x p old q new f k l) closing mark =
       let text : ℕ → List ℕ = λ i. opening i s x ++ elim (nat_lt i (leaf_count old)) [ true ↦ piece old i 0 (Some f) | false ↦ piece new (i - leaf_count old) (closing + 1) mark ] in
@@ -73,7 +73,7 @@ module _ {A : Type 0} where
       pieces_same text (λ i. piece new i (closing + 1) mark) m 0 n (λ i h.
       ap (λ t. t ++ elim (nat_lt (m + i) m) [ true ↦ piece old (m + i) 0 (Some f) | false ↦ piece new (m + i - m) (closing + 1) mark ]) (opening_past (m + i) s x (omega (arith, some)))
       ∙ (text_in_new old new f (m + i) closing mark (omega arith) ∙ ap (λ j. piece new j (closing + 1) mark) (let e : m + i - m ≡ 0 + i = omega arith in e))) in
-      parts ∙ (rw (of_old, of_new, all_pieces a old 0 (Some f), all_pieces a new (closing + 1) mark, closings_more closing) (regrouped (head_text s x) (tree_text (seen_node a old)) (order_mark f) (tree_text (seen_node a new)) (codes "]") (closings closing) (order_mark_text mark)))
+      parts ∙ (rw (of_old, of_new, all_pieces a old 0 (Some f), all_pieces a new (closing + 1) mark, closings_more closing) (regrouped (head_text s x) (tree_text (seen_counted a old)) (order_mark f) (tree_text (seen_counted a new)) (codes "]") (closings closing) (order_mark_text mark)))
 
-  pub whole_text : (a : ℕ) (t : Node A) → pieces (λ i. piece t i 0 None) 0 (leaf_count t) ≡ tree_text (seen_node a t)
+  pub whole_text : (a : ℕ) (t : CountedNode A) → pieces (λ i. piece t i 0 None) 0 (leaf_count t) ≡ tree_text (seen_counted a t)
   whole_text a t = all_pieces a t 0 None ∙ (append-nil _ ∙ append-nil _)

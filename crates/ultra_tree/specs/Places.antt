@@ -3,19 +3,19 @@ use Rattle.std.specs.Prelude.{ℕ, zero, suc, ◌+◌, ◌-◌, List, [], ◌∷
 use Rattle.ultra_tree.specs.Counts.{leaf_count}
 use Rattle.ultra_tree.specs.Text.{leaf_text, opening, closings, order_mark_text}
 use Rattle.ultra_tree.specs.declared.listing.Leaf.{Leaf}
-use Rattle.ultra_tree.specs.declared.trees.Node.{Node, Pair'}
-use Rattle.ultra_tree.specs.declared.trees.Node as node
+use Rattle.ultra_tree.specs.declared.trees.CountedNode.{CountedNode, Pair'}
+use Rattle.ultra_tree.specs.declared.trees.CountedNode as node
 
 module _ {A : Type 0} where
   -- the leaves in serial order
-  abbrev pub leaves_in : Node A → List Leaf
+  abbrev pub leaves_in : CountedNode A → List Leaf
   leaves_in (node.Leaf p n o) = record { pe = p; number = n; op = o } ∷ []
   leaves_in (Pair' s x p old q new true k l) = leaves_in old ++ leaves_in new
   leaves_in (Pair' s x p old q new false k l) = leaves_in new ++ leaves_in old
 
   -- the depth of a leaf: n where it stands in n pairs. Its place is that in the text, where old
   -- comes before new
-  abbrev pub depth_at : Node A → ℕ → ℕ
+  abbrev pub depth_at : CountedNode A → ℕ → ℕ
   depth_at (node.Leaf p n o) i = 0
   depth_at (Pair' s x p old q new f k l) i =
       elim (nat_lt i (leaf_count old)) [
@@ -24,13 +24,13 @@ module _ {A : Type 0} where
       ]
 
   -- the greatest depth of the first leaves
-  abbrev pub depth_of_first : Node A → ℕ → ℕ
+  abbrev pub depth_of_first : CountedNode A → ℕ → ℕ
   depth_of_first t zero = 0
   depth_of_first t (suc i) = max (depth_at t i) (depth_of_first t i)
 
   -- the text of a leaf with what opens before it and closes behind it, where n pairs close behind
   -- the whole tree, and then a mark comes
-  abbrev pub piece : Node A → ℕ → ℕ → Option Bool → List ℕ
+  abbrev pub piece : CountedNode A → ℕ → ℕ → Option Bool → List ℕ
   piece (node.Leaf p n o) i closing mark = leaf_text p n ++ closings closing ++ order_mark_text mark
   piece (Pair' s x p old q new f k l) i closing mark =
       opening i s x

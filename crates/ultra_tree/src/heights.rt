@@ -6,7 +6,7 @@ ghost use Rattle.ultra_tree.specs.Counts.{leaf_count, HasRightCounts};
 ghost use Rattle.ultra_tree.specs.Places.{depth_at};
 ghost use Rattle.ultra_tree.specs.Seen.{seen};
 
-use crate::trees::{Node, Tree};
+use crate::trees::{CountedNode, Tree};
 use std::alloc::Allocator;
 
 /// The height of a tree: 0 for a leaf, and for a pair one more than that of its higher part.
@@ -21,7 +21,7 @@ pub fn height<A: Allocator>(tree: &Tree<A>) -> u64
 }
 
 /// The depth of a leaf: n where it stands in n pairs, each within another. Its place, from 0, is that in the text of the tree, where old comes before new.
-fn depth_of<A: Allocator>(tree: &Node<A>, place: u64) -> u64
+fn depth_of<A: Allocator>(tree: &CountedNode<A>, place: u64) -> u64
     requires right_counts { HasRightCounts tree.now }
     requires within { place < leaf_count tree.now }
     requires fits { leaf_count tree.now < 2 ^ 64 }
@@ -32,8 +32,8 @@ fn depth_of<A: Allocator>(tree: &Node<A>, place: u64) -> u64
     let mut depth = 0u64;
     loop {
         match node {
-            Node::Leaf { .. } => return depth,
-            Node::Pair {
+            CountedNode::Leaf { .. } => return depth,
+            CountedNode::Pair {
                 old,
                 new,
                 old_leaves,

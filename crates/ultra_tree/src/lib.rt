@@ -5,11 +5,13 @@ mod explaining;
 mod heights;
 mod held;
 mod listing;
+mod nodes;
 mod trees;
 mod writing;
 
 pub use explaining::{ExplainFault, Explainer};
 pub use heights::height;
 pub use listing::{Leaf, TreeFault, leaves};
+pub use nodes::{Node, Part};
 pub use trees::Tree;
 pub use writing::write_tree;

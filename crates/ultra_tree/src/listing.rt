@@ -6,7 +6,7 @@ ghost use Rattle.ultra_tree.specs.Counts.{leaf_count, HasRightCounts};
 ghost use Rattle.ultra_tree.specs.Places.{leaves_in};
 ghost use Rattle.ultra_tree.specs.Seen.{seen, at_cell};
 
-use crate::trees::{Node, Tree};
+use crate::trees::{CountedNode, Tree};
 use std::alloc::{AllocError, AllocFailed, Allocator, Global};
 use ultra_msg::{Op, Pe};
 
@@ -53,7 +53,7 @@ pub fn leaves<A: Allocator>(alloc: Global, tree: &Tree<A>) -> Result<Vec<Leaf>, 
 }
 
 /// The leaf at a place of the serial order.
-fn leaf_at<A: Allocator>(tree: &Node<A>, place: u64) -> Leaf
+fn leaf_at<A: Allocator>(tree: &CountedNode<A>, place: u64) -> Leaf
     requires right_counts { HasRightCounts tree.now }
     requires within { place < leaf_count tree.now }
     ensures { slice_get (leaves_in tree.now) place ≡ Some result }
@@ -62,14 +62,14 @@ fn leaf_at<A: Allocator>(tree: &Node<A>, place: u64) -> Leaf
     let mut place = place;
     loop {
         match node {
-            Node::Leaf { pe, number, op } => {
+            CountedNode::Leaf { pe, number, op } => {
                 return Leaf {
                     pe: *pe,
                     number: *number,
                     op: *op,
                 };
             }
-            Node::Pair {
+            CountedNode::Pair {
                 old,
                 new,
                 old_first,

@@ -18,14 +18,14 @@ use ultra_msg::{Op, Pe};
 /// these counts.
 #[derive(Drop)]
 pub struct Tree<A: Allocator> {
-    pub(crate) node: Node<A>,
+    pub(crate) node: CountedNode<A>,
     pub(crate) leaves: u64,
     ghost counted: { leaves ≡ leaf_count node },
     ghost right_counts: { HasRightCounts node },
 }
 
-/// A request as it was issued, or two that combined.
-pub(crate) enum Node<A: Allocator> {
+/// A request as it was issued, or two that combined, with the number of leaves of each.
+pub(crate) enum CountedNode<A: Allocator> {
     Leaf {
         /// The processing element that issued it.
         pe: Pe,
@@ -40,9 +40,9 @@ pub(crate) enum Node<A: Allocator> {
         /// The queue's memory-side position in the stage, from 0.
         position: u32,
         /// The tree of the request that stood in the queue.
-        old: Box<Node<A>, A>,
+        old: Box<CountedNode<A>, A>,
         /// The tree of the request that came to it.
-        new: Box<Node<A>, A>,
+        new: Box<CountedNode<A>, A>,
         /// Whether the one that stood in the queue comes first in the serial order.
         old_first: bool,
         old_leaves: u64,
@@ -51,16 +51,16 @@ pub(crate) enum Node<A: Allocator> {
 }
 
 /// Goes down the larger part of each pair; the smaller is dropped by a call of its own.
-impl<A: Allocator> Drop for Node<A> {
+impl<A: Allocator> Drop for CountedNode<A> {
     fn drop(mut self) {
         loop {
             match self {
-                Node::Leaf {
+                CountedNode::Leaf {
                     pe: _,
                     number: _,
                     op: _,
                 } => return,
-                Node::Pair {
+                CountedNode::Pair {
                     stage: _,
                     position: _,
                     old,
@@ -85,7 +85,7 @@ impl<A: Allocator> Tree<A> {
             ≡ leaf_tree record { pe = pe; number = number; cell = cell; op = op } }
     {
         Tree {
-            node: Node::Leaf { pe, number, op },
+            node: CountedNode::Leaf { pe, number, op },
             leaves: 1,
         }
     }
@@ -111,7 +111,7 @@ impl<A: Allocator + Clone> Tree<A> {
             return Err(AllocError);
         };
         let (old_leaves, new_leaves) = (old.leaves, new.leaves);
-        let node = Node::Pair {
+        let node = CountedNode::Pair {
             stage,
             position,
             old: Box::new(alloc.clone()?, old.node)?,

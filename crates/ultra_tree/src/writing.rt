@@ -7,7 +7,7 @@ ghost use Rattle.ultra_tree.specs.Places.{piece};
 ghost use Rattle.ultra_tree.specs.Seen.{seen};
 ghost use Rattle.ultra_tree.specs.Text.{leaf_text, head_text, opening, closings, order_mark_text, tree_text};
 
-use crate::trees::{Node, Tree};
+use crate::trees::{CountedNode, Tree};
 use itoa::Buffer;
 use std::alloc::Allocator;
 use ultra_msg::{Pe, Sink, SinkFault, write_all, write_pieces};
@@ -26,7 +26,7 @@ pub fn write_tree<A: Allocator, S: Sink>(tree: &Tree<A>, sink: &mut S) -> Result
 /// Writes the leaf at a place of the text, with the pairs that open before it, and those that close
 /// behind it with the mark that follows.
 fn write_at<A: Allocator, S: Sink>(
-    tree: &Node<A>,
+    tree: &CountedNode<A>,
     place: u64,
     sink: &mut S,
 ) -> Result<(), SinkFault>
@@ -42,10 +42,10 @@ fn write_at<A: Allocator, S: Sink>(
     let mut mark = None;
     loop {
         match node {
-            Node::Leaf { pe, number, .. } => {
+            CountedNode::Leaf { pe, number, .. } => {
                 return write_leaf(*pe, *number, closing, mark, sink);
             }
-            Node::Pair {
+            CountedNode::Pair {
                 stage,
                 position,
                 old,

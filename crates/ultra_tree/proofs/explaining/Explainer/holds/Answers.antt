@@ -1,5 +1,5 @@
 use Rattle.std.proofs.Common.{ap, sym, ◌∙◌}
-use Rattle.std.specs.Prelude.{is_some, not}
+use Rattle.std.specs.Prelude.{not}
 use Rattle.ultra_serial_law.specs.Tree.{tree_of}
 use Rattle.ultra_tree.specs.Absorb.{Explained}
 use Rattle.ultra_tree.specs.Seen.{trees_of}
