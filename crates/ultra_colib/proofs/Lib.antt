@@ -6,6 +6,7 @@ pub mod ReadersWriters
 pub mod Barrier
 pub mod QueueState
 pub mod Queue
+pub mod NoQueue
 pub mod Reading
 pub mod GateText
 pub mod ReadersWritersText

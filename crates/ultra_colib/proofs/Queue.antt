@@ -470,6 +470,9 @@ module _ (z rounds : ℕ) (few_places : z ≤ 6) (some : 1 ≤ rounds) (few : ro
           value = is k ∙ r.4 ∙ omega arith;
           has_begun = λ i l e. r.5 i l (sym (is (r.0 + i * size c)) ∙ e);
         };
+        ticket = s.origin;
+        drawn = λ k n. let t = g.keeps.standing.of_ticket k (there k n) in let a = g.shows.next_insert in let b = g.shows.next_delete in (omega (arith, t.0, a), omega (arith, t.1, b));
+        own = λ k l m n e. g.keeps.standing.once k l (there k m) (there l n) e;
       }
 
   pub items_once : c.initial ≡ [] → (schedule : List ℕ) → All (λ p. p < size c) schedule → AreItemsOnce z rounds (size c) (slice_index (run_para c (queue z rounds) (start_para c) schedule).cells)

@@ -4,6 +4,7 @@ pub mod Gate
 pub mod ReadersWriters
 pub mod Barrier
 pub mod Queue
+pub mod NoQueue
 pub mod Texts
 pub mod Parameters
 pub mod Laws

@@ -41,10 +41,14 @@ pub record IsInserted (z rounds size : ℕ) (word : CellWords) (v : ℕ) : Type 
   pub value : v ≡ element + 1 + its_round * size
   pub has_begun : (i : ℕ) → i < its_round → result z word (element + i * size) ≢ 0
 
--- the results that aren't 0 are pairwise different inserted values
+-- the results that aren't 0 are pairwise different inserted values, each by a ticket of its own
+-- which was drawn from both indexes
 pub record AreItemsOnce (z rounds size : ℕ) (word : CellWords) : Type 0 where
   pub different : (k l : ℕ) → k ≢ l → result z word k ≢ 0 → result z word k ≢ result z word l
   pub inserted : (k : ℕ) → result z word k ≢ 0 → IsInserted z rounds size word (result z word k)
+  pub ticket : ℕ → ℕ
+  pub drawn : (k : ℕ) → result z word k ≢ 0 → (ticket k < word 2) × (ticket k < word 3)
+  pub own : (k l : ℕ) → result z word k ≢ 0 → result z word l ≢ 0 → ticket k ≡ ticket l → k ≡ l
 
 abbrev pub QueueLaw : Type 0
 QueueLaw = (z rounds : ℕ) → z ≤ 6 → 1 ≤ rounds → rounds ≤ 1000

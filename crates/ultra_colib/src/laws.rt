@@ -4,6 +4,7 @@
 
 ghost use Rattle.ultra_colib.specs.Barrier.{BarrierLaw};
 ghost use Rattle.ultra_colib.specs.Gate.{GateLaw};
+ghost use Rattle.ultra_colib.specs.NoQueue.{IsNoQueueRefused};
 ghost use Rattle.ultra_colib.specs.Queue.{QueueLaw};
 ghost use Rattle.ultra_colib.specs.ReadersWriters.{ReadersWritersLaw};
 ghost use Rattle.ultra_colib.specs.Tickets.{TicketsLaw};
@@ -32,8 +33,10 @@ pub fn barrier_law()
     ensures kept { BarrierLaw }
 {}
 
-/// The queue's law, as this function's contract: the results that aren't 0 are pairwise different inserted values, after
-/// every schedule. The function itself does nothing.
+/// The queue's law, as this function's contract: the results that aren't 0 are pairwise different inserted values, each
+/// by a ticket of its own that was drawn from both indexes, after every schedule. A program that only stores such numbers
+/// doesn't keep it. The function itself does nothing.
 pub fn queue_law()
     ensures kept { QueueLaw }
+    ensures needs_inserts { IsNoQueueRefused }
 {}

@@ -99,7 +99,7 @@ pub fn run_barrier(
 
 /// The queue with `2^log_size` places on a paracomputer with these settings, all of whose cells are 0 at first, after a schedule: each number is the processing element that makes the step.
 ///
-/// The results that aren't 0 are pairwise different inserted values. `BadParameter` means that a parameter is out of its range or that cells have initial values.
+/// The results that aren't 0 are pairwise different inserted values, each by a ticket of its own. `BadParameter` means that a parameter is out of its range or that cells have initial values.
 pub fn run_queue(
     alloc: Global,
     config: &Config,

@@ -1,5 +1,6 @@
 use Rattle.ultra_colib.proofs.Queue.{kept}
+use Rattle.ultra_colib.proofs.NoQueue.{refused}
 use Rattle.ultra_colib.proofs.laws.queue_law.Goals as goal
 
 pub returns : goal.returns
-returns c = record { kept = kept }
+returns c = record { kept = kept; needs_inserts = refused }
