@@ -16,10 +16,16 @@ pub(crate) fn bytes_after<R: AllocGlobal + Abort>(rt: &R, events: usize) -> usiz
     heap.used()
 }
 
-/// With a heap that is full after this many events of the run, the next is refused, all memory of trees comes back, and
-/// whatever comes then is refused too.
-fn check_full<R: AllocGlobal + Abort>(rt: &R, events: usize) {
-    let heap = LocalHeap::new(rt.alloc(), bytes_after(rt, events)).expect(rt, "no memory");
+/// How many bytes of a heap a pair takes for one of its two requests.
+fn bytes_of_half<R: AllocGlobal + Abort>(rt: &R) -> usize {
+    let of_pair = bytes_after(rt, 5).checked_sub(bytes_after(rt, 4));
+    of_pair.expect(rt, "a pair takes no bytes") / 2
+}
+
+/// With a heap of this many bytes the event after this many is refused, all memory of trees comes back, and whatever
+/// comes then is refused too.
+fn check_full<R: AllocGlobal + Abort>(rt: &R, bytes: usize, events: usize) {
+    let heap = LocalHeap::new(rt.alloc(), bytes).expect(rt, "no memory");
     let mut explainer = explainer(rt, &heap);
     assert_eq!(rt; absorb_all(rt, &mut explainer, &all_combined()), events);
     assert_eq!(rt; heap.used(), bytes_after(rt, 0));
@@ -30,8 +36,19 @@ fn check_full<R: AllocGlobal + Abort>(rt: &R, events: usize) {
 /// A heap with room for an explainer alone refuses the first combination, one with room for two pairs the third.
 #[test]
 fn a_heap_that_is_full(rt: HostRuntime) -> Result<(), Fail> {
-    check_full(&rt, 4);
-    check_full(&rt, 6);
+    for events in [4, 6] {
+        check_full(&rt, bytes_after(&rt, events), events);
+    }
+    Ok(())
+}
+
+/// Where only the half of a pair has room, the pair is refused, and the memory of that half comes back too.
+#[test]
+fn a_heap_with_room_for_half_a_pair(rt: HostRuntime) -> Result<(), Fail> {
+    for events in [4, 6] {
+        let bytes = bytes_after(&rt, events).checked_add(bytes_of_half(&rt));
+        check_full(&rt, bytes.expect(&rt, "too many bytes"), events);
+    }
     Ok(())
 }
 
