@@ -49,6 +49,29 @@ fn a_high_tree_is_dropped(rt: HostRuntime) -> Result<(), Fail> {
     Ok(())
 }
 
+/// Absorbs the first request of processing element 0, and this many more of it and of 1 by turns: what has combined so far comes to each.
+fn grow_at_new<A: Allocator + Clone>(rt: &impl Abort, explainer: &mut Explainer<A>, levels: u32) {
+    assert!(rt; absorb(rt, explainer, &issue(0, 0, 1)).is_ok());
+    for number in 0..levels {
+        let (old, new) = if number % 2 == 0 { (1, 0) } else { (0, 1) };
+        let level = [issue(old, number, 1), meeting(0, 0, old, new)];
+        assert_eq!(rt; absorb_all(rt, explainer, &level), 2);
+    }
+}
+
+/// The same where the new part of each pair is the larger.
+#[test]
+fn a_tree_that_is_high_at_its_new_parts_is_dropped(rt: HostRuntime) -> Result<(), Fail> {
+    let heap = LocalHeap::new(rt.alloc(), 1 << 26)?;
+    let settings = settings(&rt, 2)?;
+    let mut explainer = Explainer::new(&settings, &heap).expect(&rt, "no memory");
+    grow_at_new(&rt, &mut explainer, 200_000);
+    let tree = serve(&rt, &mut explainer, 0, 1);
+    assert!(&rt; explainer.tree_of(0, 0).is_none());
+    drop(tree);
+    Ok(())
+}
+
 /// A request that adds 1.
 fn leaf(pe: Pe, number: u32) -> Leaf {
     Leaf {
