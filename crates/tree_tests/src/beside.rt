@@ -61,7 +61,7 @@ got 3@0 = 4
 ";
 
 /// A register.
-fn register<R: Abort>(rt: &R, number: u8) -> Register {
+pub(crate) fn register<R: Abort>(rt: &R, number: u8) -> Register {
     Register::new(number).expect(rt, "no register")
 }
 
@@ -74,6 +74,11 @@ fn add_number<R: Abort + AllocGlobal>(rt: &R) -> Result<Program, Fail> {
         Instr::Faa(old, zero, number),
         Instr::Halt,
     ]?;
+    program_of(list)
+}
+
+/// The program of these instructions.
+pub(crate) fn program_of(list: Vec<Instr>) -> Result<Program, Fail> {
     match Program::new(list) {
         Ok(program) => Ok(program),
         Err(_) => Err(Fail::from("no program")),

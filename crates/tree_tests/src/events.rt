@@ -27,7 +27,16 @@ pub(crate) fn explainer<'h, R: AllocGlobal + Abort>(
     rt: &R,
     heap: &'h LocalHeap,
 ) -> Explainer<&'h LocalHeap> {
-    let settings = settings(rt, 2).expect(rt, "settings are refused");
+    explainer_of(rt, 2, heap)
+}
+
+/// An explainer of a machine with this many stages, with its trees in this heap.
+pub(crate) fn explainer_of<'h, R: AllocGlobal + Abort>(
+    rt: &R,
+    stages: i64,
+    heap: &'h LocalHeap,
+) -> Explainer<&'h LocalHeap> {
+    let settings = settings(rt, stages).expect(rt, "settings are refused");
     Explainer::new(&settings, heap).expect(rt, "no room for an explainer")
 }
 

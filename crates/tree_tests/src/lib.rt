@@ -12,4 +12,8 @@ mod high;
 #[cfg(test)]
 mod memory_sink;
 #[cfg(test)]
+mod nodes;
+#[cfg(test)]
+mod three_stages;
+#[cfg(test)]
 mod trees;

@@ -10,7 +10,7 @@ use ultra_msg::{Cell, Event, Op, Pe, SinkFault, Word};
 use ultra_tree::{Explainer, Leaf, Tree, height, leaves, write_tree};
 
 /// The first request of a processing element, which adds a word.
-fn leaf(pe: Pe, word: Word) -> Leaf {
+pub(crate) fn leaf(pe: Pe, word: Word) -> Leaf {
     Leaf {
         pe,
         number: 0,
@@ -31,7 +31,7 @@ fn check_held<A: Allocator + Clone>(
 }
 
 /// Asserts that a tree has these leaves, in serial order, and this height.
-fn check_leaves<R: Abort + AllocGlobal, A: Allocator>(
+pub(crate) fn check_leaves<R: Abort + AllocGlobal, A: Allocator>(
     rt: &R,
     tree: &Tree<A>,
     wanted: &[Leaf],
@@ -43,7 +43,11 @@ fn check_leaves<R: Abort + AllocGlobal, A: Allocator>(
 }
 
 /// Asserts that a tree is written as this text, into a sink that takes all.
-fn check_text<R: Abort + AllocGlobal, A: Allocator>(rt: &R, tree: &Tree<A>, wanted: &[u8]) {
+pub(crate) fn check_text<R: Abort + AllocGlobal, A: Allocator>(
+    rt: &R,
+    tree: &Tree<A>,
+    wanted: &[u8],
+) {
     let mut sink = MemorySink::new(rt, usize::MAX);
     assert!(rt; write_tree(tree, &mut sink).is_ok());
     assert_eq!(rt; sink.bytes(), wanted);
