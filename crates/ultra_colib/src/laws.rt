@@ -33,9 +33,9 @@ pub fn barrier_law()
     ensures kept { BarrierLaw }
 {}
 
-/// The queue's law, as this function's contract: the results that aren't 0 are pairwise different inserted values, each
-/// by a ticket of its own that was drawn from both indexes, after every schedule. A program that only stores such numbers
-/// doesn't keep it. The function itself does nothing.
+/// The queue's law, as this function's contract: after every schedule the results that aren't 0 are pairwise different
+/// inserted values. Each came by a ticket of its own, which was drawn from both indexes. A program that only stores such
+/// numbers doesn't keep the law. The function itself does nothing.
 pub fn queue_law()
     ensures kept { QueueLaw }
     ensures needs_inserts { IsNoQueueRefused }
