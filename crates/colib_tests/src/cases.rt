@@ -1,5 +1,8 @@
 //! The coordination programs with parameters.
 
+ghost use Rattle.std.specs.Prelude.{◌<◌, All};
+ghost use Rattle.ultra_model.specs.Machine.{size};
+
 use std::alloc::Global;
 use std::process::Abort;
 use std::test::Fail;
@@ -9,6 +12,7 @@ use ultra_colib::{
 };
 use ultra_isa::Program;
 use ultra_model::Config;
+use ultra_msg::Pe;
 use ultra_para::Para;
 
 /// A coordination program with its parameters.
@@ -33,13 +37,27 @@ impl Case {
 
     /// The paracomputer of the program before its first step.
     pub(crate) fn start(self, alloc: Global, config: &Config) -> Result<Para, ColibFault> {
+        self.run(alloc, config, &[])
+    }
+
+    /// The paracomputer of the program after a schedule.
+    pub(crate) fn run(
+        self,
+        alloc: Global,
+        config: &Config,
+        schedule: &[Pe],
+    ) -> Result<Para, ColibFault>
+        requires { All (λ p. p < size config.now) schedule.now }
+    {
         match self {
-            Case::Gate { bound, rounds } => run_gate(alloc, config, bound, rounds, &[]),
-            Case::Queue { log_size, rounds } => run_queue(alloc, config, log_size, rounds, &[]),
-            Case::ReadersWriters { writers, rounds } => {
-                run_rw(alloc, config, writers, rounds, &[])
+            Case::Gate { bound, rounds } => run_gate(alloc, config, bound, rounds, schedule),
+            Case::Queue { log_size, rounds } => {
+                run_queue(alloc, config, log_size, rounds, schedule)
             }
-            Case::Barrier { rounds } => run_barrier(alloc, config, rounds, &[]),
+            Case::ReadersWriters { writers, rounds } => {
+                run_rw(alloc, config, writers, rounds, schedule)
+            }
+            Case::Barrier { rounds } => run_barrier(alloc, config, rounds, schedule),
         }
     }
 }

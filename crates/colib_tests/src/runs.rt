@@ -2,11 +2,10 @@
 
 ghost use Rattle.std.specs.Prelude.{◌<◌, ◌↔◌, All, IsTrue};
 
-use crate::cases::{OUT_OF_RANGE, SMALL, check_refused};
-use std::alloc::Global;
+use crate::cases::{Case, OUT_OF_RANGE, SMALL, check_refused};
+use std::alloc::{AllocError, Global};
 use std::process::Abort;
 use std::test::Fail;
-use ultra_colib::run_barrier;
 use ultra_model::{Config, RawSettings};
 use ultra_msg::{Cell, Pe, Word};
 use ultra_para::Para;
@@ -50,15 +49,109 @@ pub(crate) fn is_schedule(schedule: &[Pe], size: u32) -> bool
     schedule.iter().all(|&pe| pe < size)
 }
 
-/// Processing element 0 takes 40 steps: it has begun its round, and waits for processing element 1.
+/// The schedule in which each processing element in turn makes this many steps.
+pub(crate) fn schedule(alloc: Global, turns: &[(Pe, usize)]) -> Result<Vec<Pe>, AllocError> {
+    let mut schedule = Vec::new(alloc);
+    for &(pe, steps) in turns {
+        for _ in 0..steps {
+            schedule.push(pe)?;
+        }
+    }
+    Ok(schedule)
+}
+
+/// A coordination program, a schedule, and what cells hold after it.
+struct Run<'r> {
+    case: Case,
+    turns: &'r [(Pe, usize)],
+    cells: &'r [(Cell, Word)],
+}
+
+const GATE: Case = Case::Gate {
+    bound: 1,
+    rounds: 1,
+};
+
+const READERS_WRITERS: Case = Case::ReadersWriters {
+    writers: 1,
+    rounds: 1,
+};
+
+const QUEUE: Case = Case::Queue {
+    log_size: 1,
+    rounds: 2,
+};
+
+const BARRIER: Case = Case::Barrier { rounds: 1 };
+
+/// With two processing elements cells 8 and 9 are the flags of gate, readers and writers; cells 8 and 9 are the rounds
+/// begun, 10 and 11 those finished in a barrier; and the results of a queue with two places are in the cells from 12 on.
+const RUNS: [Run<'static>; 8] = [
+    // One is inside the gate, and the other waits.
+    Run {
+        case: GATE,
+        turns: &[(0, 15), (1, 40)],
+        cells: &[(0, 1), (8, 1), (9, 0)],
+    },
+    // Once it has left, the other enters.
+    Run {
+        case: GATE,
+        turns: &[(0, 15), (1, 40), (0, 5), (1, 11)],
+        cells: &[(0, 1), (8, 0), (9, 1)],
+    },
+    // The writer is inside, and the reader waits.
+    Run {
+        case: READERS_WRITERS,
+        turns: &[(0, 15), (1, 38)],
+        cells: &[(0, 65536), (8, 2), (9, 0)],
+    },
+    // The reader is inside, and the writer waits.
+    Run {
+        case: READERS_WRITERS,
+        turns: &[(1, 16), (0, 40)],
+        cells: &[(0, 1), (8, 0), (9, 1)],
+    },
+    // Each has inserted an item and deleted it.
+    Run {
+        case: QUEUE,
+        turns: &[(0, 72), (1, 72)],
+        cells: &[(2, 2), (3, 2), (12, 1), (13, 2)],
+    },
+    // One has inserted its item, and the other deletes it.
+    Run {
+        case: QUEUE,
+        turns: &[(0, 38), (1, 76)],
+        cells: &[(2, 2), (3, 1), (12, 0), (13, 1)],
+    },
+    // One has begun its round, and waits for the other.
+    Run {
+        case: BARRIER,
+        turns: &[(0, 40)],
+        cells: &[(0, 1), (8, 1), (9, 0), (10, 0), (11, 0)],
+    },
+    // Both have passed the barrier.
+    Run {
+        case: BARRIER,
+        turns: &[(0, 40), (1, 40), (0, 20)],
+        cells: &[(0, 2), (8, 1), (9, 1), (10, 1), (11, 1)],
+    },
+];
+
+/// Asserts what cells hold after a schedule.
+fn check_run<R: AllocGlobal + Abort>(rt: &R, config: &Config, run: &Run) -> Result<(), Fail> {
+    let schedule = schedule(rt.alloc(), run.turns)?;
+    assert!(rt; is_schedule(schedule.as_slice(), config.net().size()));
+    let para = run.case.run(rt.alloc(), config, schedule.as_slice())?;
+    check_cells(rt, &para, run.cells);
+    Ok(())
+}
+
 #[test]
-fn one_alone_waits_at_the_barrier(rt: HostRuntime) -> Result<(), Fail> {
+fn runs_follow_their_schedules(rt: HostRuntime) -> Result<(), Fail> {
     let config = config(rt.alloc(), &[])?;
-    let schedule = [0; 40];
-    assert!(rt; is_schedule(&schedule, config.net().size()));
-    let para = run_barrier(rt.alloc(), &config, 1, &schedule)?;
-    let cells = [(0, 1), (8, 1), (9, 0), (10, 0), (11, 0)];
-    check_cells(&rt, &para, &cells);
+    for run in &RUNS {
+        check_run(&rt, &config, run)?;
+    }
     Ok(())
 }
 
