@@ -1,7 +1,7 @@
 //! The examples: settings and a program each, with the trace, the serial order and the explanation
 //! of the run.
 
-use crate::{explanations, orders, traces, two_stage_traces};
+use crate::{explanations, orders, size_traces, traces, two_stage_traces};
 
 /// A run, with what `ultra run`, `ultra order` and `ultra explain` write.
 pub(crate) struct Example {
@@ -22,7 +22,7 @@ const ADDS_TWICE: &[u8] = b"li r1 1\nli r2 1\nfaa r3 r0 r2\nfaa r4 r1 r2\nhalt\n
 pub(crate) const ADDS_NUMBER: &[u8] = b"pid r2\naddi r2 r2 1\nfaa r3 r0 r2\nhalt\n";
 
 /// Runs of machines of one stage, with fetch-and-adds alone.
-pub(crate) static ONE_STAGE: [Example; 9] = [
+pub(crate) static ONE_STAGE: [Example; 10] = [
     Example {
         settings: "stages = 1",
         program: ADDS_ONE,
@@ -57,6 +57,13 @@ pub(crate) static ONE_STAGE: [Example; 9] = [
         trace: traces::NARROW_REPLY_QUEUES,
         order: orders::NARROW_REPLY_QUEUES,
         explanation: explanations::NARROW_REPLY_QUEUES,
+    },
+    Example {
+        settings: "stages = 1\nreply_places = 8",
+        program: ADDS_TWICE,
+        trace: traces::WIDE_REPLY_QUEUES,
+        order: orders::WIDE_REPLY_QUEUES,
+        explanation: explanations::WIDE_REPLY_QUEUES,
     },
     Example {
         settings: "stages = 1",
@@ -184,5 +191,69 @@ pub(crate) static TWO_STAGES: [Example; 6] = [
         trace: two_stage_traces::FRONTMOST,
         order: orders::FRONTMOST,
         explanation: explanations::FRONTMOST,
+    },
+];
+
+/// Two processing elements refer to the cells of module 0 from both ends. The first eight requests of each are for cells of its own, so they wait in one queue; the others are for cells of the other one's requests.
+const FROM_BOTH_ENDS: &[u8] = b"\
+pid r0
+li r1 2
+li r2 4
+li r3 6
+li r4 8
+li r5 10
+li r6 12
+li r7 14
+li r8 16
+li r9 18
+li r10 20
+li r11 22
+li r12 24
+li r13 26
+li r14 28
+li r15 30
+jnz r0 down
+faa r0 r0 r0
+ld r1 r1
+faa r2 r2 r2
+ld r3 r3
+faa r4 r4 r4
+ld r5 r5
+faa r6 r6 r6
+ld r7 r7
+faa r8 r8 r8
+ld r9 r9
+faa r10 r10 r10
+halt
+down:
+ld r15 r15
+st r14 r14
+ld r13 r13
+st r12 r12
+ld r11 r11
+st r10 r10
+ld r9 r9
+st r8 r8
+ld r7 r7
+st r6 r6
+ld r5 r5
+halt
+";
+
+/// Runs of machines with the most places in queues and wait buffers, and with the fewest, in which 8 cells of a processing element are open.
+pub(crate) static SIZES: [Example; 2] = [
+    Example {
+        settings: "stages = 1\nrequest_places = 32\nreply_places = 64\nwait_places = 16\nopen = 8",
+        program: FROM_BOTH_ENDS,
+        trace: size_traces::MOST_PLACES,
+        order: orders::MOST_PLACES,
+        explanation: explanations::MOST_PLACES,
+    },
+    Example {
+        settings: "stages = 1\nrequest_places = 2\nreply_places = 4\nwait_places = 0\nopen = 8\ncycles = 31",
+        program: FROM_BOTH_ENDS,
+        trace: size_traces::FEWEST_PLACES,
+        order: orders::FEWEST_PLACES,
+        explanation: explanations::FEWEST_PLACES,
     },
 ];

@@ -26,6 +26,11 @@ cycle 5 module 0 cell 0 [s0x0 1.0 < 0.0]
 cycle 6 module 1 cell 1 [s0x1 0.1 < 1.1]
 ";
 
+pub(crate) const WIDE_REPLY_QUEUES: &str = "\
+cycle 5 module 0 cell 0 [s0x0 1.0 < 0.0]
+cycle 6 module 1 cell 1 [s0x1 0.1 < 1.1]
+";
+
 pub(crate) const HALT: &str = "";
 
 pub(crate) const EMPTY: &str = "";
@@ -94,6 +99,34 @@ cycle 9 module 1 cell 25 3.1
 cycle 10 module 1 cell 5 [s1x1 3.2 < 0.2]
 cycle 11 module 1 cell 5 2.2
 cycle 12 module 1 cell 5 1.2
+";
+
+pub(crate) const MOST_PLACES: &str = "\
+cycle 20 module 0 cell 0 0.0
+cycle 21 module 0 cell 30 1.0
+cycle 22 module 0 cell 28 1.1
+cycle 23 module 0 cell 2 0.1
+cycle 24 module 0 cell 4 0.2
+cycle 25 module 0 cell 26 1.2
+cycle 26 module 0 cell 24 1.3
+cycle 27 module 0 cell 6 0.3
+cycle 28 module 0 cell 8 0.4
+cycle 29 module 0 cell 22 1.4
+cycle 30 module 0 cell 20 [s0x0 1.5 < 0.10]
+cycle 31 module 0 cell 10 [s0x0 0.5 < 1.10]
+cycle 32 module 0 cell 12 [s0x0 0.6 > 1.9]
+cycle 33 module 0 cell 18 [s0x0 1.6 < 0.9]
+cycle 34 module 0 cell 16 [s0x0 1.7 < 0.8]
+cycle 35 module 0 cell 14 [s0x0 0.7 < 1.8]
+";
+
+pub(crate) const FEWEST_PLACES: &str = "\
+cycle 20 module 0 cell 0 0.0
+cycle 21 module 0 cell 30 1.0
+cycle 23 module 0 cell 28 1.1
+cycle 25 module 0 cell 2 0.1
+cycle 27 module 0 cell 4 0.2
+cycle 29 module 0 cell 26 1.2
 ";
 
 /// The words that explain a run, with the trees in a heap of this many bytes.

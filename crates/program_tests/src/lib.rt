@@ -23,6 +23,8 @@ mod orders;
 #[cfg(test)]
 mod programs;
 #[cfg(test)]
+mod size_traces;
+#[cfg(test)]
 mod sweeps;
 #[cfg(test)]
 mod traces;

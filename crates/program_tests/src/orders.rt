@@ -29,6 +29,13 @@ pub(crate) const NARROW_REPLY_QUEUES: &str = "\
 1.1 faa 1 1 = 1
 ";
 
+pub(crate) const WIDE_REPLY_QUEUES: &str = "\
+1.0 faa 0 1 = 0
+0.0 faa 0 1 = 1
+0.1 faa 1 1 = 0
+1.1 faa 1 1 = 1
+";
+
 pub(crate) const HALT: &str = "";
 
 pub(crate) const EMPTY: &str = "";
@@ -131,4 +138,38 @@ pub(crate) const FRONTMOST: &str = "\
 0.2 store 5 0 = ack
 2.2 store 5 0 = ack
 1.2 store 5 0 = ack
+";
+
+pub(crate) const MOST_PLACES: &str = "\
+0.0 faa 0 0 = 0
+1.0 load 30 = 0
+1.1 store 28 28 = ack
+0.1 load 2 = 0
+0.2 faa 4 4 = 0
+1.2 load 26 = 0
+1.3 store 24 24 = ack
+0.3 load 6 = 0
+0.4 faa 8 8 = 0
+1.4 load 22 = 0
+1.5 store 20 20 = ack
+0.10 faa 20 20 = 20
+0.5 load 10 = 0
+1.10 load 10 = 0
+1.9 store 12 12 = ack
+0.6 faa 12 12 = 12
+1.6 load 18 = 0
+0.9 load 18 = 0
+1.7 store 16 16 = ack
+0.8 faa 16 16 = 16
+0.7 load 14 = 0
+1.8 load 14 = 0
+";
+
+pub(crate) const FEWEST_PLACES: &str = "\
+0.0 faa 0 0 = 0
+1.0 load 30 = 0
+1.1 store 28 28 = ack
+0.1 load 2 = 0
+0.2 faa 4 4 = 0
+1.2 load 26 = 0
 ";

@@ -72,6 +72,11 @@ fn traces_and_orders_of_two_stages_are_written(rt: HostRuntime) -> Result<(), Fa
     check_examples(&rt, &examples::TWO_STAGES)
 }
 
+#[test]
+fn traces_and_orders_of_other_sizes_are_written(rt: HostRuntime) -> Result<(), Fail> {
+    check_examples(&rt, &examples::SIZES)
+}
+
 /// The trace is the same for every number of workers.
 #[test]
 fn traces_do_not_depend_on_workers(rt: HostRuntime) -> Result<(), Fail> {

@@ -153,6 +153,50 @@ pe 0 halted 4 r1=1 r2=1 r3=1
 pe 1 halted 4 r1=1 r2=1 r4=1
 ";
 
+pub(crate) const WIDE_REPLY_QUEUES: &str = "\
+ultra trace 2
+cycle 0
+cycle 1
+cycle 2
+pni 0: 0@0 faa 1
+pni 1: 1@0 faa 1
+cycle 3
+pni 0: 0@1 faa 1
+pni 1: 1@1 faa 1
+req 0 0: 1@0 faa 2 *
+wait 0 0: 1@0 same 0 plus 1
+cycle 4
+req 0 1: 0@1 faa 2 *
+wait 0 0: 1@0 same 0 plus 1
+wait 0 1: 0@1 same 1 plus 1
+inp 0: 1@0 faa 2
+cycle 5
+act 0 1@0 faa 2 = 0 now 2
+wait 0 0: 1@0 same 0 plus 1
+wait 0 1: 0@1 same 1 plus 1
+inp 1: 0@1 faa 2
+out 0: 1@0 = 0
+cycle 6
+act 1 0@1 faa 2 = 0 now 2
+wait 0 1: 0@1 same 1 plus 1
+out 1: 0@1 = 0
+rep 0 0: 0@0 = 1
+rep 0 1: 1@0 = 0
+cycle 7
+got 0@0 = 1
+got 1@0 = 0
+rep 0 0: 0@1 = 0
+rep 0 1: 1@1 = 1
+cycle 8
+got 0@1 = 0
+got 1@1 = 1
+end quiet
+cell 0 2
+cell 1 2
+pe 0 halted 4 r1=1 r2=1 r3=1
+pe 1 halted 4 r1=1 r2=1 r4=1
+";
+
 pub(crate) const HALT: &str = "\
 ultra trace 2
 cycle 0
