@@ -31,6 +31,22 @@ def stamp_of(listed, name):
     return total.hexdigest()
 
 
+def stamp_file(name):
+    """Where the sum is kept of what a library or program was built from."""
+    return library(name).parent / "stamp"
+
+
+def product(name):
+    """Where the library or program that a crate is built as stands."""
+    return ROOT / "crates" / name / "out" / name if is_program(name) else library(name)
+
+
+def is_built(listed, name):
+    """Whether a crate's library or program is built from all that it is made from now."""
+    stamp = stamp_file(name)
+    return product(name).exists() and stamp.is_file() and stamp.read_text() == stamp_of(listed, name)
+
+
 def words_for(listed, name, jobs, library):
     """The words by which the prover is called for a crate, given where the library of each crate below stands."""
     words = ["--crate-name", name, "src/main.rt" if is_program(name) else "src/lib.rt"]
@@ -60,16 +76,14 @@ def prove(listed, name, jobs, gives_way=False):
 
     The tests of a crate are proved, built and run too. Where it gives way, its proof leaves the processors to others.
     """
-    folder = ROOT / "crates" / name
-    built = folder / "out" / name if is_program(name) else library(name)
-    stamp, now = library(name).parent / "stamp", stamp_of(listed, name)
-    if built.exists() and stamp.is_file() and stamp.read_text() == now:
+    if is_built(listed, name):
         return True, ""
+    folder, stamp, now = ROOT / "crates" / name, stamp_file(name), stamp_of(listed, name)
     shutil.rmtree(stamp.parent, ignore_errors=True)
     stamp.parent.mkdir(parents=True)
     words = words_for(listed, name, jobs, library)
     build = build_program if is_program(name) else build_library
-    is_well, said = build(folder, built, words, gives_way)
+    is_well, said = build(folder, product(name), words, gives_way)
     if is_well and has_tests(name):
         tests = folder / "out" / f"{name}_tests"
         is_well, said = build_program(folder, tests, [*words, "--test"], gives_way)
