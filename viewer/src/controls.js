@@ -1,0 +1,148 @@
+// Buttons, fields and keys.
+(function (viewer) {
+    "use strict";
+
+    const { byId } = viewer;
+    const ZOOM = 1.25;
+
+    function onClick(id, act) {
+        byId(id).addEventListener("click", act);
+    }
+
+    function zoomBy(app, factor) {
+        viewer.setScale(app, Math.max(0.08, Math.min(4, app.picture.scale * factor)));
+    }
+
+    function showWhole(app) {
+        viewer.setScale(app, Math.min(2, viewer.wholeScale(app)));
+    }
+
+    function goToChosenEvent(app, direction) {
+        app.goToEvent(byId("event-sort").value, Number(byId("event-number").value), direction);
+    }
+
+    function fold(app, isFolded) {
+        app.isFolded = isFolded;
+        byId("folded").checked = isFolded;
+        app.show(0);
+    }
+
+    function connectCycles(app) {
+        onClick("first", () => app.goTo(0));
+        onClick("back", () => app.stepBy(-1));
+        onClick("play", () => app.player.toggle());
+        onClick("forward", () => app.stepBy(1));
+        onClick("last", () => app.goTo(app.trace.count - 1));
+        byId("slider").addEventListener("input", (event) => app.goTo(Number(event.target.value)));
+        byId("cycle").addEventListener("change", (event) => app.goTo(Math.floor(Number(event.target.value) || 0)));
+        byId("speed").addEventListener("change", (event) => {
+            app.player.cyclesPerSecond = Number(event.target.value);
+        });
+    }
+
+    function connectPicture(app) {
+        onClick("smaller", () => zoomBy(app, 1 / ZOOM));
+        onClick("larger", () => zoomBy(app, ZOOM));
+        onClick("fit", () => showWhole(app));
+        byId("folded").addEventListener("change", (event) => fold(app, event.target.checked));
+        byId("motion").addEventListener("change", (event) => {
+            app.hasMotion = event.target.checked;
+        });
+        let isWaiting = false;
+        const redraw = () => {
+            isWaiting = false;
+            if (app.trace) {
+                app.picture.drawContent();
+            }
+        };
+        const later = () => {
+            if (!isWaiting) {
+                isWaiting = true;
+                requestAnimationFrame(redraw);
+            }
+        };
+        app.window.addEventListener("scroll", later);
+        addEventListener("resize", later);
+        app.window.addEventListener("wheel", (event) => {
+            if (event.ctrlKey) {
+                event.preventDefault();
+                zoomBy(app, event.deltaY < 0 ? 1.1 : 1 / 1.1);
+            }
+        }, { passive: false });
+    }
+
+    /** A click on an entry shows its request, and one on an act its tree. */
+    function connectClicks(app) {
+        byId("network").addEventListener("click", (event) => {
+            const data = event.target.closest("[data-what]")?.dataset;
+            if (!data) {
+                return;
+            }
+            const [what, module] = data.what.split(" ");
+            if (what === "act") {
+                app.showAct({ cycle: app.cycle, module: Number(module) });
+            } else {
+                const message = { pe: Number(data.pe), cell: Number(data.cell) };
+                app.showRequest(viewer.requestAt(app.history, message, what === "got" ? app.cycle - 1 : app.cycle));
+            }
+        });
+        onClick("close-story", () => app.closeStory());
+    }
+
+    function connectEvents(app) {
+        onClick("next-act", () => app.goToEvent("act", 0, 1));
+        onClick("next-combination", () => app.goToEvent("combination", 0, 1));
+        onClick("next-event", () => goToChosenEvent(app, 1));
+    }
+
+    /** What each key does. With Shift the events are looked for backward. */
+    function actOfKey(app, event) {
+        const direction = event.shiftKey ? -1 : 1;
+        const acts = {
+            ArrowRight: () => app.stepBy(1),
+            ArrowLeft: () => app.stepBy(-1),
+            " ": () => app.player.toggle(),
+            Home: () => app.goTo(0),
+            End: () => app.goTo(app.trace.count - 1),
+            a: () => app.goToEvent("act", 0, direction),
+            c: () => app.goToEvent("combination", 0, direction),
+            e: () => goToChosenEvent(app, direction),
+            "+": () => zoomBy(app, ZOOM),
+            "-": () => zoomBy(app, 1 / ZOOM),
+            0: () => showWhole(app),
+            f: () => fold(app, !app.isFolded),
+            Escape: () => app.closeStory(),
+        };
+        return acts[event.key.length === 1 ? event.key.toLowerCase() : event.key];
+    }
+
+    /** Whether the element that has the focus uses the key itself. */
+    function isUsedBy(element, key) {
+        const isField = element.matches("input:not([type=checkbox]), select");
+        const isPressed = element.matches("button, summary, input[type=checkbox], label");
+        return isField || (isPressed && (key === " " || key === "Enter"));
+    }
+
+    function connectKeys(app) {
+        document.addEventListener("keydown", (event) => {
+            if (!app.trace || event.ctrlKey || event.metaKey || event.altKey || isUsedBy(event.target, event.key)) {
+                return;
+            }
+            const act = actOfKey(app, event);
+            if (act) {
+                event.preventDefault();
+                act();
+            }
+        });
+    }
+
+    function connect(app) {
+        connectCycles(app);
+        connectEvents(app);
+        connectPicture(app);
+        connectClicks(app);
+        connectKeys(app);
+    }
+
+    Object.assign(viewer, { connect });
+})((globalThis.viewer ??= {}));

@@ -1,0 +1,95 @@
+// What happens in a cycle, in sentences. A part of a sentence is a text, or names a request or an act that can be shown.
+(function (viewer) {
+    "use strict";
+
+    const { placeText, stageOf, positionOf, requestText, replyText, operationText, answerText, nameOf, requestAt } = viewer;
+    const FAULTS = { f1: "an address that the memory doesn't have", f2: "a step past the program's end" };
+
+    /** A part that names the request that a message belongs to, which was open after the cycle. */
+    function requestPart(history, message, cycle) {
+        const request = requestAt(history, message, cycle);
+        return request ? { text: nameOf(request), request } : `${message.pe}@${message.cell}`;
+    }
+
+    function deliveries(history, cycle) {
+        return cycle.got.map((it) => [
+            `PE ${it.pe} gets ${answerText(it.value)}${it.value === null ? "" : ` from cell ${it.cell}`}: the answer to `,
+            requestPart(history, it, cycle.number - 1),
+        ]);
+    }
+
+    function splits(history, step, number) {
+        return step.splits.map(({ place, record, message, replies }) => [
+            `At stage ${stageOf(place)}, position ${positionOf(place)}, the reply ${replyText(message)} is split: ${replyText(replies[0])} for `,
+            requestPart(history, record, number - 1),
+            ` and ${replyText(replies[1])} for `,
+            requestPart(history, replies[1], number - 1),
+        ]);
+    }
+
+    function acts(cycle) {
+        return cycle.acts.map((it) => {
+            const was = it.value === null ? "" : ` was ${it.value} and`;
+            const text = `Module ${it.module} serves ${requestText(it.request)}`;
+            return [{ text, act: { cycle: cycle.number, module: it.module } }, `: cell ${it.request.cell}${was} is ${it.now}`];
+        });
+    }
+
+    function combinations(history, step, number) {
+        return step.combinations.map(({ queue, old, later, sent }) => [
+            `At stage ${stageOf(queue)}, position ${positionOf(queue)}, `,
+            requestPart(history, old, number - 1),
+            ` (${operationText(old)}) and `,
+            requestPart(history, later, number - 1),
+            ` (${operationText(later)}) combine: ${requestText({ ...sent, isMarked: false })} goes on`,
+        ]);
+    }
+
+    function issues(history, step, number) {
+        return step.issues.map(({ request }) => [
+            `PE ${request.pe} issues `,
+            requestPart(history, request, number),
+            `: ${operationText(request)} on cell ${request.cell}`,
+        ]);
+    }
+
+    function faults(cycle) {
+        return cycle.faults.map(({ pe, fault }) => [`PE ${pe} stops with fault ${fault}: ${FAULTS[fault]}`]);
+    }
+
+    function stays(history, step, number) {
+        return step.stays.map(({ message, from }) => [
+            requestPart(history, message, number - 1),
+            ` stays at the front of ${placeText(from)}: there is no room for it`,
+        ]);
+    }
+
+    /** The sentences of a cycle, in the order of its phases. `step` is null where the text was cut off in this cycle. */
+    function sentencesOf(history, cycle, step) {
+        const { number } = cycle;
+        if (!step) {
+            return [["The text was cut off in this cycle, so lines of it may be missing."]];
+        }
+        return [
+            ...deliveries(history, cycle),
+            ...splits(history, step, number),
+            ...acts(cycle),
+            ...combinations(history, step, number),
+            ...issues(history, step, number),
+            ...faults(cycle),
+            ...stays(history, step, number),
+        ];
+    }
+
+    /** How many requests and replies moved, in words. */
+    function movesText(step) {
+        const moves = step?.moves ?? [];
+        const replies = moves.filter((it) => "value" in it.message);
+        const requests = moves.length - replies.length;
+        // a reply that is split on its way is one that moved
+        const sources = new Set(replies.map((it) => it.from)).size;
+        return `${requests} ${requests === 1 ? "request" : "requests"} and ${sources} ${sources === 1 ? "reply" : "replies"} moved.`;
+    }
+
+    Object.assign(viewer, { sentencesOf, movesText });
+})((globalThis.viewer ??= {}));

@@ -1,0 +1,186 @@
+// The whole run: every request from issue to answer, every combination, and every act with its tree.
+//
+// It is worked out from the trace alone, cycle by cycle, in slices, so that a long trace can be looked at meanwhile.
+(function (viewer) {
+    "use strict";
+
+    const { Fault, emptyCycle, stepOf, positionOf, stageOf } = viewer;
+    /** Lists and texts are drawn up to these sizes. */
+    const MOST_SHOWN = 4;
+    const MOST_TEXT = 26;
+
+    function identityOf({ pe, cell }) {
+        return cell * 64 + pe;
+    }
+
+    /** The greatest number of entries and the longest text in places of each kind, up to what is drawn. */
+    class Shape {
+        constructor() {
+            this.counts = viewer.KINDS.map(() => 1);
+            this.lengths = [9, 9, 14, 9, 9, 8];
+            this.actLength = 20;
+        }
+
+        note(cycle) {
+            for (const [place, list] of cycle.places) {
+                const kind = viewer.kindOf(place);
+                this.counts[kind] = Math.min(MOST_SHOWN, Math.max(this.counts[kind], list.length));
+                if (this.lengths[kind] < MOST_TEXT) {
+                    const longest = Math.max(...list.map((it) => viewer.entryText(it).length));
+                    this.lengths[kind] = Math.min(MOST_TEXT, Math.max(this.lengths[kind], longest));
+                }
+            }
+            for (const it of cycle.acts) {
+                this.actLength = Math.max(this.actLength, viewer.actText(it).replace(/^act \d+ /, "").length);
+            }
+        }
+    }
+
+    class History {
+        constructor(trace) {
+            this.trace = trace;
+            this.cycles = 0;
+            this.isPartial = false;
+            this.shape = new Shape();
+            this.requests = [];
+            this.pairs = [];
+            this.acts = [];
+            this.faults = [];
+            this.requestsOfPe = Array.from({ length: trace.net.size }, () => []);
+            this.cells = new Map();
+            this.state = emptyCycle(-1);
+            /** The tree of each request that is on its way to memory, by its identity. */
+            this.trees = new Map();
+            /** The request of each open cell of a PE. */
+            this.open = new Map();
+        }
+
+        get isDone() {
+            return this.cycles === this.trace.count;
+        }
+
+        /** Works out so many cycles more. Throws a Fault with its line. */
+        advance(count) {
+            const last = Math.min(this.trace.count, this.cycles + count);
+            while (this.cycles < last) {
+                const cycle = this.trace.read(this.cycles);
+                this.shape.note(cycle);
+                this.absorb(cycle);
+                this.state = cycle;
+                this.cycles += 1;
+            }
+            if (this.isDone && this.trace.end) {
+                this.checkEnd();
+            }
+        }
+
+        absorb(cycle) {
+            const step = this.stepTo(cycle);
+            if (!step) {
+                return;
+            }
+            cycle.got.forEach((it) => this.answer(it, cycle.number));
+            cycle.acts.forEach((it, index) => this.serve(it, cycle.number, 1 + cycle.got.length + index));
+            cycle.faults.forEach(({ pe }) => this.faults.push({ pe, cycle: cycle.number }));
+            step.combinations.forEach((it) => this.combine(it, cycle.number));
+            step.issues.forEach((it) => this.issue(it.request, cycle.number));
+        }
+
+        /** The last cycle of a text that was cut off may lack lines: then nothing is said of what happened in it. */
+        stepTo(cycle) {
+            try {
+                return stepOf(this.trace.net, this.state, cycle);
+            } catch (fault) {
+                if (!(fault instanceof Fault)) {
+                    throw fault;
+                }
+                if (this.trace.cut?.isInCycle && cycle.number === this.trace.count - 1) {
+                    this.isPartial = true;
+                    return null;
+                }
+                fault.line = this.trace.line(fault.cycle) + fault.lineInCycle;
+                throw fault;
+            }
+        }
+
+        issue({ pe, cell, kind, word }, cycle) {
+            const number = this.requestsOfPe[pe].length;
+            const request = { pe, number, cell, kind, word, issued: cycle, parent: null, act: null, answered: null, value: null };
+            this.requests.push(request);
+            this.requestsOfPe[pe].push(request);
+            this.trees.set(identityOf(request), request);
+            this.open.set(identityOf(request), request);
+        }
+
+        combine({ queue, old, later, isOldFirst, sent }, cycle) {
+            const [oldTree, newTree] = [old, later].map((it) => this.trees.get(identityOf(it)));
+            const found = {
+                cycle, stage: stageOf(queue), position: positionOf(queue), cell: old.cell, kind: sent.kind, word: sent.word,
+                old: oldTree, later: newTree, isOldFirst, parent: null, act: null,
+            };
+            oldTree.parent = found;
+            newTree.parent = found;
+            this.pairs.push(found);
+            this.trees.set(identityOf(old), found);
+            this.trees.delete(identityOf(later));
+        }
+
+        serve({ module, request, value, now }, cycle, lineInCycle) {
+            const identity = identityOf(request);
+            const tree = this.trees.get(identity);
+            const act = { cycle, module, cell: request.cell, request, value, now, tree, index: this.acts.length };
+            this.checkValue(act, lineInCycle);
+            this.trees.delete(identity);
+            tree.act = act;
+            this.acts.push(act);
+            this.noteCell(act);
+        }
+
+        noteCell(act) {
+            const found = this.cells.get(act.cell) ?? { first: act.value, acts: [] };
+            found.acts.push(act);
+            this.cells.set(act.cell, found);
+        }
+
+        /** What an act answers is what the act before it left in the cell. */
+        checkValue(act, lineInCycle) {
+            const now = this.cells.get(act.cell)?.acts.at(-1).now;
+            if (now === undefined || act.value === null || act.value === now) {
+                return;
+            }
+            this.failAt(this.trace.line(act.cycle) + lineInCycle, `the value ${now} of cell ${act.cell}`);
+        }
+
+        answer(reply, cycle) {
+            const request = this.open.get(identityOf(reply));
+            request.answered = cycle;
+            request.value = reply.value;
+            this.open.delete(identityOf(reply));
+        }
+
+        failAt(line, expected) {
+            const fault = new Fault(0, expected);
+            fault.line = line;
+            throw fault;
+        }
+
+        /** The end has to say whether the machine is quiet, and the values that the acts left in the cells. */
+        checkEnd() {
+            const { end, index } = this.trace;
+            const isQuiet = this.state.places.size === 0 && end.pes.every((it) => it.state !== "running");
+            if (isQuiet !== end.isQuiet) {
+                this.failAt(index.end.line, isQuiet ? "'end quiet'" : "'end limit'");
+            }
+            const values = new Map(end.cells.map((it) => [it.cell, it.value]));
+            for (const [cell, { acts }] of this.cells) {
+                const now = acts.at(-1).now;
+                if ((values.get(cell) ?? 0) !== now) {
+                    const before = end.cells.filter((it) => it.cell < cell).length;
+                    this.failAt(index.end.line + 1 + before, now === 0 ? `no line 'cell ${cell}'` : `'cell ${cell} ${now}'`);
+                }
+            }
+        }
+    }
+
+    Object.assign(viewer, { History, identityOf });
+})((globalThis.viewer ??= {}));

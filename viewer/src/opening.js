@@ -1,0 +1,71 @@
+// Opens traces: from a file that is chosen or dropped on the page, or from those that the page has in it.
+(function (viewer) {
+    "use strict";
+
+    const { App, byId } = viewer;
+
+    /** The traces that `viewer/page` wrote into the page: their names and texts. */
+    function tracesInPage() {
+        return [...document.querySelectorAll("script[type='application/json'][data-trace]")].map((it) => ({
+            name: it.dataset.trace,
+            bytes: () => new TextEncoder().encode(JSON.parse(it.textContent)),
+        }));
+    }
+
+    async function openFile(app, file) {
+        if (!file) {
+            return;
+        }
+        const bytes = new Uint8Array(await file.arrayBuffer());
+        app.isListed = false;
+        app.open(file.name, bytes, viewer.readAddress(location.hash));
+    }
+
+    function openListed(app, traces, name, address) {
+        const found = traces.find((it) => it.name === name) ?? traces[0];
+        app.isListed = true;
+        byId("traces").value = found.name;
+        app.open(found.name, found.bytes(), address);
+    }
+
+    function connectFiles(app) {
+        byId("file").addEventListener("change", (event) => {
+            openFile(app, event.target.files[0]);
+            event.target.value = "";
+        });
+        addEventListener("dragover", (event) => {
+            event.preventDefault();
+            document.body.classList.add("dropping");
+        });
+        addEventListener("dragleave", () => document.body.classList.remove("dropping"));
+        addEventListener("drop", (event) => {
+            event.preventDefault();
+            document.body.classList.remove("dropping");
+            openFile(app, event.dataTransfer.files[0]);
+        });
+    }
+
+    function connectList(app, traces) {
+        byId("trace-choice").hidden = traces.length < 2;
+        byId("traces").replaceChildren(...traces.map((it) => viewer.html("option", { value: it.name }, it.name)));
+        byId("traces").addEventListener("change", (event) => openListed(app, traces, event.target.value, {}));
+    }
+
+    function followAddress(app, traces) {
+        const address = viewer.readAddress(location.hash);
+        if (traces.length > 0 && (!app.trace || (address.trace && address.trace !== app.name))) {
+            openListed(app, traces, address.trace, address);
+        } else if (app.trace) {
+            app.follow(address);
+        }
+    }
+
+    const app = new App();
+    const traces = tracesInPage();
+    viewer.app = app;
+    viewer.connect(app);
+    connectFiles(app);
+    connectList(app, traces);
+    addEventListener("hashchange", () => followAddress(app, traces));
+    followAddress(app, traces);
+})((globalThis.viewer ??= {}));

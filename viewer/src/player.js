@@ -1,0 +1,47 @@
+// Steps through the cycles at a chosen speed.
+(function (viewer) {
+    "use strict";
+
+    class Player {
+        /** `step` goes a cycle forward, and answers whether there was one; `onChange` is called at each start and stop. */
+        constructor(step, onChange) {
+            this.step = step;
+            this.onChange = onChange;
+            this.cyclesPerSecond = 1;
+            this.timer = null;
+        }
+
+        get isPlaying() {
+            return this.timer !== null;
+        }
+
+        toggle() {
+            if (this.isPlaying) {
+                this.stop();
+            } else {
+                this.start();
+            }
+        }
+
+        start() {
+            this.stop();
+            const tick = () => {
+                if (this.step()) {
+                    this.timer = setTimeout(tick, 1000 / this.cyclesPerSecond);
+                } else {
+                    this.stop();
+                }
+            };
+            this.timer = setTimeout(tick, 0);
+            this.onChange();
+        }
+
+        stop() {
+            clearTimeout(this.timer);
+            this.timer = null;
+            this.onChange();
+        }
+    }
+
+    Object.assign(viewer, { Player });
+})((globalThis.viewer ??= {}));

@@ -1,0 +1,142 @@
+// The way of one request, from its issue to its answer.
+(function (viewer) {
+    "use strict";
+
+    const { PNI, REQ, WAIT, INP, OUT, REP, placeOf, entryText } = viewer;
+
+    /** The places on the way of a request and its reply, those of the request first. */
+    function routeOf(net, { pe, cell }) {
+        const module = net.module(cell);
+        const stages = [...Array(net.stages).keys()];
+        return [
+            placeOf(PNI, 0, pe),
+            ...stages.map((it) => placeOf(REQ, it, net.line(it + 1, pe, module))),
+            placeOf(INP, 0, module),
+            placeOf(OUT, 0, module),
+            ...stages.reverse().map((it) => placeOf(REP, it, net.entry(it, pe, module))),
+        ];
+    }
+
+    /** Where a request or its reply is after a cycle: a place and the entry there, or null. */
+    function whereIs(trace, request, number) {
+        const cycle = trace.cycle(number);
+        const isOwn = (it) => it.pe === request.pe && it.cell === request.cell;
+        const route = routeOf(trace.net, request);
+        for (const place of route) {
+            const entry = cycle.places.get(place)?.find(isOwn);
+            if (entry) {
+                return { place, entry };
+            }
+        }
+        const isPartner = (it) => it.partner === request.pe && it.cell === request.cell;
+        for (const place of route.slice(1, 1 + trace.net.stages)) {
+            const wait = place + placeOf(WAIT - REQ, 0, 0);
+            const entry = cycle.places.get(wait)?.find(isPartner);
+            if (entry) {
+                return { place: wait, entry };
+            }
+        }
+        return null;
+    }
+
+    /** The pair in which a request is the new one, and so leaves its queue, or null. */
+    function absorptionOf(request) {
+        for (let tree = request; tree.parent; tree = tree.parent) {
+            if (viewer.bearerOf(tree.parent) !== request) {
+                return tree.parent;
+            }
+        }
+        return null;
+    }
+
+    /** The request whose PE and cell a request travels under after a cycle: its own, or that of one it combined with. */
+    function carrierAt(request, cycle) {
+        return viewer.bearerOf(viewer.treeAt(request, cycle));
+    }
+
+    /** What happens to a request in a cycle, in words, or nothing. */
+    function happeningsOf(history, request, number) {
+        const found = [];
+        if (number === request.issued) {
+            found.push(`PE ${request.pe} issues it`);
+        }
+        for (let tree = request; tree.parent; tree = tree.parent) {
+            const pair = tree.parent;
+            if (pair.cycle === number) {
+                found.push(meeting(request, tree, pair));
+            }
+        }
+        const act = viewer.actOf(request);
+        if (act?.cycle === number) {
+            found.push(`module ${act.module} serves it`);
+        }
+        if (number === request.answered) {
+            found.push(`PE ${request.pe} gets ${viewer.answerText(request.value)}`);
+        }
+        return found;
+    }
+
+    function meeting(request, tree, pair) {
+        const isOld = tree === pair.old;
+        const other = viewer.nameOf(viewer.bearerOf(isOld ? pair.later : pair.old));
+        const at = `at stage ${pair.stage}, position ${pair.position}`;
+        if (viewer.bearerOf(tree) !== request) {
+            return `inside ${viewer.nameOf(viewer.bearerOf(tree))}, it meets ${other} ${at}`;
+        }
+        return isOld ? `it meets ${other} ${at}, and goes on for both` : `it meets ${other} ${at}, which goes on for both`;
+    }
+
+    function isKind(place, kind) {
+        return place !== null && viewer.kindOf(place) === kind;
+    }
+
+    /** The last cycle of a story: that of the answer, or the last of the trace. */
+    function lastCycleOf(trace, request) {
+        return request.answered ?? trace.count - 1;
+    }
+
+    /** The story of a request: for each cycle where it is and what happens to it. Cycles in which it only waits are one row. */
+    function storyOf(history, request) {
+        const { trace } = history;
+        const rows = [];
+        for (let number = request.issued; number <= lastCycleOf(trace, request); number++) {
+            const where = number === request.answered ? null : whereIs(trace, request, number);
+            const happenings = happeningsOf(history, request, number);
+            const last = rows.at(-1);
+            if (last && where && isKind(last.place, WAIT) && isKind(where.place, REP)) {
+                happenings.push("the reply is split");
+            }
+            if (last && happenings.length === 0 && where && where.place === last.place && entryText(where.entry) === last.text) {
+                last.until = number;
+                continue;
+            }
+            const text = where ? entryText(where.entry) : "";
+            rows.push({ cycle: number, until: number, place: where?.place ?? null, text, happenings });
+        }
+        return rows;
+    }
+
+    /** The request of a PE for a cell that is open after a cycle, or null. A PE has at most one. */
+    function requestAt(history, { pe, cell }, cycle) {
+        const list = history.requestsOfPe[pe] ?? [];
+        let low = 0;
+        let high = list.length;
+        while (low < high) {
+            const middle = (low + high) >> 1;
+            if (list[middle].issued <= cycle) {
+                low = middle + 1;
+            } else {
+                high = middle;
+            }
+        }
+        for (let index = low - 1; index >= 0; index--) {
+            const it = list[index];
+            if (it.cell === cell) {
+                return it.answered === null || it.answered > cycle ? it : null;
+            }
+        }
+        return null;
+    }
+
+    Object.assign(viewer, { routeOf, whereIs, absorptionOf, carrierAt, storyOf, requestAt });
+})((globalThis.viewer ??= {}));

@@ -1,0 +1,113 @@
+// Stories of requests, events, cells and sentences, against the worked examples.
+"use strict";
+
+const test = require("node:test");
+const assert = require("node:assert/strict");
+const { viewer, example, exampleTraces, textOf, historyOf } = require("./support.js");
+
+function historyOfExample(name) {
+    return historyOf(textOf(example(name), "expected"));
+}
+
+function rowsOf(history, pe, number) {
+    const rows = viewer.storyOf(history, history.requestsOfPe[pe][number]);
+    return rows.map((it) => [it.cycle, it.until, it.place === null ? "" : `${viewer.placeText(it.place)}: ${it.text}`, it.happenings.join("; ")]);
+}
+
+test("the story of a request that goes on for two others", () => {
+    assert.deepEqual(rowsOf(historyOfExample("two_level_tree"), 2, 0), [
+        [2, 2, "pni 2: 2@0 faa 3", "PE 2 issues it"],
+        [3, 3, "req 0 0: 2@0 faa 4 *", "it meets 0.0 at stage 0, position 0, and goes on for both"],
+        [4, 4, "req 1 0: 2@0 faa 10 *", "it meets 3.0 at stage 1, position 0, and goes on for both"],
+        [5, 5, "inp 0: 2@0 faa 10", ""],
+        [6, 6, "out 0: 2@0 = 0", "module 0 serves it"],
+        [7, 7, "rep 1 0: 2@0 = 0", ""],
+        [8, 8, "rep 0 1: 2@0 = 0", ""],
+        [9, 9, "", "PE 2 gets 0"],
+    ]);
+});
+
+test("the story of a request that waits in two wait buffers' trees", () => {
+    assert.deepEqual(rowsOf(historyOfExample("two_level_tree"), 1, 0), [
+        [2, 2, "pni 1: 1@0 faa 2", "PE 1 issues it"],
+        [3, 3, "wait 0 2: 3@0 same 1 plus 4", "it meets 3.0 at stage 0, position 2, which goes on for both"],
+        [4, 5, "wait 0 2: 3@0 same 1 plus 4", "inside 3.0, it meets 2.0 at stage 1, position 0"],
+        [6, 7, "wait 0 2: 3@0 same 1 plus 4", "module 0 serves it"],
+        [8, 8, "rep 0 2: 1@0 = 8", "the reply is split"],
+        [9, 9, "", "PE 1 gets 8"],
+    ]);
+});
+
+test("in every example each request is somewhere in each cycle from its issue to its answer, and gets the answer of the order", () => {
+    for (const folder of exampleTraces()) {
+        const history = historyOf(textOf(folder, "expected"));
+        const replies = new Map(history.acts.flatMap(viewer.replay).map((it) => [it.request, it.reply]));
+        for (const request of history.requests) {
+            const last = request.answered ?? history.trace.count;
+            for (let cycle = request.issued; cycle < last; cycle++) {
+                assert.ok(viewer.whereIs(history.trace, request, cycle), `${folder}: ${viewer.nameOf(request)} in cycle ${cycle}`);
+            }
+            if (request.answered !== null) {
+                assert.equal(request.value, replies.get(request));
+            }
+        }
+    }
+});
+
+test("a message names the request that was open, also where a PE issues again in the cycle of an answer", () => {
+    const history = historyOfExample("open_cell_stall");
+    const message = { pe: 0, cell: 0 };
+    assert.equal(viewer.requestAt(history, message, 7).number, 0);
+    assert.equal(viewer.requestAt(history, message, 8).number, 1);
+    assert.equal(viewer.requestAt(history, message, 2), null);
+    assert.equal(viewer.requestAt(history, message, 13), null);
+});
+
+test("next acts, combinations, and events of a cell and of a PE", () => {
+    const history = historyOfExample("wait_buffer_full");
+    const acts = viewer.cyclesOf(history, "act");
+    assert.deepEqual(acts, [5, 6, 7]);
+    assert.deepEqual(viewer.cyclesOf(history, "combination"), [3]);
+    assert.deepEqual(viewer.cyclesOf(history, "cell", 2), [3, 6, 7, 8, 9]);
+    assert.deepEqual(viewer.cyclesOf(history, "pe", 0), [2, 3, 5, 6, 7, 8]);
+    assert.equal(viewer.nextCycle(acts, 5, 1), 6);
+    assert.equal(viewer.nextCycle(acts, 5, -1), null);
+    assert.equal(viewer.nextCycle(acts, 7, 1), null);
+});
+
+test("a fault is an event of its PE", () => {
+    assert.ok(viewer.cyclesOf(historyOfExample("address_fault"), "pe", 1).includes(3));
+});
+
+test("the cells that aren't 0, cycle by cycle", () => {
+    const cells = (history, cycle) => viewer.cellsAt(history, cycle).map((it) => [it.cell, it.value]);
+    const pair = historyOfExample("wraparound");
+    assert.deepEqual(cells(pair, 0), [[0, 1]]);
+    assert.deepEqual(cells(pair, pair.trace.count - 1), [[0, 4294967295]]);
+    for (const folder of exampleTraces()) {
+        const history = historyOf(textOf(folder, "expected"));
+        const { end, count } = history.trace;
+        assert.deepEqual(cells(history, count - 1), end.cells.map((it) => [it.cell, it.value]), folder);
+    }
+});
+
+test("the sentences of a cycle", () => {
+    const history = historyOfExample("two_level_tree");
+    const { trace } = history;
+    const said = (cycle) => {
+        const step = viewer.stepOf(trace.net, trace.before(cycle), trace.cycle(cycle));
+        return viewer.sentencesOf(history, trace.cycle(cycle), step).map((it) => it.map((part) => part.text ?? part).join(""));
+    };
+    assert.deepEqual(said(3), [
+        "At stage 0, position 0, 2.0 (faa 3) and 0.0 (faa 1) combine: 2@0 faa 4 goes on",
+        "At stage 0, position 2, 3.0 (faa 4) and 1.0 (faa 2) combine: 3@0 faa 6 goes on",
+    ]);
+    assert.deepEqual(said(6), ["Module 0 serves 2@0 faa 10: cell 0 was 0 and is 10"]);
+    assert.deepEqual(said(7), ["At stage 1, position 0, the reply 2@0 = 0 is split: 2@0 = 0 for 2.0 and 3@0 = 4 for 3.0"]);
+});
+
+test("a request that finds no room is said to stay", () => {
+    const { trace } = historyOfExample("narrow_reply_queues");
+    const step = viewer.stepOf(trace.net, trace.before(7), trace.cycle(7));
+    assert.deepEqual(step.stays.map((it) => viewer.placeText(it.from)), ["out 1"]);
+});
