@@ -58,9 +58,10 @@
             this.player.stop();
             clearTimeout(this.work);
             this.trace = null;
+            this.motion.clear();
+            this.say("");
             byId("opened").hidden = true;
             byId("refusal").hidden = true;
-            byId("notice").hidden = true;
             byId("facts").textContent = "";
         }
 
@@ -143,6 +144,7 @@
             if (cycle !== null) {
                 this.say("");
                 this.goTo(cycle);
+                viewer.reveal(this, sort, number);
                 return;
             }
             const isOpen = direction > 0 && !this.history.isDone;

@@ -48,11 +48,25 @@
         byId("motion").addEventListener("change", (event) => {
             app.hasMotion = event.target.checked;
         });
+        byId("texts").addEventListener("change", (event) => showTexts(app, event.target.checked));
+        connectWindow(app);
+    }
+
+    /** With the texts hidden the picture has the width of the page. */
+    function showTexts(app, isShown) {
+        byId("texts").checked = isShown;
+        byId("side").hidden = !isShown;
+        viewer.chooseScale(app);
+    }
+
+    /** Draws what comes into sight. */
+    function connectWindow(app) {
         let isWaiting = false;
         const redraw = () => {
             isWaiting = false;
             if (app.trace) {
-                app.picture.drawContent();
+                app.picture.noteWindow();
+                viewer.draw(app);
             }
         };
         const later = () => {
@@ -111,6 +125,7 @@
             "-": () => zoomBy(app, 1 / ZOOM),
             0: () => showWhole(app),
             f: () => fold(app, !app.isFolded),
+            t: () => showTexts(app, byId("side").hidden),
             Escape: () => app.closeStory(),
         };
         return acts[event.key.length === 1 ? event.key.toLowerCase() : event.key];

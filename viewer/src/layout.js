@@ -8,8 +8,8 @@
     const LABEL = 11;
     const HEADER = 14;
     const MARGIN = 14;
-    const PAD = 8;
-    const GAP = 30;
+    const PAD = 7;
+    const GAP = 26;
     const BETWEEN = 10;
     const TOP = 26;
     /** The middle of a request's lane into a switch, from the top of a port's row. */
@@ -34,7 +34,7 @@
             pe: widthOf(Math.max(lengths[PNI], lengths[REP])) + 8,
             unit: PAD + reply + GAP + request + PAD,
             module: widthOf(Math.max(lengths[INP], lengths[OUT], shape.actLength)) + 8,
-            wires: net.stages === 1 ? 56 : 48 + 8 * net.stages,
+            wires: 56 + 3 * net.stages,
         };
     }
 
@@ -102,7 +102,7 @@
             for (const [module, top] of this.rows((it) => !this.visible || this.visible.modules.has(it))) {
                 const x = this.moduleX;
                 const lane = this.lanes(top);
-                this.modules.set(module, this.note({ x, y: top, w: width, h: row - 4, top }));
+                this.modules.set(module, this.note({ x, y: top - HEADER + 2, w: width, h: row - 2, top }));
                 this.boxes.set(placeOf(INP, 0, module), { x: x + 4, y: lane.requestOut - ENTRY / 2, w: width - 8, h: ENTRY });
                 this.boxes.set(placeOf(OUT, 0, module), { x: x + 4, y: lane.replyIn - ENTRY / 2 - 3, w: width - 8, h: ENTRY });
             }
@@ -132,6 +132,15 @@
             set(REQ, { x: requestX, y: top + 2, w: request, h: listHeight(REQ) });
             set(WAIT, { x: requestX, y: waitY, w: request, h: listHeight(WAIT) });
             set(REP, { x: x + PAD, y: top + 15, w: reply, h: listHeight(REP) });
+        }
+
+        /** The left edge of the unit of a queue toward the PEs, and the right edge of that of a queue toward memory. */
+        unitEdge(box) {
+            return box.x - PAD;
+        }
+
+        farEdge(box) {
+            return box.x + box.w + PAD;
         }
 
         /** The heights at which messages enter and leave a row. */

@@ -2,23 +2,30 @@
 (function (viewer) {
     "use strict";
 
-    const { svg, styleOf, pathOf, entryText, CHARACTER } = viewer;
-    /** With more messages than this only their wires are drawn, or only dots move. */
+    const { svg, styleOf, wayOf, entryText, CHARACTER } = viewer;
+    /** With more messages than these only their wires are drawn, or only dots move. */
     const MOST_MOVING = 400;
     const MOST_WITH_TEXT = 80;
 
-    function wireOf(path, move, isSelected) {
-        const { strong } = styleOf(move.message.cell);
-        const kind = "value" in move.message ? "reply" : "request";
-        return svg("path", { class: `moved ${kind} ${isSelected ? "selected" : ""}`, d: path, stroke: strong });
+    function kindOf({ message }) {
+        return "value" in message ? "reply" : "request";
     }
 
-    /** The point of an arrow in the middle of a path, in the direction of the move. */
-    function arrowOn(wire, colour) {
-        const length = wire.getTotalLength();
-        const [before, at] = [0.3, 0.34].map((it) => wire.getPointAtLength(it * length));
-        const angle = (Math.atan2(at.y - before.y, at.x - before.x) * 180) / Math.PI;
-        return svg("path", { class: "arrow", d: "M5 0L-4 -4.5L-4 4.5z", fill: colour, transform: `translate(${at.x} ${at.y}) rotate(${angle})` });
+    function wireOf(way, move, isSelected) {
+        const { strong } = styleOf(move.message.cell);
+        return svg("path", { class: `moved ${kindOf(move)} ${isSelected ? "selected" : ""}`, d: way.path, stroke: strong });
+    }
+
+    function arrowOn({ arrow }, { message }) {
+        const { strong } = styleOf(message.cell);
+        return svg("path", { class: "arrow", d: "M6 0L-4 -5L-4 5z", fill: strong, transform: `translate(${arrow.x} ${arrow.y}) rotate(${arrow.angle})` });
+    }
+
+    /** The text of a message, beside the wire that it left by. */
+    function labelOn({ start }, move) {
+        const isReply = kindOf(move) === "reply";
+        const place = { x: start.x + (isReply ? -4 : 4), y: start.y - 4, "text-anchor": isReply ? "end" : "start" };
+        return svg("text", { class: "label", ...place }, entryText(move.message));
     }
 
     function travellerOf(move, hasText) {
@@ -48,28 +55,34 @@
             this.layer.replaceChildren();
         }
 
-        /** Draws the moves of a step. With a duration in milliseconds they are shown moving. */
-        show(layout, step, duration, isSelected) {
+        /** Draws the moves of a step that can be seen. With a duration in milliseconds they are shown moving. */
+        show(layout, step, duration, isSelected, isSeen) {
             this.clear();
-            const wires = [];
+            const drawn = [];
             for (const move of step?.moves ?? []) {
-                const path = pathOf(layout, move);
-                if (path) {
-                    wires.push({ move, wire: wireOf(path, move, isSelected(move.message)) });
+                const way = wayOf(layout, move);
+                if (way && isSeen(way.box)) {
+                    drawn.push({ move, way, wire: wireOf(way, move, isSelected(move.message)) });
                 }
             }
-            this.layer.append(...wires.map((it) => it.wire));
-            if (wires.length <= MOST_MOVING) {
-                this.layer.append(...wires.map(({ move, wire }) => arrowOn(wire, styleOf(move.message.cell).strong)));
+            this.layer.append(...drawn.map((it) => it.wire));
+            if (drawn.length <= MOST_MOVING) {
+                this.layer.append(...drawn.map(({ way, move }) => arrowOn(way, move)), ...this.labels(drawn));
                 if (duration > 0) {
-                    this.travel(wires, duration);
+                    this.travel(drawn, duration);
                 }
             }
         }
 
-        travel(wires, duration) {
-            const travellers = wires.map(({ move, wire }) => {
-                const element = travellerOf(move, wires.length <= MOST_WITH_TEXT);
+        /** A label for each message that left a place; both replies of one that is split have the text that it had before. */
+        labels(drawn) {
+            const byPlace = new Map(drawn.map((it) => [it.move.from, it]));
+            return [...byPlace.values()].map(({ way, move }) => labelOn(way, { ...move, message: move.left }));
+        }
+
+        travel(drawn, duration) {
+            const travellers = drawn.map(({ move, wire }) => {
+                const element = travellerOf(move, drawn.length <= MOST_WITH_TEXT);
                 return { element, wire, length: wire.getTotalLength() };
             });
             this.layer.append(...travellers.map((it) => it.element));

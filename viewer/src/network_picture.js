@@ -12,6 +12,7 @@
             this.element = element;
             this.window = window;
             this.scale = 1;
+            this.part = { x: 0, y: 0, w: 0, h: 0 };
             this.wires = svg("g", { class: "wires" });
             this.frames = svg("g", { class: "frames" });
             this.content = svg("g", { class: "content" });
@@ -19,7 +20,7 @@
             element.append(this.wires, this.frames, this.content, this.moves);
         }
 
-        /** Shows a view: the trace, its history, the cycle and its step, the cells, what is selected and which units are visible. */
+        /** Takes a view: the trace, its history, the cycle and its step, the cells, what is selected and which units are visible. */
         show(view) {
             const isNewLayout = !this.view || view.visible !== null || view.layoutKey !== this.view.layoutKey;
             this.view = view;
@@ -28,14 +29,24 @@
                 this.drawUnits();
             }
             this.resize();
-            this.drawContent();
         }
 
+        /** Sets the size of the picture; where nothing changes the browser has nothing to lay out. */
         resize() {
             const { width, height } = this.layout;
-            this.element.setAttribute("viewBox", `0 0 ${width} ${height}`);
-            this.element.setAttribute("width", Math.round(width * this.scale));
-            this.element.setAttribute("height", Math.round(height * this.scale));
+            const key = `${width} ${height} ${this.scale}`;
+            if (key !== this.sizeKey) {
+                this.sizeKey = key;
+                this.element.setAttribute("viewBox", `0 0 ${width} ${height}`);
+                this.element.setAttribute("width", Math.round(width * this.scale));
+                this.element.setAttribute("height", Math.round(height * this.scale));
+            }
+        }
+
+        /** Notes which part of the picture can be seen. To ask for it at each step would cost a layout of the page. */
+        noteWindow() {
+            const { scrollLeft, scrollTop, clientWidth, clientHeight } = this.window;
+            this.part = { x: scrollLeft, y: scrollTop, w: clientWidth, h: clientHeight };
         }
 
         drawUnits() {
@@ -60,12 +71,10 @@
             return [title(14, "PEs"), ...stages, title(layout.moduleX, "modules")];
         }
 
-        /** The part of the picture that can be seen, with a margin. */
+        /** Whether a box is in the part of the picture that can be seen, or near it. */
         seen() {
-            const { scrollLeft, scrollTop, clientWidth, clientHeight } = this.window;
-            const [x, y, w, h] = [scrollLeft, scrollTop, clientWidth, clientHeight].map((it) => it / this.scale);
-            const isSeen = (box) => box.x < x + w + 100 && box.x + box.w > x - 100 && box.y < y + h + 100 && box.y + box.h > y - 100;
-            return isSeen;
+            const [x, y, w, h] = [this.part.x, this.part.y, this.part.w, this.part.h].map((it) => it / this.scale);
+            return (box) => box.x < x + w + 100 && box.x + box.w > x - 100 && box.y < y + h + 100 && box.y + box.h > y - 100;
         }
 
         drawContent() {
@@ -137,7 +146,8 @@
 
         act(act, box) {
             const text = viewer.actText(act).replace(/^act \d+ /, "");
-            const isSelected = this.view.selectedAct?.cycle === act.cycle && this.view.selectedAct.module === act.module;
+            const { selectedAct, cycle } = this.view;
+            const isSelected = selectedAct && selectedAct.cycle === cycle.number && selectedAct.module === act.module;
             const classes = `act ${isSelected ? "selected" : ""}`;
             const look = { text, title: viewer.actText(act), classes, cell: act.request.cell, pe: act.request.pe, width: box.w - 8, what: `act ${act.module}` };
             return this.draw(box.x + 4, box.y + box.h / 2 - 5, look);

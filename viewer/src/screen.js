@@ -3,8 +3,9 @@
     "use strict";
 
     const { byId } = viewer;
-    const LEAST_SCALE = 0.85;
+    const LEAST_SCALE = 0.8;
     const MOST_SCALE = 1.35;
+    const ADDRESS_MILLISECONDS = 200;
 
     function peText(it) {
         const registers = it.registers.map(({ register, value }) => ` r${register}=${value}`).join("");
@@ -44,7 +45,7 @@
 
     function showPlayer(app) {
         const { isPlaying } = app.player;
-        const [mark, word] = isPlaying ? ["⏸", "Pause"] : ["▶", "Play"];
+        const [mark, word] = isPlaying ? ["❚❚", "Pause"] : ["▶", "Play"];
         byId("play").replaceChildren(viewer.html("span", { "aria-hidden": "true" }, mark), ` ${word}`);
         byId("announcement").setAttribute("aria-live", isPlaying ? "off" : "polite");
     }
@@ -76,22 +77,61 @@
         byId("announcement").textContent = `Cycle ${app.cycle}. ${viewer.movesText(view.step)} ${byId("happenings").querySelectorAll("li").length} events.`;
     }
 
+    /** Draws what can be seen of the cycle that the page is at. */
+    function draw(app, duration = 0) {
+        const { picture, motion, cycle } = app;
+        picture.drawContent();
+        motion.show(picture.layout, picture.view.step, duration, (it) => app.isSelected(it, cycle - 1), picture.seen());
+    }
+
     /** Shows the cycle that the page is at. With a duration in milliseconds its moves are shown moving. */
     function showCycle(app, duration) {
         const view = app.view();
-        const { picture } = app;
         document.body.style.setProperty("--motion", `${duration}ms`);
-        picture.show(view);
-        app.motion.show(picture.layout, view.step, duration, (it) => app.isSelected(it, app.cycle - 1));
+        app.picture.show(view);
+        draw(app, duration);
         showControls(app);
         showTexts(app, view);
         showAddress(app);
     }
 
-    function showAddress(app) {
+    function writeAddress(app) {
         const { cycle, selected, isFolded, isListed, name } = app;
         const address = { trace: isListed ? name : null, cycle, request: selected?.request, act: selected?.act, isFolded };
         history.replaceState(null, "", viewer.writeAddress(address));
+    }
+
+    /** Writes the address soon: browsers refuse a page that changes it very often. */
+    function showAddress(app) {
+        app.addressTimer ??= setTimeout(() => {
+            app.addressTimer = null;
+            if (app.trace) {
+                writeAddress(app);
+            }
+        }, ADDRESS_MILLISECONDS);
+    }
+
+    /** The boxes in which an event of a sort happened in the cycle that is shown. */
+    function boxesOfEvent(app, sort, number) {
+        const { layout, view } = app.picture;
+        const isMeant = { act: () => false, combination: () => false, cell: (it) => it.cell === number, pe: (it) => it.pe === number || it.partner === number }[sort];
+        const acts = view.cycle.acts.filter((it) => sort === "act" || isMeant(it.request)).map((it) => layout.modules.get(it.module));
+        const meetings = (view.step?.combinations ?? []).filter((it) => sort === "combination" || isMeant(it.old) || isMeant(it.later));
+        const places = [...meetings.map((it) => it.queue), ...(view.step?.issues ?? []).filter((it) => isMeant(it.request)).map((it) => it.place)];
+        const pes = [...view.cycle.got, ...view.cycle.faults].filter(isMeant).map((it) => layout.pes.get(it.pe));
+        return [...acts, ...places.map((it) => layout.boxes.get(it)), ...pes].filter(Boolean);
+    }
+
+    /** Scrolls to an event of the cycle that is shown, unless one can be seen. */
+    function reveal(app, sort, number) {
+        const { picture, window } = app;
+        const { part, scale } = picture;
+        const boxes = boxesOfEvent(app, sort, number);
+        const isInside = (it) => it.x * scale >= part.x && (it.x + it.w) * scale <= part.x + part.w && it.y * scale >= part.y && (it.y + it.h) * scale <= part.y + part.h;
+        if (boxes.length > 0 && !boxes.some(isInside)) {
+            const { x, y, w, h } = boxes[0];
+            window.scrollTo((x + w / 2) * scale - part.w / 2, (y + h / 2) * scale - part.h / 2);
+        }
     }
 
     /** Draws the picture at another scale, with the same point of it in the middle. */
@@ -103,7 +143,8 @@
         picture.scale = scale;
         picture.resize();
         window.scrollTo(x, y);
-        picture.drawContent();
+        picture.noteWindow();
+        draw(app);
     }
 
     function wholeScale(app) {
@@ -117,5 +158,5 @@
         setScale(app, Math.max(LEAST_SCALE, Math.min(MOST_SCALE, wholeScale(app))));
     }
 
-    Object.assign(viewer, { showTrace, showFacts, showPlayer, showCycle, setScale, wholeScale, chooseScale });
+    Object.assign(viewer, { showTrace, showFacts, showPlayer, showCycle, draw, setScale, wholeScale, chooseScale, reveal });
 })((globalThis.viewer ??= {}));

@@ -42,8 +42,9 @@
             this.set(place, this.list(place).slice(1));
         }
 
-        move(message, from, to) {
-            this.moves.push({ message, from, to });
+        /** A message moved. `left` is the reply that was split on the way, as it left. */
+        move(message, from, to, left = message) {
+            this.moves.push({ message, from, to, left });
         }
 
         countAfter(place) {
@@ -144,7 +145,7 @@
             for (const reply of replies) {
                 const to = placeOf(REP, stage, (position & ~1) | this.net.replyPort(stage, reply.pe));
                 this.set(to, [...this.list(to), reply]);
-                this.move(reply, from, to);
+                this.move(reply, from, to, message);
             }
         }
 

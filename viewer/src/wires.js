@@ -1,4 +1,4 @@
-// The lines along which messages move, as paths of SVG. A path is null where one of its ends isn't drawn.
+// The lines along which messages move, as paths of SVG. A way is null where one of its ends isn't drawn.
 (function (viewer) {
     "use strict";
 
@@ -39,27 +39,39 @@
         return kindOf(place) === OUT ? positionOf(place) : net.unshuffle(positionOf(place));
     }
 
-    function requestPath(layout, from, to) {
+    /** A way that begins with a wire from one unit to the next; its arrow is in the wire's middle. */
+    function way(start, end, rest) {
+        const { x, y } = start;
+        const angle = (Math.atan2(2 * (end.y - y), end.x - x) * 180) / Math.PI;
+        return {
+            path: `M${x} ${y}${curve(x, y, end.x, end.y)}${rest}`,
+            start,
+            arrow: { x: (x + end.x) / 2, y: (y + end.y) / 2, angle },
+            box: { x: Math.min(x, end.x), y: Math.min(y, end.y), w: Math.abs(end.x - x), h: Math.abs(end.y - y) },
+        };
+    }
+
+    function requestWay(layout, from, to) {
         const start = requestExit(layout, from);
         const box = layout.boxes.get(to);
         if (!start || !box) {
             return null;
         }
         if (kindOf(to) === INP) {
-            return `M${start.x} ${start.y}${curve(start.x, start.y, box.x, box.y + box.h / 2)}`;
+            return way(start, { x: box.x, y: box.y + box.h / 2 }, "");
         }
         const entry = layout.boxes.get(placeOf(REP, stageOf(to), entryAfter(layout.net, from)));
         const { requestIn } = layout.lanes(entry.top);
         const end = layout.lanes(box.top).requestOut;
         const inside = entry.x + entry.w;
-        return `M${start.x} ${start.y}${curve(start.x, start.y, entry.x - 8, requestIn)}H${inside}${curve(inside, requestIn, box.x, end)}`;
+        return way(start, { x: layout.unitEdge(entry), y: requestIn }, `H${inside}${curve(inside, requestIn, box.x, end)}`);
     }
 
-    function replyPath(layout, from, to) {
+    function replyWay(layout, from, to) {
         const start = replyExit(layout, from);
         if (to === null) {
             const pe = layout.pes.get(layout.net.unshuffle(positionOf(from)));
-            return start && pe ? `M${start.x} ${start.y}${curve(start.x, start.y, pe.x + pe.w, layout.lanes(pe.top).replyOut)}` : null;
+            return start && pe ? way(start, { x: pe.x + pe.w, y: layout.lanes(pe.top).replyOut }, "") : null;
         }
         const box = layout.boxes.get(to);
         if (!start || !box) {
@@ -68,12 +80,13 @@
         const queue = layout.boxes.get(placeOf(REQ, stageOf(to), entryBefore(layout.net, from)));
         const { replyIn } = layout.lanes(queue.top);
         const end = layout.lanes(box.top).replyOut;
-        const edge = queue.x + queue.w + 8;
-        return `M${start.x} ${start.y}${curve(start.x, start.y, edge, replyIn)}H${queue.x}${curve(queue.x, replyIn, box.x + box.w, end)}`;
+        const edge = { x: layout.farEdge(queue), y: replyIn };
+        return way(start, edge, `H${queue.x}${curve(queue.x, replyIn, box.x + box.w, end)}`);
     }
 
-    function pathOf(layout, { message, from, to }) {
-        return "value" in message ? replyPath(layout, from, to) : requestPath(layout, from, to);
+    /** The way of a message that moves: its path, where it starts, where its arrow is, and what part of the picture it is in. */
+    function wayOf(layout, { message, from, to }) {
+        return "value" in message ? replyWay(layout, from, to) : requestWay(layout, from, to);
     }
 
     /** The places from which requests or replies leave, and to which each of them may go. */
@@ -100,14 +113,14 @@
         const paths = { requests: [], replies: [] };
         for (const { from, to, isReply } of linksOf(layout.net)) {
             for (const end of to) {
-                const path = (isReply ? replyPath : requestPath)(layout, from, end);
-                if (path) {
-                    paths[isReply ? "replies" : "requests"].push(path);
+                const found = (isReply ? replyWay : requestWay)(layout, from, end);
+                if (found) {
+                    paths[isReply ? "replies" : "requests"].push(found.path);
                 }
             }
         }
         return paths;
     }
 
-    Object.assign(viewer, { pathOf, linksOf, wirePaths });
+    Object.assign(viewer, { wayOf, linksOf, wirePaths });
 })((globalThis.viewer ??= {}));

@@ -100,6 +100,11 @@ class Tab {
         return this.clickOn(`document.querySelector(${JSON.stringify(selector)})`);
     }
 
+    /** Sets a field or a choice to a value. */
+    enter(selector, value, event = "change") {
+        return this.evaluate(`{ const it = document.querySelector(${JSON.stringify(selector)}); it.value = ${JSON.stringify(value)}; it.dispatchEvent(new Event("${event}")); }`);
+    }
+
     async press(key, shift = false) {
         const text = key.length === 1 ? { text: key } : {};
         const params = { key, modifiers: shift ? 8 : 0, windowsVirtualKeyCode: KEYS[key] ?? key.toUpperCase().charCodeAt(0) };
