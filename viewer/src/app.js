@@ -131,6 +131,7 @@
                 return false;
             }
             this.goTo(cycle);
+            viewer.revealMoves(this);
             return true;
         }
 
@@ -144,7 +145,7 @@
             if (cycle !== null) {
                 this.say("");
                 this.goTo(cycle);
-                viewer.reveal(this, sort, number);
+                viewer.revealEvent(this, sort, number);
                 return;
             }
             const isOpen = direction > 0 && !this.history.isDone;

@@ -25,6 +25,7 @@
         app.isFolded = isFolded;
         byId("folded").checked = isFolded;
         app.show(0);
+        app.window.scrollTo(0, 0);
     }
 
     function connectCycles(app) {

@@ -26,7 +26,7 @@
         const requestSide = 2 + listHeight(REQ) + 3 + listHeight(WAIT) + 13;
         const replySide = 15 + listHeight(REP) + 4;
         const peSide = 14 + listHeight(PNI) + ENTRY + 6;
-        const row = Math.max(requestSide, replySide, peSide, 80);
+        const row = Math.max(requestSide, replySide, peSide, 80) + 8;
         const reply = widthOf(lengths[REP]);
         const request = widthOf(Math.max(lengths[REQ], lengths[WAIT]));
         return {
@@ -104,7 +104,7 @@
                 const lane = this.lanes(top);
                 this.modules.set(module, this.note({ x, y: top - HEADER + 2, w: width, h: row - 2, top }));
                 this.boxes.set(placeOf(INP, 0, module), { x: x + 4, y: lane.requestOut - ENTRY / 2, w: width - 8, h: ENTRY });
-                this.boxes.set(placeOf(OUT, 0, module), { x: x + 4, y: lane.replyIn - ENTRY / 2 - 3, w: width - 8, h: ENTRY });
+                this.boxes.set(placeOf(OUT, 0, module), { x: x + 4, y: lane.replyIn - ENTRY + 3, w: width - 8, h: ENTRY });
             }
         }
 

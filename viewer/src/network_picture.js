@@ -26,7 +26,7 @@
             this.view = view;
             if (isNewLayout) {
                 this.layout = new Layout(view.trace.net, view.shape, view.visible);
-                this.drawUnits();
+                this.drawUnits(view.visible ? this.seen() : () => true);
             }
             this.resize();
         }
@@ -47,20 +47,25 @@
         noteWindow() {
             const { scrollLeft, scrollTop, clientWidth, clientHeight } = this.window;
             this.part = { x: scrollLeft, y: scrollTop, w: clientWidth, h: clientHeight };
+            if (this.view?.visible) {
+                this.drawUnits(this.seen());
+            }
         }
 
-        drawUnits() {
+        /** Draws units and wires. Without empty units they differ from cycle to cycle, so only those that can be seen are drawn. */
+        drawUnits(isSeen) {
             const { layout } = this;
-            const { requests, replies } = wirePaths(layout);
+            const { requests, replies } = wirePaths(layout, isSeen);
             this.wires.replaceChildren(
                 svg("path", { class: "wire request", d: requests.join("") }),
                 svg("path", { class: "wire reply", d: replies.join("") }),
             );
             const frames = [...this.columnTitles()];
-            layout.switches.forEach((box) => frames.push(unitFrame(box, `switch ${box.number}`, "switch")));
-            layout.pes.forEach((box, pe) => frames.push(unitFrame(box, `PE ${pe}`, "pe")));
-            layout.modules.forEach((box, module) => frames.push(unitFrame(box, `module ${module}`, "module")));
-            layout.boxes.forEach((box, place) => frames.push(...placeFrame(box, place)));
+            const frame = (box, name, kind) => isSeen(box) && frames.push(unitFrame(box, name, kind));
+            layout.switches.forEach((box) => frame(box, `switch ${box.number}`, "switch"));
+            layout.pes.forEach((box, pe) => frame(box, `PE ${pe}`, "pe"));
+            layout.modules.forEach((box, module) => frame(box, `module ${module}`, "module"));
+            layout.boxes.forEach((box, place) => isSeen(box) && frames.push(...placeFrame(box, place)));
             this.frames.replaceChildren(...frames);
         }
 
@@ -150,7 +155,8 @@
             const isSelected = selectedAct && selectedAct.cycle === cycle.number && selectedAct.module === act.module;
             const classes = `act ${isSelected ? "selected" : ""}`;
             const look = { text, title: viewer.actText(act), classes, cell: act.request.cell, pe: act.request.pe, width: box.w - 8, what: `act ${act.module}` };
-            return this.draw(box.x + 4, box.y + box.h / 2 - 5, look);
+            const { requestOut, replyIn } = this.layout.lanes(box.top);
+            return this.draw(box.x + 4, (requestOut + replyIn - 5 - ENTRY) / 2, look);
         }
 
         /** What is in the cells of each module, as far as there is room for it. */

@@ -122,16 +122,34 @@
         return [...acts, ...places.map((it) => layout.boxes.get(it)), ...pes].filter(Boolean);
     }
 
-    /** Scrolls to an event of the cycle that is shown, unless one can be seen. */
-    function reveal(app, sort, number) {
+    /** The boxes to which messages moved in the cycle that is shown, and in which something happened. */
+    function boxesOfMoves(app) {
+        const { layout, view } = app.picture;
+        const acts = view.cycle.acts.map((it) => layout.modules.get(it.module));
+        const moved = (view.step?.moves ?? []).map((it) => (it.to === null ? layout.pes.get(it.message.pe) : layout.boxes.get(it.to)));
+        const issued = (view.step?.issues ?? []).map((it) => layout.boxes.get(it.place));
+        return [...acts, ...moved, ...issued].filter(Boolean);
+    }
+
+    /** Scrolls to the first of the boxes, unless one of them can be seen. */
+    function scrollToOne(app, boxes) {
         const { picture, window } = app;
         const { part, scale } = picture;
-        const boxes = boxesOfEvent(app, sort, number);
         const isInside = (it) => it.x * scale >= part.x && (it.x + it.w) * scale <= part.x + part.w && it.y * scale >= part.y && (it.y + it.h) * scale <= part.y + part.h;
         if (boxes.length > 0 && !boxes.some(isInside)) {
             const { x, y, w, h } = boxes[0];
             window.scrollTo((x + w / 2) * scale - part.w / 2, (y + h / 2) * scale - part.h / 2);
         }
+    }
+
+    /** Scrolls to an event of the cycle that is shown, unless one can be seen. */
+    function revealEvent(app, sort, number) {
+        scrollToOne(app, boxesOfEvent(app, sort, number));
+    }
+
+    /** Scrolls to where something moved in the cycle that is shown, unless that can be seen. */
+    function revealMoves(app) {
+        scrollToOne(app, boxesOfMoves(app));
     }
 
     /** Draws the picture at another scale, with the same point of it in the middle. */
@@ -158,5 +176,5 @@
         setScale(app, Math.max(LEAST_SCALE, Math.min(MOST_SCALE, wholeScale(app))));
     }
 
-    Object.assign(viewer, { showTrace, showFacts, showPlayer, showCycle, draw, setScale, wholeScale, chooseScale, reveal });
+    Object.assign(viewer, { showTrace, showFacts, showPlayer, showCycle, draw, setScale, wholeScale, chooseScale, revealEvent, revealMoves });
 })((globalThis.viewer ??= {}));

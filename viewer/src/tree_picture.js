@@ -18,8 +18,8 @@
             const height = heightOf(act.tree);
             const texts = [...this.rows.keys()].map((it) => this.leafText(it).length);
             this.leafWidth = Math.max(...texts) * CHARACTER + 14;
-            this.level = Math.max(78, Math.min(110, (330 - this.leafWidth) / (height + 1)));
-            this.width = this.leafWidth + height * this.level + 8;
+            this.level = Math.max(64, Math.min(100, (310 - this.leafWidth) / (height + 1)));
+            this.width = this.leafWidth + height * this.level + 20;
             this.height = this.rows.size * ROW + 18;
             this.drawn = [];
         }
@@ -48,11 +48,10 @@
             const x = this.leafWidth + (heightOf(tree) - 1) * this.level + 20;
             const y = (points[0].y + points[1].y) / 2;
             points.forEach((it) => this.drawn.push(svg("path", { class: "branch", d: `M${it.x} ${it.y}H${x}V${y}` })));
-            const name = `s${tree.stage}x${tree.position}`;
             this.drawn.push(
                 svg("circle", { class: "branch", cx: x, cy: y, r: 3 }, svg("title", {}, `cycle ${tree.cycle}, stage ${tree.stage}, position ${tree.position}`)),
                 svg("text", { class: "operation", x: x + 6, y: y - 4 }, nodeText(tree)),
-                svg("text", { class: "where", x: x + 6, y: y + 11 }, `${name}, cycle ${tree.cycle}`),
+                svg("text", { class: "where", x: x + 6, y: y + 11 }, `s${tree.stage}x${tree.position}`),
             );
             return { x: x + 3, y };
         }

@@ -108,13 +108,13 @@
         return links;
     }
 
-    /** The paths of all wires that are drawn, those of requests and those of replies. */
-    function wirePaths(layout) {
+    /** The paths of the wires that can be seen, those of requests and those of replies. */
+    function wirePaths(layout, isSeen) {
         const paths = { requests: [], replies: [] };
         for (const { from, to, isReply } of linksOf(layout.net)) {
             for (const end of to) {
                 const found = (isReply ? replyWay : requestWay)(layout, from, end);
-                if (found) {
+                if (found && isSeen(found.box)) {
                     paths[isReply ? "replies" : "requests"].push(found.path);
                 }
             }

@@ -3,6 +3,8 @@
 
 const assert = require("node:assert/strict");
 
+const STEPS = 40;
+
 module.exports = async (checks) => {
     const file = checks.options.large;
     if (!file) {
@@ -18,23 +20,17 @@ module.exports = async (checks) => {
         console.log(`${megabytes.toFixed(0)} MB: opened in ${seconds.toFixed(1)} s, ${await tab.evaluate("viewer.app.trace.count")} cycles`);
         assert.ok(seconds < 10, `${seconds} s`);
     });
-    const slowest = `(async () => {
-        let slowest = 0;
-        viewer.app.hasMotion = false;
-        for (let step = 0; step < 60; step++) {
-            const start = performance.now();
-            viewer.app.goTo(Math.floor((step * 7919 * viewer.app.trace.count) / 475140));
-            document.querySelector("#network").getBoundingClientRect();
-            slowest = Math.max(slowest, performance.now() - start);
-            await new Promise((it) => setTimeout(it));
-        }
-        return slowest;
-    })()`;
+    const count = await tab.evaluate("viewer.app.trace.count");
+    await tab.evaluate("viewer.app.hasMotion = false");
     for (const when of ["while its history is worked out", "when its history is done"]) {
         await checks.check(`steps anywhere in it, ${when}`, async () => {
-            const time = await tab.evaluate(slowest);
-            console.log(`${when}, the slowest of 60 steps took ${time.toFixed(0)} ms`);
-            assert.ok(time < 100, `${time} ms`);
+            const costs = [];
+            for (let step = 0; step < STEPS; step++) {
+                costs.push(await tab.cost(`viewer.app.goTo(${Math.floor((step * count) / STEPS)})`));
+            }
+            costs.sort((a, b) => a - b);
+            console.log(`${when}, a step took ${costs[STEPS >> 1].toFixed(0)} ms of processor time, at most ${costs.at(-1).toFixed(0)} ms`);
+            assert.ok(costs[STEPS >> 1] < 100, `${costs[STEPS >> 1]} ms`);
         });
         const start = Date.now();
         await tab.wait("viewer.app.history.isDone", 300);

@@ -5,18 +5,22 @@ const assert = require("node:assert/strict");
 const path = require("node:path");
 const { example, ultra, hasProgram } = require("../support.js");
 
-/** The milliseconds that each of the steps to the end of a trace takes. */
-const STEPS = `(() => {
-    const times = [];
-    viewer.app.goTo(0);
-    while (viewer.app.cycle < Math.min(60, viewer.app.trace.count - 1)) {
-        const start = performance.now();
-        viewer.app.stepBy(1);
-        document.querySelector("#network").getBoundingClientRect();
-        times.push(performance.now() - start);
+const STEPS = 30;
+const SCALES = [
+    ["at full size", "viewer.setScale(viewer.app, 1)"],
+    ["the whole picture", "viewer.setScale(viewer.app, viewer.wholeScale(viewer.app))"],
+    ["without empty units", "viewer.setScale(viewer.app, 1); viewer.app.isFolded = true"],
+];
+
+/** The processor time of each of the first steps, in milliseconds, the least first. */
+async function costsOfSteps(tab) {
+    await tab.cost("viewer.app.goTo(0)");
+    const costs = [];
+    while (costs.length < STEPS) {
+        costs.push(await tab.cost("viewer.app.stepBy(1)"));
     }
-    return times.sort((a, b) => a - b);
-})()`;
+    return costs.sort((a, b) => a - b);
+}
 
 async function sixStages(checks) {
     const settings = checks.file("six.toml", "stages = 6\n");
@@ -24,16 +28,17 @@ async function sixStages(checks) {
     const tab = await checks.tabWith(checks.file("six", text), "#cycle=4");
     await checks.picture(tab, "six_stages");
     await checks.check("at 64 PEs a step takes less than 50 ms, at each scale, and without empty units", async () => {
-        for (const set of ["viewer.setScale(viewer.app, 1)", "viewer.setScale(viewer.app, viewer.wholeScale(viewer.app))", "viewer.app.isFolded = true"]) {
+        for (const [name, set] of SCALES) {
             await tab.evaluate(set);
-            const times = await tab.evaluate(STEPS);
-            console.log(`64 PEs, ${set}: a step takes ${times[times.length >> 1].toFixed(1)} ms, at most ${times.at(-1).toFixed(1)} ms`);
-            assert.ok(times.at(-1) < 50, `${times.at(-1)} ms`);
+            const costs = await costsOfSteps(tab);
+            console.log(`64 PEs, ${name}: a step takes ${costs[STEPS >> 1].toFixed(1)} ms of processor time, at most ${costs.at(-1).toFixed(1)} ms`);
+            assert.ok(costs[STEPS >> 1] < 50, `${costs[STEPS >> 1]} ms`);
         }
     });
     await tab.evaluate("viewer.app.isFolded = false; viewer.app.goTo(6); viewer.setScale(viewer.app, viewer.wholeScale(viewer.app))");
     await checks.picture(tab, "six_stages_whole");
-    await tab.evaluate("viewer.app.isFolded = true; viewer.app.goTo(9); viewer.setScale(viewer.app, 0.85)");
+    await tab.evaluate("viewer.app.goTo(9); viewer.setScale(viewer.app, 0.85)");
+    await tab.press("f");
     await tab.evaluate("viewer.app.showAct(viewer.app.history.acts[0])");
     await checks.picture(tab, "six_stages_folded");
     await checks.checkQuiet("six stages", tab);

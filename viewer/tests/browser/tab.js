@@ -125,6 +125,15 @@ class Tab {
         await this.send("DOM.setFileInputFiles", { nodeId, files: [file] });
     }
 
+    /** The milliseconds of processor time that the page's thread takes for an expression, and for drawing what follows from it. */
+    async cost(expression) {
+        await this.send("Performance.enable", { timeDomain: "threadTicks" });
+        const time = async () => (await this.send("Performance.getMetrics")).metrics.find((it) => it.name === "TaskDuration").value;
+        const before = await time();
+        await this.evaluate(`${expression}; document.body.getBoundingClientRect(); new Promise((it) => setTimeout(it, 30))`);
+        return 1000 * ((await time()) - before);
+    }
+
     async screenshot(file) {
         const { data } = await this.send("Page.captureScreenshot", { format: "png" });
         fs.writeFileSync(file, Buffer.from(data, "base64"));
