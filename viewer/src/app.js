@@ -2,7 +2,7 @@
 (function (viewer) {
     "use strict";
 
-    const { Trace, Fault, History, NetworkPicture, Motion, Player, stepOf, visibleUnits, cellsAt } = viewer;
+    const { Trace, Fault, History, NetworkPicture, Motion, Player, stepInTrace, visibleUnits, cellsAt } = viewer;
     const SMALL_BYTES = 3_000_000;
     const SLICE_MILLISECONDS = 12;
     const SLICE_CYCLES = 8;
@@ -44,8 +44,10 @@
             this.isFolded = address.isFolded ?? false;
             viewer.showTrace(this);
             this.show(0);
-            viewer.chooseScale(this);
-            this.workOn();
+            if (this.trace) {
+                viewer.chooseScale(this);
+                this.workOn();
+            }
         }
 
         /** The sizes of the picture change only here, so that it doesn't move from cycle to cycle. */
@@ -80,6 +82,9 @@
         workOn() {
             viewer.showFacts(this);
             this.follow(this.address);
+            if (!this.trace) {
+                return;
+            }
             if (this.history.isDone) {
                 this.fixShape();
                 this.show(0);
@@ -131,7 +136,9 @@
                 return false;
             }
             this.goTo(cycle);
-            viewer.revealMoves(this);
+            if (this.trace) {
+                viewer.revealMoves(this);
+            }
             return true;
         }
 
@@ -145,7 +152,9 @@
             if (cycle !== null) {
                 this.say("");
                 this.goTo(cycle);
-                viewer.revealEvent(this, sort, number);
+                if (this.trace) {
+                    viewer.revealEvent(this, sort, number);
+                }
                 return;
             }
             const isOpen = direction > 0 && !this.history.isDone;
@@ -184,24 +193,11 @@
             byId("notice").textContent = text;
         }
 
-        /** What happened in the cycle, or null where the text was cut off in it. */
-        step(cycle) {
-            const { trace } = this;
-            try {
-                return stepOf(trace.net, trace.before(cycle), trace.cycle(cycle));
-            } catch (fault) {
-                if (fault instanceof Fault) {
-                    return null;
-                }
-                throw fault;
-            }
-        }
-
         /** What the picture and the texts show. */
         view() {
             const { trace, history, cycle, shape, isFolded } = this;
-            const step = this.step(cycle);
             const found = trace.cycle(cycle);
+            const step = stepInTrace(trace, trace.before(cycle), found);
             return {
                 trace, history, step, shape, cycle: found,
                 visible: isFolded ? visibleUnits(trace.net, found, step) : null,
@@ -221,8 +217,13 @@
             return shown.filter(isOpen).some((it) => isOf(message, it) || isOf(message, viewer.carrierAt(it, after)));
         }
 
+        /** Shows the cycle. A fault in it is found here where its history isn't worked out yet. */
         show(duration) {
-            viewer.showCycle(this, duration);
+            try {
+                viewer.showCycle(this, duration);
+            } catch (fault) {
+                this.refuse(this.name, fault);
+            }
         }
     }
 

@@ -17,25 +17,37 @@
         return low === 0 ? null : acts[low - 1];
     }
 
+    /** The cells that may have a value, by number: those on which a module has acted, and those of the end. */
+    function cellsOf(history) {
+        if (history.sortedCount !== history.cells.size) {
+            const ends = history.trace.end?.cells ?? [];
+            history.sortedCells = [...new Set([...history.cells.keys(), ...ends.map((it) => it.cell)])].sort((a, b) => a - b);
+            history.endValues = new Map(ends.map((it) => [it.cell, it.value]));
+            history.sortedCount = history.cells.size;
+        }
+        return history.sortedCells;
+    }
+
+    /** A cell on which nobody acts. */
+    function untouched(history, cell) {
+        return { first: history.endValues.get(cell), acts: [] };
+    }
+
     /**
      * The cells whose value after the cycle is known and isn't 0, by number. A cell on which nobody acts keeps the value of the
      * end. One that is stored to before anybody asks for its value isn't known until then.
      */
     function cellsAt(history, cycle) {
         const found = [];
-        for (const [cell, { first, acts }] of history.cells) {
+        for (const cell of cellsOf(history)) {
+            const { first, acts } = history.cells.get(cell) ?? untouched(history, cell);
             const act = lastAct(acts, cycle);
             const value = act ? act.now : first;
             if (value) {
                 found.push({ cell, value, isNew: act?.cycle === cycle });
             }
         }
-        for (const { cell, value } of history.trace.end?.cells ?? []) {
-            if (!history.cells.has(cell)) {
-                found.push({ cell, value, isNew: false });
-            }
-        }
-        return found.sort((a, b) => a.cell - b.cell);
+        return found;
     }
 
     Object.assign(viewer, { cellsAt });

@@ -4,7 +4,7 @@
 (function (viewer) {
     "use strict";
 
-    const { Fault, emptyCycle, stepOf, positionOf, stageOf } = viewer;
+    const { Fault, emptyCycle, stepInTrace, positionOf, stageOf } = viewer;
     /** Lists and texts are drawn up to these sizes. */
     const MOST_SHOWN = 4;
     const MOST_TEXT = 26;
@@ -40,7 +40,6 @@
         constructor(trace) {
             this.trace = trace;
             this.cycles = 0;
-            this.isPartial = false;
             this.shape = new Shape();
             this.requests = [];
             this.pairs = [];
@@ -75,7 +74,7 @@
         }
 
         absorb(cycle) {
-            const step = this.stepTo(cycle);
+            const step = stepInTrace(this.trace, this.state, cycle);
             if (!step) {
                 return;
             }
@@ -84,23 +83,6 @@
             cycle.faults.forEach(({ pe }) => this.faults.push({ pe, cycle: cycle.number }));
             step.combinations.forEach((it) => this.combine(it, cycle.number));
             step.issues.forEach((it) => this.issue(it.request, cycle.number));
-        }
-
-        /** The last cycle of a text that was cut off may lack lines: then nothing is said of what happened in it. */
-        stepTo(cycle) {
-            try {
-                return stepOf(this.trace.net, this.state, cycle);
-            } catch (fault) {
-                if (!(fault instanceof Fault)) {
-                    throw fault;
-                }
-                if (this.trace.cut?.isInCycle && cycle.number === this.trace.count - 1) {
-                    this.isPartial = true;
-                    return null;
-                }
-                fault.line = this.trace.line(fault.cycle) + fault.lineInCycle;
-                throw fault;
-            }
         }
 
         issue({ pe, cell, kind, word }, cycle) {

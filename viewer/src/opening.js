@@ -12,13 +12,18 @@
         }));
     }
 
+    /** Opens a file. One that is opened again stays at its cycle, and the first goes where the address leads. */
     async function openFile(app, file) {
         if (!file) {
             return;
         }
-        const bytes = new Uint8Array(await file.arrayBuffer());
-        app.isListed = false;
-        app.open(file.name, bytes, viewer.readAddress(location.hash));
+        const isSame = !app.trace || app.name === file.name;
+        const address = isSame ? viewer.readAddress(location.hash) : {};
+        const bytes = await file.arrayBuffer().catch((error) => app.say(`${file.name} can't be read: ${error.message}`));
+        if (bytes) {
+            app.isListed = false;
+            app.open(file.name, new Uint8Array(bytes), address);
+        }
     }
 
     function openListed(app, traces, name, address) {

@@ -309,5 +309,24 @@
         return new Step(net, before, after).run();
     }
 
-    Object.assign(viewer, { stepOf });
+    /**
+     * What happens in a cycle of a trace. The last cycle of a text that was cut off may lack lines: then nothing is said of it,
+     * and the answer is null. Else a fault has its line.
+     */
+    function stepInTrace(trace, before, cycle) {
+        try {
+            return stepOf(trace.net, before, cycle);
+        } catch (fault) {
+            if (!(fault instanceof viewer.Fault)) {
+                throw fault;
+            }
+            if (trace.cut?.isInCycle && cycle.number === trace.count - 1) {
+                return null;
+            }
+            fault.line = trace.line(fault.cycle) + fault.lineInCycle;
+            throw fault;
+        }
+    }
+
+    Object.assign(viewer, { stepOf, stepInTrace });
 })((globalThis.viewer ??= {}));

@@ -44,7 +44,14 @@ async function sixStages(checks) {
     await checks.checkQuiet("six stages", tab);
 }
 
+/** The picture that the README shows. */
+async function pictureOfReadme(checks) {
+    const tab = await checks.tabWithExample("two_level_tree", "#cycle=3", 510);
+    await checks.picture(tab, "viewer");
+}
+
 module.exports = async (checks) => {
+    await pictureOfReadme(checks);
     for (const [name, cycle, more] of [
         ["combined_pair", 3, ""],
         ["two_level_tree", 3, ""],
