@@ -1,13 +1,19 @@
-// The part of the page's address behind `#`: it names the trace, the cycle and what is shown, so that a link leads there.
+// The part of the page's address behind `#`. It names the trace, the cycle and what is shown, so a link leads there.
 (function (viewer) {
     "use strict";
 
-    /** `#trace=NAME&cycle=C&request=P.N&act=C.M`; what isn't there is undefined. */
+    /** `#trace=NAME&cycle=C&request=P.N&act=C.M&view=folded`; what isn't there is undefined. */
     function readAddress(hash) {
         const found = new URLSearchParams(hash.replace(/^#/, ""));
-        const numbers = (name) => /^(\d+)\.(\d+)$/.exec(found.get(name) ?? "")?.slice(1).map(Number);
-        const cycle = /^\d+$/.test(found.get("cycle") ?? "") ? Number(found.get("cycle")) : undefined;
-        return { trace: found.get("trace") ?? undefined, cycle, request: numbers("request"), act: numbers("act"), isFolded: found.get("view") === "folded" };
+        const text = (name) => found.get(name) ?? "";
+        const numbers = (name) => /^(\d+)\.(\d+)$/.exec(text(name))?.slice(1).map(Number);
+        return {
+            trace: found.get("trace") ?? undefined,
+            cycle: /^\d+$/.test(text("cycle")) ? Number(text("cycle")) : undefined,
+            request: numbers("request"),
+            act: numbers("act"),
+            isFolded: text("view") === "folded",
+        };
     }
 
     function writeAddress({ trace, cycle, request, act, isFolded }) {

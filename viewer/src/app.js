@@ -158,7 +158,8 @@
                 return;
             }
             const isOpen = direction > 0 && !this.history.isDone;
-            this.say(isOpen ? "The trace is still being worked out; try again." : `There is none ${direction > 0 ? "after" : "before"} this cycle.`);
+            const none = `There is none ${direction > 0 ? "after" : "before"} this cycle.`;
+            this.say(isOpen ? "The trace is still being worked out; try again." : none);
         }
 
         eventCycles(sort, number) {
@@ -209,7 +210,7 @@
             };
         }
 
-        /** Whether a message that was there after a cycle carries the request that is shown, or one of the act that is shown. */
+        /** Whether a message that was there after a cycle carries a request that is shown. */
         isSelected(message, after) {
             const { request, act } = this.selected ?? {};
             const shown = act ? viewer.leavesOf(act.tree) : [request].filter(Boolean);

@@ -21,7 +21,8 @@
     function cellsOf(history) {
         if (history.sortedCount !== history.cells.size) {
             const ends = history.trace.end?.cells ?? [];
-            history.sortedCells = [...new Set([...history.cells.keys(), ...ends.map((it) => it.cell)])].sort((a, b) => a - b);
+            const cells = new Set([...history.cells.keys(), ...ends.map((it) => it.cell)]);
+            history.sortedCells = [...cells].sort((a, b) => a - b);
             history.endValues = new Map(ends.map((it) => [it.cell, it.value]));
             history.sortedCount = history.cells.size;
         }
@@ -34,8 +35,8 @@
     }
 
     /**
-     * The cells whose value after the cycle is known and isn't 0, by number. A cell on which nobody acts keeps the value of the
-     * end. One that is stored to before anybody asks for its value isn't known until then.
+     * The cells whose value after the cycle is known and isn't 0, by number. A cell on which nobody acts
+     * keeps the value of the end. One that is stored to first isn't known until then.
      */
     function cellsAt(history, cycle) {
         const found = [];

@@ -5,6 +5,7 @@
     const { KINDS, PNI, REQ, WAIT, INP, OUT, REP, MOST_PE, MOST_STAGES, MOST_WORD } = viewer;
     const { placeOf, stageOf, positionOf, hasStage, placeText, entryText } = viewer;
     const EVENT_STARTS = ["got ", "act ", "fault "];
+    const ORDER = "lines in the order got, act, fault, pni, req, wait, inp, out, rep, each by its numbers";
     const LINE_STARTS = [...EVENT_STARTS, ...KINDS.map((it) => `${it} `)];
     /** The last is only found where a text ends in the line of the next cycle. */
     const STARTS = [...LINE_STARTS, "cycle "];
@@ -61,10 +62,8 @@
                 return entry.pe === position;
             case REQ:
                 return net.line(stageOf(place) + 1, entry.pe, module) === position;
-            case WAIT: {
-                const after = stageOf(place) + 1;
-                return net.line(after, entry.pe, module) === position && net.line(after, entry.partner, module) === position;
-            }
+            case WAIT:
+                return [entry.pe, entry.partner].every((it) => net.line(stageOf(place) + 1, it, module) === position);
             case REP:
                 return net.entry(stageOf(place), entry.pe, module) === position;
             default:
@@ -103,7 +102,7 @@
         return (index << 12) | rank;
     }
 
-    /** Reads the lines of a cycle up to the offset `end` into `cycle`, which keeps each whole line also if a later one has a fault. */
+    /** Reads the lines of a cycle up to the offset `end` into `cycle`. It keeps each whole line before one with a fault. */
     function readCycle(cursor, end, net, cycle) {
         const first = cursor.at;
         cursor.take("cycle ");
@@ -117,7 +116,7 @@
             const start = cursor.at;
             const rank = readLine(cursor, cycle, net);
             if (rank <= last) {
-                cursor.fail("lines in the order got, act, fault, pni, req, wait, inp, out, rep, each by its numbers", start);
+                cursor.fail(ORDER, start);
             }
             last = rank;
         }

@@ -83,13 +83,21 @@
         end.cells = readCells(cursor);
         end.pes = readPes(cursor);
         if (cursor.at < cursor.bytes.length) {
-            const more = end.pes.length === 0 ? "a line 'cell', or 'pe 0'" : `'pe ${end.pes.length}' or the end of the text`;
-            cursor.takeOneOf(end.pes.length === 0 ? ["cell ", "pe "] : ["pe "], more);
-            cursor.fail(`the end of the text`);
+            failBehind(cursor, end.pes.length);
         }
         if (!isMachineSize(end.pes.length)) {
             cursor.fail(`'pe ${end.pes.length}'`);
         }
+    }
+
+    /** A fault behind so many lines `pe`. */
+    function failBehind(cursor, count) {
+        if (count === 0) {
+            cursor.takeOneOf(["cell ", "pe "], "a line 'cell', or 'pe 0'");
+        } else {
+            cursor.takeOneOf(["pe "], `'pe ${count}' or the end of the text`);
+        }
+        cursor.fail("the end of the text");
     }
 
     function endText(end) {

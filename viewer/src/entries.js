@@ -9,28 +9,30 @@
         return text.length <= most ? text : `${text.slice(0, most - 1)}…`;
     }
 
-    /** An entry at a point. `look` has its text, cell, width and classes, and what a click on it names. */
+    /** What a click on an entry names. */
+    function dataOf(look) {
+        return { "data-pe": look.pe, "data-cell": look.cell, "data-what": look.what };
+    }
+
+    /** An entry at a point. `look` has its text, title, PE, cell, width and classes, and what it is. */
     function entryOf(x, y, look) {
         const { strong, light, shape } = styleOf(look.cell);
         const top = y + 1;
-        const group = svg(
+        return svg(
             "g",
-            { class: `entry ${look.classes ?? ""}`, "data-pe": look.pe, "data-cell": look.cell, "data-what": look.what },
-            svg("title", {}, look.title ?? look.text),
+            { class: `entry ${look.classes}`, ...dataOf(look) },
+            svg("title", {}, look.title),
             svg("rect", { x, y: top, width: look.width, height: ENTRY - 2, rx: 4, fill: light, stroke: strong }),
             svg("path", { d: shape, fill: strong, transform: `translate(${x + 9} ${top + ENTRY / 2 - 1})` }),
             svg("text", { x: x + 17, y: top + 10.5 }, shortened(look.text, look.width)),
         );
-        return group;
     }
 
     /** An entry where there is no room for text: its colour alone. */
     function dotOf(x, y, look) {
         const { strong } = styleOf(look.cell);
-        return svg("rect", {
-            class: `entry dot ${look.classes ?? ""}`, x, y: y + 1, width: look.width, height: ENTRY - 2, fill: strong,
-            "data-pe": look.pe, "data-cell": look.cell, "data-what": look.what,
-        });
+        const size = { x, y: y + 1, width: look.width, height: ENTRY - 2 };
+        return svg("rect", { class: `entry dot ${look.classes}`, ...size, fill: strong, ...dataOf(look) });
     }
 
     Object.assign(viewer, { entryOf, dotOf });

@@ -50,7 +50,7 @@
         }
     }
 
-    /** The next of the cycles after this one, or the one before it where `direction` is -1; null where there is none. */
+    /** The next of the cycles after this one, or where `direction` is -1 the one before it; or null. */
     function nextCycle(cycles, cycle, direction) {
         const found = direction > 0 ? cycles.find((it) => it > cycle) : cycles.findLast((it) => it < cycle);
         return found ?? null;

@@ -1,8 +1,9 @@
-// What happens in a cycle, in sentences. A part of a sentence is a text, or names a request or an act that can be shown.
+// What happens in a cycle, in sentences. A part of a sentence is a text, or names a request or an act.
 (function (viewer) {
     "use strict";
 
-    const { placeText, stageOf, positionOf, requestText, replyText, operationText, answerText, nameOf, requestAt } = viewer;
+    const { placeText, stageOf, positionOf, nameOf, requestAt } = viewer;
+    const { requestText, replyText, operationText, answerText } = viewer;
     const FAULTS = { f1: "an address that the memory doesn't have", f2: "a step past the program's end" };
 
     /** A part that names the request that a message belongs to, which was open after the cycle. */
@@ -11,16 +12,21 @@
         return request ? { text: nameOf(request), request } : `${message.pe}@${message.cell}`;
     }
 
+    function placeInWords(place) {
+        return `At stage ${stageOf(place)}, position ${positionOf(place)}`;
+    }
+
     function deliveries(history, cycle) {
-        return cycle.got.map((it) => [
-            `PE ${it.pe} gets ${answerText(it.value)}${it.value === null ? "" : ` from cell ${it.cell}`}: the answer to `,
-            requestPart(history, it, cycle.number - 1),
-        ]);
+        return cycle.got.map((it) => {
+            const from = it.value === null ? "" : ` from cell ${it.cell}`;
+            const request = requestPart(history, it, cycle.number - 1);
+            return [`PE ${it.pe} gets ${answerText(it.value)}${from}: the answer to `, request];
+        });
     }
 
     function splits(history, step, number) {
         return step.splits.map(({ place, record, message, replies }) => [
-            `At stage ${stageOf(place)}, position ${positionOf(place)}, the reply ${replyText(message)} is split: ${replyText(replies[0])} for `,
+            `${placeInWords(place)}, the reply ${replyText(message)} is split: ${replyText(replies[0])} for `,
             requestPart(history, record, number - 1),
             ` and ${replyText(replies[1])} for `,
             requestPart(history, replies[1], number - 1),
@@ -31,13 +37,14 @@
         return cycle.acts.map((it) => {
             const was = it.value === null ? "" : ` was ${it.value} and`;
             const text = `Module ${it.module} serves ${requestText(it.request)}`;
-            return [{ text, act: { cycle: cycle.number, module: it.module } }, `: cell ${it.request.cell}${was} is ${it.now}`];
+            const part = { text, act: { cycle: cycle.number, module: it.module } };
+            return [part, `: cell ${it.request.cell}${was} is ${it.now}`];
         });
     }
 
     function combinations(history, step, number) {
         return step.combinations.map(({ queue, old, later, sent }) => [
-            `At stage ${stageOf(queue)}, position ${positionOf(queue)}, `,
+            `${placeInWords(queue)}, `,
             requestPart(history, old, number - 1),
             ` (${operationText(old)}) and `,
             requestPart(history, later, number - 1),
@@ -64,7 +71,7 @@
         ]);
     }
 
-    /** The sentences of a cycle, in the order of its phases. `step` is null where the text was cut off in this cycle. */
+    /** The sentences of a cycle, in the order of its phases. Where the text was cut off in it, `step` is null. */
     function sentencesOf(history, cycle, step) {
         const { number } = cycle;
         if (!step) {
@@ -88,7 +95,8 @@
         const requests = moves.length - replies.length;
         // a reply that is split on its way is one that moved
         const sources = new Set(replies.map((it) => it.from)).size;
-        return `${requests} ${requests === 1 ? "request" : "requests"} and ${sources} ${sources === 1 ? "reply" : "replies"} moved.`;
+        const count = (number, one, more) => `${number} ${number === 1 ? one : more}`;
+        return `${count(requests, "request", "requests")} and ${count(sources, "reply", "replies")} moved.`;
     }
 
     Object.assign(viewer, { sentencesOf, movesText });

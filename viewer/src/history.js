@@ -87,7 +87,8 @@
 
         issue({ pe, cell, kind, word }, cycle) {
             const number = this.requestsOfPe[pe].length;
-            const request = { pe, number, cell, kind, word, issued: cycle, parent: null, act: null, answered: null, value: null };
+            const later = { parent: null, act: null, answered: null, value: null };
+            const request = { pe, number, cell, kind, word, issued: cycle, ...later };
             this.requests.push(request);
             this.requestsOfPe[pe].push(request);
             this.trees.set(identityOf(request), request);
@@ -96,10 +97,9 @@
 
         combine({ queue, old, later, isOldFirst, sent }, cycle) {
             const [oldTree, newTree] = [old, later].map((it) => this.trees.get(identityOf(it)));
-            const found = {
-                cycle, stage: stageOf(queue), position: positionOf(queue), cell: old.cell, kind: sent.kind, word: sent.word,
-                old: oldTree, later: newTree, isOldFirst, parent: null, act: null,
-            };
+            const { cell, kind, word } = sent;
+            const where = { stage: stageOf(queue), position: positionOf(queue) };
+            const found = { cycle, ...where, cell, kind, word, old: oldTree, later: newTree, isOldFirst, parent: null, act: null };
             oldTree.parent = found;
             newTree.parent = found;
             this.pairs.push(found);
@@ -158,7 +158,8 @@
                 const now = acts.at(-1).now;
                 if ((values.get(cell) ?? 0) !== now) {
                     const before = end.cells.filter((it) => it.cell < cell).length;
-                    this.failAt(index.end.line + 1 + before, now === 0 ? `no line 'cell ${cell}'` : `'cell ${cell} ${now}'`);
+                    const expected = now === 0 ? `no line 'cell ${cell}'` : `'cell ${cell} ${now}'`;
+                    this.failAt(index.end.line + 1 + before, expected);
                 }
             }
         }

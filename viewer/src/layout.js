@@ -101,10 +101,11 @@
             const { row, module: width } = this.sizes;
             for (const [module, top] of this.rows((it) => !this.visible || this.visible.modules.has(it))) {
                 const x = this.moduleX;
-                const lane = this.lanes(top);
+                const { requestOut, replyIn } = this.lanes(top);
+                const inside = { x: x + 4, w: width - 8, h: ENTRY };
                 this.modules.set(module, this.note({ x, y: top - HEADER + 2, w: width, h: row - 2, top }));
-                this.boxes.set(placeOf(INP, 0, module), { x: x + 4, y: lane.requestOut - ENTRY / 2, w: width - 8, h: ENTRY });
-                this.boxes.set(placeOf(OUT, 0, module), { x: x + 4, y: lane.replyIn - ENTRY + 3, w: width - 8, h: ENTRY });
+                this.boxes.set(placeOf(INP, 0, module), { ...inside, y: requestOut - ENTRY / 2 });
+                this.boxes.set(placeOf(OUT, 0, module), { ...inside, y: replyIn - ENTRY + 3 });
             }
         }
 

@@ -13,12 +13,14 @@
 
     function wireOf(way, move, isSelected) {
         const { strong } = styleOf(move.message.cell);
-        return svg("path", { class: `moved ${kindOf(move)} ${isSelected ? "selected" : ""}`, d: way.path, stroke: strong });
+        const classes = `moved ${kindOf(move)} ${isSelected ? "selected" : ""}`;
+        return svg("path", { class: classes, d: way.path, stroke: strong });
     }
 
     function arrowOn({ arrow }, { message }) {
         const { strong } = styleOf(message.cell);
-        return svg("path", { class: "arrow", d: "M6 0L-4 -5L-4 5z", fill: strong, transform: `translate(${arrow.x} ${arrow.y}) rotate(${arrow.angle})` });
+        const transform = `translate(${arrow.x} ${arrow.y}) rotate(${arrow.angle})`;
+        return svg("path", { class: "arrow", d: "M6 0L-4 -5L-4 5z", fill: strong, transform });
     }
 
     /** The text of a message, beside the wire that it left by. */
@@ -74,7 +76,7 @@
             }
         }
 
-        /** A label for each message that left a place; both replies of one that is split have the text that it had before. */
+        /** A label for each message that left a place: its text as it left, also where it was split on the way. */
         labels(drawn) {
             const byPlace = new Map(drawn.map((it) => [it.move.from, it]));
             return [...byPlace.values()].map(({ way, move }) => labelOn(way, { ...move, message: move.left }));

@@ -19,7 +19,8 @@
         }
         const isSame = !app.trace || app.name === file.name;
         const address = isSame ? viewer.readAddress(location.hash) : {};
-        const bytes = await file.arrayBuffer().catch((error) => app.say(`${file.name} can't be read: ${error.message}`));
+        const complain = (error) => app.say(`${file.name} can't be read: ${error.message}`);
+        const bytes = await file.arrayBuffer().catch(complain);
         if (bytes) {
             app.isListed = false;
             app.open(file.name, new Uint8Array(bytes), address);

@@ -2,7 +2,9 @@
 (function (viewer) {
     "use strict";
 
-    const { html, link, nameOf, operationText, answerText, placeText } = viewer;
+    const { html, svg, link, nameOf, operationText, answerText, placeText } = viewer;
+    const MOST_CELLS = 500;
+    const MOST_LINES = 400;
 
     /** A sentence whose parts are texts, requests and acts. */
     function sentence(parts, app) {
@@ -16,10 +18,24 @@
         return html("li", {}, ...children, ".");
     }
 
+    /** A list, or a remark where it is empty. */
+    function listOr(remark, items, attributes = {}) {
+        return items.length > 0 ? html("ul", attributes, ...items) : html("p", { class: "quiet" }, remark);
+    }
+
     function happeningsPanel(element, view, app) {
         const sentences = viewer.sentencesOf(view.history, view.cycle, view.step);
-        const list = sentences.length > 0 ? html("ul", {}, ...sentences.map((it) => sentence(it, app))) : html("p", { class: "quiet" }, "No message is issued, served, split or answered.");
+        const items = sentences.map((it) => sentence(it, app));
+        const list = listOr("No message is issued, served, split or answered.", items);
         element.replaceChildren(html("p", {}, viewer.movesText(view.step)), list);
+    }
+
+    /** A table with a head; each row has its attributes and its cells, which are lists of texts and elements. */
+    function table(name, head, rows) {
+        const cells = (kind, list) => list.map((it) => html(kind, {}, ...it));
+        const body = rows.map(({ attributes, columns }) => html("tr", attributes, ...cells("td", columns)));
+        const title = html("tr", {}, ...cells("th", head.map((it) => [it])));
+        return html("table", { class: name }, html("thead", {}, title), html("tbody", {}, ...body));
     }
 
     function cycleLink(cycle, app) {
@@ -27,57 +43,73 @@
     }
 
     function storyRow(row, app) {
-        const cycles = row.until > row.cycle ? [cycleLink(row.cycle, app), " to ", cycleLink(row.until, app)] : [cycleLink(row.cycle, app)];
-        const isNow = app.cycle >= row.cycle && app.cycle <= row.until;
+        const cycles = [cycleLink(row.cycle, app)];
+        if (row.until > row.cycle) {
+            cycles.push(" to ", cycleLink(row.until, app));
+        }
+        const said = row.happenings.join("; ");
         const where = row.place === null ? [] : [html("code", {}, `${placeText(row.place)}: ${row.text}`)];
-        const text = row.happenings.join("; ");
-        return html("tr", { class: isNow ? "now" : "", "aria-current": isNow ? "step" : null }, html("td", {}, ...cycles), html("td", {}, text, text && where.length > 0 ? html("br") : null, ...where));
+        const between = said && where.length > 0 ? [html("br")] : [];
+        const isNow = app.cycle >= row.cycle && app.cycle <= row.until;
+        const attributes = isNow ? { class: "now", "aria-current": "step" } : {};
+        return { attributes, columns: [cycles, [said, ...between, ...where]] };
     }
 
     function requestPanel(element, request, view, app) {
         const act = viewer.actOf(request);
         const answer = request.answered === null ? "It isn't answered in this trace." : `Its answer is ${answerText(request.value)}.`;
+        const served = act
+            ? link(`The act that served it, in cycle ${act.cycle}`, () => app.showAct(act))
+            : "It isn't served in this trace.";
         const rows = viewer.storyOf(view.history, request).map((it) => storyRow(it, app));
         element.replaceChildren(
             html("h2", {}, `Request ${nameOf(request)}`),
             html("p", {}, `PE ${request.pe}: ${operationText(request)} on cell ${request.cell}. ${answer}`),
-            act ? html("p", {}, link(`The act that served it, in cycle ${act.cycle}`, () => app.showAct(act))) : html("p", {}, "It isn't served in this trace."),
-            html("table", { class: "story" }, html("thead", {}, html("tr", {}, html("th", {}, "Cycle"), html("th", {}, "Where, and what happens"))), html("tbody", {}, ...rows)),
+            html("p", {}, served),
+            table("story", ["Cycle", "Where, and what happens"], rows),
         );
+    }
+
+    function orderRow(entry, app) {
+        const name = link(nameOf(entry.request), () => app.showRequest(entry.request));
+        return { attributes: {}, columns: [[name], [html("code", {}, viewer.orderLine(entry))], [`${entry.now}`]] };
     }
 
     function actPanel(element, act, app) {
         const replies = viewer.replay(act);
         const tree = new viewer.TreePicture(act, replies, (it) => app.showRequest(it)).element();
-        const rows = replies.map((it) =>
-            html("tr", {}, html("td", {}, link(nameOf(it.request), () => app.showRequest(it.request))), html("td", {}, html("code", {}, viewer.orderLine(it))), html("td", {}, `${it.now}`)),
-        );
-        const head = ["Request", "In the serial order", "Cell after it"].map((it) => html("th", {}, it));
+        const count = `${replies.length} ${replies.length === 1 ? "request" : "requests"}`;
+        const goTo = link(`Go to cycle ${act.cycle}`, () => app.goTo(act.cycle));
+        const rows = replies.map((it) => orderRow(it, app));
         element.replaceChildren(
             html("h2", {}, `Act of module ${act.module} in cycle ${act.cycle}`),
-            html("p", {}, `${replies.length} ${replies.length === 1 ? "request" : "requests"} for cell ${act.cell}, served at once. `, link(`Go to cycle ${act.cycle}`, () => app.goTo(act.cycle))),
+            html("p", {}, `${count} for cell ${act.cell}, served at once. `, goTo),
             html("div", { class: "scroll" }, tree),
             html("p", { class: "explanation" }, html("code", {}, viewer.explanationOf(act))),
-            html("table", { class: "order" }, html("thead", {}, html("tr", {}, ...head)), html("tbody", {}, ...rows)),
+            table("order", ["Request", "In the serial order", "Cell after it"], rows),
         );
     }
 
+    function cellItem({ cell, value, isNew }) {
+        const { strong, shape } = viewer.styleOf(cell);
+        const size = { width: 12, height: 12, viewBox: "-6 -6 12 12", "aria-hidden": "true" };
+        const mark = svg("svg", size, svg("path", { d: shape, fill: strong }));
+        return html("li", { class: isNew ? "new" : "" }, mark, ` cell ${cell}: ${value}`);
+    }
+
     function cellsPanel(element, cells) {
-        const rows = cells.slice(0, 500).map(({ cell, value, isNew }) => {
-            const { strong, shape } = viewer.styleOf(cell);
-            const mark = viewer.svg("svg", { width: 12, height: 12, viewBox: "-6 -6 12 12", "aria-hidden": "true" }, viewer.svg("path", { d: shape, fill: strong }));
-            return html("li", { class: isNew ? "new" : "" }, mark, ` cell ${cell}: ${value}`);
-        });
-        const rest = cells.length > rows.length ? html("p", {}, `and ${cells.length - rows.length} more`) : null;
-        element.replaceChildren(rows.length > 0 ? html("ul", { class: "cells" }, ...rows) : html("p", { class: "quiet" }, "Every cell is 0, as far as the trace says."), ...(rest ? [rest] : []));
+        const items = cells.slice(0, MOST_CELLS).map(cellItem);
+        const list = listOr("Every cell is 0, as far as the trace says.", items, { class: "cells" });
+        const rest = cells.length - items.length;
+        element.replaceChildren(list, ...(rest > 0 ? [html("p", {}, `and ${rest} more`)] : []));
     }
 
     function textPanel(element, trace, cycle) {
         const first = trace.line(cycle);
         const lines = trace.text(cycle).trimEnd().split("\n");
-        const shown = lines.slice(0, 400).map((it, index) => `${`${first + index}`.padStart(6)}  ${it}`);
-        const rest = lines.length > shown.length ? `\n        and ${lines.length - shown.length} lines more` : "";
-        element.textContent = shown.join("\n") + rest;
+        const shown = lines.slice(0, MOST_LINES).map((it, index) => `${`${first + index}`.padStart(6)}  ${it}`);
+        const rest = lines.length > shown.length ? [`        and ${lines.length - shown.length} lines more`] : [];
+        element.textContent = [...shown, ...rest].join("\n");
     }
 
     Object.assign(viewer, { happeningsPanel, requestPanel, actPanel, cellsPanel, textPanel });

@@ -3,7 +3,7 @@
     "use strict";
 
     class Player {
-        /** `step` goes a cycle forward, and answers whether there was one; `onChange` is called at each start and stop. */
+        /** `step` goes a cycle forward, and answers whether there was one. Each start and stop calls `onChange`. */
         constructor(step, onChange) {
             this.step = step;
             this.onChange = onChange;

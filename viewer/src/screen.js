@@ -3,8 +3,6 @@
     "use strict";
 
     const { byId } = viewer;
-    const LEAST_SCALE = 0.8;
-    const MOST_SCALE = 1.35;
     const ADDRESS_MILLISECONDS = 200;
 
     function peText(it) {
@@ -29,7 +27,8 @@
 
     function endingText(trace) {
         if (trace.cut) {
-            return `The text was cut off after its line ${trace.cut.lines}. Its end would name the number of PEs; ${trace.net.size} is a guess from the places that occur.`;
+            const guess = `Its end would name the number of PEs; ${trace.net.size} is a guess from the places that occur.`;
+            return `The text was cut off after its line ${trace.cut.lines}. ${guess}`;
         }
         return trace.end.isQuiet ? "It ends quiet." : "It ends at its limit on cycles.";
     }
@@ -38,8 +37,8 @@
         const { trace, history } = app;
         const cycles = `${trace.count} ${trace.count === 1 ? "cycle" : "cycles"}`;
         const part = Math.floor((100 * history.cycles) / trace.count);
-        const work = history.isDone ? "" : ` Stories and events are worked out up to cycle ${history.cycles} (${part} %).`;
-        byId("facts").textContent = `${app.name}: ${cycles}, ${trace.net.size} PEs. ${endingText(trace)}${work}`;
+        const far = ` Stories and events are worked out up to cycle ${history.cycles} (${part} %).`;
+        byId("facts").textContent = `${app.name}: ${cycles}, ${trace.net.size} PEs. ${endingText(trace)}${history.isDone ? "" : far}`;
         byId("facts").classList.toggle("cut", trace.cut !== null);
     }
 
@@ -74,14 +73,16 @@
             viewer.actPanel(byId("story-text"), act, app);
         }
         byId("ending").hidden = app.cycle !== app.trace.count - 1 || !app.trace.end;
-        byId("announcement").textContent = `Cycle ${app.cycle}. ${viewer.movesText(view.step)} ${byId("happenings").querySelectorAll("li").length} events.`;
+        const events = byId("happenings").querySelectorAll("li").length;
+        byId("announcement").textContent = `Cycle ${app.cycle}. ${viewer.movesText(view.step)} ${events} events.`;
     }
 
     /** Draws what can be seen of the cycle that the page is at. */
     function draw(app, duration = 0) {
         const { picture, motion, cycle } = app;
+        const isSelected = (it) => app.isSelected(it, cycle - 1);
         picture.drawContent();
-        motion.show(picture.layout, picture.view.step, duration, (it) => app.isSelected(it, cycle - 1), picture.seen());
+        motion.show(picture.layout, picture.view.step, duration, isSelected, picture.seen());
     }
 
     /** Shows the cycle that the page is at. With a duration in milliseconds its moves are shown moving. */
@@ -97,8 +98,9 @@
 
     function writeAddress(app) {
         const { cycle, selected, isFolded, isListed, name } = app;
-        const address = { trace: isListed ? name : null, cycle, request: selected?.request, act: selected?.act, isFolded };
-        history.replaceState(null, "", viewer.writeAddress(address));
+        const trace = isListed ? name : null;
+        const hash = viewer.writeAddress({ trace, cycle, isFolded, ...selected });
+        history.replaceState(null, "", hash);
     }
 
     /** Writes the address soon: browsers refuse a page that changes it very often. */
@@ -111,70 +113,5 @@
         }, ADDRESS_MILLISECONDS);
     }
 
-    /** The boxes in which an event of a sort happened in the cycle that is shown. */
-    function boxesOfEvent(app, sort, number) {
-        const { layout, view } = app.picture;
-        const isMeant = { act: () => false, combination: () => false, cell: (it) => it.cell === number, pe: (it) => it.pe === number || it.partner === number }[sort];
-        const acts = view.cycle.acts.filter((it) => sort === "act" || isMeant(it.request)).map((it) => layout.modules.get(it.module));
-        const meetings = (view.step?.combinations ?? []).filter((it) => sort === "combination" || isMeant(it.old) || isMeant(it.later));
-        const places = [...meetings.map((it) => it.queue), ...(view.step?.issues ?? []).filter((it) => isMeant(it.request)).map((it) => it.place)];
-        const pes = [...view.cycle.got, ...view.cycle.faults].filter(isMeant).map((it) => layout.pes.get(it.pe));
-        return [...acts, ...places.map((it) => layout.boxes.get(it)), ...pes].filter(Boolean);
-    }
-
-    /** The boxes to which messages moved in the cycle that is shown, and in which something happened. */
-    function boxesOfMoves(app) {
-        const { layout, view } = app.picture;
-        const acts = view.cycle.acts.map((it) => layout.modules.get(it.module));
-        const moved = (view.step?.moves ?? []).map((it) => (it.to === null ? layout.pes.get(it.message.pe) : layout.boxes.get(it.to)));
-        const issued = (view.step?.issues ?? []).map((it) => layout.boxes.get(it.place));
-        return [...acts, ...moved, ...issued].filter(Boolean);
-    }
-
-    /** Scrolls to the first of the boxes, unless one of them can be seen. */
-    function scrollToOne(app, boxes) {
-        const { picture, window } = app;
-        const { part, scale } = picture;
-        const isInside = (it) => it.x * scale >= part.x && (it.x + it.w) * scale <= part.x + part.w && it.y * scale >= part.y && (it.y + it.h) * scale <= part.y + part.h;
-        if (boxes.length > 0 && !boxes.some(isInside)) {
-            const { x, y, w, h } = boxes[0];
-            window.scrollTo((x + w / 2) * scale - part.w / 2, (y + h / 2) * scale - part.h / 2);
-        }
-    }
-
-    /** Scrolls to an event of the cycle that is shown, unless one can be seen. */
-    function revealEvent(app, sort, number) {
-        scrollToOne(app, boxesOfEvent(app, sort, number));
-    }
-
-    /** Scrolls to where something moved in the cycle that is shown, unless that can be seen. */
-    function revealMoves(app) {
-        scrollToOne(app, boxesOfMoves(app));
-    }
-
-    /** Draws the picture at another scale, with the same point of it in the middle. */
-    function setScale(app, scale) {
-        const { window, picture } = app;
-        const part = scale / picture.scale;
-        const x = (window.scrollLeft + window.clientWidth / 2) * part - window.clientWidth / 2;
-        const y = (window.scrollTop + window.clientHeight / 2) * part - window.clientHeight / 2;
-        picture.scale = scale;
-        picture.resize();
-        window.scrollTo(x, y);
-        picture.noteWindow();
-        draw(app);
-    }
-
-    function wholeScale(app) {
-        const { window, picture } = app;
-        const { width, height } = picture.layout;
-        return Math.min((window.clientWidth - 4) / width, (window.clientHeight - 4) / height);
-    }
-
-    /** The first scale: the whole picture where its text can be read, else as much of it as there is room for. */
-    function chooseScale(app) {
-        setScale(app, Math.max(LEAST_SCALE, Math.min(MOST_SCALE, wholeScale(app))));
-    }
-
-    Object.assign(viewer, { showTrace, showFacts, showPlayer, showCycle, draw, setScale, wholeScale, chooseScale, revealEvent, revealMoves });
+    Object.assign(viewer, { showTrace, showFacts, showPlayer, showCycle, draw });
 })((globalThis.viewer ??= {}));

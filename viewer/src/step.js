@@ -1,7 +1,7 @@
 // One cycle, worked out from the states before and after it: what moved, combined, was served and was issued.
 //
-// A trace doesn't name the places of a queue, so whether a head moved is read off the state after the cycle. All else follows
-// from the rules of the machine, and a state that they don't give is a fault.
+// A trace doesn't name the number of places of a queue, so whether a head moved is read off the state after the cycle.
+// All else follows from the rules of the machine, and a state that they don't give is a fault.
 (function (viewer) {
     "use strict";
 
@@ -160,7 +160,8 @@
                 }
                 const found = this.cycle.acts.find((it) => it.module === module);
                 const { reply, now } = found ? this.served(request, found) : { reply: null, now: 0 };
-                expected.push(`act ${module} ${requestText(request)}${found ? ` = ${viewer.answerText(reply)} now ${now}` : ""}`);
+                const result = found ? ` = ${viewer.answerText(reply)} now ${now}` : "";
+                expected.push(`act ${module} ${requestText(request)}${result}`);
                 this.set(place, NONE);
                 this.set(out, [{ pe: request.pe, cell: request.cell, value: reply }]);
             }
@@ -229,7 +230,7 @@
             this.combinations.sort((a, b) => a.queue - b.queue);
         }
 
-        /** A request combines with the first entry for its cell that hasn't combined here, while the wait buffer takes records. */
+        /** A request combines with the front entry for its cell that isn't marked, while the wait buffer takes records. */
         arrive({ message, from }, queue, wait, most) {
             const later = { ...message, isMarked: false };
             this.depart(from);
@@ -310,8 +311,8 @@
     }
 
     /**
-     * What happens in a cycle of a trace. The last cycle of a text that was cut off may lack lines: then nothing is said of it,
-     * and the answer is null. Else a fault has its line.
+     * What happens in a cycle of a trace. The last cycle of a text that was cut off may lack lines: then
+     * the answer is null. Else a fault has its line.
      */
     function stepInTrace(trace, before, cycle) {
         try {

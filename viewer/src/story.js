@@ -49,7 +49,7 @@
         return null;
     }
 
-    /** The request whose PE and cell a request travels under after a cycle: its own, or that of one it combined with. */
+    /** The request under whose PE and cell a request travels after a cycle: itself, or one that it met. */
     function carrierAt(request, cycle) {
         return viewer.bearerOf(viewer.treeAt(request, cycle));
     }
@@ -86,6 +86,10 @@
         return isOld ? `it meets ${other} ${at}, and goes on for both` : `it meets ${other} ${at}, which goes on for both`;
     }
 
+    function isSame(row, { place, entry }) {
+        return row.place === place && row.text === entryText(entry);
+    }
+
     function isKind(place, kind) {
         return place !== null && viewer.kindOf(place) === kind;
     }
@@ -95,7 +99,7 @@
         return request.answered ?? trace.count - 1;
     }
 
-    /** The story of a request: for each cycle where it is and what happens to it. Cycles in which it only waits are one row. */
+    /** The story of a request: where it is in each cycle, and what happens. Cycles of waiting are one row. */
     function storyOf(history, request) {
         const { trace } = history;
         const rows = [];
@@ -106,7 +110,7 @@
             if (last && where && isKind(last.place, WAIT) && isKind(where.place, REP)) {
                 happenings.push("the reply is split");
             }
-            if (last && happenings.length === 0 && where && where.place === last.place && entryText(where.entry) === last.text) {
+            if (last && where && happenings.length === 0 && isSame(last, where)) {
                 last.until = number;
                 continue;
             }

@@ -1,4 +1,4 @@
-// Combining trees, the serial order of their leaves, and the texts of both as `ultra explain` and `ultra order` write them.
+// Combining trees, the serial order of their leaves, and both as `ultra explain` and `ultra order` write them.
 (function (viewer) {
     "use strict";
 

@@ -5,10 +5,6 @@
     const { svg, styleOf, isPair, leavesOf, heightOf, nameOf, operationText, answerText, CHARACTER } = viewer;
     const ROW = 22;
 
-    function nodeText(tree) {
-        return operationText(tree);
-    }
-
     class TreePicture {
         constructor(act, replies, onRequest) {
             this.act = act;
@@ -31,12 +27,10 @@
         element() {
             const { strong } = styleOf(this.act.cell);
             this.draw(this.act.tree);
-            const label = `Combining tree of ${this.rows.size} ${this.rows.size === 1 ? "request" : "requests"}, in serial order from the top`;
-            return svg(
-                "svg",
-                { class: "tree", width: this.width, height: this.height, viewBox: `0 0 ${this.width} ${this.height}`, role: "img", "aria-label": label, style: `--cell: ${strong}` },
-                ...this.drawn,
-            );
+            const { width, height } = this;
+            const label = `Combining tree, with its ${this.rows.size} leaves in serial order from the top`;
+            const size = { width, height, viewBox: `0 0 ${width} ${height}` };
+            return svg("svg", { class: "tree", ...size, role: "img", "aria-label": label, style: `--cell: ${strong}` }, ...this.drawn);
         }
 
         /** Draws a tree, and answers the point from which it goes on to the right. */
@@ -49,8 +43,8 @@
             const y = (points[0].y + points[1].y) / 2;
             points.forEach((it) => this.drawn.push(svg("path", { class: "branch", d: `M${it.x} ${it.y}H${x}V${y}` })));
             this.drawn.push(
-                svg("circle", { class: "branch", cx: x, cy: y, r: 3 }, svg("title", {}, `cycle ${tree.cycle}, stage ${tree.stage}, position ${tree.position}`)),
-                svg("text", { class: "operation", x: x + 6, y: y - 4 }, nodeText(tree)),
+                svg("circle", { class: "branch", cx: x, cy: y, r: 3 }, svg("title", {}, `met in cycle ${tree.cycle}`)),
+                svg("text", { class: "operation", x: x + 6, y: y - 4 }, operationText(tree)),
                 svg("text", { class: "where", x: x + 6, y: y + 11 }, `s${tree.stage}x${tree.position}`),
             );
             return { x: x + 3, y };

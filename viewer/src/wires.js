@@ -64,7 +64,8 @@
         const { requestIn } = layout.lanes(entry.top);
         const end = layout.lanes(box.top).requestOut;
         const inside = entry.x + entry.w;
-        return way(start, { x: layout.unitEdge(entry), y: requestIn }, `H${inside}${curve(inside, requestIn, box.x, end)}`);
+        const edge = { x: layout.unitEdge(entry), y: requestIn };
+        return way(start, edge, `H${inside}${curve(inside, requestIn, box.x, end)}`);
     }
 
     function replyWay(layout, from, to) {
@@ -84,7 +85,7 @@
         return way(start, edge, `H${queue.x}${curve(queue.x, replyIn, box.x + box.w, end)}`);
     }
 
-    /** The way of a message that moves: its path, where it starts, where its arrow is, and what part of the picture it is in. */
+    /** The way of a message that moves: its path, where it starts, where its arrow is, and the box of its wire. */
     function wayOf(layout, { message, from, to }) {
         return "value" in message ? replyWay(layout, from, to) : requestWay(layout, from, to);
     }
@@ -98,9 +99,11 @@
             links.push({ from: pni, to: ports(REQ, 0, entryAfter(net, pni)), isReply: false });
             links.push({ from: placeOf(OUT, 0, position), to: ports(REP, net.stages - 1, position), isReply: true });
             links.push({ from: placeOf(REP, 0, position), to: [null], isReply: true });
-            links.push({ from: placeOf(REQ, net.stages - 1, position), to: [placeOf(INP, 0, position)], isReply: false });
+            const last = placeOf(REQ, net.stages - 1, position);
+            links.push({ from: last, to: [placeOf(INP, 0, position)], isReply: false });
             for (let stage = 0; stage + 1 < net.stages; stage++) {
-                links.push({ from: placeOf(REQ, stage, position), to: ports(REQ, stage + 1, net.shuffle(position)), isReply: false });
+                const req = placeOf(REQ, stage, position);
+                links.push({ from: req, to: ports(REQ, stage + 1, entryAfter(net, req)), isReply: false });
                 const rep = placeOf(REP, stage + 1, position);
                 links.push({ from: rep, to: ports(REP, stage, entryBefore(net, rep)), isReply: true });
             }

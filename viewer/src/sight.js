@@ -1,0 +1,87 @@
+// Which part of the picture can be seen: its scale, and where it is scrolled to.
+(function (viewer) {
+    "use strict";
+
+    const LEAST_SCALE = 0.8;
+    const MOST_SCALE = 1.35;
+
+    /** Draws the picture at another scale, with the same point of it in the middle. */
+    function setScale(app, scale) {
+        const { window, picture } = app;
+        const part = scale / picture.scale;
+        const x = (window.scrollLeft + window.clientWidth / 2) * part - window.clientWidth / 2;
+        const y = (window.scrollTop + window.clientHeight / 2) * part - window.clientHeight / 2;
+        picture.scale = scale;
+        picture.resize();
+        window.scrollTo(x, y);
+        picture.noteWindow();
+        viewer.draw(app);
+    }
+
+    function wholeScale(app) {
+        const { window, picture } = app;
+        const { width, height } = picture.layout;
+        return Math.min((window.clientWidth - 4) / width, (window.clientHeight - 4) / height);
+    }
+
+    /** The first scale: the whole picture where its text can be read, else as much of it as there is room for. */
+    function chooseScale(app) {
+        setScale(app, Math.max(LEAST_SCALE, Math.min(MOST_SCALE, wholeScale(app))));
+    }
+
+    /** Whether a message or a combination is of the sort that is looked for. */
+    function isMeant(message, sort, number) {
+        return sort === "cell" ? message.cell === number : sort === "pe" && message.pe === number;
+    }
+
+    /** The boxes in which an event of a sort happened in the cycle that is shown. */
+    function boxesOfEvent(app, sort, number) {
+        const { layout, view } = app.picture;
+        const ofSort = (it) => isMeant(it, sort, number);
+        const acts = view.cycle.acts.filter((it) => sort === "act" || ofSort(it.request));
+        const meetings = view.step?.combinations ?? [];
+        const meant = meetings.filter((it) => sort === "combination" || ofSort(it.old) || ofSort(it.later));
+        const issues = (view.step?.issues ?? []).filter((it) => ofSort(it.request));
+        const ends = [...view.cycle.got, ...view.cycle.faults].filter(ofSort);
+        return [
+            ...acts.map((it) => layout.modules.get(it.module)),
+            ...meant.map((it) => layout.boxes.get(it.queue)),
+            ...issues.map((it) => layout.boxes.get(it.place)),
+            ...ends.map((it) => layout.pes.get(it.pe)),
+        ].filter(Boolean);
+    }
+
+    /** The boxes to which messages moved in the cycle that is shown, and in which something happened. */
+    function boxesOfMoves(app) {
+        const { layout, view } = app.picture;
+        const target = (it) => (it.to === null ? layout.pes.get(it.message.pe) : layout.boxes.get(it.to));
+        return [
+            ...view.cycle.acts.map((it) => layout.modules.get(it.module)),
+            ...(view.step?.moves ?? []).map(target),
+            ...(view.step?.issues ?? []).map((it) => layout.boxes.get(it.place)),
+        ].filter(Boolean);
+    }
+
+    /** Scrolls to the first of the boxes, unless one of them can be seen. */
+    function scrollToOne(app, boxes) {
+        const { part, scale } = app.picture;
+        const isWithin = (least, size, start, length) => least * scale >= start && (least + size) * scale <= start + length;
+        const isInside = (it) => isWithin(it.x, it.w, part.x, part.w) && isWithin(it.y, it.h, part.y, part.h);
+        if (boxes.length > 0 && !boxes.some(isInside)) {
+            const { x, y, w, h } = boxes[0];
+            app.window.scrollTo((x + w / 2) * scale - part.w / 2, (y + h / 2) * scale - part.h / 2);
+        }
+    }
+
+    /** Scrolls to an event of the cycle that is shown, unless one can be seen. */
+    function revealEvent(app, sort, number) {
+        scrollToOne(app, boxesOfEvent(app, sort, number));
+    }
+
+    /** Scrolls to where something moved in the cycle that is shown, unless that can be seen. */
+    function revealMoves(app) {
+        scrollToOne(app, boxesOfMoves(app));
+    }
+
+    Object.assign(viewer, { setScale, wholeScale, chooseScale, revealEvent, revealMoves });
+})((globalThis.viewer ??= {}));
