@@ -173,6 +173,7 @@
 
         showRequest(request) {
             this.selected = request ? { request } : null;
+            viewer.chooseEvents(request);
             this.show(0);
             byId("story").scrollIntoView?.({ block: "nearest" });
         }
@@ -205,6 +206,7 @@
                 layoutKey: `${this.layoutCount} ${isFolded}`,
                 cells: cellsAt(history, cycle),
                 arrivals: arrivalsOf(step),
+                request: this.selected?.request,
                 selectedAct: this.selected?.act,
                 isSelected: (message, after) => this.isSelected(message, after),
             };

@@ -26,7 +26,7 @@
     /** The text of a message, beside the wire that it left by. */
     function labelOn({ start }, move) {
         const isReply = kindOf(move) === "reply";
-        const place = { x: start.x + (isReply ? -11 : 4), y: start.y - 4, "text-anchor": isReply ? "end" : "start" };
+        const place = { x: start.x + (isReply ? -11 : 4), y: start.y - 6, "text-anchor": isReply ? "end" : "start" };
         return svg("text", { class: "label", ...place }, entryText(move.message));
     }
 

@@ -2,7 +2,7 @@
 (function (viewer) {
     "use strict";
 
-    const { svg, Layout, Contents, wirePaths, framesOf } = viewer;
+    const { svg, Layout, Contents, wirePaths, routePaths, framesOf } = viewer;
     /** What is this near to the part that can be seen is drawn too. */
     const NEAR = 100;
     /** Below this scale text can't be read, and entries are drawn as colours alone. */
@@ -16,9 +16,10 @@
             this.part = { x: 0, y: 0, w: 0, h: 0 };
             this.wires = svg("g", { class: "wires" });
             this.frames = svg("g", { class: "frames" });
+            this.route = svg("path", { class: "route" });
             this.content = svg("g", { class: "content" });
             this.moves = svg("g", { class: "moves" });
-            element.append(this.wires, this.frames, this.content, this.moves);
+            element.append(this.wires, this.frames, this.route, this.content, this.moves);
         }
 
         /** Takes a view, as `App.view` gives it, and draws the units anew where their places change. */
@@ -74,6 +75,8 @@
             const hasText = this.scale >= TEXT_SCALE;
             const contents = new Contents(this.layout, this.view, this.seen(), hasText);
             this.content.replaceChildren(...contents.draw());
+            const { request } = this.view;
+            this.route.setAttribute("d", request ? routePaths(this.layout, request).join("") : "");
             this.element.classList.toggle("small", !hasText);
         }
     }

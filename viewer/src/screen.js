@@ -96,6 +96,13 @@
         showAddress(app);
     }
 
+    /** The next event that is looked for is one of the cell or of the PE of this request. */
+    function chooseEvents(request) {
+        if (request) {
+            byId("event-number").value = byId("event-sort").value === "pe" ? request.pe : request.cell;
+        }
+    }
+
     function writeAddress(app) {
         const { cycle, selected, isFolded, isListed, name } = app;
         const trace = isListed ? name : null;
@@ -113,5 +120,5 @@
         }, ADDRESS_MILLISECONDS);
     }
 
-    Object.assign(viewer, { showTrace, showFacts, showPlayer, showCycle, draw });
+    Object.assign(viewer, { showTrace, showFacts, showPlayer, showCycle, chooseEvents, draw });
 })((globalThis.viewer ??= {}));

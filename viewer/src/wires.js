@@ -90,6 +90,21 @@
         return "value" in message ? replyWay(layout, from, to) : requestWay(layout, from, to);
     }
 
+    /** The paths of the wires from place to place on the whole way of a request and its reply. */
+    function routePaths(layout, request) {
+        const places = viewer.routeOf(layout.net, request);
+        const out = places.findIndex((it) => kindOf(it) === OUT);
+        return places
+            .map((from, index) => {
+                if (index < out - 1) {
+                    return requestWay(layout, from, places[index + 1]);
+                }
+                return index < out ? null : replyWay(layout, from, places[index + 1] ?? null);
+            })
+            .filter(Boolean)
+            .map((it) => it.path);
+    }
+
     /** The places from which requests or replies leave, and to which each of them may go. */
     function linksOf(net) {
         const links = [];
@@ -125,5 +140,5 @@
         return paths;
     }
 
-    Object.assign(viewer, { wayOf, linksOf, wirePaths });
+    Object.assign(viewer, { wayOf, linksOf, wirePaths, routePaths });
 })((globalThis.viewer ??= {}));
