@@ -22,10 +22,14 @@
         "M-4.2 -3.4H4.2L0 4.2z",
     ];
 
+    /** The same shapes as signs of a text. */
+    const SIGNS = [..."●■▲◆✚▼"];
+
     /** Eight cells in a row have eight colours, and each eight have another shape, six in all. */
     function styleOf(cell) {
         const [strong, light] = COLOURS[cell % COLOURS.length];
-        return { strong, light, shape: SHAPES[Math.floor(cell / COLOURS.length) % SHAPES.length] };
+        const shape = Math.floor(cell / COLOURS.length) % SHAPES.length;
+        return { strong, light, shape: SHAPES[shape], sign: SIGNS[shape] };
     }
 
     Object.assign(viewer, { styleOf });

@@ -2,8 +2,8 @@
 (function (viewer) {
     "use strict";
 
-    const { html, svg, link, nameOf, operationText, answerText, placeText } = viewer;
-    const MOST_CELLS = 500;
+    const { html, link, nameOf, operationText, answerText, placeText } = viewer;
+    const MOST_CELLS = 200;
     const MOST_LINES = 400;
 
     /** A sentence whose parts are texts, requests and acts. */
@@ -91,17 +91,21 @@
     }
 
     function cellItem({ cell, value, isNew }) {
-        const { strong, shape } = viewer.styleOf(cell);
-        const size = { width: 12, height: 12, viewBox: "-6 -6 12 12", "aria-hidden": "true" };
-        const mark = svg("svg", size, svg("path", { d: shape, fill: strong }));
-        return html("li", { class: isNew ? "new" : "" }, mark, ` cell ${cell}: ${value}`);
+        const { strong, sign } = viewer.styleOf(cell);
+        const mark = html("span", { style: `color: ${strong}`, "aria-hidden": "true" }, sign);
+        return html("li", isNew ? { class: "new" } : {}, mark, ` cell ${cell}: ${value}`);
     }
 
-    function cellsPanel(element, cells) {
-        const items = cells.slice(0, MOST_CELLS).map(cellItem);
+    /** The cells; of very many only the first, until all are asked for. */
+    function cellsPanel(element, cells, app) {
+        const items = cells.slice(0, app.hasAllCells ? cells.length : MOST_CELLS).map(cellItem);
         const list = listOr("Every cell is 0, as far as the trace says.", items, { class: "cells" });
         const rest = cells.length - items.length;
-        element.replaceChildren(list, ...(rest > 0 ? [html("p", {}, `and ${rest} more`)] : []));
+        const more = link(`and ${rest} more`, () => {
+            app.hasAllCells = true;
+            app.show(0);
+        });
+        element.replaceChildren(list, ...(rest > 0 ? [more] : []));
     }
 
     function textPanel(element, trace, cycle) {

@@ -63,7 +63,7 @@
 
     function showTexts(app, view) {
         viewer.happeningsPanel(byId("happenings"), view, app);
-        viewer.cellsPanel(byId("cells"), view.cells);
+        viewer.cellsPanel(byId("cells"), view.cells, app);
         viewer.textPanel(byId("text"), app.trace, app.cycle);
         const { request, act } = app.selected ?? {};
         byId("story").hidden = !app.selected;

@@ -1,4 +1,4 @@
-// Settings for runs of the examples' programs, drawn by a fixed rule from a number.
+// Settings and programs for runs, drawn by a fixed rule from a number.
 "use strict";
 
 /** Numbers that look random and are the same on every machine (the generator mulberry32). */
@@ -48,4 +48,31 @@ function randomSettings(draws, stages) {
     ].join("\n");
 }
 
-module.exports = { Draws, randomSettings };
+/** Requests of all kinds for a few cells, most of them without a fence between. */
+function randomRequests(draws) {
+    const lines = [];
+    for (let left = draws.from(8, 30); left > 0; left--) {
+        const address = `r${draws.from(2, 5)}`;
+        const data = `r${draws.from(1, 5)}`;
+        const target = `r${draws.from(6, 15)}`;
+        const requests = [
+            `ld ${target} ${address}`,
+            `st ${address} ${data}`,
+            `faa ${target} ${address} ${data}`,
+            `swap ${target} ${address} ${data}`,
+        ];
+        lines.push(draws.from(0, 20) === 0 ? "fence" : draws.of(requests));
+    }
+    return [...lines, "halt"];
+}
+
+/** A program whose PEs begin after different times, and in which those with odd numbers make other requests. */
+function randomProgram(draws) {
+    const cells = [2, 3, 4, 5].map((it) => `li r${it} ${draws.of([0, 0, 1, 2, 4, 8])}`);
+    const mask = draws.of([0, 1, 3, 7, 31]);
+    const delay = ["pid r1", "li r7 1", `li r8 ${mask}`, "and r8 r1 r8", "wait:", "jz r8 start", "sub r8 r8 r7", "jmp wait"];
+    const start = [...delay, "start:", "and r6 r1 r7", ...cells, "jnz r6 odd"];
+    return [...start, ...randomRequests(draws), "odd:", ...randomRequests(draws), ""].join("\n");
+}
+
+module.exports = { Draws, randomSettings, randomProgram };

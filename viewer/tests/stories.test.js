@@ -81,9 +81,10 @@ test("a fault is an event of its PE", () => {
 
 test("the cells that aren't 0, cycle by cycle", () => {
     const cells = (history, cycle) => viewer.cellsAt(history, cycle).map((it) => [it.cell, it.value]);
-    const pair = historyOfExample("wraparound");
-    assert.deepEqual(cells(pair, 0), [[0, 1]]);
-    assert.deepEqual(cells(pair, pair.trace.count - 1), [[0, 4294967295]]);
+    const wraparound = historyOfExample("wraparound");
+    assert.deepEqual([0, 4, 5, 7].map((it) => cells(wraparound, it)), [[[0, 1]], [[0, 1]], [[0, 4294967295]], [[0, 4294967295]]]);
+    const full = historyOfExample("wait_buffer_full");
+    assert.deepEqual([4, 5, 6, 7].map((it) => cells(full, it)), [[], [[0, 2]], [[0, 2], [2, 1]], [[0, 2], [2, 2]]]);
     for (const folder of exampleTraces()) {
         const history = historyOf(textOf(folder, "expected"));
         const { end, count } = history.trace;

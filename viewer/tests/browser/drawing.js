@@ -61,7 +61,7 @@ module.exports = async (checks) => {
             "At stage 0, position 2, 3.0 (faa 4) and 1.0 (faa 2) combine: 3@0 faa 6 goes on.",
         ]);
         await tab.evaluate("viewer.app.goTo(9)");
-        assert.deepEqual(await tab.texts("#cells li"), [" cell 0: 10"]);
+        assert.deepEqual(await tab.texts("#cells li"), ["● cell 0: 10"]);
         assert.match(await tab.text("#ending-text"), /^PE 0: halted, at instruction 3/);
     });
 };

@@ -134,6 +134,12 @@ class Tab {
         return 1000 * ((await time()) - before);
     }
 
+    /** The milliseconds by the clock that an expression takes, with the layout of what follows from it. */
+    time(expression) {
+        const layout = "document.body.getBoundingClientRect()";
+        return this.evaluate(`{ const start = performance.now(); ${expression}; ${layout}; performance.now() - start; }`);
+    }
+
     async screenshot(file) {
         const { data } = await this.send("Page.captureScreenshot", { format: "png" });
         fs.writeFileSync(file, Buffer.from(data, "base64"));
