@@ -24,7 +24,7 @@
             this.hasMotion = !matchMedia("(prefers-reduced-motion: reduce)").matches;
             this.selected = null;
             this.layoutCount = 0;
-            this.hasAllCells = false;
+            this.hasAll = false;
         }
 
         /** Opens a text. One that isn't a trace is refused, with the line and what was expected there. */

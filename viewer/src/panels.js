@@ -3,7 +3,9 @@
     "use strict";
 
     const { html, link, nameOf, operationText, answerText, placeText } = viewer;
-    const MOST_CELLS = 200;
+    /** Lists are shown up to these lengths, until all of them is asked for. */
+    const MOST_SENTENCES = 60;
+    const MOST_CELLS = 100;
     const MOST_LINES = 400;
 
     /** A sentence whose parts are texts, requests and acts. */
@@ -23,11 +25,22 @@
         return items.length > 0 ? html("ul", attributes, ...items) : html("p", { class: "quiet" }, remark);
     }
 
+    /** A button that shows the rest of all lists, where there is a rest. */
+    function more(rest, app) {
+        const showAll = () => {
+            app.hasAll = true;
+            app.show(0);
+        };
+        return rest > 0 ? [link(`and ${rest} more`, showAll)] : [];
+    }
+
     function happeningsPanel(element, view, app) {
         const sentences = viewer.sentencesOf(view.history, view.cycle, view.step);
-        const items = sentences.map((it) => sentence(it, app));
+        const shown = app.hasAll ? sentences : sentences.slice(0, MOST_SENTENCES);
+        const items = shown.map((it) => sentence(it, app));
         const list = listOr("No message is issued, served, split or answered.", items);
-        element.replaceChildren(html("p", {}, viewer.movesText(view.step)), list);
+        const moves = html("p", {}, viewer.movesText(view.step));
+        element.replaceChildren(moves, list, ...more(sentences.length - shown.length, app));
     }
 
     /** A table with a head; each row has its attributes and its cells, which are lists of texts and elements. */
@@ -96,16 +109,10 @@
         return html("li", isNew ? { class: "new" } : {}, mark, ` cell ${cell}: ${value}`);
     }
 
-    /** The cells; of very many only the first, until all are asked for. */
     function cellsPanel(element, cells, app) {
-        const items = cells.slice(0, app.hasAllCells ? cells.length : MOST_CELLS).map(cellItem);
+        const items = cells.slice(0, app.hasAll ? cells.length : MOST_CELLS).map(cellItem);
         const list = listOr("Every cell is 0, as far as the trace says.", items, { class: "cells" });
-        const rest = cells.length - items.length;
-        const more = link(`and ${rest} more`, () => {
-            app.hasAllCells = true;
-            app.show(0);
-        });
-        element.replaceChildren(list, ...(rest > 0 ? [more] : []));
+        element.replaceChildren(list, ...more(cells.length - items.length, app));
     }
 
     function textPanel(element, trace, cycle) {

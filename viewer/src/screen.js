@@ -4,6 +4,8 @@
 
     const { byId } = viewer;
     const ADDRESS_MILLISECONDS = 200;
+    /** So many sentences of a cycle are spoken by a screen reader. */
+    const SPOKEN_SENTENCES = 5;
 
     function peText(it) {
         const registers = it.registers.map(({ register, value }) => ` r${register}=${value}`).join("");
@@ -73,8 +75,8 @@
             viewer.actPanel(byId("story-text"), act, app);
         }
         byId("ending").hidden = app.cycle !== app.trace.count - 1 || !app.trace.end;
-        const events = byId("happenings").querySelectorAll("li").length;
-        byId("announcement").textContent = `Cycle ${app.cycle}. ${viewer.movesText(view.step)} ${events} events.`;
+        const sentences = [...byId("happenings").querySelectorAll("li")].slice(0, SPOKEN_SENTENCES).map((it) => it.textContent);
+        byId("announcement").textContent = [`Cycle ${app.cycle}.`, viewer.movesText(view.step), ...sentences].join(" ");
     }
 
     /** Draws what can be seen of the cycle that the page is at. */
