@@ -23,10 +23,11 @@
         return svg("path", { class: "arrow", d: "M6 0L-4 -5L-4 5z", fill: strong, transform });
     }
 
-    /** The text of a message, beside the wire that it left by. */
-    function labelOn({ start }, move) {
+    /** The text of a message, beside the wire that it left by: above it, or below it where the wire goes up. */
+    function labelOn({ start, arrow }, move) {
         const isReply = kindOf(move) === "reply";
-        const place = { x: start.x + (isReply ? -11 : 4), y: start.y - 6, "text-anchor": isReply ? "end" : "start" };
+        const y = start.y + (arrow.y < start.y - 4 ? 12 : -6);
+        const place = { x: start.x + (isReply ? -11 : 4), y, "text-anchor": isReply ? "end" : "start" };
         return svg("text", { class: "label", ...place }, entryText(move.message));
     }
 

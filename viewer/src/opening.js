@@ -19,6 +19,7 @@
         }
         const isSame = !app.trace || app.name === file.name;
         const address = isSame ? viewer.readAddress(location.hash) : {};
+        app.say(`Reading ${file.name} …`);
         const complain = (error) => app.say(`${file.name} can't be read: ${error.message}`);
         const bytes = await file.arrayBuffer().catch(complain);
         if (bytes) {

@@ -40,15 +40,27 @@
             return this.index.offsets.length;
         }
 
+        /** Reads; a fault gets its line, and whether the text was cut off there. */
         withLine(read) {
             try {
-                return read();
+                read();
             } catch (fault) {
                 if (fault instanceof Fault && fault.line === undefined) {
                     fault.line = lineAt(this.bytes, fault.at);
                     fault.isCut = fault.at >= this.bytes.length;
                 }
                 throw fault;
+            }
+        }
+
+        /** Reads up to where the text was cut off; another fault is thrown, with its line. */
+        unlessCut(read) {
+            try {
+                this.withLine(read);
+            } catch (fault) {
+                if (!fault.isCut) {
+                    throw fault;
+                }
             }
         }
 
@@ -66,13 +78,8 @@
             if (this.bytes.indexOf(10, last) >= 0) {
                 return;
             }
-            try {
-                readCycle(new Cursor(this.bytes, last), this.bytes.length, null, emptyCycle(offsets.length - 1));
-            } catch (fault) {
-                if (!(fault instanceof Fault) || fault.at < this.bytes.length) {
-                    throw fault;
-                }
-            }
+            const cursor = new Cursor(this.bytes, last);
+            this.unlessCut(() => readCycle(cursor, this.bytes.length, null, emptyCycle(offsets.length - 1)));
             offsets.length -= 1;
             this.bytes = this.bytes.subarray(0, last);
         }
@@ -95,14 +102,10 @@
                 return;
             }
             const end = { isQuiet: null, cells: [], pes: [] };
-            try {
+            this.unlessCut(() => {
                 readEnd(new Cursor(this.bytes, this.index.end.offset), end);
                 this.end = end;
-            } catch (fault) {
-                if (!(fault instanceof Fault) || fault.at < this.bytes.length) {
-                    throw fault;
-                }
-            }
+            });
         }
 
         /** The network as large as the end says; where more places occur the end itself was cut off. */
@@ -142,8 +145,11 @@
             for (let cycle = 0; cycle < this.count && this.offset(cycle) < GUESS_BYTES; cycle++) {
                 try {
                     this.read(cycle, net);
-                } catch {
-                    return false;
+                } catch (fault) {
+                    if (fault instanceof Fault) {
+                        return false;
+                    }
+                    throw fault;
                 }
             }
             return true;
@@ -161,16 +167,7 @@
         read(cycle, net = this.net) {
             const found = emptyCycle(cycle);
             const cursor = new Cursor(this.bytes, this.offset(cycle));
-            try {
-                readCycle(cursor, this.offsetAfter(cycle), net, found);
-            } catch (fault) {
-                const isCut = fault instanceof Fault && fault.at >= this.bytes.length;
-                if (!isCut) {
-                    return this.withLine(() => {
-                        throw fault;
-                    });
-                }
-            }
+            this.unlessCut(() => readCycle(cursor, this.offsetAfter(cycle), net, found));
             return found;
         }
 
