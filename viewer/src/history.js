@@ -165,5 +165,5 @@
         }
     }
 
-    Object.assign(viewer, { History, identityOf });
+    Object.assign(viewer, { History, Shape, identityOf });
 })((globalThis.viewer ??= {}));

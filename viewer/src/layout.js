@@ -69,7 +69,7 @@
 
         /** The top of a position's row where all units are drawn. */
         rowTop(position) {
-            const unit = HEADER + 2 * this.sizes.row + BETWEEN;
+            const unit = HEADER + 2 * this.sizes.row + 2 + BETWEEN;
             return TOP + (position >> 1) * unit + HEADER + (position & 1) * this.sizes.row;
         }
 
@@ -109,19 +109,20 @@
             }
         }
 
+        /** The switches of a stage from the top, without a gap for what isn't drawn. */
         placeStage(stage) {
-            const { row } = this.sizes;
-            const height = HEADER + 2 * row + 2;
-            let index = 0;
+            const x = this.stageX(stage);
+            const { row, unit } = this.sizes;
+            let y = TOP;
             for (let number = 0; number < this.net.size / 2; number++) {
-                if (this.visible && !this.visible.switches.has(placeOf(0, stage, number))) {
+                const positions = [2 * number, 2 * number + 1].filter((it) => !this.visible || this.visible.hasRow(stage, it));
+                if (positions.length === 0) {
                     continue;
                 }
-                const y = this.visible ? TOP + index * (height + BETWEEN) : this.rowTop(2 * number) - HEADER;
-                index += 1;
-                const box = this.note({ x: this.stageX(stage), y, w: this.sizes.unit, h: height, stage, number });
-                this.switches.set(placeOf(0, stage, number), box);
-                [0, 1].forEach((port) => this.placePort(stage, 2 * number + port, box.x, y + HEADER + port * row));
+                const h = HEADER + positions.length * row + 2;
+                this.switches.set(placeOf(0, stage, number), this.note({ x, y, w: unit, h, stage, number }));
+                positions.forEach((it, index) => this.placePort(stage, it, x, y + HEADER + index * row));
+                y += h + BETWEEN;
             }
         }
 

@@ -32,6 +32,16 @@
         return `${KINDS[kind]}${stage} ${positionOf(place)}`;
     }
 
+    /** The PE-side position at which a request from a place enters the next stage. */
+    function entryAfter(net, place) {
+        return net.shuffle(positionOf(place));
+    }
+
+    /** The memory-side position at which a reply from a place enters the stage before. */
+    function entryBefore(net, place) {
+        return kindOf(place) === OUT ? positionOf(place) : net.unshuffle(positionOf(place));
+    }
+
     Object.assign(viewer, { KINDS, PNI, REQ, WAIT, INP, OUT, REP });
-    Object.assign(viewer, { placeOf, kindOf, stageOf, positionOf, hasStage, placeText });
+    Object.assign(viewer, { placeOf, kindOf, stageOf, positionOf, hasStage, placeText, entryAfter, entryBefore });
 })((globalThis.viewer ??= {}));

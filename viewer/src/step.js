@@ -6,7 +6,7 @@
     "use strict";
 
     const { PNI, REQ, WAIT, INP, OUT, REP } = viewer;
-    const { placeOf, kindOf, stageOf, positionOf, placeLine } = viewer;
+    const { placeOf, kindOf, stageOf, positionOf, entryAfter, entryBefore, placeLine } = viewer;
     const { act, pair, answerOf, requestText, replyText } = viewer;
     const NONE = [];
 
@@ -105,7 +105,7 @@
                     continue;
                 }
                 const stage = isOut ? this.net.stages - 1 : stageOf(place) - 1;
-                const position = isOut ? positionOf(place) : this.net.unshuffle(positionOf(place));
+                const position = entryBefore(this.net, place);
                 const key = placeOf(0, stage, position >> 1);
                 const heads = bySwitch.get(key) ?? [];
                 heads.push({ message: list[0], from: place, position });
@@ -203,7 +203,7 @@
                     continue;
                 }
                 const stage = isFirst ? 0 : stageOf(place) + 1;
-                const entry = this.net.shuffle(positionOf(place));
+                const entry = entryAfter(this.net, place);
                 const port = this.net.requestPort(stage, this.net.module(message.cell));
                 const queue = placeOf(REQ, stage, (entry & ~1) | port);
                 const heads = byQueue.get(queue) ?? [];

@@ -2,14 +2,23 @@
 (function (viewer) {
     "use strict";
 
-    const { PNI, INP, OUT, REQ, REP, placeOf, kindOf, stageOf, positionOf } = viewer;
+    const { PNI, INP, OUT, REQ, REP, placeOf, kindOf, stageOf, positionOf, entryAfter, entryBefore } = viewer;
 
     class VisibleUnits {
         constructor(net) {
             this.net = net;
             this.pes = new Set();
             this.modules = new Set();
-            this.switches = new Set();
+            /** The rows of switches: a row is what a switch has at one position of both its sides. */
+            this.rows = new Set();
+        }
+
+        hasRow(stage, position) {
+            return this.rows.has(placeOf(0, stage, position));
+        }
+
+        addRow(stage, position) {
+            this.rows.add(placeOf(0, stage, position));
         }
 
         addPlace(place) {
@@ -19,17 +28,22 @@
             } else if (kind === INP || kind === OUT) {
                 this.modules.add(positionOf(place));
             } else {
-                this.switches.add(placeOf(0, stageOf(place), positionOf(place) >> 1));
+                this.addRow(stageOf(place), positionOf(place));
             }
         }
 
-        /** The unit to which a move leads, and the one from which. */
+        /** The unit from which a move leads, the one to which, and the row by which it enters a switch. */
         addMove({ from, to }) {
             this.addPlace(from);
             if (to === null) {
                 this.pes.add(this.net.unshuffle(positionOf(from)));
-            } else {
-                this.addPlace(to);
+                return;
+            }
+            this.addPlace(to);
+            if (kindOf(to) === REQ) {
+                this.addRow(stageOf(to), entryAfter(this.net, from));
+            } else if (kindOf(to) === REP) {
+                this.addRow(stageOf(to), entryBefore(this.net, from));
             }
         }
     }

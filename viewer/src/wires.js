@@ -2,7 +2,7 @@
 (function (viewer) {
     "use strict";
 
-    const { PNI, REQ, INP, OUT, REP, placeOf, kindOf, stageOf, positionOf } = viewer;
+    const { PNI, REQ, INP, OUT, REP, placeOf, kindOf, stageOf, positionOf, entryAfter, entryBefore } = viewer;
 
     function curve(x1, y1, x2, y2) {
         const middle = (x1 + x2) / 2;
@@ -29,16 +29,6 @@
         return box && { x: box.x, y: layout.lanes(box.top).replyOut };
     }
 
-    /** The PE-side position at which a request from a place enters the next stage. */
-    function entryAfter(net, place) {
-        return net.shuffle(positionOf(place));
-    }
-
-    /** The memory-side position at which a reply from a place enters the stage before. */
-    function entryBefore(net, place) {
-        return kindOf(place) === OUT ? positionOf(place) : net.unshuffle(positionOf(place));
-    }
-
     /** A way that begins with a wire from one unit to the next; its arrow is in the wire's middle. */
     function way(start, end, rest) {
         const { x, y } = start;
@@ -61,6 +51,9 @@
             return way(start, { x: box.x, y: box.y + box.h / 2 }, "");
         }
         const entry = layout.boxes.get(placeOf(REP, stageOf(to), entryAfter(layout.net, from)));
+        if (!entry) {
+            return null;
+        }
         const { requestIn } = layout.lanes(entry.top);
         const end = layout.lanes(box.top).requestOut;
         const inside = entry.x + entry.w;
@@ -79,6 +72,9 @@
             return null;
         }
         const queue = layout.boxes.get(placeOf(REQ, stageOf(to), entryBefore(layout.net, from)));
+        if (!queue) {
+            return null;
+        }
         const { replyIn } = layout.lanes(queue.top);
         const end = layout.lanes(box.top).replyOut;
         const edge = { x: layout.farEdge(queue), y: replyIn };
