@@ -1,4 +1,6 @@
 // What is done with two requests that meet, and with a request in memory.
+//
+// `old` is the request that stood in the queue, and `later` the new one that came to it.
 (function (viewer) {
     "use strict";
 
@@ -41,7 +43,7 @@
         return { kind: old.kind === "faa" ? "plus" : "fixed", word: old.word };
     }
 
-    /** New comes first only where a store meets a request that asks for the value before it and leaves less. */
+    /** The new one comes first in the serial order only where a store meets a load or a fetch-and-add. */
     function isNewFirst(old, later) {
         return later.kind === "store" && (old.kind === "load" || old.kind === "faa");
     }

@@ -2,7 +2,7 @@
 (function (viewer) {
     "use strict";
 
-    const { Cursor, Fault, Net, MOST_STAGES, emptyCycle, readCycle, readEnd, indexOf } = viewer;
+    const { Cursor, Fault, Net, MOST_STAGES, emptyCycle, readCycle, readEnd, traceIndex } = viewer;
     const HEAD = "ultra trace 2\n";
     /** So many bytes of a text that was cut off decide how large its machine is taken to be. */
     const GUESS_BYTES = 2_000_000;
@@ -25,7 +25,7 @@
             this.cut = null;
             this.withLine(() => {
                 new Cursor(bytes).take(HEAD);
-                this.index = indexOf(bytes);
+                this.index = traceIndex(bytes);
                 this.checkStart();
                 this.dropCutCycle();
                 this.readEnd();

@@ -23,7 +23,7 @@
     }
 
     /** The greatest stage and the greatest PE, module or position that lines begin with. */
-    class Greatest {
+    class GreatestNumbers {
         constructor() {
             this.stage = 0;
             this.position = 0;
@@ -53,8 +53,8 @@
     }
 
     /** Offsets and line numbers of the cycles, and of the end, which is null where no line begins with `e`. */
-    function indexOf(bytes) {
-        const index = { offsets: new Numbers(), lines: new Numbers(), greatest: new Greatest(), end: null };
+    function traceIndex(bytes) {
+        const index = { offsets: new Numbers(), lines: new Numbers(), greatest: new GreatestNumbers(), end: null };
         let line = 1;
         for (let at = bytes.indexOf(NEWLINE) + 1; at > 0 && at < bytes.length; ) {
             line += 1;
@@ -76,5 +76,5 @@
         return index;
     }
 
-    Object.assign(viewer, { indexOf });
+    Object.assign(viewer, { traceIndex });
 })((globalThis.viewer ??= {}));
