@@ -165,5 +165,5 @@
         }
     }
 
-    Object.assign(viewer, { History, Shape, identityOf });
+    Object.assign(viewer, { History, Shape });
 })((globalThis.viewer ??= {}));

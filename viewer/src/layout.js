@@ -48,7 +48,7 @@
             this.pes = new Map();
             this.modules = new Map();
             this.switches = new Map();
-            this.bottom = 0;
+            this.bottom = TOP + HEADER;
             this.placePes();
             for (let stage = 0; stage < net.stages; stage++) {
                 this.placeStage(stage);

@@ -95,5 +95,5 @@
 
     Object.assign(viewer, { MOST_WORD, MOST_PE, MOST_CELL });
     Object.assign(viewer, { readRequest, readQueueEntry, readReply, readRecord, readAnswer });
-    Object.assign(viewer, { operationText, requestText, replyText, answerText, giveText, recordText, entryText });
+    Object.assign(viewer, { operationText, requestText, replyText, answerText, entryText });
 })((globalThis.viewer ??= {}));

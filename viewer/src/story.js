@@ -39,16 +39,6 @@
         return null;
     }
 
-    /** The pair in which a request is the new one, and so leaves its queue, or null. */
-    function absorptionOf(request) {
-        for (let tree = request; tree.parent; tree = tree.parent) {
-            if (viewer.bearerOf(tree.parent) !== request) {
-                return tree.parent;
-            }
-        }
-        return null;
-    }
-
     /** The request under whose PE and cell a request travels after a cycle: itself, or one that it met. */
     function carrierAt(request, cycle) {
         return viewer.bearerOf(viewer.treeAt(request, cycle));
@@ -142,5 +132,5 @@
         return null;
     }
 
-    Object.assign(viewer, { routeOf, whereIs, absorptionOf, carrierAt, storyOf, requestAt });
+    Object.assign(viewer, { routeOf, whereIs, carrierAt, storyOf, requestAt });
 })((globalThis.viewer ??= {}));

@@ -200,5 +200,5 @@
         return [HEAD, ...cycles, trace.end ? viewer.endText(trace.end) : ""].join("");
     }
 
-    Object.assign(viewer, { Trace, traceText, lineAt });
+    Object.assign(viewer, { Trace, traceText });
 })((globalThis.viewer ??= {}));

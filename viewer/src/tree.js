@@ -87,5 +87,5 @@
     }
 
     Object.assign(viewer, { isPair, nameOf, leavesOf, heightOf, treeAt, actOf, bearerOf });
-    Object.assign(viewer, { treeText, explanationOf, replay, orderLine, explainText, orderText });
+    Object.assign(viewer, { explanationOf, replay, orderLine, explainText, orderText });
 })((globalThis.viewer ??= {}));

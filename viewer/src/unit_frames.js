@@ -10,15 +10,12 @@
         return svg("g", { class: `unit ${kind}` }, rect, svg("text", { x: x + 6, y: y + 11 }, name));
     }
 
-    /** The frame of a list and its name. A PE's list has no frame, since the PE has nothing else. */
+    /** The frame of a list and its name; in a PE or a module the number goes without saying. */
     function placeFrame(box, place) {
         const kind = kindOf(place);
-        if (kind === PNI) {
-            return [];
-        }
         const isRegister = kind === INP || kind === OUT;
         const { x, y, w, h } = box;
-        const name = isRegister ? KINDS[kind] : placeText(place);
+        const name = isRegister || kind === PNI ? KINDS[kind] : placeText(place);
         return [
             svg("rect", { class: `place ${KINDS[kind]}`, x, y, width: w, height: h, rx: 3 }),
             svg("text", { class: "name", x: x + 4, y: y + (isRegister ? 11 : 8.5) }, name),

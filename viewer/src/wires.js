@@ -136,5 +136,5 @@
         return paths;
     }
 
-    Object.assign(viewer, { wayOf, linksOf, wirePaths, routePaths });
+    Object.assign(viewer, { wayOf, wirePaths, routePaths });
 })((globalThis.viewer ??= {}));
