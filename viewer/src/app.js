@@ -6,6 +6,7 @@
     const SMALL_BYTES = 3_000_000;
     const SLICE_MILLISECONDS = 12;
     const SLICE_CYCLES = 8;
+    const STILL_WORKING = "The trace is still being worked out; try again.";
 
     function byId(id) {
         return document.getElementById(id);
@@ -160,7 +161,7 @@
             }
             const isOpen = direction > 0 && !this.history.isDone;
             const none = `There is none ${direction > 0 ? "after" : "before"} this cycle.`;
-            this.say(isOpen ? "The trace is still being worked out; try again." : none);
+            this.say(isOpen ? STILL_WORKING : none);
         }
 
         eventCycles(sort, number) {
@@ -173,17 +174,22 @@
         }
 
         showRequest(request) {
-            this.selected = request ? { request } : null;
             viewer.chooseEvents(request);
-            this.show(0);
-            byId("story").scrollIntoView?.({ block: "nearest" });
+            this.select(request && { request });
         }
 
         showAct({ cycle, module }) {
             const act = this.findAct({ cycle, module });
-            this.selected = act ? { act } : null;
+            this.select(act && { act });
+        }
+
+        /** Shows a story. Without one it says why: it isn't worked out yet, or the text was cut off. */
+        select(selected) {
+            this.selected = selected ?? null;
+            const missing = this.history.isDone ? "The text was cut off before this story." : STILL_WORKING;
+            this.say(selected ? "" : missing);
             this.show(0);
-            byId("story").scrollIntoView?.({ block: "nearest" });
+            byId("story").scrollIntoView({ block: "nearest" });
         }
 
         closeStory() {
