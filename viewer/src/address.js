@@ -1,4 +1,5 @@
-// The part of the page's address behind `#`. It names the trace, the cycle and what is shown, so a link leads there.
+// The part of the page's address behind `#`. It names the trace, the cycle and what is shown, so a
+// link leads there.
 (function (viewer) {
     "use strict";
 

@@ -28,7 +28,10 @@
             this.hasAll = false;
         }
 
-        /** Opens a text. One that isn't a trace is refused, with the line and what was expected there. */
+        /**
+         * Opens a text. One that isn't a trace is refused, with the line and what was expected
+         * there.
+         */
         open(name, bytes, address = {}) {
             this.close();
             try {
@@ -52,7 +55,9 @@
             }
         }
 
-        /** The sizes of the picture change only here, so that it doesn't move from cycle to cycle. */
+        /**
+         * The sizes of the picture change only here, so that it doesn't move from cycle to cycle.
+         */
         fixShape() {
             this.shape = structuredClone({ ...this.history.shape });
             this.layoutCount += 1;
@@ -76,8 +81,9 @@
             this.close();
             byId("welcome").hidden = false;
             byId("refusal").hidden = false;
-            const isCut = fault.isCut ? ", but the text ends there" : "";
-            byId("refusal").textContent = `${name} isn't a trace. Line ${fault.line}: expected ${fault.expected}${isCut}.`;
+            const end = fault.isCut ? ", but the text ends there" : "";
+            const reason = `Line ${fault.line}: expected ${fault.expected}${end}.`;
+            byId("refusal").textContent = `${name} isn't a trace. ${reason}`;
         }
 
         /** Works out the history in slices, so that the page answers meanwhile. */
@@ -183,7 +189,9 @@
             this.select(act && { act });
         }
 
-        /** Shows a story. Without one it says why: it isn't worked out yet, or the text was cut off. */
+        /**
+         * Shows a story. Without one it says why: it isn't worked out yet, or the text was cut off.
+         */
         select(selected) {
             this.selected = selected ?? null;
             const missing = this.history.isDone ? "The text was cut off before this story." : STILL_WORKING;

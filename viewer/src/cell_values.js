@@ -17,7 +17,10 @@
         return low === 0 ? null : acts[low - 1];
     }
 
-    /** The cells that may have a value, by number: those on which a module has acted, and those of the end. */
+    /**
+     * The cells that may have a value, by number: those on which a module has acted, and those of
+     * the end.
+     */
     function cellsOf(history) {
         if (history.sortedCount !== history.cells.size) {
             const ends = history.trace.end?.cells ?? [];
@@ -35,8 +38,8 @@
     }
 
     /**
-     * The cells whose value after the cycle is known and isn't 0, by number. A cell on which nobody acts
-     * keeps the value of the end. One that is stored to first isn't known until then.
+     * The cells whose value after the cycle is known and isn't 0, by number. A cell on which nobody
+     * acts keeps the value of the end. One that is stored to first isn't known until then.
      */
     function cellsAt(history, cycle) {
         const found = [];

@@ -1,4 +1,5 @@
-// Reads numbers and fixed texts from bytes. Where something else is found, a Fault says what was expected.
+// Reads numbers and fixed texts from bytes. Where something else is found, a Fault says what was
+// expected.
 (function (viewer) {
     "use strict";
 

@@ -102,7 +102,10 @@
         return (index << 12) | rank;
     }
 
-    /** Reads the lines of a cycle up to the offset `end` into `cycle`. It keeps each whole line before one with a fault. */
+    /**
+     * Reads the lines of a cycle up to the offset `end` into `cycle`. It keeps each whole line
+     * before one with a fault.
+     */
     function readCycle(cursor, end, net, cycle) {
         const first = cursor.at;
         cursor.take("cycle ");

@@ -74,7 +74,10 @@
         return count >= 2 && count <= MOST_PE + 1 && (count & (count - 1)) === 0;
     }
 
-    /** Reads the end into `end`, which keeps the parts that were read also if a later one has a fault. */
+    /**
+     * Reads the end into `end`, which keeps the parts that were read also if a later one has a
+     * fault.
+     */
     function readEnd(cursor, end) {
         cursor.take("end ");
         const isQuiet = cursor.takeOneOf(["quiet", "limit"], "'quiet' or 'limit'") === 0;

@@ -1,4 +1,5 @@
-// Entries of lists as they are drawn: a frame in the colour of their cell, its shape, and their text.
+// Entries of lists as they are drawn: a frame in the colour of their cell, its shape, and their
+// text.
 (function (viewer) {
     "use strict";
 
@@ -14,7 +15,9 @@
         return { "data-pe": look.pe, "data-cell": look.cell, "data-what": look.what };
     }
 
-    /** An entry at a point. `look` has its text, title, PE, cell, width and classes, and what it is. */
+    /**
+     * An entry at a point. `look` has its text, title, PE, cell, width and classes, and what it is.
+     */
     function entryOf(x, y, look) {
         const { strong, light, shape } = styleOf(look.cell);
         const top = y + 1;

@@ -36,7 +36,10 @@
         return sorted([...cyclesOfRequests(requests), ...inTrees, ...faults]);
     }
 
-    /** What can be looked for: `sort` is `act`, `combination`, `cell` or `pe`, and `number` that of the cell or PE. */
+    /**
+     * What can be looked for: `sort` is `act`, `combination`, `cell` or `pe`, and `number` that of
+     * the cell or PE.
+     */
     function cyclesOf(history, sort, number) {
         switch (sort) {
             case "act":
@@ -50,7 +53,9 @@
         }
     }
 
-    /** The next of the cycles after this one, or where `direction` is -1 the one before it; or null. */
+    /**
+     * The next of the cycles after this one, or where `direction` is -1 the one before it; or null.
+     */
     function nextCycle(cycles, cycle, direction) {
         const found = direction > 0 ? cycles.find((it) => it > cycle) : cycles.findLast((it) => it < cycle);
         return found ?? null;

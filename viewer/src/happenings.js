@@ -1,4 +1,5 @@
-// What happens in a cycle, in sentences. A part of a sentence is a text, or names a request or an act.
+// What happens in a cycle, in sentences. A part of a sentence is a text, or names a request or an
+// act.
 (function (viewer) {
     "use strict";
 
@@ -71,7 +72,10 @@
         ]);
     }
 
-    /** The sentences of a cycle, in the order of its phases. Where the text was cut off in it, `step` is null. */
+    /**
+     * The sentences of a cycle, in the order of its phases. Where the text was cut off in it,
+     * `step` is null.
+     */
     function sentencesOf(history, cycle, step) {
         const { number } = cycle;
         if (!step) {

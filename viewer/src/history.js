@@ -1,6 +1,8 @@
-// The whole run: every request from issue to answer, every combination, and every act with its tree.
+// The whole run: every request from issue to answer, every combination, and every act with its
+// tree.
 //
-// It is worked out from the trace alone, cycle by cycle, in slices, so that a long trace can be looked at meanwhile.
+// It is worked out from the trace alone, cycle by cycle, in slices, so that a long trace can be
+// looked at meanwhile.
 (function (viewer) {
     "use strict";
 
@@ -13,7 +15,10 @@
         return cell * 64 + pe;
     }
 
-    /** The greatest number of entries and the longest text in places of each kind, up to what is drawn. */
+    /**
+     * The greatest number of entries and the longest text in places of each kind, up to what is
+     * drawn.
+     */
     class Shape {
         constructor() {
             this.counts = viewer.KINDS.map(() => 1);
@@ -98,8 +103,9 @@
         combine({ queue, old, later, isOldFirst, sent }, cycle) {
             const [oldTree, newTree] = [old, later].map((it) => this.trees.get(identityOf(it)));
             const { cell, kind, word } = sent;
-            const where = { stage: stageOf(queue), position: positionOf(queue) };
-            const found = { cycle, ...where, cell, kind, word, old: oldTree, later: newTree, isOldFirst, parent: null, act: null };
+            const where = { cycle, stage: stageOf(queue), position: positionOf(queue) };
+            const trees = { old: oldTree, later: newTree, parent: null, act: null };
+            const found = { ...where, cell, kind, word, isOldFirst, ...trees };
             oldTree.parent = found;
             newTree.parent = found;
             this.pairs.push(found);
@@ -146,7 +152,10 @@
             throw fault;
         }
 
-        /** The end has to say whether the machine is quiet, and the values that the acts left in the cells. */
+        /**
+         * The end has to say whether the machine is quiet, and the values that the acts left in the
+         * cells.
+         */
         checkEnd() {
             const { end, index } = this.trace;
             const isQuiet = this.state.places.size === 0 && end.pes.every((it) => it.state !== "running");

@@ -1,4 +1,5 @@
-// Where each unit and list of a machine is drawn: PEs on the left, stages of switches, modules on the right.
+// Where each unit and list of a machine is drawn: PEs on the left, stages of switches, modules on
+// the right.
 (function (viewer) {
     "use strict";
 
@@ -115,7 +116,8 @@
             const { row, unit } = this.sizes;
             let y = TOP;
             for (let number = 0; number < this.net.size / 2; number++) {
-                const positions = [2 * number, 2 * number + 1].filter((it) => !this.visible || this.visible.hasRow(stage, it));
+                const isDrawn = (position) => !this.visible || this.visible.hasRow(stage, position);
+                const positions = [2 * number, 2 * number + 1].filter(isDrawn);
                 if (positions.length === 0) {
                     continue;
                 }
@@ -136,7 +138,10 @@
             set(REP, { x: x + PAD, y: top + 15, w: reply, h: listHeight(REP) });
         }
 
-        /** The left edge of the unit of a queue toward the PEs, and the right edge of that of a queue toward memory. */
+        /**
+         * The left edge of the unit of a queue toward the PEs, and the right edge of that of a
+         * queue toward memory.
+         */
         unitEdge(box) {
             return box.x - PAD;
         }

@@ -23,7 +23,10 @@
         return svg("path", { class: "arrow", d: "M6 0L-4 -5L-4 5z", fill: strong, transform });
     }
 
-    /** The text of a message, beside the wire that it left by: above it, or below it where the wire goes up. */
+    /**
+     * The text of a message, beside the wire that it left by: above it, or below it where the wire
+     * goes up.
+     */
     function labelOn({ start, arrow }, move) {
         const isReply = kindOf(move) === "reply";
         const y = start.y + (arrow.y < start.y - 4 ? 12 : -6);
@@ -58,7 +61,10 @@
             this.layer.replaceChildren();
         }
 
-        /** Draws the moves of a step that can be seen. With a duration in milliseconds they are shown moving. */
+        /**
+         * Draws the moves of a step that can be seen. With a duration in milliseconds they are
+         * shown moving.
+         */
         show(layout, step, duration, isSelected, isSeen) {
             this.clear();
             const drawn = [];
@@ -77,7 +83,10 @@
             }
         }
 
-        /** A label for each message that left a place: its text as it left, also where it was split on the way. */
+        /**
+         * A label for each message that left a place: its text as it left, also where it was split
+         * on the way.
+         */
         labels(drawn) {
             const byPlace = new Map(drawn.map((it) => [it.move.from, it]));
             return [...byPlace.values()].map(({ way, move }) => labelOn(way, { ...move, message: move.left }));

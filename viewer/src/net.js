@@ -28,7 +28,10 @@
             return ((pe & ((1 << rest) - 1)) << stage) | (module >> rest);
         }
 
-        /** The PE-side position at which a request enters the stage, and at which its reply leaves it. */
+        /**
+         * The PE-side position at which a request enters the stage, and at which its reply leaves
+         * it.
+         */
         entry(stage, pe, module) {
             return this.shuffle(this.line(stage, pe, module));
         }

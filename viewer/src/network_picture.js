@@ -22,7 +22,9 @@
             element.append(this.wires, this.frames, this.route, this.content, this.moves);
         }
 
-        /** Takes a view, as `App.view` gives it, and draws the units anew where their places change. */
+        /**
+         * Takes a view, as `App.view` gives it, and draws the units anew where their places change.
+         */
         show(view) {
             const isNewLayout = !this.view || view.visible !== null || view.layoutKey !== this.view.layoutKey;
             this.view = view;
@@ -33,7 +35,9 @@
             this.resize();
         }
 
-        /** Sets the size of the picture; where nothing changes the browser has nothing to lay out. */
+        /**
+         * Sets the size of the picture; where nothing changes the browser has nothing to lay out.
+         */
         resize() {
             const { width, height } = this.layout;
             const key = `${width} ${height} ${this.scale}`;
@@ -45,7 +49,10 @@
             }
         }
 
-        /** Notes which part of the picture can be seen. To ask for it at each step would cost a layout of the page. */
+        /**
+         * Notes which part of the picture can be seen. To ask for it at each step would cost a
+         * layout of the page.
+         */
         noteWindow() {
             const { scrollLeft, scrollTop, clientWidth, clientHeight } = this.window;
             this.part = { x: scrollLeft, y: scrollTop, w: clientWidth, h: clientHeight };
@@ -54,7 +61,10 @@
             }
         }
 
-        /** Draws units and wires. Without empty units they change with each cycle, so only what can be seen is drawn. */
+        /**
+         * Draws units and wires. Without empty units they change with each cycle, so only what can
+         * be seen is drawn.
+         */
         drawUnits(isSeen) {
             const { requests, replies } = wirePaths(this.layout, isSeen);
             this.wires.replaceChildren(

@@ -1,4 +1,5 @@
-// Opens traces: from a file that is chosen or dropped on the page, or from those that the page has in it.
+// Opens traces: from a file that is chosen or dropped on the page, or from those that the page has
+// in it.
 (function (viewer) {
     "use strict";
 
@@ -12,7 +13,10 @@
         }));
     }
 
-    /** Opens a file. One that is opened again stays at its cycle, and the first goes where the address leads. */
+    /**
+     * Opens a file. One that is opened again stays at its cycle, and the first goes where the
+     * address leads.
+     */
     async function openFile(app, file) {
         if (!file) {
             return;

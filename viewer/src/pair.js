@@ -10,7 +10,10 @@
         return (a + b) % WORDS;
     }
 
-    /** A cell's value after an operation on a value, and the reply: a value, or null for an acknowledgement. */
+    /**
+     * A cell's value after an operation on a value, and the reply: a value, or null for an
+     * acknowledgement.
+     */
     function act(operation, value) {
         switch (operation.kind) {
             case "load":
@@ -43,7 +46,10 @@
         return { kind: old.kind === "faa" ? "plus" : "fixed", word: old.word };
     }
 
-    /** The new one comes first in the serial order only where a store meets a load or a fetch-and-add. */
+    /**
+     * The new one comes first in the serial order only where a store meets a load or a fetch-and-
+     * add.
+     */
     function isNewFirst(old, later) {
         return later.kind === "store" && (old.kind === "load" || old.kind === "faa");
     }
@@ -60,7 +66,10 @@
         return { kind: old.kind, word: act(later, old.word).now };
     }
 
-    /** Two requests for one cell that meet in a queue: what is sent, how both are answered, and who is first. */
+    /**
+     * Two requests for one cell that meet in a queue: what is sent, how both are answered, and who
+     * is first.
+     */
     function pair(old, later) {
         return {
             sent: sentFor(old, later),

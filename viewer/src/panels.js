@@ -1,4 +1,5 @@
-// The texts beside the picture: what happens in the cycle, a story, the cells, and the lines of the trace.
+// The texts beside the picture: what happens in the cycle, a story, the cells, and the lines of the
+// trace.
 (function (viewer) {
     "use strict";
 
@@ -43,7 +44,10 @@
         element.replaceChildren(moves, list, ...more(sentences.length - shown.length, app));
     }
 
-    /** A table with a head; each row has its attributes and its cells, which are lists of texts and elements. */
+    /**
+     * A table with a head; each row has its attributes and its cells, which are lists of texts and
+     * elements.
+     */
     function table(name, head, rows) {
         const cells = (kind, list) => list.map((it) => html(kind, {}, ...it));
         const body = rows.map(({ attributes, columns }) => html("tr", attributes, ...cells("td", columns)));
@@ -70,7 +74,8 @@
 
     function requestPanel(element, request, view, app) {
         const act = viewer.actOf(request);
-        const answer = request.answered === null ? "It isn't answered in this trace." : `Its answer is ${answerText(request.value)}.`;
+        const value = answerText(request.value);
+        const answer = request.answered === null ? "It isn't answered in this trace." : `Its answer is ${value}.`;
         const served = act
             ? link(`The act that served it, in cycle ${act.cycle}`, () => app.showAct(act))
             : "It isn't served in this trace.";

@@ -3,7 +3,10 @@
     "use strict";
 
     class Player {
-        /** `step` goes a cycle forward, and answers whether there was one. Each start and stop calls `onChange`. */
+        /**
+         * `step` goes a cycle forward, and answers whether there was one. Each start and stop calls
+         * `onChange`.
+         */
         constructor(step, onChange) {
             this.step = step;
             this.onChange = onChange;

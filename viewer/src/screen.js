@@ -29,8 +29,9 @@
 
     function endingText(trace) {
         if (trace.cut) {
-            const guess = `Its end would name the number of PEs; ${trace.net.size} is a guess from the places that occur.`;
-            return `The text was cut off after its line ${trace.cut.lines}. ${guess}`;
+            const end = `The text was cut off after its line ${trace.cut.lines}.`;
+            const guess = `${trace.net.size} is a guess from the places that occur.`;
+            return `${end} Its end would name the number of PEs; ${guess}`;
         }
         return trace.end.isQuiet ? "It ends quiet." : "It ends at its limit on cycles.";
     }
@@ -40,7 +41,8 @@
         const cycles = `${trace.count} ${trace.count === 1 ? "cycle" : "cycles"}`;
         const part = Math.floor((100 * history.cycles) / trace.count);
         const far = ` Stories and events are worked out up to cycle ${history.cycles} (${part} %).`;
-        byId("facts").textContent = `${app.name}: ${cycles}, ${trace.net.size} PEs. ${endingText(trace)}${history.isDone ? "" : far}`;
+        const state = `${endingText(trace)}${history.isDone ? "" : far}`;
+        byId("facts").textContent = `${app.name}: ${cycles}, ${trace.net.size} PEs. ${state}`;
         byId("facts").classList.toggle("cut", trace.cut !== null);
     }
 
@@ -75,8 +77,9 @@
             viewer.actPanel(byId("story-text"), act, app);
         }
         byId("ending").hidden = app.cycle !== app.trace.count - 1 || !app.trace.end;
-        const sentences = [...byId("happenings").querySelectorAll("li")].slice(0, SPOKEN_SENTENCES).map((it) => it.textContent);
-        byId("announcement").textContent = [`Cycle ${app.cycle}.`, viewer.movesText(view.step), ...sentences].join(" ");
+        const sentences = [...byId("happenings").querySelectorAll("li")].map((it) => it.textContent);
+        const spoken = [viewer.movesText(view.step), ...sentences.slice(0, SPOKEN_SENTENCES)];
+        byId("announcement").textContent = `Cycle ${app.cycle}. ${spoken.join(" ")}`;
     }
 
     /** Draws what can be seen of the cycle that the page is at. */
@@ -87,7 +90,10 @@
         motion.show(picture.layout, picture.view.step, duration, isSelected, picture.seen());
     }
 
-    /** Shows the cycle that the page is at. With a duration in milliseconds its moves are shown moving. */
+    /**
+     * Shows the cycle that the page is at. With a duration in milliseconds its moves are shown
+     * moving.
+     */
     function showCycle(app, duration) {
         const view = app.view();
         document.body.style.setProperty("--motion", `${duration}ms`);

@@ -24,7 +24,10 @@
         return Math.min((window.clientWidth - 4) / width, (window.clientHeight - 4) / height);
     }
 
-    /** The first scale: the whole picture where its text can be read, else as much of it as there is room for. */
+    /**
+     * The first scale: the whole picture where its text can be read, else as much of it as there is
+     * room for.
+     */
     function chooseScale(app) {
         setScale(app, Math.max(LEAST_SCALE, Math.min(MOST_SCALE, wholeScale(app))));
     }
@@ -51,7 +54,10 @@
         ].filter(Boolean);
     }
 
-    /** The boxes to which messages moved in the cycle that is shown, and in which something happened. */
+    /**
+     * The boxes to which messages moved in the cycle that is shown, and in which something
+     * happened.
+     */
     function boxesOfMoves(app) {
         const { layout, view } = app.picture;
         const target = (it) => (it.to === null ? layout.pes.get(it.message.pe) : layout.boxes.get(it.to));
@@ -65,11 +71,12 @@
     /** Scrolls to the first of the boxes, unless one of them can be seen. */
     function scrollToOne(app, boxes) {
         const { part, scale } = app.picture;
-        const isWithin = (least, size, start, length) => least * scale >= start && (least + size) * scale <= start + length;
-        const isInside = (it) => isWithin(it.x, it.w, part.x, part.w) && isWithin(it.y, it.h, part.y, part.h);
+        const [x, y, w, h] = [part.x, part.y, part.w, part.h].map((it) => it / scale);
+        const isWithin = (least, size, start, length) => least >= start && least + size <= start + length;
+        const isInside = (it) => isWithin(it.x, it.w, x, w) && isWithin(it.y, it.h, y, h);
         if (boxes.length > 0 && !boxes.some(isInside)) {
-            const { x, y, w, h } = boxes[0];
-            app.window.scrollTo((x + w / 2) * scale - part.w / 2, (y + h / 2) * scale - part.h / 2);
+            const [box] = boxes;
+            app.window.scrollTo((box.x + box.w / 2 - w / 2) * scale, (box.y + box.h / 2 - h / 2) * scale);
         }
     }
 

@@ -1,7 +1,9 @@
-// One cycle, worked out from the states before and after it: what moved, combined, was served and was issued.
+// One cycle, worked out from the states before and after it: what moved, combined, was served and
+// was issued.
 //
-// A trace doesn't name the number of places of a queue, so whether a head moved is read off the state after the cycle.
-// All else follows from the rules of the machine, and a state that they don't give is a fault.
+// A trace doesn't name the number of places of a queue, so whether a head moved is read off the
+// state after the cycle. All else follows from the rules of the machine, and a state that they
+// don't give is a fault.
 (function (viewer) {
     "use strict";
 
@@ -87,7 +89,10 @@
             this.agree(expected, this.cycle.got.map((it) => `got ${replyText(it)}`), 1);
         }
 
-        /** Lines of events, from this line of the cycle on, have to be those that follow from the state before. */
+        /**
+         * Lines of events, from this line of the cycle on, have to be those that follow from the
+         * state before.
+         */
         agree(expected, found, line) {
             for (let i = 0; i < Math.max(expected.length, found.length); i++) {
                 if (expected[i] !== found[i]) {
@@ -96,7 +101,10 @@
             }
         }
 
-        /** The replies that may go to the next switch, by its stage and number, those at its port 0 first. */
+        /**
+         * The replies that may go to the next switch, by its stage and number, those at its port 0
+         * first.
+         */
         waitingReplies() {
             const bySwitch = new Map();
             for (const [place, list] of this.before) {
@@ -114,7 +122,9 @@
             return [...bySwitch].sort((a, b) => a[0] - b[0]);
         }
 
-        /** Both heads of a switch move or none: its two queues toward the PEs need room for both. */
+        /**
+         * Both heads of a switch move or none: its two queues toward the PEs need room for both.
+         */
         moveReplies() {
             for (const [key, heads] of this.waitingReplies()) {
                 const stage = stageOf(key);
@@ -176,7 +186,9 @@
             return act(request, found.value ?? found.now);
         }
 
-        /** The head of each queue of the last stage moves into its module where no request waits. */
+        /**
+         * The head of each queue of the last stage moves into its module where no request waits.
+         */
         enterModules() {
             for (const [place, [request]] of this.before) {
                 const inp = placeOf(INP, 0, positionOf(place));
@@ -213,7 +225,10 @@
             return [...byQueue].sort((a, b) => b[0] - a[0]);
         }
 
-        /** All requests for a queue move or none. In an even cycle port 0 comes first, in an odd one port 1. */
+        /**
+         * All requests for a queue move or none. In an even cycle port 0 comes first, in an odd one
+         * port 1.
+         */
         moveRequests() {
             const isOdd = (this.cycle.number & 1) === 1;
             for (const [queue, heads] of this.waitingRequests()) {
@@ -230,7 +245,10 @@
             this.combinations.sort((a, b) => a.queue - b.queue);
         }
 
-        /** A request combines with the front entry for its cell that isn't marked, while the wait buffer takes records. */
+        /**
+         * A request combines with the front entry for its cell that isn't marked, while the wait
+         * buffer takes records.
+         */
         arrive({ message, from }, queue, wait, most) {
             const later = { ...message, isMarked: false };
             this.depart(from);
@@ -249,7 +267,9 @@
             this.combinations.push({ queue, wait, old, later, isOldFirst, sent: this.list(queue)[index], record });
         }
 
-        /** A request that is new in a PE's list was issued in this cycle; a PE issues at most one. */
+        /**
+         * A request that is new in a PE's list was issued in this cycle; a PE issues at most one.
+         */
         issue() {
             for (const [place, list] of this.after) {
                 if (kindOf(place) !== PNI) {
@@ -305,14 +325,17 @@
         return a.length === b.length && a.every((it, index) => sameEntries(it, b[index]));
     }
 
-    /** What happens in a cycle. Throws a Fault, with the number of the cycle, where the rules don't allow it. */
+    /**
+     * What happens in a cycle. Throws a Fault, with the number of the cycle, where the rules don't
+     * allow it.
+     */
     function stepOf(net, before, after) {
         return new Step(net, before, after).run();
     }
 
     /**
-     * What happens in a cycle of a trace. The last cycle of a text that was cut off may lack lines: then
-     * the answer is null. Else a fault has its line.
+     * What happens in a cycle of a trace. The last cycle of a text that was cut off may lack lines:
+     * then the answer is null. Else a fault has its line.
      */
     function stepInTrace(trace, before, cycle) {
         try {

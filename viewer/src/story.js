@@ -39,7 +39,10 @@
         return null;
     }
 
-    /** The request under whose PE and cell a request travels after a cycle: itself, or one that it met. */
+    /**
+     * The request under whose PE and cell a request travels after a cycle: itself, or one that it
+     * met.
+     */
     function carrierAt(request, cycle) {
         return viewer.bearerOf(viewer.treeAt(request, cycle));
     }
@@ -73,7 +76,7 @@
         if (viewer.bearerOf(tree) !== request) {
             return `inside ${viewer.nameOf(viewer.bearerOf(tree))}, it meets ${other} ${at}`;
         }
-        return isOld ? `it meets ${other} ${at}, and goes on for both` : `it meets ${other} ${at}, which goes on for both`;
+        return `it meets ${other} ${at}, ${isOld ? "and" : "which"} goes on for both`;
     }
 
     function isSame(row, { place, entry }) {
@@ -89,7 +92,10 @@
         return request.answered ?? trace.count - 1;
     }
 
-    /** The story of a request: where it is in each cycle, and what happens. Cycles of waiting are one row. */
+    /**
+     * The story of a request: where it is in each cycle, and what happens. Cycles of waiting are
+     * one row.
+     */
     function storyOf(history, request) {
         const { trace } = history;
         const rows = [];

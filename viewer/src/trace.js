@@ -1,4 +1,5 @@
-// A trace: its bytes, where each cycle is, and what the text says of a cycle, read when it is asked for.
+// A trace: its bytes, where each cycle is, and what the text says of a cycle, read when it is asked
+// for.
 (function (viewer) {
     "use strict";
 
@@ -17,7 +18,10 @@
     }
 
     class Trace {
-        /** Throws a Fault with its line where the text isn't a trace or is cut off before its first cycle. */
+        /**
+         * Throws a Fault with its line where the text isn't a trace or is cut off before its first
+         * cycle.
+         */
         constructor(bytes) {
             this.bytes = bytes;
             this.kept = new Map();
@@ -96,7 +100,9 @@
             return cycle + 1 < this.count ? this.offset(cycle + 1) : (this.index.end?.offset ?? this.bytes.length);
         }
 
-        /** Reads the lines from `end` on. A text that is cut off there keeps what it has of them. */
+        /**
+         * Reads the lines from `end` on. A text that is cut off there keeps what it has of them.
+         */
         readEnd() {
             if (!this.index.end) {
                 return;
@@ -108,7 +114,9 @@
             });
         }
 
-        /** The network as large as the end says; where more places occur the end itself was cut off. */
+        /**
+         * The network as large as the end says; where more places occur the end itself was cut off.
+         */
         netOfEnd() {
             const net = new Net(Math.log2(this.end.pes.length));
             if (this.leastStages() <= net.stages) {
@@ -155,7 +163,10 @@
             return true;
         }
 
-        /** Where the text was cut off: its number of whole lines, and whether the last cycle may lack some. */
+        /**
+         * Where the text was cut off: its number of whole lines, and whether the last cycle may
+         * lack some.
+         */
         noteCut() {
             if (this.isGuess) {
                 this.cut = { lines: lineAt(this.bytes, this.bytes.length) - 1, isInCycle: this.index.end === null };

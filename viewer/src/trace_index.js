@@ -52,7 +52,10 @@
         }
     }
 
-    /** Offsets and line numbers of the cycles, and of the end, which is null where no line begins with `e`. */
+    /**
+     * Offsets and line numbers of the cycles, and of the end, which is null where no line begins
+     * with `e`.
+     */
     function traceIndex(bytes) {
         const index = { offsets: new Numbers(), lines: new Numbers(), greatest: new GreatestNumbers(), end: null };
         let line = 1;

@@ -1,4 +1,5 @@
-// Combining trees, the serial order of their leaves, and both as `ultra explain` and `ultra order` write them.
+// Combining trees, the serial order of their leaves, and both as `ultra explain` and `ultra order`
+// write them.
 (function (viewer) {
     "use strict";
 
@@ -57,7 +58,10 @@
         return `cycle ${found.cycle} module ${found.module} cell ${found.cell} ${treeText(found.tree)}`;
     }
 
-    /** The requests of an act in their serial order, each with its reply, from acting on the cell one by one. */
+    /**
+     * The requests of an act in their serial order, each with its reply, from acting on the cell
+     * one by one.
+     */
     function replay(found) {
         let value = found.value ?? 0;
         return leavesOf(found.tree).map((request) => {

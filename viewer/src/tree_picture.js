@@ -30,7 +30,8 @@
             const { width, height } = this;
             const label = `Combining tree, with its ${this.rows.size} leaves in serial order from the top`;
             const size = { width, height, viewBox: `0 0 ${width} ${height}` };
-            return svg("svg", { class: "tree", ...size, role: "img", "aria-label": label, style: `--cell: ${strong}` }, ...this.drawn);
+            const name = { role: "img", "aria-label": label };
+            return svg("svg", { class: "tree", ...size, ...name, style: `--cell: ${strong}` }, ...this.drawn);
         }
 
         /** Draws a tree, and answers the point from which it goes on to the right. */

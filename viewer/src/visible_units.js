@@ -1,4 +1,5 @@
-// The units that have something in a cycle or moved something in it, for a picture without empty ones.
+// The units that have something in a cycle or moved something in it, for a picture without empty
+// ones.
 (function (viewer) {
     "use strict";
 
@@ -9,7 +10,9 @@
             this.net = net;
             this.pes = new Set();
             this.modules = new Set();
-            /** The rows of switches: a row is what a switch has at one position of both its sides. */
+            /**
+             * The rows of switches: a row is what a switch has at one position of both its sides.
+             */
             this.rows = new Set();
         }
 
@@ -32,7 +35,10 @@
             }
         }
 
-        /** The unit from which a move leads, the one to which, and the row by which it enters a switch. */
+        /**
+         * The unit from which a move leads, the one to which, and the row by which it enters a
+         * switch.
+         */
         addMove({ from, to }) {
             this.addPlace(from);
             if (to === null) {

@@ -1,4 +1,5 @@
-// The lines along which messages move, as paths of SVG. A way is null where one of its ends isn't drawn.
+// The lines along which messages move, as paths of SVG. A way is null where one of its ends isn't
+// drawn.
 (function (viewer) {
     "use strict";
 
@@ -29,7 +30,9 @@
         return box && { x: box.x, y: layout.lanes(box.top).replyOut };
     }
 
-    /** A way that begins with a wire from one unit to the next; its arrow is in the wire's middle. */
+    /**
+     * A way that begins with a wire from one unit to the next; its arrow is in the wire's middle.
+     */
     function way(start, end, rest) {
         const { x, y } = start;
         const angle = (Math.atan2(2 * (end.y - y), end.x - x) * 180) / Math.PI;
@@ -81,7 +84,10 @@
         return way(start, edge, `H${queue.x}${curve(queue.x, replyIn, box.x + box.w, end)}`);
     }
 
-    /** The way of a message that moves: its path, where it starts, where its arrow is, and the box of its wire. */
+    /**
+     * The way of a message that moves: its path, where it starts, where its arrow is, and the box
+     * of its wire.
+     */
     function wayOf(layout, { message, from, to }) {
         return "value" in message ? replyWay(layout, from, to) : requestWay(layout, from, to);
     }

@@ -23,7 +23,8 @@ for (const name of SHORT) {
         for (let length = "ultra trace 2\ncycle 0\n".length; length < text.length; length++) {
             const history = historyOf(text.slice(0, length));
             assert.ok(history.isDone);
-            // a text that ends behind a whole line of two PEs is a whole trace of a machine with two
+            // a text that ends behind a whole line of two PEs is a whole trace of a machine with
+            // two
             assert.ok(history.trace.cut || text.slice(0, length).endsWith("\n"), `${length}`);
             agrees(history.trace, whole);
         }

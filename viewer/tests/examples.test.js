@@ -1,4 +1,5 @@
-// Every example: its trace is read and written again, and its trees and its serial order are worked out from the trace alone.
+// Every example: its trace is read and written again, and its trees and its serial order are worked
+// out from the trace alone.
 "use strict";
 
 const test = require("node:test");

@@ -1,4 +1,5 @@
-// Texts that aren't traces: each is refused with the number of the line and with what was expected there.
+// Texts that aren't traces: each is refused with the number of the line and with what was expected
+// there.
 "use strict";
 
 const test = require("node:test");
@@ -19,7 +20,9 @@ function faultOf(text) {
     return null;
 }
 
-/** A fault: a line of a good trace, what is written instead (null for nothing), and what is said. */
+/**
+ * A fault: a line of a good trace, what is written instead (null for nothing), and what is said.
+ */
 const FAULTS = [
     ["the head", PAIR, "ultra trace 2", "ultra trace 1", /'ultra trace 2'/],
     ["no cycle 0", PAIR, "cycle 0", "cycle 1", /'cycle 0'/],

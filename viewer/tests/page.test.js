@@ -1,4 +1,5 @@
-// The page that `viewer/page` writes: all of the viewer and the traces, and nothing that a browser would have to fetch.
+// The page that `viewer/page` writes: all of the viewer and the traces, and nothing that a browser
+// would have to fetch.
 "use strict";
 
 const test = require("node:test");

@@ -1,5 +1,5 @@
-// Random runs: trace, trees and serial order against what the program writes. 300 are of the examples' programs with other
-// settings, and the others of random programs.
+// Random runs: trace, trees and serial order against what the program writes. 300 are of the
+// examples' programs with other settings, and the others of random programs.
 "use strict";
 
 const test = require("node:test");
@@ -25,7 +25,10 @@ class Account {
         this.besideMarked = 0;
     }
 
-    /** Whether in front of an entry that combined there is another of its cell, which had combined before. */
+    /**
+     * Whether in front of an entry that combined there is another of its cell, which had combined
+     * before.
+     */
     isBesideMarked(list, old) {
         const index = list.findIndex((it) => it.pe === old.pe && it.cell === old.cell);
         return list.slice(0, Math.max(0, index)).some((it) => it.cell === old.cell && it.isMarked);
@@ -58,7 +61,10 @@ function tryRun(conf, program, name) {
     return history;
 }
 
-/** Calls with the paths of a settings file and of a program file, in a folder that is removed afterwards. */
+/**
+ * Calls with the paths of a settings file and of a program file, in a folder that is removed
+ * afterwards.
+ */
 function inFolder(act) {
     const folder = fs.mkdtempSync(path.join(os.tmpdir(), "viewer-"));
     try {

@@ -66,7 +66,10 @@ function randomRequests(draws) {
     return [...lines, "halt"];
 }
 
-/** A program whose PEs begin after different times, and in which those with odd numbers make other requests. */
+/**
+ * A program whose PEs begin after different times, and in which those with odd numbers make other
+ * requests.
+ */
 function randomProgram(draws) {
     const cells = [2, 3, 4, 5].map((it) => `li r${it} ${draws.of([0, 0, 1, 2, 4, 8])}`);
     const mask = draws.of([0, 1, 3, 7, 31]);

@@ -8,18 +8,24 @@ const DRAWN = ["combined_pair", "two_level_tree", "load_then_store", "identity_n
 
 /** The lines of a cycle as the picture names its entries. */
 function expectedTitles(cycle) {
-    const titles = [...cycle.places].flatMap(([place, list]) => list.map((it) => `${viewer.placeText(place)}: ${viewer.entryText(it)}`));
+    const titlesOf = ([place, list]) => list.map((it) => `${viewer.placeText(place)}: ${viewer.entryText(it)}`);
+    const titles = [...cycle.places].flatMap(titlesOf);
     const got = cycle.got.map((it) => `got ${viewer.replyText(it)}`);
     return [...titles, ...got, ...cycle.acts.map(viewer.actText)].sort();
 }
 
 /** Boxes with texts that are wider than they, or that lie on another entry. */
 const CROWDED = `(() => {
-    const boxes = [...document.querySelectorAll("#network .entry")].map((it) => ({ it, rect: it.querySelector("rect").getBBox(), text: it.querySelector("text").getBBox() }));
-    const wide = boxes.filter(({ rect, text }) => text.x + text.width > rect.x + rect.width + 0.5).map(({ it }) => it.textContent);
-    const overlap = (a, b) => a.x < b.x + b.width - 1 && b.x < a.x + a.width - 1 && a.y < b.y + b.height - 1 && b.y < a.y + a.height - 1;
-    const on = boxes.flatMap((a, i) => boxes.slice(i + 1).filter((b) => overlap(a.rect, b.rect)).map((b) => a.it.textContent + " on " + b.it.textContent));
-    return [...wide, ...on];
+    const boxes = [...document.querySelectorAll("#network .entry")].map((it) => {
+        const [rect, text] = ["rect", "text"].map((name) => it.querySelector(name).getBBox());
+        return { name: it.textContent, rect, text };
+    });
+    const isWide = ({ rect, text }) => text.x + text.width > rect.x + rect.width + 0.5;
+    const meets = (start, size, other, length) => start < other + length - 1 && other < start + size - 1;
+    const isOn = (a, b) => meets(a.x, a.width, b.x, b.width) && meets(a.y, a.height, b.y, b.height);
+    const pairs = boxes.flatMap((a, index) => boxes.slice(index + 1).map((b) => [a, b]));
+    const crowded = pairs.filter(([a, b]) => isOn(a.rect, b.rect)).map(([a, b]) => a.name + " on " + b.name);
+    return [...boxes.filter(isWide).map((it) => it.name), ...crowded];
 })()`;
 
 module.exports = async (checks) => {

@@ -1,4 +1,5 @@
-// Opening traces: by the file chooser, by dropping, with a link; and texts that are refused or were cut off.
+// Opening traces: by the file chooser, by dropping, with a link; and texts that are refused or were
+// cut off.
 "use strict";
 
 const assert = require("node:assert/strict");

@@ -8,13 +8,17 @@ function entry(text) {
     return `[...document.querySelectorAll("#network .entry")].find((it) => it.querySelector("title").textContent === ${JSON.stringify(text)})`;
 }
 
+/** The rows of a story, with a stroke where a line ends. */
+const ROWS = `[...document.querySelectorAll(".story tbody tr")].map((row) =>
+    [...row.children].map((it) => it.innerText.replace(/\\n/g, " | ")))`;
+
 module.exports = async (checks) => {
     const tab = await checks.tabWithExample("two_level_tree", "#cycle=8");
 
     await checks.check("the story of a request, by a click on its reply", async () => {
         await tab.clickOn(entry("rep 0 2: 1@0 = 8"));
         assert.equal(await tab.text("#story h2"), "Request 1.0");
-        const rows = await tab.evaluate("[...document.querySelectorAll('.story tbody tr')].map((row) => [...row.children].map((it) => it.innerText.replace(/\\n/g, ' | ')))");
+        const rows = await tab.evaluate(ROWS);
         assert.deepEqual(rows, [
             ["2", "PE 1 issues it | pni 1: 1@0 faa 2"],
             ["3", "it meets 3.0 at stage 0, position 2, which goes on for both | wait 0 2: 3@0 same 1 plus 4"],

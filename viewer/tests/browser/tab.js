@@ -9,7 +9,9 @@ class Tab {
     constructor(browser, session) {
         this.browser = browser;
         this.session = session;
-        /** What the page wrote to its console, with its errors, and the addresses that it asked for. */
+        /**
+         * What the page wrote to its console, with its errors, and the addresses that it asked for.
+         */
         this.complaints = [];
         this.addresses = [];
         browser.listeners.push((it) => it.sessionId === session && this.note(it));
@@ -125,7 +127,10 @@ class Tab {
         await this.send("DOM.setFileInputFiles", { nodeId, files: [file] });
     }
 
-    /** The milliseconds of processor time that the page's thread takes for an expression, and for drawing what follows from it. */
+    /**
+     * The milliseconds of processor time that the page's thread takes for an expression, and for
+     * drawing what follows from it.
+     */
     async cost(expression) {
         await this.send("Performance.enable", { timeDomain: "threadTicks" });
         const time = async () => (await this.send("Performance.getMetrics")).metrics.find((it) => it.name === "TaskDuration").value;
@@ -134,7 +139,10 @@ class Tab {
         return 1000 * ((await time()) - before);
     }
 
-    /** The milliseconds by the clock that an expression takes, with the layout of what follows from it. */
+    /**
+     * The milliseconds by the clock that an expression takes, with the layout of what follows from
+     * it.
+     */
     time(expression) {
         const layout = "document.body.getBoundingClientRect()";
         return this.evaluate(`{ const start = performance.now(); ${expression}; ${layout}; performance.now() - start; }`);
