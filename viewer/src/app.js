@@ -124,6 +124,9 @@
                 const isLater = (request && !found) || (act && !foundAct);
                 this.address = isLater ? { ...address, cycle: undefined } : {};
                 this.goTo(cycle ?? this.cycle, 0);
+                if (this.trace) {
+                    viewer.revealStory(this);
+                }
             }
         }
 
@@ -197,6 +200,7 @@
             const missing = this.history.isDone ? "The text was cut off before this story." : STILL_WORKING;
             this.say(selected ? "" : missing);
             this.show(0);
+            viewer.revealStory(this);
             byId("story").scrollIntoView({ block: "nearest" });
         }
 

@@ -27,7 +27,7 @@
         const requestSide = 2 + listHeight(REQ) + 3 + listHeight(WAIT) + 13;
         const replySide = 15 + listHeight(REP) + 4;
         const peSide = 14 + listHeight(PNI) + ENTRY + 6;
-        const row = Math.max(requestSide, replySide, peSide, 80) + 8;
+        const row = Math.max(requestSide, replySide, peSide, 80) + 12;
         const reply = widthOf(lengths[REP]);
         const request = widthOf(Math.max(lengths[REQ], lengths[WAIT]));
         return {

@@ -85,10 +85,19 @@
         scrollToOne(app, boxesOfEvent(app, sort, number));
     }
 
+    /** Scrolls to the act or the request that is shown, where it is in this cycle. */
+    function revealStory(app) {
+        const { layout } = app.picture;
+        const { request, act } = app.selected ?? {};
+        const where = request && viewer.whereIs(app.trace, request, app.cycle);
+        const box = act ? layout.modules.get(act.module) : where && layout.boxes.get(where.place);
+        scrollToOne(app, box ? [box] : []);
+    }
+
     /** Scrolls to where something moved in the cycle that is shown, unless that can be seen. */
     function revealMoves(app) {
         scrollToOne(app, boxesOfMoves(app));
     }
 
-    Object.assign(viewer, { setScale, wholeScale, chooseScale, revealEvent, revealMoves });
+    Object.assign(viewer, { setScale, wholeScale, chooseScale, revealEvent, revealStory, revealMoves });
 })((globalThis.viewer ??= {}));

@@ -31,6 +31,23 @@ test("units lie apart, and so do the lists in them, in machines of each size", (
     }
 });
 
+function isInside(box, unit) {
+    const isWithin = (least, size, start, length) => least >= start && least + size <= start + length;
+    return isWithin(box.x, box.w, unit.x, unit.w) && isWithin(box.y, box.h, unit.y, unit.h);
+}
+
+test("each list lies in its unit, with few entries and with many", () => {
+    for (const count of [1, 2, 4]) {
+        const shape = new viewer.Shape();
+        shape.counts = shape.counts.map(() => count);
+        const layout = new viewer.Layout(new viewer.Net(3), shape);
+        for (const [place, box] of layout.boxes) {
+            const units = unitsOf(layout).filter((it) => isInside(box, it));
+            assert.equal(units.length, 1, `${viewer.placeText(place)} with ${count}`);
+        }
+    }
+});
+
 test("every wire is drawn: to two queues from each list, and to one where a PE or a module is next", () => {
     for (let stages = 1; stages <= 6; stages++) {
         const layout = new viewer.Layout(new viewer.Net(stages), new viewer.Shape());
