@@ -46,7 +46,7 @@ async function sixStages(checks) {
 
 /** The picture that the README shows. */
 async function pictureOfReadme(checks) {
-    const tab = await checks.tabWithExample("two_level_tree", "#cycle=3", 510);
+    const tab = await checks.tabWithExample("two_level_tree", "#cycle=3", 530);
     await checks.picture(tab, "viewer");
 }
 
