@@ -1,0 +1,11 @@
+pub mod Absent
+pub mod OpenCells
+pub mod Summaries
+pub mod Rows
+pub mod OwnRows
+pub mod CycleEvents
+pub mod Few
+pub mod Deliveries
+pub mod Issues
+pub mod Places
+pub mod OpenLaw

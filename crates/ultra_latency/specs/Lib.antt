@@ -1,0 +1,4 @@
+pub mod Latency
+pub mod Open
+pub mod Summary
+pub mod Few
