@@ -21,7 +21,7 @@ use Rattle.ultra_model.proofs.ReplyBalance.{delivered_open}
 use Rattle.ultra_model.proofs.Sound.{after_is_sound}
 use Rattle.ultra_latency.specs.declared.open.OpenRequest.{OpenRequest}
 use Rattle.ultra_latency.specs.Latency.{issued_in, latencies_among, latencies_of}
-use Rattle.ultra_latency.specs.Open.{row, rows_with, cycle_of, since, without, open_request, open_rows, rows_after, latencies_along}
+use Rattle.ultra_latency.specs.Open.{row, rows_with, cycle_of, since, without_request, open_request, open_rows, rows_after, latencies_along}
 use Rattle.ultra_latency.proofs.Rows.{IsNeutral, latencies_append}
 use Rattle.ultra_latency.proofs.Few.{present_short}
 use Rattle.ultra_latency.proofs.OpenCells.{open_cycle, open_left}
@@ -107,7 +107,7 @@ module _ (cycle : ℕ) (f : ℕ → Option ReplyMessage) (bound : ℕ) (own : (p
         let mine : r.pe ≡ a = rw is at (own a (omega arith)) in
         given_along n (a + 1) (rows_with cycle rows (Delivered r)) (omega arith) (λ p from to.
         let other : p ≢ r.pe = omega (arith, mine, from) in
-        knows_still rows r.pe p (without r.cell (row rows r.pe)) other (f p) (knows p (omega arith) (omega arith))))
+        knows_still rows r.pe p (without_request r.cell (row rows r.pe)) other (f p) (knows p (omega arith) (omega arith))))
 
 -- ---- of a cycle
 module _ (c : Settings) (range : AreInRange c) (program : List Instr) (n : ℕ) where
@@ -169,7 +169,7 @@ module _ (c : Settings) (range : AreInRange c) (program : List Instr) (n : ℕ) 
 -- what a delivery leaves of a row
 abbrev pub left_out : Option ReplyMessage → List OpenRequest → List OpenRequest
 left_out None os = os
-left_out (Some r) os = without r.cell os
+left_out (Some r) os = without_request r.cell os
 
 module _ (c : Settings) (program : List Instr) (n p : ℕ) where
   pub left_open : (e : Element) (o : Option ReplyMessage) → left_out o (map (open_request c program n p) e.interface.opened) ≡ map (open_request c program n p) (deliver e o).interface.opened

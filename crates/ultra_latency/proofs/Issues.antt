@@ -19,7 +19,7 @@ use Rattle.ultra_model.specs.Places.{places, present}
 use Rattle.ultra_model.specs.Phases.{after, delivery, issue_event, step_at}
 use Rattle.ultra_model.proofs.Each.{each-append, each-present, each-places, each-weaker}
 use Rattle.ultra_latency.specs.declared.open.OpenRequest.{OpenRequest}
-use Rattle.ultra_latency.specs.Latency.{is_issue_for, issued_in}
+use Rattle.ultra_latency.specs.Latency.{is_issue_to, issued_in}
 use Rattle.ultra_latency.specs.Open.{open_request}
 use Rattle.ultra_latency.proofs.Rows.{IsNeutral}
 use Rattle.ultra_latency.proofs.CycleEvents.{before, brought, deliveries, others, issues, sent, requested, events_are, others_neutral}
@@ -89,7 +89,7 @@ some_delivery : (o : Option ReplyMessage) → IfSome (delivery o) IsNoIssue
 some_delivery None = tt
 some_delivery (Some r) = tt
 
-no_issue : (p a : ℕ) (es : List Event) → AllByRecursion IsNoIssue es → list_any (is_issue_for p a) es ≡ false
+no_issue : (p a : ℕ) (es : List Event) → AllByRecursion IsNoIssue es → list_any (is_issue_to p a) es ≡ false
 no_issue p a [] all = refl
 no_issue p a (Delivered r ∷ es) all = no_issue p a es all.1
 no_issue p a (Served k r v now ∷ es) all = no_issue p a es all.1
@@ -97,12 +97,12 @@ no_issue p a (Combined s x b old new f ∷ es) all = no_issue p a es all.1
 no_issue p a (Issued r n ∷ es) all = absurd all.0
 
 -- the event of a processing element names it
-mine : (p a : ℕ) (e : Element) (o : Option Request) → IfSome o (λ (r : Request). r.pe ≡ p) → passes_if (is_issue_for p a) (issue_event e o) ≡ issues_for o a
+mine : (p a : ℕ) (e : Element) (o : Option Request) → IfSome o (λ (r : Request). r.pe ≡ p) → passes_if (is_issue_to p a) (issue_event e o) ≡ issues_for o a
 unfolding passes_if
 mine p a e None own = refl
 mine p a e (Some r) own = rw own (grind (arith, nat_tests))
 
-not_mine : (p q a : ℕ) → q ≢ p → (e : Element) (o : Option Request) → IfSome o (λ (r : Request). r.pe ≡ q) → passes_if (is_issue_for p a) (issue_event e o) ≡ false
+not_mine : (p q a : ℕ) → q ≢ p → (e : Element) (o : Option Request) → IfSome o (λ (r : Request). r.pe ≡ q) → passes_if (is_issue_to p a) (issue_event e o) ≡ false
 unfolding passes_if
 not_mine p q a other e None own = refl
 not_mine p q a other e (Some r) own = rw own (grind (arith, nat_tests))
@@ -121,11 +121,11 @@ module _ (c : Settings) (program : List Instr) (n : ℕ) where
   pub sent_own : (p : ℕ) → IfSome (sent c program n p) (λ (r : Request). r.pe ≡ p)
   sent_own p = own_from p _ _ (sent c program n p) (step_sends p)
 
-  any_issue : (p a : ℕ) → p < size c → list_any (is_issue_for p a) (issues c program n) ≡ issues_for (sent c program n p) a
+  any_issue : (p a : ℕ) → p < size c → list_any (is_issue_to p a) (issues c program n) ≡ issues_for (sent c program n p) a
   unfolding places
   any_issue p a h =
       let event : ℕ → Option Event = λ q. issue_event (element_at (requested c program n) q) (sent c program n q) in
-      one_in (is_issue_for p a) event p (size c) 0 (omega arith) (omega arith) (λ q within other. not_mine p q a other (element_at (requested c program n) q) (sent c program n q) (sent_own q))
+      one_in (is_issue_to p a) event p (size c) 0 (omega arith) (omega arith) (λ q within other. not_mine p q a other (element_at (requested c program n) q) (sent c program n q) (sent_own q))
       ∙ mine p a (element_at (requested c program n) p) (sent c program n p) (sent_own p)
 
   first : AllByRecursion IsNoIssue (deliveries c program n)
@@ -134,9 +134,9 @@ module _ (c : Settings) (program : List Instr) (n : ℕ) where
   middle : AllByRecursion IsNoIssue (others c program n)
   middle = each-weaker IsNeutral IsNoIssue (others c program n) neutral_is (others_neutral c program n)
 
-  any_in_cycle : (p a : ℕ) → p < size c → list_any (is_issue_for p a) (after c program (n + 1)).events ≡ issues_for (sent c program n p) a
+  any_in_cycle : (p a : ℕ) → p < size c → list_any (is_issue_to p a) (after c program (n + 1)).events ≡ issues_for (sent c program n p) a
   any_in_cycle p a h =
-      let t = is_issue_for p a in
+      let t = is_issue_to p a in
       let first_none = no_issue p a (deliveries c program n) first in
       let others_none = no_issue p a (others c program n) middle in
       let parts = list_any-append t (deliveries c program n) (others c program n ++ issues c program n) in
@@ -144,7 +144,7 @@ module _ (c : Settings) (program : List Instr) (n : ℕ) where
       let last : list_any t (deliveries c program n ++ (others c program n ++ issues c program n)) ≡ issues_for (sent c program n p) a = rw (parts, first_none, more, others_none) (any_issue p a h) in
       ap (list_any t) (events_are c program n) ∙ last
 
-  issued_more : (p a : ℕ) → issued_in c program p a (suc n) ≡ elim (list_any (is_issue_for p a) (after c program (suc n)).events) [ true ↦ n | false ↦ issued_in c program p a n ]
+  issued_more : (p a : ℕ) → issued_in c program p a (suc n) ≡ elim (list_any (is_issue_to p a) (after c program (suc n)).events) [ true ↦ n | false ↦ issued_in c program p a n ]
   unfolding issued_in
   issued_more p a = refl
 
@@ -152,7 +152,7 @@ module _ (c : Settings) (program : List Instr) (n : ℕ) where
   pub issued_next : (p a : ℕ) → p < size c → issued_in c program p a (n + 1) ≡ elim (issues_for (sent c program n p) a) [ true ↦ n | false ↦ issued_in c program p a n ]
   issued_next p a h =
       let next : n + 1 ≡ suc n = omega arith in
-      let any : list_any (is_issue_for p a) (after c program (suc n)).events ≡ issues_for (sent c program n p) a = ap (λ k. list_any (is_issue_for p a) (after c program k).events) (sym next) ∙ any_in_cycle p a h in
+      let any : list_any (is_issue_to p a) (after c program (suc n)).events ≡ issues_for (sent c program n p) a = ap (λ k. list_any (is_issue_to p a) (after c program k).events) (sym next) ∙ any_in_cycle p a h in
       ap (issued_in c program p a) next ∙ issued_more p a ∙ ap (λ b. elim b [ true ↦ n | false ↦ issued_in c program p a n ]) any
 
   -- ---- the rows

@@ -7,7 +7,7 @@ use Rattle.ultra_pni.specs.Interface.{closed, is_open}
 use Rattle.ultra_isa.specs.declared.Instr.{Instr}
 use Rattle.ultra_model.specs.Machine.{Settings}
 use Rattle.ultra_latency.specs.Latency.{issued_in}
-use Rattle.ultra_latency.specs.Open.{cycle_of, without, open_request}
+use Rattle.ultra_latency.specs.Open.{cycle_of, without_request, open_request}
 
 module _ (c : Settings) (program : List Instr) (n p a : ℕ) where
   -- an open cell's request is found, with the latest cycle of its issue
@@ -16,6 +16,6 @@ module _ (c : Settings) (program : List Instr) (n p a : ℕ) where
   open_cycle (o ∷ os) there = let rest = open_cycle os in grind (arith, nat_tests)
 
   -- where it is closed, its request is left out
-  pub open_left : (os : List OpenCell) → without a (map (open_request c program n p) os) ≡ map (open_request c program n p) (closed a os)
+  pub open_left : (os : List OpenCell) → without_request a (map (open_request c program n p) os) ≡ map (open_request c program n p) (closed a os)
   open_left [] = refl
   open_left (o ∷ os) = let rest = open_left os in grind arith

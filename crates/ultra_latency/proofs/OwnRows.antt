@@ -76,7 +76,7 @@ module _ (cycle : ℕ) (event : ℕ → Option Event) (change : ℕ → List Ope
         let as_long : length (rows_with cycle rows e) ≡ length rows = ap length (own a (omega arith) e is rows) ∙ length-set rows a (change a (row rows a)) in (
           fits a (omega arith) e is rows (omega arith) (all a (omega arith) (omega arith)),
           those_fit n (a + 1) (rows_with cycle rows e) (omega arith) (omega (arith, long, as_long)) (λ p from to.
-          let other : p ≢ a = omega (arith, from) in
-          let same : row (rows_with cycle rows e) p ≡ row rows p = ap (λ r. row r p) (own a (omega arith) e is rows) ∙ get_or-set_other rows a p (change a (row rows a)) [] other in
-          subst (Fits p) (sym same) (all p (omega arith) (omega arith))),
+              let other : p ≢ a = omega (arith, from) in
+              let same : row (rows_with cycle rows e) p ≡ row rows p = ap (λ r. row r p) (own a (omega arith) e is rows) ∙ get_or-set_other rows a p (change a (row rows a)) [] other in
+              subst (Fits p) (sym same) (all p (omega arith) (omega arith))),
         ))

@@ -8,18 +8,18 @@ use Rattle.ultra_model.specs.Machine.{Settings}
 use Rattle.ultra_model.specs.Phases.{after}
 
 -- an issue of processing element p for cell a
-abbrev pub is_issue_for : ℕ → ℕ → Event → Bool
-is_issue_for p a (Delivered r) = false
-is_issue_for p a (Served k r v now) = false
-is_issue_for p a (Combined s x b old new first) = false
-is_issue_for p a (Issued r n) = (r.pe == p) && (r.cell == a)
+abbrev pub is_issue_to : ℕ → ℕ → Event → Bool
+is_issue_to p a (Delivered r) = false
+is_issue_to p a (Served k r v now) = false
+is_issue_to p a (Combined s x b old new first) = false
+is_issue_to p a (Issued r n) = (r.pe == p) && (r.cell == a)
 
 module _ (c : Settings) (program : List Instr) where
   -- the last of the first n cycles in which processing element p issued a request for cell a
   unfoldable pub issued_in : ℕ → ℕ → ℕ → ℕ
   issued_in p a zero = 0
   issued_in p a (suc n) =
-      elim (list_any (is_issue_for p a) (after c program (suc n)).events) [
+      elim (list_any (is_issue_to p a) (after c program (suc n)).events) [
         | true ↦ n
         | false ↦ issued_in p a n
       ]

@@ -17,9 +17,9 @@ abbrev pub cycle_of : ℕ → List OpenRequest → Option ℕ
 cycle_of a [] = None
 cycle_of a (o ∷ os) = elim (o.cell == a) [ true ↦ Some o.cycle | false ↦ cycle_of a os ]
 
-abbrev pub without : ℕ → List OpenRequest → List OpenRequest
-without a [] = []
-without a (o ∷ os) = elim (o.cell == a) [ true ↦ os | false ↦ o ∷ without a os ]
+abbrev pub without_request : ℕ → List OpenRequest → List OpenRequest
+without_request a [] = []
+without_request a (o ∷ os) = elim (o.cell == a) [ true ↦ os | false ↦ o ∷ without_request a os ]
 
 -- ---- of all processing elements, by number
 abbrev pub row : List (List OpenRequest) → ℕ → List OpenRequest
@@ -31,7 +31,7 @@ since cycle (Some n) = (cycle - n) ∷ []
 
 -- the rows after an event of a cycle, and the latency of a delivery
 abbrev pub rows_with : ℕ → List (List OpenRequest) → Event → List (List OpenRequest)
-rows_with cycle rows (Delivered r) = slice_set rows r.pe (without r.cell (row rows r.pe))
+rows_with cycle rows (Delivered r) = slice_set rows r.pe (without_request r.cell (row rows r.pe))
 rows_with cycle rows (Served k r v now) = rows
 rows_with cycle rows (Combined s x a old new first) = rows
 rows_with cycle rows (Issued r n) =

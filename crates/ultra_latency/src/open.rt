@@ -3,7 +3,7 @@
 ghost use Rattle.std.specs.Prelude.{◌≡◌, ℕ, ◌+◌, ◌^◌, ◌<◌, ◌≤◌, ◌++◌, ◌∷◌, [], List, length, IfOk, IfSome, option_to_list, ◌==◌};
 ghost use Rattle.std.specs.List.{position};
 ghost use Rattle.ultra_isa.specs.declared.Instr.{Instr};
-ghost use Rattle.ultra_latency.specs.Open.{cycle_of, without, rows_after, latency_at, latencies_along, rows_with, open_rows, HasPlace, HavePlaces};
+ghost use Rattle.ultra_latency.specs.Open.{cycle_of, without_request, rows_after, latency_at, latencies_along, rows_with, open_rows, HasPlace, HavePlaces};
 ghost use Rattle.ultra_latency.specs.Summary.{AreSummedUp, AreSmall};
 
 use crate::summary::Latencies;
@@ -66,7 +66,7 @@ impl OpenRow {
     /// A request for the cell is answered. Gives the cycle of its issue, or `None` where there is none.
     fn take(&mut self, cell: Cell) -> Option<u32>
         ensures cycle { result ≡ cycle_of cell self.old }
-        ensures others { self.new ≡ without cell self.old }
+        ensures others { self.new ≡ without_request cell self.old }
     {
         let place = place_of(self.open.as_slice(), cell)?;
         Some(take_out(&mut self.open, place).cycle)

@@ -14,4 +14,4 @@ pub returns-in_err-place-clause-others : goal.returns-in_err-place-clause-others
 returns-in_err-place-clause-others c =
     let os = c.self.inside.open.items in
     let none : position (is_of c.args.cell) os ≡ None = rw (← c.as_slice.ensures.value) (sym c.place_of.ensures ∙ c.in_err-place.was) in
-    rw (← c.self.view_is) (rw (absent c.args.cell os none).without refl)
+    rw (← c.self.view_is) (rw (absent c.args.cell os none).without_request refl)
