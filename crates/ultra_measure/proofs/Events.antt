@@ -1,0 +1,30 @@
+-- counts of the first events of a list, and of one more
+use Rattle.std.proofs.Common.{ℕ, zero, suc, ◌≡◌, ◌+◌, ◌<◌, ◌≤◌, List, [], ◌∷◌, Bool, true, false, length, take, get_or, ap, ◌∙◌, arith}
+use Rattle.std.proofs.lemmas.List.{take_more}
+use Rattle.ultra_model.specs.Balance.{count, weight}
+use Rattle.ultra_model.proofs.Counting.{count-append}
+
+weight_small : (b : Bool) → weight b ≤ 1
+weight_small true = omega arith
+weight_small false = omega arith
+
+module _ {X : Type 0} (t : X → Bool) where
+  pub count_small : (xs : List X) → count t xs ≤ length xs
+  count_small [] = omega arith
+  count_small (x ∷ xs) = omega (arith, count_small xs, weight_small (t x))
+
+  take_short : (n : ℕ) (xs : List X) → length (take n xs) ≤ n
+  take_short zero xs = omega arith
+  take_short (suc n) [] = omega arith
+  take_short (suc n) (x ∷ xs) = omega (arith, take_short n xs)
+
+  pub count_first : (n : ℕ) (xs : List X) → count t (take n xs) ≤ n
+  count_first n xs = omega (arith, count_small (take n xs), take_short n xs)
+
+  pub count_more : (n : ℕ) (xs : List X) (d : X) → n < length xs → count t (take (n + 1) xs) ≡ count t (take n xs) + weight (t (get_or xs n d))
+  count_more n xs d here =
+      ap (count t) (take_more xs n d here) ∙ count-append t (take n xs) (get_or xs n d ∷ []) ∙ ap (λ y. count t (take n xs) + y) (let e : weight (t (get_or xs n d)) + 0 ≡ weight (t (get_or xs n d)) = omega arith in e)
+
+  -- a count that goes on
+  pub goes_on : (xs : List X) (n : ℕ) (d : X) {a b : ℕ} → n < length xs → a ≡ count t (take n xs) → b ≡ a + weight (t (get_or xs n d)) → b ≡ count t (take (n + 1) xs)
+  goes_on xs n d here before more = omega (arith, before, more, count_more n xs d here)

@@ -1,0 +1,14 @@
+mod WorkedMeasures
+pub mod Gathered
+pub mod Counted
+pub mod Emptiness
+pub mod Events
+pub mod More
+pub mod Arrays
+pub mod Keeping
+pub mod Waiting
+pub mod ModuleCounts
+pub mod Chain
+pub mod Stalling
+pub mod Ends
+pub mod Windows

@@ -1,0 +1,12 @@
+use Rattle.ultra_io.proofs.Writing.{writes_nothing}
+use Rattle.ultra_measure.specs.Columns.{stage_columns}
+use Rattle.ultra_measure.proofs.Chain.{more_stages}
+use Rattle.ultra_measure.proofs.columns.put_stages.Goals as goal
+
+pub loop-stage-init : goal.loop-stage-init
+loop-stage-init g c = writes_nothing c.args.buffer.now
+
+pub loop-stage-preserved : goal.loop-stage-preserved
+loop-stage-preserved g c =
+    let b = c.args.blocks.now in
+    more_stages c.args.form (stage_columns b.config b.program c.args.window.now.from c.args.to) c.loop-stage.stage c.loop-stage.invariant c.put_stage.ensures

@@ -1,0 +1,29 @@
+use Rattle.std.proofs.Common.{ℕ, List, ◌≤◌, ◌∙◌, sym, ap, subst, arith}
+use Rattle.ultra_io.specs.TextBuffer.{Writes}
+use Rattle.ultra_io.proofs.Writing.{◌then◌}
+use Rattle.ultra_model.specs.Machine.{Settings}
+use Rattle.ultra_measure.specs.declared.measuring.Layout.{Layout}
+use Rattle.ultra_measure.specs.Texts.{measured}
+use Rattle.ultra_measure.proofs.Windows.{lines_are, table_is}
+use Rattle.ultra_measure.proofs.measuring.put_measures.Goals as goal
+
+pub returns-in-Lines : goal.returns-in-Lines
+returns-in-Lines g c =
+    let b = c.args.blocks.now in
+    let cycles = c.cycles-cycles.ensures.value ∙ ap (λ (t : Settings). t.cycles) c.config.ensures in
+    let range = c.cycles-cycles.ensures.range in
+    let P : Layout → Type 0 = λ layout. Writes g.S.Sink.taken g.S.Sink.failures (measured b.config b.program layout) c.args.buffer.now c.put_windows.new.buffer in
+    subst P (sym c.in-Lines.is)
+    (subst (λ text. Writes g.S.Sink.taken g.S.Sink.failures text c.args.buffer.now c.put_windows.new.buffer)
+    (lines_are b.config b.program 1000000 (omega (arith, cycles, range.0)) (omega (arith, cycles, range.1)))
+    c.put_windows.ensures)
+
+pub returns-in-Table : goal.returns-in-Table
+returns-in-Table g c =
+    let b = c.args.blocks.now in
+    let e = c.in-Table.every in
+    let P : Layout → Type 0 = λ layout. Writes g.S.Sink.taken g.S.Sink.failures (measured b.config b.program layout) c.args.buffer.now c.put_windows-in-Table.new.buffer in
+    subst P (sym c.in-Table.is)
+    (subst (λ text. Writes g.S.Sink.taken g.S.Sink.failures text c.args.buffer.now c.put_windows-in-Table.new.buffer)
+    (table_is b.config b.program e)
+    (c.put_names.ensures e then c.put_windows-in-Table.ensures))

@@ -1,0 +1,77 @@
+-- what a window keeps while a run goes on: its numbers over the cycles from `from` on, below `to`
+use Rattle.std.specs.Prelude.{◌≡◌, ℕ, ◌-◌, ◌+◌, ◌*◌, ◌^◌, ◌<◌, ◌≤◌, List, length, slice_index}
+use Rattle.ultra_isa.specs.declared.Instr.{Instr}
+use Rattle.ultra_model.specs.Machine.{Settings, Machine, size}
+use Rattle.ultra_model.specs.Phases.{after}
+use Rattle.ultra_model.specs.Balance.{count, total}
+use Rattle.ultra_block.specs.Held.{Held}
+use Rattle.ultra_block.specs.Held.TheVariants.{Reply, Request, Record}
+use Rattle.ultra_block.specs.State.{BlocksState}
+use Rattle.ultra_latency.specs.Latency.{latencies}
+use Rattle.ultra_latency.specs.Summary.{AreSummedUp, AreSmall}
+use Rattle.ultra_latency.specs.declared.summary.Latencies.{Latencies}
+use Rattle.ultra_measure.specs.declared.depths.Depths.{Depths}
+use Rattle.ultra_measure.specs.declared.elements.ElementSums.{ElementSums}
+use Rattle.ultra_measure.specs.declared.happened.EventSums.{EventSums}
+use Rattle.ultra_measure.specs.declared.window.Window.{Window}
+use Rattle.ultra_measure.specs.Window.{sum_of, most_of, greatest}
+use Rattle.ultra_measure.specs.Happened.{is_issue, is_delivery, is_act, is_act_of, is_combination, is_combination_in}
+use Rattle.ultra_measure.specs.Held.{held_at, full_at, running, stalled, opened, pending, waiting_in, waiting_out}
+
+module _ (c : Settings) (program : List Instr) (from to : ℕ) where
+  -- a sum over the cycles, each of whose numbers fits 32 bits
+  pub record IsSum (f : Machine → ℕ) (n : ℕ) : Type 0 where
+    pub is : n ≡ sum_of c program from to f
+    pub small : n ≤ (to - from) * (2 ^ 32 - 1)
+
+  pub record AreEventSums (s : EventSums) : Type 0 where
+    pub issued : IsSum (λ m. count is_issue m.events) s.issued
+    pub answered : IsSum (λ m. count is_delivery m.events) s.answered
+    pub acts : IsSum (λ m. count is_act m.events) s.acts
+    pub combined : IsSum (λ m. count is_combination m.events) s.combined
+    pub faults : IsSum (λ m. length m.stops) s.faults
+    pub combined_in : (k : ℕ) → k < 6
+        → IsSum (λ m. count (is_combination_in k) m.events) (slice_index s.combined_in k)
+    pub acts_of : (k : ℕ) → k < 64
+        → IsSum (λ m. count (is_act_of k) m.events) (slice_index s.acts_of k)
+
+  -- the sum and the rest of the latencies; at most one a processing element and cycle
+  pub record AreLatencies (l : Latencies) : Type 0 where
+    pub summary : AreSummedUp (latencies c program from to) l
+    pub small : AreSmall l
+    pub few : l.count ≤ (to - from) * 64
+
+  pub record AreElementSums (s : ElementSums) : Type 0 where
+    pub running : IsSum (λ m. total (size c) (running m)) s.running
+    pub stalled : IsSum (λ m. total (size c) (stalled c program m)) s.stalled
+    pub opened : IsSum (λ m. total (size c) (opened m)) s.open
+    pub pending_most : s.pending_most
+        ≡ most_of c program from to (λ m. greatest (size c) (pending m))
+    pub pending : IsSum (λ m. total (size c) (pending m)) s.pending
+
+  -- the sums and the mosts of what stages hold of a kind, and the sums of what is full
+  pub record AreDepths (held : Held) (d : Depths) : Type 0 where
+    pub sums : (s : ℕ) → s < c.stages
+        → slice_index d.sums s ≡ sum_of c program from to (λ m. total (size c) (held_at held s m))
+    pub small : (s : ℕ) → s < 6 → slice_index d.sums s ≤ (to - from) * (2 ^ 32 - 1)
+    pub mosts : (s : ℕ) → s < c.stages
+        → slice_index d.mosts s
+        ≡ most_of c program from to (λ m. greatest (size c) (held_at held s m))
+    pub full : (s : ℕ) → s < c.stages
+        → slice_index d.full s ≡ sum_of c program from to (λ m. total (size c) (full_at c held s m))
+    pub full_small : (s : ℕ) → s < 6 → slice_index d.full s ≤ (to - from) * (2 ^ 32 - 1)
+
+  -- a window holds its numbers
+  pub record IsKept (w : Window) : Type 0 where
+    pub events : AreEventSums w.events
+    pub latencies : AreLatencies w.latencies
+    pub elements : AreElementSums w.elements
+    pub inputs : IsSum (λ m. total (size c) (waiting_in m)) w.inputs
+    pub outputs : IsSum (λ m. total (size c) (waiting_out m)) w.outputs
+    pub requests : AreDepths Request w.requests
+    pub replies : AreDepths Reply w.replies
+    pub records : AreDepths Record w.records
+
+-- the machine is as after cycle n, whose number counts from 0
+abbrev pub IsAfterCycle : ℕ → BlocksState → Type 0
+IsAfterCycle n b = b.machine ≡ after b.config b.program (n + 1)

@@ -1,0 +1,11 @@
+pub mod Window
+pub mod Happened
+pub mod Stalls
+pub mod Held
+pub mod Columns
+pub mod Texts
+pub mod Counts
+pub mod Sums
+pub mod Kept
+pub mod Rows
+pub mod Running

@@ -1,0 +1,63 @@
+-- how the measures of a run are written
+use Rattle.std.specs.Prelude.{ℕ, ◌+◌, ◌-◌, ◌*◌, ◌/◌, ◌≤◌, List, [], ◌∷◌, ◌++◌, Bool, true, false, min, Option, Some, None, codes}
+use Rattle.std.specs.List.{flat_map, join_by, range_with_len}
+use Rattle.ultra_isa.specs.declared.Instr.{Instr}
+use Rattle.ultra_model.specs.Machine.{Settings}
+use Rattle.ultra_model.specs.Text.{newline}
+use Rattle.ultra_model.specs.Trace.{by_number, cycle_count}
+use Rattle.ultra_measure.specs.declared.measuring.Layout.{Layout}
+use Rattle.ultra_measure.specs.declared.measuring.Layout.TheVariants.{Lines, Table}
+use Rattle.ultra_measure.specs.Columns.{Column, measures}
+
+-- a line for each measure that has a value
+abbrev pub line_if : List ℕ → Option (List ℕ) → List ℕ
+line_if name None = []
+line_if name (Some text) = name ++ codes " " ++ text ++ newline
+
+abbrev pub measure_lines : List Column → List ℕ
+measure_lines cs = flat_map (λ (i : Column). line_if i.0 i.1) cs
+
+-- the names on one line, and the values on one, where one that isn't there is empty
+abbrev pub text_if : Option (List ℕ) → List ℕ
+text_if None = []
+text_if (Some text) = text
+
+abbrev pub names_line : List Column → List ℕ
+names_line cs = join_by (λ (i : Column). i.0) (codes ",") cs ++ newline
+
+abbrev pub values_line : List Column → List ℕ
+values_line cs = join_by (λ (i : Column). text_if i.1) (codes ",") cs ++ newline
+
+module _ (c : Settings) (program : List Instr) where
+  -- the one window of a run, as lines
+  unfoldable pub measure_text : List ℕ
+  measure_text = measure_lines (measures c program 0 (cycle_count c program))
+
+  -- the windows of e cycles each; the last may be shorter
+  abbrev pub window_of : ℕ → ℕ → List Column
+  window_of e k = measures c program (k * e) (min ((k + 1) * e) (cycle_count c program))
+
+  abbrev pub window_count : ℕ → ℕ
+  window_count e = (cycle_count c program + e - 1) / e
+
+  -- as a table
+  unfoldable pub measure_table : ℕ → List ℕ
+  measure_table e =
+      names_line (window_of e 0) ++ by_number (window_count e) (λ k. values_line (window_of e k))
+
+-- ---- as they are asked for
+-- each window has a cycle
+abbrev pub HasWindows : Layout → Type 0
+HasWindows Lines = Unit {0}
+HasWindows (Table e) = 1 ≤ e
+
+abbrev pub measured : Settings → List Instr → Layout → List ℕ
+measured c program Lines = measure_text c program
+measured c program (Table e) = measure_table c program e
+
+-- whether a run was quiet at its end, where it ends: with the machine quiet, or with the last cycle
+-- that the settings allow
+abbrev pub end_if : Bool → Bool → Option Bool
+end_if true last = Some true
+end_if false true = Some false
+end_if false false = None

@@ -1,0 +1,143 @@
+//! How much of what happened in a cycle, and the sums over cycles.
+
+ghost use Rattle.std.specs.Prelude.{◌≡◌, ℕ, List, ◌+◌, ◌-◌, ◌^◌, ◌<◌, ◌≤◌, ◌==◌, length, slice_index};
+ghost use Rattle.ultra_isa.specs.declared.Instr.{Instr as InstrOf};
+ghost use Rattle.ultra_model.specs.Machine.{Settings};
+ghost use Rattle.ultra_model.specs.Balance.{weight};
+ghost use Rattle.ultra_measure.specs.Happened.{is_issue, is_delivery, is_act, is_act_of, is_combination, is_combination_in};
+ghost use Rattle.ultra_measure.specs.Counts.{AreCounts, CanCountMore};
+ghost use Rattle.ultra_measure.specs.Kept.{AreEventSums, IsAfterCycle};
+
+use crate::depths::add_each;
+use ultra_block::Blocks;
+use ultra_msg::Event;
+
+/// Counts of events.
+#[derive(Clone, Copy, Drop)]
+pub(crate) struct Counts {
+    /// Issues.
+    pub(crate) issued: u32,
+    /// Deliveries.
+    pub(crate) answered: u32,
+    /// Servings.
+    pub(crate) acts: u32,
+    /// Combinations.
+    pub(crate) combined: u32,
+    /// Combinations, by stage.
+    pub(crate) combined_in: [u32; 6],
+    /// Servings, by module.
+    pub(crate) acts_of: [u32; 64],
+}
+
+/// Counts the events of a cycle.
+pub(crate) fn count_events(events: &[Event]) -> Counts
+    requires { length events.now < 2 ^ 32 }
+    ensures { AreCounts events.now result }
+{
+    let mut counts = Counts {
+        issued: 0,
+        answered: 0,
+        acts: 0,
+        combined: 0,
+        combined_in: [0; 6],
+        acts_of: [0; 64],
+    };
+    for event in events {
+        counts.add(event);
+    }
+    counts
+}
+
+impl Counts {
+    /// One event more.
+    fn add(&mut self, event: &Event)
+        requires { CanCountMore self.old }
+        ensures issued { self.new.issued ≡ self.old.issued + weight (is_issue event.now) }
+        ensures answered { self.new.answered ≡ self.old.answered + weight (is_delivery event.now) }
+        ensures acts { self.new.acts ≡ self.old.acts + weight (is_act event.now) }
+        ensures combined { self.new.combined ≡ self.old.combined + weight (is_combination event.now) }
+        ensures combined_in { (s : ℕ) → s < 6 → slice_index self.new.combined_in s ≡ slice_index self.old.combined_in s + weight (is_combination_in s event.now) }
+        ensures acts_of { (k : ℕ) → k < 64 → slice_index self.new.acts_of k ≡ slice_index self.old.acts_of k + weight (is_act_of k event.now) }
+    {
+        match *event {
+            Event::Delivered(_) => self.answered += 1,
+            Event::Served { module, .. } => {
+                self.acts += 1;
+                count_at(&mut self.acts_of, module);
+            }
+            Event::Combined { stage, .. } => {
+                self.combined += 1;
+                count_at(&mut self.combined_in, stage);
+            }
+            Event::Issued { .. } => self.issued += 1,
+        }
+    }
+}
+
+/// One more at a place, if there is such a place.
+fn count_at<const N: usize>(counts: &mut [u32; N], place: u32)
+    requires { (k : ℕ) → k < N → slice_index counts.old k < 2 ^ 32 - 1 }
+    ensures { (k : ℕ) → k < N → slice_index counts.new k ≡ slice_index counts.old k + weight (place == k) }
+{
+    let place = place as usize;
+    if place < N {
+        counts[place] += 1;
+    }
+}
+
+/// Sums of what happened, over cycles.
+#[derive(Clone, Copy, Drop)]
+pub(crate) struct EventSums {
+    /// Issues.
+    pub(crate) issued: u64,
+    /// Deliveries.
+    pub(crate) answered: u64,
+    /// Servings.
+    pub(crate) acts: u64,
+    /// Combinations.
+    pub(crate) combined: u64,
+    /// Faults.
+    pub(crate) faults: u64,
+    /// Combinations, by stage.
+    pub(crate) combined_in: [u64; 6],
+    /// Servings, by module.
+    pub(crate) acts_of: [u64; 64],
+}
+
+impl EventSums {
+    /// Over no cycle.
+    pub(crate) fn new() -> EventSums
+        ensures { (c : Settings) (program : List InstrOf) (from : ℕ) → AreEventSums c program from from result }
+    {
+        EventSums {
+            issued: 0,
+            answered: 0,
+            acts: 0,
+            combined: 0,
+            faults: 0,
+            combined_in: [0; 6],
+            acts_of: [0; 64],
+        }
+    }
+
+    /// Over one cycle more. `from` is the first, and `cycle` this one.
+    pub(crate) fn note_cycle(&mut self, blocks: &Blocks, from: u32, cycle: u32)
+        requires one { blocks.now.count ≡ 1 }
+        requires few { length blocks.now.machine.events < 2 ^ 32 }
+        requires few_stops { length blocks.now.machine.stops < 2 ^ 32 }
+        requires run { IsAfterCycle cycle blocks.now }
+        requires order { from ≤ cycle }
+        requires kept { AreEventSums blocks.now.config blocks.now.program from cycle self.old }
+        ensures { AreEventSums blocks.now.config blocks.now.program from (cycle + 1) self.new }
+    {
+        let counts = count_events(blocks.events_of_one());
+        let faults = blocks.stops_of_one().len();
+        self.issued += u64::from(counts.issued);
+        self.answered += u64::from(counts.answered);
+        self.acts += u64::from(counts.acts);
+        self.combined += u64::from(counts.combined);
+        self.faults += faults as u64;
+        add_each(&mut self.combined_in, &counts.combined_in);
+        add_each(&mut self.acts_of, &counts.acts_of);
+    }
+}

@@ -1,0 +1,14 @@
+//! Measures of a run: numbers over the events and the states of a window of its cycles.
+#![tactic(auto)]
+
+mod columns;
+mod depths;
+mod elements;
+mod happened;
+mod measuring;
+mod queues;
+mod registers;
+mod stalls;
+mod window;
+
+pub use measuring::{Layout, measure};

@@ -1,0 +1,112 @@
+//! The numbers of a window.
+
+ghost use Rattle.std.specs.Prelude.{◌≡◌, ℕ, List, ◌+◌, ◌^◌, ◌≤◌};
+ghost use Rattle.ultra_isa.specs.declared.Instr.{Instr as InstrOf};
+ghost use Rattle.ultra_model.specs.Machine.{Settings};
+ghost use Rattle.ultra_latency.specs.Open.{open_rows};
+ghost use Rattle.ultra_measure.specs.Kept.{AreLatencies, IsAfterCycle, IsKept};
+
+use crate::depths::Depths;
+use crate::elements::ElementSums;
+use crate::happened::EventSums;
+use crate::registers::{inputs_now, outputs_now};
+use ultra_block::{Blocks, Held};
+use ultra_latency::{Latencies, OpenTable, law_of_few_events, law_of_open_requests};
+
+/// The numbers of a window: the cycles from one on.
+#[derive(Drop)]
+pub(crate) struct Window {
+    /// Its first cycle.
+    pub(crate) from: u32,
+    /// What happened.
+    pub(crate) events: EventSums,
+    /// The latencies of the deliveries.
+    pub(crate) latencies: Latencies,
+    /// What the processing elements did.
+    pub(crate) elements: ElementSums,
+    /// Requests that waited to be served by modules.
+    pub(crate) inputs: u64,
+    /// Replies that waited to leave modules.
+    pub(crate) outputs: u64,
+    /// What queues toward memory held.
+    pub(crate) requests: Depths,
+    /// What queues toward the processing elements held.
+    pub(crate) replies: Depths,
+    /// What wait buffers held.
+    pub(crate) records: Depths,
+}
+
+impl Window {
+    /// A window that begins with a cycle, before it.
+    pub(crate) fn new(from: u32) -> Window
+        ensures from { result.from ≡ from }
+        ensures kept { (c : Settings) (program : List InstrOf) → IsKept c program from from result }
+    {
+        let events = EventSums::new();
+        let latencies = Latencies::new();
+        let elements = ElementSums::new();
+        let depths = Depths::new();
+        Window {
+            from,
+            events,
+            latencies,
+            elements,
+            inputs: 0,
+            outputs: 0,
+            requests: depths,
+            replies: depths,
+            records: depths,
+        }
+    }
+
+    /// A cycle was made: the machine is now as after it. `table` has the open requests, which go on with it.
+    pub(crate) fn note_cycle(&mut self, table: &mut OpenTable, blocks: &Blocks, cycle: u32)
+        requires one { blocks.now.count ≡ 1 }
+        requires run { IsAfterCycle cycle blocks.now }
+        requires order { self.old.from ≤ cycle }
+        requires early { cycle ≤ 2 ^ 20 }
+        requires kept { IsKept blocks.now.config blocks.now.program self.old.from cycle self.old }
+        requires rows { table.old.rows.items ≡ open_rows blocks.now.config blocks.now.program cycle }
+        ensures from { self.new.from ≡ self.old.from }
+        ensures kept { IsKept blocks.now.config blocks.now.program self.old.from (cycle + 1) self.new }
+        ensures rows { table.new.rows.items ≡ open_rows blocks.now.config blocks.now.program (cycle + 1) }
+    {
+        // for the prover: how many events a cycle has
+        law_of_few_events(blocks.config());
+        let from = self.from;
+        self.events.note_cycle(blocks, from, cycle);
+        note_latencies(&mut self.latencies, table, blocks, from, cycle);
+        self.elements.note_cycle(blocks, from, cycle);
+        let inputs = inputs_now(blocks);
+        self.inputs += u64::from(inputs);
+        let outputs = outputs_now(blocks);
+        self.outputs += u64::from(outputs);
+        self.requests.note_cycle(blocks, Held::Request, from, cycle);
+        self.replies.note_cycle(blocks, Held::Reply, from, cycle);
+        self.records.note_cycle(blocks, Held::Record, from, cycle);
+    }
+}
+
+/// The latencies of a cycle's deliveries come to those of the window, and the open requests go on with the cycle.
+fn note_latencies(
+    latencies: &mut Latencies,
+    table: &mut OpenTable,
+    blocks: &Blocks,
+    from: u32,
+    cycle: u32,
+)
+    requires one { blocks.now.count ≡ 1 }
+    requires run { IsAfterCycle cycle blocks.now }
+    requires order { from ≤ cycle }
+    requires early { cycle ≤ 2 ^ 20 }
+    requires kept { AreLatencies blocks.now.config blocks.now.program from cycle latencies.old }
+    requires rows { table.old.rows.items ≡ open_rows blocks.now.config blocks.now.program cycle }
+    ensures kept { AreLatencies blocks.now.config blocks.now.program from (cycle + 1) latencies.new }
+    ensures rows { table.new.rows.items ≡ open_rows blocks.now.config blocks.now.program (cycle + 1) }
+{
+    // for the prover: what the events make of the open requests, and the latencies that they show
+    law_of_open_requests(blocks.config());
+    // and how many events a cycle has
+    law_of_few_events(blocks.config());
+    table.note_events(blocks.events_of_one(), cycle, latencies);
+}
