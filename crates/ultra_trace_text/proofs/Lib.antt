@@ -5,5 +5,4 @@ pub mod Skipped
 pub mod Rows
 pub mod Empty
 pub mod Walked
-pub mod Bits
 pub mod WorkedTraces

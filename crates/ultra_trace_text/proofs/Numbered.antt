@@ -12,11 +12,6 @@ one_more : (a n b : ℕ) → a + n ≡ b → range_with_len a (suc n) ≡ range_
 one_more a zero b e = let same : a ≡ b = omega arith in ap (λ k. k ∷ []) same
 one_more a (suc n) b e = let rest = one_more (a + 1) n b in grind arith
 
-pub range_parts : (a n k m : ℕ) → n + k ≡ m → range_with_len a m ≡ range_with_len a n ++ range_with_len (a + n) k
-range_parts a zero k m e = let same : k ≡ m = omega arith in let start : a + 0 ≡ a = omega arith in rw (← same, start) refl
-range_parts a (suc n) k zero e = absurd (omega arith)
-range_parts a (suc n) k (suc m) e = let rest = range_parts (a + 1) n k m in grind arith
-
 module _ {X : Type 0} (line : X → List ℕ) where
   pub last_line : (xs : List X) (x : X) → flat_map line (xs ++ x ∷ []) ≡ flat_map line xs ++ line x
   last_line xs x = flat_map-append line xs (x ∷ []) ∙ ap (λ t. flat_map line xs ++ t) (append-nil (line x))

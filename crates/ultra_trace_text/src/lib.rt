@@ -5,7 +5,6 @@ mod cycle;
 mod ending;
 mod entries;
 mod events;
-mod holders;
 mod places;
 mod state;
 mod texts;

@@ -9,9 +9,9 @@ ghost use Rattle.ultra_trace_text.specs.Holders.{AreHolders};
 ghost use Rattle.ultra_trace_text.specs.Ports.{port_line};
 ghost use Rattle.ultra_model.specs.Trace.{by_number, by_stage, pni_lines, inp_lines, out_lines, state_text};
 
-use crate::holders::{elements_in, modules_in, switches_in};
 use crate::places::{put_inp, put_out, put_pni, put_rep, put_req, put_wait};
 use ultra_block::{Blocks, Held};
+use ultra_holders::{elements_in, modules_in, switches_in};
 use ultra_io::TextBuffer;
 use ultra_msg::Sink;
 use ultra_route::Net;

@@ -1,7 +1,7 @@
 use Rattle.std.proofs.Common.{◌^◌}
 use Rattle.ultra_topology.specs.Numbers.{element_number}
 use Rattle.ultra_model.specs.Trace.{pni_lines}
-use Rattle.ultra_trace_text.specs.Holders.{holders_left, numbers_in}
+use Rattle.ultra_holders.specs.Holders.{holders_left, numbers_in}
 use Rattle.ultra_trace_text.proofs.Yielded.{AreWritten}
 use Rattle.ultra_trace_text.proofs.state.put_interfaces.Given as goal
 

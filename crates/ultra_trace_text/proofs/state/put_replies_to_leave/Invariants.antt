@@ -1,7 +1,7 @@
 use Rattle.std.proofs.Common.{◌^◌}
 use Rattle.ultra_topology.specs.Numbers.{module_number}
 use Rattle.ultra_model.specs.Trace.{out_lines}
-use Rattle.ultra_trace_text.specs.Holders.{holders_left, numbers_in}
+use Rattle.ultra_holders.specs.Holders.{holders_left, numbers_in}
 use Rattle.ultra_trace_text.proofs.Yielded.{AreWritten}
 use Rattle.ultra_trace_text.proofs.state.put_replies_to_leave.Given as goal
 

@@ -1,6 +1,6 @@
 use Rattle.std.proofs.Common.{◌-◌, ◌^◌}
 use Rattle.ultra_topology.specs.Numbers.{switch_count}
-use Rattle.ultra_trace_text.specs.Holders.{holders_left, numbers_in}
+use Rattle.ultra_holders.specs.Holders.{holders_left, numbers_in}
 use Rattle.ultra_trace_text.specs.Ports.{port_line}
 use Rattle.ultra_trace_text.proofs.Rows.{lines_at}
 use Rattle.ultra_trace_text.proofs.Yielded.{AreWritten}
