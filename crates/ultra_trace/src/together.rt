@@ -1,6 +1,7 @@
 //! A run by several workers.
 
 ghost use Rattle.std.specs.Prelude.{◌≡◌, ◌+◌, ◌≤◌, ◌++◌, [], false, OnOk, OnErr, IfOk, IfErr};
+ghost use Rattle.std.specs.Result.{ForOk};
 ghost use Rattle.ultra_msg.specs.Bytes.{TakesPrefix};
 ghost use Rattle.ultra_io.specs.TextBuffer.{Writes, WritesPrefix, has_failed};
 ghost use Rattle.ultra_model.specs.Trace.{all_cycles_text, cycle_count, trace};
@@ -40,7 +41,7 @@ pub fn write_trace_together<R: Threads + Wait + Sync, G: Gate + Sync, S: Sink>(
     write_by_workers::<Brand, R, G, S>(rt, alloc, blocks, workers, gate, sink).1
 }
 
-/// Starts workers, has them run a machine from its start, writes its trace to a sink, and gives the sink back. On every return path the threads are joined.
+/// Starts the workers to whom the units were dealt out, has them run a machine from its start, writes its trace to a sink, and gives the sink back. On every return path the threads are joined.
 fn write_by_workers<
     's,
     J: ExpectedResults + Send,
@@ -56,6 +57,7 @@ fn write_by_workers<
     sink: &'s mut S,
 ) -> (&'s mut S, Result<(), RunFault>)
     requires some_worker { 1 ≤ workers }
+    requires dealt { IsDealtOut workers blocks.partition }
     requires expected { AreExpectedResults J.results J.program workers blocks }
     requires start { IsAfter blocks.config blocks.program 0 blocks }
     ensures same_reference { result.0.ghost_name ≡ sink.entry.ghost_name }
@@ -77,16 +79,38 @@ fn write_by_workers<
             ensures err { OnErr result.1 (TakesPrefix (trace blocks.config blocks.program) (S.taken sink.entry.now) (S.taken result.0.now)) }
             ensures counted { IfErr result.1 (λ e. S.failures result.0.now ≡ S.failures sink.entry.now + sink_faults e) }
         {
-            match WorkerPool::<J>::start(scope, rt, alloc, workers, gate) {
-                Ok(pool) => {
-                    let result = write_by_pool(rt, alloc, blocks, &pool, sink);
-                    pool.stop(rt);
-                    (sink, result)
-                }
-                Err(fault) => (sink, Err(run_fault(fault))),
-            }
+            let started = WorkerPool::<J>::start(scope, rt, alloc, workers, gate);
+            let result = write_by_started(rt, alloc, blocks, started, sink);
+            (sink, result)
         },
     )
+}
+
+/// Runs a machine from its start by the workers of a pool that was just started, writes its trace to a sink, and lets the workers end. Why a pool couldn't be started is the run's fault. After a fault the sink has taken a prefix of the trace.
+fn write_by_started<J: ExpectedResults, R: Threads + Wait, S: Sink>(
+    rt: &R,
+    alloc: Global,
+    blocks: Blocks,
+    started: Result<WorkerPool<J>, CrewFault>,
+    sink: &mut S,
+) -> Result<(), RunFault>
+    requires some_worker { ForOk started (λ pool. 1 ≤ pool) }
+    requires expected { ForOk started (λ pool. AreExpectedResults J.results J.program pool blocks) }
+    requires start { IsAfter blocks.config blocks.program 0 blocks }
+    ensures ok { OnOk result (S.taken sink.new ≡ S.taken sink.old ++ trace blocks.config blocks.program) }
+    ensures still { OnOk result (S.failures sink.new ≡ S.failures sink.old) }
+    ensures err { OnErr result (TakesPrefix (trace blocks.config blocks.program) (S.taken sink.old) (S.taken sink.new)) }
+    ensures counted { IfErr result (λ e. S.failures sink.new ≡ S.failures sink.old + sink_faults e) }
+    ensures refused { IfErr started (λ e. result ≡ Err (fault_of_crew e)) }
+{
+    match started {
+        Ok(pool) => {
+            let result = write_by_pool(rt, alloc, blocks, &pool, sink);
+            pool.stop(rt);
+            result
+        }
+        Err(refused) => Err(run_fault(refused)),
+    }
 }
 
 /// Runs a machine from its start by the workers of a pool, and writes its trace to a sink. After a fault the sink has taken a prefix of it.
